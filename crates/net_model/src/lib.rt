@@ -1,13 +1,9 @@
-// A library with one function.
+//! A network: nodes with addresses, links, routes and SIDs, as lists in the order of its
+//! description, and which entry of a node's table fits an address best.
 #![tactic(auto)]
 
-ghost use Rattle.std.specs.Prelude.{◌≡◌};
-ghost use Rattle.net_model.specs.Echo.{echo_of};
+mod net;
+mod parts;
 
-// The `ensures` clause is the contract: what `echo` returns is `echo_of` of its argument, a definition
-// in `specs/Echo.antt`, which a caller's clause can cite too.
-pub fn echo(x: usize) -> usize
-    ensures { result ≡ echo_of x }
-{
-    x
-}
+pub use net::{Hit, Net};
+pub use parts::{Link, Name, NetParts, Node, Route, TypeList};

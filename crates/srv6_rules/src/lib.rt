@@ -6,10 +6,6 @@
 //! these definitions speak of, and the laws about the definitions.
 #![tactic(auto)]
 
-mod laws;
 mod sid;
 
-pub use laws::{
-    reading_gives_the_value_back, spelling_is_the_one, srh_reading_gives_the_value_back,
-};
 pub use sid::{Behaviour, Family, LinkSet, Reason, SidEntry};
