@@ -8,7 +8,7 @@ use Rattle.srv6_rules.specs.declared.sid.Reason.{Reason}
 use Rattle.srv6_rules.specs.declared.sid.Reason.TheVariants as reasons
 use Rattle.srv6_rules.specs.Packet.{Packet, Content, V6, content_of}
 use Rattle.srv6_rules.specs.Srh.{Srh, srh_of, entries_of, entry_of, tlv_bytes}
-use Rattle.srv6_rules.specs.Chain.{Header, Processed, AtHeader, AtUpper, AtCut, is_segment_routing, processed_of}
+use Rattle.srv6_rules.specs.Chain.{Header, LiesIn, Processed, AtHeader, AtUpper, AtCut, is_segment_routing, processed_of}
 
 -- what came of a packet at a SID or an address: it goes on with another destination, the packet inside it is
 -- exposed, it is handed to the upper layer here, or it is dropped
@@ -80,3 +80,27 @@ processed_at_address AtCut = Refused reasons.BadChain
 
 abbrev pub at_address : Packet → Endpoint
 at_address p = processed_at_address (processed_of p)
+
+-- a packet that goes on after the step over the segment routing header that is processed: the hop limit is one lower,
+-- Segments Left, the header's byte 3, is one lower, the destination is that entry, and all else is as it was
+pub record StepsTo (p q : Packet) : Type 0 where
+  pub header : Header
+  pub left : ℕ
+  pub processed : processed_of p ≡ AtHeader header
+  pub routing : is_segment_routing header ≡ true
+  pub lies : LiesIn p.payload header
+  pub above_one : 1 < p.hop_limit
+  pub hop_limit : p.hop_limit ≡ q.hop_limit + 1
+  pub was_left : slice_index p.payload (header.at + 3) ≡ left + 1
+  pub destination : q.destination ≡ entry_of (srh_of header.bytes) left
+  pub payload : q.payload ≡ slice_set p.payload (header.at + 3) left
+  pub others : q ≡ record p { hop_limit = q.hop_limit; destination = q.destination; payload = q.payload }
+
+-- what a decapsulating SID exposes: what is read from the place of the packet inside
+pub record Exposes (b : Behaviour) (p : Packet) (c : Content) : Type 0 where
+  pub table : ℕ
+  pub at : ℕ
+  pub behaviour : b ≡ Dt6 table
+  pub processed : processed_of p ≡ AtUpper ipv6_inside at
+  pub within : at ≤ length p.payload
+  pub content : c ≡ content_of (drop at p.payload)
