@@ -1,6 +1,6 @@
 -- What a node does with a packet that came to one of its SIDs or to its own address: RFC 8986 sections 4.1, 4.2
 -- and 4.6 with the processing of RFC 8754 section 4.3.1.1, and RFC 8200 section 4.4 at an address.
-use Rattle.std.specs.Prelude.{◌≡◌, ℕ, ◌+◌, ◌-◌, ◌*◌, ◌/◌, ◌<◌, ◌≤◌, Bool, true, false, ◌==◌, ◌&&◌, ◌||◌, nat_lt, nat_le, if◌then◌else◌, List, [], ◌∷◌, length, drop, slice_index, slice_set}
+use Rattle.std.specs.Prelude.{◌≡◌, ◌≢◌, ◌⊎◌, ℕ, ◌+◌, ◌-◌, ◌*◌, ◌/◌, ◌<◌, ◌≤◌, Bool, true, false, ◌==◌, ◌&&◌, ◌||◌, nat_lt, nat_le, if◌then◌else◌, List, [], ◌∷◌, length, drop, slice_index, slice_set}
 use Rattle.std.specs.List.{list_any}
 use Rattle.srv6_rules.specs.declared.sid.Behaviour.{Behaviour}
 use Rattle.srv6_rules.specs.declared.sid.Behaviour.TheVariants.{End, EndX, Dt6}
@@ -95,6 +95,16 @@ pub record StepsTo (p q : Packet) : Type 0 where
   pub destination : q.destination ≡ entry_of (srh_of header.bytes) left
   pub payload : q.payload ≡ slice_set p.payload (header.at + 3) left
   pub others : q ≡ record p { hop_limit = q.hop_limit; destination = q.destination; payload = q.payload }
+
+-- bytes before and after a step: the hop limit, byte 7, and one byte behind the IPv6 header are one lower, and but for
+-- these and the destination, bytes 24 to 39, each byte is as it was
+pub record ChangesFewBytes (before after : List ℕ) : Type 0 where
+  pub place : ℕ
+  pub within : 40 + place < length before
+  pub same_length : length after ≡ length before
+  pub hop_limit : slice_index before 7 ≡ slice_index after 7 + 1
+  pub segments_left : slice_index before (40 + place) ≡ slice_index after (40 + place) + 1
+  pub same : (k : ℕ) → k ≢ 7 → k ≢ 40 + place → (k < 24) ⊎ (40 ≤ k) → slice_index after k ≡ slice_index before k
 
 -- what a decapsulating SID exposes: what is read from the place of the packet inside
 pub record Exposes (b : Behaviour) (p : Packet) (c : Content) : Type 0 where
