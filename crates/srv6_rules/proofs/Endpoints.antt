@@ -1,16 +1,16 @@
 -- What an endpoint keeps of a packet.
-use Rattle.std.proofs.Common.{◌≡◌, ℕ, zero, suc, ◌+◌, ◌-◌, ◌*◌, ◌^◌, ◌<◌, ◌≤◌, Bool, true, false, ◌==◌, ◌≢◌, ◌⊎◌, nat_le, if◌then◌else◌, List, [], ◌∷◌, ◌++◌, length, take, drop, slice_index, slice_set, All, refl, sym, ap, subst, ◌∙◌, arith, inl, inr, length-drop}
-use Rattle.std.proofs.lemmas.Bool.{true≢false, cases_eq, leb-false, eqb-true, eqb-false, eq-eqb, and_from}
-use Rattle.std.proofs.lemmas.List.{get_or-set_other, get_or-set_same, length-set, length-append, append-nil, drop_all}
+use Rattle.std.proofs.Common.{◌≡◌, ℕ, ◌+◌, ◌-◌, ◌*◌, ◌^◌, ◌<◌, ◌≤◌, Bool, true, false, ◌==◌, ◌≢◌, nat_le, if◌then◌else◌, List, ◌++◌, length, take, drop, slice_index, All, refl, sym, ap, subst, ◌∙◌, arith, inl, inr}
+use Rattle.std.proofs.lemmas.Bool.{true≢false, cases_eq, leb-false, eqb-true, eq-eqb, and_from}
+use Rattle.std.proofs.lemmas.List.{get_or-set_other, get_or-set_same, length-set}
 use Rattle.std.proofs.lemmas.List.Elements.{All-drop, All-set, All-take}
 use Rattle.srv6_rules.specs.declared.sid.Behaviour.{Behaviour}
 use Rattle.srv6_rules.specs.declared.sid.Behaviour.TheVariants.{End, EndX, Dt6}
 use Rattle.srv6_rules.specs.declared.sid.Reason.{Reason}
 use Rattle.srv6_rules.specs.declared.sid.Reason.TheVariants as reasons
 use Rattle.srv6_rules.specs.Packet.{Packet, Content, V6, Unreadable, IsSpellable, IsContent, spelling, content_of, bytes_of}
-use Rattle.srv6_rules.specs.Srh.{Srh, srh_of, entry_of, tlv_bytes, entries_of}
-use Rattle.srv6_rules.specs.Chain.{Header, LiesIn, Processed, AtHeader, AtUpper, AtCut, is_segment_routing, is_passed, processed_of}
-use Rattle.srv6_rules.specs.Endpoint.{Endpoint, Onward, Exposed, Delivered, Refused, StepsTo, ChangesFewBytes, Exposes, ipv6_inside, is_allowed, upper_layer, has_bad_segments, advanced, next_segment, header_at_sid, upper_at_sid, processed_at_sid, at_sid, processed_at_address, at_address}
+use Rattle.srv6_rules.specs.Srh.{srh_of, entry_of, tlv_bytes}
+use Rattle.srv6_rules.specs.Chain.{Header, Processed, AtHeader, AtUpper, AtCut, is_segment_routing, is_passed, processed_of}
+use Rattle.srv6_rules.specs.Endpoint.{Onward, Exposed, Delivered, Refused, StepsTo, ChangesFewBytes, Exposes, ipv6_inside, is_allowed, has_bad_segments, advanced, header_at_sid, upper_at_sid, processed_at_sid, at_sid, processed_at_address, at_address}
 use Rattle.srv6_rules.proofs.Bytes.{address_number-below, byte_below}
 use Rattle.srv6_rules.proofs.Packets.{content_of-is_content, content_of-bytes_of, length-spelling, reads-spelled, unreadable, spelling-agrees, spelling-hop_limit, spelling-payload}
 use Rattle.srv6_rules.proofs.Chains.{processed-lies, processed-upper_stands, lies-at, lies-bytes}
