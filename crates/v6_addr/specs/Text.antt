@@ -8,11 +8,14 @@ use Rattle.v6_addr.specs.Address.{PrefixValue, field_of}
 
 -- ---- what is read
 
--- a group: one to four hexadecimal digits, in either case
+-- the number that digits write in a radix, the letters among them in either case; none where another byte stands among them
+unfoldable pub number_of_text : ℕ → List ℕ → Option ℕ
+number_of_text radix text = if list_all (λ c. is_digit c radix) text then Some (digits_value radix text) else None
+
+-- a group: one to four hexadecimal digits
 unfoldable pub group_of_text : List ℕ → Option ℕ
 group_of_text text =
-    if nat_le 1 (length text) && nat_le (length text) 4 && list_all (λ c. is_digit c 16) text
-        then Some (digits_value 16 text) else None
+    if nat_le 1 (length text) && nat_le (length text) 4 then number_of_text 16 text else None
 
 -- the groups that the texts write, where each text is a group
 unfoldable pub groups_of_texts : List (List ℕ) → Option (List ℕ)
@@ -55,12 +58,11 @@ address_of_parts text (Some gap) =
 unfoldable pub address_of_text : List ℕ → Option ℕ
 address_of_text text = address_of_parts text (gap_of text)
 
--- a prefix's length: a decimal number of at most 128 without leading zeros
+-- a prefix's length: one to three decimal digits without leading zeros, at most 128
 unfoldable pub length_of_text : List ℕ → Option ℕ
 length_of_text text =
-    if nat_le 1 (length text) && list_all (λ c. is_digit c 10) text && (length text == 1 || not (slice_index text 0 == 48))
-            && nat_le (digits_value 10 text) 128
-        then Some (digits_value 10 text) else None
+    if nat_le 1 (length text) && nat_le (length text) 3 && not (nat_lt 1 (length text) && (slice_index text 0 == 48))
+        then option_and_then (λ n. if nat_le n 128 then Some n else None) (number_of_text 10 text) else None
 
 -- an address and a length, where no bit past the length is set
 unfoldable pub prefix_of_parts : Option ℕ → Option ℕ → Option PrefixValue

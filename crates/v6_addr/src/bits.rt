@@ -29,6 +29,7 @@ pub(crate) fn raised(a: u128, k: u8) -> u128
 }
 
 /// The number in the `width` bits of an address from bit `at` on. Both count bits; bit 0 is the highest.
+#[tactic(auto, unfolding(crate::specs::Address::field_of))]
 pub fn field(a: Addr, at: u8, width: u8) -> u128
     requires some { 1 ≤ width }
     requires within { at + width ≤ 128 }
@@ -44,12 +45,20 @@ pub fn with_field(a: Addr, at: u8, width: u8, v: u128) -> Addr
     requires some { 1 ≤ width }
     requires within { at + width ≤ 128 }
     requires fits { v < 2 ^ width }
-    ensures { result.value ≡ with_field_of a.value at width v }
+    ensures value { result.value ≡ with_field_of a.value at width v }
+
+    // What was written is read back, and each other field is as it was.
+    ensures same { field_of result.value at width ≡ v }
+    ensures before { (other size : ℕ) → other + size ≤ at
+        → field_of result.value other size ≡ field_of a.value other size }
+    ensures behind { (other size : ℕ) → at + width ≤ other → other + size ≤ 128
+        → field_of result.value other size ≡ field_of a.value other size }
 {
-    let behind = 128 - at - width;
+    let rest = 128 - at - width;
     let above = a.value - low_bits(a.value, 128 - at);
-    let below = low_bits(a.value, behind);
+    let moved = raised(v, rest);
+    let below = low_bits(a.value, rest);
     Addr {
-        value: above + raised(v, behind) + below,
+        value: above + moved + below,
     }
 }

@@ -6,7 +6,6 @@
 mod address;
 mod bits;
 mod errors;
-mod parse;
 mod prefix;
 
 pub use address::Addr;
