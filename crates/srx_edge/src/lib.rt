@@ -1,13 +1,10 @@
-// A library with one function.
+//! The edge of the program: files, sources and sinks, each with a count of its faults.
 #![tactic(auto)]
 
-ghost use Rattle.std.specs.Prelude.{◌≡◌};
-ghost use Rattle.srx_edge.specs.Echo.{echo_of};
+mod file_access;
+mod input;
+mod output;
 
-// The `ensures` clause is the contract: what `echo` returns is `echo_of` of its argument, a definition
-// in `specs/Echo.antt`, which a caller's clause can cite too.
-pub fn echo(x: usize) -> usize
-    ensures { result ≡ echo_of x }
-{
-    x
-}
+pub use file_access::{FileFault, Files};
+pub use input::{Failed, Source};
+pub use output::{Sink, SinkFault};
