@@ -4,13 +4,13 @@ use Rattle.srx_edge.specs.declared.output.SinkFault.{SinkFault}
 use Rattle.srx_edge.specs.declared.output.SinkFault.TheVariants.{Failed, NoMemory}
 
 -- P, where the answer is Failed
-abbrev pub OnFailed : {T : Type 0} → Result T SinkFault → Type 0 → Type 0
-OnFailed (Ok value) P = ⊤
-OnFailed (Err Failed) P = P
-OnFailed (Err NoMemory) P = ⊤
+abbrev pub OnWriteFailed : {T : Type 0} → Result T SinkFault → Type 0 → Type 0
+OnWriteFailed (Ok value) P = ⊤
+OnWriteFailed (Err Failed) P = P
+OnWriteFailed (Err NoMemory) P = ⊤
 
 -- P, where the answer is NoMemory
-abbrev pub OnNoMemory : {T : Type 0} → Result T SinkFault → Type 0 → Type 0
-OnNoMemory (Ok value) P = ⊤
-OnNoMemory (Err Failed) P = ⊤
-OnNoMemory (Err NoMemory) P = P
+abbrev pub OnWriteNoMemory : {T : Type 0} → Result T SinkFault → Type 0 → Type 0
+OnWriteNoMemory (Ok value) P = ⊤
+OnWriteNoMemory (Err Failed) P = ⊤
+OnWriteNoMemory (Err NoMemory) P = P

@@ -1,7 +1,7 @@
 //! Files that are read whole, by name.
 ghost use Rattle.std.specs.Prelude.{◌≡◌, ◌≤◌, ◌<◌, ℕ, Bool, false, List, Option, None, Some, IfOk, IfSome, IsTrue, IsSomeAnd, length, vec_len};
 ghost use Rattle.srx_edge.specs.Edge.{Rose, file_named};
-ghost use Rattle.srx_edge.specs.FileAnswer.{OnFailed, UnlessFailed, IfTooBig, asked_after};
+ghost use Rattle.srx_edge.specs.FileAnswer.{OnFileFailed, UnlessFileFailed, IfFileTooBig, asked_after};
 
 use std::alloc::Global;
 
@@ -38,14 +38,14 @@ pub trait Files {
         ensures content { IfOk result (λ bytes. IfSome (told self.old) (λ files.
             file_named files name.now ≡ Some bytes.items)) }
 
-        ensures limit { IfTooBig result (λ most. most ≡ limit) }
-        ensures too_big { IfTooBig result (λ most. IfSome (told self.old) (λ files.
+        ensures limit { IfFileTooBig result (λ most. most ≡ limit) }
+        ensures too_big { IfFileTooBig result (λ most. IfSome (told self.old) (λ files.
             IsSomeAnd (file_named files name.now) (λ bytes. limit < length bytes))) }
 
-        ensures failed { OnFailed result (Rose (faults self.old) (faults self.new)) }
-        ensures no_fault { UnlessFailed result (faults self.new ≡ faults self.old) }
+        ensures failed { OnFileFailed result (Rose (faults self.old) (faults self.new)) }
+        ensures no_fault { UnlessFileFailed result (faults self.new ≡ faults self.old) }
         ensures never_falls { faults self.old ≤ faults self.new }
-        ensures surely { OnFailed result (IsTrue (sure self.old) → IfSome (told self.old) (λ files.
+        ensures surely { OnFileFailed result (IsTrue (sure self.old) → IfSome (told self.old) (λ files.
             file_named files name.now ≡ None)) }
 
         ensures told { told self.new ≡ told self.old }

@@ -6,5 +6,5 @@ mod input;
 mod output;
 
 pub use file_access::{FileFault, Files};
-pub use input::{Failed, Source};
-pub use output::{Sink, SinkFault};
+pub use input::{DrawFault, Failed, Source, draw};
+pub use output::{PourFault, Sink, SinkFault, pour};
