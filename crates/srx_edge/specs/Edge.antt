@@ -1,5 +1,5 @@
 -- What files, sources and sinks tell of themselves, and how a call changes it. `None` tells nothing.
-use Rattle.std.specs.Prelude.{◌≡◌, ◌≢◌, ℕ, ◌+◌, ◌-◌, ◌^◌, ◌<◌, min, List, [], ◌∷◌, ◌++◌, Option, None, Some, if◌then◌else◌}
+use Rattle.std.specs.Prelude.{◌≡◌, ◌≢◌, ℕ, ◌+◌, ◌-◌, ◌^◌, ◌<◌, ◌==◌, List, [], ◌∷◌, ◌++◌, Option, None, Some, if◌then◌else◌}
 use Rattle.std.specs.Str.{bytes_eq}
 
 -- the count rose, or it stands at its last value, 2^64 - 1
@@ -8,7 +8,7 @@ Rose old new = new ≢ 2 ^ 64 - 1 → old < new
 
 -- a count's next value; it stands still at its last one
 abbrev pub next_count : ℕ → ℕ
-next_count count = min (count + 1) (2 ^ 64 - 1)
+next_count count = if count == 2 ^ 64 - 1 then count else count + 1
 
 -- what a sink holds once the bytes are appended
 abbrev pub append_to : List ℕ → Option (List ℕ) → Option (List ℕ)
