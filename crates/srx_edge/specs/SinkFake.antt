@@ -22,3 +22,9 @@ abbrev pub Writes : List ℕ → Result ℕ SinkFault → SinkState → SinkStat
 Writes piece (Ok count) old new = (count ≡ length piece) × (new ≡ after_write piece old) × (0 < length piece → ¬ FailsNext old)
 Writes piece (Err Failed) old new = (0 < length piece) × FailsNext old × (new ≡ after_fault old)
 Writes piece (Err NoMemory) old new = (0 < length piece) × (¬ FailsNext old) × (new ≡ old)
+
+-- a write to a sure sink takes the whole piece, unless memory is wanting, which it isn't for an empty one
+abbrev pub SurelyWrites : List ℕ → Result ℕ SinkFault → List ℕ → List ℕ → Type 0
+SurelyWrites piece (Ok count) old new = (count ≡ length piece) × (new ≡ old ++ piece)
+SurelyWrites piece (Err Failed) old new = ⊥
+SurelyWrites piece (Err NoMemory) old new = (0 < length piece) × (new ≡ old)
