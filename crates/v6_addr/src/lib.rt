@@ -2,5 +2,9 @@
 #![tactic(auto)]
 
 mod address;
+mod bits;
+mod prefix;
 
-pub use address::{Addr, Prefix};
+pub use address::Addr;
+pub use bits::{field, with_field};
+pub use prefix::Prefix;
