@@ -3,7 +3,7 @@
 ghost use Rattle.std.specs.Prelude.{◌≡◌, ℕ, Bool, IsTrue, length, count_by};
 ghost use Rattle.std.specs.List.{list_all, list_any, filter_map};
 ghost use Rattle.net_model.specs.Network.{Network, network_of};
-ghost use Rattle.net_model.specs.Rules.{are_distinct, same_bytes, is_between, is_name_byte, is_name};
+ghost use Rattle.net_model.specs.Rules.{are_distinct, same_bytes, is_between, is_name_byte, is_name, is_address, is_prefix};
 ghost use Rattle.net_model.specs.Rules.{keeps_node, same_node_name, same_node_address, keeps_nodes};
 ghost use Rattle.net_model.specs.Rules.{ends_elsewhere, keeps_link, same_link_name, keeps_links};
 ghost use Rattle.net_model.specs.Rules.{starts_at, same_number, is_link_set};
@@ -14,7 +14,7 @@ ghost use Rattle.net_model.specs.Titles.{same_title};
 
 use crate::parts::{Link, Name, NetParts, Node, Route};
 use srv6_rules::{Behaviour, SidEntry};
-use v6_addr::Prefix;
+use v6_addr::{Addr, Prefix};
 
 /// A way in which two items may be the same.
 pub(crate) trait Sameness<X> {
@@ -157,10 +157,28 @@ fn is_name(name: &[u8]) -> bool
     1 <= name.len() && (name.len() <= 32 && are_name_bytes(name))
 }
 
+/// Always true: the type holds no other number.
+#[tactic(auto, unfolding(crate::specs::Rules::is_address))]
+fn is_address(a: Addr) -> bool
+    ensures { result ≡ is_address a.value }
+{
+    let _ = a.value;
+    true
+}
+
+/// Always true: the type holds no other value.
+#[tactic(auto, unfolding(crate::specs::Rules::is_address, crate::specs::Rules::is_prefix))]
+fn is_prefix(p: &Prefix) -> bool
+    ensures { result ≡ is_prefix p.now }
+{
+    let _ = p.len();
+    true
+}
+
 fn keeps_node(n: &Node) -> bool
     ensures { result ≡ keeps_node n.now }
 {
-    is_name(n.name.as_bytes()) && n.allow.as_slice().len() <= 16
+    is_name(n.name.as_bytes()) && (is_address(n.address) && n.allow.as_slice().len() <= 16)
 }
 
 fn each_keeps_node(nodes: &[Node]) -> bool
@@ -243,7 +261,8 @@ fn keeps_route(node_count: usize, links: &[Link], r: &Route) -> bool
     ensures { result ≡ keeps_route node_count links.now r.now }
 {
     (r.node as usize) < node_count
-        && (is_table(r.table) && is_link_set(links, r.node, r.via.as_slice()))
+        && (is_table(r.table)
+            && (is_prefix(&r.prefix) && is_link_set(links, r.node, r.via.as_slice())))
 }
 
 fn same_prefix(p: &Prefix, q: &Prefix) -> bool
@@ -291,8 +310,9 @@ fn keeps_sid(node_count: usize, links: &[Link], title_count: usize, s: &SidEntry
 {
     (s.node as usize) < node_count
         && (1 <= s.prefix.len()
-            && (keeps_behaviour(links, s.node, s.behaviour, s.links.as_slice())
-                && is_title(title_count, s.title)))
+            && (is_prefix(&s.prefix)
+                && (keeps_behaviour(links, s.node, s.behaviour, s.links.as_slice())
+                    && is_title(title_count, s.title))))
 }
 
 /// Whether at most 64 SIDs stand at the node of a SID.
