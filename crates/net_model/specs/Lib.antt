@@ -2,3 +2,4 @@ pub mod Network
 pub mod Rules
 pub mod Best
 pub mod Titles
+pub mod Keeps
