@@ -3,3 +3,4 @@ pub mod Rules
 pub mod Best
 pub mod Titles
 pub mod Keeps
+pub mod Named
