@@ -1,3 +1,4 @@
 pub mod Network
 pub mod Rules
 pub mod Best
+pub mod Titles
