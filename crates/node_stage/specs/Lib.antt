@@ -1,0 +1,3 @@
+pub mod PacketView
+pub mod ContentView
+pub mod Reading
