@@ -1,8 +1,11 @@
-use Rattle.std.proofs.Common.{rules, ◌≡◌, ◌-◌, ◌<◌, ◌^◌, ◌≤◌, length, slice_set, ℕ, ◌+◌, ◌*◌, ◌/◌, ◌%◌, Bool, true, false, nat_eq, nat_lt, List, [], ◌∷◌, ◌++◌, slice_index_or, All, sym, subst}
-use Rattle.srv6_rules.specs.Packet.{packet_at, IsSpellable}
+use Rattle.std.proofs.Common.{◌≡◌, ◌/◌, ◌%◌, take, drop, slice_index, sym, subst, refl, ap, ◌∙◌}
+use Rattle.srv6_rules.specs.Packet.{Packet, packet_at, four_number, stated_len, IsSpellable}
 use Rattle.srv6_rules.proofs.Packets.{packet_at-spellable}
-use Rattle.node_stage.specs.Reading.{HoldsPacket}
+use Rattle.node_stage.specs.PacketView.{packet_view}
 use Rattle.node_stage.proofs.packet.Packet.at_front.Goals as goal
 
 pub invariant_of-result : goal.invariant_of-result
-invariant_of-result c = let t = c.type_inv in let u = c.as_slice-header.type_inv in let a = c.from.ensures in let b = c.truncate.ensures in let w = c.drop_front.ensures in ?
+unfolding packet_at
+invariant_of-result c =
+    let s = packet_at-spellable c.args.bytes.items c.requires.in_range c.requires.whole in
+    rw (c.four_at-word.ensures, c.address_at-source.ensures, c.address_at-destination.ensures, c.truncate.ensures.items, c.drop_front.ensures, c.from.ensures, c.stated_len-len.ensures, c.as_slice-header.ensures.value) s
