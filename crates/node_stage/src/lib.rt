@@ -8,6 +8,7 @@ mod content;
 mod numbers;
 mod packet;
 mod reading;
+mod spelling;
 
 pub use content::Content;
 pub use packet::Packet;

@@ -1,7 +1,7 @@
 //! The packet: the fields of its IPv6 header, and the bytes behind that header.
 
 ghost use Rattle.std.specs.Prelude.{◌≡◌, ◌-◌, ◌<◌, ◌≤◌, length, slice_set};
-ghost use Rattle.srv6_rules.specs.Packet.{packet_at};
+ghost use Rattle.srv6_rules.specs.Packet.{packet_at, first_word, IsSpellable};
 ghost use Rattle.node_stage.specs.Reading.{HoldsPacket};
 
 use crate::numbers::{address_at, four_at};
@@ -99,6 +99,28 @@ impl Packet {
         ensures { result.value ≡ self.now.destination }
     {
         self.destination
+    }
+
+    /// Version, traffic class and flow label as one word.
+    #[tactic(auto, unfolding(srv6_rules::specs::Packet::first_word))]
+    pub(crate) fn first_word(&self) -> u32
+        ensures { result ≡ first_word self.now.traffic_class self.now.flow_label }
+    {
+        0x6000_0000 + u32::from(self.traffic_class) * 0x10_0000 + self.flow_label
+    }
+
+    /// The payload's length in bytes.
+    pub(crate) fn payload_len(&self) -> u16
+        ensures { result ≡ length self.now.payload }
+    {
+        self.payload.len() as u16
+    }
+
+    /// The fields fit their widths, so that bytes can spell the packet.
+    pub fn keeps_rules(&self)
+        ensures { IsSpellable self.now }
+    {
+        let _payload = &self.payload;
     }
 
     /// The bytes behind the IPv6 header.
