@@ -1,3 +1,4 @@
 pub mod Bytes
 pub mod Packets
 pub mod Headers
+pub mod Chains

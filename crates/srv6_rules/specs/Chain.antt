@@ -61,6 +61,18 @@ chain_within (suc more) kind at bytes =
 unfoldable pub chain_at : List ℕ → ℕ → ℕ → Chain
 chain_at payload kind at = chain_within (length (drop at payload)) kind at (drop at payload)
 
+-- the header at a place of a payload, that the value `kind` names
+abbrev pub header_at : List ℕ → ℕ → ℕ → Header
+header_at payload kind at = record { kind = kind; at = at; bytes = take (extension_bytes kind (drop at payload)) (drop at payload) }
+
+-- a header lies whole in a payload, with the length that it states
+pub record LiesIn (payload : List ℕ) (h : Header) : Type 0 where
+  pub extension : is_extension h.kind ≡ true
+  pub within : h.at + length h.bytes ≤ length payload
+  pub bytes : h.bytes ≡ take (length h.bytes) (drop h.at payload)
+  pub least : 8 ≤ length h.bytes
+  pub stated : length h.bytes ≡ extension_bytes h.kind h.bytes
+
 -- the chain of a packet
 abbrev pub chain_of : Packet → Chain
 chain_of p = chain_at p.payload p.next_header 0
