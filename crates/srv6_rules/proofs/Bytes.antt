@@ -54,7 +54,7 @@ big_bytes-back n xs h hx =
     let cut : big_from 0 n (bytes_high_first n (big_from 0 n xs)) ≡ big_from 0 n xs = rw append-nil at number in
     let front = big_from-take 0 n n xs (omega arith) in
     same_bytes n (bytes_high_first n (big_from 0 n xs)) (take n xs) (length-bytes_high_first n (big_from 0 n xs)) (length-take-le n xs h)
-        (all_bytes n (big_from 0 n xs)) (All-take (λ b. b < 2 ^ 8) n xs hx) (cut ∙ sym front)
+    (all_bytes n (big_from 0 n xs)) (All-take (λ b. b < 2 ^ 8) n xs hx) (cut ∙ sym front)
 
 pub length-two_bytes : (n : ℕ) → length (two_bytes n) ≡ 2
 unfolding two_bytes

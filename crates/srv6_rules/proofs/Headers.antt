@@ -55,7 +55,7 @@ srh_spelling-srh_of bytes all long kind =
     let n : ℕ = 8 * slice_index bytes 1 in
     let tag : two_bytes (two_number (drop 6 bytes)) ≡ take 2 (drop 6 bytes) = two_bytes-number (drop 6 bytes) (omega (arith, length-drop 6 bytes)) (All-drop P 6 bytes all) in
     let behind : two_bytes (two_number (drop 6 bytes)) ++ take n (drop 8 bytes) ≡ take (2 + n) (drop 6 bytes) =
-        ap (λ xs. xs ++ take n (drop 8 bytes)) tag ∙ ap (λ xs. take 2 (drop 6 bytes) ++ take n xs) (sym (drop-drop 2 6 bytes)) ∙ sym (take-add 2 n (drop 6 bytes)) in
+    ap (λ xs. xs ++ take n (drop 8 bytes)) tag ∙ ap (λ xs. take 2 (drop 6 bytes) ++ take n xs) (sym (drop-drop 2 6 bytes)) ∙ sym (take-add 2 n (drop 6 bytes)) in
     let whole = six_bytes bytes (omega arith) in
     let split : take (6 + (2 + n)) bytes ≡ take 6 bytes ++ take (2 + n) (drop 6 bytes) = take-add 6 (2 + n) bytes in
     let front : take 6 bytes ≡ slice_index bytes 0 ∷ slice_index bytes 1 ∷ slice_index bytes 2 ∷ slice_index bytes 3 ∷ slice_index bytes 4 ∷ slice_index bytes 5 ∷ [] = ap (take 6) whole in

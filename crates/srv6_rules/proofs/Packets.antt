@@ -104,7 +104,7 @@ all-header_spelling p h =
     let P : ℕ → Type 0 = λ b. b < 2 ^ 8 in
     let addresses = All-append P (address_bytes p.source) (address_bytes p.destination) (all-address_bytes p.source) (all-address_bytes p.destination) in
     let tail = All-cons P p.next_header (p.hop_limit ∷ (address_bytes p.source ++ address_bytes p.destination)) h.next_header
-        (All-cons P p.hop_limit (address_bytes p.source ++ address_bytes p.destination) h.hop_limit addresses) in
+    (All-cons P p.hop_limit (address_bytes p.source ++ address_bytes p.destination) h.hop_limit addresses) in
     let behind_word = All-append P (two_bytes (length p.payload)) (p.next_header ∷ (p.hop_limit ∷ (address_bytes p.source ++ address_bytes p.destination))) (all-two_bytes (length p.payload)) tail in
     All-append P (four_bytes (first_word p.traffic_class p.flow_label)) (two_bytes (length p.payload) ++ (p.next_header ∷ (p.hop_limit ∷ (address_bytes p.source ++ address_bytes p.destination)))) (all-four_bytes (first_word p.traffic_class p.flow_label)) behind_word
 
@@ -299,7 +299,7 @@ spelling-from p bytes ew el en es ed er =
     let flat = sym (append-nil (spelling p)) ∙ spelling-laid p [] in
     let inner = append-nil p.payload in
     flat ∙ laid-from bytes (four_bytes (first_word p.traffic_class p.flow_label)) (two_bytes (length p.payload)) p.next_header p.hop_limit (address_bytes p.source) (address_bytes p.destination) (p.payload ++ []) (length p.payload)
-        ew el en es ed (inner ∙ er)
+    ew el en es ed (inner ∙ er)
 
 length-payload_at : (bytes : List ℕ) → 40 + stated_len bytes ≤ length bytes → length (packet_at bytes).payload ≡ stated_len bytes
 unfolding packet_at
@@ -337,9 +337,9 @@ pub spelling-packet_at : (bytes : List ℕ) → All (λ b. b < 2 ^ 8) bytes → 
 spelling-packet_at bytes all version whole =
     let len = length-payload_at bytes whole in
     spelling-from (packet_at bytes) bytes (word_at bytes all version (omega arith))
-        (ap two_bytes len ∙ stated_at bytes all (omega arith))
-        (two_at bytes (omega arith)) (source_at bytes all (omega arith)) (destination_at bytes all (omega arith))
-        (payload_at bytes ∙ ap (λ n. take n (drop 40 bytes)) (sym len))
+    (ap two_bytes len ∙ stated_at bytes all (omega arith))
+    (two_at bytes (omega arith)) (source_at bytes all (omega arith)) (destination_at bytes all (omega arith))
+    (payload_at bytes ∙ ap (λ n. take n (drop 40 bytes)) (sym len))
     ∙ ap (λ n. take (40 + n) bytes) len
 
 -- ---- both ways at once
