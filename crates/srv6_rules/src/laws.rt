@@ -1,7 +1,10 @@
 //! Laws about the definitions, each the contract of a function that does nothing.
 
-ghost use Rattle.std.specs.Prelude.{◌≡◌, ◌<◌, ◌≤◌, ◌+◌, ◌*◌, ◌^◌, true, false, if◌then◌else◌, List, [], ℕ, ◌++◌, length, take, drop, slice_index, All, Contains};
-ghost use Rattle.srv6_rules.specs.Packet.{Packet, Content, V6, IsSpellable, IsContent, Spells, spelling, content_of, entered, bytes_of, two_bytes, four_bytes, address_bytes, two_number, four_number, address_number};
+ghost use Rattle.std.specs.Prelude.{◌≡◌, ◌≢◌, ◌<◌, ◌≤◌, ◌+◌, ◌*◌, ◌^◌, true, false, if◌then◌else◌, List, [], ℕ, ◌++◌, length, take, drop, slice_index, All, Contains};
+ghost use Rattle.srv6_rules.specs.Endpoint.{Endpoint, Onward, Exposed, StepsTo, ChangesFewBytes, Exposes, at_sid, at_address};
+ghost use Rattle.srv6_rules.specs.declared.sid.Behaviour.{Behaviour};
+ghost use Rattle.srv6_rules.specs.declared.sid.Reason.{Reason};
+ghost use Rattle.srv6_rules.specs.Packet.{Packet, Content, V6, Unreadable, IsSpellable, IsContent, Spells, spelling, content_of, entered, bytes_of, two_bytes, four_bytes, address_bytes, two_number, four_number, address_number};
 ghost use Rattle.srv6_rules.specs.Chain.{Header, Chain, ChainEnd, Upper, Cut, LiesIn, FirstNotPassed, AtHeader, AtUpper, AtCut, is_extension, is_whole, extension_bytes, behind, chain_at, header_at, is_passed, first_processed, processed_in};
 ghost use Rattle.srv6_rules.specs.Srh.{Srh, IsSrhSpellable, srh_of, srh_spelling, segment_routing};
 
@@ -112,4 +115,30 @@ pub fn processed_is_the_first_not_passed()
 pub fn processed_is_in_the_payload()
     ensures header { (payload : List ℕ) (kind at : ℕ) (h : Header) → processed_in (chain_at payload kind at) ≡ AtHeader h → LiesIn payload h × (is_passed h ≡ false) }
     ensures upper { (payload : List ℕ) (kind at upper place : ℕ) → at ≤ length payload → processed_in (chain_at payload kind at) ≡ AtUpper upper place → (is_extension upper ≡ false) × (at ≤ place) × (place ≤ length payload) }
+{}
+
+/// A packet that goes on from a SID has taken the step over a segment routing header: the hop limit was above 1 and
+/// is one lower, Segments Left is one lower, the destination is that entry, and all else is as it was. It stays a
+/// packet that bytes can spell, and its bytes are as they were but for byte 7, bytes 24 to 39 and the byte of
+/// Segments Left (RFC 8754 section 4.3.1.1, RFC 8986 sections 4.1 and 4.2).
+pub fn onward_is_one_step()
+    ensures step { (b : Behaviour) (allow : List ℕ) (p q : Packet) → at_sid b allow p ≡ Onward q → StepsTo p q }
+    ensures spellable { (b : Behaviour) (allow : List ℕ) (p q : Packet) → IsSpellable p → at_sid b allow p ≡ Onward q → IsSpellable q }
+    ensures bytes { (b : Behaviour) (allow : List ℕ) (p q : Packet) → at_sid b allow p ≡ Onward q → ChangesFewBytes (spelling p) (spelling q) }
+{}
+
+/// Decapsulation changes no byte: what is exposed is read from the payload where the packet inside stands; of a
+/// packet the bytes there begin with its spelling, and bytes that do not read are those there (RFC 8986 section 4.6).
+pub fn decapsulation_changes_no_byte()
+    ensures exposes { (b : Behaviour) (allow : List ℕ) (p : Packet) (c : Content) → at_sid b allow p ≡ Exposed c → Exposes b p c }
+    ensures packet { (b : Behaviour) (allow : List ℕ) (p q : Packet) → IsSpellable p → at_sid b allow p ≡ Exposed (V6 q) → (at : ℕ) × (drop at p.payload ≡ spelling q ++ drop (length (spelling q)) (drop at p.payload)) }
+    ensures unreadable { (b : Behaviour) (allow : List ℕ) (p : Packet) (bytes : List ℕ) (why : Reason) → at_sid b allow p ≡ Exposed (Unreadable bytes why) → (at : ℕ) × (bytes ≡ drop at p.payload) }
+    ensures content { (b : Behaviour) (allow : List ℕ) (p : Packet) (c : Content) → IsSpellable p → at_sid b allow p ≡ Exposed c → IsContent c }
+    ensures back { (b : Behaviour) (allow : List ℕ) (p : Packet) (c : Content) → IsSpellable p → at_sid b allow p ≡ Exposed c → content_of (bytes_of c) ≡ c }
+{}
+
+/// A packet at the node's own address ends there: it neither goes on nor exposes another (RFC 8200 section 4.4).
+pub fn address_is_an_end()
+    ensures onward { (p q : Packet) → at_address p ≢ Onward q }
+    ensures exposed { (p : Packet) (c : Content) → at_address p ≢ Exposed c }
 {}
