@@ -2,3 +2,4 @@ pub mod ListLemmas
 pub mod TitleLemmas
 pub mod KeepsLemmas
 pub mod NamedLemmas
+pub mod BestLemmas

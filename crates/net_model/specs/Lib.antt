@@ -4,3 +4,4 @@ pub mod Best
 pub mod Titles
 pub mod Keeps
 pub mod Named
+pub mod Found
