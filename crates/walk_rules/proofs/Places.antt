@@ -1,5 +1,5 @@
 -- Places go on to places, and the sets of links at places are not empty.
-use Rattle.std.proofs.Common.{◌≡◌, ℕ, ◌+◌, ◌<◌, ◌⊎◌, inl, inr, Bool, true, false, if◌then◌else◌, List, [], ◌∷◌, length, Option, Some, None, slice_get, refl, sym, ◌∙◌, subst, ap, arith}
+use Rattle.std.proofs.Common.{◌≡◌, ℕ, ◌+◌, ◌<◌, ◌⊎◌, inl, inr, Bool, true, false, if◌then◌else◌, List, [], ◌∷◌, length, Option, Some, None, slice_get, Contains, refl, sym, ◌∙◌, subst, ap, arith}
 use Rattle.srv6_rules.specs.declared.sid.Behaviour.{Behaviour}
 use Rattle.srv6_rules.specs.declared.sid.Behaviour.TheVariants.{End, EndX, Dt6}
 use Rattle.srv6_rules.specs.declared.sid.Reason.TheVariants as reasons
@@ -18,9 +18,9 @@ use Rattle.walk_rules.specs.Treatment.{Way, Away, Over, Own, Into, is_multicast,
 use Rattle.walk_rules.specs.declared.place.Outcome.{Outcome}
 use Rattle.walk_rules.specs.declared.place.Outcome.TheVariants as outcomes
 use Rattle.walk_rules.specs.Walk.{far_end, arrival, next_place}
-use Rattle.walk_rules.specs.Laws.{Executes}
+use Rattle.walk_rules.specs.Laws.{set_of, hops_at, Executes}
 use Rattle.walk_rules.specs.Relation.{Stage, IsThrough, IsHow, IsPlace}
-use Rattle.net_model.specs.Keeps.{Keeps, IsLinkSet, SuitsBehaviour, EndsElsewhere}
+use Rattle.net_model.specs.Keeps.{Keeps, StartsAt, IsLinkSet, SuitsBehaviour, EndsElsewhere}
 use Rattle.walk_rules.proofs.Lookups.{RouteStandsAt, IsThere, lookup-there}
 use Rattle.walk_rules.proofs.Executions.{step-again, step-hand}
 use Rattle.walk_rules.proofs.Stages.{HasLinks, treated-treats}
@@ -78,6 +78,19 @@ has-links net node (Into n) over = tt
 
 pub way-links : (net : Network) (place : Place) (a : ℕ) → Keeps net → IsPlace net place → HasLinks (way_of net place a)
 way-links net place a keeps is = has-links net place.node (way_of net place a) (way-set net place a keeps is)
+
+-- the equal next hops of a stage start at its node
+set-starts : (net : Network) (node : ℕ) (w : Way) → GoesOverLinks net node w → (n : ℕ) → Contains (set_of w) n → StartsAt net.links node n
+set-starts net node (Away reason) over n there = absurd (omega (arith, there.1))
+set-starts net node (Over set lower) over n there = over.each n there
+set-starts net node Own over n there = absurd (omega (arith, there.1))
+set-starts net node (Into m) over n there = absurd (omega (arith, there.1))
+
+pub hops-start : (net : Network) (place : Place) (content : Content) (n : ℕ) → Keeps net → IsPlace net place
+    → Contains (hops_at net place content) n → StartsAt net.links place.node n
+hops-start net place (Unreadable bytes reason) n keeps is there = absurd (omega (arith, there.1))
+hops-start net place (V6 p) n keeps is there =
+    set-starts net place.node (way_of net place p.destination) (way-set net place p.destination keeps is) n there
 
 -- at a place the function gives an outcome of the relation
 pub stage-step : (net : Network) (place : Place) (content : Content) (choice : ℕ) → Keeps net → IsPlace net place
