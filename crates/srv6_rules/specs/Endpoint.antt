@@ -1,6 +1,6 @@
 -- What a node does with a packet that came to one of its SIDs or to its own address: RFC 8986 sections 4.1, 4.2
 -- and 4.6 with the processing of RFC 8754 section 4.3.1.1, and RFC 8200 section 4.4 at an address.
-use Rattle.std.specs.Prelude.{◌≡◌, ◌≢◌, ◌⊎◌, ℕ, ◌+◌, ◌-◌, ◌<◌, ◌≤◌, Bool, true, ◌==◌, ◌||◌, nat_lt, nat_le, if◌then◌else◌, List, length, drop, slice_index, slice_set}
+use Rattle.std.specs.Prelude.{◌≡◌, ◌≢◌, ◌⊎◌, ℕ, ◌+◌, ◌-◌, ◌<◌, ◌≤◌, Bool, true, ◌==◌, ◌||◌, nat_lt, nat_le, if◌then◌else◌, List, length, drop, slice_index, slice_set, Option, Some, None}
 use Rattle.std.specs.List.{list_any}
 use Rattle.srv6_rules.specs.declared.sid.Behaviour.{Behaviour}
 use Rattle.srv6_rules.specs.declared.sid.Behaviour.TheVariants.{End, EndX, Dt6}
@@ -10,7 +10,7 @@ use Rattle.srv6_rules.specs.Packet.{Packet, Content, content_of}
 use Rattle.srv6_rules.specs.Srh.{Srh, srh_of, entries_of, entry_of, tlv_bytes}
 use Rattle.srv6_rules.specs.Chain.{Header, LiesIn, Processed, AtHeader, AtUpper, AtCut, is_segment_routing, processed_of}
 
--- what came of a packet at a SID or an address: it goes on with another destination, the packet inside it is
+-- what came of a packet at a SID: it goes on with another destination, the packet inside it is
 -- exposed, it is handed to the upper layer here, or it is dropped
 pub data Endpoint : Type 0 where
   Onward : Packet → Endpoint
@@ -72,14 +72,15 @@ processed_at_sid b allow p AtCut = Refused reasons.BadChain
 abbrev pub at_sid : Behaviour → List ℕ → Packet → Endpoint
 at_sid b allow p = processed_at_sid b allow p (processed_of p)
 
--- a packet at the node's own address: every upper layer is taken, and a routing header with segments left is unknown
-abbrev pub processed_at_address : Processed → Endpoint
-processed_at_address (AtHeader h) = if is_segment_routing h then Refused reasons.UnknownRouting else Refused reasons.NotBuilt
-processed_at_address (AtUpper kind at) = Delivered
-processed_at_address AtCut = Refused reasons.BadChain
+-- a packet at the node's own address: the reason for which it is dropped, or none where its upper layer takes it; every
+-- upper layer is taken, and a routing header with segments left is unknown
+abbrev pub refused_at_address : Processed → Option Reason
+refused_at_address (AtHeader h) = Some (if is_segment_routing h then reasons.UnknownRouting else reasons.NotBuilt)
+refused_at_address (AtUpper kind at) = None
+refused_at_address AtCut = Some reasons.BadChain
 
-abbrev pub at_address : Packet → Endpoint
-at_address p = processed_at_address (processed_of p)
+abbrev pub at_address : Packet → Option Reason
+at_address p = refused_at_address (processed_of p)
 
 -- a packet that goes on after the step over the segment routing header that is processed: the hop limit is one lower,
 -- Segments Left, the header's byte 3, is one lower, the destination is that entry, and all else is as it was
