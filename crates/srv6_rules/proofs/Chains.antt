@@ -197,6 +197,14 @@ pub lies-at : (payload : List ℕ) (h : Header) (k : ℕ) → LiesIn payload h �
 lies-at payload h k lies below =
     ap (λ xs. slice_index xs k) lies.bytes ∙ get_or-take (length h.bytes) (drop h.at payload) k 0 below ∙ get_or-drop h.at payload k 0
 
+-- a header's length is stated where it stands in the payload
+pub lies-stated : (payload : List ℕ) (h : Header) → LiesIn payload h → length h.bytes ≡ extension_bytes h.kind (drop h.at payload)
+lies-stated payload h lies =
+    let least = lies.least in
+    lies.stated
+    ∙ ap (λ xs. extension_bytes h.kind xs) lies.bytes
+    ∙ extension_bytes-take h.kind (length h.bytes) (drop h.at payload) (omega arith)
+
 -- ---- where an upper layer stands
 
 -- an upper layer behind a place: no extension header's value names it, and it stands in the payload or at its end

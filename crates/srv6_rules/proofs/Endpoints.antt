@@ -241,16 +241,16 @@ at_sid-content b allow p c ok e =
 
 -- the bytes of a packet that is exposed stand in the payload as they are
 pub at_sid-exposed_packet : (b : Behaviour) (allow : List ℕ) (p q : Packet) → IsSpellable p → at_sid b allow p ≡ Exposed (V6 q)
-    → (at : ℕ) × (drop at p.payload ≡ spelling q ++ drop (length (spelling q)) (drop at p.payload))
+    → (at : ℕ) × (processed_of p ≡ AtUpper ipv6_inside at) × (drop at p.payload ≡ spelling q ++ drop (length (spelling q)) (drop at p.payload))
 at_sid-exposed_packet b allow p q ok e =
     let x = at_sid-exposes b allow p (V6 q) e in
-    (x.at, reads-spelled (drop x.at p.payload) q (All-drop (λ n. n < 2 ^ 8) x.at p.payload ok.payload) (sym x.content))
+    (x.at, x.processed, reads-spelled (drop x.at p.payload) q (All-drop (λ n. n < 2 ^ 8) x.at p.payload ok.payload) (sym x.content))
 
 pub at_sid-exposed_unreadable : (b : Behaviour) (allow : List ℕ) (p : Packet) (bytes : List ℕ) (why : Reason) → at_sid b allow p ≡ Exposed (Unreadable bytes why)
-    → (at : ℕ) × (bytes ≡ drop at p.payload)
+    → (at : ℕ) × (processed_of p ≡ AtUpper ipv6_inside at) × (bytes ≡ drop at p.payload)
 at_sid-exposed_unreadable b allow p bytes why e =
     let x = at_sid-exposes b allow p (Unreadable bytes why) e in
-    (x.at, sym (unreadable (drop x.at p.payload) bytes why (sym x.content)))
+    (x.at, x.processed, sym (unreadable (drop x.at p.payload) bytes why (sym x.content)))
 
 -- what is exposed reads again from its bytes
 pub at_sid-exposed_back : (b : Behaviour) (allow : List ℕ) (p : Packet) (c : Content) → IsSpellable p → at_sid b allow p ≡ Exposed c → content_of (bytes_of c) ≡ c

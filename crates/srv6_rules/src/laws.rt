@@ -1,11 +1,11 @@
 //! Laws about the definitions, each the contract of a function that does nothing.
 
 ghost use Rattle.std.specs.Prelude.{◌≡◌, ◌≢◌, ◌<◌, ◌≤◌, ◌+◌, ◌*◌, ◌^◌, true, false, if◌then◌else◌, List, [], ℕ, ◌++◌, length, take, drop, slice_index, slice_set, All, flat_map, Contains};
-ghost use Rattle.srv6_rules.specs.Endpoint.{Onward, Exposed, StepsTo, ChangesFewBytes, Exposes, at_sid};
+ghost use Rattle.srv6_rules.specs.Endpoint.{Onward, Exposed, StepsTo, ChangesFewBytes, Exposes, ipv6_inside, at_sid};
 ghost use Rattle.srv6_rules.specs.declared.sid.Behaviour.{Behaviour};
 ghost use Rattle.srv6_rules.specs.declared.sid.Reason.{Reason};
 ghost use Rattle.srv6_rules.specs.Packet.{Packet, Content, V6, Unreadable, IsSpellable, IsContent, Spells, spelling, content_of, entered, bytes_of, two_bytes, four_bytes, first_word, address_bytes, two_number, four_number, address_number};
-ghost use Rattle.srv6_rules.specs.Chain.{Header, Chain, ChainEnd, Upper, Cut, LiesIn, FirstNotPassed, AtHeader, AtUpper, AtCut, is_extension, routing, is_whole, extension_bytes, behind, chain_at, header_at, is_passed, first_processed, processed_in};
+ghost use Rattle.srv6_rules.specs.Chain.{Header, Chain, ChainEnd, Upper, Cut, LiesIn, FirstNotPassed, AtHeader, AtUpper, AtCut, is_extension, routing, is_whole, extension_bytes, behind, chain_at, header_at, is_passed, first_processed, processed_in, processed_of};
 ghost use Rattle.srv6_rules.specs.Srh.{Srh, IsSrhSpellable, srh_of, srh_spelling, segment_routing};
 
 /// A number has 2, 4 or 16 bytes, each below 256.
@@ -121,9 +121,11 @@ pub fn chain_is_in_the_payload()
     ensures upper { (payload : List ℕ) (kind at upper place : ℕ) → at ≤ length payload → (chain_at payload kind at).end ≡ Upper upper place → (is_extension upper ≡ false) × (at ≤ place) × (place ≤ length payload) }
 {}
 
-/// The bytes of a header that lies in a payload are the payload's at the header's place.
+/// The bytes of a header that lies in a payload are the payload's at the header's place, and as many as are stated
+/// there.
 pub fn header_has_bytes_of_the_payload()
     ensures each { (payload : List ℕ) (h : Header) (k : ℕ) → LiesIn payload h → k < length h.bytes → slice_index h.bytes k ≡ slice_index payload (h.at + k) }
+    ensures stated { (payload : List ℕ) (h : Header) → LiesIn payload h → length h.bytes ≡ extension_bytes h.kind (drop h.at payload) }
     ensures below { (payload : List ℕ) (h : Header) → LiesIn payload h → All (λ b. b < 2 ^ 8) payload → All (λ b. b < 2 ^ 8) h.bytes }
 {}
 
@@ -163,8 +165,8 @@ pub fn onward_is_one_step()
 /// packet the bytes there begin with its spelling, and bytes that do not read are those there (RFC 8986 section 4.6).
 pub fn decapsulation_changes_no_byte()
     ensures exposes { (b : Behaviour) (allow : List ℕ) (p : Packet) (c : Content) → at_sid b allow p ≡ Exposed c → Exposes b p c }
-    ensures packet { (b : Behaviour) (allow : List ℕ) (p q : Packet) → IsSpellable p → at_sid b allow p ≡ Exposed (V6 q) → (at : ℕ) × (drop at p.payload ≡ spelling q ++ drop (length (spelling q)) (drop at p.payload)) }
-    ensures unreadable { (b : Behaviour) (allow : List ℕ) (p : Packet) (bytes : List ℕ) (why : Reason) → at_sid b allow p ≡ Exposed (Unreadable bytes why) → (at : ℕ) × (bytes ≡ drop at p.payload) }
+    ensures packet { (b : Behaviour) (allow : List ℕ) (p q : Packet) → IsSpellable p → at_sid b allow p ≡ Exposed (V6 q) → (at : ℕ) × (processed_of p ≡ AtUpper ipv6_inside at) × (drop at p.payload ≡ spelling q ++ drop (length (spelling q)) (drop at p.payload)) }
+    ensures unreadable { (b : Behaviour) (allow : List ℕ) (p : Packet) (bytes : List ℕ) (why : Reason) → at_sid b allow p ≡ Exposed (Unreadable bytes why) → (at : ℕ) × (processed_of p ≡ AtUpper ipv6_inside at) × (bytes ≡ drop at p.payload) }
     ensures content { (b : Behaviour) (allow : List ℕ) (p : Packet) (c : Content) → IsSpellable p → at_sid b allow p ≡ Exposed c → IsContent c }
     ensures back { (b : Behaviour) (allow : List ℕ) (p : Packet) (c : Content) → IsSpellable p → at_sid b allow p ≡ Exposed c → content_of (bytes_of c) ≡ c }
 {}
