@@ -102,3 +102,71 @@ route_is_there node table n (t ∷ routes) zero k r at of in_table is =
     subst P (same_Some t r at) (λ mine mine_too. subst (λ m. Contains (route_entries node table n (t ∷ routes)) (record { hit = hits.Route m; prefix = t.prefix })) same (route_at_front node table n t routes mine mine_too)) of in_table
 route_is_there node table n (t ∷ routes) (suc i) k r at of in_table is =
     route_in_front node table n t routes _ (route_is_there node table (n + 1) routes i k r at of in_table (omega arith))
+
+-- the entries of a table by what they are, both ways
+
+by_sid : (net : Network) (node table : ℕ) (e : Entry) → table ≡ 0 → Contains (sid_entries node 0 net.sids) e → IsEntry net node table e
+by_sid net node table e first c =
+    let (i, s, at, of, is) = sid_means node 0 net.sids e c in
+    let same : i ≡ 0 + i = omega arith in
+    subst (IsEntry net node table) (sym is) (s, subst (λ k. slice_get net.sids k ≡ Some s) same at, of, refl, first)
+
+by_address : (net : Network) (node table : ℕ) (e : Entry) (o : Option Node) → slice_get net.nodes node ≡ o → table ≡ 0 → Contains (address_entries o) e → IsEntry net node table e
+by_address net node table e None at first c = absurd (contains_none e c)
+by_address net node table e (Some n) at first c =
+    elim (contains_cases (record { hit = hits.Address; prefix = record { value = n.address.value; len = 128 } }) [] e c) [
+      inl is ↦ subst (IsEntry net node table) is (n, at, refl, first)
+    | inr none ↦ absurd (contains_none e none)
+    ]
+
+by_route : (net : Network) (node table : ℕ) (e : Entry) → Contains (route_entries node table 0 net.routes) e → IsEntry net node table e
+by_route net node table e c =
+    let (i, r, at, of, in_table, is) = route_means node table 0 net.routes e c in
+    let same : i ≡ 0 + i = omega arith in
+    subst (IsEntry net node table) (sym is) (r, subst (λ k. slice_get net.routes k ≡ Some r) same at, of, in_table, refl)
+
+-- the entries of table 0, and of another
+pub entries_of-first : (net : Network) (node table : ℕ) → table ≡ 0 → entries_of net node table ≡ sid_entries node 0 net.sids ++ (address_entries (slice_get net.nodes node) ++ route_entries node table 0 net.routes)
+entries_of-first net node table first =
+    subst (λ t. entries_of net node t ≡ sid_entries node 0 net.sids ++ (address_entries (slice_get net.nodes node) ++ route_entries node t 0 net.routes)) (sym first) refl
+
+pub entries_of-other : (net : Network) (node table : ℕ) → (table == 0) ≡ false → entries_of net node table ≡ route_entries node table 0 net.routes
+entries_of-other net node table other = rw other refl
+
+pub entry_means : (net : Network) (node table : ℕ) (e : Entry) → Contains (entries_of net node table) e → IsEntry net node table e
+entry_means net node table e c =
+    elim (cases_Bool (table == 0)) [
+      inl is ↦ let first = eqb-true table 0 is in
+          elim (Contains-append_cases (sid_entries node 0 net.sids) _ e (subst (λ es. Contains es e) (entries_of-first net node table first) c)) [
+              inl sid ↦ by_sid net node table e first sid
+            | inr more ↦ elim (Contains-append_cases (address_entries (slice_get net.nodes node)) (route_entries node table 0 net.routes) e more) [
+                  inl own ↦ by_address net node table e (slice_get net.nodes node) refl first own
+                | inr route ↦ by_route net node table e route
+                ]
+            ]
+    | inr other ↦ by_route net node table e (subst (λ es. Contains es e) (entries_of-other net node table other) c)
+    ]
+
+route_among : (net : Network) (node table : ℕ) (e : Entry) → Contains (route_entries node table 0 net.routes) e → Contains (entries_of net node table) e
+route_among net node table e c =
+    elim (cases_Bool (table == 0)) [
+      inl is ↦ subst (λ es. Contains es e) (sym (entries_of-first net node table (eqb-true table 0 is)))
+          (Contains-append_right (sid_entries node 0 net.sids) _ e (Contains-append_right (address_entries (slice_get net.nodes node)) (route_entries node table 0 net.routes) e c))
+    | inr other ↦ subst (λ es. Contains es e) (sym (entries_of-other net node table other)) c
+    ]
+
+pub entry_is_there : (net : Network) (node table : ℕ) (p : PrefixValue) (h : Hit) → IsEntryAs net node table p h → Contains (entries_of net node table) (record { hit = h; prefix = p })
+entry_is_there net node table p (hits.Sid n) (s, at, of, is, first) =
+    let e : Entry = record { hit = hits.Sid n; prefix = p } in
+    let there = subst (λ q. Contains (sid_entries node 0 net.sids) (record { hit = hits.Sid n; prefix = q })) is (sid_is_there node 0 net.sids n n s at of (omega arith)) in
+    subst (λ es. Contains es e) (sym (entries_of-first net node table first)) (Contains-append_left (sid_entries node 0 net.sids) _ e there)
+entry_is_there net node table p hits.Address (n, at, is, first) =
+    let e : Entry = record { hit = hits.Address; prefix = p } in
+    let own = subst (λ q. Contains (address_entries (Some n)) (record { hit = hits.Address; prefix = q })) (sym is) (contains_first (record { hit = hits.Address; prefix = record { value = n.address.value; len = 128 } }) []) in
+    let there = subst (λ o. Contains (address_entries o) e) (sym at) own in
+    subst (λ es. Contains es e) (sym (entries_of-first net node table first))
+        (Contains-append_right (sid_entries node 0 net.sids) _ e (Contains-append_left (address_entries (slice_get net.nodes node)) (route_entries node table 0 net.routes) e there))
+entry_is_there net node table p (hits.Route n) (r, at, of, in_table, is) =
+    let there = subst (λ q. Contains (route_entries node table 0 net.routes) (record { hit = hits.Route n; prefix = q })) is (route_is_there node table 0 net.routes n n r at of in_table (omega arith)) in
+    route_among net node table _ there
+entry_is_there net node table p hits.Nothing none = absurd none

@@ -11,7 +11,7 @@ use Rattle.net_model.specs.declared.net.Hit.TheVariants as hits
 use Rattle.net_model.specs.Network.{Network}
 use Rattle.net_model.specs.Best.{Entry, sid_entries, route_entries, address_entries, entries_of, rank_of, FitsNoWorse, IsBestEntry, IsBest, longer, longest, hit_of, lookup_of}
 use Rattle.net_model.specs.Entries.{IsEntryAs, IsEntry}
-use Rattle.net_model.proofs.EntryLemmas.{contains_none, contains_cases, contains_first, contains_later, sid_means, sid_is_there, route_means, route_is_there}
+use Rattle.net_model.proofs.EntryLemmas.{contains_none, contains_cases, contains_first, contains_later, sid_means, sid_is_there, route_means, route_is_there, entry_means, entry_is_there, entries_of-first, entries_of-other}
 
 -- each entry ranks no later than those after it
 abbrev pub IsRanked : List Entry → Type 0
@@ -83,3 +83,70 @@ longest_best a (x ∷ xs) ranked =
       inl held ↦ rw held (with_one a x xs (longest a xs) (holds_from x.prefix a held) ranked (longest_best a xs ranked.1))
     | inr fails ↦ rw fails (past_one a x xs (longest a xs) (fails_from x.prefix a fails) (longest_best a xs ranked.1))
     ]
+
+-- entries of one rank, and entries in the order of their ranks
+
+abbrev pub HasRank : ℕ → List Entry → Type 0
+HasRank k es = (e : Entry) → Contains es e → rank_of e.hit ≡ k
+
+ranked_from : (k : ℕ) (es : List Entry) → HasRank k es → IsRanked es
+ranked_from k [] rank = tt
+ranked_from k (e ∷ es) rank =
+    (λ other c. omega (arith, rank e (contains_first e es), rank other (contains_later e es other c)), ranked_from k es (λ f c. rank f (contains_later e es f c)))
+
+ranked_append : (xs ys : List Entry) → IsRanked xs → IsRanked ys → ((x y : Entry) → Contains xs x → Contains ys y → rank_of x.hit ≤ rank_of y.hit) → IsRanked (xs ++ ys)
+ranked_append [] ys first later between = later
+ranked_append (x ∷ xs) ys first later between =
+    (λ other c. elim (Contains-append_cases xs ys other c) [
+        inl among ↦ first.0 other among
+      | inr behind ↦ between x other (contains_first x xs) behind
+      ],
+    ranked_append xs ys first.1 later (λ y z c d. between y z (contains_later x xs y c) d))
+
+sids_rank : (node n : ℕ) (net : Network) → HasRank 0 (sid_entries node n net.sids)
+sids_rank node n net e c = let (i, s, at, of, is) = sid_means node n net.sids e c in ap (λ f. rank_of f.hit) is
+
+routes_rank : (node table n : ℕ) (net : Network) → HasRank 2 (route_entries node table n net.routes)
+routes_rank node table n net e c = let (i, r, at, of, in_table, is) = route_means node table n net.routes e c in ap (λ f. rank_of f.hit) is
+
+address_rank : (o : Option Node) → HasRank 1 (address_entries o)
+address_rank None e c = absurd (contains_none e c)
+address_rank (Some n) e c =
+    elim (contains_cases (record { hit = hits.Address; prefix = record { value = n.address.value; len = 128 } }) [] e c) [
+      inl is ↦ ap (λ f. rank_of f.hit) (sym is)
+    | inr none ↦ absurd (contains_none e none)
+    ]
+
+first_ranked : (net : Network) (node table : ℕ) → IsRanked (sid_entries node 0 net.sids ++ (address_entries (slice_get net.nodes node) ++ route_entries node table 0 net.routes))
+first_ranked net node table =
+    let sids = sid_entries node 0 net.sids in
+    let own = address_entries (slice_get net.nodes node) in
+    let routes = route_entries node table 0 net.routes in
+    ranked_append sids (own ++ routes) (ranked_from 0 sids (sids_rank node 0 net))
+        (ranked_append own routes (ranked_from 1 own (address_rank (slice_get net.nodes node))) (ranked_from 2 routes (routes_rank node table 0 net))
+            (λ x y c d. omega (arith, address_rank (slice_get net.nodes node) x c, routes_rank node table 0 net y d)))
+        (λ x y c d. omega (arith, sids_rank node 0 net x c))
+
+entries_ranked : (net : Network) (node table : ℕ) → IsRanked (entries_of net node table)
+entries_ranked net node table =
+    elim (cases_Bool (table == 0)) [
+      inl is ↦ subst IsRanked (sym (entries_of-first net node table (eqb-true table 0 is))) (first_ranked net node table)
+    | inr other ↦ subst IsRanked (sym (entries_of-other net node table other)) (ranked_from 2 (route_entries node table 0 net.routes) (routes_rank node table 0 net))
+    ]
+
+-- the look-up is a best match
+
+best_by_hit : (net : Network) (node table a : ℕ) (p : PrefixValue) (h : Hit) → IsBestEntry (entries_of net node table) a (record { hit = h; prefix = p }) → IsBest net node table a h
+best_by_hit net node table a p (hits.Sid n) best = (p, best)
+best_by_hit net node table a p hits.Address best = (p, best)
+best_by_hit net node table a p (hits.Route n) best = (p, best)
+best_by_hit net node table a p hits.Nothing best = absurd (entry_means net node table (record { hit = hits.Nothing; prefix = p }) best.is_there)
+
+best_from : (net : Network) (node table a : ℕ) (o : Option Entry) → IsLongest a (entries_of net node table) o → IsBest net node table a (hit_of o)
+best_from net node table a None best = best
+best_from net node table a (Some e) best = best_by_hit net node table a e.prefix e.hit best
+
+pub lookup_is_best : (net : Network) (node table a : ℕ) → IsBest net node table a (lookup_of net node table a)
+unfolding lookup_of
+lookup_is_best net node table a =
+    best_from net node table a (longest a (entries_of net node table)) (longest_best a (entries_of net node table) (entries_ranked net node table))
