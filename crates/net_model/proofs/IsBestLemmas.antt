@@ -3,13 +3,16 @@ use Rattle.std.proofs.Common.{◌≡◌, ◌≢◌, ℕ, zero, suc, ◌+◌, ◌
 use Rattle.std.specs.List.{slice_get, Contains}
 use Rattle.std.proofs.lemmas.Bool.{cases_Bool, both_ways, eqb-true, eq-eqb, ltb-true, ltb-false}
 use Rattle.std.proofs.lemmas.List.Elements.{Contains-append_left, Contains-append_right, Contains-append_cases}
-use Rattle.v6_addr.specs.Address.{PrefixValue, Holds, holds_address}
-use Rattle.v6_addr.proofs.Prefixes.{holds_address_is}
+use Rattle.v6_addr.specs.Address.{PrefixValue, IsPrefix, Holds, holds_address}
+use Rattle.v6_addr.proofs.Prefixes.{holds_address_is, same_value}
 use Rattle.net_model.specs.declared.parts.Node.{Node}
 use Rattle.net_model.specs.declared.net.Hit.{Hit}
 use Rattle.net_model.specs.declared.net.Hit.TheVariants as hits
 use Rattle.net_model.specs.Network.{Network}
 use Rattle.net_model.specs.Best.{Entry, sid_entries, route_entries, address_entries, entries_of, rank_of, FitsNoWorse, IsBestEntry, IsBest, longer, longest, hit_of, lookup_of}
+use Rattle.net_model.specs.Rules.{IsNetwork}
+use Rattle.net_model.specs.Keeps.{Keeps}
+use Rattle.net_model.proofs.KeepsLemmas.{keeps_from_network}
 use Rattle.net_model.specs.Entries.{IsEntryAs, IsEntry}
 use Rattle.net_model.proofs.EntryLemmas.{contains_none, contains_cases, contains_first, contains_later, sid_means, sid_is_there, route_means, route_is_there, entry_means, entry_is_there, entries_of-first, entries_of-other}
 
@@ -150,3 +153,60 @@ pub lookup_is_best : (net : Network) (node table a : ℕ) → IsBest net node ta
 unfolding lookup_of
 lookup_is_best net node table a =
     best_from net node table a (longest a (entries_of net node table)) (longest_best a (entries_of net node table) (entries_ranked net node table))
+
+-- two best entries are equally long and of one rank
+best_agree : (es : List Entry) (a : ℕ) (e f : Entry) → IsBestEntry es a e → IsBestEntry es a f → (e.prefix.len ≡ f.prefix.len) × (rank_of e.hit ≡ rank_of f.hit)
+best_agree es a e f is_e is_f =
+    let to_f = is_e.no_better f is_f.is_there is_f.holds in
+    let to_e = is_f.no_better e is_e.is_there is_e.holds in
+    let same : e.prefix.len ≡ f.prefix.len = omega (arith, to_f.0, to_e.0) in
+    (same, omega (arith, to_f.1 (sym same), to_e.1 same))
+
+same_prefix_value : (p q : PrefixValue) → p.value ≡ q.value → p.len ≡ q.len → p ≡ q
+same_prefix_value p q value len = λ i. record { value = value i; len = len i }
+
+-- two best entries of one rank have one prefix
+same_best_prefix : (es : List Entry) (a : ℕ) (e f : Entry) → IsBestEntry es a e → IsBestEntry es a f → IsPrefix e.prefix → IsPrefix f.prefix → e.prefix ≡ f.prefix
+same_best_prefix es a e f is_e is_f prefix_e prefix_f =
+    let len = (best_agree es a e f is_e is_f).0 in
+    same_prefix_value e.prefix f.prefix (same_value e.prefix f.prefix a prefix_e prefix_f len is_e.holds is_f.holds) len
+
+one_sid : (net : Network) (node table a m n : ℕ) (p q : PrefixValue) → Keeps net
+    → IsBestEntry (entries_of net node table) a (record { hit = hits.Sid m; prefix = p }) → IsBestEntry (entries_of net node table) a (record { hit = hits.Sid n; prefix = q }) → m ≡ n
+one_sid net node table a m n p q keeps is_m is_n =
+    let (s, at_m, of_s, prefix_s, first) = entry_means net node table _ is_m.is_there in
+    let (t, at_n, of_t, prefix_t, also) = entry_means net node table _ is_n.is_there in
+    let same = same_best_prefix (entries_of net node table) a _ _ is_m is_n
+        (subst IsPrefix prefix_s (keeps.sid m s at_m).prefix) (subst IsPrefix prefix_t (keeps.sid n t at_n).prefix) in
+    keeps.sid_prefix m n s t at_m at_n (of_s ∙ sym of_t) (prefix_s ∙ same ∙ sym prefix_t)
+
+one_route : (net : Network) (node table a m n : ℕ) (p q : PrefixValue) → Keeps net
+    → IsBestEntry (entries_of net node table) a (record { hit = hits.Route m; prefix = p }) → IsBestEntry (entries_of net node table) a (record { hit = hits.Route n; prefix = q }) → m ≡ n
+one_route net node table a m n p q keeps is_m is_n =
+    let (r, at_m, of_r, in_r, prefix_r) = entry_means net node table _ is_m.is_there in
+    let (t, at_n, of_t, in_t, prefix_t) = entry_means net node table _ is_n.is_there in
+    let same = same_best_prefix (entries_of net node table) a _ _ is_m is_n
+        (subst IsPrefix prefix_r (keeps.route m r at_m).prefix) (subst IsPrefix prefix_t (keeps.route n t at_n).prefix) in
+    keeps.route_prefix m n r t at_m at_n (of_r ∙ sym of_t) (in_r ∙ sym in_t) (prefix_r ∙ same ∙ sym prefix_t)
+
+-- a best match has one rank
+rank_of_best : (net : Network) (node table a : ℕ) (p q : PrefixValue) (h k : Hit) → IsBestEntry (entries_of net node table) a (record { hit = h; prefix = p }) → IsBestEntry (entries_of net node table) a (record { hit = k; prefix = q }) → rank_of h ≡ rank_of k
+rank_of_best net node table a p q h k is_h is_k = (best_agree (entries_of net node table) a _ _ is_h is_k).1
+
+pub best_is_one : (net : Network) (node table a : ℕ) (h k : Hit) → IsNetwork net → IsBest net node table a h → IsBest net node table a k → h ≡ k
+best_is_one net node table a (hits.Sid m) (hits.Sid n) rules (p, is_h) (q, is_k) = ap hits.Sid (one_sid net node table a m n p q (keeps_from_network net rules) is_h is_k)
+best_is_one net node table a (hits.Sid m) hits.Address rules (p, is_h) (q, is_k) = absurd (omega (arith, rank_of_best net node table a p q (hits.Sid m) hits.Address is_h is_k))
+best_is_one net node table a (hits.Sid m) (hits.Route n) rules (p, is_h) (q, is_k) = absurd (omega (arith, rank_of_best net node table a p q (hits.Sid m) (hits.Route n) is_h is_k))
+best_is_one net node table a (hits.Sid m) hits.Nothing rules (p, is_h) none = absurd (none _ is_h.is_there is_h.holds)
+best_is_one net node table a hits.Address (hits.Sid n) rules (p, is_h) (q, is_k) = absurd (omega (arith, rank_of_best net node table a p q hits.Address (hits.Sid n) is_h is_k))
+best_is_one net node table a hits.Address hits.Address rules is_h is_k = refl
+best_is_one net node table a hits.Address (hits.Route n) rules (p, is_h) (q, is_k) = absurd (omega (arith, rank_of_best net node table a p q hits.Address (hits.Route n) is_h is_k))
+best_is_one net node table a hits.Address hits.Nothing rules (p, is_h) none = absurd (none _ is_h.is_there is_h.holds)
+best_is_one net node table a (hits.Route m) (hits.Sid n) rules (p, is_h) (q, is_k) = absurd (omega (arith, rank_of_best net node table a p q (hits.Route m) (hits.Sid n) is_h is_k))
+best_is_one net node table a (hits.Route m) hits.Address rules (p, is_h) (q, is_k) = absurd (omega (arith, rank_of_best net node table a p q (hits.Route m) hits.Address is_h is_k))
+best_is_one net node table a (hits.Route m) (hits.Route n) rules (p, is_h) (q, is_k) = ap hits.Route (one_route net node table a m n p q (keeps_from_network net rules) is_h is_k)
+best_is_one net node table a (hits.Route m) hits.Nothing rules (p, is_h) none = absurd (none _ is_h.is_there is_h.holds)
+best_is_one net node table a hits.Nothing (hits.Sid n) rules none (q, is_k) = absurd (none _ is_k.is_there is_k.holds)
+best_is_one net node table a hits.Nothing hits.Address rules none (q, is_k) = absurd (none _ is_k.is_there is_k.holds)
+best_is_one net node table a hits.Nothing (hits.Route n) rules none (q, is_k) = absurd (none _ is_k.is_there is_k.holds)
+best_is_one net node table a hits.Nothing hits.Nothing rules none also = refl

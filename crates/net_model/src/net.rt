@@ -43,7 +43,7 @@ impl Net {
     ghost use Rattle.net_model.specs.Network.{network_of};
     ghost use Rattle.net_model.specs.Rules.{IsNetwork, is_network};
     ghost use Rattle.net_model.specs.Keeps.{Keeps};
-    ghost use Rattle.net_model.specs.Best.{lookup_of};
+    ghost use Rattle.net_model.specs.Best.{IsBest, lookup_of};
     ghost use Rattle.net_model.specs.Named.{node_numbered, link_numbered, IsNodeNumbered, IsLinkNumbered};
 
     /// The network with these parts; `None` exactly where they break a rule of descriptions (own rules).
@@ -146,6 +146,7 @@ impl Net {
     pub fn lookup(&self, node: u32, table: u32, a: Addr) -> Hit
         requires { node < length self.now.nodes }
         ensures value { result ≡ lookup_of self.now node table a.value }
+        ensures best { IsBest self.now node table a.value result }
     {
         self.keeps_rules();
         lookup_in(&self.parts, node, table, a)
