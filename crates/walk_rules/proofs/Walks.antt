@@ -8,13 +8,13 @@ use Rattle.walk_rules.specs.Treatment.{step_of}
 
 pub walk_of-suc : (more : ℕ) (net : Network) (place : Place) (content : Content) (pick : ℕ → ℕ) (taken : ℕ)
     → walk_of (suc more) net (Some place) content pick taken
-      ≡ stage_of net place content (pick taken) ∷ walk_on more net (stage_of net place content (pick taken)) pick taken
+    ≡ stage_of net place content (pick taken) ∷ walk_on more net (stage_of net place content (pick taken)) pick taken
 unfolding walk_of
 walk_of-suc more net place content pick taken = refl
 
 pub walk_of-add_one : (more : ℕ) (net : Network) (place : Place) (content : Content) (pick : ℕ → ℕ) (taken : ℕ)
     → walk_of (more + 1) net (Some place) content pick taken
-      ≡ stage_of net place content (pick taken) ∷ walk_on more net (stage_of net place content (pick taken)) pick taken
+    ≡ stage_of net place content (pick taken) ∷ walk_on more net (stage_of net place content (pick taken)) pick taken
 walk_of-add_one more net place content pick taken = rw (add-one more) (walk_of-suc more net place content pick taken)
 
 pub walk_of-zero : (net : Network) (place : Option Place) (content : Content) (pick : ℕ → ℕ) (taken : ℕ)
@@ -46,13 +46,13 @@ take-walk_of (suc m) n net None content pick taken = rw (walk_of-none (suc m + n
 take-walk_of (suc m) n net (Some place) content pick taken =
     let s : Step = stage_of net place content (pick taken) in
     rw (suc-add m n) (ap (λ (rest : List Step). s ∷ rest)
-        (take-walk_of m n net (next_place net place s.gave.outcome) s.gave.after pick (taken + decisions s.gave.outcome)))
+    (take-walk_of m n net (next_place net place s.gave.outcome) s.gave.after pick (taken + decisions s.gave.outcome)))
 
 -- a longer walk is a walk, and then the walk from where it stopped
 pub walk_of-add : (m n : ℕ) (net : Network) (place : Option Place) (content : Content) (pick : ℕ → ℕ) (taken : ℕ)
     → let w = walk_of m net place content pick taken in
-      walk_of (m + n) net place content pick taken
-      ≡ w ++ walk_of n net (place_after net place w) (content_after content w) pick (taken_after taken w)
+    walk_of (m + n) net place content pick taken
+    ≡ w ++ walk_of n net (place_after net place w) (content_after content w) pick (taken_after taken w)
 unfolding walk_of
 walk_of-add zero n net place content pick taken = rw (zero-add n)
 walk_of-add (suc m) n net None content pick taken =
@@ -60,7 +60,7 @@ walk_of-add (suc m) n net None content pick taken =
 walk_of-add (suc m) n net (Some place) content pick taken =
     let s : Step = stage_of net place content (pick taken) in
     rw (suc-add m n) (ap (λ (rest : List Step). s ∷ rest)
-        (walk_of-add m n net (next_place net place s.gave.outcome) s.gave.after pick (taken + decisions s.gave.outcome)))
+    (walk_of-add m n net (next_place net place s.gave.outcome) s.gave.after pick (taken + decisions s.gave.outcome)))
 
 -- a walk that ended stays as it is
 pub walk_of-ended : (m n : ℕ) (net : Network) (place : Option Place) (content : Content) (pick : ℕ → ℕ) (taken : ℕ)
@@ -69,7 +69,7 @@ pub walk_of-ended : (m n : ℕ) (net : Network) (place : Option Place) (content 
 walk_of-ended m n net place content pick taken e =
     let w : List Step = walk_of m net place content pick taken in
     let none : walk_of n net (place_after net place w) (content_after content w) pick (taken_after taken w) ≡ [] =
-        rw e (walk_of-none n net (content_after content w) pick (taken_after taken w)) in
+    rw e (walk_of-none n net (content_after content w) pick (taken_after taken w)) in
     walk_of-add m n net place content pick taken ∙ ap (λ (rest : List Step). w ++ rest) none ∙ append-nil w
 
 -- the stages of a walk follow one another
@@ -110,8 +110,8 @@ walk_of-follows (suc more) net (Some place) content pick taken =
     let s : Step = stage_of net place content (pick taken) in
     let next : Option Place = next_place net place s.gave.outcome in
     Follows-cons net pick taken s (walk_on more net s pick taken) refl
-        (walk_of-begins more net next s.gave.after pick (taken + decisions s.gave.outcome))
-        (walk_of-follows more net next s.gave.after pick (taken + decisions s.gave.outcome))
+    (walk_of-begins more net next s.gave.after pick (taken + decisions s.gave.outcome))
+    (walk_of-follows more net next s.gave.after pick (taken + decisions s.gave.outcome))
 
 -- a walk of fewer stages than it may have has ended
 pub walk_of-short : (fuel : ℕ) (net : Network) (place : Option Place) (content : Content) (pick : ℕ → ℕ) (taken : ℕ)
@@ -151,15 +151,15 @@ walk_of-one (suc fuel) net None content pick taken (s ∷ more) is = let e : Non
 walk_of-one (suc fuel) net (Some place) content pick taken (s ∷ more) is =
     let at : Some place ≡ Some s.place = is.begins.0 in
     let same : s ≡ stage_of net place content (pick taken) =
-        same_stage net s place content (pick taken) (some_same s.place place at) is.begins.1 (Follows-head net pick taken s more is.follows) in
+    same_stage net s place content (pick taken) (some_same s.place place at) is.begins.1 (Follows-head net pick taken s more is.follows) in
     let rest : more ≡ walk_on fuel net s pick taken =
-        walk_of-one fuel net (next_place net s.place s.gave.outcome) s.gave.after pick (taken + decisions s.gave.outcome) more
-            (record {
-               begins = Follows-next net pick taken s more is.follows;
-               follows = Follows-tail net pick taken s more is.follows;
-               at_most = le_of_suc-le-suc is.at_most;
-               ended = λ short. is.ended (suc-le-suc short);
-             }) in
+    walk_of-one fuel net (next_place net s.place s.gave.outcome) s.gave.after pick (taken + decisions s.gave.outcome) more
+    (record {
+      begins = Follows-next net pick taken s more is.follows;
+      follows = Follows-tail net pick taken s more is.follows;
+      at_most = le_of_suc-le-suc is.at_most;
+      ended = λ short. is.ended (suc-le-suc short);
+    }) in
     ap (λ (w : List Step). s ∷ w) rest ∙ ap (λ (t : Step). t ∷ walk_on fuel net t pick taken) same
   where
     some_same : (p q : Place) → Some q ≡ Some p → p ≡ q
