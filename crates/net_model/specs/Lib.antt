@@ -3,3 +3,5 @@ pub mod Rules
 pub mod Best
 pub mod Titles
 pub mod Keeps
+pub mod Named
+pub mod Found
