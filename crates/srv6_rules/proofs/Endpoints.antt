@@ -10,7 +10,7 @@ use Rattle.srv6_rules.specs.declared.sid.Reason.TheVariants as reasons
 use Rattle.srv6_rules.specs.Packet.{Packet, Content, V6, Unreadable, IsSpellable, IsContent, spelling, content_of, bytes_of}
 use Rattle.srv6_rules.specs.Srh.{Srh, srh_of, entry_of, tlv_bytes, entries_of}
 use Rattle.srv6_rules.specs.Chain.{Header, LiesIn, Processed, AtHeader, AtUpper, AtCut, is_segment_routing, is_passed, processed_of}
-use Rattle.srv6_rules.specs.Endpoint.{Endpoint, Onward, Exposed, Delivered, Refused, StepsTo, ChangesFewBytes, Exposes, ipv6_inside, is_allowed, upper_layer, has_bad_segments, advanced, next_segment, header_at_sid, upper_at_sid, processed_at_sid, at_sid, processed_at_address, at_address}
+use Rattle.srv6_rules.specs.Endpoint.{Endpoint, Onward, Exposed, Delivered, Refused, StepsTo, ChangesFewBytes, Exposes, ipv6_inside, is_allowed, upper_layer, has_bad_segments, advanced, next_segment, header_at_sid, upper_at_sid, processed_at_sid, at_sid}
 use Rattle.srv6_rules.proofs.Bytes.{address_number-below, byte_below}
 use Rattle.srv6_rules.proofs.Packets.{content_of-is_content, content_of-bytes_of, length-spelling, reads-spelled, unreadable, spelling-agrees, spelling-hop_limit, spelling-payload}
 use Rattle.srv6_rules.proofs.Chains.{processed-lies, processed-upper_stands, lies-at, lies-bytes}
@@ -258,30 +258,3 @@ at_sid-exposed_back b allow p c ok e =
     let x = at_sid-exposes b allow p c e in
     let back = content_of-bytes_of (drop x.at p.payload) (All-drop (λ n. n < 2 ^ 8) x.at p.payload ok.payload) in
     ap (λ d. content_of (bytes_of d)) x.content ∙ back ∙ sym x.content
-
--- ---- at an address
-
-address-header-not_onward : (routing : Bool) (q : Packet) → (if routing then Refused reasons.UnknownRouting else Refused reasons.NotBuilt) ≡ Onward q → ⊥
-address-header-not_onward true q e = cc
-address-header-not_onward false q e = cc
-
-address-header-not_exposed : (routing : Bool) (c : Content) → (if routing then Refused reasons.UnknownRouting else Refused reasons.NotBuilt) ≡ Exposed c → ⊥
-address-header-not_exposed true c e = cc
-address-header-not_exposed false c e = cc
-
-address-not_onward : (r : Processed) (q : Packet) → processed_at_address r ≡ Onward q → ⊥
-address-not_onward (AtHeader h) q e = address-header-not_onward (is_segment_routing h) q e
-address-not_onward (AtUpper kind at) q e = cc
-address-not_onward AtCut q e = cc
-
-address-not_exposed : (r : Processed) (c : Content) → processed_at_address r ≡ Exposed c → ⊥
-address-not_exposed (AtHeader h) c e = address-header-not_exposed (is_segment_routing h) c e
-address-not_exposed (AtUpper kind at) c e = cc
-address-not_exposed AtCut c e = cc
-
--- a packet at the node's own address ends there
-pub at_address-not_onward : (p q : Packet) → at_address p ≢ Onward q
-at_address-not_onward p q e = address-not_onward (processed_of p) q e
-
-pub at_address-not_exposed : (p : Packet) (c : Content) → at_address p ≢ Exposed c
-at_address-not_exposed p c e = address-not_exposed (processed_of p) c e

@@ -1,6 +1,6 @@
 -- What a node does with a packet that came to one of its SIDs or to its own address: RFC 8986 sections 4.1, 4.2
 -- and 4.6 with the processing of RFC 8754 section 4.3.1.1, and RFC 8200 section 4.4 at an address.
-use Rattle.std.specs.Prelude.{◌≡◌, ◌≢◌, ◌⊎◌, ℕ, ◌+◌, ◌-◌, ◌*◌, ◌/◌, ◌<◌, ◌≤◌, Bool, true, false, ◌==◌, ◌&&◌, ◌||◌, nat_lt, nat_le, if◌then◌else◌, List, [], ◌∷◌, length, drop, slice_index, slice_set}
+use Rattle.std.specs.Prelude.{◌≡◌, ◌≢◌, ◌⊎◌, ℕ, ◌+◌, ◌-◌, ◌*◌, ◌/◌, ◌<◌, ◌≤◌, Bool, true, false, ◌==◌, ◌&&◌, ◌||◌, nat_lt, nat_le, if◌then◌else◌, List, [], ◌∷◌, length, drop, slice_index, slice_set, Option, Some, None}
 use Rattle.std.specs.List.{list_any}
 use Rattle.srv6_rules.specs.declared.sid.Behaviour.{Behaviour}
 use Rattle.srv6_rules.specs.declared.sid.Behaviour.TheVariants.{End, EndX, Dt6}
@@ -79,8 +79,8 @@ refused_at_address (AtHeader h) = Some (if is_segment_routing h then reasons.Unk
 refused_at_address (AtUpper kind at) = None
 refused_at_address AtCut = Some reasons.BadChain
 
-abbrev pub at_address : Packet → Endpoint
-at_address p = processed_at_address (processed_of p)
+abbrev pub at_address : Packet → Option Reason
+at_address p = refused_at_address (processed_of p)
 
 -- a packet that goes on after the step over the segment routing header that is processed: the hop limit is one lower,
 -- Segments Left, the header's byte 3, is one lower, the destination is that entry, and all else is as it was

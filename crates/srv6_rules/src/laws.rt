@@ -1,7 +1,7 @@
 //! Laws about the definitions, each the contract of a function that does nothing.
 
 ghost use Rattle.std.specs.Prelude.{◌≡◌, ◌≢◌, ◌<◌, ◌≤◌, ◌+◌, ◌*◌, ◌^◌, true, false, if◌then◌else◌, List, [], ℕ, ◌++◌, length, take, drop, slice_index, All, Contains};
-ghost use Rattle.srv6_rules.specs.Endpoint.{Endpoint, Onward, Exposed, StepsTo, ChangesFewBytes, Exposes, at_sid, at_address};
+ghost use Rattle.srv6_rules.specs.Endpoint.{Onward, Exposed, StepsTo, ChangesFewBytes, Exposes, at_sid};
 ghost use Rattle.srv6_rules.specs.declared.sid.Behaviour.{Behaviour};
 ghost use Rattle.srv6_rules.specs.declared.sid.Reason.{Reason};
 ghost use Rattle.srv6_rules.specs.Packet.{Packet, Content, V6, Unreadable, IsSpellable, IsContent, Spells, spelling, content_of, entered, bytes_of, two_bytes, four_bytes, address_bytes, two_number, four_number, address_number};
@@ -135,10 +135,4 @@ pub fn decapsulation_changes_no_byte()
     ensures unreadable { (b : Behaviour) (allow : List ℕ) (p : Packet) (bytes : List ℕ) (why : Reason) → at_sid b allow p ≡ Exposed (Unreadable bytes why) → (at : ℕ) × (bytes ≡ drop at p.payload) }
     ensures content { (b : Behaviour) (allow : List ℕ) (p : Packet) (c : Content) → IsSpellable p → at_sid b allow p ≡ Exposed c → IsContent c }
     ensures back { (b : Behaviour) (allow : List ℕ) (p : Packet) (c : Content) → IsSpellable p → at_sid b allow p ≡ Exposed c → content_of (bytes_of c) ≡ c }
-{}
-
-/// A packet at the node's own address ends there: it neither goes on nor exposes another (RFC 8200 section 4.4).
-pub fn address_is_an_end()
-    ensures onward { (p q : Packet) → at_address p ≢ Onward q }
-    ensures exposed { (p : Packet) (c : Content) → at_address p ≢ Exposed c }
 {}
