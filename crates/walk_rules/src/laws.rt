@@ -4,7 +4,7 @@ ghost use Rattle.std.specs.Prelude.{◌≡◌, ◌≢◌, ℕ, ◌+◌, ◌<◌,
 ghost use Rattle.net_model.specs.Keeps.{StartsAt};
 ghost use Rattle.net_model.specs.Network.{Network};
 ghost use Rattle.net_model.specs.Rules.{IsNetwork};
-ghost use Rattle.srv6_rules.specs.Packet.{Content};
+ghost use Rattle.srv6_rules.specs.Packet.{Content, IsContent, bytes_of, content_of};
 ghost use Rattle.srv6_rules.specs.declared.sid.Family.{Family};
 ghost use Rattle.srv6_rules.specs.declared.sid.Reason.{Reason};
 ghost use Rattle.walk_rules.specs.Laws.{AreStages, DifferAtMostInLink, Executes, IsLoweredByOne, SendsApart, hops_at};
@@ -104,6 +104,15 @@ pub fn a_place_leads_to_a_place()
     ensures { (net : Network) (place : Place) (content : Content) (choice : ℕ) (next : Place) →
         IsNetwork net → IsPlace net place →
         next_place net place (step_of net place content choice).outcome ≡ Some next → IsPlace net next }
+{}
+
+/// What bytes can spell stays so in a stage, and what reads as itself from its bytes does so after it.
+pub fn a_stage_keeps_a_content()
+    ensures content { (net : Network) (place : Place) (content : Content) (choice : ℕ) → IsContent content →
+        IsContent (step_of net place content choice).after }
+    ensures back { (net : Network) (place : Place) (content : Content) (choice : ℕ) → IsContent content →
+        let after = (step_of net place content choice).after in
+        content_of (bytes_of content) ≡ content → content_of (bytes_of after) ≡ after }
 {}
 
 /// The stages of a walk begin at its place and follow one another, and are fewer than they may be
