@@ -1,5 +1,5 @@
 -- Where a stage executes a SID: the SID is there and stands at the node, and the hop limit falls by one before a packet goes on.
-use Rattle.std.proofs.Common.{◌≡◌, ℕ, ◌+◌, ◌-◌, ◌<◌, ◌≤◌, ◌⊎◌, inl, inr, Bool, true, false, nat_le, if◌then◌else◌, List, [], ◌∷◌, length, Option, Some, None, slice_get, drop, nat_eq, ◌==◌, refl, sym, ◌∙◌, subst, ap, arith, leb-false}
+use Rattle.std.proofs.Common.{◌≡◌, ℕ, ◌+◌, ◌-◌, ◌<◌, ◌⊎◌, inl, inr, Bool, true, false, nat_le, if◌then◌else◌, List, length, Option, Some, None, slice_get, drop, nat_eq, ◌==◌, refl, sym, subst, ap, arith, leb-false}
 use Rattle.srv6_rules.specs.declared.sid.Behaviour.{Behaviour}
 use Rattle.srv6_rules.specs.declared.sid.Behaviour.TheVariants.{End, EndX, Dt6}
 use Rattle.srv6_rules.specs.declared.sid.Family.{Family}
@@ -9,7 +9,7 @@ use Rattle.srv6_rules.specs.declared.sid.SidEntry.{SidEntry}
 use Rattle.srv6_rules.specs.Packet.{Packet, Content, V6, Unreadable, content_of}
 use Rattle.srv6_rules.specs.Srh.{Srh, srh_of, tlv_bytes}
 use Rattle.srv6_rules.specs.Chain.{Processed, AtHeader, AtUpper, AtCut, is_segment_routing, processed_of, Header}
-use Rattle.srv6_rules.specs.Endpoint.{Endpoint, Onward, Exposed, Delivered, Refused, at_sid, at_address, processed_at_sid, header_at_sid, upper_at_sid, upper_layer, is_allowed, next_segment, has_bad_segments, advanced, ipv6_inside}
+use Rattle.srv6_rules.specs.Endpoint.{Endpoint, Onward, Exposed, Delivered, Refused, at_sid, at_address, processed_at_sid, upper_layer, is_allowed, next_segment, has_bad_segments, advanced, ipv6_inside}
 use Rattle.net_model.specs.declared.net.Hit.{Hit}
 use Rattle.net_model.specs.declared.net.Hit.TheVariants as hits
 use Rattle.net_model.specs.Network.{Network}
@@ -19,7 +19,7 @@ use Rattle.walk_rules.specs.declared.place.How.TheVariants.{Arrived, Submitted, 
 use Rattle.walk_rules.specs.declared.place.Place.{Place}
 use Rattle.walk_rules.specs.declared.place.Outcome.{Outcome}
 use Rattle.walk_rules.specs.declared.place.Outcome.TheVariants as outcomes
-use Rattle.walk_rules.specs.Treatment.{Way, Away, Over, Own, Into, is_multicast, way_by_hit, way_by_table, way_by, way_of, Gave, dropped, member_of, lowered, sent, on_from, treated_at_address, treated_at_sid, treated_in, treated, step_of, allow_of}
+use Rattle.walk_rules.specs.Treatment.{Way, Away, Over, Own, Into, is_multicast, way_by_hit, way_by_table, way_by, way_of, Gave, dropped, member_of, lowered, sent, treated_at_address, treated_at_sid, treated_in, treated, step_of, allow_of}
 use Rattle.walk_rules.specs.Laws.{IsLoweredByOne, Executes}
 use Rattle.walk_rules.proofs.Lookups.{SidStandsAt, IsThere, lookup-there}
 use Rattle.walk_rules.proofs.Choices.{sent-cases}
