@@ -10,7 +10,7 @@ ghost use Rattle.srv6_rules.specs.declared.sid.Reason.{Reason};
 ghost use Rattle.walk_rules.specs.Laws.{AreStages, DifferAtMostInLink, Executes, IsLoweredByOne, SendsApart, hops_at};
 ghost use Rattle.walk_rules.specs.Relation.{IsPlace, Stage};
 ghost use Rattle.walk_rules.specs.Treatment.{member_of, step_of};
-ghost use Rattle.walk_rules.specs.Walk.{Follows, IsWalk, Step, choice_at, content_after, decisions, end_of, next_place, place_after, stage_of, taken_after, walk_of, walk_on};
+ghost use Rattle.walk_rules.specs.Walk.{IsWalk, Step, choice_at, content_after, decisions, end_of, next_place, place_after, stage_of, taken_after, walk_of, walk_on};
 ghost use Rattle.walk_rules.specs.declared.place.Ended.{Ended};
 ghost use Rattle.walk_rules.specs.declared.place.How.{How};
 ghost use Rattle.walk_rules.specs.declared.place.Outcome.{Outcome};
