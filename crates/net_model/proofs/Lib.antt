@@ -5,3 +5,4 @@ pub mod NamedLemmas
 pub mod BestLemmas
 pub mod EntryLemmas
 pub mod IsBestLemmas
+pub mod FlatLemmas

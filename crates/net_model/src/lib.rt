@@ -2,6 +2,7 @@
 //! description, and which entry of a node's table fits an address best.
 #![tactic(auto)]
 
+mod flat;
 mod laws;
 mod lookup;
 mod named;
@@ -9,6 +10,7 @@ mod net;
 mod parts;
 mod rules;
 
+pub use flat::{NotFlat, compilable};
 pub use laws::{best_match_is_one, entries_are_its_own};
 pub use net::{Hit, Net};
 pub use parts::{Link, Name, NetParts, Node, Route, TypeList};
