@@ -95,10 +95,10 @@ first_nested-judged (o ∷ outers) inners =
 
 -- the same over a network
 
-get_from_contains : {X : Type 0} (xs : List X) (x : X) → Contains xs x → (k : ℕ) × (slice_get xs k ≡ Some x)
+pub get_from_contains : {X : Type 0} (xs : List X) (x : X) → Contains xs x → (k : ℕ) × (slice_get xs k ≡ Some x)
 get_from_contains xs x c = (c.0, slice_get_read xs (length xs) c.0 x refl c.1 (sym c.2))
 
-contains_from_get : {X : Type 0} (xs : List X) (k : ℕ) (x : X) → slice_get xs k ≡ Some x → Contains xs x
+pub contains_from_get : {X : Type 0} (xs : List X) (k : ℕ) (x : X) → slice_get xs k ≡ Some x → Contains xs x
 contains_from_get xs k x e = (k, slice_get_within xs k x e, get_or_from_slice_get xs k x x e)
 
 prefix_at : (sids : List SidEntry) (i : ℕ) (s : SidEntry) → slice_get sids i ≡ Some s → slice_get (map sid_prefix sids) i ≡ Some s.prefix

@@ -162,7 +162,7 @@ best_agree es a e f is_e is_f =
     let same : e.prefix.len ≡ f.prefix.len = omega (arith, to_f.0, to_e.0) in
     (same, omega (arith, to_f.1 (sym same), to_e.1 same))
 
-same_prefix_value : (p q : PrefixValue) → p.value ≡ q.value → p.len ≡ q.len → p ≡ q
+pub same_prefix_value : (p q : PrefixValue) → p.value ≡ q.value → p.len ≡ q.len → p ≡ q
 same_prefix_value p q value len = λ i. record { value = value i; len = len i }
 
 -- two best entries of one rank have one prefix

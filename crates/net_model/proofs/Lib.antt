@@ -6,3 +6,4 @@ pub mod BestLemmas
 pub mod EntryLemmas
 pub mod IsBestLemmas
 pub mod FlatLemmas
+pub mod AlikeLemmas

@@ -11,6 +11,6 @@ mod parts;
 mod rules;
 
 pub use flat::{NotFlat, compilable};
-pub use laws::{best_match_is_one, entries_are_its_own};
+pub use laws::{best_match_is_one, entries_are_its_own, flat_networks_treat_addresses_alike, matched_sids_hold_the_address};
 pub use net::{Hit, Net};
 pub use parts::{Link, Name, NetParts, Node, Route, TypeList};
