@@ -43,10 +43,10 @@ entry_among net node table p (hits.Sid n) (s, at, of, is, first) =
     Contains-append_left (map sid_prefix net.sids) _ p (subst (Contains (map sid_prefix net.sids)) is (contains_mapped sid_prefix net.sids n s at))
 entry_among net node table p hits.Address (n, at, is, first) =
     Contains-append_right (map sid_prefix net.sids) _ p
-        (Contains-append_right (map route_prefix net.routes) _ p (subst (Contains (map address_prefix net.nodes)) (sym is) (contains_mapped address_prefix net.nodes node n at)))
+    (Contains-append_right (map route_prefix net.routes) _ p (subst (Contains (map address_prefix net.nodes)) (sym is) (contains_mapped address_prefix net.nodes node n at)))
 entry_among net node table p (hits.Route n) (r, at, of, in_table, is) =
     Contains-append_right (map sid_prefix net.sids) _ p
-        (Contains-append_left (map route_prefix net.routes) _ p (subst (Contains (map route_prefix net.routes)) is (contains_mapped route_prefix net.routes n r at)))
+    (Contains-append_left (map route_prefix net.routes) _ p (subst (Contains (map route_prefix net.routes)) is (contains_mapped route_prefix net.routes n r at)))
 entry_among net node table p hits.Nothing none = absurd none
 
 -- in a flat network no entry that holds an address of a SID's prefix is longer than that prefix
@@ -54,9 +54,9 @@ no_longer : (net : Network) (node table n a : ℕ) (s : SidEntry) (e : Entry) �
     → Contains (entries_of net node table) e → Holds e.prefix a → e.prefix.len ≤ s.prefix.len
 no_longer net node table n a s e flat at s_a there e_a =
     elim (cases_lt s.prefix.len e.prefix.len) [
-      inl longer ↦ absurd (flat s e.prefix (contains_from_get net.sids n s at) (entry_among net node table e.prefix e.hit (entry_means net node table e there))
+      | inl longer ↦ absurd (flat s e.prefix (contains_from_get net.sids n s at) (entry_among net node table e.prefix e.hit (entry_means net node table e there))
           (longer, Holds_nested s.prefix e.prefix a (omega arith) s_a e_a))
-    | inr shorter ↦ shorter
+      | inr shorter ↦ shorter
     ]
 
 same_answer : (x y : Bool) → (x ≡ true → y ≡ true) → (y ≡ true → x ≡ true) → x ≡ y
@@ -68,10 +68,10 @@ entry_alike : (net : Network) (node table n a b : ℕ) (s : SidEntry) (e : Entry
     → Contains (entries_of net node table) e → holds_address e.prefix a ≡ holds_address e.prefix b
 entry_alike net node table n a b s e flat at s_a s_b there =
     same_answer (holds_address e.prefix a) (holds_address e.prefix b)
-        (λ h. let e_a = (holds_address_is e.prefix a).0 h in
-            (holds_address_is e.prefix b).1 (holds_both s.prefix e.prefix a b (no_longer net node table n a s e flat at s_a there e_a) s_a s_b e_a))
-        (λ h. let e_b = (holds_address_is e.prefix b).0 h in
-            (holds_address_is e.prefix a).1 (holds_both s.prefix e.prefix b a (no_longer net node table n b s e flat at s_b there e_b) s_b s_a e_b))
+    (λ h. let e_a = (holds_address_is e.prefix a).0 h in
+    (holds_address_is e.prefix b).1 (holds_both s.prefix e.prefix a b (no_longer net node table n a s e flat at s_a there e_a) s_a s_b e_a))
+    (λ h. let e_b = (holds_address_is e.prefix b).0 h in
+    (holds_address_is e.prefix a).1 (holds_both s.prefix e.prefix b a (no_longer net node table n b s e flat at s_b there e_b) s_b s_a e_b))
 
 pub lookups_alike : (net : Network) (n : ℕ) (s : SidEntry) (node table a b : ℕ) → IsFlat net → slice_get net.sids n ≡ Some s → Holds s.prefix a → Holds s.prefix b → lookup_of net node table a ≡ lookup_of net node table b
 unfolding lookup_of
@@ -82,19 +82,19 @@ lookups_alike net n s node table a b flat at s_a s_b =
 pub own_sid_is_best : (net : Network) (n : ℕ) (s : SidEntry) (a : ℕ) → IsNetwork net → IsFlat net → slice_get net.sids n ≡ Some s → Holds s.prefix a → lookup_of net s.node 0 a ≡ hits.Sid n
 own_sid_is_best net n s a rules flat at s_a =
     let best : IsBestEntry (entries_of net s.node 0) a (record { hit = hits.Sid n; prefix = s.prefix }) = record {
-        is_there = entry_is_there net s.node 0 s.prefix (hits.Sid n) (s, at, refl, refl, refl);
-        holds = s_a;
-        no_better = λ other there other_a. (no_longer net s.node 0 n a s other flat at s_a there other_a, λ same. omega arith);
-      } in
+      is_there = entry_is_there net s.node 0 s.prefix (hits.Sid n) (s, at, refl, refl, refl);
+      holds = s_a;
+      no_better = λ other there other_a. (no_longer net s.node 0 n a s other flat at s_a there other_a, λ same. omega arith);
+    } in
     best_is_one net s.node 0 a (lookup_of net s.node 0 a) (hits.Sid n) rules (lookup_is_best net s.node 0 a) (s.prefix, best)
 
 -- in a flat network two SIDs that hold one address have equally long prefixes
 sid_no_longer : (net : Network) (n m a : ℕ) (s t : SidEntry) → IsFlat net → slice_get net.sids n ≡ Some s → slice_get net.sids m ≡ Some t → Holds s.prefix a → Holds t.prefix a → t.prefix.len ≤ s.prefix.len
 sid_no_longer net n m a s t flat at_n at_m s_a t_a =
     elim (cases_lt s.prefix.len t.prefix.len) [
-      inl longer ↦ absurd (flat s t.prefix (contains_from_get net.sids n s at_n) (Contains-append_left (map sid_prefix net.sids) _ t.prefix (contains_mapped sid_prefix net.sids m t at_m))
+      | inl longer ↦ absurd (flat s t.prefix (contains_from_get net.sids n s at_n) (Contains-append_left (map sid_prefix net.sids) _ t.prefix (contains_mapped sid_prefix net.sids m t at_m))
           (longer, Holds_nested s.prefix t.prefix a (omega arith) s_a t_a))
-    | inr shorter ↦ shorter
+      | inr shorter ↦ shorter
     ]
 
 -- two SIDs that hold one address have one prefix

@@ -36,9 +36,9 @@ pub find_first : {X : Type 0} (p : X → Bool) (xs : List X) (x : X) → find p 
 find_first p [] x e = cc
 find_first p (y ∷ ys) x e =
     elim (cases_Bool (p y)) [
-      inl passes ↦ let same = same_Some y x (rw passes at e) in
+      | inl passes ↦ let same = same_Some y x (rw passes at e) in
           (0, ap Some same, subst (λ z. p z ≡ true) same passes, λ k z below. absurd (omega arith))
-    | inr fails ↦ first_later p y ys x fails (find_first p ys x (rw fails at e))
+      | inr fails ↦ first_later p y ys x fails (find_first p ys x (rw fails at e))
     ]
 
 pub find_none : {X : Type 0} (p : X → Bool) (xs : List X) → find p xs ≡ None → (k : ℕ) (x : X) → slice_get xs k ≡ Some x → p x ≡ false
@@ -61,12 +61,12 @@ not_in_front o outers inners (Ok accepted) none none_later = nowhere
     nowhere zero j p q at = both_ways _ (find_none (λ inner. is_inside inner o) inners none j q at.1) (subst (λ z. is_inside q z ≡ true) (sym (same_Some o p at.0)) ((is_inside_is q p).1 at.2))
     nowhere (suc i) j p q at = none_later i j p q at
 not_in_front o outers inners (Err (Nested outer inner)) none later = record {
-      outer_place = suc later.outer_place;
-      inner_place = later.inner_place;
-      nested = later.nested;
-      no_earlier_outer = nowhere;
-      no_earlier_inner = later.no_earlier_inner;
-    }
+  outer_place = suc later.outer_place;
+  inner_place = later.inner_place;
+  nested = later.nested;
+  no_earlier_outer = nowhere;
+  no_earlier_inner = later.no_earlier_inner;
+}
   where
     nowhere : (i j : ℕ) (p q : PrefixValue) → i < suc later.outer_place → ¬ IsNestedAt (o ∷ outers) inners i j p q
     nowhere zero j p q before at = both_ways _ (find_none (λ inner. is_inside inner o) inners none j q at.1) (subst (λ z. is_inside q z ≡ true) (sym (same_Some o p at.0)) ((is_inside_is q p).1 at.2))

@@ -38,7 +38,10 @@ fn first_route_inside(outer: &Prefix, routes: &[Route]) -> Option<Prefix>
 fn first_address_inside(outer: &Prefix, nodes: &[Node]) -> Option<Prefix>
     ensures { result ≡ first_inside outer.now (map address_prefix nodes.now) }
 {
-    nodes.iter().map(|n| whole(n.address)).find(|p| p.inside(outer))
+    nodes
+        .iter()
+        .map(|n| whole(n.address))
+        .find(|p| p.inside(outer))
 }
 
 /// The first entry that lies strictly inside a prefix.
