@@ -2,3 +2,4 @@ pub mod PacketView
 pub mod ContentView
 pub mod Reading
 pub mod Fronts
+pub mod Stepping

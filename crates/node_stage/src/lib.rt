@@ -4,6 +4,7 @@
 //! node does with it at a place under a choice among equal next hops; it takes no memory.
 #![tactic(auto)]
 
+mod chain;
 mod content;
 mod numbers;
 mod packet;
