@@ -2,8 +2,10 @@
 //! description, and which entry of a node's table fits an address best.
 #![tactic(auto)]
 
+mod named;
 mod net;
 mod parts;
+mod rules;
 
 pub use net::{Hit, Net};
 pub use parts::{Link, Name, NetParts, Node, Route, TypeList};

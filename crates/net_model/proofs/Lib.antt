@@ -1,0 +1,4 @@
+pub mod ListLemmas
+pub mod TitleLemmas
+pub mod KeepsLemmas
+pub mod NamedLemmas

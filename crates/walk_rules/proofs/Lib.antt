@@ -1,0 +1,7 @@
+pub mod Walks
+pub mod Stages
+pub mod Choices
+pub mod Lookups
+pub mod Executions
+pub mod Facts
+pub mod Places
