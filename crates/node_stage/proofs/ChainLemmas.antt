@@ -26,7 +26,7 @@ pub found_header : (payload : List ℕ) (kind at : ℕ) → is_extension kind �
     → IsFound payload kind at (Header kind at)
 found_header payload kind at e w p =
     let stays = passes-is_passed payload kind at ∙ p in
-    record { processed = processed-goes_on payload kind at ∙ rw (e, w, stays) refl; stands = header_at-lies payload kind at e w }
+    record { processed = processed-goes_on payload kind at ∙ rw (e, w, stays) refl; stands = record { lies = header_at-lies payload kind at e w; stays = stays } }
 
 pub goes_on : (payload : List ℕ) (kind at : ℕ) → is_extension kind ≡ true → is_whole kind (drop at payload) ≡ true → passes kind (drop at payload) ≡ true
     → GoesOn payload kind at (slice_index (drop at payload) 0) (at + extension_bytes kind (drop at payload))

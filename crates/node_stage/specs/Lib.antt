@@ -3,3 +3,4 @@ pub mod ContentView
 pub mod Reading
 pub mod Fronts
 pub mod Stepping
+pub mod Judging

@@ -1,6 +1,6 @@
 -- The walk over a chain of extension headers, by places of the payload.
-use Rattle.std.specs.Prelude.{◌≡◌, ℕ, ◌<◌, ◌≤◌, Bool, ◌==◌, ◌&&◌, List, length, slice_index}
-use Rattle.srv6_rules.specs.Chain.{Processed, AtHeader, AtUpper, AtCut, LiesIn, header_at, chain_at, processed_in, routing}
+use Rattle.std.specs.Prelude.{◌≡◌, ℕ, ◌<◌, ◌≤◌, Bool, false, ◌==◌, ◌&&◌, List, length, slice_index}
+use Rattle.srv6_rules.specs.Chain.{Processed, AtHeader, AtUpper, AtCut, LiesIn, header_at, chain_at, processed_in, is_passed, routing}
 use Rattle.srv6_rules.specs.Srh.{segment_routing}
 use Rattle.node_stage.specs.declared.chain.Found.{Found}
 use Rattle.node_stage.specs.declared.chain.Found.TheVariants.{Header, Upper, Cut}
@@ -13,9 +13,14 @@ found_in payload (Header kind at) = AtHeader (header_at payload kind at)
 found_in payload (Upper kind at) = AtUpper kind at
 found_in payload Cut = AtCut
 
+-- a header that is not passed over stands at a place of a payload
+pub record IsHeaderOf (payload : List ℕ) (kind at : ℕ) : Type 0 where
+  pub lies : LiesIn payload (header_at payload kind at)
+  pub stays : is_passed (header_at payload kind at) ≡ false
+
 -- what was found stands in the payload
 abbrev pub StandsIn : List ℕ → Found → Type 0
-StandsIn payload (Header kind at) = LiesIn payload (header_at payload kind at)
+StandsIn payload (Header kind at) = IsHeaderOf payload kind at
 StandsIn payload (Upper kind at) = at ≤ length payload
 StandsIn payload Cut = Unit {0}
 

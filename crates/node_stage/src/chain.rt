@@ -7,14 +7,14 @@ ghost use Rattle.node_stage.specs.Stepping.{IsTurn, IsFound, passes};
 /// The values that name Hop-by-Hop Options, Routing, Fragment and Destination Options.
 const HOP_BY_HOP: u8 = 0;
 
-const ROUTING: u8 = 43;
+pub(crate) const ROUTING: u8 = 43;
 
 const FRAGMENT: u8 = 44;
 
 const DESTINATION_OPTIONS: u8 = 60;
 
 /// The routing type of a segment routing header (RFC 8754 section 2).
-const SEGMENT_ROUTING: u8 = 4;
+pub(crate) const SEGMENT_ROUTING: u8 = 4;
 
 /// What is processed of a chain: a header, an upper layer, or a header that is cut; each with the
 /// value that names it and its place in the payload in bytes from 0.

@@ -6,6 +6,7 @@
 
 mod chain;
 mod content;
+mod endpoint;
 mod numbers;
 mod packet;
 mod reading;
