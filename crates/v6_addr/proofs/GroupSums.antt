@@ -71,15 +71,15 @@ number_of_groups-around left right few =
     let zeros = 8 - (length left + length right) in
     let sum : 16 * zeros + 16 * length right ≡ 128 - 16 * length left = omega arith in
     let high : number_of_groups (left ++ replicate zeros 0) ≡ number_of_groups left * 2 ^ (16 * zeros) =
-        number_of_groups-append left (replicate zeros 0)
-        ∙ ap (λ n. number_of_groups left * 2 ^ (16 * n) + number_of_groups (replicate zeros 0)) (length-replicate zeros 0)
-        ∙ ap (λ n. number_of_groups left * 2 ^ (16 * zeros) + n) (number_of_groups-zeros zeros)
-        ∙ add-zero (number_of_groups left * 2 ^ (16 * zeros)) in
+    number_of_groups-append left (replicate zeros 0)
+    ∙ ap (λ n. number_of_groups left * 2 ^ (16 * n) + number_of_groups (replicate zeros 0)) (length-replicate zeros 0)
+    ∙ ap (λ n. number_of_groups left * 2 ^ (16 * zeros) + n) (number_of_groups-zeros zeros)
+    ∙ add-zero (number_of_groups left * 2 ^ (16 * zeros)) in
     number_of_groups-append (left ++ replicate zeros 0) right
     ∙ ap (λ n. n * 2 ^ (16 * length right) + number_of_groups right) high
     ∙ ap (λ n. n + number_of_groups right)
-        (mul_assoc (number_of_groups left) (2 ^ (16 * zeros)) (2 ^ (16 * length right))
-        ∙ ap (λ n. number_of_groups left * n) (sym (pow-add 2 (16 * zeros) (16 * length right)) ∙ ap (λ n. 2 ^ n) sum))
+    (mul_assoc (number_of_groups left) (2 ^ (16 * zeros)) (2 ^ (16 * length right))
+    ∙ ap (λ n. number_of_groups left * n) (sym (pow-add 2 (16 * zeros) (16 * length right)) ∙ ap (λ n. 2 ^ n) sum))
 
 -- the code's sum fits
 pub around_fits : (high low left right : ℕ) → high < 2 ^ (16 * left) → low < 2 ^ (16 * right) → left + right ≤ 8

@@ -1,18 +1,18 @@
 -- what the readers of texts stand on
-use Rattle.std.proofs.Common.{◌≡◌, ℕ, zero, suc, ◌+◌, ◌-◌, ◌*◌, ◌^◌, ◌<◌, ◌≤◌, Bool, true, false, eqb, ltb, leb, not, cond, ◌&&◌, List, [], ◌∷◌, ◌++◌, length, get_or, take, drop, map, Option, Some, None, sym, ◌∙◌, ap, subst, refl, arith, lit<, drop-cons, add-one, length-drop}
-use Rattle.std.specs.Prelude.{option_map, option_and_then, IfSome}
+use Rattle.std.proofs.Common.{◌≡◌, ℕ, zero, suc, ◌+◌, ◌-◌, ◌*◌, ◌%◌, ◌^◌, ◌↔◌, ◌<◌, ◌≤◌, Bool, true, false, eqb, ltb, cond, ◌&&◌, List, [], ◌∷◌, ◌++◌, length, get_or, take, drop, map, Option, Some, None, sym, ◌∙◌, ap, subst, refl, arith, lit<, drop-cons, add-one, length-drop}
+use Rattle.std.specs.Prelude.{option_map, option_and_then, IfSome, IsSome, position}
 use Rattle.std.specs.Char.{digit_value, is_digit}
-use Rattle.std.specs.List.{list_all, slice_split}
+use Rattle.std.specs.List.{list_all, slice_split, position_or_len}
 use Rattle.std.specs.Str.Parse.{digits_value}
-use Rattle.std.proofs.lemmas.Bool.{lt-ltb, le-ltb, le-leb, lt-leb, ltb-true, ltb-false, cond-true, cond-false, and_from, and_left, and_right, eq-eqb, ne_eqb, true≢false, eqb-true}
-use Rattle.std.proofs.lemmas.Bool.Decides.{nat_tests}
-use Rattle.std.proofs.lemmas.List.{take_all, get_or-drop, map-append, length-map}
-use Rattle.std.proofs.lemmas.Option.{MatchOption-at_some, IfSome_then}
+use Rattle.std.proofs.lemmas.Bool.{lt-ltb, le-ltb, ltb-false, cond-true, cond-false, and_from, eq-eqb, ne_eqb, true≢false, false≢true, eqb-true}
+use Rattle.std.proofs.lemmas.List.{take_all, drop_all, get_or-drop, map-append, length-map}
+use Rattle.std.proofs.lemmas.Option.{MatchOption-at_some, IfSome_then, cond_some}
 use Rattle.std.proofs.lemmas.List.Folds.{list_all_more, list_all_at}
 use Rattle.std.proofs.lemmas.Grind.{pow_more}
 use Rattle.std.proofs.lemmas.Int.Digits.{digits_value_more}
 use Rattle.std.proofs.Math.Nat.{mul-le-mul_left, mul-le-mul_right, pow-le-pow_right}
-use Rattle.v6_addr.specs.Text.{number_of_text, group_of_text, groups_of_texts, groups_of_text, gap_of}
+use Rattle.v6_addr.specs.Text.{number_of_text, group_of_text, groups_of_texts, groups_of_text, gap_of, address_of_text, length_of_text, prefix_of_parts, prefix_of_text}
+use Rattle.v6_addr.specs.Address.{PrefixValue, IsPrefix}
 
 -- ---- numbers
 
@@ -99,7 +99,7 @@ gap_not_yet text i above within before miss =
     let same : i ≡ i + 1 - 1 = omega arith in
     let P : ℕ → Type 0 = λ n. (eqb (get_or text j 0) 58 && eqb (get_or text n 0) 58) ≡ false in
     let here : gap_of (drop j text) ≡ option_map suc (gap_of (drop (j + 1) text)) =
-        gap_at text j (omega arith) ∙ cond-false _ _ _ (subst P (sym next) miss) in
+    gap_at text j (omega arith) ∙ cond-false _ _ _ (subst P (sym next) miss) in
     let Q : ℕ → Type 0 = NoGapBefore text in
     subst Q same (before ∙ ap (option_map (λ k. j + k)) (here ∙ ap (λ n. option_map suc (gap_of (drop n text))) next) ∙ shifted i j (gap_of (drop i text)) next)
 
@@ -208,9 +208,68 @@ pub groups_too_many : (text : List ℕ) (i : ℕ) → eqb (length text) 0 ≡ fa
     → IfSome (groups_of_text text) (λ groups. 8 < length groups)
 groups_too_many text i some eight more =
     rw (groups_of_some_text text some)
-        (IfSome_then (groups_of_texts (slice_split (λ b. eqb b 58) text)) (groups_length (slice_split (λ b. eqb b 58) text)) (λ groups same. omega arith))
+    (IfSome_then (groups_of_texts (slice_split (λ b. eqb b 58) text)) (groups_length (slice_split (λ b. eqb b 58) text)) (λ groups same. omega arith))
 
 pub groups_more : {X : Type 0} (now : X → List ℕ) (xs : List X) (x : X) (groups after : List ℕ) (g : ℕ) → groups_of_texts (map now xs) ≡ Some groups
     → Some g ≡ group_of_text (now x) → after ≡ groups ++ g ∷ [] → groups_of_texts (map now (xs ++ x ∷ [])) ≡ Some after
 groups_more now xs x groups after g all one is_after =
     ap groups_of_texts (map-append now xs (x ∷ [])) ∙ groups_push (map now xs) groups (now x) g all (sym one) ∙ ap Some (sym is_after)
+
+-- ---- prefixes
+
+-- the parts of a text round its first slash
+prefix_at : (text front back : List ℕ) (slash : ℕ) → Some slash ≡ position (λ b. eqb b 47) text → front ≡ take slash text → back ≡ drop (slash + 1) text
+    → prefix_of_text text ≡ prefix_of_parts (address_of_text front) (length_of_text back)
+unfolding prefix_of_text
+prefix_at text front back slash found is_front is_back =
+    let place = position_or_len (λ b. eqb b 47) text in
+    let same : place ≡ slash = (cond_some (ltb place (length text)) place slash (sym found)).1 in
+    ap (λ n. prefix_of_parts (address_of_text (take n text)) (length_of_text (drop (n + 1) text))) same
+    ∙ ap (λ t. prefix_of_parts (address_of_text t) (length_of_text (drop (slash + 1) text))) (sym is_front)
+    ∙ ap (λ t. prefix_of_parts (address_of_text front) (length_of_text t)) (sym is_back)
+
+no_length : (value : Option ℕ) → None ≡ prefix_of_parts value None
+unfolding prefix_of_parts
+no_length None = refl
+no_length (Some value) = refl
+
+no_length_of_nothing : length_of_text [] ≡ None
+unfolding length_of_text
+no_length_of_nothing = refl
+
+pub prefix_without_slash : (text : List ℕ) → None ≡ position (λ b. eqb b 47) text → None ≡ prefix_of_text text
+unfolding prefix_of_text
+prefix_without_slash text none =
+    let place = position_or_len (λ b. eqb b 47) text in
+    let past : ltb place (length text) ≡ false = none_only (ltb place (length text)) place (sym none) in
+    let nothing : drop (place + 1) text ≡ [] = drop_all (place + 1) text (omega (arith, ltb-false place (length text) past)) in
+    no_length (address_of_text (take place text)) ∙ ap (prefix_of_parts (address_of_text (take place text))) (sym (ap length_of_text nothing ∙ no_length_of_nothing))
+  where
+    none_only : (b : Bool) (n : ℕ) → cond b (Some n) None ≡ None → b ≡ false
+    none_only true n e = cc
+    none_only false n e = refl
+
+pub prefix_without_address : (text front : List ℕ) (slash : ℕ) → Some slash ≡ position (λ b. eqb b 47) text → front ≡ take slash text → None ≡ address_of_text front → None ≡ prefix_of_text text
+unfolding prefix_of_parts
+prefix_without_address text front slash found is_front none =
+    sym (prefix_at text front (drop (slash + 1) text) slash found is_front refl ∙ ap (λ o. prefix_of_parts o (length_of_text (drop (slash + 1) text))) (sym none))
+
+pub prefix_without_length : (text back : List ℕ) (slash : ℕ) → Some slash ≡ position (λ b. eqb b 47) text → back ≡ drop (slash + 1) text → None ≡ length_of_text back → None ≡ prefix_of_text text
+prefix_without_length text back slash found is_back none =
+    no_length (address_of_text (take slash text))
+    ∙ sym (prefix_at text (take slash text) back slash found refl is_back ∙ ap (prefix_of_parts (address_of_text (take slash text))) (sym none))
+
+made : (r : Option PrefixValue) (value len : ℕ) → IsSome r ↔ IsPrefix (record { value = value; len = len }) → IfSome r (λ p. p ≡ record { value = value; len = len })
+    → value < 2 ^ 128 → len ≤ 128 → r ≡ prefix_of_parts (Some value) (Some len)
+unfolding prefix_of_parts
+made None value len tests is fits short = sym (cond-false _ _ _ (ne_eqb (value % 2 ^ (128 - len)) 0 (λ e. false≢true (tests.1 (short, fits, e)))))
+made (Some p) value len tests is fits short =
+    ap Some is ∙ sym (cond-true _ _ _ (eq-eqb (value % 2 ^ (128 - len)) 0 (tests.0 refl).2))
+
+pub prefix_made : (text front back : List ℕ) (slash value len : ℕ) (r : Option PrefixValue) → Some slash ≡ position (λ b. eqb b 47) text → front ≡ take slash text → back ≡ drop (slash + 1) text
+    → Some value ≡ address_of_text front → Some len ≡ length_of_text back → IsSome r ↔ IsPrefix (record { value = value; len = len }) → IfSome r (λ p. p ≡ record { value = value; len = len })
+    → value < 2 ^ 128 → len ≤ 128 → r ≡ prefix_of_text text
+prefix_made text front back slash value len r found is_front is_back is_value is_len tests is fits short =
+    made r value len tests is fits short
+    ∙ ap (λ o. prefix_of_parts o (Some len)) is_value ∙ ap (prefix_of_parts (address_of_text front)) is_len
+    ∙ sym (prefix_at text front back slash found is_front is_back)

@@ -1,10 +1,9 @@
 ghost use Rattle.std.specs.Prelude.{◌≡◌, ℕ, ◌+◌, ◌-◌, ◌*◌, ◌/◌, ◌%◌, ◌^◌, ◌<◌, ◌≤◌, length, Some, None, MatchOption, IfSome};
 ghost use Rattle.v6_addr.specs.Text.{groups_of_text, number_of_groups, address_of_parts};
 
-use arrayvec::ArrayVec;
-
 use crate::bits::raised;
 use crate::parse::parse_group;
+use arrayvec::ArrayVec;
 
 /// The groups of a text, at most eight, parted by colons; none where nothing stands.
 pub(crate) fn parse_groups(text: &[u8]) -> Option<ArrayVec<u16, 8>>

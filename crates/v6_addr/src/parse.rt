@@ -35,7 +35,8 @@ pub(crate) fn parse_group(text: &[u8]) -> Option<u16>
 /// A prefix's length: a decimal number of at most 128 without leading zeros.
 #[tactic(auto, using(std::proofs::lemmas::Bool::Decides::nat_tests), unfolding(crate::specs::Text::length_of_text))]
 pub(crate) fn parse_length(text: &[u8]) -> Option<u8>
-    ensures { result ≡ length_of_text text.now }
+    ensures value { result ≡ length_of_text text.now }
+    ensures bound { IfSome result (λ len. len ≤ 128) }
 {
     if text.is_empty() {
         return None;

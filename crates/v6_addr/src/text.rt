@@ -1,4 +1,4 @@
-ghost use Rattle.std.specs.Prelude.{◌≡◌, ℕ, Some, None, MatchResult};
+ghost use Rattle.std.specs.Prelude.{◌≡◌, ℕ, ◌<◌, ◌==◌, Some, None, MatchResult, IfSome, length, position};
 ghost use Rattle.v6_addr.specs.Text.{address_of_text, prefix_of_text};
 
 use crate::address::Addr;
@@ -32,6 +32,24 @@ pub fn parse_addr(text: &[u8]) -> Result<Addr, BadAddr>
     }
 }
 
+/// How many bytes stand before the first slash of a text.
+fn find_slash(text: &[u8]) -> Option<usize>
+    ensures value { result ≡ position (λ b. b == 47) text.now }
+    ensures within { IfSome result (λ slash. slash < length text.now) }
+{
+    text.iter().position(|b| *b == b'/')
+}
+
+/// The prefix that a text writes, where it is in the grammar.
+fn read_prefix(text: &[u8]) -> Option<Prefix>
+    ensures { result ≡ prefix_of_text text.now }
+{
+    let slash = find_slash(text)?;
+    let value = parse_value(text.split_at(slash).0)?;
+    let len = parse_length(text.split_at(slash + 1).1)?;
+    Prefix::new(Addr { value }, len)
+}
+
 /// The prefix that a text writes (RFC 4291 section 2.3): an address, a slash and a length, a decimal number of at
 /// most 128 without leading zeros, where no bit past the length is set. `BadAddr` comes exactly where the text is
 /// another.
@@ -40,12 +58,8 @@ pub fn parse_prefix(text: &[u8]) -> Result<Prefix, BadAddr>
         (λ prefix. prefix_of_text text.now ≡ Some prefix)
         (λ bad. (prefix_of_text text.now ≡ None) × (bad.at ≡ 0)) }
 {
-    let Some(slash) = text.iter().position(|b| *b == b'/') else {
-        return Err(BadAddr { at: 0 });
-    };
-    let value = parse_addr(text.split_at(slash).0)?;
-    let Some(len) = parse_length(text.split_at(slash + 1).1) else {
-        return Err(BadAddr { at: 0 });
-    };
-    Prefix::new(value, len).ok_or(BadAddr { at: 0 })
+    match read_prefix(text) {
+        Some(prefix) => Ok(prefix),
+        None => Err(BadAddr { at: 0 }),
+    }
 }

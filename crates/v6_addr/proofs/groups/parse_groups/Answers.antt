@@ -1,4 +1,4 @@
-use Rattle.std.proofs.Common.{◌≡◌, ℕ, ◌<◌, length, get_or, map, Some, None, Bool, eqb, List, sym, ap, ◌∙◌, arith, rules, tests}
+use Rattle.std.proofs.Common.{length, Some, eqb, sym, ap, ◌∙◌, rules, tests}
 use Rattle.std.specs.Slice.Iter.{split_rest, split_done, split_callee}
 use Rattle.std.proofs.lemmas.Iterator.Splits.{YieldsList-from_slice_split}
 use Rattle.std.proofs.lemmas.Iterator.Consumers.{YieldsList-turn, YieldsList-end}

@@ -1,4 +1,4 @@
-use Rattle.std.proofs.Common.{◌≡◌, ℕ, ◌+◌, ◌-◌, ◌*◌, ◌^◌, ◌<◌, ◌≤◌, List, length, ap, ◌∙◌, subst, sym, arith}
+use Rattle.std.proofs.Common.{◌≡◌, ℕ, ◌+◌, ◌-◌, ◌*◌, ◌^◌, ◌<◌, List, length, ap, ◌∙◌, subst, sym, arith}
 use Rattle.v6_addr.specs.Text.{number_of_groups}
 use Rattle.v6_addr.proofs.GroupSums.{shortened_left_refused, shortened_right_refused, shortened_too_many, shortened_reads, around_fits}
 use Rattle.v6_addr.proofs.groups.parse_shortened.Goals as goal
@@ -12,7 +12,7 @@ returns-in_err-right c = c.from_residual-in_err-right.ensures ∙ shortened_righ
 pub returns-then-before-after-gt7 : goal.returns-then-before-after-gt7
 returns-then-before-after-gt7 c =
     shortened_too_many _ _ _ _ _ c.args.gap c.split_at.ensures.front c.split_at-2.ensures.back c.in_ok-left.ensures c.in_ok-right.ensures
-        (omega (arith, c.len-before.ensures.value, c.len-after.ensures.value))
+    (omega (arith, c.len-before.ensures.value, c.len-after.ensures.value))
 
 -- a number's bound, by the length that the code asked for
 bound_at : (value count : ℕ) (slice groups : List ℕ) → value < 2 ^ (16 * length slice) → slice ≡ groups → count ≡ length groups → value < 2 ^ (16 * count)
@@ -23,14 +23,14 @@ bound_at value count slice groups bound is_slice is_count =
 pub raised-moved-requires-clause-fits : goal.raised-moved-requires-clause-fits
 raised-moved-requires-clause-fits c =
     (around_fits c.number-high.result c.number-low.result c.len-before.result c.len-after.result
-        (bound_at _ _ _ _ c.number-high.ensures.bound c.as_slice.ensures.value c.len-before.ensures.value)
-        (bound_at _ _ _ _ c.number-low.ensures.bound c.as_slice-2.ensures.value c.len-after.ensures.value) (omega arith)).0
+    (bound_at _ _ _ _ c.number-high.ensures.bound c.as_slice.ensures.value c.len-before.ensures.value)
+    (bound_at _ _ _ _ c.number-low.ensures.bound c.as_slice-2.ensures.value c.len-after.ensures.value) (omega arith)).0
 
 pub overflow_add-result : goal.overflow_add-result
 overflow_add-result c =
     let fits = around_fits c.number-high.result c.number-low.result c.len-before.result c.len-after.result
-            (bound_at _ _ _ _ c.number-high.ensures.bound c.as_slice.ensures.value c.len-before.ensures.value)
-            (bound_at _ _ _ _ c.number-low.ensures.bound c.as_slice-2.ensures.value c.len-after.ensures.value) (omega arith) in
+    (bound_at _ _ _ _ c.number-high.ensures.bound c.as_slice.ensures.value c.len-before.ensures.value)
+    (bound_at _ _ _ _ c.number-low.ensures.bound c.as_slice-2.ensures.value c.len-after.ensures.value) (omega arith) in
     omega (arith, fits.1, c.raised-moved.ensures)
 
 summed : (high low moved before : ℕ) (slice left low_slice right : List ℕ) → moved ≡ high * 2 ^ (128 - 16 * before) → high ≡ number_of_groups slice → slice ≡ left → before ≡ length left
@@ -42,5 +42,5 @@ summed high low moved before slice left low_slice right is_moved is_high is_slic
 pub returns : goal.returns
 returns c =
     shortened_reads _ _ _ _ _ c.args.gap _ c.split_at.ensures.front c.split_at-2.ensures.back c.in_ok-left.ensures c.in_ok-right.ensures
-        (omega (arith, c.len-before.ensures.value, c.len-after.ensures.value))
-        (summed _ _ _ _ _ _ _ _ c.raised-moved.ensures c.number-high.ensures.value c.as_slice.ensures.value c.len-before.ensures.value c.number-low.ensures.value c.as_slice-2.ensures.value)
+    (omega (arith, c.len-before.ensures.value, c.len-after.ensures.value))
+    (summed _ _ _ _ _ _ _ _ c.raised-moved.ensures c.number-high.ensures.value c.as_slice.ensures.value c.len-before.ensures.value c.number-low.ensures.value c.as_slice-2.ensures.value)
