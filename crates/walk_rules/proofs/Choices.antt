@@ -175,3 +175,55 @@ pub step-local : (net : Network) (place : Place) (content : Content) (choice : �
     → (step_of net place content choice).outcome ≡ outcomes.Local → (step_of net place content choice).after ≡ content
 step-local net place content choice e =
     subst (λ (o : Outcome). Leaves content o (step_of net place content choice).after) e (step-leaves net place content choice)
+
+-- a SID or an address sends nothing
+address-quiet : (p : Packet) (refused : Option Reason) (link : ℕ) → outcomes.Send link ≡ (treated_at_address p refused).outcome → ⊥
+address-quiet p None link e = cc
+address-quiet p (Some reason) link e = cc
+
+endpoint-quiet : (n : ℕ) (b : Behaviour) (p : Packet) (x : Endpoint) (link : ℕ) → outcomes.Send link ≡ (treated_at_sid n b p x).outcome → ⊥
+endpoint-quiet n b p (Onward q) link e = cc
+endpoint-quiet n b p (Exposed content) link e = cc
+endpoint-quiet n b p Delivered link e = cc
+endpoint-quiet n b p (Refused reason) link e = cc
+
+sid-quiet : (net : Network) (node n : ℕ) (o : Option SidEntry) (p : Packet) (link : ℕ) → outcomes.Send link ≡ (treated_in net node n o p).outcome → ⊥
+sid-quiet net node n None p link e = cc
+sid-quiet net node n (Some s) p link e = endpoint-quiet n s.behaviour p (at_sid s.behaviour (allow_of (slice_get net.nodes node)) p) link e
+
+drop-quiet : (reason : Reason) (link : ℕ) → outcomes.Send link ≡ outcomes.Drop reason → ⊥
+drop-quiet reason link e = cc
+
+sends-member : (set : List ℕ) (lower : Bool) (p : Packet) (link : ℕ) (after : Content) → Sends set lower p (outcomes.Send link) after → Contains set link
+sends-member set true p link after h = h.0
+sends-member set false p link after h = h.0
+
+sends-each : (set : List ℕ) (lower : Bool) (p : Packet) (link other : ℕ) (after : Content) → Sends set lower p (outcomes.Send link) after
+    → Contains set other → Sends set lower p (outcomes.Send other) after
+sends-each set true p link other after h there = (there, h.1, h.2)
+sends-each set false p link other after h there = (there, h.1)
+
+treats-member : (net : Network) (node : ℕ) (w : Way) (p : Packet) (link : ℕ) (after : Content) → Treats net node w p (outcomes.Send link) after
+    → Contains (set_of w) link
+treats-member net node (Away reason) p link after h = absurd (drop-quiet reason link h.0)
+treats-member net node (Over set lower) p link after h = sends-member set lower p link after h
+treats-member net node Own p link after h = absurd (address-quiet p (at_address p) link h.0)
+treats-member net node (Into n) p link after h = absurd (sid-quiet net node n (slice_get net.sids n) p link h.0)
+
+treats-each : (net : Network) (node : ℕ) (w : Way) (p : Packet) (link other : ℕ) (after : Content) → Treats net node w p (outcomes.Send link) after
+    → Contains (set_of w) other → Treats net node w p (outcomes.Send other) after
+treats-each net node (Away reason) p link other after h there = absurd (drop-quiet reason link h.0)
+treats-each net node (Over set lower) p link other after h there = sends-each set lower p link other after h there
+treats-each net node Own p link other after h there = absurd (address-quiet p (at_address p) link h.0)
+treats-each net node (Into n) p link other after h there = absurd (sid-quiet net node n (slice_get net.sids n) p link h.0)
+
+-- a stage sends on members of its set of equal next hops alone, and on each of them where it sends on one
+pub stage-member : (net : Network) (place : Place) (content : Content) (link : ℕ) (after : Content)
+    → Stage net place content (outcomes.Send link) after → Contains (hops_at net place content) link
+stage-member net place (Unreadable bytes reason) link after h = absurd (drop-quiet reason link h.0)
+stage-member net place (V6 p) link after h = treats-member net place.node (way_of net place p.destination) p link after h
+
+pub stage-each : (net : Network) (place : Place) (content : Content) (link other : ℕ) (after : Content)
+    → Stage net place content (outcomes.Send link) after → Contains (hops_at net place content) other → Stage net place content (outcomes.Send other) after
+stage-each net place (Unreadable bytes reason) link other after h there = absurd (drop-quiet reason link h.0)
+stage-each net place (V6 p) link other after h there = treats-each net place.node (way_of net place p.destination) p link other after h there

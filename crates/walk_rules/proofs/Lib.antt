@@ -3,5 +3,4 @@ pub mod Stages
 pub mod Choices
 pub mod Lookups
 pub mod Executions
-pub mod Facts
 pub mod Places
