@@ -1,6 +1,6 @@
 //! What a node does with a packet that came to one of its SIDs or to its own address.
 
-ghost use Rattle.std.specs.Prelude.{◌≡◌, ◌+◌, ◌<◌, ◌≤◌, length, drop};
+ghost use Rattle.std.specs.Prelude.{◌≡◌, true, ◌+◌, ◌<◌, ◌≤◌, length, drop};
 ghost use Rattle.std.specs.List.{list_any};
 ghost use Rattle.srv6_rules.specs.Packet.{content_of};
 ghost use Rattle.srv6_rules.specs.Chain.{header_at, is_segment_routing, routing};
@@ -8,7 +8,7 @@ ghost use Rattle.srv6_rules.specs.Endpoint.{at_address, at_sid, header_at_sid, u
 ghost use Rattle.node_stage.specs.Stepping.{IsHeaderOf};
 ghost use Rattle.node_stage.specs.Judging.{IsJudged, srh_at, passes_entries, has_values};
 
-use crate::chain::{first_processed, Found, ROUTING, SEGMENT_ROUTING};
+use crate::chain::{Found, ROUTING, SEGMENT_ROUTING, first_processed};
 use crate::numbers::address_at;
 use crate::packet::Packet;
 use srv6_rules::{Behaviour, Reason};
@@ -69,7 +69,8 @@ fn is_allowed(allow: &[u8], kind: u8) -> bool
 /// The step over the segment routing header at a place of the payload, with segments left: the hop
 /// limit is judged, then the segments, then the type-length-value area (RFC 8986 section 4.1).
 fn judge_segment(packet: &Packet, at: usize) -> Judged
-    requires { IsHeaderOf packet.now.payload routing at }
+    requires header { IsHeaderOf packet.now.payload routing at }
+    requires segments { is_segment_routing (header_at packet.now.payload routing at) ≡ true }
     ensures { IsJudged packet.now (next_segment packet.now at (srh_at packet.now.payload at)) result }
 {
     if packet.hop_limit() <= 1 {
@@ -122,7 +123,9 @@ fn judge_upper(behaviour: &Behaviour, allow: &[u8], packet: &Packet, kind: u8, a
     requires { at ≤ length packet.now.payload }
     ensures { IsJudged packet.now (upper_at_sid behaviour.now allow.now packet.now kind at) result }
 {
-    if let Behaviour::Dt6 { .. } = behaviour && kind == IPV6_INSIDE {
+    if let Behaviour::Dt6 { .. } = behaviour
+        && kind == IPV6_INSIDE
+    {
         return Judged::Expose { at };
     }
     if is_allowed(allow, kind) {
