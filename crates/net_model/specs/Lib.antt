@@ -4,3 +4,5 @@ pub mod Best
 pub mod Titles
 pub mod Keeps
 pub mod Named
+pub mod Found
+pub mod Entries
