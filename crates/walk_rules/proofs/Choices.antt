@@ -73,13 +73,13 @@ stage-unique net place (V6 p) one after other later h g = treats-unique net plac
 -- over links there is one drop, or a send for each choice
 pub sent-cases : (set : List ℕ) (lower : Bool) (p : Packet)
     → ((choice : ℕ) → sent set lower p choice ≡ dropped reasons.HopLimit (V6 p))
-      ⊎ ((choice : ℕ) → sent set lower p choice ≡ record { outcome = outcomes.Send (member_of set choice); after = V6 (lowered lower p) })
+    ⊎ ((choice : ℕ) → sent set lower p choice ≡ record { outcome = outcomes.Send (member_of set choice); after = V6 (lowered lower p) })
 sent-cases set false p = inr (λ choice. refl)
 sent-cases set true p = by_test (leb_tells p.hop_limit 1)
   where
     by_test : ((nat_le p.hop_limit 1 ≡ true) × (p.hop_limit ≤ 1)) ⊎ ((nat_le p.hop_limit 1 ≡ false) × (1 < p.hop_limit))
         → ((choice : ℕ) → sent set true p choice ≡ dropped reasons.HopLimit (V6 p))
-          ⊎ ((choice : ℕ) → sent set true p choice ≡ record { outcome = outcomes.Send (member_of set choice); after = V6 (lowered true p) })
+        ⊎ ((choice : ℕ) → sent set true p choice ≡ record { outcome = outcomes.Send (member_of set choice); after = V6 (lowered true p) })
     by_test (inl low) = inl (λ choice. sent-low set p choice low.1)
     by_test (inr high) = inr (λ choice. sent-high set p choice high.1)
 
@@ -87,7 +87,7 @@ sent-same : (set : List ℕ) (lower : Bool) (p : Packet) (choice other : ℕ) �
 sent-same set lower p choice other = by_case (sent-cases set lower p)
   where
     by_case : ((c : ℕ) → sent set lower p c ≡ dropped reasons.HopLimit (V6 p))
-          ⊎ ((c : ℕ) → sent set lower p c ≡ record { outcome = outcomes.Send (member_of set c); after = V6 (lowered lower p) })
+        ⊎ ((c : ℕ) → sent set lower p c ≡ record { outcome = outcomes.Send (member_of set c); after = V6 (lowered lower p) })
         → DifferAtMostInLink (sent set lower p choice) (sent set lower p other)
     by_case (inl drops) = rw (drops choice, drops other) (record { after = refl; decisions_taken = refl; outcome = λ h. refl })
     by_case (inr sends) = rw (sends choice, sends other) (record { after = refl; decisions_taken = refl; outcome = λ h. absurd (omega (arith, h)) })
@@ -135,7 +135,7 @@ sent-leaves : (set : List ℕ) (lower : Bool) (p : Packet) (choice : ℕ) → Le
 sent-leaves set lower p choice = by_case (sent-cases set lower p)
   where
     by_case : ((c : ℕ) → sent set lower p c ≡ dropped reasons.HopLimit (V6 p))
-          ⊎ ((c : ℕ) → sent set lower p c ≡ record { outcome = outcomes.Send (member_of set c); after = V6 (lowered lower p) })
+        ⊎ ((c : ℕ) → sent set lower p c ≡ record { outcome = outcomes.Send (member_of set c); after = V6 (lowered lower p) })
         → Leaves (V6 p) (sent set lower p choice).outcome (sent set lower p choice).after
     by_case (inl drops) = rw (drops choice) refl
     by_case (inr sends) = rw (sends choice) tt

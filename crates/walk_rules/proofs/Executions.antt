@@ -66,7 +66,7 @@ sent-executes : (net : Network) (place : Place) (content : Content) (set : List 
 sent-executes net place content set lower p choice = by_case (sent-cases set lower p)
   where
     by_case : ((c : ℕ) → sent set lower p c ≡ dropped reasons.HopLimit (V6 p))
-          ⊎ ((c : ℕ) → sent set lower p c ≡ record { outcome = outcomes.Send (member_of set c); after = V6 (lowered lower p) })
+        ⊎ ((c : ℕ) → sent set lower p c ≡ record { outcome = outcomes.Send (member_of set c); after = V6 (lowered lower p) })
         → IfExecutes net place content (sent set lower p choice) (sent set lower p choice).outcome
     by_case (inl drops) = rw (drops choice) tt
     by_case (inr sends) = rw (sends choice) tt

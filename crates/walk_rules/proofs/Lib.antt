@@ -4,3 +4,4 @@ pub mod Choices
 pub mod Lookups
 pub mod Executions
 pub mod Places
+pub mod Ends
