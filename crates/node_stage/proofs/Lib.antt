@@ -1,3 +1,4 @@
 pub mod SpellingLemmas
 pub mod ChainLemmas
 pub mod SegmentLemmas
+pub mod WayLemmas

@@ -11,6 +11,7 @@ mod numbers;
 mod packet;
 mod reading;
 mod spelling;
+mod way;
 
 pub use content::Content;
 pub use packet::Packet;
