@@ -5,3 +5,4 @@ pub mod Fronts
 pub mod Stepping
 pub mod Judging
 pub mod Leading
+pub mod Staging

@@ -11,6 +11,7 @@ mod numbers;
 mod packet;
 mod reading;
 mod spelling;
+mod stage;
 mod way;
 
 pub use content::Content;
