@@ -2,3 +2,4 @@ pub mod SpellingLemmas
 pub mod ChainLemmas
 pub mod SegmentLemmas
 pub mod WayLemmas
+pub mod StageLemmas

@@ -25,3 +25,10 @@ StandsFor net (Into sid) = sid < length net.sids
 -- a way and the numbers that mean it
 abbrev pub Leads : Network → treatment.Way → Way → Type 0
 Leads net meant way = (meant ≡ way_in net way) × StandsFor net way
+
+-- the links of a way are some
+abbrev pub HasLinks : treatment.Way → Type 0
+HasLinks (treatment.Away reason) = Unit {0}
+HasLinks (treatment.Over links lower) = 0 < length links
+HasLinks treatment.Own = Unit {0}
+HasLinks (treatment.Into sid) = Unit {0}

@@ -7,12 +7,15 @@
 mod chain;
 mod content;
 mod endpoint;
+mod next;
 mod numbers;
 mod packet;
 mod reading;
 mod spelling;
-mod stage;
+mod treatment;
 mod way;
 
 pub use content::Content;
+pub use next::{ended_by, next_place};
 pub use packet::Packet;
+pub use treatment::stage;

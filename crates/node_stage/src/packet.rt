@@ -154,6 +154,11 @@ impl Packet {
         self.payload[at] = byte;
     }
 
+    /// No bytes, of the payload's allocator.
+    pub(crate) fn no_bytes(&self) -> Vec<u8> {
+        Vec::new(*self.payload.allocator())
+    }
+
     /// What the payload's bytes from a place on read as, in place.
     pub(crate) fn exposed(self, at: usize) -> Content
         requires { at ≤ length self.payload }

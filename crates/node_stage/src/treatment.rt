@@ -3,11 +3,12 @@
 ghost use Rattle.std.specs.Prelude.{◌≡◌, Bool, true, ◌+◌, ◌<◌, ◌≤◌, length, drop, slice_get, IfSome};
 ghost use Rattle.srv6_rules.specs.Packet.{V6, content_of};
 ghost use Rattle.srv6_rules.specs.Endpoint.{at_address, at_sid};
-ghost use Rattle.walk_rules.specs.Treatment.{dropped, lowered, on_from, sent, step_of, treated_at_address, treated_at_sid, treated_in, treated};
+ghost use Rattle.walk_rules.specs.Treatment.{dropped, lowered, on_from, sent, step_of, treated_at_address, treated_at_sid, treated_in, treated, route_links, sid_links};
 ghost use Rattle.walk_rules.specs.Relation.{IsPlace, Stage};
 ghost use Rattle.walk_rules.specs.Walk.{next_place};
 ghost use Rattle.node_stage.specs.Judging.{moved_on};
 ghost use Rattle.node_stage.specs.Staging.{gave_of};
+ghost use Rattle.node_stage.specs.Leading.{StandsFor, HasLinks, way_in};
 
 use crate::content::{Content, Held};
 use crate::endpoint::{Judged, judge_at_sid, refused_at_address};
@@ -15,7 +16,6 @@ use crate::packet::Packet;
 use crate::way::{Way, way_of};
 use net_model::Net;
 use srv6_rules::{Behaviour, Family, Reason};
-use std::mem;
 use v6_addr::Addr;
 use walk_rules::{How, Outcome, Place};
 
@@ -140,4 +140,88 @@ fn treated_at_sid(sid: u32, behaviour: &Behaviour, allow: &[u8], packet: Packet)
         },
         Judged::Refuse { reason } => dropped(reason, packet),
     }
+}
+
+/// At a SID of a node of the network.
+fn treated_in(net: &Net, node: u32, sid: u32, packet: Packet) -> Staged
+    requires node { node < length net.now.nodes }
+    requires sid { sid < length net.now.sids }
+    ensures { gave_of result ≡ treated_in net.now node sid (slice_get net.now.sids sid) packet }
+{
+    let entry = net.sid(sid);
+    let allow = net.node(node).allow.as_slice();
+    treated_at_sid(sid, &entry.behaviour, allow, packet)
+}
+
+/// Over the links of a route.
+fn sent_by_route(net: &Net, n: u32, lower: bool, packet: Packet, choice: u32) -> Staged
+    requires route { n < length net.now.routes }
+    requires links { 0 < length (route_links (slice_get net.now.routes n)) }
+    ensures { gave_of result ≡ sent (route_links (slice_get net.now.routes n)) lower packet choice }
+{
+    sent(net.route(n).via.as_slice(), lower, packet, choice)
+}
+
+/// Over the links of a SID.
+fn sent_by_sid(net: &Net, sid: u32, lower: bool, packet: Packet, choice: u32) -> Staged
+    requires sid { sid < length net.now.sids }
+    requires links { 0 < length (sid_links (slice_get net.now.sids sid)) }
+    ensures { gave_of result ≡ sent (sid_links (slice_get net.now.sids sid)) lower packet choice }
+{
+    sent(net.sid(sid).links.as_slice(), lower, packet, choice)
+}
+
+/// The packet on a way.
+fn treated(net: &Net, node: u32, way: Way, packet: Packet, choice: u32) -> Staged
+    requires node { node < length net.now.nodes }
+    requires there { StandsFor net.now way }
+    requires links { HasLinks (way_in net.now way) }
+    ensures { gave_of result ≡ treated net.now node (way_in net.now way) packet choice }
+{
+    match way {
+        Way::Away { reason } => dropped(reason, packet),
+        Way::Route { n, lower } => sent_by_route(net, n, lower, packet, choice),
+        Way::Links { sid, lower } => sent_by_sid(net, sid, lower, packet, choice),
+        Way::Own => treated_at_address(packet),
+        Way::Into { sid } => treated_in(net, node, sid, packet),
+    }
+}
+
+/// What stands at a place, treated.
+fn treat(net: &Net, place: &Place, content: Content, choice: u32) -> Staged
+    requires { IsPlace net.now place.now }
+    ensures { gave_of result ≡ step_of net.now place.now content choice }
+{
+    net.keeps_rules();
+    match content.held {
+        Held::V6(packet) => {
+            let way = way_of(net, place, packet.destination());
+            treated(net, place.node, way, packet, choice)
+        }
+        Held::Unreadable(bytes, reason) => Staged {
+            outcome: Outcome::Drop { reason },
+            after: Content {
+                held: Held::Unreadable(bytes, reason),
+            },
+        },
+    }
+}
+
+/// One node's treatment of what stands at a place, under a choice among equal next hops; what
+/// stands there afterwards takes its place (RFC 8200 section 3, RFC 8754 section 4.3, RFC 8986
+/// section 4). A Send takes the member of its set at `choice` modulo the number of members. It
+/// takes no memory.
+pub fn stage(net: &Net, place: &Place, content: &mut Content, choice: u32) -> Outcome
+    requires { IsPlace net.now place.now }
+
+    ensures function { record { outcome = result; after = content.new } ≡ step_of net.now place.now content.old choice }
+    ensures relation { Stage net.now place.now content.old result content.new }
+
+    // Where the packet stands next is a place too.
+    ensures next { IfSome (next_place net.now place.now result) (IsPlace net.now) }
+{
+    net.keeps_rules();
+    let Staged { outcome, after } = treat(net, place, content.take(), choice);
+    *content = after;
+    outcome
 }
