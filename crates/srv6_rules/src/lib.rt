@@ -6,6 +6,7 @@
 //! these definitions speak of, and the laws about the definitions.
 #![tactic(auto)]
 
+pub mod encapsulation;
 pub mod laws;
 mod sid;
 
