@@ -1,6 +1,6 @@
 -- Encapsulation of a packet behind an outer IPv6 header and a segment list: H.Encaps and its reduced form (RFC 8986
 -- sections 5.1 and 5.2, RFC 8754 sections 2, 4.1 and 4.1.1).
-use Rattle.std.specs.Prelude.{ℕ, ◌+◌, ◌-◌, ◌*◌, Bool, true, false, not, ◌||◌, nat_lt, if◌then◌else◌, List, ◌++◌, length, drop, reverse, slice_index, flat_map}
+use Rattle.std.specs.Prelude.{ℕ, ◌+◌, ◌-◌, ◌*◌, ◌^◌, ◌<◌, ◌≤◌, Bool, true, false, not, ◌||◌, nat_lt, if◌then◌else◌, List, ◌++◌, length, drop, reverse, slice_index, flat_map, All}
 use Rattle.srv6_rules.specs.declared.sid.Behaviour.{Behaviour}
 use Rattle.srv6_rules.specs.declared.sid.Behaviour.TheVariants.{End, EndX, Dt6}
 use Rattle.srv6_rules.specs.Packet.{Packet, spelling, address_bytes}
@@ -78,3 +78,13 @@ abbrev pub takes_next_segment : Behaviour → Bool
 takes_next_segment End = true
 takes_next_segment EndX = true
 takes_next_segment (Dt6 table) = false
+
+-- the encapsulations of packets that bytes can spell: each field fits its width, and at most 127 addresses are visited,
+-- so that the header's length fits its byte (own rule)
+pub record IsSpellableEncapsulation (e : Encapsulation) : Type 0 where
+  pub traffic_class : e.traffic_class < 2 ^ 8
+  pub flow_label : e.flow_label < 2 ^ 20
+  pub source : e.source < 2 ^ 128
+  pub some : 0 < length e.segments
+  pub most : length e.segments ≤ 127
+  pub segments : All (λ a. a < 2 ^ 128) e.segments
