@@ -1,20 +1,21 @@
 -- A packet in an outer header with a segment list: what is processed of it, and what SIDs do with it.
-use Rattle.std.proofs.Common.{◌≡◌, ℕ, zero, suc, ◌+◌, ◌-◌, ◌*◌, ◌/◌, ◌^◌, ◌<◌, ◌≤◌, Bool, true, false, not, ◌==◌, ◌||◌, nat_lt, nat_le, if◌then◌else◌, List, [], ◌∷◌, ◌++◌, length, take, drop, reverse, slice_index, slice_set, All, flat_map, refl, sym, ap, subst, ◌∙◌, arith, inl, inr, length-append, length-drop}
+use Rattle.std.proofs.Common.{◌≡◌, ℕ, zero, suc, ◌+◌, ◌-◌, ◌*◌, ◌/◌, ◌^◌, ◌<◌, ◌≤◌, Bool, true, false, not, ◌==◌, ◌||◌, nat_lt, nat_le, if◌then◌else◌, List, [], ◌∷◌, ◌++◌, length, take, drop, reverse, slice_index, slice_set, All, flat_map, refl, sym, ap, subst, ◌∙◌, ◌⊎◌, ◌↔◌, arith, inl, inr, length-append, length-drop}
 use Rattle.std.proofs.Math.Bool.{or-true}
-use Rattle.std.proofs.lemmas.Bool.{cases_Bool, or_from, lt-ltb, ltb-true, le-ltb, le-leb, lt-leb, eq-eqb, ne_eqb}
-use Rattle.std.proofs.lemmas.List.{append_assoc, append-nil, drop_all, drop_at, take_at, get_or-drop, get_or-reverse, length-reverse}
-use Rattle.std.proofs.lemmas.List.Elements.{All-drop}
+use Rattle.std.proofs.lemmas.Bool.{cases_Bool, cases_lt, or_from, lt-ltb, ltb-true, ltb-false, le-ltb, le-leb, lt-leb, eq-eqb, ne_eqb}
+use Rattle.std.proofs.lemmas.List.{append_assoc, append-nil, drop_all, drop_at, take_at, get_or-drop, get_or_past, get_or-reverse, length-reverse}
+use Rattle.std.proofs.lemmas.List.Elements.{All-nil, All-append, All-drop}
 use Rattle.srv6_rules.specs.declared.sid.Behaviour.{Behaviour}
 use Rattle.srv6_rules.specs.declared.sid.Behaviour.TheVariants.{End, EndX, Dt6}
 use Rattle.srv6_rules.specs.declared.sid.Reason.TheVariants as reasons
-use Rattle.srv6_rules.specs.Packet.{Packet, Content, V6, IsSpellable, spelling, content_of, two_bytes, two_number, address_bytes, address_number}
-use Rattle.srv6_rules.specs.Srh.{Srh, srh_of, srh_spelling, entries_of, entry_of, tlv_bytes}
+use Rattle.srv6_rules.specs.Packet.{Packet, Content, V6, IsSpellable, most_len, spelling, content_of, two_bytes, two_number, address_bytes, address_number}
+use Rattle.srv6_rules.specs.Srh.{Srh, IsSrhSpellable, srh_of, srh_spelling, entries_of, entry_of, tlv_bytes}
 use Rattle.srv6_rules.specs.Chain.{Header, Processed, AtHeader, AtUpper, AtCut, routing, is_extension, chain_at, is_segment_routing, processed_in, processed_of}
 use Rattle.srv6_rules.specs.Endpoint.{Endpoint, Onward, Exposed, Delivered, Refused, ipv6_inside, upper_layer, has_bad_segments, advanced, next_segment, processed_at_sid, at_sid}
-use Rattle.srv6_rules.specs.Encapsulation.{Encapsulation, segment_list, has_segment_routing, segment_routing_of, outer, at_segment, pushed, header_bytes, inner_lowered, encapsulated, takes_next_segment}
-use Rattle.srv6_rules.proofs.Bytes.{length-two_bytes, two_number-bytes}
-use Rattle.srv6_rules.proofs.Packets.{content_of-spelling_alone, length-spelling}
-use Rattle.srv6_rules.proofs.Headers.{length-srh_spelling, entry-at, length-entries, left-set}
+use Rattle.srv6_rules.specs.Encapsulation.{Encapsulation, segment_list, has_segment_routing, segment_routing_of, outer, at_segment, pushed, header_bytes, IsSpellableEncapsulation, inner_lowered, encapsulated, takes_next_segment}
+use Rattle.srv6_rules.proofs.Bytes.{all-address_bytes, length-two_bytes, two_number-bytes}
+use Rattle.srv6_rules.proofs.Packets.{content_of-spelling_alone, length-spelling, all-spelling}
+use Rattle.srv6_rules.proofs.Edits.{edit-hop_limit}
+use Rattle.srv6_rules.proofs.Headers.{length-srh_spelling, all-srh_spelling, entry-at, length-entries, left-set}
 use Rattle.srv6_rules.proofs.Chains.{chain_at-spelled, chain_at-upper}
 
 -- ---- a segment routing header at the start of a payload
@@ -72,6 +73,10 @@ length-listed false segments = length-reverse segments
 listed-most : (reduced : Bool) (segments : List ℕ) → length segments ≤ length (listed reduced segments) + 1
 listed-most true segments = let len = length-listed true segments in omega arith
 listed-most false segments = let len = length-listed false segments in omega arith
+
+listed-no_more : (reduced : Bool) (segments : List ℕ) → length (listed reduced segments) ≤ length segments
+listed-no_more true segments = let len = length-listed true segments in omega arith
+listed-no_more false segments = let len = length-listed false segments in omega arith
 
 -- the entry at a place is the segment at that place from the end, but for the first segment
 listed-at : (reduced : Bool) (segments : List ℕ) (k : ℕ) → k + 1 < length segments → slice_index (listed reduced segments) k ≡ slice_index segments (length segments - 1 - k)
@@ -144,7 +149,11 @@ module _ (e : Encapsulation) where
   unfolding listed
   list-most = listed-most e.reduced e.segments
 
-  list-at : (k : ℕ) → k + 1 < length e.segments → slice_index (segment_list e) k ≡ slice_index e.segments (length e.segments - 1 - k)
+  list-no_more : length (segment_list e) ≤ length e.segments
+  unfolding listed
+  list-no_more = listed-no_more e.reduced e.segments
+
+  pub list-at : (k : ℕ) → k + 1 < length e.segments → slice_index (segment_list e) k ≡ slice_index e.segments (length e.segments - 1 - k)
   unfolding listed
   list-at k below = listed-at e.reduced e.segments k below
 
@@ -373,3 +382,157 @@ pub at_segment-exposed_packet : (e : Encapsulation) (p : Packet) (i hop table : 
     → at_sid (Dt6 table) allow (at_segment e (spelling p) i hop) ≡ Exposed (V6 p)
 at_segment-exposed_packet e p i hop table allow ok last =
     at_segment-exposed e (spelling p) i hop table allow last ∙ ap (λ c. Exposed c) (content_of-spelling_alone p ok)
+
+-- ---- packets that bytes can spell
+
+all-entries : (list : List ℕ) → All (λ b. b < 2 ^ 8) (flat_map address_bytes list)
+all-entries [] = All-nil (λ b. b < 2 ^ 8)
+all-entries (a ∷ list) = All-append (λ b. b < 2 ^ 8) (address_bytes a) (flat_map address_bytes list) (all-address_bytes a) (all-entries list)
+
+header-spellable : (e : Encapsulation) (left : ℕ) → IsSpellableEncapsulation e → left < 2 ^ 8 → IsSrhSpellable (segment_routing_of e left)
+header-spellable e left ok below =
+    let list = list-no_more e in
+    let most = ok.most in
+    record {
+      next_header = omega arith;
+      extension_len = omega arith;
+      segments_left = below;
+      last_entry = omega arith;
+      flags = omega arith;
+      tag = omega arith;
+      body_len = length-body e left;
+      body = all-entries (segment_list e);
+    }
+
+-- an address of a list, or 0 past its end
+address-below : (segments : List ℕ) (i : ℕ) → All (λ a. a < 2 ^ 128) segments → slice_index segments i < 2 ^ 128
+address-below segments i all = elim (cases_lt i (length segments)) [
+  | inl within ↦ all i 0 within
+  | inr past ↦ rw (get_or_past segments i 0 past) (omega arith)
+]
+
+outer-payload_bytes : (e : Encapsulation) (inner : List ℕ) (left hop destination : ℕ) → IsSpellableEncapsulation e → left < 2 ^ 8 → All (λ b. b < 2 ^ 8) inner
+    → All (λ b. b < 2 ^ 8) (outer e inner left hop destination).payload
+outer-payload_bytes e inner left hop destination ok below all =
+    let Q : Packet → Type 0 = λ p. All (λ b. b < 2 ^ 8) p.payload in
+    elim (cases_Bool (has_segment_routing e)) [
+      | inl has ↦ subst Q (sym (outer-routed e inner left hop destination has))
+          (All-append (λ b. b < 2 ^ 8) (srh_spelling (segment_routing_of e left)) inner
+          (all-srh_spelling (segment_routing_of e left) (header-spellable e left ok below)) all)
+      | inr not ↦ subst Q (sym (outer-bare e inner left hop destination not)) all
+    ]
+
+outer-next_header : (has : Bool) → (if has then routing else ipv6_inside) < 2 ^ 8
+outer-next_header true = omega arith
+outer-next_header false = omega arith
+
+pub at_segment-spellable : (e : Encapsulation) (inner : List ℕ) (i hop : ℕ) → IsSpellableEncapsulation e → hop < 2 ^ 8 → All (λ b. b < 2 ^ 8) inner
+    → header_bytes e.reduced (length e.segments) + length inner ≤ most_len → IsSpellable (at_segment e inner i hop)
+at_segment-spellable e inner i hop ok low all short =
+    let left : ℕ = length e.segments - 1 - i in
+    let most = ok.most in
+    let below : left < 2 ^ 8 = omega arith in
+    let len = length-outer e inner left hop (slice_index e.segments i) in
+    record {
+      traffic_class = ok.traffic_class;
+      flow_label = ok.flow_label;
+      next_header = outer-next_header (has_segment_routing e);
+      hop_limit = low;
+      source = ok.source;
+      destination = address-below e.segments i ok.segments;
+      payload_len = omega arith;
+      payload = outer-payload_bytes e inner left hop (slice_index e.segments i) ok below all;
+    }
+
+-- ---- a packet that is encapsulated
+
+pub lowered-spellable : (p : Packet) → IsSpellable p → IsSpellable (inner_lowered p)
+lowered-spellable p ok =
+    let hop : p.hop_limit < 2 ^ 8 = ok.hop_limit in
+    record {
+      traffic_class = ok.traffic_class;
+      flow_label = ok.flow_label;
+      next_header = ok.next_header;
+      hop_limit = omega arith;
+      source = ok.source;
+      destination = ok.destination;
+      payload_len = ok.payload_len;
+      payload = ok.payload;
+    }
+
+-- the hop limit's byte alone is another
+pub lowered-spelling : (p : Packet) → spelling (inner_lowered p) ≡ slice_set (spelling p) 7 (p.hop_limit - 1)
+lowered-spelling p = edit-hop_limit p (p.hop_limit - 1)
+
+pub encapsulated-spellable : (e : Encapsulation) (p : Packet) (hop : ℕ) → IsSpellableEncapsulation e → IsSpellable p → hop < 2 ^ 8
+    → header_bytes e.reduced (length e.segments) + length (spelling p) ≤ most_len → IsSpellable (encapsulated e p hop)
+encapsulated-spellable e p hop ok inner low short =
+    let one = length-spelling p in
+    let two = length-spelling (inner_lowered p) in
+    let same : length (spelling (inner_lowered p)) ≡ length (spelling p) = two ∙ sym one in
+    at_segment-spellable e (spelling (inner_lowered p)) 0 hop ok low (all-spelling (inner_lowered p) (lowered-spellable p inner)) (omega arith)
+
+-- the header bytes of at least one segment grow with their number
+pub header_bytes-more : (reduced : Bool) (m n : ℕ) → 0 < m → m < n → header_bytes reduced m < header_bytes reduced n
+header_bytes-more true m n some more =
+    let many : nat_lt 1 n ≡ true = lt-ltb 1 n (omega arith) in
+    elim (cases_Bool (nat_lt 1 m)) [
+      | inl two ↦ rw (many, two) (omega arith)
+      | inr one ↦ let few = ltb-false 1 m one in rw (many, one) (omega arith)
+    ]
+header_bytes-more false m n some more = omega arith
+
+-- ---- the forms
+
+pub list-full : (e : Encapsulation) (left : ℕ) → e.reduced ≡ false
+    → (has_segment_routing e ≡ true) × (segment_list e ≡ reverse e.segments) × ((segment_routing_of e left).last_entry ≡ length e.segments - 1)
+list-full e left full =
+    let list : segment_list e ≡ reverse e.segments = rw full refl in
+    (rw full refl, list, ap (λ xs. length xs - 1) list ∙ ap (λ n. n - 1) (length-reverse e.segments))
+
+pub list-reduced : (e : Encapsulation) (left : ℕ) → e.reduced ≡ true → 1 < length e.segments
+    → (has_segment_routing e ≡ true) × (segment_list e ≡ reverse (drop 1 e.segments)) × ((segment_routing_of e left).last_entry ≡ length e.segments - 2)
+list-reduced e left reduced more =
+    let list : segment_list e ≡ reverse (drop 1 e.segments) = rw reduced refl in
+    let len : length (reverse (drop 1 e.segments)) ≡ length e.segments - 1 = length-reverse (drop 1 e.segments) ∙ length-drop 1 e.segments in
+    (more-routing e more, list, ap (λ xs. length xs - 1) list ∙ omega arith)
+
+pub list-one : (e : Encapsulation) → e.reduced ≡ true → length e.segments ≡ 1 → has_segment_routing e ≡ false
+list-one e reduced one = rw (reduced, one) refl
+
+pub outer-with_header : (e : Encapsulation) (inner : List ℕ) (left hop destination : ℕ) → has_segment_routing e ≡ true
+    → ((outer e inner left hop destination).next_header ≡ routing) × ((outer e inner left hop destination).payload ≡ srh_spelling (segment_routing_of e left) ++ inner)
+outer-with_header e inner left hop destination has =
+    let is = outer-routed e inner left hop destination has in
+    (ap (λ (p : Packet). p.next_header) is, ap (λ (p : Packet). p.payload) is)
+
+pub outer-without_header : (e : Encapsulation) (inner : List ℕ) (left hop destination : ℕ) → has_segment_routing e ≡ false
+    → ((outer e inner left hop destination).next_header ≡ ipv6_inside) × ((outer e inner left hop destination).payload ≡ inner)
+outer-without_header e inner left hop destination has =
+    let is = outer-bare e inner left hop destination has in
+    (ap (λ (p : Packet). p.next_header) is, ap (λ (p : Packet). p.payload) is)
+
+-- ---- lengths of spellings
+
+pub length-at_segment : (e : Encapsulation) (inner : List ℕ) (i hop : ℕ) → length (spelling (at_segment e inner i hop)) ≡ header_bytes e.reduced (length e.segments) + length inner
+length-at_segment e inner i hop =
+    length-spelling (at_segment e inner i hop) ∙ length-outer e inner (length e.segments - 1 - i) hop (slice_index e.segments i)
+
+pub encapsulated-exposed : (e : Encapsulation) (p : Packet) (i hop table : ℕ) (allow : List ℕ) → IsSpellable p → i + 1 ≡ length e.segments
+    → at_sid (Dt6 table) allow (at_segment e (spelling (inner_lowered p)) i hop) ≡ Exposed (V6 (inner_lowered p))
+encapsulated-exposed e p i hop table allow ok last = at_segment-exposed_packet e (inner_lowered p) i hop table allow (lowered-spellable p ok) last
+
+pub length-encapsulated : (e : Encapsulation) (p : Packet) (hop : ℕ) → length (spelling (encapsulated e p hop)) ≡ header_bytes e.reduced (length e.segments) + length (spelling p)
+length-encapsulated e p hop =
+    length-at_segment e (spelling (inner_lowered p)) 0 hop
+    ∙ ap (λ n. header_bytes e.reduced (length e.segments) + n) (length-spelling (inner_lowered p) ∙ sym (length-spelling p))
+
+pub header_bytes-reduced : (n : ℕ) → 1 < n → header_bytes true n ≡ 32 + 16 * n
+header_bytes-reduced n more = let many : nat_lt 1 n ≡ true = lt-ltb 1 n more in rw many refl
+
+-- ---- the behaviours
+
+pub takes-end : (b : Behaviour) → takes_next_segment b ≡ true ↔ (b ≡ End) ⊎ (b ≡ EndX)
+takes-end End = (λ e. inl refl, λ e. refl)
+takes-end EndX = (λ e. inr refl, λ e. refl)
+takes-end (Dt6 table) = (λ e. cc, λ e. elim e [ inl same ↦ cc | inr same ↦ cc ])
