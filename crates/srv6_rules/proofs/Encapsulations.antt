@@ -1,21 +1,21 @@
 -- A packet in an outer header with a segment list: what is processed of it, and what SIDs do with it.
-use Rattle.std.proofs.Common.{◌≡◌, ℕ, zero, suc, ◌+◌, ◌-◌, ◌*◌, ◌/◌, ◌^◌, ◌<◌, ◌≤◌, Bool, true, false, not, ◌==◌, ◌||◌, nat_lt, nat_le, if◌then◌else◌, List, [], ◌∷◌, ◌++◌, length, take, drop, reverse, slice_index, slice_set, All, flat_map, refl, sym, ap, subst, ◌∙◌, ◌⊎◌, ◌↔◌, arith, inl, inr, length-append, length-drop}
+use Rattle.std.proofs.Common.{◌≡◌, ℕ, ◌+◌, ◌-◌, ◌*◌, ◌/◌, ◌^◌, ◌<◌, ◌≤◌, Bool, true, false, not, ◌==◌, ◌||◌, nat_lt, nat_le, if◌then◌else◌, List, [], ◌∷◌, ◌++◌, length, take, drop, reverse, slice_index, slice_set, All, flat_map, refl, sym, ap, subst, ◌∙◌, ◌⊎◌, ◌↔◌, arith, inl, inr, length-append, length-drop}
 use Rattle.std.proofs.Math.Bool.{or-true}
 use Rattle.std.proofs.lemmas.Bool.{cases_Bool, cases_lt, or_from, lt-ltb, ltb-true, ltb-false, le-ltb, le-leb, lt-leb, eq-eqb, ne_eqb}
-use Rattle.std.proofs.lemmas.List.{append_assoc, append-nil, drop_all, drop_at, take_at, get_or-drop, get_or_past, get_or-reverse, length-reverse}
+use Rattle.std.proofs.lemmas.List.{append-nil, drop_all, drop_at, take_at, get_or-drop, get_or_past, get_or-reverse, length-reverse}
 use Rattle.std.proofs.lemmas.List.Elements.{All-nil, All-append, All-drop}
 use Rattle.srv6_rules.specs.declared.sid.Behaviour.{Behaviour}
 use Rattle.srv6_rules.specs.declared.sid.Behaviour.TheVariants.{End, EndX, Dt6}
 use Rattle.srv6_rules.specs.declared.sid.Reason.TheVariants as reasons
-use Rattle.srv6_rules.specs.Packet.{Packet, Content, V6, IsSpellable, most_len, spelling, content_of, two_bytes, two_number, address_bytes, address_number}
-use Rattle.srv6_rules.specs.Srh.{Srh, IsSrhSpellable, srh_of, srh_spelling, entries_of, entry_of, tlv_bytes}
-use Rattle.srv6_rules.specs.Chain.{Header, Processed, AtHeader, AtUpper, AtCut, routing, is_extension, chain_at, is_segment_routing, processed_in, processed_of}
-use Rattle.srv6_rules.specs.Endpoint.{Endpoint, Onward, Exposed, Delivered, Refused, ipv6_inside, upper_layer, has_bad_segments, advanced, next_segment, processed_at_sid, at_sid}
-use Rattle.srv6_rules.specs.Encapsulation.{Encapsulation, segment_list, has_segment_routing, segment_routing_of, outer, at_segment, pushed, header_bytes, IsSpellableEncapsulation, inner_lowered, encapsulated, takes_next_segment}
+use Rattle.srv6_rules.specs.Packet.{Packet, V6, IsSpellable, most_len, spelling, content_of, two_bytes, two_number, address_bytes, address_number}
+use Rattle.srv6_rules.specs.Srh.{Srh, IsSrhSpellable, srh_of, srh_spelling, entry_of, tlv_bytes}
+use Rattle.srv6_rules.specs.Chain.{Header, AtHeader, AtUpper, routing, is_extension, chain_at, is_segment_routing, processed_in, processed_of}
+use Rattle.srv6_rules.specs.Endpoint.{Onward, Exposed, Refused, ipv6_inside, upper_layer, has_bad_segments, advanced, next_segment, processed_at_sid, at_sid}
+use Rattle.srv6_rules.specs.Encapsulation.{Encapsulation, segment_list, has_segment_routing, segment_routing_of, outer, at_segment, header_bytes, IsSpellableEncapsulation, inner_lowered, encapsulated, takes_next_segment}
 use Rattle.srv6_rules.proofs.Bytes.{all-address_bytes, length-two_bytes, two_number-bytes}
 use Rattle.srv6_rules.proofs.Packets.{content_of-spelling_alone, length-spelling, all-spelling}
 use Rattle.srv6_rules.proofs.Edits.{edit-hop_limit}
-use Rattle.srv6_rules.proofs.Headers.{length-srh_spelling, all-srh_spelling, entry-at, length-entries, left-set}
+use Rattle.srv6_rules.proofs.Headers.{length-srh_spelling, all-srh_spelling, entry-at, length-entries}
 use Rattle.srv6_rules.proofs.Chains.{chain_at-spelled, chain_at-upper}
 
 -- ---- a segment routing header at the start of a payload
@@ -142,7 +142,6 @@ module _ (e : Encapsulation) (left : ℕ) where
 
   read_back : srh_of (srh_spelling (segment_routing_of e left)) ≡ segment_routing_of e left
   read_back = srh_of-spelled (segment_routing_of e left) (omega arith) length-body
-
 
 module _ (e : Encapsulation) where
   list-most : length e.segments ≤ length (segment_list e) + 1
@@ -512,6 +511,12 @@ outer-without_header e inner left hop destination has =
     let is = outer-bare e inner left hop destination has in
     (ap (λ (p : Packet). p.next_header) is, ap (λ (p : Packet). p.payload) is)
 
+-- the header byte by byte: its first eight, and the entries
+pub header-bytes : (e : Encapsulation) (left : ℕ) → srh_spelling (segment_routing_of e left)
+    ≡ 41 ∷ (2 * length (segment_list e)) ∷ 4 ∷ left ∷ (length (segment_list e) - 1) ∷ 0 ∷ 0 ∷ 0 ∷ flat_map address_bytes (segment_list e)
+unfolding two_bytes
+header-bytes e left = refl
+
 -- ---- lengths of spellings
 
 pub length-at_segment : (e : Encapsulation) (inner : List ℕ) (i hop : ℕ) → length (spelling (at_segment e inner i hop)) ≡ header_bytes e.reduced (length e.segments) + length inner
@@ -532,7 +537,7 @@ header_bytes-reduced n more = let many : nat_lt 1 n ≡ true = lt-ltb 1 n more i
 
 -- ---- the behaviours
 
-pub takes-end : (b : Behaviour) → takes_next_segment b ≡ true ↔ (b ≡ End) ⊎ (b ≡ EndX)
+pub takes-end : (b : Behaviour) → (takes_next_segment b ≡ true) ↔ ((b ≡ End) ⊎ (b ≡ EndX))
 takes-end End = (λ e. inl refl, λ e. refl)
 takes-end EndX = (λ e. inr refl, λ e. refl)
 takes-end (Dt6 table) = (λ e. cc, λ e. elim e [ inl same ↦ cc | inr same ↦ cc ])

@@ -61,9 +61,9 @@ at_segment e inner i hop = outer e inner (length e.segments - 1 - i) hop (slice_
 abbrev pub pushed : Encapsulation → List ℕ → ℕ → Packet
 pushed e inner hop = at_segment e inner 0 hop
 
--- the header bytes in front of the inner packet, by the form and the number of segments
+-- the header bytes in front of the inner packet, by the form and the number of segments, at least one
 abbrev pub header_bytes : Bool → ℕ → ℕ
-header_bytes reduced segments = if reduced then (if nat_lt 1 segments then 32 + 16 * segments else 40) else 48 + 16 * segments
+header_bytes reduced count = if reduced then (if nat_lt 1 count then 32 + 16 * count else 40) else 48 + 16 * count
 
 -- an inner packet before it is encapsulated: the hop limit is one less (RFC 8986 section 5.1)
 abbrev pub inner_lowered : Packet → Packet

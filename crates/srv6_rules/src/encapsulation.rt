@@ -1,10 +1,10 @@
 //! Laws of encapsulation, each the contract of a function that does nothing.
 
-ghost use Rattle.std.specs.Prelude.{◌≡◌, ◌⊎◌, ◌↔◌, ◌<◌, ◌≤◌, ◌+◌, ◌-◌, ◌*◌, ◌^◌, Bool, true, false, List, ℕ, ◌++◌, length, drop, reverse, slice_index, slice_set, All};
+ghost use Rattle.std.specs.Prelude.{◌≡◌, ◌⊎◌, ◌↔◌, ◌<◌, ◌≤◌, ◌+◌, ◌-◌, ◌*◌, ◌^◌, Bool, true, false, List, ℕ, ◌∷◌, ◌++◌, length, drop, reverse, slice_index, slice_set, flat_map, All};
 ghost use Rattle.srv6_rules.specs.Chain.{AtHeader, AtUpper, routing, processed_of};
 ghost use Rattle.srv6_rules.specs.Encapsulation.{Encapsulation, IsSpellableEncapsulation, segment_list, has_segment_routing, segment_routing_of, outer, at_segment, pushed, header_bytes, inner_lowered, encapsulated, takes_next_segment};
 ghost use Rattle.srv6_rules.specs.Endpoint.{Onward, Exposed, Refused, ipv6_inside, upper_layer, at_sid};
-ghost use Rattle.srv6_rules.specs.Packet.{Packet, V6, IsSpellable, most_len, spelling, content_of};
+ghost use Rattle.srv6_rules.specs.Packet.{Packet, V6, IsSpellable, most_len, spelling, content_of, address_bytes};
 ghost use Rattle.srv6_rules.specs.Srh.{srh_spelling};
 ghost use Rattle.srv6_rules.specs.declared.sid.Behaviour.{Behaviour};
 ghost use Rattle.srv6_rules.specs.declared.sid.Behaviour.TheVariants.{End, EndX, Dt6};
@@ -18,9 +18,12 @@ pub fn pushed_packet_has_its_first_segment_active()
 {}
 
 /// The outer packet has a segment routing header in front of the inner packet's bytes, or these alone where the form
-/// has none (RFC 8754 section 4.1, RFC 8986 section 5.2).
+/// has none. The header begins with the bytes Next Header 41, length in 8-byte units behind the first 8 bytes, Routing
+/// Type 4, Segments Left, Last Entry, no flags and two bytes of no tag (RFC 8754 sections 2 and 4.1, RFC 8986 section
+/// 5.2).
 pub fn outer_packet_has_its_parts()
     ensures with_header { (e : Encapsulation) (inner : List ℕ) (left hop destination : ℕ) → has_segment_routing e ≡ true → ((outer e inner left hop destination).next_header ≡ routing) × ((outer e inner left hop destination).payload ≡ srh_spelling (segment_routing_of e left) ++ inner) }
+    ensures header { (e : Encapsulation) (left : ℕ) → srh_spelling (segment_routing_of e left) ≡ 41 ∷ (2 * length (segment_list e)) ∷ 4 ∷ left ∷ (length (segment_list e) - 1) ∷ 0 ∷ 0 ∷ 0 ∷ flat_map address_bytes (segment_list e) }
     ensures without_header { (e : Encapsulation) (inner : List ℕ) (left hop destination : ℕ) → has_segment_routing e ≡ false → ((outer e inner left hop destination).next_header ≡ ipv6_inside) × ((outer e inner left hop destination).payload ≡ inner) }
 {}
 
@@ -48,7 +51,7 @@ pub fn outer_packet_is_processed()
 pub fn end_goes_on_to_the_next_segment()
     ensures onward { (b : Behaviour) (allow : List ℕ) (e : Encapsulation) (inner : List ℕ) (i hop : ℕ) → takes_next_segment b ≡ true → i + 1 < length e.segments → All (λ a. a < 2 ^ 128) e.segments → 1 < hop → at_sid b allow (at_segment e inner i hop) ≡ Onward (at_segment e inner (i + 1) (hop - 1)) }
     ensures hop_limit { (b : Behaviour) (allow : List ℕ) (e : Encapsulation) (inner : List ℕ) (i hop : ℕ) → takes_next_segment b ≡ true → i + 1 < length e.segments → hop ≤ 1 → at_sid b allow (at_segment e inner i hop) ≡ Refused HopLimit }
-    ensures behaviours { (b : Behaviour) → takes_next_segment b ≡ true ↔ (b ≡ End) ⊎ (b ≡ EndX) }
+    ensures behaviours { (b : Behaviour) → (takes_next_segment b ≡ true) ↔ ((b ≡ End) ⊎ (b ≡ EndX)) }
 {}
 
 /// At the last segment End and End.X have the packet inside as an upper layer, and End.DT6 exposes what the inner bytes
@@ -66,7 +69,7 @@ pub fn decapsulation_is_at_the_last_segment()
 
 /// A packet with an outer header is as long as the inner bytes and the header bytes, whichever segment is active. In
 /// the full form n segments take 48 + 16 * n bytes; in the reduced form one takes 40, and n take 32 + 16 * n. More
-/// segments take more bytes.
+/// segments take more bytes (RFC 8200 section 3, RFC 8754 section 2).
 pub fn headers_have_their_bytes()
     ensures length { (e : Encapsulation) (inner : List ℕ) (i hop : ℕ) → length (spelling (at_segment e inner i hop)) ≡ header_bytes e.reduced (length e.segments) + length inner }
     ensures payload { (e : Encapsulation) (inner : List ℕ) (left hop destination : ℕ) → 40 + length (outer e inner left hop destination).payload ≡ header_bytes e.reduced (length e.segments) + length inner }
@@ -77,7 +80,7 @@ pub fn headers_have_their_bytes()
 {}
 
 /// Bytes can spell a packet with an outer header where each field fits its width, there are at most 127 segments, and
-/// the whole is no longer than the longest packet.
+/// the whole is no longer than the longest packet (RFC 8200 section 3; at most 127 is an own rule).
 pub fn outer_packet_can_be_spelled()
     ensures { (e : Encapsulation) (inner : List ℕ) (i hop : ℕ) → IsSpellableEncapsulation e → hop < 2 ^ 8 → All (λ b. b < 2 ^ 8) inner → header_bytes e.reduced (length e.segments) + length inner ≤ most_len → IsSpellable (at_segment e inner i hop) }
 {}
