@@ -4,3 +4,4 @@ pub mod Edits
 pub mod Headers
 pub mod Chains
 pub mod Endpoints
+pub mod Encapsulations
