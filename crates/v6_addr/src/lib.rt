@@ -1,13 +1,18 @@
-// A library with one function.
+//! IPv6 addresses and prefixes, their bit fields and their texts (RFC 4291 section 2, RFC 5952 section 4).
+//!
+//! Nothing here takes memory. An address is a number below 2 to the 128, and bit 0 is its highest bit.
 #![tactic(auto)]
 
-ghost use Rattle.std.specs.Prelude.{◌≡◌};
-ghost use Rattle.v6_addr.specs.Echo.{echo_of};
+mod address;
+mod bits;
+mod errors;
+mod groups;
+mod parse;
+mod prefix;
+mod text;
 
-// The `ensures` clause is the contract: what `echo` returns is `echo_of` of its argument, a definition
-// in `specs/Echo.antt`, which a caller's clause can cite too.
-pub fn echo(x: usize) -> usize
-    ensures { result ≡ echo_of x }
-{
-    x
-}
+pub use address::Addr;
+pub use bits::{field, with_field};
+pub use errors::BadAddr;
+pub use prefix::Prefix;
+pub use text::{parse_addr, parse_prefix};
