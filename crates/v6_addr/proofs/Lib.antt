@@ -3,3 +3,4 @@ pub mod Fields
 pub mod GroupSums
 pub mod Prefixes
 pub mod Reading
+pub mod Runs

@@ -10,9 +10,11 @@ mod groups;
 mod parse;
 mod prefix;
 mod text;
+mod write;
 
 pub use address::Addr;
 pub use bits::{field, with_field};
 pub use errors::BadAddr;
 pub use prefix::Prefix;
 pub use text::{parse_addr, parse_prefix};
+pub use write::write_addr;
