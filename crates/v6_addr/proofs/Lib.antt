@@ -4,3 +4,4 @@ pub mod GroupSums
 pub mod Prefixes
 pub mod Reading
 pub mod Runs
+pub mod Writing

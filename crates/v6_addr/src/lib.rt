@@ -17,4 +17,4 @@ pub use bits::{field, with_field};
 pub use errors::BadAddr;
 pub use prefix::Prefix;
 pub use text::{parse_addr, parse_prefix};
-pub use write::write_addr;
+pub use write::{write_addr, write_prefix};

@@ -136,3 +136,36 @@ pub fn write_addr(out: &mut ArrayString<39>, a: Addr)
     out.push(':');
     push_groups(out, groups.split_at(run.start + run.count).1);
 }
+
+/// Appends a prefix's length in decimal digits without leading zeros.
+#[tactic(auto, using(std::proofs::lemmas::Bool::Decides::nat_tests), unfolding(crate::specs::Text::length_text))]
+fn push_length(out: &mut ArrayString<43>, len: u8)
+    requires { array_string_len out.old + 3 ≤ 43 }
+    ensures { out.new.bytes ≡ out.old.bytes ++ length_text len }
+{
+    if len < 10 {
+        out.push(char::from(b'0' + len));
+        return;
+    }
+    if len < 100 {
+        out.push(char::from(b'0' + len / 10));
+        out.push(char::from(b'0' + len % 10));
+        return;
+    }
+    out.push(char::from(b'0' + len / 100));
+    out.push(char::from(b'0' + len / 10 % 10));
+    out.push(char::from(b'0' + len % 10));
+}
+
+/// Writes the text of a prefix (RFC 4291 section 2.3): the text of its address, a slash and its length in decimal
+/// digits. `out` must be empty; it always has the room.
+pub fn write_prefix(out: &mut ArrayString<43>, p: &Prefix)
+    requires { out.old.bytes ≡ [] }
+    ensures { out.new.bytes ≡ prefix_text p.now }
+{
+    let mut address = ArrayString::<39>::new();
+    write_addr(&mut address, p.value());
+    out.push_str(address.as_str());
+    out.push('/');
+    push_length(out, p.len());
+}
