@@ -1,5 +1,6 @@
 pub mod Examples
 pub mod Fields
+pub mod GrammarLaws
 pub mod GroupSums
 pub mod Prefixes
 pub mod Reading
