@@ -4,5 +4,6 @@ pub mod GrammarLaws
 pub mod GroupSums
 pub mod Prefixes
 pub mod Reading
+pub mod RunLaws
 pub mod Runs
 pub mod Writing

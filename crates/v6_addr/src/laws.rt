@@ -9,3 +9,10 @@ pub fn address_grammar()
     ensures { (text : List ℕ) (a : ℕ) → (address_of_text text ≡ Some a) ↔ IsAddressText text a }
 {
 }
+
+/// A law: the run of groups that `::` stands for is of groups that are 0, none is longer, and none as long begins
+/// earlier (RFC 5952 section 4.2.3).
+pub fn longest_run_rule()
+    ensures { (groups : List ℕ) → IsLongestRun groups (longest_run groups) }
+{
+}
