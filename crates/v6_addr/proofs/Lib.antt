@@ -4,6 +4,7 @@ pub mod GrammarLaws
 pub mod GroupSums
 pub mod Prefixes
 pub mod Reading
+pub mod RoundTrip
 pub mod RunLaws
 pub mod Runs
 pub mod Writing

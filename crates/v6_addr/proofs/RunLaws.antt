@@ -11,7 +11,7 @@ run_behind g gs start count run =
     (let inside = run.0 in omega arith,
     λ k below. let sum : suc (start + k) ≡ suc start + k = omega arith in let P : ℕ → Type 0 = λ n. get_or (g ∷ gs) n 0 ≡ 0 in subst P sum (run.1 k below))
 
-run_without : (g : ℕ) (gs : List ℕ) (start count : ℕ) → IsZeroRun (g ∷ gs) (suc start) count → IsZeroRun gs start count
+pub run_without : (g : ℕ) (gs : List ℕ) (start count : ℕ) → IsZeroRun (g ∷ gs) (suc start) count → IsZeroRun gs start count
 run_without g gs start count run =
     (let inside = run.0 in omega arith,
     λ k below. let sum : suc start + k ≡ suc (start + k) = omega arith in let P : ℕ → Type 0 = λ n. get_or (g ∷ gs) n 0 ≡ 0 in subst P sum (run.1 k below))
@@ -24,7 +24,7 @@ front_each g gs n is_zero run (suc k) below =
 front_more : (g : ℕ) (gs : List ℕ) (n : ℕ) → g ≡ 0 → IsZeroRun gs 0 n → IsZeroRun (g ∷ gs) 0 (suc n)
 front_more g gs n is_zero run = (let inside = run.0 in omega arith, front_each g gs n is_zero run)
 
-front_without : (g : ℕ) (gs : List ℕ) (n : ℕ) → IsZeroRun (g ∷ gs) 0 (suc n) → IsZeroRun gs 0 n
+pub front_without : (g : ℕ) (gs : List ℕ) (n : ℕ) → IsZeroRun (g ∷ gs) 0 (suc n) → IsZeroRun gs 0 n
 front_without g gs n run =
     (let inside = run.0 in omega arith,
     λ k below. let sum : 0 + suc k ≡ suc (0 + k) = omega arith in let P : ℕ → Type 0 = λ m. get_or (g ∷ gs) m 0 ≡ 0 in subst P sum (run.1 (suc k) (omega arith)))

@@ -16,3 +16,10 @@ pub fn longest_run_rule()
     ensures { (groups : List ℕ) → IsLongestRun groups (longest_run groups) }
 {
 }
+
+/// A law: the text of an address has at most 39 bytes, and is read as that address.
+pub fn address_reads_back()
+    ensures read_back { (a : ℕ) → a < 2 ^ 128 → address_of_text (address_text a) ≡ Some a }
+    ensures len { (a : ℕ) → length (address_text a) ≤ 39 }
+{
+}
