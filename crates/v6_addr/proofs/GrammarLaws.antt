@@ -16,11 +16,11 @@ use Rattle.v6_addr.proofs.GroupSums.{full_reads, shortened_parts}
 
 -- ---- cases of options
 
-some_cond : {A : Type 0} (b : Bool) (o : Option A) (x : A) → cond b o None ≡ Some x → (b ≡ true) × (o ≡ Some x)
+pub some_cond : {A : Type 0} (b : Bool) (o : Option A) (x : A) → cond b o None ≡ Some x → (b ≡ true) × (o ≡ Some x)
 some_cond true o x e = (refl, e)
 some_cond false o x e = absurd (none-some x e)
 
-some_then : {A B : Type 0} (f : A → Option B) (o : Option A) (y : B) → option_and_then f o ≡ Some y → (x : A) × (o ≡ Some x) × (f x ≡ Some y)
+pub some_then : {A B : Type 0} (f : A → Option B) (o : Option A) (y : B) → option_and_then f o ≡ Some y → (x : A) × (o ≡ Some x) × (f x ≡ Some y)
 some_then f None y e = absurd (none-some y e)
 some_then f (Some x) y e = (x, refl, e)
 

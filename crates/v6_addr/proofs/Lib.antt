@@ -2,6 +2,7 @@ pub mod Examples
 pub mod Fields
 pub mod GrammarLaws
 pub mod GroupSums
+pub mod PrefixGrammar
 pub mod Prefixes
 pub mod Reading
 pub mod RoundTrip

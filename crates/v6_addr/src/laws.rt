@@ -23,3 +23,10 @@ pub fn address_reads_back()
     ensures len { (a : ℕ) → length (address_text a) ≤ 39 }
 {
 }
+
+/// A law: a prefix's text is read exactly where the grammar of RFC 4291 section 2.3 has it, and so as one prefix at
+/// most.
+pub fn prefix_grammar()
+    ensures { (text : List ℕ) (p : PrefixValue) → (prefix_of_text text ≡ Some p) ↔ IsPrefixText text p }
+{
+}
