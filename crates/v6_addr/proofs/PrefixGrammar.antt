@@ -112,15 +112,15 @@ short_length n (Some m) e =
 
 -- ---- the digits of a length
 
-length_text-1 : (n : ℕ) → n < 10 → length_text n ≡ digit_char n ∷ []
+pub length_text-1 : (n : ℕ) → n < 10 → length_text n ≡ digit_char n ∷ []
 unfolding length_text
 length_text-1 n below = cond-true _ _ _ (lt-ltb n 10 below)
 
-length_text-2 : (n : ℕ) → 10 ≤ n → n < 100 → length_text n ≡ digit_char (n / 10) ∷ digit_char (n % 10) ∷ []
+pub length_text-2 : (n : ℕ) → 10 ≤ n → n < 100 → length_text n ≡ digit_char (n / 10) ∷ digit_char (n % 10) ∷ []
 unfolding length_text
 length_text-2 n above below = cond-false _ _ _ (le-ltb n 10 above) ∙ cond-true _ _ _ (lt-ltb n 100 below)
 
-length_text-3 : (n : ℕ) → 100 ≤ n → length_text n ≡ digit_char (n / 100) ∷ digit_char (n / 10 % 10) ∷ digit_char (n % 10) ∷ []
+pub length_text-3 : (n : ℕ) → 100 ≤ n → length_text n ≡ digit_char (n / 100) ∷ digit_char (n / 10 % 10) ∷ digit_char (n % 10) ∷ []
 unfolding length_text
 length_text-3 n above = cond-false _ _ _ (le-ltb n 10 (omega arith)) ∙ cond-false _ _ _ (le-ltb n 100 above)
 

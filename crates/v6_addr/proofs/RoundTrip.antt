@@ -11,11 +11,12 @@ use Rattle.std.proofs.lemmas.Nat.{shr_split, shr-shr, mod_below}
 use Rattle.std.proofs.lemmas.Str.{digit_value-digit_char}
 use Rattle.std.proofs.Math.Pow.{shr_mod}
 use Rattle.std.proofs.Math.Nat.{div-one}
-use Rattle.v6_addr.specs.Address.{PrefixValue, field_of}
-use Rattle.v6_addr.specs.Text.{Run, number_of_groups, groups_of, group_text, groups_text, longest_run, text_with_run, address_text, address_of_text}
+use Rattle.v6_addr.specs.Address.{PrefixValue, IsPrefix, field_of}
+use Rattle.v6_addr.specs.Text.{Run, number_of_groups, groups_of, group_text, groups_text, longest_run, text_with_run, address_text, address_of_text, length_text, prefix_text, prefix_of_text}
 use Rattle.v6_addr.specs.Grammar.{IsGroupText, IsGroupsText, IsFullText, IsShortenedText, IsAddressText, IsZeroRun, IsLongestRun}
 use Rattle.v6_addr.proofs.RunLaws.{run_without, front_without, longest_run_is}
 use Rattle.v6_addr.proofs.GrammarLaws.{address_text_is}
+use Rattle.v6_addr.proofs.PrefixGrammar.{prefix_text_is, length_text-1, length_text-2, length_text-3}
 
 -- ---- a group
 
@@ -226,3 +227,30 @@ unfolding address_text text_with_run
 address_text_length a =
     length_by_test (groups_of a) (longest_run (groups_of a)) (leb 2 (longest_run (groups_of a)).count) refl (groups_of-length a)
         (omega (arith, (longest_run_is (groups_of a)).zeros.0, groups_of-length a))
+
+-- ---- a prefix
+
+pub prefix_read_back : (p : PrefixValue) → IsPrefix p → prefix_of_text (prefix_text p) ≡ Some p
+unfolding prefix_text
+prefix_read_back p is_prefix =
+    (prefix_text_is (prefix_text p) p).1 (record {
+        address_part = address_text p.value;
+        parts = refl;
+        address = address_text_written p.value is_prefix.1;
+        is_prefix = is_prefix;
+    })
+
+length_text_length : (n : ℕ) → length (length_text n) ≤ 3
+length_text_length n =
+    elim (cases_lt n 10) [
+        inl small ↦ omega (arith, ap length (length_text-1 n small))
+        | inr above10 ↦ elim (cases_lt n 100) [
+            inl small ↦ omega (arith, ap length (length_text-2 n above10 small))
+            | inr above100 ↦ omega (arith, ap length (length_text-3 n above100))
+        ]
+    ]
+
+pub prefix_text_length : (p : PrefixValue) → length (prefix_text p) ≤ 43
+unfolding prefix_text
+prefix_text_length p =
+    omega (arith, length-append (address_text p.value) (47 ∷ length_text p.len), address_text_length p.value, length_text_length p.len)
