@@ -91,9 +91,9 @@ groups_are [] groups e =
     let P : List ℕ → Type 0 = AllZip IsGroupText [] in
     record { texts = []; joined = refl; each = subst P (same_Some [] groups e) tt }
 groups_are (c ∷ cs) groups e = record {
-    texts = slice_split (λ b. eqb b 58) (c ∷ cs);
-    joined = sym (join_with_byte-slice_split 58 (c ∷ cs));
-    each = texts_are (slice_split (λ b. eqb b 58) (c ∷ cs)) groups e;
+  texts = slice_split (λ b. eqb b 58) (c ∷ cs);
+  joined = sym (join_with_byte-slice_split 58 (c ∷ cs));
+  each = texts_are (slice_split (λ b. eqb b 58) (c ∷ cs)) groups e;
 }
 
 -- a digit is no colon
@@ -192,11 +192,13 @@ gap_parts (c ∷ cs) gap e = by_test c cs gap ((eqb c 58) && (eqb (get_or cs 0 0
     here c (d ∷ ds) gap is_gap first second =
         let P : ℕ → Type 0 = λ n. c ∷ d ∷ ds ≡ take n (c ∷ d ∷ ds) ++ (58 ∷ 58 ∷ drop (n + 2) (c ∷ d ∷ ds)) in
         subst P is_gap (ap (λ n. n ∷ d ∷ ds) first ∙ ap (λ n. 58 ∷ n ∷ ds) second)
+
     behind : (c : ℕ) (cs : List ℕ) (gap k : ℕ) → suc k ≡ gap → cs ≡ take k cs ++ (58 ∷ 58 ∷ drop (k + 2) cs) → c ∷ cs ≡ take gap (c ∷ cs) ++ (58 ∷ 58 ∷ drop (gap + 2) (c ∷ cs))
     behind c cs gap k is_gap rest =
         let sum : suc k + 2 ≡ suc (k + 2) = omega arith in
         let P : ℕ → Type 0 = λ n. c ∷ cs ≡ take n (c ∷ cs) ++ (58 ∷ 58 ∷ drop (n + 2) (c ∷ cs)) in
         subst P is_gap (ap (λ t. c ∷ t) rest ∙ ap (λ n. c ∷ (take k cs ++ (58 ∷ 58 ∷ drop n (c ∷ cs)))) (sym sum))
+
     by_test : (c : ℕ) (cs : List ℕ) (gap : ℕ) (b : Bool) → ((eqb c 58) && (eqb (get_or cs 0 0) 58)) ≡ b → cond b (Some 0) (option_map suc (gap_of cs)) ≡ Some gap
         → ((k : ℕ) → gap_of cs ≡ Some k → cs ≡ take k cs ++ (58 ∷ 58 ∷ drop (k + 2) cs)) → c ∷ cs ≡ take gap (c ∷ cs) ++ (58 ∷ 58 ∷ drop (gap + 2) (c ∷ cs))
     by_test c cs gap true test e more =
@@ -214,25 +216,25 @@ parts_are text a None place e =
     let read = some_then full_address (groups_of_text text) a e in
     let whole = some_cond _ _ a read.2 in
     inl (record {
-        groups = read.0;
-        written = groups_are text read.0 read.1;
-        eight = eqb-true _ _ whole.0;
-        value = sym (same_Some _ a whole.1);
+      groups = read.0;
+      written = groups_are text read.0 read.1;
+      eight = eqb-true _ _ whole.0;
+      value = sym (same_Some _ a whole.1);
     })
 parts_are text a (Some gap) place e =
     let left = some_then _ (groups_of_text (take gap text)) a e in
     let right = some_then (shortened_address left.0) (groups_of_text (drop (gap + 2) text)) a left.2 in
     let whole = some_cond _ _ a right.2 in
     inr (record {
-        left_text = take gap text;
-        right_text = drop (gap + 2) text;
-        left = left.0;
-        right = right.0;
-        parts = gap_parts text gap place;
-        left_written = groups_are _ _ left.1;
-        right_written = groups_are _ _ right.1;
-        some_zeros = (let below = ltb-true (length left.0 + length right.0) 8 whole.0 in omega arith);
-        value = sym (same_Some _ a whole.1);
+      left_text = take gap text;
+      right_text = drop (gap + 2) text;
+      left = left.0;
+      right = right.0;
+      parts = gap_parts text gap place;
+      left_written = groups_are _ _ left.1;
+      right_written = groups_are _ _ right.1;
+      some_zeros = (let below = ltb-true (length left.0 + length right.0) 8 whole.0 in omega arith);
+      value = sym (same_Some _ a whole.1);
     })
 
 no_gap_behind : (n : ℕ) → option_map (λ k. n + k) (gap_of []) ≡ None
@@ -264,11 +266,11 @@ unfolding address_of_text shortened_address
 shortened_from text a h =
     let whole = h.left_text ++ (58 ∷ 58 ∷ h.right_text) in
     let gap : gap_of whole ≡ Some (length h.left_text) =
-        gap_behind_groups h.left_text h.left (58 ∷ 58 ∷ h.right_text) h.left_written ∙ gap_here (length h.left_text) h.right_text in
+    gap_behind_groups h.left_text h.left (58 ∷ 58 ∷ h.right_text) h.left_written ∙ gap_here (length h.left_text) h.right_text in
     let read : address_of_text whole ≡ shortened_address h.left h.right =
-        ap (address_of_parts whole) gap
-        ∙ shortened_parts whole h.left_text h.right_text h.left h.right (length h.left_text) (take_front h.left_text (58 ∷ 58 ∷ h.right_text)) (drop_back h.left_text h.right_text 58 58)
-            (groups_from _ _ h.left_written) (groups_from _ _ h.right_written) in
+    ap (address_of_parts whole) gap
+    ∙ shortened_parts whole h.left_text h.right_text h.left h.right (length h.left_text) (take_front h.left_text (58 ∷ 58 ∷ h.right_text)) (drop_back h.left_text h.right_text 58 58)
+    (groups_from _ _ h.left_written) (groups_from _ _ h.right_written) in
     ap address_of_text h.parts ∙ read ∙ cond-true _ _ _ (lt-ltb (length h.left + length h.right) 8 (omega (arith, h.some_zeros))) ∙ ap Some (sym h.value)
 
 pub address_text_is : (text : List ℕ) (a : ℕ) → (address_of_text text ≡ Some a) ↔ IsAddressText text a

@@ -55,10 +55,10 @@ address_below text a (inr h) =
     let zeros = 8 - (length h.left + length h.right) in
     let front = h.left ++ replicate zeros 0 in
     let eight : length (front ++ h.right) ≡ 8 =
-        omega (arith, h.some_zeros, length-append front h.right, length-append h.left (replicate zeros 0), length-replicate {A = ℕ} zeros 0) in
+    omega (arith, h.some_zeros, length-append front h.right, length-append h.left (replicate zeros 0), length-replicate {A = ℕ} zeros 0) in
     let below = All-append (λ g. g < 65536) front h.right
-            (All-append (λ g. g < 65536) h.left (replicate zeros 0) (groups_below h.left_written.texts h.left h.left_written.each) (All-replicate (λ g. g < 65536) zeros 0 (lit< tt)))
-            (groups_below h.right_written.texts h.right h.right_written.each) in
+    (All-append (λ g. g < 65536) h.left (replicate zeros 0) (groups_below h.left_written.texts h.left h.left_written.each) (All-replicate (λ g. g < 65536) zeros 0 (lit< tt)))
+    (groups_below h.right_written.texts h.right h.right_written.each) in
     subst P (sym h.value) (eight_below (front ++ h.right) eight below)
 
 -- ---- no slash is in an address text
@@ -89,8 +89,8 @@ address_no_slash text a (inl full) = groups_no_slash text full.groups full.writt
 address_no_slash text a (inr h) =
     let P : ℕ → Type 0 = λ c. eqb c 47 ≡ false in
     subst NoSlash (sym h.parts)
-        (All-append P h.left_text (58 ∷ 58 ∷ h.right_text) (groups_no_slash h.left_text h.left h.left_written)
-            (All-cons P 58 (58 ∷ h.right_text) refl (All-cons P 58 h.right_text refl (groups_no_slash h.right_text h.right h.right_written))))
+    (All-append P h.left_text (58 ∷ 58 ∷ h.right_text) (groups_no_slash h.left_text h.left h.left_written)
+    (All-cons P 58 (58 ∷ h.right_text) refl (All-cons P 58 h.right_text refl (groups_no_slash h.right_text h.right h.right_written))))
 
 -- ---- a length
 
@@ -106,9 +106,10 @@ digit_back c digit =
 short_length : (n : ℕ) (o : Option ℕ) → option_and_then (λ m. if leb m 128 then Some m else None) o ≡ Some n → (n ≤ 128) × (o ≡ Some n)
 short_length n None e = absurd (none-some n e)
 short_length n (Some m) e =
-    let parts = some_cond _ _ n e in
-    let same = same_Some m n parts.1 in
-    (omega (arith, leb-true m 128 parts.0), ap Some same)
+    let parts = some_cond (leb m 128) (Some m) n e in
+    let same : m ≡ n = same_Some m n parts.1 in
+    let small : m ≤ 128 = leb-true m 128 parts.0 in
+    (omega arith, ap Some same)
 
 -- ---- the digits of a length
 
@@ -150,8 +151,8 @@ three_digits a b c some below_a below_b below_c =
 leading : (c : ℕ) → digit_value c < 10 → eqb c 48 ≡ false → 1 ≤ digit_value c
 leading c digit other =
     elim (cases_lt 0 (digit_value c)) [
-        inl some ↦ some
-        | inr none ↦ absurd (eqb-false c 48 other (is_zero (digit_value c) none (digit_value_digit c (digit_from_value c digit))))
+      | inl some ↦ some
+      | inr none ↦ absurd (eqb-false c 48 other (is_zero (digit_value c) none (digit_value_digit c (digit_from_value c digit))))
     ]
   where
     is_zero : (v : ℕ) → v ≤ 0 → v + 48 ≡ c → c ≡ 48
@@ -162,11 +163,11 @@ digits_shape [] h some few lead = absurd (omega arith)
 digits_shape (c ∷ []) h some few lead = sym (one_digit (digit_value c) h.0 ∙ ap (λ d. d ∷ []) (digit_back c h.0))
 digits_shape (c ∷ d ∷ []) h some few lead =
     sym (two_digits (digit_value c) (digit_value d) (leading c h.0 (not-true (eqb c 48) lead)) h.0 h.1.0
-        ∙ ap (λ x. x ∷ digit_char (digit_value d) ∷ []) (digit_back c h.0) ∙ ap (λ x. c ∷ x ∷ []) (digit_back d h.1.0))
+    ∙ ap (λ x. x ∷ digit_char (digit_value d) ∷ []) (digit_back c h.0) ∙ ap (λ x. c ∷ x ∷ []) (digit_back d h.1.0))
 digits_shape (c ∷ d ∷ e ∷ []) h some few lead =
     sym (three_digits (digit_value c) (digit_value d) (digit_value e) (leading c h.0 (not-true (eqb c 48) lead)) h.0 h.1.0 h.1.1.0
-        ∙ ap (λ x. x ∷ digit_char (digit_value d) ∷ digit_char (digit_value e) ∷ []) (digit_back c h.0)
-        ∙ ap (λ x. c ∷ x ∷ digit_char (digit_value e) ∷ []) (digit_back d h.1.0) ∙ ap (λ x. c ∷ d ∷ x ∷ []) (digit_back e h.1.1.0))
+    ∙ ap (λ x. x ∷ digit_char (digit_value d) ∷ digit_char (digit_value e) ∷ []) (digit_back c h.0)
+    ∙ ap (λ x. c ∷ x ∷ digit_char (digit_value e) ∷ []) (digit_back d h.1.0) ∙ ap (λ x. c ∷ d ∷ x ∷ []) (digit_back e h.1.1.0))
 digits_shape (c ∷ d ∷ e ∷ f ∷ more) h some few lead = absurd (omega arith)
 
 length_is : (text : List ℕ) (n : ℕ) → length_of_text text ≡ Some n → (n ≤ 128) × (text ≡ length_text n)
@@ -220,16 +221,16 @@ prefix_is text p e =
     let parts = parts_some _ _ p e in
     let len = length_is (drop (place + 1) text) p.len parts.1 in
     let within : place < length text = elim (cases_lt place (length text)) [
-            inl inside ↦ inside
-            | inr past ↦ absurd (no_length_of_nothing p.len (ap length_of_text (sym (drop_all (place + 1) text (omega arith))) ∙ parts.1))
-        ] in
+      | inl inside ↦ inside
+      | inr past ↦ absurd (no_length_of_nothing p.len (ap length_of_text (sym (drop_all (place + 1) text (omega arith))) ∙ parts.1))
+    ] in
     let address = (address_text_is (take place text) p.value).0 parts.0 in
     record {
-        address_part = take place text;
-        parts = split_at_first slash text 0 within ∙ ap (λ c. take place text ++ (c ∷ drop (place + 1) text)) (eqb-true _ _ (passes_at_first slash text 0 within))
-            ∙ ap (λ t. take place text ++ (47 ∷ t)) len.1;
-        address = address;
-        is_prefix = (len.0, address_below (take place text) p.value address, parts.2);
+      address_part = take place text;
+      parts = split_at_first slash text 0 within ∙ ap (λ c. take place text ++ (c ∷ drop (place + 1) text)) (eqb-true _ _ (passes_at_first slash text 0 within))
+          ∙ ap (λ t. take place text ++ (47 ∷ t)) len.1;
+      address = address;
+      is_prefix = (len.0, address_below (take place text) p.value address, parts.2);
     }
 
 prefix_from : (text : List ℕ) (p : PrefixValue) → IsPrefixText text p → prefix_of_text text ≡ Some p
@@ -241,9 +242,9 @@ prefix_from text p h =
     let whole = front ++ (47 ∷ back) in
     let none = address_no_slash front p.value h.address in
     let place : position_or_len slash whole ≡ length front =
-        position_or_len_is slash whole (length front) 0 (omega (arith, length-append front (47 ∷ back)))
-            (λ k below. ap slash (get_or_append_left front (47 ∷ back) 0 k below) ∙ All-get_or (λ c. slash c ≡ false) front k 0 below none)
-            (λ inside. ap slash (get_or-append_seam front 47 back 0)) in
+    position_or_len_is slash whole (length front) 0 (omega (arith, length-append front (47 ∷ back)))
+    (λ k below. ap slash (get_or_append_left front (47 ∷ back) 0 k below) ∙ All-get_or (λ c. slash c ≡ false) front k 0 below none)
+    (λ inside. ap slash (get_or-append_seam front 47 back 0)) in
     ap prefix_of_text h.parts
     ∙ ap (λ n. prefix_of_parts (address_of_text (take n whole)) (length_of_text (drop (n + 1) whole))) place
     ∙ ap (λ t. prefix_of_parts (address_of_text t) (length_of_text (drop (length front + 1) whole))) (take-append_seam front (47 ∷ back))

@@ -61,30 +61,30 @@ group_2 : (g : ℕ) → 16 ≤ g → g < 256 → IsGroupText (group_text g) g
 group_2 g above below =
     let P : List ℕ → Type 0 = λ t. IsGroupText t g in
     subst P (sym (group_text-2 g above below))
-        (group_written g (g / 16 ∷ g % 16 ∷ []) (digit_char (g / 16) ∷ digit_char (g % 16) ∷ []) refl (omega arith, (omega arith, tt)) (lit≤ tt, lit≤ tt) (omega arith))
+    (group_written g (g / 16 ∷ g % 16 ∷ []) (digit_char (g / 16) ∷ digit_char (g % 16) ∷ []) refl (omega arith, (omega arith, tt)) (lit≤ tt, lit≤ tt) (omega arith))
 
 group_3 : (g : ℕ) → 256 ≤ g → g < 4096 → IsGroupText (group_text g) g
 group_3 g above below =
     let P : List ℕ → Type 0 = λ t. IsGroupText t g in
     subst P (sym (group_text-3 g above below))
-        (group_written g (g / 256 ∷ g / 16 % 16 ∷ g % 16 ∷ []) (digit_char (g / 256) ∷ digit_char (g / 16 % 16) ∷ digit_char (g % 16) ∷ []) refl (omega arith, (omega arith, (omega arith, tt)))
-            (lit≤ tt, lit≤ tt) (omega arith))
+    (group_written g (g / 256 ∷ g / 16 % 16 ∷ g % 16 ∷ []) (digit_char (g / 256) ∷ digit_char (g / 16 % 16) ∷ digit_char (g % 16) ∷ []) refl (omega arith, (omega arith, (omega arith, tt)))
+    (lit≤ tt, lit≤ tt) (omega arith))
 
 group_4 : (g : ℕ) → 4096 ≤ g → g < 65536 → IsGroupText (group_text g) g
 group_4 g above below =
     let P : List ℕ → Type 0 = λ t. IsGroupText t g in
     subst P (sym (group_text-4 g above))
-        (group_written g (g / 4096 ∷ g / 256 % 16 ∷ g / 16 % 16 ∷ g % 16 ∷ []) (digit_char (g / 4096) ∷ digit_char (g / 256 % 16) ∷ digit_char (g / 16 % 16) ∷ digit_char (g % 16) ∷ []) refl
-            (omega arith, (omega arith, (omega arith, (omega arith, tt)))) (lit≤ tt, lit≤ tt) (omega arith))
+    (group_written g (g / 4096 ∷ g / 256 % 16 ∷ g / 16 % 16 ∷ g % 16 ∷ []) (digit_char (g / 4096) ∷ digit_char (g / 256 % 16) ∷ digit_char (g / 16 % 16) ∷ digit_char (g % 16) ∷ []) refl
+    (omega arith, (omega arith, (omega arith, (omega arith, tt)))) (lit≤ tt, lit≤ tt) (omega arith))
 
 group_text_is : (g : ℕ) → g < 65536 → IsGroupText (group_text g) g
 group_text_is g below =
     elim (cases_lt g 16) [
-        inl small ↦ group_1 g small
-        | inr above16 ↦ elim (cases_lt g 256) [
-            inl small ↦ group_2 g above16 small
-            | inr above256 ↦ elim (cases_lt g 4096) [ inl small ↦ group_3 g above256 small | inr above4096 ↦ group_4 g above4096 below ]
-        ]
+      | inl small ↦ group_1 g small
+      | inr above16 ↦ elim (cases_lt g 256) [
+        | inl small ↦ group_2 g above16 small
+        | inr above256 ↦ elim (cases_lt g 4096) [ inl small ↦ group_3 g above256 small | inr above4096 ↦ group_4 g above4096 below ]
+      ]
     ]
 
 -- ---- groups
@@ -160,15 +160,15 @@ written_short a groups start count eight below value run long =
     let right_length : length right ≡ length groups - (start + count) = length-drop (start + count) groups in
     let zeros : count ≡ 8 - (length left + length right) = omega (arith, run.0) in
     inr (record {
-        left_text = groups_text left;
-        right_text = groups_text right;
-        left = left;
-        right = right;
-        parts = refl;
-        left_written = groups_text_is left (All-take (λ g. g < 65536) start groups below);
-        right_written = groups_text_is right (All-drop (λ g. g < 65536) (start + count) groups below);
-        some_zeros = omega (arith, run.0);
-        value = value ∙ ap number_of_groups (run_list groups start count run ∙ ap (λ n. left ++ replicate n 0 ++ right) zeros);
+      left_text = groups_text left;
+      right_text = groups_text right;
+      left = left;
+      right = right;
+      parts = refl;
+      left_written = groups_text_is left (All-take (λ g. g < 65536) start groups below);
+      right_written = groups_text_is right (All-drop (λ g. g < 65536) (start + count) groups below);
+      some_zeros = omega (arith, run.0);
+      value = value ∙ ap number_of_groups (run_list groups start count run ∙ ap (λ n. left ++ replicate n 0 ++ right) zeros);
     })
 
 written_full : (a : ℕ) (groups : List ℕ) → length groups ≡ 8 → All (λ g. g < 65536) groups → a ≡ number_of_groups groups → IsAddressText (groups_text groups) a
@@ -184,7 +184,7 @@ pub address_text_written : (a : ℕ) → a < 2 ^ 128 → IsAddressText (address_
 unfolding address_text text_with_run
 address_text_written a below =
     written_by_test a (groups_of a) (longest_run (groups_of a)) (leb 2 (longest_run (groups_of a)).count) refl (groups_of-length a) (groups_below a) (sym (number_of_groups-groups_of a below))
-        (longest_run_is (groups_of a)).zeros
+    (longest_run_is (groups_of a)).zeros
 
 pub address_read_back : (a : ℕ) → a < 2 ^ 128 → address_of_text (address_text a) ≡ Some a
 address_read_back a below = (address_text_is (address_text a) a).1 (address_text_written a below)
@@ -194,11 +194,11 @@ address_read_back a below = (address_text_is (address_text a) a).1 (address_text
 group_text_length : (g : ℕ) → length (group_text g) ≤ 4
 group_text_length g =
     elim (cases_lt g 16) [
-        inl small ↦ omega (arith, ap length (group_text-1 g small))
-        | inr above16 ↦ elim (cases_lt g 256) [
-            inl small ↦ omega (arith, ap length (group_text-2 g above16 small))
-            | inr above256 ↦ elim (cases_lt g 4096) [ inl small ↦ omega (arith, ap length (group_text-3 g above256 small)) | inr above4096 ↦ omega (arith, ap length (group_text-4 g above4096)) ]
-        ]
+      | inl small ↦ omega (arith, ap length (group_text-1 g small))
+      | inr above16 ↦ elim (cases_lt g 256) [
+        | inl small ↦ omega (arith, ap length (group_text-2 g above16 small))
+        | inr above256 ↦ elim (cases_lt g 4096) [ inl small ↦ omega (arith, ap length (group_text-3 g above256 small)) | inr above4096 ↦ omega (arith, ap length (group_text-4 g above4096)) ]
+      ]
     ]
 
 groups_text_length : (groups : List ℕ) → length (groups_text groups) ≤ 5 * length groups - 1
@@ -214,8 +214,12 @@ short_length : (groups : List ℕ) (start count : ℕ) → length groups ≡ 8 �
 short_length groups start count eight within long =
     let left_length : length (take start groups) ≡ start = length-take-le start groups (omega arith) in
     let right_length : length (drop (start + count) groups) ≡ length groups - (start + count) = length-drop (start + count) groups in
-    omega (arith, groups_text_length (take start groups), groups_text_length (drop (start + count) groups),
-        length-append (groups_text (take start groups)) (58 ∷ 58 ∷ groups_text (drop (start + count) groups)))
+    omega (
+      arith,
+      groups_text_length (take start groups),
+      groups_text_length (drop (start + count) groups),
+      length-append (groups_text (take start groups)) (58 ∷ 58 ∷ groups_text (drop (start + count) groups)),
+    )
 
 length_by_test : (groups : List ℕ) (run : Run) (b : Bool) → leb 2 run.count ≡ b → length groups ≡ 8 → run.start + run.count ≤ 8
     → length (cond b (groups_text (take run.start groups) ++ (58 ∷ 58 ∷ groups_text (drop (run.start + run.count) groups))) (groups_text groups)) ≤ 39
@@ -226,7 +230,7 @@ pub address_text_length : (a : ℕ) → length (address_text a) ≤ 39
 unfolding address_text text_with_run
 address_text_length a =
     length_by_test (groups_of a) (longest_run (groups_of a)) (leb 2 (longest_run (groups_of a)).count) refl (groups_of-length a)
-        (omega (arith, (longest_run_is (groups_of a)).zeros.0, groups_of-length a))
+    (omega (arith, (longest_run_is (groups_of a)).zeros.0, groups_of-length a))
 
 -- ---- a prefix
 
@@ -234,20 +238,20 @@ pub prefix_read_back : (p : PrefixValue) → IsPrefix p → prefix_of_text (pref
 unfolding prefix_text
 prefix_read_back p is_prefix =
     (prefix_text_is (prefix_text p) p).1 (record {
-        address_part = address_text p.value;
-        parts = refl;
-        address = address_text_written p.value is_prefix.1;
-        is_prefix = is_prefix;
+      address_part = address_text p.value;
+      parts = refl;
+      address = address_text_written p.value is_prefix.1;
+      is_prefix = is_prefix;
     })
 
 length_text_length : (n : ℕ) → length (length_text n) ≤ 3
 length_text_length n =
     elim (cases_lt n 10) [
-        inl small ↦ omega (arith, ap length (length_text-1 n small))
-        | inr above10 ↦ elim (cases_lt n 100) [
-            inl small ↦ omega (arith, ap length (length_text-2 n above10 small))
-            | inr above100 ↦ omega (arith, ap length (length_text-3 n above100))
-        ]
+      | inl small ↦ omega (arith, ap length (length_text-1 n small))
+      | inr above10 ↦ elim (cases_lt n 100) [
+        | inl small ↦ omega (arith, ap length (length_text-2 n above10 small))
+        | inr above100 ↦ omega (arith, ap length (length_text-3 n above100))
+      ]
     ]
 
 pub prefix_text_length : (p : PrefixValue) → length (prefix_text p) ≤ 43

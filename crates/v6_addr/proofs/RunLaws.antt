@@ -7,14 +7,16 @@ use Rattle.v6_addr.specs.Grammar.{IsZeroRun, IsLongestRun}
 -- ---- one group before
 
 run_behind : (g : ℕ) (gs : List ℕ) (start count : ℕ) → IsZeroRun gs start count → IsZeroRun (g ∷ gs) (suc start) count
-run_behind g gs start count run =
-    (let inside = run.0 in omega arith,
-    λ k below. let sum : suc (start + k) ≡ suc start + k = omega arith in let P : ℕ → Type 0 = λ n. get_or (g ∷ gs) n 0 ≡ 0 in subst P sum (run.1 k below))
+run_behind g gs start count run = (
+  let inside = run.0 in omega arith,
+  λ k below. let sum : suc (start + k) ≡ suc start + k = omega arith in let P : ℕ → Type 0 = λ n. get_or (g ∷ gs) n 0 ≡ 0 in subst P sum (run.1 k below),
+)
 
 pub run_without : (g : ℕ) (gs : List ℕ) (start count : ℕ) → IsZeroRun (g ∷ gs) (suc start) count → IsZeroRun gs start count
-run_without g gs start count run =
-    (let inside = run.0 in omega arith,
-    λ k below. let sum : suc start + k ≡ suc (start + k) = omega arith in let P : ℕ → Type 0 = λ n. get_or (g ∷ gs) n 0 ≡ 0 in subst P sum (run.1 k below))
+run_without g gs start count run = (
+  let inside = run.0 in omega arith,
+  λ k below. let sum : suc start + k ≡ suc (start + k) = omega arith in let P : ℕ → Type 0 = λ n. get_or (g ∷ gs) n 0 ≡ 0 in subst P sum (run.1 k below),
+)
 
 front_each : (g : ℕ) (gs : List ℕ) (n : ℕ) → g ≡ 0 → IsZeroRun gs 0 n → (k : ℕ) → k < suc n → get_or (g ∷ gs) (0 + k) 0 ≡ 0
 front_each g gs n is_zero run zero below = is_zero
@@ -25,9 +27,10 @@ front_more : (g : ℕ) (gs : List ℕ) (n : ℕ) → g ≡ 0 → IsZeroRun gs 0 
 front_more g gs n is_zero run = (let inside = run.0 in omega arith, front_each g gs n is_zero run)
 
 pub front_without : (g : ℕ) (gs : List ℕ) (n : ℕ) → IsZeroRun (g ∷ gs) 0 (suc n) → IsZeroRun gs 0 n
-front_without g gs n run =
-    (let inside = run.0 in omega arith,
-    λ k below. let sum : 0 + suc k ≡ suc (0 + k) = omega arith in let P : ℕ → Type 0 = λ m. get_or (g ∷ gs) m 0 ≡ 0 in subst P sum (run.1 (suc k) (omega arith)))
+front_without g gs n run = (
+  let inside = run.0 in omega arith,
+  λ k below. let sum : 0 + suc k ≡ suc (0 + k) = omega arith in let P : ℕ → Type 0 = λ m. get_or (g ∷ gs) m 0 ≡ 0 in subst P sum (run.1 (suc k) (omega arith)),
+)
 
 no_run : (gs : List ℕ) → IsZeroRun gs 0 0
 no_run gs = (omega arith, λ k below. absurd (omega arith))
@@ -57,23 +60,24 @@ front_most (g ∷ gs) (suc n) run =
 longer_is : (g : ℕ) (gs : List ℕ) (here : ℕ) (behind : Run) (b : Bool) → leb behind.count here ≡ b → IsZeroRun (g ∷ gs) 0 here → ((n : ℕ) → IsZeroRun (g ∷ gs) 0 n → n ≤ here) → IsLongestRun gs behind
     → IsLongestRun (g ∷ gs) (cond b (record { start = 0; count = here }) (record { start = suc behind.start; count = behind.count }))
 longer_is g gs here behind true test run most longest = record {
-    zeros = run;
-    longest = every;
-    first = λ start zeros. omega arith;
+  zeros = run;
+  longest = every;
+  first = λ start zeros. omega arith;
 }
   where
     every : (start count : ℕ) → IsZeroRun (g ∷ gs) start count → count ≤ here
     every zero count zeros = most count zeros
     every (suc start) count zeros = omega (arith, leb-true _ _ test, longest.longest start count (run_without g gs start count zeros))
 longer_is g gs here behind false test run most longest = record {
-    zeros = run_behind g gs behind.start behind.count longest.zeros;
-    longest = every;
-    first = first_of;
+  zeros = run_behind g gs behind.start behind.count longest.zeros;
+  longest = every;
+  first = first_of;
 }
   where
     every : (start count : ℕ) → IsZeroRun (g ∷ gs) start count → count ≤ behind.count
     every zero count zeros = omega (arith, leb-false _ _ test, most count zeros)
     every (suc start) count zeros = longest.longest start count (run_without g gs start count zeros)
+
     first_of : (start : ℕ) → IsZeroRun (g ∷ gs) start behind.count → suc behind.start ≤ start
     first_of zero zeros = absurd (omega (arith, leb-false _ _ test, most behind.count zeros))
     first_of (suc start) zeros = omega (arith, longest.first start (run_without g gs start behind.count zeros))
@@ -82,9 +86,9 @@ longer_is g gs here behind false test run most longest = record {
 pub longest_run_is : (gs : List ℕ) → IsLongestRun gs (longest_run gs)
 unfolding longest_run longer_run
 longest_run_is [] = record {
-    zeros = no_run [];
-    longest = λ start count zeros. let inside = zeros.0 in omega arith;
-    first = λ start zeros. omega arith;
+  zeros = no_run [];
+  longest = λ start count zeros. let inside = zeros.0 in omega arith;
+  first = λ start zeros. omega arith;
 }
 longest_run_is (g ∷ gs) =
     longer_is g gs (leading_zeros (g ∷ gs)) (longest_run gs) (leb (longest_run gs).count (leading_zeros (g ∷ gs))) refl (front_zeros (g ∷ gs)) (front_most (g ∷ gs)) (longest_run_is gs)

@@ -46,7 +46,7 @@ unfolding text_with_run address_text
 written_short a start count groups front back old one two three new is_groups is_run long is_front is_back empty is_one is_two is_three is_new =
     let before : one ≡ groups_text (take start groups) = is_one ∙ ap (λ t. t ++ groups_text front) empty ∙ ap groups_text is_front in
     let colons : three ≡ groups_text (take start groups) ++ (58 ∷ 58 ∷ []) =
-        is_three ∙ ap (λ t. t ++ 58 ∷ []) (is_two ∙ ap (λ t. t ++ 58 ∷ []) before) ∙ append_assoc (groups_text (take start groups)) (58 ∷ []) (58 ∷ []) in
+    is_three ∙ ap (λ t. t ++ 58 ∷ []) (is_two ∙ ap (λ t. t ++ 58 ∷ []) before) ∙ append_assoc (groups_text (take start groups)) (58 ∷ []) (58 ∷ []) in
     is_new ∙ ap (λ t. t ++ groups_text back) colons ∙ append_assoc (groups_text (take start groups)) (58 ∷ 58 ∷ []) (groups_text back)
     ∙ ap (λ t. groups_text (take start groups) ++ (58 ∷ 58 ∷ groups_text t)) is_back
     ∙ sym (cond-true _ _ _ (le-leb 2 count long))
