@@ -1,10 +1,10 @@
 -- the function that reads a prefix's text and the grammar as a relation say the same
-use Rattle.std.proofs.Common.{◌≡◌, ℕ, zero, suc, ◌+◌, ◌-◌, ◌*◌, ◌/◌, ◌%◌, ◌^◌, ◌<◌, ◌≤◌, ◌↔◌, ◌⊎◌, inl, inr, Bool, true, false, eqb, ltb, leb, cond, if◌then◌else◌, not, ◌&&◌, List, [], ◌∷◌, ◌++◌, length, get_or, take, drop, replicate, fold, Option, Some, None, sym, ◌∙◌, ap, subst, refl, arith, lit<, length-append}
-use Rattle.std.specs.Prelude.{option_map, option_and_then}
+use Rattle.std.proofs.Common.{◌≡◌, ℕ, suc, ◌+◌, ◌-◌, ◌*◌, ◌/◌, ◌%◌, ◌^◌, ◌<◌, ◌≤◌, ◌↔◌, inl, inr, Bool, true, false, eqb, ltb, leb, if◌then◌else◌, not, ◌&&◌, List, [], ◌∷◌, ◌++◌, length, get_or, take, drop, replicate, Option, Some, None, sym, ◌∙◌, ap, subst, refl, arith, lit<, length-append}
+use Rattle.std.specs.Prelude.{option_and_then}
 use Rattle.std.specs.Char.{digit_value, digit_char}
 use Rattle.std.specs.List.{join_with_byte, AllZip, All, position_or_len}
 use Rattle.std.specs.Str.Parse.{digits_value, AllDigits}
-use Rattle.std.proofs.lemmas.Bool.{and_parts, ltb-true, lt-ltb, le-ltb, leb-true, leb-false, eqb-true, eqb-false, false≢true, eq-eqb, ne_eqb, cond-true, cond-false, cases_lt, not-true, agree_below, agree_below_at}
+use Rattle.std.proofs.lemmas.Bool.{and_parts, lt-ltb, le-ltb, leb-true, eqb-true, eqb-false, false≢true, eq-eqb, ne_eqb, cond-true, cond-false, cases_lt, not-true, agree_below_at}
 use Rattle.std.proofs.lemmas.Int.Digits.{digits_value-lt}
 use Rattle.std.proofs.lemmas.List.{drop_all, length-replicate, get_or_append_left}
 use Rattle.std.proofs.lemmas.List.Elements.{All-nil, All-cons, All-append, All-replicate, All-head, All-tail, All-get_or}
@@ -15,11 +15,11 @@ use Rattle.std.proofs.lemmas.Str.{digit_value_digit}
 use Rattle.std.proofs.lemmas.Str.Parse.{digit_from_value}
 use Rattle.std.proofs.Math.Nat.{pow-le-pow_right}
 use Rattle.std.proofs.Math.Seq.{take-append_seam, drop-append-add, get_or-append_seam}
-use Rattle.v6_addr.specs.Address.{PrefixValue, IsPrefix}
+use Rattle.v6_addr.specs.Address.{PrefixValue}
 use Rattle.v6_addr.specs.Text.{number_of_text, number_of_groups, address_of_text, length_of_text, length_text, prefix_of_parts, prefix_of_text}
-use Rattle.v6_addr.specs.Grammar.{IsGroupText, IsGroupsText, IsFullText, IsShortenedText, IsAddressText, IsPrefixText}
+use Rattle.v6_addr.specs.Grammar.{IsGroupText, IsGroupsText, IsAddressText, IsPrefixText}
 use Rattle.v6_addr.proofs.GroupSums.{number_from as number_behind}
-use Rattle.v6_addr.proofs.GrammarLaws.{some_cond, some_then, number_is, address_text_is}
+use Rattle.v6_addr.proofs.GrammarLaws.{some_cond, number_is, address_text_is}
 
 -- ---- an address text's number is an address
 

@@ -1,10 +1,10 @@
 -- what is written is read back
-use Rattle.std.proofs.Common.{◌≡◌, ℕ, zero, suc, ◌+◌, ◌-◌, ◌*◌, ◌/◌, ◌%◌, ◌^◌, ◌<◌, ◌≤◌, ◌⊎◌, inl, inr, Bool, true, false, eqb, ltb, leb, cond, List, [], ◌∷◌, ◌++◌, length, get_or, take, drop, replicate, map, fold, Option, Some, None, sym, ◌∙◌, ap, subst, refl, arith, lit<, lit≤, append_assoc, length-drop, length-append, zero-add}
-use Rattle.std.specs.Char.{digit_value, digit_char}
-use Rattle.std.specs.List.{join_with_byte, AllZip, All, AllByRecursion}
+use Rattle.std.proofs.Common.{◌≡◌, ℕ, zero, suc, ◌+◌, ◌-◌, ◌*◌, ◌/◌, ◌%◌, ◌^◌, ◌<◌, ◌≤◌, inl, inr, Bool, true, false, leb, cond, List, [], ◌∷◌, ◌++◌, length, take, drop, replicate, map, fold, Some, sym, ◌∙◌, ap, subst, refl, arith, lit<, lit≤, length-drop, length-append, zero-add}
+use Rattle.std.specs.Char.{digit_char}
+use Rattle.std.specs.List.{AllZip, All, AllByRecursion}
 use Rattle.std.specs.Str.Parse.{digits_value, digits_value_after, AllDigits}
 use Rattle.std.specs.Int.Digits.{number_from_digits_after}
-use Rattle.std.proofs.lemmas.Bool.{cond-true, cond-false, lt-ltb, le-ltb, le-leb, lt-leb, leb-true, cases_lt}
+use Rattle.std.proofs.lemmas.Bool.{cond-true, cond-false, lt-ltb, le-ltb, leb-true, cases_lt}
 use Rattle.std.proofs.lemmas.List.{length-take-le}
 use Rattle.std.proofs.lemmas.List.Elements.{All-head, All-tail, All-take, All-drop, All-from_recursion}
 use Rattle.std.proofs.lemmas.Nat.{shr_split, shr-shr, mod_below}
@@ -13,7 +13,7 @@ use Rattle.std.proofs.Math.Pow.{shr_mod}
 use Rattle.std.proofs.Math.Nat.{div-one}
 use Rattle.v6_addr.specs.Address.{PrefixValue, IsPrefix, field_of}
 use Rattle.v6_addr.specs.Text.{Run, number_of_groups, groups_of, group_text, groups_text, longest_run, text_with_run, address_text, address_of_text, length_text, prefix_text, prefix_of_text}
-use Rattle.v6_addr.specs.Grammar.{IsGroupText, IsGroupsText, IsFullText, IsShortenedText, IsAddressText, IsZeroRun, IsLongestRun}
+use Rattle.v6_addr.specs.Grammar.{IsGroupText, IsGroupsText, IsAddressText, IsZeroRun}
 use Rattle.v6_addr.proofs.RunLaws.{run_without, front_without, longest_run_is}
 use Rattle.v6_addr.proofs.GrammarLaws.{address_text_is}
 use Rattle.v6_addr.proofs.PrefixGrammar.{prefix_text_is, length_text-1, length_text-2, length_text-3}

@@ -1,6 +1,6 @@
 -- the longest run, by the words of RFC 5952
-use Rattle.std.proofs.Common.{◌≡◌, ℕ, zero, suc, ◌+◌, ◌-◌, ◌<◌, ◌≤◌, Bool, true, false, eqb, leb, cond, List, [], ◌∷◌, length, get_or, sym, ◌∙◌, ap, subst, refl, arith}
-use Rattle.std.proofs.lemmas.Bool.{leb-true, leb-false, eqb-true, eq-eqb, cond-true, cond-false}
+use Rattle.std.proofs.Common.{◌≡◌, ℕ, zero, suc, ◌+◌, ◌<◌, ◌≤◌, Bool, true, false, eqb, leb, cond, List, [], ◌∷◌, get_or, subst, refl, arith}
+use Rattle.std.proofs.lemmas.Bool.{leb-true, leb-false, eqb-true, eq-eqb, cond-true}
 use Rattle.v6_addr.specs.Text.{Run, leading_zeros, longer_run, longest_run}
 use Rattle.v6_addr.specs.Grammar.{IsZeroRun, IsLongestRun}
 

@@ -1,7 +1,6 @@
 -- the longest run of groups that are 0
-use Rattle.std.proofs.Common.{◌≡◌, ℕ, zero, suc, ◌+◌, ◌-◌, ◌*◌, ◌<◌, ◌≤◌, Bool, true, false, eqb, ltb, leb, cond, List, [], ◌∷◌, ◌++◌, length, get_or, take, drop, sym, ◌∙◌, ap, subst, refl, arith, drop-cons, add-one}
+use Rattle.std.proofs.Common.{◌≡◌, ℕ, suc, ◌+◌, ◌-◌, ◌<◌, ◌≤◌, Bool, true, false, eqb, leb, cond, List, ◌∷◌, length, get_or, drop, sym, ◌∙◌, ap, subst, refl, arith, drop-cons, add-one}
 use Rattle.std.proofs.lemmas.List.{drop_all}
-use Rattle.std.proofs.lemmas.Bool.{cond-true, cond-false, eq-eqb, ne_eqb, le-leb, lt-leb}
 use Rattle.v6_addr.specs.Text.{Run, leading_zeros, longer_run, longest_run}
 
 -- what the groups from a place on have: how many zeros they begin with, and the longest run, by its place among all groups

@@ -1,11 +1,11 @@
 -- what the writers of texts stand on
-use Rattle.std.proofs.Common.{◌≡◌, ℕ, zero, suc, ◌+◌, ◌-◌, ◌*◌, ◌/◌, ◌%◌, ◌^◌, ◌<◌, ◌≤◌, Bool, true, false, leb, ltb, cond, List, [], ◌∷◌, ◌++◌, length, take, drop, map, sym, ◌∙◌, ap, subst, refl, arith, append_assoc}
+use Rattle.std.proofs.Common.{◌≡◌, ℕ, ◌+◌, ◌<◌, ◌≤◌, List, [], ◌∷◌, ◌++◌, length, take, drop, sym, ◌∙◌, ap, arith, append_assoc}
 use Rattle.std.specs.Prelude.{flat_map}
 use Rattle.std.proofs.lemmas.List.{append-nil}
 use Rattle.std.proofs.lemmas.List.Concat.{flat_map-cons}
-use Rattle.std.proofs.lemmas.Bool.{cond-true, cond-false, le-leb, lt-leb, lt-ltb, le-ltb}
+use Rattle.std.proofs.lemmas.Bool.{cond-true, cond-false, le-leb, lt-leb}
 use Rattle.v6_addr.specs.Address.{PrefixValue}
-use Rattle.v6_addr.specs.Text.{Run, groups_of, group_text, groups_text, longest_run, text_with_run, address_text, length_text, prefix_text}
+use Rattle.v6_addr.specs.Text.{groups_of, group_text, groups_text, longest_run, text_with_run, address_text, length_text, prefix_text}
 
 -- a colon and a group
 abbrev pub behind_colon : ℕ → List ℕ
