@@ -1,4 +1,3 @@
-pub mod Examples
 pub mod Fields
 pub mod GrammarLaws
 pub mod GroupSums

@@ -1,6 +1,6 @@
 ghost use Rattle.std.specs.Prelude.{◌≡◌, ℕ, ◌+◌, ◌-◌, ◌*◌, ◌^◌, ◌<◌, ◌≤◌, ◌↔◌, IsTrue, List, Some, length};
 ghost use Rattle.v6_addr.specs.Address.{PrefixValue, IsPrefix, Holds, holds_address, IsInside, is_inside, field_of, with_field_of};
-ghost use Rattle.v6_addr.specs.Text.{address_of_text, prefix_of_text, address_text, prefix_text, groups_of, longest_run};
+ghost use Rattle.v6_addr.specs.Text.{address_of_text, prefix_of_text, address_text, prefix_text, longest_run};
 ghost use Rattle.v6_addr.specs.Grammar.{IsAddressText, IsPrefixText, IsLongestRun};
 
 /// A law: an address's text is read exactly where the grammar of RFC 4291 section 2.2 has it, and so as one address
