@@ -1,0 +1,2 @@
+//! Comes soon.
+#![tactic(auto)]

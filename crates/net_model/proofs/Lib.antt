@@ -1,0 +1,9 @@
+pub mod ListLemmas
+pub mod TitleLemmas
+pub mod KeepsLemmas
+pub mod NamedLemmas
+pub mod BestLemmas
+pub mod EntryLemmas
+pub mod IsBestLemmas
+pub mod FlatLemmas
+pub mod AlikeLemmas

@@ -1,0 +1,4 @@
+pub mod Packet
+pub mod Srh
+pub mod Chain
+pub mod Endpoint

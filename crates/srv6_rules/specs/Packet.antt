@@ -1,0 +1,118 @@
+-- IPv6 packets as values, their one spelling, and how bytes are read (RFC 8200 section 3).
+use Rattle.std.specs.Prelude.{◌≡◌, ℕ, ◌+◌, ◌*◌, ◌/◌, ◌%◌, ◌^◌, ◌<◌, ◌==◌, nat_lt, if◌then◌else◌, List, ◌∷◌, ◌++◌, length, take, drop, slice_index, All}
+use Rattle.byteorder.specs.Endian.{big_number, big_bytes}
+use Rattle.srv6_rules.specs.declared.sid.Reason.{Reason}
+use Rattle.srv6_rules.specs.declared.sid.Reason.TheVariants.{Truncated, BadVersion}
+
+-- a packet: the fields of its IPv6 header but for the version and the payload length, and the bytes after that header
+pub record Packet : Type 0 where
+  pub traffic_class : ℕ
+  pub flow_label : ℕ
+  pub next_header : ℕ
+  pub hop_limit : ℕ
+  pub source : ℕ
+  pub destination : ℕ
+  pub payload : List ℕ
+
+-- what a node holds: a packet, or bytes that do not read as one and why
+pub data Content : Type 0 where
+  V6 : Packet → Content
+  Unreadable : List ℕ → Reason → Content
+
+-- the IPv6 header's length in bytes
+abbrev pub header_len : ℕ
+header_len = 40
+
+-- the longest packet in bytes: a header and the greatest payload length
+abbrev pub most_len : ℕ
+most_len = 65575
+
+-- the 2, 4 or 16 bytes of a number, the highest first
+unfoldable pub two_bytes : ℕ → List ℕ
+two_bytes n = big_bytes 2 n
+
+unfoldable pub four_bytes : ℕ → List ℕ
+four_bytes n = big_bytes 4 n
+
+unfoldable pub address_bytes : ℕ → List ℕ
+address_bytes a = big_bytes 16 a
+
+-- the number in the first 2, 4 or 16 bytes, the highest first
+unfoldable pub two_number : List ℕ → ℕ
+two_number bytes = big_number 2 bytes
+
+unfoldable pub four_number : List ℕ → ℕ
+four_number bytes = big_number 4 bytes
+
+unfoldable pub address_number : List ℕ → ℕ
+address_number bytes = big_number 16 bytes
+
+-- version 6, traffic class and flow label, in 4, 8 and 20 bits
+unfoldable pub first_word : ℕ → ℕ → ℕ
+first_word traffic_class flow_label = 6 * 2 ^ 28 + traffic_class * 2 ^ 20 + flow_label
+
+-- the header of a packet whose payload has this length
+unfoldable pub header_spelling : Packet → List ℕ
+header_spelling p =
+    four_bytes (first_word p.traffic_class p.flow_label) ++ (two_bytes (length p.payload) ++ (p.next_header ∷ p.hop_limit ∷ (address_bytes p.source ++ address_bytes p.destination)))
+
+-- the one spelling of a packet
+abbrev pub spelling : Packet → List ℕ
+spelling p = header_spelling p ++ p.payload
+
+-- the packets that bytes can spell: each field fits its width
+pub record IsSpellable (p : Packet) : Type 0 where
+  pub traffic_class : p.traffic_class < 2 ^ 8
+  pub flow_label : p.flow_label < 2 ^ 20
+  pub next_header : p.next_header < 2 ^ 8
+  pub hop_limit : p.hop_limit < 2 ^ 8
+  pub source : p.source < 2 ^ 128
+  pub destination : p.destination < 2 ^ 128
+  pub payload_len : length p.payload < 2 ^ 16
+  pub payload : All (λ b. b < 2 ^ 8) p.payload
+
+-- the bytes spell the packet: nothing stands behind its end
+abbrev pub Spells : List ℕ → Packet → Type 0
+Spells bytes p = IsSpellable p × (bytes ≡ spelling p)
+
+-- the payload length that a header of at least 40 bytes states
+unfoldable pub stated_len : List ℕ → ℕ
+stated_len bytes = two_number (drop 4 bytes)
+
+-- the packet whose header these at least 40 bytes begin with; what stands behind its end is cut
+unfoldable pub packet_at : List ℕ → Packet
+packet_at bytes =
+    let word = four_number bytes in
+    record {
+      traffic_class = word / 2 ^ 20 % 2 ^ 8;
+      flow_label = word % 2 ^ 20;
+      next_header = slice_index bytes 6;
+      hop_limit = slice_index bytes 7;
+      source = address_number (drop 8 bytes);
+      destination = address_number (drop 24 bytes);
+      payload = take (stated_len bytes) (drop 40 bytes);
+    }
+
+-- how bytes read as IPv6: the version is judged before the lengths where there is a byte
+abbrev pub content_of : List ℕ → Content
+content_of bytes =
+    if length bytes == 0 then Unreadable bytes Truncated
+    else if (slice_index bytes 0 / 16) == 6
+    then (if nat_lt (length bytes) 40 then Unreadable bytes Truncated
+    else if nat_lt (length bytes) (40 + stated_len bytes) then Unreadable bytes Truncated
+    else V6 (packet_at bytes))
+    else Unreadable bytes BadVersion
+
+-- what enters a node: of bytes that do not read at most a longest packet's length is kept (own rule)
+abbrev pub entered : List ℕ → Content
+entered bytes = content_of (take most_len bytes)
+
+-- the bytes of a content
+abbrev pub bytes_of : Content → List ℕ
+bytes_of (V6 p) = spelling p
+bytes_of (Unreadable bytes reason) = bytes
+
+-- a content that bytes can spell
+abbrev pub IsContent : Content → Type 0
+IsContent (V6 p) = IsSpellable p
+IsContent (Unreadable bytes reason) = All (λ b. b < 2 ^ 8) bytes

@@ -1,0 +1,97 @@
+//! SIDs and their behaviours, sets of links, and the reasons for which a node drops a packet.
+
+ghost use Rattle.std.specs.Prelude.{◌≡◌, length};
+
+use std::marker::Model;
+use v6_addr::Prefix;
+
+/// The family of a packet.
+#[derive(Clone, Copy, Debug, PartialEq, Eq)]
+pub enum Family {
+    /// IPv6 (RFC 8200).
+    V6,
+}
+
+/// What a SID does with a packet (RFC 8986 section 4).
+#[derive(Clone, Copy, Debug, PartialEq, Eq)]
+pub enum Behaviour {
+    /// End: the next segment, looked up in table 0 (RFC 8986 section 4.1).
+    End,
+    /// End.X: the next segment, over the SID's own links (RFC 8986 section 4.2).
+    EndX,
+    /// End.DT6: decapsulation, and a look-up of the inner packet in a table (RFC 8986 section 4.6).
+    Dt6 {
+        /// The table's number.
+        table: u32,
+    },
+}
+
+/// Why a node dropped a packet.
+#[derive(Clone, Copy, Debug, PartialEq, Eq)]
+pub enum Reason {
+    /// Fewer bytes than the header and its payload length say.
+    Truncated,
+    /// The first half byte is not the family's version.
+    BadVersion,
+    /// The destination is multicast.
+    Multicast,
+    /// Nothing in the table holds the destination.
+    NoRoute,
+    /// The hop limit is at most 1 and would have to be lowered.
+    HopLimit,
+    /// An extension header is cut.
+    BadChain,
+    /// Segments Left or Last Entry is out of range.
+    BadSegments,
+    /// A routing header with segments left, at the node's own address.
+    UnknownRouting,
+    /// An upper layer that the node does not allow at a SID.
+    UpperLayer,
+    /// A form that is not built yet.
+    NotBuilt,
+}
+
+/// A set of equal next hops, as numbers of links in the order of the description.
+#[derive(Debug, Drop)]
+pub struct LinkSet {
+    links: Vec<u32>,
+}
+
+impl Model for LinkSet {
+    ghost use Rattle.std.specs.Prelude.{List, ℕ};
+
+    ghost Value = { List ℕ };
+
+    ghost view = { λ s. s.links.items };
+}
+
+impl LinkSet {
+    /// The set with these links, in this order.
+    pub fn new(links: Vec<u32>) -> LinkSet
+        ensures { result ≡ links.items }
+    {
+        LinkSet { links }
+    }
+
+    /// The links, in order.
+    pub fn as_slice(&self) -> &[u32]
+        ensures { result.now ≡ self.now }
+    {
+        self.links.as_slice()
+    }
+}
+
+/// A SID: a prefix that a node has, and what is done with packets that come to it.
+#[derive(Debug, Drop)]
+pub struct SidEntry {
+    /// The node's number.
+    pub node: u32,
+    /// The SID: packets to addresses in it come to it.
+    pub prefix: Prefix,
+    /// What it does.
+    pub behaviour: Behaviour,
+    /// The number of its title; a SID with a title is a function.
+    pub title: Option<u32>,
+    /// The links of an End.X, none of others.
+    pub links: LinkSet,
+}

@@ -1,0 +1,123 @@
+-- Walks: stages that follow one another, what they send, and how they end.
+use Rattle.std.specs.Prelude.{◌≡◌, ℕ, zero, suc, ◌+◌, ◌%◌, ◌<◌, ◌≤◌, List, [], ◌∷◌, length, slice_index, slice_get, Option, Some, None}
+use Rattle.srv6_rules.specs.Packet.{Content}
+use Rattle.net_model.specs.declared.parts.Link.{Link}
+use Rattle.net_model.specs.Network.{Network}
+use Rattle.walk_rules.specs.declared.place.How.TheVariants.{Arrived}
+use Rattle.walk_rules.specs.declared.place.Place.{Place}
+use Rattle.walk_rules.specs.declared.place.Outcome.{Outcome}
+use Rattle.walk_rules.specs.declared.place.Outcome.TheVariants as outcomes
+use Rattle.walk_rules.specs.declared.place.Ended.{Ended}
+use Rattle.walk_rules.specs.declared.place.Ended.TheVariants as ends
+use Rattle.walk_rules.specs.Treatment.{Gave, step_of}
+
+-- the node where a link ends
+abbrev pub far_end : Option Link → Option ℕ
+far_end None = None
+far_end (Some l) = l.to
+
+-- a packet that comes over a link has arrived, and is looked up in table 0
+abbrev pub arrival : Option ℕ → Place → Option Place
+arrival None place = None
+arrival (Some node) place = Some (record { node = node; how = Arrived 0; family = place.family })
+
+-- where the packet stands after an outcome, if the walk goes on
+abbrev pub next_place : Network → Place → Outcome → Option Place
+next_place net place (outcomes.Again sid how) = Some (record { node = place.node; how = how; family = place.family })
+next_place net place (outcomes.Hand sid how family) = Some (record { node = place.node; how = how; family = family })
+next_place net place (outcomes.Send link) = arrival (far_end (slice_get net.links link)) place
+next_place net place outcomes.Local = None
+next_place net place (outcomes.Drop reason) = None
+
+-- the decisions that an outcome takes: a Send is one
+abbrev pub decisions : Outcome → ℕ
+decisions (outcomes.Again sid how) = 0
+decisions (outcomes.Hand sid how family) = 0
+decisions (outcomes.Send link) = 1
+decisions outcomes.Local = 0
+decisions (outcomes.Drop reason) = 0
+
+-- a stage of a walk: where the packet stood, what stood there, and what the stage gave
+pub record Step : Type 0 where
+  pub place : Place
+  pub before : Content
+  pub gave : Gave
+
+-- the stage at a place, under a choice
+abbrev pub stage_of : Network → Place → Content → ℕ → Step
+stage_of net place content choice = record { place = place; before = content; gave = step_of net place content choice }
+
+-- at most so many stages from a place, if there is one, where pick gives the choice of each decision, and `taken`
+-- decisions were taken before
+unfoldable pub walk_of : ℕ → Network → Option Place → Content → (ℕ → ℕ) → ℕ → List Step
+walk_of zero net place content pick taken = []
+walk_of (suc more) net None content pick taken = []
+walk_of (suc more) net (Some place) content pick taken =
+    let gave = step_of net place content (pick taken) in
+    record { place = place; before = content; gave = gave }
+    ∷ walk_of more net (next_place net place gave.outcome) gave.after pick (taken + decisions gave.outcome)
+
+-- at most so many stages after a stage
+abbrev pub walk_on : ℕ → Network → Step → (ℕ → ℕ) → ℕ → List Step
+walk_on more net s pick taken = walk_of more net (next_place net s.place s.gave.outcome) s.gave.after pick (taken + decisions s.gave.outcome)
+
+-- a list of choices, which begins anew at its end
+abbrev pub choice_at : List ℕ → ℕ → ℕ
+choice_at choices d = slice_index choices (d % length choices)
+
+abbrev pub left_or_stages : ℕ → Option ℕ → Ended
+left_or_stages link None = ends.Left link
+left_or_stages link (Some node) = ends.Stages
+
+-- how a walk ended whose last stage this was; a stage after which the packet could go on was the last one allowed
+abbrev pub end_by : Network → Place → Outcome → Ended
+end_by net place (outcomes.Again sid how) = ends.Stages
+end_by net place (outcomes.Hand sid how family) = ends.Stages
+end_by net place (outcomes.Send link) = left_or_stages link (far_end (slice_get net.links link))
+end_by net place outcomes.Local = ends.Delivered place.node
+end_by net place (outcomes.Drop reason) = ends.Dropped place.node reason
+
+abbrev pub end_of : Network → List Step → Ended
+end_of net [] = ends.Stages
+end_of net (s ∷ []) = end_by net s.place s.gave.outcome
+end_of net (s ∷ t ∷ more) = end_of net (t ∷ more)
+
+-- where the packet stands after stages, if it goes on; what stands there; and the decisions taken by then
+abbrev pub place_after : Network → Option Place → List Step → Option Place
+place_after net place [] = place
+place_after net place (s ∷ more) = place_after net (next_place net s.place s.gave.outcome) more
+
+abbrev pub content_after : Content → List Step → Content
+content_after content [] = content
+content_after content (s ∷ more) = content_after s.gave.after more
+
+abbrev pub taken_after : ℕ → List Step → ℕ
+taken_after taken [] = taken
+taken_after taken (s ∷ more) = taken_after (taken + decisions s.gave.outcome) more
+
+-- a stage gives what the choice makes of its place and of what stood there
+abbrev pub IsStageOf : Network → ℕ → Step → Type 0
+IsStageOf net choice s = s.gave ≡ step_of net s.place s.before choice
+
+-- the second stage is where the first goes on, and has what it left
+abbrev pub ComesNext : Network → Step → Step → Type 0
+ComesNext net s t = (next_place net s.place s.gave.outcome ≡ Some t.place) × (t.before ≡ s.gave.after)
+
+-- stages that follow one another, where pick gives the choice of each decision, and `taken` decisions were taken before
+abbrev pub Follows : Network → (ℕ → ℕ) → ℕ → List Step → Type 0
+Follows net pick taken [] = Unit {0}
+Follows net pick taken (s ∷ []) = IsStageOf net (pick taken) s
+Follows net pick taken (s ∷ t ∷ more) =
+    IsStageOf net (pick taken) s × ComesNext net s t × Follows net pick (taken + decisions s.gave.outcome) (t ∷ more)
+
+-- the first stage, if there is one, is at this place, and has this content
+abbrev pub BeginsAt : Option Place → Content → List Step → Type 0
+BeginsAt place content [] = Unit {0}
+BeginsAt place content (s ∷ more) = (place ≡ Some s.place) × (s.before ≡ content)
+
+-- a walk: stages that begin there and follow one another, so many at most, and fewer only where they ended
+pub record IsWalk (fuel : ℕ) (net : Network) (place : Option Place) (content : Content) (pick : ℕ → ℕ) (taken : ℕ) (steps : List Step) : Type 0 where
+  pub begins : BeginsAt place content steps
+  pub follows : Follows net pick taken steps
+  pub at_most : length steps ≤ fuel
+  pub ended : length steps < fuel → place_after net place steps ≡ None
