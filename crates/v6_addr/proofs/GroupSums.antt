@@ -45,7 +45,7 @@ no_groups_yet groups = record { same = refl; bound = lit< tt }
 -- ---- two lists of groups, one behind the other
 
 -- groups behind a number
-number_from : (n : ℕ) (groups : List ℕ) → fold (λ m g. m * 2 ^ 16 + g) n groups ≡ n * 2 ^ (16 * length groups) + fold (λ m g. m * 2 ^ 16 + g) 0 groups
+pub number_from : (n : ℕ) (groups : List ℕ) → fold (λ m g. m * 2 ^ 16 + g) n groups ≡ n * 2 ^ (16 * length groups) + fold (λ m g. m * 2 ^ 16 + g) 0 groups
 number_from n [] = omega arith
 number_from n (g ∷ groups) =
     let sum : 16 * suc (length groups) ≡ 16 + 16 * length groups = omega arith in
@@ -145,7 +145,8 @@ unfolding address_of_parts
 shortened_right_refused text right gap is_right many =
     right_refused (groups_of_text (take gap text)) (groups_of_text (drop (gap + 2) text)) (let P : List ℕ → Type 0 = λ t. TooMany (groups_of_text t) in subst P is_right many)
 
-shortened_parts : (text left right ls rs : List ℕ) (gap : ℕ) → left ≡ take gap text → right ≡ drop (gap + 2) text → groups_of_text left ≡ Some ls → groups_of_text right ≡ Some rs
+-- the address round `::`
+pub shortened_parts : (text left right ls rs : List ℕ) (gap : ℕ) → left ≡ take gap text → right ≡ drop (gap + 2) text → groups_of_text left ≡ Some ls → groups_of_text right ≡ Some rs
     → address_of_parts text (Some gap) ≡ shortened_address ls rs
 unfolding address_of_parts
 shortened_parts text left right ls rs gap is_left is_right read_left read_right =
