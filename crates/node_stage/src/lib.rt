@@ -1,2 +1,21 @@
-//! Comes soon.
+//! One node's treatment of one packet, in place.
+//!
+//! A `Content` is what a node holds: a packet, or bytes that do not read as one. `stage` is what a
+//! node does with it at a place under a choice among equal next hops; it takes no memory.
 #![tactic(auto)]
+
+mod chain;
+mod content;
+mod endpoint;
+mod next;
+mod numbers;
+mod packet;
+mod reading;
+mod spelling;
+mod treatment;
+mod way;
+
+pub use content::Content;
+pub use next::{ended_by, next_place};
+pub use packet::Packet;
+pub use treatment::stage;

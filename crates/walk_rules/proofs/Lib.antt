@@ -1,1 +1,9 @@
 pub mod Walks
+pub mod Stages
+pub mod Choices
+pub mod Lookups
+pub mod Executions
+pub mod Places
+pub mod Ends
+pub mod Contents
+pub mod Picks
