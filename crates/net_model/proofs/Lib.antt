@@ -1,1 +1,5 @@
+pub mod ListLemmas
 pub mod TitleLemmas
+pub mod KeepsLemmas
+pub mod NamedLemmas
+pub mod BestLemmas

@@ -2,3 +2,6 @@ pub mod Network
 pub mod Rules
 pub mod Best
 pub mod Titles
+pub mod Keeps
+pub mod Named
+pub mod Found

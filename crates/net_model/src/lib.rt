@@ -2,6 +2,8 @@
 //! description, and which entry of a node's table fits an address best.
 #![tactic(auto)]
 
+mod lookup;
+mod named;
 mod net;
 mod parts;
 mod rules;

@@ -1,1 +1,6 @@
 pub mod Walks
+pub mod Stages
+pub mod Choices
+pub mod Lookups
+pub mod Executions
+pub mod Places
