@@ -61,3 +61,11 @@ route_scan_more a node table n r more found next e =
 
 pub scan_end : (o : Option Entry) → longer o None ≡ o
 scan_end o = longer_none o
+
+-- three scans in a row
+pub three_scans : (a : ℕ) (xs ys zs : List Entry) (o p q : Option Entry) → o ≡ longest a xs → p ≡ longer o (longest a ys) → q ≡ longer p (longest a zs) → q ≡ longest a (xs ++ (ys ++ zs))
+three_scans a xs ys zs o p q is_o is_p is_q =
+    is_q ∙ ap (λ b. longer b (longest a zs)) (is_p ∙ ap (λ b. longer b (longest a ys)) is_o)
+    ∙ longer_assoc (longest a xs) (longest a ys) (longest a zs)
+    ∙ ap (longer (longest a xs)) (sym (longest-append a ys zs))
+    ∙ sym (longest-append a xs (ys ++ zs))

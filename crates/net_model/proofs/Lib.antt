@@ -3,3 +3,5 @@ pub mod TitleLemmas
 pub mod KeepsLemmas
 pub mod NamedLemmas
 pub mod BestLemmas
+pub mod EntryLemmas
+pub mod IsBestLemmas

@@ -5,3 +5,4 @@ pub mod Titles
 pub mod Keeps
 pub mod Named
 pub mod Found
+pub mod Entries

@@ -1,11 +1,12 @@
 //! The look-up of an address: a scan of the entries of a node's table.
 
 ghost use Rattle.std.specs.Prelude.{◌≡◌, ℕ, ◌≤◌, ◌<◌, ◌^◌, ◌∷◌, [], length};
-ghost use Rattle.net_model.specs.Best.{longer, longest, sid_entries, route_entries};
+ghost use Rattle.net_model.specs.Network.{network_of};
+ghost use Rattle.net_model.specs.Best.{longer, longest, sid_entries, route_entries, address_entries, entries_of, lookup_of};
 ghost use Rattle.net_model.specs.Found.{seen, held};
 
 use crate::net::Hit;
-use crate::parts::Route;
+use crate::parts::{NetParts, Node, Route};
 use srv6_rules::SidEntry;
 use v6_addr::{Addr, Prefix};
 
@@ -120,4 +121,53 @@ fn with_routes(
         rest = more;
     }
     found
+}
+
+/// The best after a node's own address.
+fn with_address(best: Option<Found>, node: &Node, a: Addr) -> Option<Found>
+    ensures { seen result ≡ longer (seen best) (longest a.value (address_entries (Some node.now))) }
+{
+    let prefix = whole(node.address);
+    with_entry(best, Found { hit: Hit::Address, prefix }, a)
+}
+
+/// The best of the entries of a node's table 0.
+fn best_of_first(parts: &NetParts, node: u32, a: Addr) -> Option<Found>
+    requires there { node < length parts.now.nodes.items }
+    requires sids { length parts.now.sids.items < 2 ^ 32 }
+    requires routes { length parts.now.routes.items < 2 ^ 32 }
+    ensures { seen result ≡ longest a.value (entries_of (network_of parts.now) node 0) }
+{
+    let by_sid = with_sids(None, &parts.sids, node, a);
+    let own = &parts.nodes[node as usize];
+    let by_address = with_address(by_sid, own, a);
+    with_routes(by_address, &parts.routes, node, 0, a)
+}
+
+/// The best of the entries of a node's table.
+fn best_of(parts: &NetParts, node: u32, table: u32, a: Addr) -> Option<Found>
+    requires there { node < length parts.now.nodes.items }
+    requires sids { length parts.now.sids.items < 2 ^ 32 }
+    requires routes { length parts.now.routes.items < 2 ^ 32 }
+    ensures { seen result ≡ longest a.value (entries_of (network_of parts.now) node table) }
+{
+    if table == 0 {
+        best_of_first(parts, node, a)
+    } else {
+        with_routes(None, &parts.routes, node, table, a)
+    }
+}
+
+/// The look-up of an address in a node's table.
+#[tactic(auto, unfolding(crate::specs::Best::lookup_of))]
+pub(crate) fn lookup_in(parts: &NetParts, node: u32, table: u32, a: Addr) -> Hit
+    requires there { node < length parts.now.nodes.items }
+    requires sids { length parts.now.sids.items < 2 ^ 32 }
+    requires routes { length parts.now.routes.items < 2 ^ 32 }
+    ensures { result ≡ lookup_of (network_of parts.now) node table a.value }
+{
+    match best_of(parts, node, table, a) {
+        None => Hit::Nothing,
+        Some(found) => found.hit,
+    }
 }

@@ -1,10 +1,12 @@
 //! The network that keeps the rules, and the look-up of an address.
 
+use crate::lookup::lookup_in;
 use crate::named::{place_of_link, place_of_node};
 use crate::parts::{Link, Name, NetParts, Node, Route};
 use crate::rules::is_network;
 use srv6_rules::SidEntry;
 use std::marker::Model;
+use v6_addr::Addr;
 
 /// The entry of a node's table that fits an address best.
 #[derive(Clone, Copy, Debug, PartialEq, Eq)]
@@ -41,6 +43,7 @@ impl Net {
     ghost use Rattle.net_model.specs.Network.{network_of};
     ghost use Rattle.net_model.specs.Rules.{IsNetwork, is_network};
     ghost use Rattle.net_model.specs.Keeps.{Keeps};
+    ghost use Rattle.net_model.specs.Best.{IsBest, lookup_of};
     ghost use Rattle.net_model.specs.Named.{node_numbered, link_numbered, IsNodeNumbered, IsLinkNumbered};
 
     /// The network with these parts; `None` exactly where they break a rule of descriptions (own rules).
@@ -135,6 +138,18 @@ impl Net {
             Some(n) => Some(n as u32),
             None => None,
         }
+    }
+
+    /// What in a node's table fits an address best: the longest of the entries that hold it, and of equally long
+    /// ones a SID before the node's address before a route. Table 0 has the node's SIDs, its address and its
+    /// routes, other tables have routes alone (own rule).
+    pub fn lookup(&self, node: u32, table: u32, a: Addr) -> Hit
+        requires { node < length self.now.nodes }
+        ensures value { result ≡ lookup_of self.now node table a.value }
+        ensures best { IsBest self.now node table a.value result }
+    {
+        self.keeps_rules();
+        lookup_in(&self.parts, node, table, a)
     }
 
     /// The link with a number, counted from 0.
