@@ -1,6 +1,6 @@
 -- The network that the TOML tree of a description gives (own rules): nodes, links, routes and SIDs
 -- are arrays of tables, each of which may be absent, and items name one another by their names.
-use Rattle.std.specs.Prelude.{ℕ, ◌+◌, Bool, false, ◌&&◌, if◌then◌else◌, List, [], ◌∷◌, Option, Some, None, bytes_eq, codes, option_map, position, filter_map}
+use Rattle.std.specs.Prelude.{ℕ, ◌+◌, Bool, false, ◌&&◌, if◌then◌else◌, List, [], ◌∷◌, Option, Some, None, bytes_eq, codes, option_map, filter_map}
 use Rattle.toml.specs.Data.{Data, Members, get_member, as_str}
 use Rattle.v6_addr.specs.Address.{PrefixValue}
 use Rattle.v6_addr.specs.Text.{address_of_text, prefix_of_text}
@@ -10,6 +10,7 @@ use Rattle.srv6_rules.specs.declared.sid.Behaviour.TheVariants.{End, EndX, Dt6}
 use Rattle.net_model.specs.declared.parts.Node.{Node}
 use Rattle.net_model.specs.declared.parts.Link.{Link}
 use Rattle.net_model.specs.declared.parts.Route.{Route}
+use Rattle.net_model.specs.Named.{node_numbered, link_numbered}
 use Rattle.net_model.specs.Network.{Network}
 use Rattle.net_model.specs.Rules.{is_network}
 use Rattle.net_reader.specs.declared.described.DescribedSid.{DescribedSid}
@@ -46,14 +47,11 @@ node_of d = do
   allow ← each_at (number_at_most 255) (codes "allow") t
   Some (record { name = name; address = record { value = address }; allow = allow })
 
--- the number of the first node of a name
-abbrev pub node_named : List Node → List ℕ → Option ℕ
-node_named nodes name = position (λ n. bytes_eq n.name name) nodes
-
+-- the number of the node that a text names
 abbrev pub node_in : List Node → Data → Option ℕ
 node_in nodes d = do
   name ← as_str d
-  node_named nodes name
+  node_numbered name nodes
 
 -- links
 
@@ -69,14 +67,11 @@ link_of nodes d = do
   to ← optional (λ end. option_map Some (node_in nodes end)) None (codes "to") t
   Some (record { name = name; from = from; to = to })
 
--- the number of the first link of a name
-abbrev pub link_named : List Link → List ℕ → Option ℕ
-link_named links name = position (λ l. bytes_eq l.name name) links
-
+-- the number of the link that a text names
 abbrev pub link_in : List Link → Data → Option ℕ
 link_in links d = do
   name ← as_str d
-  link_named links name
+  link_numbered name links
 
 abbrev pub links_in : List Link → Data → Option (List ℕ)
 links_in links = array_of (link_in links)

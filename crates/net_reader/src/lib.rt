@@ -17,3 +17,6 @@ mod tree;
 
 pub use fault::NetFault;
 pub use read::read_net;
+
+#[cfg(test)]
+mod tests;

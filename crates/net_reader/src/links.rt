@@ -2,8 +2,9 @@
 
 ghost use Rattle.std.specs.Prelude.{◌≡◌, ◌<◌, ◌^◌, IfOk, IfSome, option_map, length, codes, Some, None};
 ghost use Rattle.toml.specs.View.{view, table_view, items_view};
+ghost use Rattle.net_model.specs.Named.{link_numbered};
 ghost use Rattle.net_reader.specs.Tree.{needed, optional, each_of, each_at};
-ghost use Rattle.net_reader.specs.Description.{link_of, link_named, link_in, links_in, node_in};
+ghost use Rattle.net_reader.specs.Description.{link_of, link_in, links_in, node_in};
 
 use crate::nodes::{node_at, node_in};
 use crate::tree::{array_at, at, items_of, table_with, text_at};
@@ -87,7 +88,7 @@ pub(crate) fn links(
 
 /// The place of the first link of a name.
 fn place_of_link(links: &[Link], name: &[u8]) -> Option<usize>
-    ensures value { result ≡ link_named links.now name.now }
+    ensures value { result ≡ link_numbered name.now links.now }
     ensures within { IfSome result (λ i. i < length links.now) }
 {
     links.iter().position(|l| l.name.as_bytes() == name)
@@ -96,7 +97,7 @@ fn place_of_link(links: &[Link], name: &[u8]) -> Option<usize>
 /// The number of the first link of a name.
 fn link_named(links: &[Link], name: &[u8]) -> Option<u32>
     requires { length links.now < 2 ^ 32 }
-    ensures { result ≡ link_named links.now name.now }
+    ensures { result ≡ link_numbered name.now links.now }
 {
     match place_of_link(links, name) {
         Some(place) => Some(place as u32),

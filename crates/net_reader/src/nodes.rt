@@ -2,8 +2,9 @@
 
 ghost use Rattle.std.specs.Prelude.{◌≡◌, ◌<◌, ◌^◌, IfOk, IfSome, option_map, length, codes};
 ghost use Rattle.toml.specs.View.{view, table_view, items_view};
+ghost use Rattle.net_model.specs.Named.{node_numbered};
 ghost use Rattle.net_reader.specs.Tree.{needed, each_of, each_at, number_at_most};
-ghost use Rattle.net_reader.specs.Description.{node_of, node_named, node_in};
+ghost use Rattle.net_reader.specs.Description.{node_of, node_in};
 
 use crate::texts::address_at;
 use crate::tree::{array_at, at, bytes, table_with, text_at};
@@ -71,7 +72,7 @@ pub(crate) fn nodes(alloc: Global, root: &Table) -> Result<Option<Vec<Node>>, Al
 
 /// The place of the first node of a name.
 fn place_of_node(nodes: &[Node], name: &[u8]) -> Option<usize>
-    ensures value { result ≡ node_named nodes.now name.now }
+    ensures value { result ≡ node_numbered name.now nodes.now }
     ensures within { IfSome result (λ i. i < length nodes.now) }
 {
     nodes.iter().position(|n| n.name.as_bytes() == name)
@@ -80,7 +81,7 @@ fn place_of_node(nodes: &[Node], name: &[u8]) -> Option<usize>
 /// The number of the first node of a name.
 fn node_named(nodes: &[Node], name: &[u8]) -> Option<u32>
     requires { length nodes.now < 2 ^ 32 }
-    ensures { result ≡ node_named nodes.now name.now }
+    ensures { result ≡ node_numbered name.now nodes.now }
 {
     match place_of_node(nodes, name) {
         Some(place) => Some(place as u32),
