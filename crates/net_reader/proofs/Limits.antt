@@ -69,21 +69,21 @@ pub with_too_many_sids : (nodes : List Node) (links : List Link) (root : Members
 with_too_many_sids nodes links root sids given many =
     let over : 4096 < length (numbered 0 sids) = omega (arith, length-numbered 0 sids) in
     let none : network_with nodes links root ≡ None =
-        rw given (none_after (each_at (route_of nodes links) (codes "route") root) _
-        (λ routes. broken (network_from nodes links routes sids) (too_many_sids (network_from nodes links routes sids) over))) in
+    rw given (none_after (each_at (route_of nodes links) (codes "route") root) _
+    (λ routes. broken (network_from nodes links routes sids) (too_many_sids (network_from nodes links routes sids) over))) in
     sym none
 
 pub of_too_many_nodes : (root : Members) (nodes : List Node) → each_at node_of (codes "node") root ≡ Some nodes → 256 < length nodes → None ≡ network_of_document root
 of_too_many_nodes root nodes given many =
     let rest : ◌>>=◌ (each_at (link_of nodes) (codes "link") root) (λ links. network_with nodes links root) ≡ None =
-        none_after (each_at (link_of nodes) (codes "link") root) _ (λ links. with_too_many_nodes nodes links root many) in
+    none_after (each_at (link_of nodes) (codes "link") root) _ (λ links. with_too_many_nodes nodes links root many) in
     let none : network_of_document root ≡ None = rw given (none_if (is_plain root) _ rest) in
     sym none
 
 pub of_too_many_links : (root : Members) (nodes : List Node) (links : List Link) → each_at node_of (codes "node") root ≡ Some nodes → each_at (link_of nodes) (codes "link") root ≡ Some links → 4096 < length links → None ≡ network_of_document root
 of_too_many_links root nodes links nodes_given links_given many =
     let none : network_of_document root ≡ None =
-        rw (nodes_given, links_given) (none_if (is_plain root) _ (with_too_many_links nodes links root many)) in
+    rw (nodes_given, links_given) (none_if (is_plain root) _ (with_too_many_links nodes links root many)) in
     sym none
 
 pub ruleset limits = (with_too_many_sids, of_too_many_nodes, of_too_many_links)

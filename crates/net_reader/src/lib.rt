@@ -6,6 +6,7 @@
 
 mod described;
 mod fault;
+mod laws;
 mod links;
 mod nodes;
 mod read;
@@ -16,6 +17,7 @@ mod titles;
 mod tree;
 
 pub use fault::NetFault;
+pub use laws::titles_have_their_numbers;
 pub use read::read_net;
 
 #[cfg(test)]

@@ -17,7 +17,9 @@ use std::alloc::{AllocError, Global};
 use toml::Table;
 
 const MOST_NODES: usize = 256;
+
 const MOST_LINKS: usize = 4096;
+
 const MOST_SIDS: usize = 4096;
 
 /// The document that a text is, if it is TOML.
