@@ -4,3 +4,6 @@ pub mod Choices
 pub mod Lookups
 pub mod Executions
 pub mod Places
+pub mod Ends
+pub mod Contents
+pub mod Picks

@@ -1,10 +1,10 @@
 -- Places go on to places, and the sets of links at places are not empty.
-use Rattle.std.proofs.Common.{◌≡◌, ℕ, ◌+◌, ◌<◌, ◌⊎◌, inl, inr, Bool, true, false, if◌then◌else◌, List, [], ◌∷◌, length, Option, Some, None, slice_get, Contains, refl, sym, ◌∙◌, subst, ap, arith}
+use Rattle.std.proofs.Common.{◌≡◌, ℕ, ◌<◌, Bool, true, false, if◌then◌else◌, List, length, Option, Some, None, slice_get, Contains, refl, sym, subst, ap, arith}
 use Rattle.srv6_rules.specs.declared.sid.Behaviour.{Behaviour}
 use Rattle.srv6_rules.specs.declared.sid.Behaviour.TheVariants.{End, EndX, Dt6}
 use Rattle.srv6_rules.specs.declared.sid.Reason.TheVariants as reasons
 use Rattle.srv6_rules.specs.declared.sid.SidEntry.{SidEntry}
-use Rattle.srv6_rules.specs.Packet.{Packet, Content, V6, Unreadable}
+use Rattle.srv6_rules.specs.Packet.{Content, V6, Unreadable}
 use Rattle.net_model.specs.declared.parts.Link.{Link}
 use Rattle.net_model.specs.declared.parts.Route.{Route}
 use Rattle.net_model.specs.declared.net.Hit.{Hit}
@@ -132,7 +132,7 @@ end-place : (net : Network) (place next : Place) (link : ℕ) (l : Link) (to : O
 end-place net place next link l None keeps there ends e = cc
 end-place net place next link l (Some node) keeps there ends e =
     same_place net (record { node = node; how = Arrived 0; family = place.family }) next e
-        (ends-there l.from (length net.nodes) l.to node ends (keeps.link link l there).to, tt)
+    (ends-there l.from (length net.nodes) l.to node ends (keeps.link link l there).to, tt)
 
 link-place : (net : Network) (place next : Place) (link : ℕ) (o : Option Link) → Keeps net → slice_get net.links link ≡ o
     → arrival (far_end o) place ≡ Some next → IsPlace net next
@@ -143,10 +143,10 @@ outcome-place : (net : Network) (place : Place) (content : Content) (choice : �
     → (step_of net place content choice).outcome ≡ outcome → next_place net place outcome ≡ Some next → IsPlace net next
 outcome-place net place content choice next (outcomes.Again n how) keeps is o e =
     same_place net (record { node = place.node; how = how; family = place.family }) next e
-        (is.0, executes-how net place content (step_of net place content choice) n how keeps (step-again net place content choice n how o))
+    (is.0, executes-how net place content (step_of net place content choice) n how keeps (step-again net place content choice n how o))
 outcome-place net place content choice next (outcomes.Hand n how family) keeps is o e =
     same_place net (record { node = place.node; how = how; family = family }) next e
-        (is.0, executes-how net place content (step_of net place content choice) n how keeps (step-hand net place content choice n how family o))
+    (is.0, executes-how net place content (step_of net place content choice) n how keeps (step-hand net place content choice n how family o))
 outcome-place net place content choice next (outcomes.Send link) keeps is o e = link-place net place next link (slice_get net.links link) keeps refl e
 outcome-place net place content choice next outcomes.Local keeps is o e = cc
 outcome-place net place content choice next (outcomes.Drop reason) keeps is o e = cc

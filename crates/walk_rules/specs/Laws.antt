@@ -1,5 +1,5 @@
 -- What the laws about stages and walks say, in words.
-use Rattle.std.specs.Prelude.{◌≡◌, ◌≢◌, ℕ, ◌+◌, ◌<◌, List, [], length, slice_get, Option, Some, None, Contains}
+use Rattle.std.specs.Prelude.{◌≡◌, ◌≢◌, ℕ, ◌+◌, ◌<◌, List, [], ◌∷◌, slice_get, Some, Contains}
 use Rattle.srv6_rules.specs.declared.sid.SidEntry.{SidEntry}
 use Rattle.srv6_rules.specs.Packet.{Packet, Content, V6, Unreadable}
 use Rattle.srv6_rules.specs.Endpoint.{at_sid}
@@ -9,7 +9,8 @@ use Rattle.walk_rules.specs.declared.place.Place.{Place}
 use Rattle.walk_rules.specs.declared.place.Outcome.{Outcome}
 use Rattle.walk_rules.specs.declared.place.Outcome.TheVariants as outcomes
 use Rattle.walk_rules.specs.Treatment.{Way, Away, Over, Own, Into, way_of, Gave, allow_of, on_from, treated_at_sid}
-use Rattle.walk_rules.specs.Walk.{decisions}
+use Rattle.walk_rules.specs.Relation.{Stage, IsPlace}
+use Rattle.walk_rules.specs.Walk.{Step, decisions}
 
 -- the set of equal next hops over which a way goes; none where it goes over no links
 abbrev pub set_of : Way → List ℕ
@@ -56,3 +57,8 @@ pub record DifferAtMostInLink (one other : Gave) : Type 0 where
   pub after : other.after ≡ one.after
   pub decisions_taken : decisions other.outcome ≡ decisions one.outcome
   pub outcome : decisions one.outcome ≡ 0 → other.outcome ≡ one.outcome
+
+-- each of these stages is at a place of the network, and gives an outcome that there is there
+abbrev pub AreStages : Network → List Step → Type 0
+AreStages net [] = Unit {0}
+AreStages net (s ∷ more) = IsPlace net s.place × Stage net s.place s.before s.gave.outcome s.gave.after × AreStages net more
