@@ -4,7 +4,21 @@
 //! absent. `specs/` says which network a document gives, as functions on its tree.
 #![tactic(auto)]
 
+mod described;
 mod fault;
+mod laws;
+mod links;
+mod nodes;
+mod read;
+mod routes;
+mod sids;
+mod texts;
+mod titles;
 mod tree;
 
 pub use fault::NetFault;
+pub use laws::titles_have_their_numbers;
+pub use read::read_net;
+
+#[cfg(test)]
+mod tests;
