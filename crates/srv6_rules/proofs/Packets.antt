@@ -1,45 +1,87 @@
 -- A packet's spelling read back, and what reads as a packet spelled.
-use Rattle.std.proofs.Common.{◌/◌, ◌%◌, ◌≡◌, ℕ, zero, suc, ◌+◌, ◌-◌, ◌*◌, ◌^◌, ◌<◌, ◌≤◌, Bool, true, false, cond, ◌==◌, nat_lt, List, [], ◌∷◌, ◌++◌, length, take, drop, get_or, slice_index, All, refl, sym, ap, subst, ◌∙◌, arith, inl, inr, take-add, length-append, length-drop, length-take}
-use Rattle.std.proofs.lemmas.Bool.{cases_Bool, cond-true, cond-false, eqb-true, ltb-true, ltb-false, eq-eqb, ne_eqb, lt-ltb, le-ltb}
-use Rattle.std.proofs.lemmas.List.{append_assoc, append-nil, drop_at, drop-drop, drop_all, take_at, length-take-le, take-append-drop, drop_more, get_or-drop, take_all}
+use Rattle.std.proofs.Common.{◌/◌, ◌%◌, ◌≡◌, ℕ, ◌+◌, ◌-◌, ◌^◌, ◌<◌, ◌≤◌, Bool, true, false, cond, ◌==◌, nat_lt, List, [], ◌∷◌, ◌++◌, length, take, drop, slice_index, All, refl, sym, ap, subst, ◌∙◌, arith, inl, inr, ◌⊎◌, take-add, length-append, length-drop}
+use Rattle.std.proofs.lemmas.Bool.{cases_lt, eqb-true, ltb-false, eq-eqb, ne_eqb, le-ltb}
+use Rattle.std.proofs.lemmas.List.{append_assoc, append-nil, drop_at, drop-drop, drop_all, take_at, length-take-le, take-append-drop, drop_more, get_or-drop, get_or_append_left, get_or-append-add}
 use Rattle.std.proofs.lemmas.List.Elements.{All-append, All-cons, All-take, All-drop}
-use Rattle.std.specs.Int.{byte_at, bytes_high_first}
 use Rattle.srv6_rules.specs.declared.sid.Reason.{Reason}
 use Rattle.srv6_rules.specs.declared.sid.Reason.TheVariants.{Truncated, BadVersion}
 use Rattle.srv6_rules.specs.Packet.{Packet, Content, V6, Unreadable, IsSpellable, Spells, IsContent, spelling, header_spelling, first_word, two_bytes, four_bytes, address_bytes, two_number, four_number, address_number, stated_len, packet_at, content_of, entered, bytes_of, most_len}
-use Rattle.srv6_rules.proofs.Bytes.{length-two_bytes, length-four_bytes, length-address_bytes, all-two_bytes, all-four_bytes, all-address_bytes, two_number-below, four_number-below, address_number-below, two_number-bytes, four_number-bytes, address_number-bytes, two_bytes-number, four_bytes-number, address_bytes-number, byte_below}
+use Rattle.srv6_rules.proofs.Bytes.{length-two_bytes, length-four_bytes, length-address_bytes, all-two_bytes, all-four_bytes, all-address_bytes, two_number-below, address_number-below, two_number-bytes, four_number-bytes, address_number-bytes, two_bytes-number, four_bytes-number, address_bytes-number, byte_below}
 
 -- ---- the parts of a header of 4, 2, 1, 1, 16 and 16 bytes with more behind it
 
-laid : List ℕ → List ℕ → ℕ → ℕ → List ℕ → List ℕ → List ℕ → List ℕ
+unfoldable pub laid : List ℕ → List ℕ → ℕ → ℕ → List ℕ → List ℕ → List ℕ → List ℕ
 laid a b n h s d r = a ++ (b ++ (n ∷ h ∷ (s ++ (d ++ r))))
 
 module _ (a b : List ℕ) (n h : ℕ) (s d r : List ℕ) (la : length a ≡ 4) (lb : length b ≡ 2) (ls : length s ≡ 16) (ld : length d ≡ 16) where
-  drop4-laid : drop 4 (laid a b n h s d r) ≡ b ++ (n ∷ h ∷ (s ++ (d ++ r)))
+  pub drop4-laid : drop 4 (laid a b n h s d r) ≡ b ++ (n ∷ h ∷ (s ++ (d ++ r)))
   unfolding laid
   drop4-laid = drop_at a (b ++ (n ∷ h ∷ (s ++ (d ++ r)))) 4 la
 
-  drop6-laid : drop 6 (laid a b n h s d r) ≡ n ∷ h ∷ (s ++ (d ++ r))
+  pub drop6-laid : drop 6 (laid a b n h s d r) ≡ n ∷ h ∷ (s ++ (d ++ r))
   drop6-laid = sym (drop-drop 2 4 (laid a b n h s d r)) ∙ ap (drop 2) drop4-laid ∙ drop_at b (n ∷ h ∷ (s ++ (d ++ r))) 2 lb
 
-  drop8-laid : drop 8 (laid a b n h s d r) ≡ s ++ (d ++ r)
+  pub drop8-laid : drop 8 (laid a b n h s d r) ≡ s ++ (d ++ r)
   drop8-laid = sym (drop-drop 2 6 (laid a b n h s d r)) ∙ ap (drop 2) drop6-laid
 
-  drop24-laid : drop 24 (laid a b n h s d r) ≡ d ++ r
+  pub drop24-laid : drop 24 (laid a b n h s d r) ≡ d ++ r
   drop24-laid = sym (drop-drop 16 8 (laid a b n h s d r)) ∙ ap (drop 16) drop8-laid ∙ drop_at s (d ++ r) 16 ls
 
-  drop40-laid : drop 40 (laid a b n h s d r) ≡ r
+  pub drop40-laid : drop 40 (laid a b n h s d r) ≡ r
   drop40-laid = sym (drop-drop 16 24 (laid a b n h s d r)) ∙ ap (drop 16) drop24-laid ∙ drop_at d r 16 ld
 
-  six-laid : slice_index (laid a b n h s d r) 6 ≡ n
+  pub six-laid : slice_index (laid a b n h s d r) 6 ≡ n
   six-laid = sym (get_or-drop 6 (laid a b n h s d r) 0 0) ∙ ap (λ xs. slice_index xs 0) drop6-laid
 
-  seven-laid : slice_index (laid a b n h s d r) 7 ≡ h
+  pub seven-laid : slice_index (laid a b n h s d r) 7 ≡ h
   seven-laid = sym (get_or-drop 6 (laid a b n h s d r) 1 0) ∙ ap (λ xs. slice_index xs 1) drop6-laid
 
-  length-laid : length (laid a b n h s d r) ≡ 40 + length r
+  pub length-laid : length (laid a b n h s d r) ≡ 40 + length r
   unfolding laid
   length-laid = simp length-append (omega arith)
+
+-- a byte of what is laid out, by its place
+front-laid : (a b : List ℕ) (n h : ℕ) (s d r : List ℕ) (k : ℕ) → length a ≡ 4 → length b ≡ 2 → k < 6 → slice_index (laid a b n h s d r) k ≡ slice_index (a ++ b) k
+unfolding laid
+front-laid a b n h s d r k la lb below =
+    ap (λ xs. slice_index xs k) (sym (append_assoc a b (n ∷ h ∷ (s ++ (d ++ r)))))
+    ∙ get_or_append_left (a ++ b) (n ∷ h ∷ (s ++ (d ++ r))) 0 k (omega (arith, length-append a b))
+
+source-laid : (a b : List ℕ) (n h : ℕ) (s d r : List ℕ) (k : ℕ) → length a ≡ 4 → length b ≡ 2 → length s ≡ 16 → length d ≡ 16 → 8 ≤ k → k < 24
+    → slice_index (laid a b n h s d r) k ≡ slice_index s (k - 8)
+source-laid a b n h s d r k la lb ls ld from below =
+    let sum : k ≡ 8 + (k - 8) = omega arith in
+    ap (slice_index (laid a b n h s d r)) sum
+    ∙ sym (get_or-drop 8 (laid a b n h s d r) (k - 8) 0)
+    ∙ ap (λ xs. slice_index xs (k - 8)) (drop8-laid a b n h s d r la lb ls ld)
+    ∙ get_or_append_left s (d ++ r) 0 (k - 8) (omega arith)
+
+rest-laid : (a b : List ℕ) (n h : ℕ) (s d r : List ℕ) (k : ℕ) → length a ≡ 4 → length b ≡ 2 → length s ≡ 16 → length d ≡ 16 → 40 ≤ k
+    → slice_index (laid a b n h s d r) k ≡ slice_index r (k - 40)
+rest-laid a b n h s d r k la lb ls ld from =
+    let sum : k ≡ 40 + (k - 40) = omega arith in
+    ap (slice_index (laid a b n h s d r)) sum
+    ∙ sym (get_or-drop 40 (laid a b n h s d r) (k - 40) 0)
+    ∙ ap (λ xs. slice_index xs (k - 40)) (drop40-laid a b n h s d r la lb ls ld)
+
+-- bytes that are laid out alike but for a number and a part agree elsewhere
+agree-laid : (a b : List ℕ) (n h h' : ℕ) (s d d' r r' : List ℕ) → length a ≡ 4 → length b ≡ 2 → length s ≡ 16 → length d ≡ 16 → length d' ≡ 16
+    → (k : ℕ) → (k ≡ 7 → ⊥) → (k < 24) ⊎ (40 ≤ k) → (40 ≤ k → slice_index r (k - 40) ≡ slice_index r' (k - 40))
+    → slice_index (laid a b n h s d r) k ≡ slice_index (laid a b n h' s d' r') k
+agree-laid a b n h h' s d d' r r' la lb ls ld ld' k not_seven side behind = elim (cases_lt k 6) [
+  | inl front ↦ front-laid a b n h s d r k la lb front ∙ sym (front-laid a b n h' s d' r' k la lb front)
+  | inr six ↦ elim (cases_lt k 7) [
+    | inl low ↦
+        let same : k ≡ 6 = omega arith in
+        rw same (six-laid a b n h s d r la lb ls ld ∙ sym (six-laid a b n h' s d' r' la lb ls ld'))
+    | inr seven ↦ elim side [
+      | inl middle ↦
+          let past : 8 ≤ k = omega arith in
+          source-laid a b n h s d r k la lb ls ld past middle ∙ sym (source-laid a b n h' s d' r' k la lb ls ld' past middle)
+      | inr rest ↦ rest-laid a b n h s d r k la lb ls ld rest ∙ behind rest ∙ sym (rest-laid a b n h' s d' r' k la lb ls ld' rest)
+    ]
+  ]
+]
 
 -- ---- the first word
 
@@ -82,7 +124,7 @@ four_number-version bytes h =
 -- ---- reading what was spelled
 
 -- a spelling with more behind it, laid out
-spelling-laid : (p : Packet) (rest : List ℕ)
+pub spelling-laid : (p : Packet) (rest : List ℕ)
     → spelling p ++ rest ≡ laid (four_bytes (first_word p.traffic_class p.flow_label)) (two_bytes (length p.payload)) p.next_header p.hop_limit (address_bytes p.source) (address_bytes p.destination) (p.payload ++ rest)
 unfolding laid header_spelling
 spelling-laid p rest = simp append_assoc
@@ -203,6 +245,40 @@ module _ (p : Packet) (rest : List ℕ) (h : IsSpellable p) where
   read_back =
       content_of-whole spelled version_is (omega (arith, stated_is, length_is))
       ∙ ap V6 (packet_at-from p spelled class_is label_is next_header_is hop_limit_is source_is destination_is payload_is)
+
+-- a spelling, laid out
+pub spelling-laid_alone : (p : Packet)
+    → spelling p ≡ laid (four_bytes (first_word p.traffic_class p.flow_label)) (two_bytes (length p.payload)) p.next_header p.hop_limit (address_bytes p.source) (address_bytes p.destination) p.payload
+spelling-laid_alone p =
+    sym (append-nil (spelling p)) ∙ spelling-laid p []
+    ∙ ap (laid (four_bytes (first_word p.traffic_class p.flow_label)) (two_bytes (length p.payload)) p.next_header p.hop_limit (address_bytes p.source) (address_bytes p.destination)) (append-nil p.payload)
+
+-- packets that differ in the hop limit, the destination and bytes of the payload agree elsewhere in their spellings
+pub spelling-agrees : (p q : Packet) → q.traffic_class ≡ p.traffic_class → q.flow_label ≡ p.flow_label → q.next_header ≡ p.next_header → q.source ≡ p.source
+    → length q.payload ≡ length p.payload → (k : ℕ) → (k ≡ 7 → ⊥) → (k < 24) ⊎ (40 ≤ k)
+    → (40 ≤ k → slice_index q.payload (k - 40) ≡ slice_index p.payload (k - 40)) → slice_index (spelling q) k ≡ slice_index (spelling p) k
+spelling-agrees p q class label next source len k not_seven side behind =
+    let w : ℕ = first_word p.traffic_class p.flow_label in
+    let word : first_word q.traffic_class q.flow_label ≡ w = rw (class, label) refl in
+    let there : spelling q ≡ laid (four_bytes w) (two_bytes (length p.payload)) p.next_header q.hop_limit (address_bytes p.source) (address_bytes q.destination) q.payload =
+    spelling-laid_alone q ∙ rw (word, len, next, source) refl in
+    ap (λ xs. slice_index xs k) there
+    ∙ agree-laid (four_bytes w) (two_bytes (length p.payload)) p.next_header q.hop_limit p.hop_limit (address_bytes p.source) (address_bytes q.destination) (address_bytes p.destination) q.payload p.payload
+    (length-four_bytes w) (length-two_bytes (length p.payload)) (length-address_bytes p.source) (length-address_bytes q.destination) (length-address_bytes p.destination)
+    k not_seven side behind
+    ∙ ap (λ xs. slice_index xs k) (sym (spelling-laid_alone p))
+
+-- the byte of the hop limit, and those of the payload
+pub spelling-hop_limit : (p : Packet) → slice_index (spelling p) 7 ≡ p.hop_limit
+spelling-hop_limit p =
+    let w : ℕ = first_word p.traffic_class p.flow_label in
+    ap (λ xs. slice_index xs 7) (spelling-laid_alone p)
+    ∙ seven-laid (four_bytes w) (two_bytes (length p.payload)) p.next_header p.hop_limit (address_bytes p.source) (address_bytes p.destination) p.payload
+    (length-four_bytes w) (length-two_bytes (length p.payload)) (length-address_bytes p.source) (length-address_bytes p.destination)
+
+pub spelling-payload : (p : Packet) (k : ℕ) → slice_index (spelling p) (40 + k) ≡ slice_index p.payload k
+spelling-payload p k =
+    ap (λ n. slice_index (spelling p) (n + k)) (sym (length-header_spelling p)) ∙ get_or-append-add (header_spelling p) p.payload k 0
 
 -- reading a spelling gives the packet, whatever stands behind it
 pub content_of-spelling : (p : Packet) (rest : List ℕ) → IsSpellable p → content_of (spelling p ++ rest) ≡ V6 p

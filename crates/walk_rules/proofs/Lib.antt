@@ -5,3 +5,5 @@ pub mod Lookups
 pub mod Executions
 pub mod Places
 pub mod Ends
+pub mod Contents
+pub mod Picks
