@@ -1,7 +1,7 @@
 use Rattle.srx_edge.specs.Edge.{Rose}
 use Rattle.srv6_cli.specs.Command.{words_of}
 use Rattle.srv6_cli.proofs.Serving.{fault_from, usage_served}
-use Rattle.srv6_cli.proofs.serve.serve.Goals as goal
+use Rattle.srv6_cli.proofs.top.serve.Goals as goal
 
 pub returns-in-Run-clause-fault : goal.returns-in-Run-clause-fault
 returns-in-Run-clause-fault g c =
