@@ -4,7 +4,19 @@
 //! absent. `specs/` says which network a document gives, as functions on its tree.
 #![tactic(auto)]
 
+mod described;
 mod fault;
+mod links;
+mod nodes;
+mod read;
+mod routes;
+mod sids;
+mod texts;
+mod titles;
 mod tree;
 
 pub use fault::NetFault;
+pub use read::read_net;
+
+#[cfg(test)]
+mod tests;

@@ -1,10 +1,11 @@
 //! Values of the tree of a TOML document.
 
-ghost use Rattle.std.specs.Prelude.{◌≡◌, ◌≤◌, ◌<◌, ◌^◌, IfOk, IfSome, option_map, map, length, bytes_eq};
+ghost use Rattle.std.specs.Prelude.{◌≡◌, ◌≤◌, ◌<◌, ◌^◌, IfOk, IfSome, Some, None, option_map, map, length, bytes_eq};
 ghost use Rattle.toml.specs.Data.{get_member, as_str, as_array};
 ghost use Rattle.std.specs.List.{list_any};
+ghost use Rattle.std.specs.Option.{option_copied};
 ghost use Rattle.toml.specs.View.{view, table_view, items_view};
-ghost use Rattle.net_reader.specs.Tree.{needed, number_at_most, each_of, is_empty_array, has_only};
+ghost use Rattle.net_reader.specs.Tree.{needed, optional, number_at_most, each_of, is_empty_array, is_empty_at, has_only, table_with, array_at};
 
 use std::alloc::{AllocError, Global};
 use toml::{Table, Value};
@@ -23,6 +24,29 @@ pub(crate) fn text_at<'a>(table: &'a Table, key: &str) -> Option<&'a str>
     match at(table, key) {
         Some(value) => value.as_str(),
         None => None,
+    }
+}
+
+/// The text at a key that may be absent.
+pub(crate) fn text_if_given<'a>(table: &'a Table, key: &str) -> Option<Option<&'a str>>
+    ensures { option_map option_copied result ≡ optional (λ text. option_map Some (as_str text)) None key.now (table_view table.now) }
+{
+    match at(table, key) {
+        Some(value) => match value.as_str() {
+            Some(text) => Some(Some(text)),
+            None => None,
+        },
+        None => Some(None),
+    }
+}
+
+/// The table that a value is, if each of its keys is one of these.
+pub(crate) fn table_with<'a>(value: &'a Value, keys: &[&str]) -> Option<&'a Table>
+    ensures { option_map (λ t. table_view t.now) result ≡ table_with (map (λ k. k.now) keys.now) (view value.now) }
+{
+    match value.as_table() {
+        Some(table) if has_only(table, keys) => Some(table),
+        _ => None,
     }
 }
 
@@ -49,6 +73,16 @@ pub(crate) fn items_of(value: &Value) -> Option<&[Value]>
     }
 }
 
+/// The items of an array that may be absent.
+pub(crate) fn array_at<'a>(table: &'a Table, key: &str) -> Option<&'a [Value]>
+    ensures { option_map (λ s. items_view s.now) result ≡ array_at key.now (table_view table.now) }
+{
+    match at(table, key) {
+        Some(value) => items_of(value),
+        None => Some(&[]),
+    }
+}
+
 /// Whether the value is an array without items.
 #[tactic(auto, using(crate::proofs::Items::emptiness))]
 pub(crate) fn is_empty_array(value: &Value) -> bool
@@ -57,6 +91,16 @@ pub(crate) fn is_empty_array(value: &Value) -> bool
     match items_of(value) {
         Some(items) => items.is_empty(),
         None => false,
+    }
+}
+
+/// Whether a key is absent, or holds an array without items.
+pub(crate) fn is_empty_at(table: &Table, key: &str) -> bool
+    ensures { result ≡ is_empty_at key.now (table_view table.now) }
+{
+    match at(table, key) {
+        Some(value) => is_empty_array(value),
+        None => true,
     }
 }
 
