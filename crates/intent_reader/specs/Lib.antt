@@ -1,1 +1,4 @@
 pub mod Rules
+pub mod Functions
+pub mod Document
+pub mod Reading

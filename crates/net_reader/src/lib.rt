@@ -13,10 +13,11 @@ mod routes;
 mod sids;
 mod texts;
 mod titles;
-mod tree;
+pub mod tree;
 
 pub use fault::NetFault;
-pub use read::read_net;
+pub use read::{document, read_net};
+pub use texts::address_at;
 
 #[cfg(test)]
 mod tests;
