@@ -7,6 +7,7 @@
 
 mod fault;
 mod intent;
+mod laws;
 mod names;
 mod read;
 mod rules;
@@ -14,5 +15,8 @@ mod steps;
 
 pub use fault::IntentFault;
 pub use intent::{Intent, Step, Steps};
+pub use laws::{
+    intents_have_walks, intents_that_are_read_keep_the_rules, steps_lead_on, walks_stay_at_nodes,
+};
 pub use read::read_intent;
 pub use rules::is_intent;

@@ -92,10 +92,10 @@ fn has_title(net: &Net, sid: &SidEntry, title: &[u8]) -> bool
     }
 }
 
-/// The number of the first SID with a title.
-fn function_named(net: &Net, title: &[u8]) -> Option<u32>
-    ensures number { result ≡ function_numbered title.now net.now }
-    ensures meaning { IsFunctionNumbered title.now net.now result }
+/// The number of the first SID with a title, as a search finds it.
+#[tactic(auto, using(crate::proofs::Searches::searching))]
+fn first_function(net: &Net, title: &[u8]) -> Option<u32>
+    ensures { result ≡ function_numbered title.now net.now }
 {
     net.keeps_rules();
     for n in 0..net.sids() {
@@ -104,6 +104,14 @@ fn function_named(net: &Net, title: &[u8]) -> Option<u32>
         }
     }
     None
+}
+
+/// The number of the first SID with a title; `None` exactly where no SID has it.
+fn function_named(net: &Net, title: &[u8]) -> Option<u32>
+    ensures number { result ≡ function_numbered title.now net.now }
+    ensures meaning { IsFunctionNumbered title.now net.now result }
+{
+    first_function(net, title)
 }
 
 /// The number of the function whose title a text value writes.

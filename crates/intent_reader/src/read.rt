@@ -177,6 +177,7 @@ fn intent(alloc: Global, net: &Net, root: &Table) -> Result<Option<Intent>, Allo
 /// `NotToml` comes exactly where the text is no TOML, and `NotBuilt` exactly where it is TOML that
 /// gives no intent that keeps the rules in the network. `NoMemory` may come at any time, and says
 /// nothing about the text.
+#[tactic(auto, using(crate::proofs::DocumentLemmas::documents))]
 pub fn read_intent(alloc: Global, text: &[u8], net: &Net) -> Result<Intent, IntentFault>
     ensures reads { ReadsAs net.now text.now result }
     ensures keeps { IfOk result (λ i. IsIntent net.now i) }
