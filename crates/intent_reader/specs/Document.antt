@@ -81,8 +81,15 @@ intent_with net headend source inner reduced root = do
   flow_label ← optional (number_at_most 1048575) 0 (codes "flow_label") root
   steps ← needed (array_of (step_of net)) (codes "step") root
   if_kept net (record {
-    headend = headend; source = record { value = source }; inner = inner; reduced = reduced; hop_limit = hop_limit;
-    max_containers = max_containers; traffic_class = traffic_class; flow_label = flow_label; steps = steps
+    headend = headend;
+    source = record { value = source };
+    inner = inner;
+    reduced = reduced;
+    hop_limit = hop_limit;
+    max_containers = max_containers;
+    traffic_class = traffic_class;
+    flow_label = flow_label;
+    steps = steps;
   })
 
 -- the intent that a document gives in a network

@@ -56,11 +56,7 @@ fn step(alloc: Global, net: &Net, item: &Value) -> Result<Option<Step>, AllocErr
 
 /// The steps that items describe.
 #[tactic(auto, using(net_reader::proofs::Items::reading))]
-fn each_step(
-    alloc: Global,
-    net: &Net,
-    items: &[Value],
-) -> Result<Option<Vec<Step>>, AllocError>
+fn each_step(alloc: Global, net: &Net, items: &[Value]) -> Result<Option<Vec<Step>>, AllocError>
     ensures { IfOk result (λ r. option_map (λ v. v.items) r ≡ each_of (step_of net.now) (items_view items.now)) }
 {
     let mut steps = Vec::new(alloc);
