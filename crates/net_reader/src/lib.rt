@@ -17,11 +17,11 @@ mod routes;
 mod sids;
 mod texts;
 mod titles;
-mod tree;
+pub mod tree;
 
 pub use fault::NetFault;
-pub use laws::titles_have_their_numbers;
-pub use read::read_net;
+pub use read::{document, read_net};
+pub use texts::address_at;
 
 #[cfg(test)]
 mod tests;

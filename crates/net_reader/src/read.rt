@@ -24,8 +24,8 @@ const MOST_LINKS: usize = 4096;
 
 const MOST_SIDS: usize = 4096;
 
-/// The document that a text is, if it is TOML.
-fn document(alloc: Global, text: &[u8]) -> Result<Option<Table>, AllocError>
+/// The document that a text is; `None` exactly where the bytes are not UTF-8 or not TOML.
+pub fn document(alloc: Global, text: &[u8]) -> Result<Option<Table>, AllocError>
     ensures { IfOk result (λ r. option_map (λ t. table_view t) r ≡ document_of text.now) }
 {
     let Ok(text) = std::str::from_utf8(text) else {
