@@ -1,0 +1,4 @@
+pub mod Trace
+pub mod Tasks
+pub mod Choices
+pub mod Ride
