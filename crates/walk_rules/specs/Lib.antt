@@ -1,3 +1,4 @@
 pub mod Treatment
 pub mod Relation
 pub mod Walk
+pub mod Laws

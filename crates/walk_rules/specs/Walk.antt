@@ -44,6 +44,10 @@ pub record Step : Type 0 where
   pub before : Content
   pub gave : Gave
 
+-- the stage at a place, under a choice
+abbrev pub stage_of : Network → Place → Content → ℕ → Step
+stage_of net place content choice = record { place = place; before = content; gave = step_of net place content choice }
+
 -- at most so many stages from a place, if there is one, where pick gives the choice of each decision, and `taken`
 -- decisions were taken before
 unfoldable pub walk_of : ℕ → Network → Option Place → Content → (ℕ → ℕ) → ℕ → List Step
@@ -53,6 +57,10 @@ walk_of (suc more) net (Some place) content pick taken =
     let gave = step_of net place content (pick taken) in
     record { place = place; before = content; gave = gave }
     ∷ walk_of more net (next_place net place gave.outcome) gave.after pick (taken + decisions gave.outcome)
+
+-- at most so many stages after a stage
+abbrev pub walk_on : ℕ → Network → Step → (ℕ → ℕ) → ℕ → List Step
+walk_on more net s pick taken = walk_of more net (next_place net s.place s.gave.outcome) s.gave.after pick (taken + decisions s.gave.outcome)
 
 -- a list of choices, which begins anew at its end
 abbrev pub choice_at : List ℕ → ℕ → ℕ

@@ -5,6 +5,8 @@
 //! that as a relation by cases; a walk is the row of stages that follow one another.
 #![tactic(auto)]
 
+mod laws;
 mod place;
 
+pub use laws::a_walk_unfolds;
 pub use place::{Ended, How, Outcome, Place};

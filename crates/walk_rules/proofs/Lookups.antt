@@ -1,0 +1,114 @@
+-- What a look-up gives is there: its SID or route has that number, and is the node's.
+use Rattle.std.proofs.Common.{◌≡◌, ℕ, zero, suc, ◌+◌, Bool, true, false, ◌==◌, ◌&&◌, nat_lt, if◌then◌else◌, List, [], ◌∷◌, ◌++◌, Option, Some, None, slice_get, refl, sym, subst, ap, arith, add-zero, eqb-true}
+use Rattle.v6_addr.specs.Address.{holds_address}
+use Rattle.srv6_rules.specs.declared.sid.SidEntry.{SidEntry}
+use Rattle.net_model.specs.declared.parts.Node.{Node}
+use Rattle.net_model.specs.declared.parts.Route.{Route}
+use Rattle.net_model.specs.declared.net.Hit.{Hit}
+use Rattle.net_model.specs.declared.net.Hit.TheVariants as hits
+use Rattle.net_model.specs.Network.{Network}
+use Rattle.net_model.specs.Best.{Entry, sid_entries, route_entries, address_entries, entries_of, longer, longest, hit_of, lookup_of}
+
+abbrev pub SidStandsAt : ℕ → Option SidEntry → Type 0
+SidStandsAt node None = ⊥
+SidStandsAt node (Some s) = s.node ≡ node
+
+abbrev pub RouteStandsAt : ℕ → Option Route → Type 0
+RouteStandsAt node None = ⊥
+RouteStandsAt node (Some r) = r.node ≡ node
+
+-- what is hit is there, and the node's
+abbrev pub IsThere : Network → ℕ → Hit → Type 0
+IsThere net node (hits.Sid n) = SidStandsAt node (slice_get net.sids n)
+IsThere net node hits.Address = Unit {0}
+IsThere net node (hits.Route n) = RouteStandsAt node (slice_get net.routes n)
+IsThere net node hits.Nothing = Unit {0}
+
+abbrev Each : (Entry → Type 0) → List Entry → Type 0
+Each P [] = Unit {0}
+Each P (e ∷ es) = P e × Each P es
+
+abbrev IfEntry : (Entry → Type 0) → Option Entry → Type 0
+IfEntry P None = Unit {0}
+IfEntry P (Some e) = P e
+
+longer-one : (P : Entry → Type 0) (e : Entry) (later : Option Entry) → P e → IfEntry P later → IfEntry P (longer (Some e) later)
+longer-one P e None here there = here
+longer-one P e (Some f) here there = by_test (nat_lt e.prefix.len f.prefix.len)
+  where
+    by_test : (t : Bool) → IfEntry P (if t then Some f else Some e)
+    by_test true = there
+    by_test false = here
+
+longest-one : (P : Entry → Type 0) (a : ℕ) (es : List Entry) → Each P es → IfEntry P (longest a es)
+longest-one P a [] each = tt
+longest-one P a (e ∷ es) each = by_test (holds_address e.prefix a) (longest a es) (longest-one P a es each.1)
+  where
+    by_test : (t : Bool) (later : Option Entry) → IfEntry P later → IfEntry P (if t then longer (Some e) later else later)
+    by_test true later there = longer-one P e later each.0 there
+    by_test false later there = there
+
+Each-append : (P : Entry → Type 0) (es fs : List Entry) → Each P es → Each P fs → Each P (es ++ fs)
+Each-append P [] fs here there = there
+Each-append P (e ∷ es) fs here there = (here.0, Each-append P es fs here.1 there)
+
+-- the list from its place n on
+abbrev IsFrom : {X : Type 0} → List X → ℕ → List X → Type 0
+IsFrom xs n ys = (k : ℕ) → slice_get xs (n + k) ≡ slice_get ys k
+
+IsFrom-head : {X : Type 0} (xs : List X) (n : ℕ) (y : X) (ys : List X) → IsFrom xs n (y ∷ ys) → slice_get xs n ≡ Some y
+IsFrom-head xs n y ys same = rw add-zero at (same 0)
+
+IsFrom-tail : {X : Type 0} (xs : List X) (n : ℕ) (y : X) (ys : List X) → IsFrom xs n (y ∷ ys) → IsFrom xs (n + 1) ys
+IsFrom-tail xs n y ys same = λ k. let e : n + 1 + k ≡ n + suc k = omega arith in rw e (same (suc k))
+
+IsFrom-whole : {X : Type 0} (xs : List X) → IsFrom xs 0 xs
+IsFrom-whole xs = λ k. let e : 0 + k ≡ k = omega arith in rw e
+
+abbrev EntryIsThere : Network → ℕ → Entry → Type 0
+EntryIsThere net node e = IsThere net node e.hit
+
+sids-there : (net : Network) (node n : ℕ) (ss : List SidEntry) → IsFrom net.sids n ss → Each (EntryIsThere net node) (sid_entries node n ss)
+sids-there net node n [] same = tt
+sids-there net node n (s ∷ ss) same = by_test (s.node == node) refl (sids-there net node (n + 1) ss (IsFrom-tail net.sids n s ss same))
+  where
+    by_test : (t : Bool) → (s.node == node) ≡ t → Each (EntryIsThere net node) (sid_entries node (n + 1) ss)
+        → Each (EntryIsThere net node) (if t then record { hit = hits.Sid n; prefix = s.prefix } ∷ sid_entries node (n + 1) ss else sid_entries node (n + 1) ss)
+    by_test true e rest = (rw (IsFrom-head net.sids n s ss same) (eqb-true s.node node e), rest)
+    by_test false e rest = rest
+
+routes-there : (net : Network) (node table n : ℕ) (rs : List Route) → IsFrom net.routes n rs → Each (EntryIsThere net node) (route_entries node table n rs)
+routes-there net node table n [] same = tt
+routes-there net node table n (r ∷ rs) same = by_test (r.node == node) (r.table == table) refl (routes-there net node table (n + 1) rs (IsFrom-tail net.routes n r rs same))
+  where
+    by_test : (t u : Bool) → (r.node == node) ≡ t → Each (EntryIsThere net node) (route_entries node table (n + 1) rs)
+        → Each (EntryIsThere net node)
+            (if t && u then record { hit = hits.Route n; prefix = r.prefix } ∷ route_entries node table (n + 1) rs else route_entries node table (n + 1) rs)
+    by_test true true e rest = (rw (IsFrom-head net.routes n r rs same) (eqb-true r.node node e), rest)
+    by_test true false e rest = rest
+    by_test false u e rest = rest
+
+address-there : (net : Network) (node : ℕ) (at : Option Node) → Each (EntryIsThere net node) (address_entries at)
+address-there net node None = tt
+address-there net node (Some n) = (tt, tt)
+
+entries-there : (net : Network) (node table : ℕ) → Each (EntryIsThere net node) (entries_of net node table)
+entries-there net node table = by_test (table == 0)
+  where
+    by_test : (t : Bool) → Each (EntryIsThere net node)
+        (if t then sid_entries node 0 net.sids ++ (address_entries (slice_get net.nodes node) ++ route_entries node 0 0 net.routes)
+         else route_entries node table 0 net.routes)
+    by_test true =
+        Each-append (EntryIsThere net node) _ _ (sids-there net node 0 net.sids (IsFrom-whole net.sids))
+        (Each-append (EntryIsThere net node) _ _ (address-there net node (slice_get net.nodes node)) (routes-there net node 0 0 net.routes (IsFrom-whole net.routes)))
+    by_test false = routes-there net node table 0 net.routes (IsFrom-whole net.routes)
+
+hit-there : (net : Network) (node : ℕ) (found : Option Entry) → IfEntry (EntryIsThere net node) found → IsThere net node (hit_of found)
+hit-there net node None there = tt
+hit-there net node (Some e) there = there
+
+-- what a look-up gives is there, and the node's
+pub lookup-there : (net : Network) (node table a : ℕ) → IsThere net node (lookup_of net node table a)
+unfolding lookup_of
+lookup-there net node table a =
+    hit-there net node (longest a (entries_of net node table)) (longest-one (EntryIsThere net node) a (entries_of net node table) (entries-there net node table))

@@ -1,0 +1,51 @@
+-- What the laws about stages and walks say, in words.
+use Rattle.std.specs.Prelude.{◌≡◌, ◌≢◌, ℕ, ◌+◌, ◌<◌, List, [], length, slice_get, Option, Some, None, Contains}
+use Rattle.srv6_rules.specs.declared.sid.SidEntry.{SidEntry}
+use Rattle.srv6_rules.specs.Packet.{Packet, Content, V6, Unreadable}
+use Rattle.srv6_rules.specs.Endpoint.{at_sid}
+use Rattle.net_model.specs.Network.{Network}
+use Rattle.walk_rules.specs.declared.place.How.{How}
+use Rattle.walk_rules.specs.declared.place.Place.{Place}
+use Rattle.walk_rules.specs.declared.place.Outcome.{Outcome}
+use Rattle.walk_rules.specs.declared.place.Outcome.TheVariants as outcomes
+use Rattle.walk_rules.specs.Treatment.{Way, Away, Over, Own, Into, way_of, Gave, allow_of, on_from, treated_at_sid}
+
+-- the set of equal next hops over which a way goes; none where it goes over no links
+abbrev pub set_of : Way → List ℕ
+set_of (Away reason) = []
+set_of (Over set lower) = set
+set_of Own = []
+set_of (Into n) = []
+
+-- the set of equal next hops of a stage
+abbrev pub hops_at : Network → Place → Content → List ℕ
+hops_at net place (V6 p) = set_of (way_of net place p.destination)
+hops_at net place (Unreadable bytes reason) = []
+
+-- two sends on different members of one set
+pub record SendsApart (set : List ℕ) (one other : Outcome) : Type 0 where
+  pub one_link : ℕ
+  pub other_link : ℕ
+  pub one_sends : one ≡ outcomes.Send one_link
+  pub other_sends : other ≡ outcomes.Send other_link
+  pub one_member : Contains set one_link
+  pub other_member : Contains set other_link
+  pub apart : one_link ≢ other_link
+
+-- a packet whose hop limit was above 1, and is one less
+abbrev pub IsLoweredByOne : Content → Content → Type 0
+IsLoweredByOne (V6 p) (V6 q) = (1 < p.hop_limit) × (q.hop_limit + 1 ≡ p.hop_limit)
+IsLoweredByOne (V6 p) (Unreadable bytes reason) = ⊥
+IsLoweredByOne (Unreadable bytes reason) after = ⊥
+
+-- SID n was executed on a packet: the way leads into it, it is there and stands at the node, the packet goes on from
+-- it in its way, and what the stage gave is what the SID does
+pub record Executes (net : Network) (place : Place) (content : Content) (gave : Gave) (n : ℕ) (how : How) : Type 0 where
+  pub packet : Packet
+  pub is_packet : content ≡ V6 packet
+  pub way : way_of net place packet.destination ≡ Into n
+  pub sid : SidEntry
+  pub is_there : slice_get net.sids n ≡ Some sid
+  pub stands : sid.node ≡ place.node
+  pub goes_on : how ≡ on_from n sid.behaviour
+  pub gives : gave ≡ treated_at_sid n sid.behaviour packet (at_sid sid.behaviour (allow_of (slice_get net.nodes place.node)) packet)
