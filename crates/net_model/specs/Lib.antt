@@ -1,3 +1,5 @@
 pub mod Network
 pub mod Rules
 pub mod Best
+pub mod Titles
+pub mod Keeps

@@ -1,5 +1,5 @@
 -- The rules that a network keeps (own rules, but for the ranges of addresses and prefixes).
-use Rattle.std.specs.Prelude.{◌≡◌, ℕ, ◌+◌, ◌-◌, ◌<◌, ◌≤◌, Bool, true, false, ◌==◌, ◌&&◌, ◌||◌, not, nat_lt, nat_le, count_by, if◌then◌else◌, List, [], ◌∷◌, length, slice_get, Option, Some, None, IsTrue}
+use Rattle.std.specs.Prelude.{◌≡◌, ℕ, ◌+◌, ◌-◌, ◌%◌, ◌^◌, ◌<◌, ◌≤◌, Bool, true, false, ◌==◌, ◌&&◌, ◌||◌, not, nat_lt, nat_le, count_by, if◌then◌else◌, List, [], ◌∷◌, length, slice_get, Option, Some, None, IsTrue}
 use Rattle.std.specs.List.{filter_map, list_any, list_all}
 use Rattle.v6_addr.specs.Address.{PrefixValue}
 use Rattle.srv6_rules.specs.declared.sid.SidEntry.{SidEntry}
@@ -33,10 +33,18 @@ is_name_byte b = is_between 97 122 b || (is_between 65 90 b || (is_between 48 57
 abbrev pub is_name : List ℕ → Bool
 is_name name = nat_le 1 (length name) && (nat_le (length name) 32 && list_all is_name_byte name)
 
+-- an address has 128 bits
+unfoldable pub is_address : ℕ → Bool
+is_address a = nat_lt a (2 ^ 128)
+
+-- a prefix has at most 128 bits, and the bits past them are 0
+unfoldable pub is_prefix : PrefixValue → Bool
+is_prefix p = nat_le p.len 128 && (is_address p.value && ((p.value % 2 ^ (128 - p.len)) == 0))
+
 -- nodes
 
 abbrev pub keeps_node : Node → Bool
-keeps_node n = is_name n.name && nat_le (length n.allow) 16
+keeps_node n = is_name n.name && (is_address n.address.value && nat_le (length n.allow) 16)
 
 abbrev pub same_node_name : Node → Node → Bool
 same_node_name m n = same_bytes m.name n.name
@@ -89,7 +97,7 @@ abbrev pub is_table : ℕ → Bool
 is_table table = nat_le table 65535
 
 abbrev pub keeps_route : ℕ → List Link → Route → Bool
-keeps_route node_count links r = nat_lt r.node node_count && (is_table r.table && is_link_set links r.node r.via)
+keeps_route node_count links r = nat_lt r.node node_count && (is_table r.table && (is_prefix r.prefix && is_link_set links r.node r.via))
 
 abbrev pub same_prefix : PrefixValue → PrefixValue → Bool
 same_prefix p q = (p.value == q.value) && (p.len == q.len)
@@ -115,7 +123,8 @@ is_title title_count (Some t) = nat_lt t title_count
 
 abbrev pub keeps_sid : ℕ → List Link → ℕ → SidEntry → Bool
 keeps_sid node_count links title_count s =
-    nat_lt s.node node_count && (nat_le 1 s.prefix.len && (keeps_behaviour links s.node s.behaviour s.links && is_title title_count s.title))
+    nat_lt s.node node_count && (nat_le 1 s.prefix.len && (is_prefix s.prefix
+    && (keeps_behaviour links s.node s.behaviour s.links && is_title title_count s.title)))
 
 abbrev pub same_sid : SidEntry → SidEntry → Bool
 same_sid s t = (s.node == t.node) && same_prefix s.prefix t.prefix

@@ -4,6 +4,7 @@
 
 mod net;
 mod parts;
+mod rules;
 
 pub use net::{Hit, Net};
 pub use parts::{Link, Name, NetParts, Node, Route, TypeList};

@@ -1,6 +1,8 @@
 //! The network that keeps the rules, and the look-up of an address.
 
-use crate::parts::NetParts;
+use crate::parts::{Link, Name, NetParts, Node, Route};
+use crate::rules::is_network;
+use srv6_rules::SidEntry;
 use std::marker::Model;
 
 /// The entry of a node's table that fits an address best.
@@ -31,4 +33,117 @@ impl Model for Net {
     ghost view = { λ n. network_of n.parts };
 
     ghost invariant = { λ n. IsNetwork (network_of n.parts) };
+}
+
+impl Net {
+    ghost use Rattle.std.specs.Prelude.{◌≡◌, ◌↔◌, ℕ, ◌<◌, false, length, slice_get, IsTrue, IsSome, IfSome, IfNone};
+    ghost use Rattle.net_model.specs.Network.{network_of};
+    ghost use Rattle.net_model.specs.Rules.{IsNetwork, is_network};
+    ghost use Rattle.net_model.specs.Keeps.{Keeps};
+
+    /// The network with these parts; `None` exactly where they break a rule of descriptions (own rules).
+    /// The parts of a network that is not made are given up.
+    pub fn build(parts: NetParts) -> Option<Net>
+        ensures keeps { IsSome result ↔ IsTrue (is_network (network_of parts)) }
+        ensures breaks { IfNone result (is_network (network_of parts) ≡ false) }
+        ensures value { IfSome result (λ net. net ≡ network_of parts) }
+    {
+        if is_network(&parts) {
+            Some(Net { parts })
+        } else {
+            None
+        }
+    }
+
+    /// That the network keeps the rules: an empty function, for the callers' proofs.
+    pub fn keeps_rules(&self)
+        ensures network { IsNetwork self.now }
+        ensures facts { Keeps self.now }
+    {
+        let _ = &self.parts;
+    }
+
+    /// How many nodes there are, at most 256.
+    pub fn nodes(&self) -> u32
+        ensures { result ≡ length self.now.nodes }
+    {
+        self.keeps_rules();
+        self.parts.nodes.len() as u32
+    }
+
+    /// How many links there are, at most 4,096.
+    pub fn links(&self) -> u32
+        ensures { result ≡ length self.now.links }
+    {
+        self.keeps_rules();
+        self.parts.links.len() as u32
+    }
+
+    /// How many routes there are, at most 65,536.
+    pub fn routes(&self) -> u32
+        ensures { result ≡ length self.now.routes }
+    {
+        self.keeps_rules();
+        self.parts.routes.len() as u32
+    }
+
+    /// How many titles there are.
+    pub fn titles(&self) -> usize
+        ensures { result ≡ length self.now.titles }
+    {
+        self.parts.titles.len()
+    }
+
+    /// How many SIDs there are, at most 4,096.
+    pub fn sids(&self) -> u32
+        ensures { result ≡ length self.now.sids }
+    {
+        self.keeps_rules();
+        self.parts.sids.len() as u32
+    }
+
+    /// The node with a number, counted from 0.
+    #[tactic(auto, using(std::proofs::lemmas::Option::gets))]
+    pub fn node(&self, n: u32) -> &Node
+        requires { n < length self.now.nodes }
+        ensures { slice_get self.now.nodes n ≡ Some result.now }
+    {
+        &self.parts.nodes[n as usize]
+    }
+
+    /// The link with a number, counted from 0.
+    #[tactic(auto, using(std::proofs::lemmas::Option::gets))]
+    pub fn link(&self, n: u32) -> &Link
+        requires { n < length self.now.links }
+        ensures { slice_get self.now.links n ≡ Some result.now }
+    {
+        &self.parts.links[n as usize]
+    }
+
+    /// The route with a number, counted from 0.
+    #[tactic(auto, using(std::proofs::lemmas::Option::gets))]
+    pub fn route(&self, n: u32) -> &Route
+        requires { n < length self.now.routes }
+        ensures { slice_get self.now.routes n ≡ Some result.now }
+    {
+        &self.parts.routes[n as usize]
+    }
+
+    /// The title with a number, counted from 0.
+    #[tactic(auto, using(std::proofs::lemmas::Option::gets))]
+    pub fn title(&self, n: u32) -> &Name
+        requires { n < length self.now.titles }
+        ensures { slice_get self.now.titles n ≡ Some result.now }
+    {
+        &self.parts.titles[n as usize]
+    }
+
+    /// The SID with a number, counted from 0.
+    #[tactic(auto, using(std::proofs::lemmas::Option::gets))]
+    pub fn sid(&self, n: u32) -> &SidEntry
+        requires { n < length self.now.sids }
+        ensures { slice_get self.now.sids n ≡ Some result.now }
+    {
+        &self.parts.sids[n as usize]
+    }
 }

@@ -1,13 +1,26 @@
-// A library with one function.
+//! The edge of the program: files, sources and sinks, each with a count of its faults.
 #![tactic(auto)]
 
-ghost use Rattle.std.specs.Prelude.{◌≡◌};
-ghost use Rattle.srx_edge.specs.Echo.{echo_of};
+mod byte_list;
+mod file_access;
+mod input;
+mod mem_files;
+mod mem_sink;
+mod mem_source;
+mod no_memory;
+mod output;
+mod plan;
+mod rest;
+mod sure_sink;
+mod sure_source;
 
-// The `ensures` clause is the contract: what `echo` returns is `echo_of` of its argument, a definition
-// in `specs/Echo.antt`, which a caller's clause can cite too.
-pub fn echo(x: usize) -> usize
-    ensures { result ≡ echo_of x }
-{
-    x
-}
+pub use byte_list::Bytes;
+pub use file_access::{FileFault, Files};
+pub use input::{DrawFault, Failed, Source, draw};
+pub use mem_files::MemFiles;
+pub use mem_sink::MemSink;
+pub use mem_source::MemSource;
+pub use no_memory::NoMemory;
+pub use output::{PourFault, Sink, SinkFault, pour};
+pub use sure_sink::SureSink;
+pub use sure_source::SureSource;

@@ -1,0 +1,147 @@
+-- The facts of a network that keeps the rules.
+use Rattle.std.proofs.Common.{◌≡◌, ℕ, ◌<◌, ◌≤◌, ◌^◌, Bool, true, false, ◌==◌, ◌&&◌, not, eqb, List, [], length, Option, Some, None, IsTrue, refl, sym, ap, ◌∙◌, subst, arith}
+use Rattle.std.specs.List.{slice_get, Contains}
+use Rattle.std.proofs.lemmas.Bool.{and_parts, and_from, not-true, leb-true, ltb-true, eqb-true, eqb-false, eq-eqb}
+use Rattle.std.proofs.lemmas.List.{nil_from_length}
+use Rattle.v6_addr.specs.Address.{PrefixValue, IsPrefix}
+use Rattle.srv6_rules.specs.declared.sid.SidEntry.{SidEntry}
+use Rattle.srv6_rules.specs.declared.sid.Behaviour.{Behaviour}
+use Rattle.srv6_rules.specs.declared.sid.Behaviour.TheVariants.{End, EndX, Dt6}
+use Rattle.net_model.specs.declared.parts.Node.{Node}
+use Rattle.net_model.specs.declared.parts.Link.{Link}
+use Rattle.net_model.specs.declared.parts.Route.{Route}
+use Rattle.net_model.specs.Network.{Network}
+use Rattle.net_model.specs.Rules.{IsNetwork, is_network, is_address, is_prefix, same_bytes, same_prefix, same_number, same_node_name, same_node_address, same_link_name, same_route, same_sid, keeps_node, keeps_link, ends_elsewhere, starts_at_node, starts_at, is_link_set, keeps_route, keeps_behaviour, is_title, keeps_sid, has_room, title_of, keeps_nodes, keeps_links, keeps_routes, keeps_titles, keeps_sids, is_name}
+use Rattle.net_model.specs.Titles.{same_option, same_title}
+use Rattle.net_model.specs.Keeps.{StartsAt, IsLinkSet, EndsElsewhere, SuitsBehaviour, IsTitleOf, KeepsNode, KeepsLink, KeepsRoute, KeepsSid, Keeps}
+use Rattle.net_model.proofs.ListLemmas.{passes_at, passes_among, same_number_of, same_bytes_from}
+use Rattle.net_model.proofs.TitleLemmas.{are_distinct-titles}
+
+prefix_from : (p : PrefixValue) → is_prefix p ≡ true → IsPrefix p
+unfolding is_prefix is_address
+prefix_from p h =
+    let parts = and_parts _ _ h in
+    let low = and_parts _ _ parts.1 in
+    (leb-true _ _ parts.0, ltb-true _ _ low.0, eqb-true _ _ low.1)
+
+starts_from : (node : ℕ) (o : Option Link) → starts_at_node node o ≡ true → (l : Link) × (o ≡ Some l) × (l.from ≡ node)
+starts_from node None h = cc
+starts_from node (Some l) h = (l, refl, eqb-true _ _ h)
+
+link_set_from : (links : List Link) (node : ℕ) (set : List ℕ) → is_link_set links node set ≡ true → IsLinkSet links node set
+link_set_from links node set h =
+    let some = and_parts _ _ h in
+    let most = and_parts _ _ some.1 in
+    let each = and_parts _ _ most.1 in
+    record {
+      some = leb-true _ _ some.0;
+      at_most = leb-true _ _ most.0;
+      each = λ n c. starts_from node (slice_get links n) (passes_among (starts_at links node) set n each.1 c);
+    }
+
+ends_from : (node_count from : ℕ) (to : Option ℕ) → ends_elsewhere node_count from to ≡ true → EndsElsewhere node_count from to
+ends_from node_count from None h = tt
+ends_from node_count from (Some to) h =
+    let parts = and_parts _ _ h in
+    (ltb-true _ _ parts.0, eqb-false _ _ (not-true _ parts.1))
+
+suits_from : (links : List Link) (node : ℕ) (b : Behaviour) (set : List ℕ) → keeps_behaviour links node b set ≡ true → SuitsBehaviour links node b set
+suits_from links node End set h = nil_from_length set (eqb-true _ _ h)
+suits_from links node EndX set h = link_set_from links node set h
+suits_from links node (Dt6 table) set h =
+    let parts = and_parts _ _ h in
+    (leb-true _ _ parts.0, nil_from_length set (eqb-true _ _ parts.1))
+
+title_from : (title_count : ℕ) (title : Option ℕ) → is_title title_count title ≡ true → IsTitleOf title_count title
+title_from title_count None h = tt
+title_from title_count (Some t) h = ltb-true _ _ h
+
+node_from : (n : Node) → keeps_node n ≡ true → KeepsNode n
+unfolding is_address
+node_from n h =
+    let name = and_parts _ _ h in
+    let rest = and_parts _ _ name.1 in
+    record { name = name.0; address = ltb-true _ _ rest.0; allow = leb-true _ _ rest.1 }
+
+link_from : (net : Network) (l : Link) → keeps_link (length net.nodes) l ≡ true → KeepsLink net l
+link_from net l h =
+    let name = and_parts _ _ h in
+    let rest = and_parts _ _ name.1 in
+    record { name = name.0; from = ltb-true _ _ rest.0; to = ends_from _ _ l.to rest.1 }
+
+route_from : (net : Network) (r : Route) → keeps_route (length net.nodes) net.links r ≡ true → KeepsRoute net r
+route_from net r h =
+    let node = and_parts _ _ h in
+    let table = and_parts _ _ node.1 in
+    let prefix = and_parts _ _ table.1 in
+    record {
+      node = ltb-true _ _ node.0;
+      table = leb-true _ _ table.0;
+      prefix = prefix_from r.prefix prefix.0;
+      via = link_set_from net.links r.node r.via prefix.1;
+    }
+
+sid_from : (net : Network) (s : SidEntry) → keeps_sid (length net.nodes) net.links (length net.titles) s ≡ true → has_room net.sids s ≡ true → KeepsSid net s
+sid_from net s h room =
+    let node = and_parts _ _ h in
+    let len = and_parts _ _ node.1 in
+    let prefix = and_parts _ _ len.1 in
+    let rest = and_parts _ _ prefix.1 in
+    record {
+      node = ltb-true _ _ node.0;
+      len = leb-true _ _ len.0;
+      prefix = prefix_from s.prefix prefix.0;
+      links = suits_from net.links s.node s.behaviour s.links rest.0;
+      title = title_from (length net.titles) s.title rest.1;
+      room = leb-true _ _ room;
+    }
+
+same_prefix_from : (p q : PrefixValue) → p ≡ q → same_prefix p q ≡ true
+same_prefix_from p q e = and_from _ _ (eq-eqb _ _ (ap (λ r. r.value) e)) (eq-eqb _ _ (ap (λ r. r.len) e))
+
+same_title_from : (o p : Option ℕ) (t : ℕ) → o ≡ Some t → p ≡ Some t → same_option o p ≡ true
+same_title_from o p t e f = rw (e, f) (eq-eqb t t refl)
+
+-- a network that keeps the rules has each of the facts
+pub keeps_from_network : (net : Network) → IsNetwork net → Keeps net
+unfolding is_network
+keeps_from_network net h =
+    let at_nodes = and_parts _ _ h in
+    let at_links = and_parts _ _ at_nodes.1 in
+    let at_routes = and_parts _ _ at_links.1 in
+    let at_titles = and_parts _ _ at_routes.1 in
+    let nodes = and_parts _ _ at_nodes.0 in
+    let each_node = and_parts _ _ nodes.1 in
+    let one_node = and_parts _ _ each_node.1 in
+    let links = and_parts _ _ at_links.0 in
+    let each_link = and_parts _ _ links.1 in
+    let routes = and_parts _ _ at_routes.0 in
+    let each_route = and_parts _ _ routes.1 in
+    let titles = and_parts _ _ at_titles.0 in
+    let sids = and_parts _ _ at_titles.1 in
+    let each_sid = and_parts _ _ sids.1 in
+    let one_sid = and_parts _ _ each_sid.1 in
+    let room = and_parts _ _ one_sid.1 in
+    let sid_titles = are_distinct-titles net.sids ∙ room.1 in
+    record {
+      node_count = leb-true _ _ nodes.0;
+      link_count = leb-true _ _ links.0;
+      route_count = leb-true _ _ routes.0;
+      sid_count = leb-true _ _ sids.0;
+      node = λ i n e. node_from n (passes_at keeps_node net.nodes i n each_node.0 e);
+      link = λ i l e. link_from net l (passes_at (keeps_link (length net.nodes)) net.links i l each_link.0 e);
+      route = λ i r e. route_from net r (passes_at (keeps_route (length net.nodes) net.links) net.routes i r each_route.0 e);
+      sid = λ i s e. sid_from net s (passes_at (keeps_sid (length net.nodes) net.links (length net.titles)) net.sids i s each_sid.0 e) (passes_at (has_room net.sids) net.sids i s room.0 e);
+      title = λ i t e. passes_at is_name net.titles i t titles.0 e;
+      node_name = λ i j m n e f same. same_number_of same_node_name net.nodes i j m n one_node.0 e f (same_bytes_from _ _ same) (same_bytes_from _ _ (sym same));
+      node_address = λ i j m n e f same. same_number_of same_node_address net.nodes i j m n one_node.1 e f (eq-eqb _ _ same) (eq-eqb _ _ (sym same));
+      link_name = λ i j l m e f same. same_number_of same_link_name net.links i j l m each_link.1 e f (same_bytes_from _ _ same) (same_bytes_from _ _ (sym same));
+      route_prefix = λ i j q r e f node table prefix. same_number_of same_route net.routes i j q r each_route.1 e f
+          (and_from _ _ (eq-eqb _ _ node) (and_from _ _ (eq-eqb _ _ table) (same_prefix_from _ _ prefix)))
+          (and_from _ _ (eq-eqb _ _ (sym node)) (and_from _ _ (eq-eqb _ _ (sym table)) (same_prefix_from _ _ (sym prefix))));
+      sid_prefix = λ i j s t e f node prefix. same_number_of same_sid net.sids i j s t one_sid.0 e f
+          (and_from _ _ (eq-eqb _ _ node) (same_prefix_from _ _ prefix))
+          (and_from _ _ (eq-eqb _ _ (sym node)) (same_prefix_from _ _ (sym prefix)));
+      sid_title = λ i j s t title e f a b. same_number_of same_title net.sids i j s t sid_titles e f (same_title_from _ _ title a b) (same_title_from _ _ title b a);
+      title_name = λ i j t u e f same. same_number_of same_bytes net.titles i j t u titles.1 e f (same_bytes_from _ _ same) (same_bytes_from _ _ (sym same));
+    }

@@ -1,0 +1,70 @@
+//! Values of the tree of a TOML document.
+
+ghost use Rattle.std.specs.Prelude.{◌≡◌, ◌≤◌, ◌<◌, ◌^◌, IfOk, IfSome, option_map, map, string_bytes, length};
+ghost use Rattle.toml.specs.Data.{get_member, as_str};
+ghost use Rattle.toml.specs.View.{view, table_view, items_view};
+ghost use Rattle.net_reader.specs.Tree.{needed, number_at_most, each_of, is_empty_array, has_only};
+
+use std::alloc::{AllocError, Global};
+use toml::{Table, Value};
+
+/// The value at a key.
+pub(crate) fn at<'a>(table: &'a Table, key: &str) -> Option<&'a Value>
+    ensures { option_map (λ v. view v.now) result ≡ get_member key.now (table_view table.now) }
+{
+    table.get(key)
+}
+
+/// The text at a key.
+pub(crate) fn text_at<'a>(table: &'a Table, key: &str) -> Option<&'a str>
+    ensures { option_map (λ s. s.now) result ≡ needed as_str key.now (table_view table.now) }
+{
+    match at(table, key) {
+        Some(value) => value.as_str(),
+        None => None,
+    }
+}
+
+/// The integer, if it is from 0 to the most.
+pub(crate) fn number_at_most(value: &Value, most: u32) -> Option<u32>
+    ensures exact { result ≡ number_at_most most (view value.now) }
+    ensures within { IfSome result (λ n. n ≤ most) }
+{
+    let number = value.as_integer()?;
+    if 0 <= number && number <= i64::from(most) {
+        Some(number as u32)
+    } else {
+        None
+    }
+}
+
+/// Whether the value is an array without items.
+pub(crate) fn is_empty_array(value: &Value) -> bool
+    ensures { result ≡ is_empty_array (view value.now) }
+{
+    match value.as_array() {
+        Some(items) => items.is_empty(),
+        None => false,
+    }
+}
+
+/// The bytes that items hold, if each is an integer from 0 to 255.
+pub(crate) fn bytes(alloc: Global, items: &[Value]) -> Result<Option<Vec<u8>>, AllocError>
+    ensures { IfOk result (λ r. option_map (λ v. v.items) r ≡ each_of (number_at_most 255) (items_view items.now)) }
+{
+    let mut bytes = Vec::new(alloc);
+    for item in items {
+        let Some(number) = number_at_most(item, 255) else {
+            return Ok(None);
+        };
+        bytes.push(number as u8)?;
+    }
+    Ok(Some(bytes))
+}
+
+/// Whether each key of the table is one of these.
+pub(crate) fn has_only(table: &Table, keys: &[&str]) -> bool
+    ensures { result ≡ has_only (map (λ k. k.now) keys.now) (table_view table.now) }
+{
+    table.keys().all(|key| keys.contains(&key.as_str()))
+}

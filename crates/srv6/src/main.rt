@@ -1,0 +1,4 @@
+//! The program `srv6`.
+#![tactic(auto)]
+
+fn main(_rt: HostRuntime) {}

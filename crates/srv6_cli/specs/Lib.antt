@@ -1,0 +1,5 @@
+pub mod Command
+pub mod Capture
+pub mod Lines
+pub mod Output
+pub mod Served

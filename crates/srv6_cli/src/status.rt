@@ -1,0 +1,14 @@
+/// How a call of `serve` ended; its number is the program's exit status.
+#[derive(Clone, Copy, Debug, PartialEq, Eq)]
+pub enum Status {
+    /// The command's output was written whole, and what it reads from the input was read to its end.
+    Done = 0,
+    /// A file, the input or a node's name is outside its grammar or limit.
+    Refused = 1,
+    /// The words are no command.
+    Usage = 2,
+    /// A fault of the files, the input or a sink.
+    OutsideFault = 5,
+    /// Want of memory.
+    NoMemory = 6,
+}

@@ -1,0 +1,69 @@
+//! A sink in memory whose writes fail where they are told to.
+ghost use Rattle.std.specs.Prelude.{◌≡◌, ◌≤◌, ◌<◌, [], Some, Ok, IfOk, OnErr, take, length};
+ghost use Rattle.srx_edge.specs.Edge.{Rose, append_to};
+ghost use Rattle.srx_edge.specs.SinkAnswer.{OnWriteFailed, OnWriteNoMemory};
+ghost use Rattle.srx_edge.specs.SinkFake.{Writes};
+
+use crate::no_memory::NoMemory;
+use crate::output::{Sink, SinkFault};
+use crate::plan::Plan;
+use std::alloc::Global;
+use std::marker::Model;
+
+/// A sink in memory. The writes of the given numbers fail, counted from 1 among those of pieces
+/// that aren't empty and that don't answer NoMemory. (own rule)
+#[derive(Drop)]
+pub struct MemSink {
+    bytes: Vec<u8>,
+    plan: Plan,
+}
+
+impl Model for MemSink {
+    ghost use Rattle.srx_edge.specs.Fakes.{SinkState};
+
+    ghost Value = { SinkState };
+
+    ghost view = { λ s. record { held = s.bytes.items; fails = s.plan.fails.items; calls = s.plan.calls; faults = s.plan.faults } };
+}
+
+impl MemSink {
+    /// An empty sink. `fails` has the numbers of the writes that fail, counted from 1.
+    pub fn new(alloc: Global, fails: &[u64]) -> Result<MemSink, NoMemory>
+        ensures { IfOk result (λ sink. sink ≡ record { held = []; fails = fails.now; calls = 0; faults = 0 }) }
+    {
+        Ok(MemSink {
+            bytes: Vec::new(alloc),
+            plan: Plan::new(alloc, fails)?,
+        })
+    }
+
+    /// What the sink holds.
+    pub fn held(&self) -> &[u8]
+        ensures { result.now ≡ self.now.held }
+    {
+        self.bytes.as_slice()
+    }
+}
+
+impl Sink for MemSink {
+    ghost held = { λ s. Some s.held };
+
+    ghost faults = { λ s. s.faults };
+
+    fn write(&mut self, piece: &[u8]) -> Result<usize, SinkFault>
+        ensures { Writes piece.now result self.old self.new }
+    {
+        if piece.is_empty() {
+            return Ok(0);
+        }
+        if self.plan.fails_next() {
+            self.plan.fail();
+            return Err(SinkFault::Failed);
+        }
+        if self.bytes.extend_from_slice(piece).is_err() {
+            return Err(SinkFault::NoMemory);
+        }
+        self.plan.pass();
+        Ok(piece.len())
+    }
+}
