@@ -1,15 +1,18 @@
 -- Rides: the way of a packet to the next SID that is executed, by look-ups alone.
-use Rattle.std.specs.Prelude.{ℕ, ◌+◌, Bool, true, false, if◌then◌else◌, List, [], ◌∷◌, slice_get, Option, Some, None}
+use Rattle.std.specs.Prelude.{◌≡◌, ℕ, ◌+◌, ◌-◌, ◌<◌, ◌≤◌, Bool, true, false, if◌then◌else◌, List, [], ◌∷◌, slice_get, Option, Some, None, IsTrue}
 use Rattle.std.specs.List.{list_all}
 use Rattle.std.specs.Option.{option_map}
+use Rattle.srv6_rules.specs.Packet.{Packet, V6}
 use Rattle.net_model.specs.Network.{Network}
 use Rattle.walk_rules.specs.declared.place.Place.{Place}
-use Rattle.walk_rules.specs.Treatment.{Way, Away, Over, Own, Into, way_of}
+use Rattle.walk_rules.specs.Treatment.{Way, Away, Over, Own, Into, way_of, step_of}
+use Rattle.walk_rules.specs.Walk as walks
 use Rattle.walk_rules.specs.Walk.{arrival}
 use Rattle.intent_reader.specs.Rules.{first_end}
 use Rattle.intent_reader.specs.declared.intent.Step.{Step}
 use Rattle.intent_reader.specs.declared.intent.Step.TheVariants.{Links, Function}
 use Rattle.leg_table.specs.Tasks.{has_link}
+use Rattle.leg_table.specs.Choices.{Ends, seen_at}
 
 -- where a ride ends: at SID n, where the packet came to it, with these steps left before the SID is executed, and after
 -- the hop limit was lowered so many times
@@ -59,3 +62,13 @@ abbrev pub ride_of : Network → ℕ → List Step → Place → Option Ride
 ride_of net destination [] place = ride_end place (way_of net place destination)
 ride_of net destination (t ∷ ts) place =
     ride_by net place (t ∷ ts) t (ride_of net destination ts) (way_of net place destination)
+
+abbrev pub with_hop_limit : ℕ → Packet → Packet
+with_hop_limit n p = record p { hop_limit = n }
+
+-- a packet can go a ride, and the ride ends at an execution that a test of the steps left and of the stage accepts
+abbrev pub RideEnds : Network → (List Step → walks.Step → Bool) → Packet → Option Ride → Type 0
+RideEnds net end p None = ⊥
+RideEnds net end p (Some r) =
+    let before = V6 (with_hop_limit (p.hop_limit - r.lowered) p) in let gave = step_of net r.place before 0 in
+    (r.lowered < p.hop_limit) × Ends gave.outcome (IsTrue (end r.left (seen_at r.place before gave)))
