@@ -3,3 +3,6 @@
 #![tactic(auto)]
 
 mod laws;
+mod types;
+
+pub use types::{Container, Cost, Leg, PathStep, PathSteps, Potential, Potentials, Prefixes, Shape, SidList, Solution, State};
