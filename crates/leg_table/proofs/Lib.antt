@@ -1,3 +1,6 @@
 pub mod Choices
 pub mod Links
 pub mod Rides
+pub mod Options
+pub mod Executions
+pub mod RideFacts

@@ -109,17 +109,18 @@ first_end-is net to step (link ∷ links) ends all some = link_ends net to step 
 
 -- a strict step of links, from the node where it starts: all its links end at one node, where the next step starts
 pub step_opens : (net : Network) (node : ℕ) (step : List ℕ) (ts : List Step) → is_some (stand_after net node (Links step ∷ ts)) ≡ true
-    → (to : ℕ) × (list_all (ends_at net to) step ≡ true) × (is_some (stand_after net to ts) ≡ true)
+    → (to : ℕ) × (list_all (ends_at net to) step ≡ true) × (is_some (stand_after net to ts) ≡ true) × (node_after net node (Links step) ≡ Some to)
 step_opens net node step ts h = by_end (first_end net step) h
   where
     by_end : (o : Option ℕ) → is_some (option_and_then (λ next. stand_after net next ts) (far_node net node step o)) ≡ true
-        → (to : ℕ) × (list_all (ends_at net to) step ≡ true) × (is_some (stand_after net to ts) ≡ true)
+        → (to : ℕ) × (list_all (ends_at net to) step ≡ true) × (is_some (stand_after net to ts) ≡ true) × (far_node net node step o ≡ Some to)
     by_end None h = absurd (false≢true h)
     by_end (Some to) h = by_test (is_link_set net.links node step) (list_all (ends_at net to) step) refl h
       where
         by_test : (s t : Bool) → list_all (ends_at net to) step ≡ t
             → is_some (option_and_then (λ next. stand_after net next ts) (if s && t then Some to else None)) ≡ true
-            → (to : ℕ) × (list_all (ends_at net to) step ≡ true) × (is_some (stand_after net to ts) ≡ true)
-        by_test true true e h = (to, e, h)
+            → (at : ℕ) × (list_all (ends_at net at) step ≡ true) × (is_some (stand_after net at ts) ≡ true)
+              × ((if s && t then Some to else None) ≡ Some at)
+        by_test true true e h = (to, e, h, refl)
         by_test true false e h = absurd (false≢true h)
         by_test false t e h = absurd (false≢true h)

@@ -101,7 +101,7 @@ function-never set true p sid R E h = by (by_limit set p 0)
 same_packet : (p : Packet) → with_hop_limit (p.hop_limit - 0) p ≡ p
 same_packet p = ap (λ (h : ℕ). with_hop_limit h p) (sub-zero p.hop_limit)
 
-abbrev arrived : ℕ → Place → Place
+abbrev pub arrived : ℕ → Place → Place
 arrived to place = record { node = to; how = Arrived 0; family = place.family }
 
 module _ (net : Network) (end : List Step → walks.Step → Bool) where
