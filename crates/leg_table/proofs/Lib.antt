@@ -4,3 +4,4 @@ pub mod Rides
 pub mod Options
 pub mod Executions
 pub mod RideFacts
+pub mod Legs
