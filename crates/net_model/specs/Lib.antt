@@ -3,3 +3,6 @@ pub mod Rules
 pub mod Best
 pub mod Titles
 pub mod Keeps
+pub mod Named
+pub mod Found
+pub mod Entries

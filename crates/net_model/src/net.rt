@@ -1,9 +1,12 @@
 //! The network that keeps the rules, and the look-up of an address.
 
+use crate::lookup::lookup_in;
+use crate::named::{place_of_link, place_of_node};
 use crate::parts::{Link, Name, NetParts, Node, Route};
 use crate::rules::is_network;
 use srv6_rules::SidEntry;
 use std::marker::Model;
+use v6_addr::Addr;
 
 /// The entry of a node's table that fits an address best.
 #[derive(Clone, Copy, Debug, PartialEq, Eq)]
@@ -40,6 +43,8 @@ impl Net {
     ghost use Rattle.net_model.specs.Network.{network_of};
     ghost use Rattle.net_model.specs.Rules.{IsNetwork, is_network};
     ghost use Rattle.net_model.specs.Keeps.{Keeps};
+    ghost use Rattle.net_model.specs.Best.{IsBest, lookup_of};
+    ghost use Rattle.net_model.specs.Named.{node_numbered, link_numbered, IsNodeNumbered, IsLinkNumbered};
 
     /// The network with these parts; `None` exactly where they break a rule of descriptions (own rules).
     /// The parts of a network that is not made are given up.
@@ -109,6 +114,42 @@ impl Net {
         ensures { slice_get self.now.nodes n ≡ Some result.now }
     {
         &self.parts.nodes[n as usize]
+    }
+
+    /// The number of the node with a name; `None` exactly where no node has it.
+    pub fn node_named(&self, name: &[u8]) -> Option<u32>
+        ensures number { result ≡ node_numbered name.now self.now.nodes }
+        ensures meaning { IsNodeNumbered name.now self.now.nodes result }
+    {
+        self.keeps_rules();
+        match place_of_node(&self.parts.nodes, name) {
+            Some(n) => Some(n as u32),
+            None => None,
+        }
+    }
+
+    /// The number of the link with a name; `None` exactly where no link has it.
+    pub fn link_named(&self, name: &[u8]) -> Option<u32>
+        ensures number { result ≡ link_numbered name.now self.now.links }
+        ensures meaning { IsLinkNumbered name.now self.now.links result }
+    {
+        self.keeps_rules();
+        match place_of_link(&self.parts.links, name) {
+            Some(n) => Some(n as u32),
+            None => None,
+        }
+    }
+
+    /// What in a node's table fits an address best: the longest of the entries that hold it, and of equally long
+    /// ones a SID before the node's address before a route. Table 0 has the node's SIDs, its address and its
+    /// routes, other tables have routes alone (own rule).
+    pub fn lookup(&self, node: u32, table: u32, a: Addr) -> Hit
+        requires { node < length self.now.nodes }
+        ensures value { result ≡ lookup_of self.now node table a.value }
+        ensures best { IsBest self.now node table a.value result }
+    {
+        self.keeps_rules();
+        lookup_in(&self.parts, node, table, a)
     }
 
     /// The link with a number, counted from 0.

@@ -12,7 +12,7 @@ abbrev pub ◌>>=◌ : {X Y : Type 0} → Option X → (X → Option Y) → Opti
 -- each key of a table is one of these
 abbrev pub has_only : List (List ℕ) → Members → Bool
 has_only keys no_members = true
-has_only keys (member key d ms) = list_any (bytes_eq key) keys && has_only keys ms
+has_only keys (member key d ms) = list_any (λ k. bytes_eq k key) keys && has_only keys ms
 
 -- a table all of whose keys are among these
 abbrev pub table_with : List (List ℕ) → Data → Option Members
@@ -62,21 +62,19 @@ number_at_most most d = do
   z ← as_integer d
   number_within most z
 
+abbrev pub has_no_items : Option Items → Bool
+has_no_items None = false
+has_no_items (Some no_items) = true
+has_no_items (Some (item d ds)) = false
+
 -- the value is an array without items
 abbrev pub is_empty_array : Data → Bool
-is_empty_array (array no_items) = true
-is_empty_array (array (item d ds)) = false
-is_empty_array (table t) = false
-is_empty_array (string s) = false
-is_empty_array (integer z) = false
-is_empty_array (float x) = false
-is_empty_array (boolean b) = false
-is_empty_array (datetime t) = false
+is_empty_array d = has_no_items (as_array d)
+
+abbrev pub is_empty_or_absent : Option Data → Bool
+is_empty_or_absent None = true
+is_empty_or_absent (Some d) = is_empty_array d
 
 -- the key is absent, or holds an array without items
 abbrev pub is_empty_at : List ℕ → Members → Bool
-is_empty_at key t = holds_empty (get_member key t)
-  where
-    holds_empty : Option Data → Bool
-    holds_empty None = true
-    holds_empty (Some d) = is_empty_array d
+is_empty_at key t = is_empty_or_absent (get_member key t)

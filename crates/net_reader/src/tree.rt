@@ -1,7 +1,8 @@
 //! Values of the tree of a TOML document.
 
-ghost use Rattle.std.specs.Prelude.{◌≡◌, ◌≤◌, ◌<◌, ◌^◌, IfOk, IfSome, option_map, map, string_bytes, length};
-ghost use Rattle.toml.specs.Data.{get_member, as_str};
+ghost use Rattle.std.specs.Prelude.{◌≡◌, ◌≤◌, ◌<◌, ◌^◌, IfOk, IfSome, option_map, map, length, bytes_eq};
+ghost use Rattle.toml.specs.Data.{get_member, as_str, as_array};
+ghost use Rattle.std.specs.List.{list_any};
 ghost use Rattle.toml.specs.View.{view, table_view, items_view};
 ghost use Rattle.net_reader.specs.Tree.{needed, number_at_most, each_of, is_empty_array, has_only};
 
@@ -38,17 +39,29 @@ pub(crate) fn number_at_most(value: &Value, most: u32) -> Option<u32>
     }
 }
 
+/// The items of an array.
+pub(crate) fn items_of(value: &Value) -> Option<&[Value]>
+    ensures { option_map (λ s. items_view s.now) result ≡ as_array (view value.now) }
+{
+    match value.as_array() {
+        Some(items) => Some(items.as_slice()),
+        None => None,
+    }
+}
+
 /// Whether the value is an array without items.
+#[tactic(auto, using(crate::proofs::Items::emptiness))]
 pub(crate) fn is_empty_array(value: &Value) -> bool
     ensures { result ≡ is_empty_array (view value.now) }
 {
-    match value.as_array() {
+    match items_of(value) {
         Some(items) => items.is_empty(),
         None => false,
     }
 }
 
 /// The bytes that items hold, if each is an integer from 0 to 255.
+#[tactic(auto, using(crate::proofs::Items::reading))]
 pub(crate) fn bytes(alloc: Global, items: &[Value]) -> Result<Option<Vec<u8>>, AllocError>
     ensures { IfOk result (λ r. option_map (λ v. v.items) r ≡ each_of (number_at_most 255) (items_view items.now)) }
 {
@@ -62,9 +75,22 @@ pub(crate) fn bytes(alloc: Global, items: &[Value]) -> Result<Option<Vec<u8>>, A
     Ok(Some(bytes))
 }
 
+/// Whether the text is one of these.
+pub(crate) fn is_among(text: &str, texts: &[&str]) -> bool
+    ensures { result ≡ list_any (λ known. bytes_eq known text.now) (map (λ t. t.now) texts.now) }
+{
+    texts.contains(&text)
+}
+
 /// Whether each key of the table is one of these.
+#[tactic(auto, using(crate::proofs::Items::only_keys))]
 pub(crate) fn has_only(table: &Table, keys: &[&str]) -> bool
     ensures { result ≡ has_only (map (λ k. k.now) keys.now) (table_view table.now) }
 {
-    table.keys().all(|key| keys.contains(&key.as_str()))
+    for key in table.keys() {
+        if !is_among(key.as_str(), keys) {
+            return false;
+        }
+    }
+    true
 }

@@ -1,0 +1,4 @@
+pub mod PacketView
+pub mod ContentView
+pub mod Reading
+pub mod Fronts

@@ -1,2 +1,14 @@
-//! Comes soon.
+//! One node's treatment of one packet, in place.
+//!
+//! A `Content` is what a node holds: a packet, or bytes that do not read as one. `stage` is what a
+//! node does with it at a place under a choice among equal next hops; it takes no memory.
 #![tactic(auto)]
+
+mod content;
+mod numbers;
+mod packet;
+mod reading;
+mod spelling;
+
+pub use content::Content;
+pub use packet::Packet;

@@ -1,5 +1,5 @@
 -- The chain of extension headers behind an IPv6 header (RFC 8200 section 4).
-use Rattle.std.specs.Prelude.{◌≡◌, ℕ, zero, suc, ◌+◌, ◌-◌, ◌*◌, ◌<◌, ◌≤◌, Bool, true, false, ◌==◌, ◌&&◌, ◌||◌, nat_lt, nat_le, if◌then◌else◌, List, [], ◌∷◌, length, take, drop, slice_index}
+use Rattle.std.specs.Prelude.{◌≡◌, ℕ, zero, suc, ◌+◌, ◌-◌, ◌*◌, ◌<◌, ◌≤◌, Bool, true, false, ◌==◌, ◌&&◌, ◌||◌, nat_lt, nat_le, if◌then◌else◌, List, [], ◌∷◌, ◌++◌, length, take, drop, slice_index, All}
 use Rattle.srv6_rules.specs.Packet.{Packet}
 use Rattle.srv6_rules.specs.Srh.{Srh, srh_of, segment_routing}
 
@@ -52,14 +52,26 @@ chain_within zero kind at bytes = record { headers = []; end = if is_extension k
 chain_within (suc more) kind at bytes =
     if is_extension kind
     then (if is_whole kind bytes
-          then (let n = extension_bytes kind bytes in
-                behind (record { kind = kind; at = at; bytes = take n bytes }) (chain_within more (slice_index bytes 0) (at + n) (drop n bytes)))
-          else record { headers = []; end = Cut })
+    then (let n = extension_bytes kind bytes in
+    behind (record { kind = kind; at = at; bytes = take n bytes }) (chain_within more (slice_index bytes 0) (at + n) (drop n bytes)))
+    else record { headers = []; end = Cut })
     else record { headers = []; end = Upper kind at }
 
 -- the chain of a payload from a place on
 unfoldable pub chain_at : List ℕ → ℕ → ℕ → Chain
 chain_at payload kind at = chain_within (length (drop at payload)) kind at (drop at payload)
+
+-- the header at a place of a payload, that the value `kind` names
+abbrev pub header_at : List ℕ → ℕ → ℕ → Header
+header_at payload kind at = record { kind = kind; at = at; bytes = take (extension_bytes kind (drop at payload)) (drop at payload) }
+
+-- a header lies whole in a payload, with the length that it states
+pub record LiesIn (payload : List ℕ) (h : Header) : Type 0 where
+  pub extension : is_extension h.kind ≡ true
+  pub within : h.at + length h.bytes ≤ length payload
+  pub bytes : h.bytes ≡ take (length h.bytes) (drop h.at payload)
+  pub least : 8 ≤ length h.bytes
+  pub stated : length h.bytes ≡ extension_bytes h.kind h.bytes
 
 -- the chain of a packet
 abbrev pub chain_of : Packet → Chain
@@ -92,3 +104,11 @@ processed_in c = first_processed c.headers c.end
 
 abbrev pub processed_of : Packet → Processed
 processed_of p = processed_in (chain_of p)
+
+-- a header is the first of a chain that is not passed over
+pub record FirstNotPassed (headers : List Header) (h : Header) : Type 0 where
+  pub before : List Header
+  pub after : List Header
+  pub split : headers ≡ before ++ h ∷ after
+  pub passed : All (λ x. is_passed x ≡ true) before
+  pub stays : is_passed h ≡ false

@@ -1,6 +1,6 @@
 -- What a node does with a packet that came to one of its SIDs or to its own address: RFC 8986 sections 4.1, 4.2
 -- and 4.6 with the processing of RFC 8754 section 4.3.1.1, and RFC 8200 section 4.4 at an address.
-use Rattle.std.specs.Prelude.{◌≡◌, ℕ, ◌+◌, ◌-◌, ◌*◌, ◌/◌, ◌<◌, ◌≤◌, Bool, true, false, ◌==◌, ◌&&◌, ◌||◌, nat_lt, nat_le, if◌then◌else◌, List, [], ◌∷◌, length, drop, slice_index, slice_set, Option, Some, None}
+use Rattle.std.specs.Prelude.{◌≡◌, ◌≢◌, ◌⊎◌, ℕ, ◌+◌, ◌-◌, ◌*◌, ◌/◌, ◌<◌, ◌≤◌, Bool, true, false, ◌==◌, ◌&&◌, ◌||◌, nat_lt, nat_le, if◌then◌else◌, List, [], ◌∷◌, length, drop, slice_index, slice_set, Option, Some, None}
 use Rattle.std.specs.List.{list_any}
 use Rattle.srv6_rules.specs.declared.sid.Behaviour.{Behaviour}
 use Rattle.srv6_rules.specs.declared.sid.Behaviour.TheVariants.{End, EndX, Dt6}
@@ -8,7 +8,7 @@ use Rattle.srv6_rules.specs.declared.sid.Reason.{Reason}
 use Rattle.srv6_rules.specs.declared.sid.Reason.TheVariants as reasons
 use Rattle.srv6_rules.specs.Packet.{Packet, Content, V6, content_of}
 use Rattle.srv6_rules.specs.Srh.{Srh, srh_of, entries_of, entry_of, tlv_bytes}
-use Rattle.srv6_rules.specs.Chain.{Header, Processed, AtHeader, AtUpper, AtCut, is_segment_routing, processed_of}
+use Rattle.srv6_rules.specs.Chain.{Header, LiesIn, Processed, AtHeader, AtUpper, AtCut, is_segment_routing, processed_of}
 
 -- what came of a packet at a SID: it goes on with another destination, the packet inside it is
 -- exposed, it is handed to the upper layer here, or it is dropped
@@ -81,3 +81,37 @@ refused_at_address AtCut = Some reasons.BadChain
 
 abbrev pub at_address : Packet → Option Reason
 at_address p = refused_at_address (processed_of p)
+
+-- a packet that goes on after the step over the segment routing header that is processed: the hop limit is one lower,
+-- Segments Left, the header's byte 3, is one lower, the destination is that entry, and all else is as it was
+pub record StepsTo (p q : Packet) : Type 0 where
+  pub header : Header
+  pub left : ℕ
+  pub processed : processed_of p ≡ AtHeader header
+  pub routing : is_segment_routing header ≡ true
+  pub lies : LiesIn p.payload header
+  pub above_one : 1 < p.hop_limit
+  pub hop_limit : p.hop_limit ≡ q.hop_limit + 1
+  pub was_left : slice_index p.payload (header.at + 3) ≡ left + 1
+  pub destination : q.destination ≡ entry_of (srh_of header.bytes) left
+  pub payload : q.payload ≡ slice_set p.payload (header.at + 3) left
+  pub others : q ≡ record p { hop_limit = q.hop_limit; destination = q.destination; payload = q.payload }
+
+-- bytes before and after a step: the hop limit, byte 7, and one byte behind the IPv6 header are one lower, and but for
+-- these and the destination, bytes 24 to 39, each byte is as it was
+pub record ChangesFewBytes (before after : List ℕ) : Type 0 where
+  pub place : ℕ
+  pub within : 40 + place < length before
+  pub same_length : length after ≡ length before
+  pub hop_limit : slice_index before 7 ≡ slice_index after 7 + 1
+  pub segments_left : slice_index before (40 + place) ≡ slice_index after (40 + place) + 1
+  pub same : (k : ℕ) → k ≢ 7 → k ≢ 40 + place → (k < 24) ⊎ (40 ≤ k) → slice_index after k ≡ slice_index before k
+
+-- what a decapsulating SID exposes: what is read from the place of the packet inside
+pub record Exposes (b : Behaviour) (p : Packet) (c : Content) : Type 0 where
+  pub table : ℕ
+  pub at : ℕ
+  pub behaviour : b ≡ Dt6 table
+  pub processed : processed_of p ≡ AtUpper ipv6_inside at
+  pub within : at ≤ length p.payload
+  pub content : c ≡ content_of (drop at p.payload)

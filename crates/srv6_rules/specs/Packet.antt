@@ -99,8 +99,8 @@ content_of bytes =
     if length bytes == 0 then Unreadable bytes Truncated
     else if (slice_index bytes 0 / 16) == 6
     then (if nat_lt (length bytes) 40 then Unreadable bytes Truncated
-          else if nat_lt (length bytes) (40 + stated_len bytes) then Unreadable bytes Truncated
-          else V6 (packet_at bytes))
+    else if nat_lt (length bytes) (40 + stated_len bytes) then Unreadable bytes Truncated
+    else V6 (packet_at bytes))
     else Unreadable bytes BadVersion
 
 -- what enters a node: of bytes that do not read at most a longest packet's length is kept (own rule)

@@ -6,6 +6,7 @@
 //! these definitions speak of, and the laws about the definitions.
 #![tactic(auto)]
 
+mod laws;
 mod sid;
 
 pub use sid::{Behaviour, Family, LinkSet, Reason, SidEntry};

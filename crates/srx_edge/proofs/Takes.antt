@@ -16,5 +16,5 @@ taken_piece {T} result limit count bytes piece first now later e next within fit
   bytes = bytes ++ take count piece;
   whole = take_more bytes (take count piece) first now later e next;
   fits = let same : length bytes + count ≡ length (bytes ++ take count piece) = omega (arith, length-append bytes (take count piece), length-take-le count piece within) in
-    let P : ℕ → Type 0 = λ n. FitsLimit result limit n in subst P same fits;
+      let P : ℕ → Type 0 = λ n. FitsLimit result limit n in subst P same fits;
 }

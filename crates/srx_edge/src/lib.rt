@@ -3,6 +3,9 @@
 
 mod byte_list;
 mod file_access;
+mod host_files;
+mod host_sink;
+mod host_source;
 mod input;
 mod mem_files;
 mod mem_sink;
@@ -16,6 +19,9 @@ mod sure_source;
 
 pub use byte_list::Bytes;
 pub use file_access::{FileFault, Files};
+pub use host_files::HostFiles;
+pub use host_sink::HostSink;
+pub use host_source::HostSource;
 pub use input::{DrawFault, Failed, Source, draw};
 pub use mem_files::MemFiles;
 pub use mem_sink::MemSink;
@@ -24,3 +30,6 @@ pub use no_memory::NoMemory;
 pub use output::{PourFault, Sink, SinkFault, pour};
 pub use sure_sink::SureSink;
 pub use sure_source::SureSource;
+
+#[cfg(test)]
+mod tests;

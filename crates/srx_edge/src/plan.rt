@@ -43,7 +43,9 @@ impl Plan {
     /// Counts a call that failed.
     pub fn fail(&mut self)
         ensures { self.new ≡ record self.old {
-            calls = next_count self.old.calls; faults = next_count self.old.faults } }
+          calls = next_count self.old.calls;
+          faults = next_count self.old.faults;
+        } }
     {
         self.calls = self.calls.saturating_add(1);
         self.faults = self.faults.saturating_add(1);

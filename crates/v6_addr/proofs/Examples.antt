@@ -1,7 +1,7 @@
 -- texts that are read and written, as the definitions compute them
-use Rattle.std.specs.Prelude.{◌≡◌, ℕ, List, Option, Some, None, codes, refl}
-use Rattle.v6_addr.specs.Address.{PrefixValue, field_of, with_field_of}
-use Rattle.v6_addr.specs.Text.{address_of_text, prefix_of_text, address_text, prefix_text, number_of_text, group_of_text, groups_of_texts, groups_of_text, number_of_groups, full_address, shortened_address, gap_of, address_of_parts, length_of_text, prefix_of_parts, groups_of, group_text, groups_text, leading_zeros, longer_run, longest_run, text_with_run, length_text}
+use Rattle.std.specs.Prelude.{◌≡◌, Some, None, codes, refl}
+use Rattle.v6_addr.specs.Address.{field_of}
+use Rattle.v6_addr.specs.Text.{address_of_text, prefix_of_text, address_text, number_of_text, group_of_text, groups_of_texts, groups_of_text, number_of_groups, full_address, shortened_address, gap_of, address_of_parts, length_of_text, prefix_of_parts, groups_of, group_text, groups_text, leading_zeros, longer_run, longest_run, text_with_run}
 
 pub one_reads : address_of_text (codes "::1") ≡ Some 1
 unfolding address_of_text number_of_text group_of_text groups_of_texts groups_of_text number_of_groups full_address shortened_address gap_of address_of_parts

@@ -1,7 +1,7 @@
 -- the bits of numbers: what stands in some bits, and what an edit of some bits keeps.
 -- `rest` is how many bits stand behind the ones that are meant
-use Rattle.std.proofs.Common.{◌≡◌, ℕ, ◌+◌, ◌-◌, ◌*◌, ◌/◌, ◌%◌, ◌^◌, ◌<◌, ◌≤◌, sym, ◌∙◌, ap, subst, refl, arith, lit<}
-use Rattle.std.proofs.lemmas.Nat.{shr-shr, shr_split, shr_below, shr_high, mod_low, mul-add-lt, mod_below, pow_pos, pow-add, and_mask, one_shl, shl_below, field_of as cut_first}
+use Rattle.std.proofs.Common.{◌≡◌, ℕ, ◌+◌, ◌-◌, ◌*◌, ◌/◌, ◌%◌, ◌^◌, ◌<◌, ◌≤◌, sym, ◌∙◌, ap, subst, arith, lit<}
+use Rattle.std.proofs.lemmas.Nat.{shr_split, shr_below, shr_high, mod_low, mul-add-lt, mod_below, pow_pos, pow-add, shl_below, field_of as cut_first}
 use Rattle.std.proofs.Math.Pow.{mod-mod-pow}
 use Rattle.std.proofs.Math.Nat.{pow-le-pow_right}
 use Rattle.v6_addr.specs.Address.{PrefixValue, Holds, field_of, with_field_of}
@@ -151,7 +151,7 @@ edited_code a at width v low raised below within fits_a fits is_low is_raised is
     let whole = shr_split a (128 - at) in
     let cleared : a - low ≡ a / 2 ^ (128 - at) * 2 ^ (128 - at) = omega arith in
     let same : a - low + raised + below ≡ with_field_of a at width v =
-        ap (λ n. n + raised + below) cleared ∙ ap (λ n. a / 2 ^ (128 - at) * 2 ^ (128 - at) + n + below) is_raised
-        ∙ ap (λ n. a / 2 ^ (128 - at) * 2 ^ (128 - at) + v * 2 ^ (128 - at - width) + n) is_below in
+    ap (λ n. n + raised + below) cleared ∙ ap (λ n. a / 2 ^ (128 - at) * 2 ^ (128 - at) + n + below) is_raised
+    ∙ ap (λ n. a / 2 ^ (128 - at) * 2 ^ (128 - at) + v * 2 ^ (128 - at - width) + n) is_below in
     let P : ℕ → Type 0 = λ n. n < 2 ^ 128 in
     (same, subst P (sym same) (with_field_of_bound a at width v within fits_a fits))

@@ -1,5 +1,5 @@
 -- what holds of addresses and prefixes, over plain numbers: for the crates that look prefixes up
-use Rattle.std.proofs.Common.{◌≡◌, ℕ, ◌+◌, ◌-◌, ◌*◌, ◌/◌, ◌%◌, ◌^◌, ◌<◌, ◌≤◌, Bool, true, false, ltb, ◌&&◌, IsTrue, ◌↔◌, sym, ◌∙◌, ap, subst, refl, arith, rules}
+use Rattle.std.proofs.Common.{◌≡◌, ℕ, ◌+◌, ◌-◌, ◌*◌, ◌/◌, ◌%◌, ◌^◌, ◌<◌, ◌≤◌, ltb, IsTrue, ◌↔◌, sym, ◌∙◌, ap, subst, refl, arith}
 use Rattle.std.proofs.lemmas.Nat.{shr-shr, shr_split}
 use Rattle.std.proofs.lemmas.Bool.{and_parts, and_from, ltb-true, lt-ltb, le-ltb, eqb-true, eq-eqb}
 use Rattle.std.proofs.Math.Nat.{div-one}
@@ -24,9 +24,10 @@ holds_address_is p a = (eqb-true _ _, eq-eqb _ _)
 -- the test of `IsInside`
 pub is_inside_is : (inner outer : PrefixValue) → IsTrue (is_inside inner outer) ↔ IsInside inner outer
 unfolding is_inside
-is_inside_is inner outer =
-    (λ t. let parts = and_parts _ _ t in (ltb-true _ _ parts.0, (holds_address_is outer inner.value).0 parts.1),
-    λ h. and_from _ _ (lt-ltb _ _ h.0) ((holds_address_is outer inner.value).1 h.1))
+is_inside_is inner outer = (
+  λ t. let parts = and_parts _ _ t in (ltb-true _ _ parts.0, (holds_address_is outer inner.value).0 parts.1),
+  λ h. and_from _ _ (lt-ltb _ _ h.0) ((holds_address_is outer inner.value).1 h.1),
+)
 
 -- a prefix holds the address that it begins with
 pub Holds_own_value : (p : PrefixValue) → Holds p p.value

@@ -1,6 +1,6 @@
 -- The texts of addresses and prefixes: what is read (RFC 4291 sections 2.2 and 2.3) and what is written (RFC 5952 section 4).
 -- A text is a list of bytes: 58 is the colon, 47 the slash
-use Rattle.std.specs.Prelude.{◌≡◌, ℕ, suc, ◌+◌, ◌-◌, ◌*◌, ◌/◌, ◌%◌, ◌^◌, ◌<◌, ◌≤◌, Bool, ◌==◌, ◌&&◌, ◌||◌, not, nat_lt, nat_le, if◌then◌else◌, List, [], ◌∷◌, ◌++◌, length, take, drop, replicate, map, fold, Option, Some, None, option_map, option_and_then, slice_index}
+use Rattle.std.specs.Prelude.{ℕ, suc, ◌+◌, ◌-◌, ◌*◌, ◌/◌, ◌%◌, ◌^◌, ◌==◌, ◌&&◌, not, nat_lt, nat_le, if◌then◌else◌, List, [], ◌∷◌, ◌++◌, length, take, drop, replicate, map, fold, Option, Some, None, option_map, option_and_then, slice_index}
 use Rattle.std.specs.Char.{is_digit, digit_char}
 use Rattle.std.specs.Str.Parse.{digits_value}
 use Rattle.std.specs.List.{join_with_byte, slice_split, list_all, before_first, after_first}
@@ -40,7 +40,7 @@ full_address groups = if length groups == 8 then Some (number_of_groups groups) 
 unfoldable pub shortened_address : List ℕ → List ℕ → Option ℕ
 shortened_address left right =
     if nat_lt (length left + length right) 8
-        then Some (number_of_groups (left ++ replicate (8 - (length left + length right)) 0 ++ right)) else None
+    then Some (number_of_groups (left ++ replicate (8 - (length left + length right)) 0 ++ right)) else None
 
 -- how many bytes stand before the first `::`
 unfoldable pub gap_of : List ℕ → Option ℕ
@@ -52,7 +52,7 @@ unfoldable pub address_of_parts : List ℕ → Option ℕ → Option ℕ
 address_of_parts text None = option_and_then full_address (groups_of_text text)
 address_of_parts text (Some gap) =
     option_and_then (λ left. option_and_then (shortened_address left) (groups_of_text (drop (gap + 2) text)))
-        (groups_of_text (take gap text))
+    (groups_of_text (take gap text))
 
 -- the address that a text writes; none where the text is outside the grammar
 unfoldable pub address_of_text : List ℕ → Option ℕ
@@ -62,7 +62,7 @@ address_of_text text = address_of_parts text (gap_of text)
 unfoldable pub length_of_text : List ℕ → Option ℕ
 length_of_text text =
     if nat_le 1 (length text) && nat_le (length text) 3 && not (nat_lt 1 (length text) && (slice_index text 0 == 48))
-        then option_and_then (λ n. if nat_le n 128 then Some n else None) (number_of_text 10 text) else None
+    then option_and_then (λ n. if nat_le n 128 then Some n else None) (number_of_text 10 text) else None
 
 -- an address and a length, where no bit past the length is set
 unfoldable pub prefix_of_parts : Option ℕ → Option ℕ → Option PrefixValue
@@ -82,7 +82,7 @@ prefix_of_text text =
 unfoldable pub groups_of : ℕ → List ℕ
 groups_of a =
     field_of a 0 16 ∷ field_of a 16 16 ∷ field_of a 32 16 ∷ field_of a 48 16
-        ∷ field_of a 64 16 ∷ field_of a 80 16 ∷ field_of a 96 16 ∷ field_of a 112 16 ∷ []
+    ∷ field_of a 64 16 ∷ field_of a 80 16 ∷ field_of a 96 16 ∷ field_of a 112 16 ∷ []
 
 -- a group in hexadecimal digits, in lower case and without leading zeros (RFC 5952 sections 4.1 and 4.3)
 unfoldable pub group_text : ℕ → List ℕ
@@ -121,7 +121,7 @@ longest_run (g ∷ gs) = longer_run (leading_zeros (g ∷ gs)) (longest_run gs)
 unfoldable pub text_with_run : List ℕ → Run → List ℕ
 text_with_run groups run =
     if nat_le 2 run.count
-        then groups_text (take run.start groups) ++ (58 ∷ 58 ∷ groups_text (drop (run.start + run.count) groups))
+    then groups_text (take run.start groups) ++ (58 ∷ 58 ∷ groups_text (drop (run.start + run.count) groups))
     else groups_text groups
 
 -- the text of an address (RFC 5952 section 4)

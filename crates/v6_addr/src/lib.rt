@@ -6,9 +6,13 @@
 mod address;
 mod bits;
 mod errors;
+mod groups;
+mod parse;
 mod prefix;
+mod text;
 
 pub use address::Addr;
 pub use bits::{field, with_field};
 pub use errors::BadAddr;
 pub use prefix::Prefix;
+pub use text::{parse_addr, parse_prefix};

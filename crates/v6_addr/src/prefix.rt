@@ -1,10 +1,9 @@
 ghost use Rattle.std.specs.Prelude.{◌≡◌, ℕ, ◌+◌, ◌-◌, ◌*◌, ◌/◌, ◌%◌, ◌^◌, ◌<◌, ◌≤◌, ◌↔◌, IsTrue, SomeIff, IsSome, IfSome};
 ghost use Rattle.v6_addr.specs.Address.{PrefixValue, IsPrefix, Holds, holds_address, IsInside, is_inside};
 
-use std::marker::Model;
-
 use crate::address::Addr;
 use crate::bits::{high_bits, low_bits};
+use std::marker::Model;
 
 /// An IPv6 prefix (RFC 4291 section 2.3): an address and a length of at most 128 bits, where no bit past the
 /// length is set.

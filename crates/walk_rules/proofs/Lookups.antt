@@ -83,7 +83,7 @@ routes-there net node table n (r ∷ rs) same = by_test (r.node == node) (r.tabl
   where
     by_test : (t u : Bool) → (r.node == node) ≡ t → Each (EntryIsThere net node) (route_entries node table (n + 1) rs)
         → Each (EntryIsThere net node)
-            (if t && u then record { hit = hits.Route n; prefix = r.prefix } ∷ route_entries node table (n + 1) rs else route_entries node table (n + 1) rs)
+        (if t && u then record { hit = hits.Route n; prefix = r.prefix } ∷ route_entries node table (n + 1) rs else route_entries node table (n + 1) rs)
     by_test true true e rest = (rw (IsFrom-head net.routes n r rs same) (eqb-true r.node node e), rest)
     by_test true false e rest = rest
     by_test false u e rest = rest
@@ -97,7 +97,7 @@ entries-there net node table = by_test (table == 0)
   where
     by_test : (t : Bool) → Each (EntryIsThere net node)
         (if t then sid_entries node 0 net.sids ++ (address_entries (slice_get net.nodes node) ++ route_entries node 0 0 net.routes)
-         else route_entries node table 0 net.routes)
+        else route_entries node table 0 net.routes)
     by_test true =
         Each-append (EntryIsThere net node) _ _ (sids-there net node 0 net.sids (IsFrom-whole net.sids))
         (Each-append (EntryIsThere net node) _ _ (address-there net node (slice_get net.nodes node)) (routes-there net node 0 0 net.routes (IsFrom-whole net.routes)))

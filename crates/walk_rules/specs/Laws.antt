@@ -1,5 +1,5 @@
 -- What the laws about stages and walks say, in words.
-use Rattle.std.specs.Prelude.{◌≡◌, ◌≢◌, ℕ, ◌+◌, ◌<◌, List, [], length, slice_get, Option, Some, None, Contains}
+use Rattle.std.specs.Prelude.{◌≡◌, ◌≢◌, ℕ, ◌+◌, ◌<◌, List, [], ◌∷◌, length, slice_get, Option, Some, None, Contains}
 use Rattle.srv6_rules.specs.declared.sid.SidEntry.{SidEntry}
 use Rattle.srv6_rules.specs.Packet.{Packet, Content, V6, Unreadable}
 use Rattle.srv6_rules.specs.Endpoint.{at_sid}
@@ -9,6 +9,8 @@ use Rattle.walk_rules.specs.declared.place.Place.{Place}
 use Rattle.walk_rules.specs.declared.place.Outcome.{Outcome}
 use Rattle.walk_rules.specs.declared.place.Outcome.TheVariants as outcomes
 use Rattle.walk_rules.specs.Treatment.{Way, Away, Over, Own, Into, way_of, Gave, allow_of, on_from, treated_at_sid}
+use Rattle.walk_rules.specs.Relation.{Stage, IsPlace}
+use Rattle.walk_rules.specs.Walk.{Step, decisions}
 
 -- the set of equal next hops over which a way goes; none where it goes over no links
 abbrev pub set_of : Way → List ℕ
@@ -49,3 +51,14 @@ pub record Executes (net : Network) (place : Place) (content : Content) (gave : 
   pub stands : sid.node ≡ place.node
   pub goes_on : how ≡ on_from n sid.behaviour
   pub gives : gave ≡ treated_at_sid n sid.behaviour packet (at_sid sid.behaviour (allow_of (slice_get net.nodes place.node)) packet)
+
+-- two answers that differ at most in the link on which they send
+pub record DifferAtMostInLink (one other : Gave) : Type 0 where
+  pub after : other.after ≡ one.after
+  pub decisions_taken : decisions other.outcome ≡ decisions one.outcome
+  pub outcome : decisions one.outcome ≡ 0 → other.outcome ≡ one.outcome
+
+-- each of these stages is at a place of the network, and gives an outcome that there is there
+abbrev pub AreStages : Network → List Step → Type 0
+AreStages net [] = Unit {0}
+AreStages net (s ∷ more) = IsPlace net s.place × Stage net s.place s.before s.gave.outcome s.gave.after × AreStages net more

@@ -1,11 +1,10 @@
-use Rattle.std.proofs.Common.{ap, ◌∙◌, arith, ◌≡◌, ◌<◌, ◌-◌, ◌+◌, ◌^◌}
-use Rattle.v6_addr.specs.Address.{field_of, with_field_of}
+use Rattle.std.proofs.Common.{ap, ◌∙◌, arith}
+use Rattle.v6_addr.specs.Address.{field_of}
 use Rattle.v6_addr.proofs.Fields.{raised_fits, edited_code, field_of-same, field_of-before, field_of-behind}
 use Rattle.v6_addr.proofs.bits.with_field.Goals as goal
 
 pub raised-moved-requires-clause-fits : goal.raised-moved-requires-clause-fits
 raised-moved-requires-clause-fits c = raised_fits c.args.at c.args.width c.args.v c.requires.within c.requires.fits
-
 
 pub returns-clause-value : goal.returns-clause-value
 returns-clause-value c =

@@ -7,9 +7,9 @@ pub returns-then-outer-self-clause-test : goal.returns-then-outer-self-clause-te
 returns-then-outer-self-clause-test c =
     c.holds.ensures.test
     ∙ is_inside-longer _ _ _ _ _ (ap (λ (p : PrefixValue). p.value) c.self.view_is) (ap (λ (p : PrefixValue). p.len) c.self.view_is)
-        (ap (λ (p : PrefixValue). p.len) c.outer.view_is) c.if-outer-self.true
+    (ap (λ (p : PrefixValue). p.len) c.outer.view_is) c.if-outer-self.true
 
 pub returns-else-outer-self-clause-test : goal.returns-else-outer-self-clause-test
 returns-else-outer-self-clause-test c =
     is_inside-not_longer _ _ _ _ (ap (λ (p : PrefixValue). p.len) c.self.view_is) (ap (λ (p : PrefixValue). p.len) c.outer.view_is)
-        c.if-outer-self.false
+    c.if-outer-self.false

@@ -1,0 +1,40 @@
+//! Items by their names.
+
+ghost use Rattle.std.specs.Prelude.{◌≡◌, ◌<◌, length, bytes_eq, IfSome};
+ghost use Rattle.net_model.specs.Named.{node_numbered, link_numbered, IsNodeNumbered, IsLinkNumbered};
+
+use crate::parts::{Link, Name, Node};
+
+fn is_called(name: &Name, text: &[u8]) -> bool
+    ensures { result ≡ bytes_eq name.now text.now }
+{
+    name.as_bytes() == text
+}
+
+fn first_node(nodes: &[Node], name: &[u8]) -> Option<usize>
+    ensures { result ≡ node_numbered name.now nodes.now }
+{
+    nodes.iter().position(|n| is_called(&n.name, name))
+}
+
+fn first_link(links: &[Link], name: &[u8]) -> Option<usize>
+    ensures { result ≡ link_numbered name.now links.now }
+{
+    links.iter().position(|l| is_called(&l.name, name))
+}
+
+/// The place of the first node with a name.
+pub(crate) fn place_of_node(nodes: &[Node], name: &[u8]) -> Option<usize>
+    ensures number { result ≡ node_numbered name.now nodes.now }
+    ensures meaning { IsNodeNumbered name.now nodes.now result }
+{
+    first_node(nodes, name)
+}
+
+/// The place of the first link with a name.
+pub(crate) fn place_of_link(links: &[Link], name: &[u8]) -> Option<usize>
+    ensures number { result ≡ link_numbered name.now links.now }
+    ensures meaning { IsLinkNumbered name.now links.now result }
+{
+    first_link(links, name)
+}

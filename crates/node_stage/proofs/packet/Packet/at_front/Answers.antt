@@ -1,0 +1,11 @@
+use Rattle.std.proofs.Common.{◌≡◌, ◌/◌, ◌%◌, take, drop, slice_index, sym, subst, refl, ap, ◌∙◌}
+use Rattle.srv6_rules.specs.Packet.{Packet, packet_at, four_number, stated_len, IsSpellable}
+use Rattle.srv6_rules.proofs.Packets.{packet_at-spellable}
+use Rattle.node_stage.specs.PacketView.{packet_view}
+use Rattle.node_stage.proofs.packet.Packet.at_front.Goals as goal
+
+pub invariant_of-result : goal.invariant_of-result
+unfolding packet_at
+invariant_of-result c =
+    let s = packet_at-spellable c.args.bytes.items c.requires.in_range c.requires.whole in
+    rw (c.four_at-word.ensures, c.address_at-source.ensures, c.address_at-destination.ensures, c.truncate.ensures.items, c.drop_front.ensures, c.from.ensures, c.stated_len-len.ensures, c.as_slice-header.ensures.value) s

@@ -1,0 +1,155 @@
+//! The packet: the fields of its IPv6 header, and the bytes behind that header.
+
+ghost use Rattle.std.specs.Prelude.{◌≡◌, ◌-◌, ◌<◌, ◌≤◌, length, slice_set};
+ghost use Rattle.srv6_rules.specs.Packet.{packet_at, first_word, IsSpellable};
+ghost use Rattle.node_stage.specs.Reading.{HoldsPacket};
+
+use crate::numbers::{address_at, four_at};
+use crate::reading::{drop_front, stated_len};
+use std::marker::Model;
+use v6_addr::Addr;
+
+/// An IPv6 packet (RFC 8200 section 3), which bytes can spell.
+#[derive(Debug, Drop)]
+pub struct Packet {
+    traffic_class: u8,
+    flow_label: u32,
+    next_header: u8,
+    hop_limit: u8,
+    source: Addr,
+    destination: Addr,
+    payload: Vec<u8>,
+}
+
+impl Model for Packet {
+    ghost use Rattle.srv6_rules.specs.Packet.{Packet as PacketValue, IsSpellable};
+    ghost use Rattle.node_stage.specs.PacketView.{packet_view};
+
+    ghost Value = { PacketValue };
+
+    ghost view = { packet_view };
+
+    ghost invariant = { λ p. IsSpellable (packet_view p) };
+}
+
+impl Packet {
+    /// The packet that bytes begin with, in place: what stands behind its end is cut.
+    #[tactic(auto, unfolding(srv6_rules::specs::Packet::packet_at))]
+    pub(crate) fn at_front(mut bytes: Vec<u8>) -> Packet
+        requires { HoldsPacket bytes.items }
+        ensures { result ≡ packet_at bytes.items }
+    {
+        let header = bytes.as_slice();
+        let word = four_at(header, 0);
+        let next_header = header[6];
+        let hop_limit = header[7];
+        let source = address_at(header, 8);
+        let destination = address_at(header, 24);
+        let len = stated_len(header);
+        drop_front(&mut bytes, 40);
+        bytes.truncate(usize::from(len));
+        Packet {
+            traffic_class: (word / 0x10_0000 % 0x100) as u8,
+            flow_label: word % 0x10_0000,
+            next_header,
+            hop_limit,
+            source,
+            destination,
+            payload: bytes,
+        }
+    }
+
+    /// The traffic class.
+    pub fn traffic_class(&self) -> u8
+        ensures { result ≡ self.now.traffic_class }
+    {
+        self.traffic_class
+    }
+
+    /// The flow label, 20 bits.
+    pub fn flow_label(&self) -> u32
+        ensures { result ≡ self.now.flow_label }
+    {
+        self.flow_label
+    }
+
+    /// The value that names what stands behind the IPv6 header.
+    pub fn next_header(&self) -> u8
+        ensures { result ≡ self.now.next_header }
+    {
+        self.next_header
+    }
+
+    /// The hop limit.
+    pub fn hop_limit(&self) -> u8
+        ensures { result ≡ self.now.hop_limit }
+    {
+        self.hop_limit
+    }
+
+    /// The source address.
+    pub fn source(&self) -> Addr
+        ensures { result.value ≡ self.now.source }
+    {
+        self.source
+    }
+
+    /// The destination address.
+    pub fn destination(&self) -> Addr
+        ensures { result.value ≡ self.now.destination }
+    {
+        self.destination
+    }
+
+    /// Version, traffic class and flow label as one word.
+    #[tactic(auto, unfolding(srv6_rules::specs::Packet::first_word))]
+    pub(crate) fn first_word(&self) -> u32
+        ensures { result ≡ first_word self.now.traffic_class self.now.flow_label }
+    {
+        0x6000_0000 + u32::from(self.traffic_class) * 0x10_0000 + self.flow_label
+    }
+
+    /// The payload's length in bytes.
+    pub(crate) fn payload_len(&self) -> u16
+        ensures { result ≡ length self.now.payload }
+    {
+        self.payload.len() as u16
+    }
+
+    /// The fields fit their widths, so that bytes can spell the packet.
+    pub fn keeps_rules(&self)
+        ensures { IsSpellable self.now }
+    {
+        let _payload = &self.payload;
+    }
+
+    /// The bytes behind the IPv6 header.
+    pub fn payload(&self) -> &[u8]
+        ensures { result.now ≡ self.now.payload }
+    {
+        self.payload.as_slice()
+    }
+
+    /// Lowers the hop limit by one.
+    pub fn lower_hop_limit(&mut self)
+        requires { 1 ≤ self.old.hop_limit }
+        ensures { self.new ≡ record self.old { hop_limit = self.old.hop_limit - 1 } }
+    {
+        self.hop_limit -= 1;
+    }
+
+    /// Gives the packet another destination.
+    pub fn set_destination(&mut self, destination: Addr)
+        ensures { self.new ≡ record self.old { destination = destination.value } }
+    {
+        self.destination = destination;
+    }
+
+    /// Writes the payload's byte at a place, counted from 0.
+    pub fn set_payload_byte(&mut self, at: usize, byte: u8)
+        requires { at < length self.old.payload }
+        ensures { self.new ≡ record self.old { payload = slice_set self.old.payload at byte } }
+    {
+        self.payload[at] = byte;
+    }
+}

@@ -1,0 +1,5 @@
+pub mod Bytes
+pub mod Packets
+pub mod Headers
+pub mod Chains
+pub mod Endpoints

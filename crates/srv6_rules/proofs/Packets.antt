@@ -1,0 +1,478 @@
+-- A packet's spelling read back, and what reads as a packet spelled.
+use Rattle.std.proofs.Common.{◌/◌, ◌%◌, ◌≡◌, ℕ, zero, suc, ◌+◌, ◌-◌, ◌*◌, ◌^◌, ◌<◌, ◌≤◌, Bool, true, false, cond, ◌==◌, nat_lt, List, [], ◌∷◌, ◌++◌, length, take, drop, get_or, slice_index, All, refl, sym, ap, subst, ◌∙◌, arith, inl, inr, ◌⊎◌, take-add, length-append, length-drop, length-take}
+use Rattle.std.proofs.lemmas.Bool.{cases_Bool, cases_lt, cond-true, cond-false, eqb-true, ltb-true, ltb-false, eq-eqb, ne_eqb, lt-ltb, le-ltb}
+use Rattle.std.proofs.lemmas.List.{append_assoc, append-nil, drop_at, drop-drop, drop_all, take_at, length-take-le, take-append-drop, drop_more, get_or-drop, get_or_append_left, get_or-append-add, take_all}
+use Rattle.std.proofs.lemmas.List.Elements.{All-append, All-cons, All-take, All-drop}
+use Rattle.std.specs.Int.{byte_at, bytes_high_first}
+use Rattle.srv6_rules.specs.declared.sid.Reason.{Reason}
+use Rattle.srv6_rules.specs.declared.sid.Reason.TheVariants.{Truncated, BadVersion}
+use Rattle.srv6_rules.specs.Packet.{Packet, Content, V6, Unreadable, IsSpellable, Spells, IsContent, spelling, header_spelling, first_word, two_bytes, four_bytes, address_bytes, two_number, four_number, address_number, stated_len, packet_at, content_of, entered, bytes_of, most_len}
+use Rattle.srv6_rules.proofs.Bytes.{length-two_bytes, length-four_bytes, length-address_bytes, all-two_bytes, all-four_bytes, all-address_bytes, two_number-below, four_number-below, address_number-below, two_number-bytes, four_number-bytes, address_number-bytes, two_bytes-number, four_bytes-number, address_bytes-number, byte_below}
+
+-- ---- the parts of a header of 4, 2, 1, 1, 16 and 16 bytes with more behind it
+
+laid : List ℕ → List ℕ → ℕ → ℕ → List ℕ → List ℕ → List ℕ → List ℕ
+laid a b n h s d r = a ++ (b ++ (n ∷ h ∷ (s ++ (d ++ r))))
+
+module _ (a b : List ℕ) (n h : ℕ) (s d r : List ℕ) (la : length a ≡ 4) (lb : length b ≡ 2) (ls : length s ≡ 16) (ld : length d ≡ 16) where
+  drop4-laid : drop 4 (laid a b n h s d r) ≡ b ++ (n ∷ h ∷ (s ++ (d ++ r)))
+  unfolding laid
+  drop4-laid = drop_at a (b ++ (n ∷ h ∷ (s ++ (d ++ r)))) 4 la
+
+  drop6-laid : drop 6 (laid a b n h s d r) ≡ n ∷ h ∷ (s ++ (d ++ r))
+  drop6-laid = sym (drop-drop 2 4 (laid a b n h s d r)) ∙ ap (drop 2) drop4-laid ∙ drop_at b (n ∷ h ∷ (s ++ (d ++ r))) 2 lb
+
+  drop8-laid : drop 8 (laid a b n h s d r) ≡ s ++ (d ++ r)
+  drop8-laid = sym (drop-drop 2 6 (laid a b n h s d r)) ∙ ap (drop 2) drop6-laid
+
+  drop24-laid : drop 24 (laid a b n h s d r) ≡ d ++ r
+  drop24-laid = sym (drop-drop 16 8 (laid a b n h s d r)) ∙ ap (drop 16) drop8-laid ∙ drop_at s (d ++ r) 16 ls
+
+  drop40-laid : drop 40 (laid a b n h s d r) ≡ r
+  drop40-laid = sym (drop-drop 16 24 (laid a b n h s d r)) ∙ ap (drop 16) drop24-laid ∙ drop_at d r 16 ld
+
+  six-laid : slice_index (laid a b n h s d r) 6 ≡ n
+  six-laid = sym (get_or-drop 6 (laid a b n h s d r) 0 0) ∙ ap (λ xs. slice_index xs 0) drop6-laid
+
+  seven-laid : slice_index (laid a b n h s d r) 7 ≡ h
+  seven-laid = sym (get_or-drop 6 (laid a b n h s d r) 1 0) ∙ ap (λ xs. slice_index xs 1) drop6-laid
+
+  length-laid : length (laid a b n h s d r) ≡ 40 + length r
+  unfolding laid
+  length-laid = simp length-append (omega arith)
+
+-- a byte of what is laid out, by its place
+front-laid : (a b : List ℕ) (n h : ℕ) (s d r : List ℕ) (k : ℕ) → length a ≡ 4 → length b ≡ 2 → k < 6 → slice_index (laid a b n h s d r) k ≡ slice_index (a ++ b) k
+unfolding laid
+front-laid a b n h s d r k la lb below =
+    ap (λ xs. slice_index xs k) (sym (append_assoc a b (n ∷ h ∷ (s ++ (d ++ r)))))
+    ∙ get_or_append_left (a ++ b) (n ∷ h ∷ (s ++ (d ++ r))) 0 k (omega (arith, length-append a b))
+
+source-laid : (a b : List ℕ) (n h : ℕ) (s d r : List ℕ) (k : ℕ) → length a ≡ 4 → length b ≡ 2 → length s ≡ 16 → length d ≡ 16 → 8 ≤ k → k < 24
+    → slice_index (laid a b n h s d r) k ≡ slice_index s (k - 8)
+source-laid a b n h s d r k la lb ls ld from below =
+    let sum : k ≡ 8 + (k - 8) = omega arith in
+    ap (slice_index (laid a b n h s d r)) sum
+    ∙ sym (get_or-drop 8 (laid a b n h s d r) (k - 8) 0)
+    ∙ ap (λ xs. slice_index xs (k - 8)) (drop8-laid a b n h s d r la lb ls ld)
+    ∙ get_or_append_left s (d ++ r) 0 (k - 8) (omega arith)
+
+rest-laid : (a b : List ℕ) (n h : ℕ) (s d r : List ℕ) (k : ℕ) → length a ≡ 4 → length b ≡ 2 → length s ≡ 16 → length d ≡ 16 → 40 ≤ k
+    → slice_index (laid a b n h s d r) k ≡ slice_index r (k - 40)
+rest-laid a b n h s d r k la lb ls ld from =
+    let sum : k ≡ 40 + (k - 40) = omega arith in
+    ap (slice_index (laid a b n h s d r)) sum
+    ∙ sym (get_or-drop 40 (laid a b n h s d r) (k - 40) 0)
+    ∙ ap (λ xs. slice_index xs (k - 40)) (drop40-laid a b n h s d r la lb ls ld)
+
+-- bytes that are laid out alike but for a number and a part agree elsewhere
+agree-laid : (a b : List ℕ) (n h h' : ℕ) (s d d' r r' : List ℕ) → length a ≡ 4 → length b ≡ 2 → length s ≡ 16 → length d ≡ 16 → length d' ≡ 16
+    → (k : ℕ) → (k ≡ 7 → ⊥) → (k < 24) ⊎ (40 ≤ k) → (40 ≤ k → slice_index r (k - 40) ≡ slice_index r' (k - 40))
+    → slice_index (laid a b n h s d r) k ≡ slice_index (laid a b n h' s d' r') k
+agree-laid a b n h h' s d d' r r' la lb ls ld ld' k not_seven side behind = elim (cases_lt k 6) [
+  | inl front ↦ front-laid a b n h s d r k la lb front ∙ sym (front-laid a b n h' s d' r' k la lb front)
+  | inr six ↦ elim (cases_lt k 7) [
+    | inl low ↦
+        let same : k ≡ 6 = omega arith in
+        rw same (six-laid a b n h s d r la lb ls ld ∙ sym (six-laid a b n h' s d' r' la lb ls ld'))
+    | inr seven ↦ elim side [
+      | inl middle ↦
+          let past : 8 ≤ k = omega arith in
+          source-laid a b n h s d r k la lb ls ld past middle ∙ sym (source-laid a b n h' s d' r' k la lb ls ld' past middle)
+      | inr rest ↦ rest-laid a b n h s d r k la lb ls ld rest ∙ behind rest ∙ sym (rest-laid a b n h' s d' r' k la lb ls ld' rest)
+    ]
+  ]
+]
+
+-- ---- the first word
+
+first_word-below : (t f : ℕ) → t < 2 ^ 8 → f < 2 ^ 20 → first_word t f < 2 ^ 32
+unfolding first_word
+first_word-below t f ht hf = omega arith
+
+first_word-class : (t f : ℕ) → t < 2 ^ 8 → f < 2 ^ 20 → first_word t f / 2 ^ 20 % 2 ^ 8 ≡ t
+unfolding first_word
+first_word-class t f ht hf = omega arith
+
+first_word-label : (t f : ℕ) → t < 2 ^ 8 → f < 2 ^ 20 → first_word t f % 2 ^ 20 ≡ f
+unfolding first_word
+first_word-label t f ht hf = omega arith
+
+-- a word that begins with 6 is made of its parts
+first_word-parts : (w : ℕ) → w / 2 ^ 28 ≡ 6 → first_word (w / 2 ^ 20 % 2 ^ 8) (w % 2 ^ 20) ≡ w
+unfolding first_word
+first_word-parts w h = omega arith
+
+-- the first byte of a word
+first_byte : (w : ℕ) (rest : List ℕ) → slice_index (four_bytes w ++ rest) 0 ≡ w / 2 ^ 24 % 2 ^ 8
+unfolding four_bytes
+first_byte w rest = refl
+
+first_word-version : (t f : ℕ) (rest : List ℕ) → t < 2 ^ 8 → f < 2 ^ 20 → slice_index (four_bytes (first_word t f) ++ rest) 0 / 16 ≡ 6
+unfolding first_word
+first_word-version t f rest ht hf = rw (first_byte (first_word t f) rest) (omega arith)
+
+-- the first half byte of the number in four bytes
+four_number-version : (bytes : List ℕ) → All (λ b. b < 2 ^ 8) bytes → four_number bytes / 2 ^ 28 ≡ slice_index bytes 0 / 16
+unfolding four_number
+four_number-version bytes h =
+    let b0 = byte_below bytes 0 h in
+    let b1 = byte_below bytes 1 h in
+    let b2 = byte_below bytes 2 h in
+    let b3 = byte_below bytes 3 h in
+    omega arith
+
+-- ---- reading what was spelled
+
+-- a spelling with more behind it, laid out
+spelling-laid : (p : Packet) (rest : List ℕ)
+    → spelling p ++ rest ≡ laid (four_bytes (first_word p.traffic_class p.flow_label)) (two_bytes (length p.payload)) p.next_header p.hop_limit (address_bytes p.source) (address_bytes p.destination) (p.payload ++ rest)
+unfolding laid header_spelling
+spelling-laid p rest = simp append_assoc
+
+-- a header is 40 bytes
+pub length-header_spelling : (p : Packet) → length (header_spelling p) ≡ 40
+unfolding header_spelling
+length-header_spelling p =
+    simp (length-append, length-four_bytes, length-two_bytes, length-address_bytes)
+
+-- a spelling is 40 bytes and the payload
+pub length-spelling : (p : Packet) → length (spelling p) ≡ 40 + length p.payload
+length-spelling p = length-append (header_spelling p) p.payload ∙ ap (λ n. n + length p.payload) (length-header_spelling p)
+
+-- each byte of a spelling is below 256
+all-header_spelling : (p : Packet) → IsSpellable p → All (λ b. b < 2 ^ 8) (header_spelling p)
+unfolding header_spelling
+all-header_spelling p h =
+    let P : ℕ → Type 0 = λ b. b < 2 ^ 8 in
+    let addresses = All-append P (address_bytes p.source) (address_bytes p.destination) (all-address_bytes p.source) (all-address_bytes p.destination) in
+    let tail = All-cons P p.next_header (p.hop_limit ∷ (address_bytes p.source ++ address_bytes p.destination)) h.next_header
+    (All-cons P p.hop_limit (address_bytes p.source ++ address_bytes p.destination) h.hop_limit addresses) in
+    let behind_word = All-append P (two_bytes (length p.payload)) (p.next_header ∷ (p.hop_limit ∷ (address_bytes p.source ++ address_bytes p.destination))) (all-two_bytes (length p.payload)) tail in
+    All-append P (four_bytes (first_word p.traffic_class p.flow_label)) (two_bytes (length p.payload) ++ (p.next_header ∷ (p.hop_limit ∷ (address_bytes p.source ++ address_bytes p.destination)))) (all-four_bytes (first_word p.traffic_class p.flow_label)) behind_word
+
+pub all-spelling : (p : Packet) → IsSpellable p → All (λ b. b < 2 ^ 8) (spelling p)
+all-spelling p h = All-append (λ b. b < 2 ^ 8) (header_spelling p) p.payload (all-header_spelling p h) h.payload
+
+-- bytes that hold what their header states read as the packet there
+pub content_of-whole : (bytes : List ℕ) → slice_index bytes 0 / 16 ≡ 6 → 40 + stated_len bytes ≤ length bytes → content_of bytes ≡ V6 (packet_at bytes)
+content_of-whole bytes version whole =
+    let e1 = ne_eqb (length bytes) 0 (omega arith) in
+    let e2 = eq-eqb (slice_index bytes 0 / 16) 6 version in
+    let e3 = le-ltb (length bytes) 40 (omega arith) in
+    let e4 = le-ltb (length bytes) (40 + stated_len bytes) whole in
+    rw (e1, e2, e3, e4) refl
+
+-- the packet in bytes, by what is read of them
+packet_at-from : (p : Packet) (bytes : List ℕ)
+    → four_number bytes / 2 ^ 20 % 2 ^ 8 ≡ p.traffic_class → four_number bytes % 2 ^ 20 ≡ p.flow_label
+    → slice_index bytes 6 ≡ p.next_header → slice_index bytes 7 ≡ p.hop_limit
+    → address_number (drop 8 bytes) ≡ p.source → address_number (drop 24 bytes) ≡ p.destination
+    → take (stated_len bytes) (drop 40 bytes) ≡ p.payload → packet_at bytes ≡ p
+unfolding packet_at
+packet_at-from p bytes e1 e2 e3 e4 e5 e6 e7 = rw (e1, e2, e3, e4, e5, e6, e7) refl
+
+module _ (p : Packet) (rest : List ℕ) (h : IsSpellable p) where
+  word : ℕ
+  word = first_word p.traffic_class p.flow_label
+
+  spelled : List ℕ
+  spelled = laid (four_bytes word) (two_bytes (length p.payload)) p.next_header p.hop_limit (address_bytes p.source) (address_bytes p.destination) (p.payload ++ rest)
+
+  word_is : four_number spelled ≡ word
+  unfolding spelled laid word
+  word_is = four_number-bytes word (two_bytes (length p.payload) ++ (p.next_header ∷ p.hop_limit ∷ (address_bytes p.source ++ (address_bytes p.destination ++ (p.payload ++ rest)))))
+      (first_word-below p.traffic_class p.flow_label h.traffic_class h.flow_label)
+
+  version_is : slice_index spelled 0 / 16 ≡ 6
+  unfolding spelled laid word
+  version_is = first_word-version p.traffic_class p.flow_label (two_bytes (length p.payload) ++ (p.next_header ∷ p.hop_limit ∷ (address_bytes p.source ++ (address_bytes p.destination ++ (p.payload ++ rest)))))
+      h.traffic_class h.flow_label
+
+  length_word : length (four_bytes word) ≡ 4
+  length_word = length-four_bytes word
+
+  stated_is : stated_len spelled ≡ length p.payload
+  unfolding spelled stated_len
+  stated_is = ap two_number (drop4-laid (four_bytes word) (two_bytes (length p.payload)) p.next_header p.hop_limit (address_bytes p.source) (address_bytes p.destination) (p.payload ++ rest)
+      length_word (length-two_bytes (length p.payload)) (length-address_bytes p.source) (length-address_bytes p.destination))
+      ∙ two_number-bytes (length p.payload) (p.next_header ∷ p.hop_limit ∷ (address_bytes p.source ++ (address_bytes p.destination ++ (p.payload ++ rest)))) h.payload_len
+
+  source_is : address_number (drop 8 spelled) ≡ p.source
+  unfolding spelled
+  source_is = ap address_number (drop8-laid (four_bytes word) (two_bytes (length p.payload)) p.next_header p.hop_limit (address_bytes p.source) (address_bytes p.destination) (p.payload ++ rest)
+      length_word (length-two_bytes (length p.payload)) (length-address_bytes p.source) (length-address_bytes p.destination))
+      ∙ address_number-bytes p.source (address_bytes p.destination ++ (p.payload ++ rest)) h.source
+
+  destination_is : address_number (drop 24 spelled) ≡ p.destination
+  unfolding spelled
+  destination_is = ap address_number (drop24-laid (four_bytes word) (two_bytes (length p.payload)) p.next_header p.hop_limit (address_bytes p.source) (address_bytes p.destination) (p.payload ++ rest)
+      length_word (length-two_bytes (length p.payload)) (length-address_bytes p.source) (length-address_bytes p.destination))
+      ∙ address_number-bytes p.destination (p.payload ++ rest) h.destination
+
+  rest_is : drop 40 spelled ≡ p.payload ++ rest
+  unfolding spelled
+  rest_is = drop40-laid (four_bytes word) (two_bytes (length p.payload)) p.next_header p.hop_limit (address_bytes p.source) (address_bytes p.destination) (p.payload ++ rest)
+      length_word (length-two_bytes (length p.payload)) (length-address_bytes p.source) (length-address_bytes p.destination)
+
+  payload_is : take (stated_len spelled) (drop 40 spelled) ≡ p.payload
+  payload_is = rw (stated_is, rest_is) (take_at p.payload rest (length p.payload) refl)
+
+  next_header_is : slice_index spelled 6 ≡ p.next_header
+  unfolding spelled
+  next_header_is = six-laid (four_bytes word) (two_bytes (length p.payload)) p.next_header p.hop_limit (address_bytes p.source) (address_bytes p.destination) (p.payload ++ rest)
+      length_word (length-two_bytes (length p.payload)) (length-address_bytes p.source) (length-address_bytes p.destination)
+
+  hop_limit_is : slice_index spelled 7 ≡ p.hop_limit
+  unfolding spelled
+  hop_limit_is = seven-laid (four_bytes word) (two_bytes (length p.payload)) p.next_header p.hop_limit (address_bytes p.source) (address_bytes p.destination) (p.payload ++ rest)
+      length_word (length-two_bytes (length p.payload)) (length-address_bytes p.source) (length-address_bytes p.destination)
+
+  length_is : length spelled ≡ 40 + (length p.payload + length rest)
+  unfolding spelled
+  length_is = length-laid (four_bytes word) (two_bytes (length p.payload)) p.next_header p.hop_limit (address_bytes p.source) (address_bytes p.destination) (p.payload ++ rest)
+      length_word (length-two_bytes (length p.payload)) (length-address_bytes p.source) (length-address_bytes p.destination)
+      ∙ ap (λ n. 40 + n) (length-append p.payload rest)
+
+  class_is : four_number spelled / 2 ^ 20 % 2 ^ 8 ≡ p.traffic_class
+  unfolding word
+  class_is = rw word_is (first_word-class p.traffic_class p.flow_label h.traffic_class h.flow_label)
+
+  label_is : four_number spelled % 2 ^ 20 ≡ p.flow_label
+  unfolding word
+  label_is = rw word_is (first_word-label p.traffic_class p.flow_label h.traffic_class h.flow_label)
+
+  read_back : content_of spelled ≡ V6 p
+  read_back =
+      content_of-whole spelled version_is (omega (arith, stated_is, length_is))
+      ∙ ap V6 (packet_at-from p spelled class_is label_is next_header_is hop_limit_is source_is destination_is payload_is)
+
+-- a spelling, laid out
+spelling-laid_alone : (p : Packet)
+    → spelling p ≡ laid (four_bytes (first_word p.traffic_class p.flow_label)) (two_bytes (length p.payload)) p.next_header p.hop_limit (address_bytes p.source) (address_bytes p.destination) p.payload
+spelling-laid_alone p =
+    sym (append-nil (spelling p)) ∙ spelling-laid p []
+    ∙ ap (laid (four_bytes (first_word p.traffic_class p.flow_label)) (two_bytes (length p.payload)) p.next_header p.hop_limit (address_bytes p.source) (address_bytes p.destination)) (append-nil p.payload)
+
+-- packets that differ in the hop limit, the destination and bytes of the payload agree elsewhere in their spellings
+pub spelling-agrees : (p q : Packet) → q.traffic_class ≡ p.traffic_class → q.flow_label ≡ p.flow_label → q.next_header ≡ p.next_header → q.source ≡ p.source
+    → length q.payload ≡ length p.payload → (k : ℕ) → (k ≡ 7 → ⊥) → (k < 24) ⊎ (40 ≤ k)
+    → (40 ≤ k → slice_index q.payload (k - 40) ≡ slice_index p.payload (k - 40)) → slice_index (spelling q) k ≡ slice_index (spelling p) k
+spelling-agrees p q class label next source len k not_seven side behind =
+    let w : ℕ = first_word p.traffic_class p.flow_label in
+    let word : first_word q.traffic_class q.flow_label ≡ w = rw (class, label) refl in
+    let there : spelling q ≡ laid (four_bytes w) (two_bytes (length p.payload)) p.next_header q.hop_limit (address_bytes p.source) (address_bytes q.destination) q.payload =
+    spelling-laid_alone q ∙ rw (word, len, next, source) refl in
+    ap (λ xs. slice_index xs k) there
+    ∙ agree-laid (four_bytes w) (two_bytes (length p.payload)) p.next_header q.hop_limit p.hop_limit (address_bytes p.source) (address_bytes q.destination) (address_bytes p.destination) q.payload p.payload
+    (length-four_bytes w) (length-two_bytes (length p.payload)) (length-address_bytes p.source) (length-address_bytes q.destination) (length-address_bytes p.destination)
+    k not_seven side behind
+    ∙ ap (λ xs. slice_index xs k) (sym (spelling-laid_alone p))
+
+-- the byte of the hop limit, and those of the payload
+pub spelling-hop_limit : (p : Packet) → slice_index (spelling p) 7 ≡ p.hop_limit
+spelling-hop_limit p =
+    let w : ℕ = first_word p.traffic_class p.flow_label in
+    ap (λ xs. slice_index xs 7) (spelling-laid_alone p)
+    ∙ seven-laid (four_bytes w) (two_bytes (length p.payload)) p.next_header p.hop_limit (address_bytes p.source) (address_bytes p.destination) p.payload
+    (length-four_bytes w) (length-two_bytes (length p.payload)) (length-address_bytes p.source) (length-address_bytes p.destination)
+
+pub spelling-payload : (p : Packet) (k : ℕ) → slice_index (spelling p) (40 + k) ≡ slice_index p.payload k
+spelling-payload p k =
+    ap (λ n. slice_index (spelling p) (n + k)) (sym (length-header_spelling p)) ∙ get_or-append-add (header_spelling p) p.payload k 0
+
+-- reading a spelling gives the packet, whatever stands behind it
+pub content_of-spelling : (p : Packet) (rest : List ℕ) → IsSpellable p → content_of (spelling p ++ rest) ≡ V6 p
+unfolding spelled word
+content_of-spelling p rest h = rw (spelling-laid p rest) (read_back p rest h)
+
+pub content_of-spelling_alone : (p : Packet) → IsSpellable p → content_of (spelling p) ≡ V6 p
+content_of-spelling_alone p h = ap content_of (sym (append-nil (spelling p))) ∙ content_of-spelling p [] h
+
+-- the header states the payload's length
+pub stated_len-spelling : (p : Packet) (rest : List ℕ) → IsSpellable p → stated_len (spelling p ++ rest) ≡ length p.payload
+unfolding spelled word
+stated_len-spelling p rest h = rw (spelling-laid p rest) (stated_is p rest h)
+
+-- ---- what reads was spelled
+
+-- bytes that read as a packet hold what their header states, and the packet is what is read there
+pub record Reads (bytes : List ℕ) (p : Packet) : Type 0 where
+  pub version : slice_index bytes 0 / 16 ≡ 6
+  pub whole : 40 + stated_len bytes ≤ length bytes
+  pub packet : packet_at bytes ≡ p
+
+reads-by_tests : (bytes : List ℕ) (p : Packet) (empty six short cut : Bool)
+    → length bytes == 0 ≡ empty → (slice_index bytes 0 / 16) == 6 ≡ six → nat_lt (length bytes) 40 ≡ short → nat_lt (length bytes) (40 + stated_len bytes) ≡ cut
+    → cond empty (Unreadable bytes Truncated) (cond six (cond short (Unreadable bytes Truncated) (cond cut (Unreadable bytes Truncated) (V6 (packet_at bytes)))) (Unreadable bytes BadVersion)) ≡ V6 p
+    → Reads bytes p
+reads-by_tests bytes p true six short cut e1 e2 e3 e4 e = cc
+reads-by_tests bytes p false false short cut e1 e2 e3 e4 e = cc
+reads-by_tests bytes p false true true cut e1 e2 e3 e4 e = cc
+reads-by_tests bytes p false true false true e1 e2 e3 e4 e = cc
+reads-by_tests bytes p false true false false e1 e2 e3 e4 e =
+    record { version = eqb-true (slice_index bytes 0 / 16) 6 e2; whole = ltb-false (length bytes) (40 + stated_len bytes) e4; packet = cc }
+
+pub reads : (bytes : List ℕ) (p : Packet) → content_of bytes ≡ V6 p → Reads bytes p
+reads bytes p e = reads-by_tests bytes p (length bytes == 0) ((slice_index bytes 0 / 16) == 6) (nat_lt (length bytes) 40) (nat_lt (length bytes) (40 + stated_len bytes)) refl refl refl refl e
+
+-- what does not read is kept as it is
+unreadable-by_tests : (bytes kept : List ℕ) (why : Reason) (empty six short cut : Bool)
+    → cond empty (Unreadable bytes Truncated) (cond six (cond short (Unreadable bytes Truncated) (cond cut (Unreadable bytes Truncated) (V6 (packet_at bytes)))) (Unreadable bytes BadVersion)) ≡ Unreadable kept why
+    → bytes ≡ kept
+unreadable-by_tests bytes kept why true six short cut e = cc
+unreadable-by_tests bytes kept why false false short cut e = cc
+unreadable-by_tests bytes kept why false true true cut e = cc
+unreadable-by_tests bytes kept why false true false true e = cc
+unreadable-by_tests bytes kept why false true false false e = cc
+
+pub unreadable : (bytes kept : List ℕ) (why : Reason) → content_of bytes ≡ Unreadable kept why → bytes ≡ kept
+unreadable bytes kept why e = unreadable-by_tests bytes kept why (length bytes == 0) ((slice_index bytes 0 / 16) == 6) (nat_lt (length bytes) 40) (nat_lt (length bytes) (40 + stated_len bytes)) e
+
+-- the packet in whole bytes can be spelled
+pub packet_at-spellable : (bytes : List ℕ) → All (λ b. b < 2 ^ 8) bytes → 40 + stated_len bytes ≤ length bytes → IsSpellable (packet_at bytes)
+unfolding packet_at stated_len
+packet_at-spellable bytes all whole =
+    let P : ℕ → Type 0 = λ b. b < 2 ^ 8 in
+    record {
+      traffic_class = omega arith;
+      flow_label = omega arith;
+      next_header = byte_below bytes 6 all;
+      hop_limit = byte_below bytes 7 all;
+      source = address_number-below (drop 8 bytes) (All-drop P 8 bytes all);
+      destination = address_number-below (drop 24 bytes) (All-drop P 24 bytes all);
+      payload_len = let below = two_number-below (drop 4 bytes) (All-drop P 4 bytes all) in
+          let len = length-take-le (two_number (drop 4 bytes)) (drop 40 bytes) (omega (arith, length-drop 40 bytes)) in omega arith;
+      payload = All-take P (two_number (drop 4 bytes)) (drop 40 bytes) (All-drop P 40 bytes all);
+    }
+
+-- a part of bytes and the part behind it are one part
+then_take : (i m n : ℕ) (xs zs ys : List ℕ) → zs ≡ take m (drop i xs) → ys ≡ take n (drop (i + m) xs) → zs ++ ys ≡ take (m + n) (drop i xs)
+then_take i m n xs zs ys ez ey =
+    ap (λ ws. ws ++ ys) ez ∙ ap (λ ws. take m (drop i xs) ++ ws) (ey ∙ ap (take n) (sym (drop-drop m i xs))) ∙ sym (take-add m n (drop i xs))
+
+laid-from : (bytes a b : List ℕ) (n h : ℕ) (s d r : List ℕ) (k : ℕ) → a ≡ take 4 bytes → b ≡ take 2 (drop 4 bytes)
+    → n ∷ h ∷ [] ≡ take 2 (drop 6 bytes) → s ≡ take 16 (drop 8 bytes) → d ≡ take 16 (drop 24 bytes) → r ≡ take k (drop 40 bytes)
+    → laid a b n h s d r ≡ take (40 + k) bytes
+unfolding laid
+laid-from bytes a b n h s d r k ea eb en es ed er =
+    let e24 = then_take 24 16 k bytes d r ed er in
+    let e8 = then_take 8 16 (16 + k) bytes s (d ++ r) es e24 in
+    let e6 = then_take 6 2 (16 + (16 + k)) bytes (n ∷ h ∷ []) (s ++ (d ++ r)) en e8 in
+    let e4 = then_take 4 2 (2 + (16 + (16 + k))) bytes b (n ∷ h ∷ (s ++ (d ++ r))) eb e6 in
+    let e0 = then_take 0 4 (2 + (2 + (16 + (16 + k)))) bytes a (b ++ (n ∷ h ∷ (s ++ (d ++ r)))) ea e4 in
+    let sum : 4 + (2 + (2 + (16 + (16 + k)))) ≡ 40 + k = omega arith in
+    e0 ∙ ap (λ m. take m bytes) sum
+
+two_at_six : (bytes : List ℕ) → 8 ≤ length bytes → slice_index bytes 6 ∷ slice_index bytes 7 ∷ [] ≡ take 2 (drop 6 bytes)
+two_at_six bytes h = rw (drop_more bytes 6 0 (omega arith), drop_more bytes 7 0 (omega arith)) refl
+
+-- a packet's spelling from what is known of its fields
+spelling-from : (p : Packet) (bytes : List ℕ) → four_bytes (first_word p.traffic_class p.flow_label) ≡ take 4 bytes → two_bytes (length p.payload) ≡ take 2 (drop 4 bytes)
+    → p.next_header ∷ p.hop_limit ∷ [] ≡ take 2 (drop 6 bytes) → address_bytes p.source ≡ take 16 (drop 8 bytes) → address_bytes p.destination ≡ take 16 (drop 24 bytes)
+    → p.payload ≡ take (length p.payload) (drop 40 bytes)
+    → spelling p ≡ take (40 + length p.payload) bytes
+spelling-from p bytes ew el en es ed er =
+    let flat = sym (append-nil (spelling p)) ∙ spelling-laid p [] in
+    let inner = append-nil p.payload in
+    flat ∙ laid-from bytes (four_bytes (first_word p.traffic_class p.flow_label)) (two_bytes (length p.payload)) p.next_header p.hop_limit (address_bytes p.source) (address_bytes p.destination) (p.payload ++ []) (length p.payload)
+    ew el en es ed (inner ∙ er)
+
+length-payload_at : (bytes : List ℕ) → 40 + stated_len bytes ≤ length bytes → length (packet_at bytes).payload ≡ stated_len bytes
+unfolding packet_at
+length-payload_at bytes whole = length-take-le (stated_len bytes) (drop 40 bytes) (omega (arith, length-drop 40 bytes))
+
+payload_at : (bytes : List ℕ) → (packet_at bytes).payload ≡ take (stated_len bytes) (drop 40 bytes)
+unfolding packet_at
+payload_at bytes = refl
+
+word_at : (bytes : List ℕ) → All (λ b. b < 2 ^ 8) bytes → slice_index bytes 0 / 16 ≡ 6 → 4 ≤ length bytes
+    → four_bytes (first_word (packet_at bytes).traffic_class (packet_at bytes).flow_label) ≡ take 4 bytes
+unfolding packet_at
+word_at bytes all version long =
+    ap four_bytes (first_word-parts (four_number bytes) (four_number-version bytes all ∙ version)) ∙ four_bytes-number bytes long all
+
+two_at : (bytes : List ℕ) → 8 ≤ length bytes → (packet_at bytes).next_header ∷ (packet_at bytes).hop_limit ∷ [] ≡ take 2 (drop 6 bytes)
+unfolding packet_at
+two_at bytes h = two_at_six bytes h
+
+source_at : (bytes : List ℕ) → All (λ b. b < 2 ^ 8) bytes → 40 ≤ length bytes → address_bytes (packet_at bytes).source ≡ take 16 (drop 8 bytes)
+unfolding packet_at
+source_at bytes all long = address_bytes-number (drop 8 bytes) (omega (arith, length-drop 8 bytes)) (All-drop (λ b. b < 2 ^ 8) 8 bytes all)
+
+destination_at : (bytes : List ℕ) → All (λ b. b < 2 ^ 8) bytes → 40 ≤ length bytes → address_bytes (packet_at bytes).destination ≡ take 16 (drop 24 bytes)
+unfolding packet_at
+destination_at bytes all long = address_bytes-number (drop 24 bytes) (omega (arith, length-drop 24 bytes)) (All-drop (λ b. b < 2 ^ 8) 24 bytes all)
+
+stated_at : (bytes : List ℕ) → All (λ b. b < 2 ^ 8) bytes → 40 ≤ length bytes → two_bytes (stated_len bytes) ≡ take 2 (drop 4 bytes)
+unfolding stated_len
+stated_at bytes all long = two_bytes-number (drop 4 bytes) (omega (arith, length-drop 4 bytes)) (All-drop (λ b. b < 2 ^ 8) 4 bytes all)
+
+-- the packet in whole bytes is spelled by them up to its end
+pub spelling-packet_at : (bytes : List ℕ) → All (λ b. b < 2 ^ 8) bytes → slice_index bytes 0 / 16 ≡ 6 → 40 + stated_len bytes ≤ length bytes
+    → spelling (packet_at bytes) ≡ take (40 + stated_len bytes) bytes
+spelling-packet_at bytes all version whole =
+    let len = length-payload_at bytes whole in
+    spelling-from (packet_at bytes) bytes (word_at bytes all version (omega arith))
+    (ap two_bytes len ∙ stated_at bytes all (omega arith))
+    (two_at bytes (omega arith)) (source_at bytes all (omega arith)) (destination_at bytes all (omega arith))
+    (payload_at bytes ∙ ap (λ n. take n (drop 40 bytes)) (sym len))
+    ∙ ap (λ n. take (40 + n) bytes) len
+
+-- ---- both ways at once
+
+-- what reads can be spelled
+pub reads-spellable : (bytes : List ℕ) (p : Packet) → All (λ b. b < 2 ^ 8) bytes → content_of bytes ≡ V6 p → IsSpellable p
+reads-spellable bytes p all e =
+    let r = reads bytes p e in
+    let Q : Packet → Type 0 = λ q. IsSpellable q in
+    subst Q r.packet (packet_at-spellable bytes all r.whole)
+
+-- what reads is spelled by the first bytes
+pub reads-spelled : (bytes : List ℕ) (p : Packet) → All (λ b. b < 2 ^ 8) bytes → content_of bytes ≡ V6 p
+    → bytes ≡ spelling p ++ drop (length (spelling p)) bytes
+reads-spelled bytes p all e =
+    let r = reads bytes p e in
+    let whole : spelling p ≡ take (40 + stated_len bytes) bytes = ap (λ q. spelling q) (sym r.packet) ∙ spelling-packet_at bytes all r.version r.whole in
+    let len : length (spelling p) ≡ 40 + stated_len bytes = ap length whole ∙ length-take-le (40 + stated_len bytes) bytes r.whole in
+    let cut : spelling p ≡ take (length (spelling p)) bytes = whole ∙ ap (λ n. take n bytes) (sym len) in
+    sym (take-append-drop (length (spelling p)) bytes) ∙ ap (λ xs. xs ++ drop (length (spelling p)) bytes) (sym cut)
+
+-- bytes with nothing behind the end of their packet are its spelling
+pub reads-spelling : (bytes : List ℕ) (p : Packet) → All (λ b. b < 2 ^ 8) bytes → content_of bytes ≡ V6 p → length bytes ≤ length (spelling p)
+    → bytes ≡ spelling p
+reads-spelling bytes p all e short =
+    reads-spelled bytes p all e ∙ ap (λ xs. spelling p ++ xs) (drop_all (length (spelling p)) bytes short) ∙ append-nil (spelling p)
+
+pub spells-value : (p q : Packet) (bytes : List ℕ) → Spells bytes p → Spells bytes q → p ≡ q
+spells-value p q bytes hp hq =
+    let ep = content_of-spelling_alone p hp.0 in
+    let eq = content_of-spelling_alone q hq.0 in
+    let same : spelling p ≡ spelling q = sym hp.1 ∙ hq.1 in
+    let both : V6 p ≡ V6 q = sym ep ∙ ap content_of same ∙ eq in
+    cc both
+
+-- ---- contents
+
+is_content : (bytes : List ℕ) (c : Content) → All (λ b. b < 2 ^ 8) bytes → content_of bytes ≡ c → IsContent c
+is_content bytes (V6 p) all e = reads-spellable bytes p all e
+is_content bytes (Unreadable kept why) all e =
+    let Q : List ℕ → Type 0 = λ xs. All (λ b. b < 2 ^ 8) xs in
+    subst Q (unreadable bytes kept why e) all
+
+pub content_of-is_content : (bytes : List ℕ) → All (λ b. b < 2 ^ 8) bytes → IsContent (content_of bytes)
+content_of-is_content bytes all = is_content bytes (content_of bytes) all refl
+
+back : (bytes : List ℕ) (c : Content) → All (λ b. b < 2 ^ 8) bytes → content_of bytes ≡ c → content_of (bytes_of c) ≡ c
+back bytes (V6 p) all e = content_of-spelling_alone p (reads-spellable bytes p all e)
+back bytes (Unreadable kept why) all e = ap content_of (sym (unreadable bytes kept why e)) ∙ e
+
+-- a content's bytes read as that content
+pub content_of-bytes_of : (bytes : List ℕ) → All (λ b. b < 2 ^ 8) bytes → content_of (bytes_of (content_of bytes)) ≡ content_of bytes
+content_of-bytes_of bytes all = back bytes (content_of bytes) all refl
+
+pub entered-is_content : (bytes : List ℕ) → All (λ b. b < 2 ^ 8) bytes → IsContent (entered bytes)
+entered-is_content bytes all = content_of-is_content (take most_len bytes) (All-take (λ b. b < 2 ^ 8) most_len bytes all)
+
+pub entered-back : (bytes : List ℕ) → All (λ b. b < 2 ^ 8) bytes → content_of (bytes_of (entered bytes)) ≡ entered bytes
+entered-back bytes all = content_of-bytes_of (take most_len bytes) (All-take (λ b. b < 2 ^ 8) most_len bytes all)

@@ -1,0 +1,16 @@
+-- What is seen of the adapters: what they stand on, and the count of their faults.
+use Rattle.std.specs.Prelude.{ℕ}
+use Rattle.srx_edge.specs.declared.host_source.HostSource.{HostSource}
+use Rattle.srx_edge.specs.declared.host_sink.HostSink.{HostSink}
+
+abbrev pub reader_of : {R : Type 0} → HostSource R → R
+reader_of source = source.reader
+
+abbrev pub read_faults : {R : Type 0} → HostSource R → ℕ
+read_faults source = source.faults
+
+abbrev pub writer_of : {W : Type 0} → HostSink W → W
+writer_of sink = sink.writer
+
+abbrev pub write_faults : {W : Type 0} → HostSink W → ℕ
+write_faults sink = sink.faults

@@ -1,0 +1,65 @@
+ghost use Rattle.std.specs.Prelude.{◌≡◌, ℕ, ◌<◌, ◌==◌, Some, None, MatchResult, IfSome, length, position};
+ghost use Rattle.v6_addr.specs.Text.{address_of_text, prefix_of_text};
+
+use crate::address::Addr;
+use crate::errors::BadAddr;
+use crate::groups::{parse_full, parse_shortened};
+use crate::parse::{find_gap, parse_length};
+use crate::prefix::Prefix;
+
+/// The number of the address that a text writes, where it is in the grammar.
+#[tactic(auto, unfolding(crate::specs::Text::address_of_text))]
+fn parse_value(text: &[u8]) -> Option<u128>
+    ensures { result ≡ address_of_text text.now }
+{
+    match find_gap(text) {
+        None => parse_full(text),
+        Some(gap) => parse_shortened(text, gap),
+    }
+}
+
+/// The address that a text writes (RFC 4291 section 2.2): eight groups of one to four hexadecimal digits in either
+/// case, parted by colons, where `::` may stand once for one or more groups that are 0. No IPv4 address may stand
+/// at the end. `BadAddr` comes exactly where the text is another.
+pub fn parse_addr(text: &[u8]) -> Result<Addr, BadAddr>
+    ensures { MatchResult result
+        (λ address. address_of_text text.now ≡ Some address.value)
+        (λ bad. (address_of_text text.now ≡ None) × (bad.at ≡ 0)) }
+{
+    match parse_value(text) {
+        Some(value) => Ok(Addr { value }),
+        None => Err(BadAddr { at: 0 }),
+    }
+}
+
+/// How many bytes stand before the first slash of a text.
+fn find_slash(text: &[u8]) -> Option<usize>
+    ensures value { result ≡ position (λ b. b == 47) text.now }
+    ensures within { IfSome result (λ slash. slash < length text.now) }
+{
+    text.iter().position(|b| *b == b'/')
+}
+
+/// The prefix that a text writes, where it is in the grammar.
+fn read_prefix(text: &[u8]) -> Option<Prefix>
+    ensures { result ≡ prefix_of_text text.now }
+{
+    let slash = find_slash(text)?;
+    let value = parse_value(text.split_at(slash).0)?;
+    let len = parse_length(text.split_at(slash + 1).1)?;
+    Prefix::new(Addr { value }, len)
+}
+
+/// The prefix that a text writes (RFC 4291 section 2.3): an address, a slash and a length, a decimal number of at
+/// most 128 without leading zeros, where no bit past the length is set. `BadAddr` comes exactly where the text is
+/// another.
+pub fn parse_prefix(text: &[u8]) -> Result<Prefix, BadAddr>
+    ensures { MatchResult result
+        (λ prefix. prefix_of_text text.now ≡ Some prefix)
+        (λ bad. (prefix_of_text text.now ≡ None) × (bad.at ≡ 0)) }
+{
+    match read_prefix(text) {
+        Some(prefix) => Ok(prefix),
+        None => Err(BadAddr { at: 0 }),
+    }
+}

@@ -1,0 +1,78 @@
+-- The stages of a walk at a network's places, and how a walk ended.
+use Rattle.std.proofs.Common.{◌≡◌, ◌≢◌, ℕ, zero, suc, ◌+◌, ◌<◌, ◌↔◌, List, [], ◌∷◌, length, Option, Some, None, IsSome, slice_get, refl, subst, arith, le_of_suc-le-suc, suc-le-suc}
+use Rattle.srv6_rules.specs.Packet.{Content}
+use Rattle.net_model.specs.declared.parts.Link.{Link}
+use Rattle.net_model.specs.Keeps.{Keeps}
+use Rattle.net_model.specs.Network.{Network}
+use Rattle.walk_rules.specs.declared.place.Ended.{Ended}
+use Rattle.walk_rules.specs.declared.place.Ended.TheVariants as ends
+use Rattle.walk_rules.specs.declared.place.Outcome.{Outcome}
+use Rattle.walk_rules.specs.declared.place.Outcome.TheVariants as outcomes
+use Rattle.walk_rules.specs.declared.place.Place.{Place}
+use Rattle.walk_rules.specs.Treatment.{step_of}
+use Rattle.walk_rules.specs.Relation.{IsPlace, Stage}
+use Rattle.walk_rules.specs.Walk.{Step, stage_of, far_end, arrival, next_place, decisions, walk_of, walk_on, place_after, left_or_stages, end_by, end_of}
+use Rattle.walk_rules.specs.Laws.{AreStages}
+use Rattle.walk_rules.proofs.Walks.{walk_of-short}
+use Rattle.walk_rules.proofs.Places.{stage-step, step-place}
+
+-- a walk from a place has stages of the network
+abbrev IfPlace : Network → Option Place → Type 0
+IfPlace net None = Unit {0}
+IfPlace net (Some place) = IsPlace net place
+
+next-place : (net : Network) (place : Place) (content : Content) (choice : ℕ) (next : Option Place) → Keeps net → IsPlace net place
+    → next_place net place (step_of net place content choice).outcome ≡ next → IfPlace net next
+next-place net place content choice None keeps is e = tt
+next-place net place content choice (Some next) keeps is e = step-place net place content choice next keeps is e
+
+stages-from : (fuel : ℕ) (net : Network) (place : Option Place) (content : Content) (pick : ℕ → ℕ) (taken : ℕ) → Keeps net → IfPlace net place
+    → AreStages net (walk_of fuel net place content pick taken)
+unfolding walk_of
+stages-from zero net place content pick taken keeps is = tt
+stages-from (suc more) net None content pick taken keeps is = tt
+stages-from (suc more) net (Some place) content pick taken keeps is =
+    let s : Step = stage_of net place content (pick taken) in (
+      is,
+      stage-step net place content (pick taken) keeps is,
+      stages-from more net (next_place net place s.gave.outcome) s.gave.after pick (taken + decisions s.gave.outcome) keeps
+          (next-place net place content (pick taken) (next_place net place s.gave.outcome) keeps is refl),
+    )
+
+pub walk_of-stages : (fuel : ℕ) (net : Network) (place : Place) (content : Content) (pick : ℕ → ℕ) (taken : ℕ) → Keeps net → IsPlace net place
+    → AreStages net (walk_of fuel net (Some place) content pick taken)
+walk_of-stages fuel net place content pick taken keeps is = stages-from fuel net (Some place) content pick taken keeps is
+
+-- the last stage goes on exactly where the end is that the stages were used
+abbrev EndsOrGoesOn : Ended → Option Place → Type 0
+EndsOrGoesOn end place = (end ≡ ends.Stages) ↔ IsSome place
+
+link-ends : (link : ℕ) (place : Place) (to : Option ℕ) → EndsOrGoesOn (left_or_stages link to) (arrival to place)
+link-ends link place None = (λ e. cc, λ some. cc)
+link-ends link place (Some node) = (λ e. refl, λ some. refl)
+
+outcome-ends : (net : Network) (place : Place) (outcome : Outcome) → EndsOrGoesOn (end_by net place outcome) (next_place net place outcome)
+outcome-ends net place (outcomes.Again n how) = (λ e. refl, λ some. refl)
+outcome-ends net place (outcomes.Hand n how family) = (λ e. refl, λ some. refl)
+outcome-ends net place (outcomes.Send link) = link-ends link place (far_end (slice_get net.links link))
+outcome-ends net place outcomes.Local = (λ e. cc, λ some. cc)
+outcome-ends net place (outcomes.Drop reason) = (λ e. cc, λ some. cc)
+
+pub end_of-goes_on : (net : Network) (place : Option Place) (s : Step) (more : List Step)
+    → (end_of net (s ∷ more) ≡ ends.Stages) ↔ IsSome (place_after net place (s ∷ more))
+end_of-goes_on net place s [] = outcome-ends net s.place s.gave.outcome
+end_of-goes_on net place s (t ∷ more) = end_of-goes_on net (next_place net s.place s.gave.outcome) t more
+
+-- stages that begin at a place and ended have another end
+ended-end : (net : Network) (place : Place) (steps : List Step) → place_after net (Some place) steps ≡ None → end_of net steps ≢ ends.Stages
+ended-end net place [] none e = cc
+ended-end net place (s ∷ more) none e = no_some (place_after net (Some place) (s ∷ more)) none ((end_of-goes_on net (Some place) s more).0 e)
+  where
+    no_some : (o : Option Place) → o ≡ None → IsSome o → ⊥
+    no_some None same some = cc
+    no_some (Some p) same some = cc
+
+pub walk_of-short_end : (fuel : ℕ) (net : Network) (place : Place) (content : Content) (pick : ℕ → ℕ) (taken : ℕ)
+    → length (walk_of fuel net (Some place) content pick taken) < fuel → end_of net (walk_of fuel net (Some place) content pick taken) ≢ ends.Stages
+walk_of-short_end fuel net place content pick taken short =
+    ended-end net place (walk_of fuel net (Some place) content pick taken) (walk_of-short fuel net (Some place) content pick taken short)

@@ -1,0 +1,5 @@
+use Rattle.walk_rules.proofs.Executions.{step-again, step-hand}
+use Rattle.walk_rules.proofs.laws.an_execution_names_its_sid.Goals as goal
+
+pub returns : goal.returns
+returns c = record { again = step-again; hand = step-hand }
