@@ -5,3 +5,4 @@ pub mod Options
 pub mod Executions
 pub mod RideFacts
 pub mod Legs
+pub mod Courses

@@ -4,3 +4,6 @@ pub mod Choices
 pub mod Ride
 pub mod Sids
 pub mod Leg
+pub mod Table
+pub mod Value
+pub mod Course

@@ -87,3 +87,18 @@ in_order net (n ∷ m ∷ ms) = sid_before (slice_get net.sids n) (slice_get net
 pub record AreSidsAt (net : Network) (intent : Intent) (position : ℕ) (sids : List ℕ) : Type 0 where
   pub each : (n : ℕ) → Contains sids n ↔ IsTrue (is_sid_at net intent position n)
   pub order : IsTrue (in_order net sids)
+
+-- the number of a SID put into its place among others in order
+abbrev pub placed : Network → ℕ → List ℕ → List ℕ
+placed net n [] = n ∷ []
+placed net n (m ∷ ms) = if sid_before (slice_get net.sids n) (slice_get net.sids m) then n ∷ m ∷ ms else m ∷ placed net n ms
+
+-- the SIDs of a position among those of lower numbers, in order
+unfoldable pub sids_below : Network → Intent → ℕ → ℕ → List ℕ
+sids_below net intent position zero = []
+sids_below net intent position (suc k) =
+    if is_sid_at net intent position k then placed net k (sids_below net intent position k) else sids_below net intent position k
+
+-- the SIDs of a position, in order
+abbrev pub sids_of : Network → Intent → ℕ → List ℕ
+sids_of net intent position = sids_below net intent position (length net.sids)

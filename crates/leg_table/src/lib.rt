@@ -3,6 +3,9 @@
 #![tactic(auto)]
 
 mod laws;
+mod no_memory;
+mod ride;
 mod types;
 
+pub use no_memory::NoMemory;
 pub use types::{Container, Cost, Leg, PathStep, PathSteps, Potential, Potentials, Prefixes, Shape, SidList, Solution, State};
