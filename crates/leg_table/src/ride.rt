@@ -83,3 +83,75 @@ pub fn course_from(net: &Net, place: Place, destination: Addr) -> Course<'_>
         How::Through { sid, lower } => Course::Over(net.sid(sid).links.as_slice(), lower),
     }
 }
+
+// a step has all links of a set
+fn all_in_step(step: &Step, set: &[u32]) -> bool
+    ensures { result ≡ rides.all_in_step step.now set.now }
+{
+    match step {
+        Step::Links(links) => all_among(links.as_slice(), set),
+        Step::Function(_) => false,
+    }
+}
+
+fn all_among(links: &[u32], set: &[u32]) -> bool
+    ensures { result ≡ list_all (tasks.has_link links.now) set.now }
+{
+    set.iter().all(|link| links.contains(link))
+}
+
+// the node where the first link of a set ends
+fn first_end(net: &Net, set: &[u32], node: u32) -> Option<u32>
+    requires { IsLinkSet net.now.links node set.now }
+    ensures value { result ≡ rules.first_end net.now set.now }
+    ensures is_there { IfSome result (λ to. to < length net.now.nodes) }
+{
+    net.keeps_rules();
+    let first = set[0];
+    net.link(first).to
+}
+
+// where a packet comes to over links, all of which lie in a step
+fn next_over(net: &Net, place: Place, step: &Step, set: &[u32]) -> Option<Place>
+    requires { IsLinkSet net.now.links place.node set.now }
+    ensures value { result ≡ rides.next_over net.now place step.now set.now }
+    ensures is_place { IfSome result (IsPlace net.now) }
+{
+    if !all_in_step(step, set) {
+        return None;
+    }
+    let node = first_end(net, set, place.node)?;
+    Some(Place {
+        node,
+        how: How::Arrived { table: 0 },
+        family: place.family,
+    })
+}
+
+/// The ride of a packet to a destination along steps from a place.
+pub fn ride(net: &Net, destination: Addr, steps: &[Step], place: Place) -> Option<Reached>
+    requires is_place { IsPlace net.now place }
+    requires few { length steps.now ≤ 48 }
+    ensures value { result ≡ option_map reached_of (rides.ride_of net.now destination.value steps.now place) }
+    ensures few { IfSome result (λ r. (r.left ≤ length steps.now) × (r.lowered ≤ length steps.now)) }
+{
+    let (set, lower) = match course_from(net, place, destination) {
+        Course::Stays => return None,
+        Course::Into(sid) => {
+            return Some(Reached {
+                sid,
+                left: steps.len() as u32,
+                lowered: 0,
+            });
+        }
+        Course::Over(set, lower) => (set, lower),
+    };
+    let (step, rest) = steps.split_first()?;
+    let next = next_over(net, place, step, set)?;
+    let reached = ride(net, destination, rest, next)?;
+    Some(Reached {
+        sid: reached.sid,
+        left: reached.left,
+        lowered: reached.lowered + u32::from(lower),
+    })
+}
