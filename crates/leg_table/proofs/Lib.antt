@@ -6,3 +6,4 @@ pub mod Executions
 pub mod RideFacts
 pub mod Legs
 pub mod Courses
+pub mod Placing

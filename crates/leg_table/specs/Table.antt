@@ -14,11 +14,16 @@ pub record LegTable : Type 0 where
   pub net : Network
   pub intent : Intent
 
+-- the rows are the SIDs of the positions up to a last one
+abbrev pub AreRows : Network → Intent → ℕ → List (List ℕ) → Type 0
+AreRows net intent last rows =
+    (length rows ≡ last + 1) × ((position : ℕ) → position ≤ last → slice_get rows position ≡ Some (sids_of net intent position))
+
 -- the intent keeps the rules in the network, and the rows are the SIDs of its positions
 pub record IsTable (net : Network) (intent : Intent) (rows : List (List ℕ)) : Type 0 where
   pub network : IsNetwork net
   pub is_intent : IsIntent net intent
-  pub row : (position : ℕ) → position ≤ length intent.steps → slice_get rows position ≡ Some (sids_of net intent position)
+  pub are_rows : AreRows net intent (length intent.steps) rows
 
 -- what a SID is to the search
 abbrev pub shape_by : Option SidEntry → Shape

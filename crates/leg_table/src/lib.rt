@@ -5,6 +5,7 @@
 mod laws;
 mod no_memory;
 mod ride;
+mod rows;
 mod types;
 
 pub use no_memory::NoMemory;

@@ -100,8 +100,8 @@ fn all_among(links: &[u32], set: &[u32]) -> bool
     set.iter().all(|link| links.contains(link))
 }
 
-// the node where the first link of a set ends
-fn first_end(net: &Net, set: &[u32], node: u32) -> Option<u32>
+/// The node where the first link of a set ends, if it ends at one.
+pub fn first_end(net: &Net, set: &[u32], node: u32) -> Option<u32>
     requires { IsLinkSet net.now.links node set.now }
     ensures value { result ≡ rules.first_end net.now set.now }
     ensures is_there { IfSome result (λ to. to < length net.now.nodes) }
