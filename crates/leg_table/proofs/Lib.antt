@@ -7,3 +7,4 @@ pub mod RideFacts
 pub mod Legs
 pub mod Courses
 pub mod Placing
+pub mod Positions
