@@ -4,7 +4,8 @@ pub mod Rides
 pub mod Options
 pub mod Executions
 pub mod RideFacts
-pub mod Legs
+pub mod LegLemmas
 pub mod Courses
 pub mod Placing
 pub mod Positions
+pub mod StrictLaws

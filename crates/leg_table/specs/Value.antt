@@ -3,7 +3,11 @@ use Rattle.std.specs.Prelude.{◌≡◌, ℕ, ◌+◌, ◌<◌, ◌≤◌, ◌�
 use Rattle.v6_addr.specs.Address.{PrefixValue}
 use Rattle.leg_table.specs.declared.types.Shape.{Shape}
 use Rattle.leg_table.specs.declared.types.Leg.{Leg}
-use Rattle.leg_table.specs.Sids.{comes_before}
+use Rattle.net_model.specs.Network.{Network}
+use Rattle.intent_reader.specs.declared.intent.Intent.{Intent}
+use Rattle.leg_table.specs.Sids.{comes_before, sids_of}
+use Rattle.leg_table.specs.Leg.{leg_of, finish_of}
+use Rattle.leg_table.specs.Table.{shape_of}
 
 pub record LegsValue : Type 0 where
   pub steps : ℕ
@@ -59,3 +63,8 @@ pub record KeepsLaws (v : LegsValue) : Type 0 where
     → (v.shape next).prefix ≡ (v.shape other).prefix → next ≡ other
   pub above_finish : (position : ℕ) (via : Option ℕ) (next : ℕ) (leg : Leg) (lowered : ℕ) → v.leg position via next ≡ Some leg
     → v.finish position via next ≡ Some lowered → lowered < leg.hops
+
+-- what the table of an intent's legs is to a search
+abbrev pub legs_value : Network → Intent → LegsValue
+legs_value net intent =
+    record { steps = length intent.steps; sids_at = sids_of net intent; shape = shape_of net; leg = leg_of net intent; finish = finish_of net intent }

@@ -1,5 +1,5 @@
 use Rattle.net_model.proofs.KeepsLemmas.{keeps_from_network}
-use Rattle.leg_table.proofs.Legs.{finish-meaning}
+use Rattle.leg_table.proofs.LegLemmas.{finish-meaning}
 use Rattle.leg_table.proofs.laws.a_finish_is_for_all_choices.Goals as goal
 
 pub returns : goal.returns
