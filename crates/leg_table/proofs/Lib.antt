@@ -9,3 +9,4 @@ pub mod Courses
 pub mod Placing
 pub mod Positions
 pub mod StrictLaws
+pub mod Ways

@@ -19,7 +19,7 @@ use Rattle.leg_table.specs.declared.types.Leg.{Leg}
 use Rattle.leg_table.specs.Tasks.{left_after}
 use Rattle.leg_table.specs.Choices.{ForAllChoices}
 use Rattle.leg_table.specs.Ride.{Ride, ride_of, with_hop_limit}
-use Rattle.leg_table.specs.Sids.{is_sid_at, is_middle, is_last, sid_address}
+use Rattle.leg_table.specs.Sids.{goes_on, is_sid_at, is_middle, is_last, sid_address}
 
 -- from where a packet goes to the next SID: from the headend, which made it, or from the SID that was executed last
 abbrev pub place_behind : ℕ → SidEntry → Place
@@ -155,3 +155,15 @@ pub record IsFinish (net : Network) (intent : Intent) (position : ℕ) (via : Op
   pub start : IsTrue (is_start net intent position via)
   pub last : IsTrue (is_last net next)
   pub handed : FromPlace (place_from net intent via) (IsHanded net (drop position intent.steps) next 0 lowered)
+
+-- the place to start from, where a packet may start so
+abbrev pub start_of : Network → Intent → ℕ → Option ℕ → Option Place
+start_of net intent position via = if is_start net intent position via then place_from net intent via else None
+
+-- from where a packet goes on behind the execution of a middle SID
+abbrev pub middle_place_by : ℕ → Option SidEntry → Option Place
+middle_place_by v None = None
+middle_place_by v (Some s) = if goes_on s.behaviour then Some (place_behind v s) else None
+
+abbrev pub middle_place : Network → ℕ → Option Place
+middle_place net v = middle_place_by v (slice_get net.sids v)

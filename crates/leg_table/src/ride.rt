@@ -10,7 +10,8 @@ ghost use Rattle.walk_rules.proofs.Lookups.{IsThere};
 ghost use Rattle.intent_reader.specs.Rules as rules;
 ghost use Rattle.leg_table.specs.Tasks as tasks;
 ghost use Rattle.leg_table.specs.Ride as rides;
-ghost use Rattle.leg_table.specs.Course.{IsCourse, reached_of};
+ghost use Rattle.leg_table.specs.Sids as sids;
+ghost use Rattle.leg_table.specs.Course.{IsCourse, reached_of, behind_of};
 
 use intent_reader::Step;
 use net_model::{Hit, Net};
@@ -154,4 +155,53 @@ pub fn ride(net: &Net, destination: Addr, steps: &[Step], place: Place) -> Optio
         left: reached.left,
         lowered: reached.lowered + u32::from(lower),
     })
+}
+
+/// What is behind the execution of a SID at the end of a ride.
+#[derive(Clone, Copy)]
+pub struct Behind {
+    /// How many steps are left.
+    pub left: u32,
+    /// How often the hop limit was lowered before the execution.
+    pub lowered: u32,
+}
+
+// how many steps are left behind the execution of a SID
+fn left_after(net: &Net, n: u32, steps: &[Step]) -> Option<u32>
+    requires is_there { n < length net.now.sids }
+    requires few { length steps.now ≤ 48 }
+    ensures value { result ≡ tasks.left_after net.now n steps.now }
+    ensures few { IfSome result (λ left. left ≤ length steps.now) }
+{
+    if net.sid(n).title.is_none() {
+        return Some(steps.len() as u32);
+    }
+    match steps {
+        [Step::Function(sid), rest @ ..] if *sid == n => Some(rest.len() as u32),
+        _ => None,
+    }
+}
+
+/// The way along steps from a place to a next SID and its execution, where the first SID that the
+/// packet comes to is that one.
+pub fn way_to(net: &Net, next: u32, steps: &[Step], place: Place) -> Option<Behind>
+    requires is_there { next < length net.now.sids }
+    requires is_place { IsPlace net.now place }
+    requires few { length steps.now ≤ 48 }
+    ensures value { result ≡ behind_of net.now next (rides.ride_of net.now (sids.sid_address net.now next) steps.now place) }
+    ensures few { IfSome result (λ b. (b.left ≤ length steps.now) × (b.lowered ≤ length steps.now)) }
+{
+    let destination = net.sid(next).prefix.value();
+    let reached = ride(net, destination, steps, place)?;
+    if reached.sid != next {
+        return None;
+    }
+    let (_, rest) = steps.split_at(steps.len() - reached.left as usize);
+    match left_after(net, next, rest) {
+        Some(left) => Some(Behind {
+            left,
+            lowered: reached.lowered,
+        }),
+        None => None,
+    }
 }

@@ -4,6 +4,7 @@ ghost use Rattle.std.specs.Prelude.{◌≡◌, ◌<◌, ◌≤◌, ℕ, length, 
 ghost use Rattle.std.specs.Option.{option_map};
 ghost use Rattle.net_model.specs.Rules.{IsNetwork};
 ghost use Rattle.walk_rules.specs.Relation.{IsPlace};
+ghost use Rattle.walk_rules.specs.Treatment.{on_from};
 ghost use Rattle.intent_reader.specs.Rules.{IsIntent};
 ghost use Rattle.leg_table.specs.Leg as legs;
 ghost use Rattle.leg_table.specs.Sids as sids;
@@ -14,8 +15,10 @@ use crate::no_memory::NoMemory;
 use crate::rows::{Row, rows_of};
 use intent_reader::Intent;
 use net_model::Net;
+use srv6_rules::{Behaviour, Family};
 use std::alloc::Global;
 use std::marker::Model;
+use walk_rules::{How, Place};
 
 /// The legs of an intent in a network, with the SIDs of each position.
 #[derive(Debug, Drop)]
@@ -52,5 +55,106 @@ impl<'a> StrictLegs<'a> {
         ensures intent { IsIntent self.now.net self.now.intent }
     {
         let _ = &self.rows;
+    }
+
+    fn count(&self) -> u32
+        ensures value { result ≡ length self.now.intent.steps }
+        ensures few { result ≤ 48 }
+    {
+        self.keeps_rules();
+        self.intent.steps.as_slice().len() as u32
+    }
+
+    fn row(&self, position: u32) -> &[u32]
+        requires { position ≤ length self.now.intent.steps }
+        ensures { result.now ≡ sids.sids_of self.now.net self.now.intent position }
+    {
+        self.rows[position as usize].as_slice()
+    }
+
+    // a SID is one of a position
+    fn has_sid(&self, position: u32, n: u32) -> bool
+        requires { position ≤ length self.now.intent.steps }
+        ensures { result ≡ sids.is_sid_at self.now.net self.now.intent position n }
+    {
+        self.keeps_rules();
+        self.row(position).contains(&n)
+    }
+
+    // from where a packet starts to the next SID
+    fn start(&self, position: u32, via: Option<u32>) -> Option<Place>
+        ensures value { result ≡ legs.start_of self.now.net self.now.intent position via }
+        ensures is_place { IfSome result (λ place. IsPlace self.now.net place × (position ≤ length self.now.intent.steps)) }
+    {
+        self.keeps_rules();
+        if position > self.count() {
+            return None;
+        }
+        match via {
+            None if position == 0 => Some(Place {
+                node: self.intent.headend,
+                how: How::Submitted { table: 0 },
+                family: Family::V6,
+            }),
+            None => None,
+            Some(v) if self.has_sid(position, v) => place_behind(self.net, v),
+            Some(_) => None,
+        }
+    }
+}
+
+// from a SID the packet goes on to a next segment
+fn goes_on(behaviour: Behaviour) -> bool
+    ensures { result ≡ sids.goes_on behaviour }
+{
+    match behaviour {
+        Behaviour::End | Behaviour::EndX => true,
+        Behaviour::Dt6 { .. } => false,
+    }
+}
+
+fn is_middle(net: &Net, n: u32) -> bool
+    ensures { result ≡ sids.is_middle net.now n }
+{
+    n < net.sids() && goes_on(net.sid(n).behaviour)
+}
+
+fn is_last(net: &Net, n: u32) -> bool
+    ensures { result ≡ sids.is_last net.now n }
+{
+    n < net.sids() && !goes_on(net.sid(n).behaviour)
+}
+
+// where the packet stands behind the execution of a middle SID
+fn place_behind(net: &Net, v: u32) -> Option<Place>
+    ensures value { result ≡ legs.middle_place net.now v }
+    ensures is_place { IfSome result (IsPlace net.now) }
+{
+    net.keeps_rules();
+    if v >= net.sids() {
+        return None;
+    }
+    let sid = net.sid(v);
+    if !goes_on(sid.behaviour) {
+        return None;
+    }
+    Some(Place {
+        node: sid.node,
+        how: how_behind(v, sid.behaviour),
+        family: Family::V6,
+    })
+}
+
+// how the packet goes on from a SID
+fn how_behind(v: u32, behaviour: Behaviour) -> How
+    ensures { result ≡ on_from v behaviour }
+{
+    match behaviour {
+        Behaviour::End => How::Submitted { table: 0 },
+        Behaviour::EndX => How::Through {
+            sid: v,
+            lower: false,
+        },
+        Behaviour::Dt6 { table } => How::Arrived { table },
     }
 }
