@@ -238,3 +238,7 @@ module _ (net : Network) (keeps : Keeps net) (intent : Intent) (position : ℕ) 
           let whole : count_by (is_sid_of s.0.node) (take (length net.sids) net.sids) ≡ count_by (is_sid_of s.0.node) net.sids
               = ap (count_by (is_sid_of s.0.node)) (take-length net.sids) in
           omega arith
+
+  -- a SID of the position is there
+  pub sid-within : (n : ℕ) → Contains (sids_of net intent position) n → n < length net.sids
+  sid-within n h = let s = sid-at net intent position n ((are-sids.each n).0 h) in slice_get_within net.sids n s.0 s.1

@@ -1,6 +1,6 @@
 -- The code's view of ways and rides.
-use Rattle.std.specs.Prelude.{◌≡◌, ℕ, ◌+◌, List, [], ◌∷◌, length, Option, Some, None}
-use Rattle.std.specs.Option.{option_map}
+use Rattle.std.specs.Prelude.{◌≡◌, ℕ, ◌+◌, List, [], ◌∷◌, length, drop, Option, Some, None}
+use Rattle.std.specs.Option.{option_map, option_and_then}
 use Rattle.srv6_rules.specs.declared.sid.Reason.{Reason}
 use Rattle.net_model.specs.Network.{Network}
 use Rattle.net_model.specs.Keeps.{IsLinkSet}
@@ -10,8 +10,10 @@ use Rattle.leg_table.specs.declared.ride.Course.TheVariants as courses
 use Rattle.leg_table.specs.declared.ride.Reached.{Reached}
 use Rattle.leg_table.specs.declared.ride.Behind.{Behind}
 use Rattle.leg_table.specs.declared.types.Leg.{Leg}
-use Rattle.leg_table.specs.Ride.{Ride}
-use Rattle.leg_table.specs.Leg.{left_behind, leg_with, if_none_left}
+use Rattle.leg_table.specs.Ride.{Ride, ride_of}
+use Rattle.leg_table.specs.Leg.{left_behind, leg_with, if_none_left, start_of}
+use Rattle.leg_table.specs.Sids.{sid_address}
+use Rattle.intent_reader.specs.declared.intent.Intent.{Intent}
 
 -- a way on which nothing goes on from the node
 abbrev pub IsStay : Way → Type 0
@@ -40,3 +42,8 @@ leg_from_behind count b = leg_with count b.lowered b.left
 
 abbrev pub finish_from_behind : Behind → Option ℕ
 finish_from_behind b = if_none_left b.lowered b.left
+
+-- the way from a start to a next SID
+abbrev pub way_behind : Network → Intent → ℕ → Option ℕ → ℕ → Option Behind
+way_behind net intent position via next =
+    option_and_then (λ place. behind_of net next (ride_of net (sid_address net next) (drop position intent.steps) place)) (start_of net intent position via)

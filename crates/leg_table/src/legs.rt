@@ -10,12 +10,10 @@ use crate::types::{Leg, Shape};
 pub trait Legs {
     ghost seen: { Self → LegsValue };
 
-    ghost is_whole: { Self → Type 0 };
-
-    /// How many steps the intent has, at most 48.
+    /// How many steps the intent has, at most 48. What is seen keeps the laws of legs.
     fn steps(&self) -> u32
         ensures value { result ≡ (seen self.now).steps }
-        ensures whole { is_whole self.now };
+        ensures laws { KeepsLaws (seen self.now) };
 
     /// The SIDs that may be executed at a position, at most `steps`: those at the node where the walk
     /// stands after so many steps which have no title or whose title is that of the last of these
@@ -41,6 +39,4 @@ pub trait Legs {
     /// arguments for which `leg` is.
     fn finish(&self, position: u32, via: Option<u32>, next: u32) -> Option<u32>
         ensures { result ≡ (seen self.now).finish position via next };
-
-    ghost laws: { (legs : Self) → is_whole legs → KeepsLaws (seen legs) };
 }

@@ -6,13 +6,17 @@ ghost use Rattle.net_model.specs.Rules.{IsNetwork};
 ghost use Rattle.walk_rules.specs.Relation.{IsPlace};
 ghost use Rattle.walk_rules.specs.Treatment.{on_from};
 ghost use Rattle.intent_reader.specs.Rules.{IsIntent};
+ghost use Rattle.leg_table.specs.Course.{way_behind};
 ghost use Rattle.leg_table.specs.Leg as legs;
 ghost use Rattle.leg_table.specs.Sids as sids;
 ghost use Rattle.leg_table.specs.Tasks as tasks;
 ghost use Rattle.leg_table.specs.Table.{LegTable, shape_of};
 
+use crate::legs::Legs;
 use crate::no_memory::NoMemory;
+use crate::ride::{Behind, way_to};
 use crate::rows::{Row, rows_of};
+use crate::types::{Leg, Shape};
 use intent_reader::Intent;
 use net_model::Net;
 use srv6_rules::{Behaviour, Family};
@@ -99,6 +103,67 @@ impl<'a> StrictLegs<'a> {
             None => None,
             Some(v) if self.has_sid(position, v) => place_behind(self.net, v),
             Some(_) => None,
+        }
+    }
+}
+
+impl<'a> StrictLegs<'a> {
+    // the way from the start to a next SID
+    fn way_behind(&self, position: u32, via: Option<u32>, next: u32) -> Option<Behind>
+        requires { next < length self.now.net.sids }
+        ensures value { result ≡ way_behind self.now.net self.now.intent position via next }
+        ensures few { IfSome result (λ b. (b.left ≤ length self.now.intent.steps) × (b.lowered ≤ 48)) }
+    {
+        self.count();
+        let place = self.start(position, via)?;
+        let (_, rest) = self.intent.steps.as_slice().split_at(position as usize);
+        way_to(self.net, next, rest, place)
+    }
+}
+
+impl<'a> Legs for StrictLegs<'a> {
+    ghost use Rattle.leg_table.specs.Value.{legs_value};
+
+    ghost seen = { λ t. legs_value t.net t.intent };
+
+    fn steps(&self) -> u32 {
+        self.keeps_rules();
+        self.count()
+    }
+
+    fn sids_at(&self, position: u32) -> &[u32] {
+        self.row(position)
+    }
+
+    fn shape(&self, sid: u32) -> Shape {
+        self.keeps_rules();
+        let sid = self.net.sid(sid);
+        Shape {
+            prefix: sid.prefix,
+            middle: goes_on(sid.behaviour),
+        }
+    }
+
+    fn leg(&self, position: u32, via: Option<u32>, next: u32) -> Option<Leg> {
+        if !is_middle(self.net, next) {
+            return None;
+        }
+        match self.way_behind(position, via, next) {
+            Some(behind) => Some(Leg {
+                to: self.count() - behind.left,
+                hops: behind.lowered + 1,
+            }),
+            None => None,
+        }
+    }
+
+    fn finish(&self, position: u32, via: Option<u32>, next: u32) -> Option<u32> {
+        if !is_last(self.net, next) {
+            return None;
+        }
+        match self.way_behind(position, via, next) {
+            Some(behind) if behind.left == 0 => Some(behind.lowered),
+            _ => None,
         }
     }
 }
