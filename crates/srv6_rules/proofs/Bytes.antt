@@ -1,13 +1,12 @@
 -- Numbers and their bytes, the highest first: both ways, at 2, 4 and 16 bytes.
-use Rattle.std.proofs.Common.{◌/◌, ◌%◌, ◌≡◌, ℕ, zero, suc, ◌+◌, ◌*◌, ◌^◌, ◌<◌, ◌≤◌, List, [], ◌∷◌, ◌++◌, length, take, drop, slice_index, All, refl, sym, ap, ◌∙◌, arith, add-one, one-add, add-zero, mod-lt, mod-eq_of_lt, mul-le-mul_right, inl, inr}
-use Rattle.std.proofs.Math.Nat.{one-le-pow, pow-succ'}
-use Rattle.std.proofs.lemmas.List.{append-nil, get_or_past, length-append, length-take-le, take-append-le}
-use Rattle.std.proofs.lemmas.List.Elements.{All-nil, All-cons, All-head, All-tail, All-take, All-drop}
+use Rattle.std.proofs.Common.{◌/◌, ◌≡◌, ℕ, zero, suc, ◌+◌, ◌*◌, ◌^◌, ◌<◌, ◌≤◌, List, [], ◌∷◌, ◌++◌, length, take, slice_index, All, refl, sym, ◌∙◌, arith, mod-lt, inl, inr}
+use Rattle.std.proofs.lemmas.List.{append-nil, get_or_past, length-take-le}
+use Rattle.std.proofs.lemmas.List.Elements.{All-nil, All-cons, All-tail, All-take}
 use Rattle.std.proofs.lemmas.Bool.{cases_lt}
 use Rattle.std.proofs.lemmas.Nat.{same_from_place}
 use Rattle.std.specs.Int.{byte_at, bytes_high_first}
-use Rattle.byteorder.specs.Endian.{big_from, big_number, big_bytes}
-use Rattle.byteorder.specs.Numbers.{big_from-cons, big_from-take, big_from-append, big_from-bytes, big_from-lt, big_number-reads_back, length-bytes_high_first}
+use Rattle.byteorder.specs.Endian.{big_from}
+use Rattle.byteorder.specs.Numbers.{big_from-cons, big_from-take, big_from-append, big_from-lt, big_number-reads_back, length-bytes_high_first}
 use Rattle.srv6_rules.specs.Packet.{two_bytes, four_bytes, address_bytes, two_number, four_number, address_number}
 
 byte_at-below : (k x : ℕ) → byte_at k x < 2 ^ 8

@@ -1,9 +1,11 @@
 -- The chain of extension headers: how it goes on from each place, and where its headers lie.
-use Rattle.std.proofs.Common.{◌≡◌, ℕ, zero, suc, ◌+◌, ◌-◌, ◌*◌, ◌^◌, ◌<◌, ◌≤◌, Bool, true, false, cond, ◌==◌, ◌&&◌, ◌||◌, nat_le, if◌then◌else◌, List, [], ◌∷◌, ◌++◌, length, take, drop, get_or, slice_index, All, Contains, refl, sym, ap, subst, ◌∙◌, arith, inl, inr, ◌⊎◌, length-drop, length-take}
-use Rattle.std.proofs.lemmas.List.{drop-drop, drop_more, get_or-drop, get_or-take, length-take-le}
+use Rattle.std.proofs.Common.{◌≡◌, ℕ, zero, suc, ◌+◌, ◌*◌, ◌^◌, ◌<◌, ◌≤◌, Bool, true, false, ◌==◌, nat_le, if◌then◌else◌, List, [], ◌∷◌, ◌++◌, length, take, drop, slice_index, All, Contains, refl, sym, ap, subst, ◌∙◌, arith, inl, inr, length-drop}
+use Rattle.std.proofs.lemmas.List.{drop-drop, get_or-drop, get_or-take, length-append, length-take-le, take_at}
 use Rattle.std.proofs.lemmas.List.Elements.{All-nil, All-cons, All-contains, Contains-get_or, Contains-append_right, All-take, All-drop}
-use Rattle.std.proofs.lemmas.Bool.{cases_Bool, cases_eq, and_parts, and_from, leb-true, leb-false, eqb-true, eqb-false, eq-eqb, ne_eqb, lt-leb, le-leb}
-use Rattle.srv6_rules.specs.Chain.{Header, Chain, ChainEnd, Upper, Cut, LiesIn, fragment, is_extension, extension_bytes, is_whole, behind, chain_within, chain_at, header_at, is_passed, is_segment_routing, first_processed, processed_in, at_end, FirstNotPassed, Processed, AtHeader, AtUpper, AtCut}
+use Rattle.std.proofs.lemmas.Bool.{cases_Bool, and_parts, and_from, leb-true, lt-leb, le-leb}
+use Rattle.srv6_rules.specs.Srh.{Srh, srh_spelling}
+use Rattle.srv6_rules.proofs.Headers.{length-srh_spelling}
+use Rattle.srv6_rules.specs.Chain.{Header, Chain, ChainEnd, Upper, Cut, LiesIn, fragment, routing, is_extension, extension_bytes, is_whole, behind, chain_within, chain_at, header_at, is_passed, first_processed, processed_in, at_end, FirstNotPassed, AtHeader, AtUpper, AtCut}
 
 -- ---- one header and what follows
 
@@ -195,6 +197,14 @@ pub lies-at : (payload : List ℕ) (h : Header) (k : ℕ) → LiesIn payload h �
 lies-at payload h k lies below =
     ap (λ xs. slice_index xs k) lies.bytes ∙ get_or-take (length h.bytes) (drop h.at payload) k 0 below ∙ get_or-drop h.at payload k 0
 
+-- a header's length is stated where it stands in the payload
+pub lies-stated : (payload : List ℕ) (h : Header) → LiesIn payload h → length h.bytes ≡ extension_bytes h.kind (drop h.at payload)
+lies-stated payload h lies =
+    let least = lies.least in
+    lies.stated
+    ∙ ap (λ xs. extension_bytes h.kind xs) lies.bytes
+    ∙ extension_bytes-take h.kind (length h.bytes) (drop h.at payload) (omega arith)
+
 -- ---- where an upper layer stands
 
 -- an upper layer behind a place: no extension header's value names it, and it stands in the payload or at its end
@@ -345,3 +355,24 @@ pub processed-upper_stands : (payload : List ℕ) (kind at k a : ℕ) → at ≤
 processed-upper_stands payload kind at k a start e =
     let c : Chain = chain_at payload kind at in
     chain_at-upper_stands payload kind at k a start (first-upper c.headers c.end k a e).1
+
+-- ---- a header that was spelled
+
+-- the chain from a place where a segment routing header was spelled
+pub chain_at-spelled : (payload : List ℕ) (at : ℕ) (s : Srh) (rest : List ℕ) → length s.body ≡ 8 * s.extension_len → drop at payload ≡ srh_spelling s ++ rest
+    → chain_at payload routing at ≡ behind (record { kind = routing; at = at; bytes = srh_spelling s }) (chain_at payload s.next_header (at + length (srh_spelling s)))
+chain_at-spelled payload at s rest body there =
+    let len = length-srh_spelling s in
+    let whole_len = length-append (srh_spelling s) rest in
+    let stated : extension_bytes routing (drop at payload) ≡ length (srh_spelling s) = ap (extension_bytes routing) there ∙ omega arith in
+    let all : length (drop at payload) ≡ length (srh_spelling s) + length rest = ap length there ∙ whole_len in
+    let whole : is_whole routing (drop at payload) ≡ true =
+    and_from (nat_le 8 (length (drop at payload))) (nat_le (extension_bytes routing (drop at payload)) (length (drop at payload)))
+    (le-leb 8 (length (drop at payload)) (omega arith)) (le-leb (extension_bytes routing (drop at payload)) (length (drop at payload)) (omega arith)) in
+    let bytes : take (extension_bytes routing (drop at payload)) (drop at payload) ≡ srh_spelling s =
+    ap (λ n. take n (drop at payload)) stated ∙ ap (take (length (srh_spelling s))) there ∙ take_at (srh_spelling s) rest (length (srh_spelling s)) refl in
+    let next : slice_index (drop at payload) 0 ≡ s.next_header = ap (λ xs. slice_index xs 0) there in
+    chain_at-header payload routing at refl whole
+    ∙ ap (λ xs. behind (record { kind = routing; at = at; bytes = xs }) (chain_at payload (slice_index (drop at payload) 0) (at + extension_bytes routing (drop at payload)))) bytes
+    ∙ ap (λ k. behind (record { kind = routing; at = at; bytes = srh_spelling s }) (chain_at payload k (at + extension_bytes routing (drop at payload)))) next
+    ∙ ap (λ n. behind (record { kind = routing; at = at; bytes = srh_spelling s }) (chain_at payload s.next_header (at + n))) stated

@@ -1,16 +1,16 @@
 -- What an endpoint keeps of a packet.
-use Rattle.std.proofs.Common.{◌≡◌, ℕ, zero, suc, ◌+◌, ◌-◌, ◌*◌, ◌^◌, ◌<◌, ◌≤◌, Bool, true, false, ◌==◌, ◌≢◌, ◌⊎◌, nat_le, if◌then◌else◌, List, [], ◌∷◌, ◌++◌, length, take, drop, slice_index, slice_set, All, refl, sym, ap, subst, ◌∙◌, arith, inl, inr, length-drop}
-use Rattle.std.proofs.lemmas.Bool.{true≢false, cases_eq, leb-false, eqb-true, eqb-false, eq-eqb, and_from}
-use Rattle.std.proofs.lemmas.List.{get_or-set_other, get_or-set_same, length-set, length-append, append-nil, drop_all}
+use Rattle.std.proofs.Common.{◌≡◌, ℕ, ◌+◌, ◌-◌, ◌*◌, ◌^◌, ◌<◌, ◌≤◌, Bool, true, false, ◌==◌, ◌≢◌, nat_le, if◌then◌else◌, List, ◌++◌, length, take, drop, slice_index, All, refl, sym, ap, subst, ◌∙◌, arith, inl, inr}
+use Rattle.std.proofs.lemmas.Bool.{true≢false, cases_eq, leb-false, eqb-true, eq-eqb, and_from}
+use Rattle.std.proofs.lemmas.List.{get_or-set_other, get_or-set_same, length-set}
 use Rattle.std.proofs.lemmas.List.Elements.{All-drop, All-set, All-take}
 use Rattle.srv6_rules.specs.declared.sid.Behaviour.{Behaviour}
 use Rattle.srv6_rules.specs.declared.sid.Behaviour.TheVariants.{End, EndX, Dt6}
 use Rattle.srv6_rules.specs.declared.sid.Reason.{Reason}
 use Rattle.srv6_rules.specs.declared.sid.Reason.TheVariants as reasons
 use Rattle.srv6_rules.specs.Packet.{Packet, Content, V6, Unreadable, IsSpellable, IsContent, spelling, content_of, bytes_of}
-use Rattle.srv6_rules.specs.Srh.{Srh, srh_of, entry_of, tlv_bytes, entries_of}
-use Rattle.srv6_rules.specs.Chain.{Header, LiesIn, Processed, AtHeader, AtUpper, AtCut, is_segment_routing, is_passed, processed_of}
-use Rattle.srv6_rules.specs.Endpoint.{Endpoint, Onward, Exposed, Delivered, Refused, StepsTo, ChangesFewBytes, Exposes, ipv6_inside, is_allowed, upper_layer, has_bad_segments, advanced, next_segment, header_at_sid, upper_at_sid, processed_at_sid, at_sid}
+use Rattle.srv6_rules.specs.Srh.{srh_of, entry_of, tlv_bytes}
+use Rattle.srv6_rules.specs.Chain.{Header, Processed, AtHeader, AtUpper, AtCut, is_segment_routing, is_passed, processed_of}
+use Rattle.srv6_rules.specs.Endpoint.{Onward, Exposed, Delivered, Refused, StepsTo, ChangesFewBytes, Exposes, ipv6_inside, is_allowed, has_bad_segments, advanced, header_at_sid, upper_at_sid, processed_at_sid, at_sid}
 use Rattle.srv6_rules.proofs.Bytes.{address_number-below, byte_below}
 use Rattle.srv6_rules.proofs.Packets.{content_of-is_content, content_of-bytes_of, length-spelling, reads-spelled, unreadable, spelling-agrees, spelling-hop_limit, spelling-payload}
 use Rattle.srv6_rules.proofs.Chains.{processed-lies, processed-upper_stands, lies-at, lies-bytes}
@@ -241,16 +241,16 @@ at_sid-content b allow p c ok e =
 
 -- the bytes of a packet that is exposed stand in the payload as they are
 pub at_sid-exposed_packet : (b : Behaviour) (allow : List ℕ) (p q : Packet) → IsSpellable p → at_sid b allow p ≡ Exposed (V6 q)
-    → (at : ℕ) × (drop at p.payload ≡ spelling q ++ drop (length (spelling q)) (drop at p.payload))
+    → (at : ℕ) × (processed_of p ≡ AtUpper ipv6_inside at) × (drop at p.payload ≡ spelling q ++ drop (length (spelling q)) (drop at p.payload))
 at_sid-exposed_packet b allow p q ok e =
     let x = at_sid-exposes b allow p (V6 q) e in
-    (x.at, reads-spelled (drop x.at p.payload) q (All-drop (λ n. n < 2 ^ 8) x.at p.payload ok.payload) (sym x.content))
+    (x.at, x.processed, reads-spelled (drop x.at p.payload) q (All-drop (λ n. n < 2 ^ 8) x.at p.payload ok.payload) (sym x.content))
 
 pub at_sid-exposed_unreadable : (b : Behaviour) (allow : List ℕ) (p : Packet) (bytes : List ℕ) (why : Reason) → at_sid b allow p ≡ Exposed (Unreadable bytes why)
-    → (at : ℕ) × (bytes ≡ drop at p.payload)
+    → (at : ℕ) × (processed_of p ≡ AtUpper ipv6_inside at) × (bytes ≡ drop at p.payload)
 at_sid-exposed_unreadable b allow p bytes why e =
     let x = at_sid-exposes b allow p (Unreadable bytes why) e in
-    (x.at, sym (unreadable (drop x.at p.payload) bytes why (sym x.content)))
+    (x.at, x.processed, sym (unreadable (drop x.at p.payload) bytes why (sym x.content)))
 
 -- what is exposed reads again from its bytes
 pub at_sid-exposed_back : (b : Behaviour) (allow : List ℕ) (p : Packet) (c : Content) → IsSpellable p → at_sid b allow p ≡ Exposed c → content_of (bytes_of c) ≡ c

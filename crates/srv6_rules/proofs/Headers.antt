@@ -1,10 +1,10 @@
 -- A segment routing header's spelling read back, and a header in bytes spelled.
-use Rattle.std.proofs.Common.{◌≡◌, ℕ, zero, suc, ◌+◌, ◌-◌, ◌*◌, ◌/◌, ◌^◌, ◌<◌, ◌≤◌, List, [], ◌∷◌, ◌++◌, length, take, drop, slice_index, All, refl, sym, ap, ◌∙◌, arith, take-add, length-append, length-drop}
-use Rattle.std.proofs.lemmas.List.{append_assoc, append-nil, drop_at, drop-drop, drop_more, take_at, length-take-le}
-use Rattle.std.proofs.lemmas.List.Elements.{All-append, All-cons, All-take, All-drop}
-use Rattle.srv6_rules.specs.Packet.{two_bytes, two_number}
+use Rattle.std.proofs.Common.{◌≡◌, ℕ, zero, suc, ◌+◌, ◌*◌, ◌^◌, ◌<◌, ◌≤◌, List, [], ◌∷◌, ◌++◌, length, take, drop, slice_index, slice_set, All, flat_map, refl, sym, ap, ◌∙◌, arith, take-add, length-append, length-drop}
+use Rattle.std.proofs.lemmas.List.{append_assoc, drop_at, drop-drop, drop_more, take_at, length-take-le}
+use Rattle.std.proofs.lemmas.List.Elements.{All-append, All-cons, All-head, All-tail, All-take, All-drop}
+use Rattle.srv6_rules.specs.Packet.{two_bytes, two_number, address_bytes, address_number}
 use Rattle.srv6_rules.specs.Srh.{Srh, IsSrhSpellable, srh_of, srh_spelling, segment_routing}
-use Rattle.srv6_rules.proofs.Bytes.{length-two_bytes, all-two_bytes, two_number-below, two_number-bytes, two_bytes-number, byte_below}
+use Rattle.srv6_rules.proofs.Bytes.{length-two_bytes, all-two_bytes, two_number-below, two_number-bytes, two_bytes-number, byte_below, length-address_bytes, address_number-bytes}
 
 -- reading a header's spelling gives the header, whatever stands behind it
 pub srh_of-spelling : (s : Srh) (rest : List ℕ) → IsSrhSpellable s → srh_of (srh_spelling s ++ rest) ≡ s
@@ -76,3 +76,35 @@ srh_of-spellable bytes all long =
       body_len = length-take-le (8 * slice_index bytes 1) (drop 8 bytes) (omega (arith, length-drop 8 bytes));
       body = All-take P (8 * slice_index bytes 1) (drop 8 bytes) (All-drop P 8 bytes all);
     }
+
+-- ---- the segment list in a header
+
+-- the entry at a place of addresses that stand one after the other
+pub entry-at : (list : List ℕ) (more : List ℕ) (i : ℕ) → i < length list → All (λ a. a < 2 ^ 128) list
+    → address_number (drop (16 * i) (flat_map address_bytes list ++ more)) ≡ slice_index list i
+entry-at [] more i below all = absurd (omega arith)
+entry-at (a ∷ list) more zero below all =
+    let P : ℕ → Type 0 = λ x. x < 2 ^ 128 in
+    ap address_number (append_assoc (address_bytes a) (flat_map address_bytes list) more)
+    ∙ address_number-bytes a (flat_map address_bytes list ++ more) (All-head P a list all)
+entry-at (a ∷ list) more (suc i) below all =
+    let P : ℕ → Type 0 = λ x. x < 2 ^ 128 in
+    let whole : List ℕ = (address_bytes a ++ flat_map address_bytes list) ++ more in
+    let sum : 16 * suc i ≡ 16 + 16 * i = omega arith in
+    let behind : drop 16 whole ≡ flat_map address_bytes list ++ more =
+    ap (drop 16) (append_assoc (address_bytes a) (flat_map address_bytes list) more) ∙ drop_at (address_bytes a) (flat_map address_bytes list ++ more) 16 (length-address_bytes a) in
+    ap (λ n. address_number (drop n whole)) sum
+    ∙ ap address_number (sym (drop-drop (16 * i) 16 whole) ∙ ap (drop (16 * i)) behind)
+    ∙ entry-at list more i (omega arith) (All-tail P a list all)
+
+pub length-entries : (list : List ℕ) → length (flat_map address_bytes list) ≡ 16 * length list
+length-entries [] = refl
+length-entries (a ∷ list) =
+    let one = length-address_bytes a in
+    let rest = length-entries list in
+    let sum = length-append (address_bytes a) (flat_map address_bytes list) in
+    omega (arith, one, rest, sum)
+
+-- Segments Left is the header's byte 3
+pub left-set : (s : Srh) (rest : List ℕ) (v : ℕ) → slice_set (srh_spelling s ++ rest) 3 v ≡ srh_spelling (record s { segments_left = v }) ++ rest
+left-set s rest v = refl

@@ -1,43 +1,42 @@
 -- A packet's spelling read back, and what reads as a packet spelled.
-use Rattle.std.proofs.Common.{◌/◌, ◌%◌, ◌≡◌, ℕ, zero, suc, ◌+◌, ◌-◌, ◌*◌, ◌^◌, ◌<◌, ◌≤◌, Bool, true, false, cond, ◌==◌, nat_lt, List, [], ◌∷◌, ◌++◌, length, take, drop, get_or, slice_index, All, refl, sym, ap, subst, ◌∙◌, arith, inl, inr, ◌⊎◌, take-add, length-append, length-drop, length-take}
-use Rattle.std.proofs.lemmas.Bool.{cases_Bool, cases_lt, cond-true, cond-false, eqb-true, ltb-true, ltb-false, eq-eqb, ne_eqb, lt-ltb, le-ltb}
-use Rattle.std.proofs.lemmas.List.{append_assoc, append-nil, drop_at, drop-drop, drop_all, take_at, length-take-le, take-append-drop, drop_more, get_or-drop, get_or_append_left, get_or-append-add, take_all}
+use Rattle.std.proofs.Common.{◌/◌, ◌%◌, ◌≡◌, ℕ, ◌+◌, ◌-◌, ◌^◌, ◌<◌, ◌≤◌, Bool, true, false, cond, ◌==◌, nat_lt, List, [], ◌∷◌, ◌++◌, length, take, drop, slice_index, All, refl, sym, ap, subst, ◌∙◌, arith, inl, inr, ◌⊎◌, take-add, length-append, length-drop}
+use Rattle.std.proofs.lemmas.Bool.{cases_lt, eqb-true, ltb-false, eq-eqb, ne_eqb, le-ltb}
+use Rattle.std.proofs.lemmas.List.{append_assoc, append-nil, drop_at, drop-drop, drop_all, take_at, length-take-le, take-append-drop, drop_more, get_or-drop, get_or_append_left, get_or-append-add}
 use Rattle.std.proofs.lemmas.List.Elements.{All-append, All-cons, All-take, All-drop}
-use Rattle.std.specs.Int.{byte_at, bytes_high_first}
 use Rattle.srv6_rules.specs.declared.sid.Reason.{Reason}
 use Rattle.srv6_rules.specs.declared.sid.Reason.TheVariants.{Truncated, BadVersion}
 use Rattle.srv6_rules.specs.Packet.{Packet, Content, V6, Unreadable, IsSpellable, Spells, IsContent, spelling, header_spelling, first_word, two_bytes, four_bytes, address_bytes, two_number, four_number, address_number, stated_len, packet_at, content_of, entered, bytes_of, most_len}
-use Rattle.srv6_rules.proofs.Bytes.{length-two_bytes, length-four_bytes, length-address_bytes, all-two_bytes, all-four_bytes, all-address_bytes, two_number-below, four_number-below, address_number-below, two_number-bytes, four_number-bytes, address_number-bytes, two_bytes-number, four_bytes-number, address_bytes-number, byte_below}
+use Rattle.srv6_rules.proofs.Bytes.{length-two_bytes, length-four_bytes, length-address_bytes, all-two_bytes, all-four_bytes, all-address_bytes, two_number-below, address_number-below, two_number-bytes, four_number-bytes, address_number-bytes, two_bytes-number, four_bytes-number, address_bytes-number, byte_below}
 
 -- ---- the parts of a header of 4, 2, 1, 1, 16 and 16 bytes with more behind it
 
-laid : List ℕ → List ℕ → ℕ → ℕ → List ℕ → List ℕ → List ℕ → List ℕ
+unfoldable pub laid : List ℕ → List ℕ → ℕ → ℕ → List ℕ → List ℕ → List ℕ → List ℕ
 laid a b n h s d r = a ++ (b ++ (n ∷ h ∷ (s ++ (d ++ r))))
 
 module _ (a b : List ℕ) (n h : ℕ) (s d r : List ℕ) (la : length a ≡ 4) (lb : length b ≡ 2) (ls : length s ≡ 16) (ld : length d ≡ 16) where
-  drop4-laid : drop 4 (laid a b n h s d r) ≡ b ++ (n ∷ h ∷ (s ++ (d ++ r)))
+  pub drop4-laid : drop 4 (laid a b n h s d r) ≡ b ++ (n ∷ h ∷ (s ++ (d ++ r)))
   unfolding laid
   drop4-laid = drop_at a (b ++ (n ∷ h ∷ (s ++ (d ++ r)))) 4 la
 
-  drop6-laid : drop 6 (laid a b n h s d r) ≡ n ∷ h ∷ (s ++ (d ++ r))
+  pub drop6-laid : drop 6 (laid a b n h s d r) ≡ n ∷ h ∷ (s ++ (d ++ r))
   drop6-laid = sym (drop-drop 2 4 (laid a b n h s d r)) ∙ ap (drop 2) drop4-laid ∙ drop_at b (n ∷ h ∷ (s ++ (d ++ r))) 2 lb
 
-  drop8-laid : drop 8 (laid a b n h s d r) ≡ s ++ (d ++ r)
+  pub drop8-laid : drop 8 (laid a b n h s d r) ≡ s ++ (d ++ r)
   drop8-laid = sym (drop-drop 2 6 (laid a b n h s d r)) ∙ ap (drop 2) drop6-laid
 
-  drop24-laid : drop 24 (laid a b n h s d r) ≡ d ++ r
+  pub drop24-laid : drop 24 (laid a b n h s d r) ≡ d ++ r
   drop24-laid = sym (drop-drop 16 8 (laid a b n h s d r)) ∙ ap (drop 16) drop8-laid ∙ drop_at s (d ++ r) 16 ls
 
-  drop40-laid : drop 40 (laid a b n h s d r) ≡ r
+  pub drop40-laid : drop 40 (laid a b n h s d r) ≡ r
   drop40-laid = sym (drop-drop 16 24 (laid a b n h s d r)) ∙ ap (drop 16) drop24-laid ∙ drop_at d r 16 ld
 
-  six-laid : slice_index (laid a b n h s d r) 6 ≡ n
+  pub six-laid : slice_index (laid a b n h s d r) 6 ≡ n
   six-laid = sym (get_or-drop 6 (laid a b n h s d r) 0 0) ∙ ap (λ xs. slice_index xs 0) drop6-laid
 
-  seven-laid : slice_index (laid a b n h s d r) 7 ≡ h
+  pub seven-laid : slice_index (laid a b n h s d r) 7 ≡ h
   seven-laid = sym (get_or-drop 6 (laid a b n h s d r) 1 0) ∙ ap (λ xs. slice_index xs 1) drop6-laid
 
-  length-laid : length (laid a b n h s d r) ≡ 40 + length r
+  pub length-laid : length (laid a b n h s d r) ≡ 40 + length r
   unfolding laid
   length-laid = simp length-append (omega arith)
 
@@ -125,7 +124,7 @@ four_number-version bytes h =
 -- ---- reading what was spelled
 
 -- a spelling with more behind it, laid out
-spelling-laid : (p : Packet) (rest : List ℕ)
+pub spelling-laid : (p : Packet) (rest : List ℕ)
     → spelling p ++ rest ≡ laid (four_bytes (first_word p.traffic_class p.flow_label)) (two_bytes (length p.payload)) p.next_header p.hop_limit (address_bytes p.source) (address_bytes p.destination) (p.payload ++ rest)
 unfolding laid header_spelling
 spelling-laid p rest = simp append_assoc
@@ -248,7 +247,7 @@ module _ (p : Packet) (rest : List ℕ) (h : IsSpellable p) where
       ∙ ap V6 (packet_at-from p spelled class_is label_is next_header_is hop_limit_is source_is destination_is payload_is)
 
 -- a spelling, laid out
-spelling-laid_alone : (p : Packet)
+pub spelling-laid_alone : (p : Packet)
     → spelling p ≡ laid (four_bytes (first_word p.traffic_class p.flow_label)) (two_bytes (length p.payload)) p.next_header p.hop_limit (address_bytes p.source) (address_bytes p.destination) p.payload
 spelling-laid_alone p =
     sym (append-nil (spelling p)) ∙ spelling-laid p []

@@ -1,7 +1,7 @@
 -- The chain of extension headers behind an IPv6 header (RFC 8200 section 4).
-use Rattle.std.specs.Prelude.{◌≡◌, ℕ, zero, suc, ◌+◌, ◌-◌, ◌*◌, ◌<◌, ◌≤◌, Bool, true, false, ◌==◌, ◌&&◌, ◌||◌, nat_lt, nat_le, if◌then◌else◌, List, [], ◌∷◌, ◌++◌, length, take, drop, slice_index, All}
+use Rattle.std.specs.Prelude.{◌≡◌, ℕ, zero, suc, ◌+◌, ◌*◌, ◌≤◌, Bool, true, false, ◌==◌, ◌&&◌, ◌||◌, nat_le, if◌then◌else◌, List, [], ◌∷◌, ◌++◌, length, take, drop, slice_index, All}
 use Rattle.srv6_rules.specs.Packet.{Packet}
-use Rattle.srv6_rules.specs.Srh.{Srh, srh_of, segment_routing}
+use Rattle.srv6_rules.specs.Srh.{segment_routing}
 
 -- an extension header: the next-header value that named it, its place in the payload in bytes from 0, and its bytes
 pub record Header : Type 0 where

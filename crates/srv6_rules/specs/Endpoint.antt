@@ -1,12 +1,12 @@
 -- What a node does with a packet that came to one of its SIDs or to its own address: RFC 8986 sections 4.1, 4.2
 -- and 4.6 with the processing of RFC 8754 section 4.3.1.1, and RFC 8200 section 4.4 at an address.
-use Rattle.std.specs.Prelude.{◌≡◌, ◌≢◌, ◌⊎◌, ℕ, ◌+◌, ◌-◌, ◌*◌, ◌/◌, ◌<◌, ◌≤◌, Bool, true, false, ◌==◌, ◌&&◌, ◌||◌, nat_lt, nat_le, if◌then◌else◌, List, [], ◌∷◌, length, drop, slice_index, slice_set, Option, Some, None}
+use Rattle.std.specs.Prelude.{◌≡◌, ◌≢◌, ◌⊎◌, ℕ, ◌+◌, ◌-◌, ◌<◌, ◌≤◌, Bool, true, ◌==◌, ◌||◌, nat_lt, nat_le, if◌then◌else◌, List, length, drop, slice_index, slice_set, Option, Some, None}
 use Rattle.std.specs.List.{list_any}
 use Rattle.srv6_rules.specs.declared.sid.Behaviour.{Behaviour}
 use Rattle.srv6_rules.specs.declared.sid.Behaviour.TheVariants.{End, EndX, Dt6}
 use Rattle.srv6_rules.specs.declared.sid.Reason.{Reason}
 use Rattle.srv6_rules.specs.declared.sid.Reason.TheVariants as reasons
-use Rattle.srv6_rules.specs.Packet.{Packet, Content, V6, content_of}
+use Rattle.srv6_rules.specs.Packet.{Packet, Content, content_of}
 use Rattle.srv6_rules.specs.Srh.{Srh, srh_of, entries_of, entry_of, tlv_bytes}
 use Rattle.srv6_rules.specs.Chain.{Header, LiesIn, Processed, AtHeader, AtUpper, AtCut, is_segment_routing, processed_of}
 

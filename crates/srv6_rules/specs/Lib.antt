@@ -2,3 +2,4 @@ pub mod Packet
 pub mod Srh
 pub mod Chain
 pub mod Endpoint
+pub mod Encapsulation

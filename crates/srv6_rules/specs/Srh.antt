@@ -1,5 +1,5 @@
 -- The segment routing header as a value, and its one spelling (RFC 8754 section 2).
-use Rattle.std.specs.Prelude.{◌≡◌, ℕ, ◌+◌, ◌-◌, ◌*◌, ◌/◌, ◌%◌, ◌^◌, ◌<◌, ◌≤◌, List, [], ◌∷◌, ◌++◌, length, take, drop, slice_index, All}
+use Rattle.std.specs.Prelude.{◌≡◌, ℕ, ◌+◌, ◌*◌, ◌/◌, ◌^◌, ◌<◌, List, ◌∷◌, ◌++◌, length, take, drop, slice_index, All}
 use Rattle.srv6_rules.specs.Packet.{two_bytes, two_number, address_number}
 
 -- extension_len counts 8-byte units behind the first 8 bytes, of which the body has as many bytes as they have

@@ -1,11 +1,11 @@
 //! Laws about the definitions, each the contract of a function that does nothing.
 
-ghost use Rattle.std.specs.Prelude.{◌≡◌, ◌≢◌, ◌<◌, ◌≤◌, ◌+◌, ◌*◌, ◌^◌, true, false, if◌then◌else◌, List, [], ℕ, ◌++◌, length, take, drop, slice_index, All, Contains};
-ghost use Rattle.srv6_rules.specs.Endpoint.{Onward, Exposed, StepsTo, ChangesFewBytes, Exposes, at_sid};
+ghost use Rattle.std.specs.Prelude.{◌≡◌, ◌≢◌, ◌<◌, ◌≤◌, ◌+◌, ◌*◌, ◌^◌, true, false, if◌then◌else◌, List, [], ℕ, ◌++◌, length, take, drop, slice_index, slice_set, All, flat_map, Contains};
+ghost use Rattle.srv6_rules.specs.Endpoint.{Onward, Exposed, StepsTo, ChangesFewBytes, Exposes, ipv6_inside, at_sid};
 ghost use Rattle.srv6_rules.specs.declared.sid.Behaviour.{Behaviour};
 ghost use Rattle.srv6_rules.specs.declared.sid.Reason.{Reason};
-ghost use Rattle.srv6_rules.specs.Packet.{Packet, Content, V6, Unreadable, IsSpellable, IsContent, Spells, spelling, content_of, entered, bytes_of, two_bytes, four_bytes, address_bytes, two_number, four_number, address_number};
-ghost use Rattle.srv6_rules.specs.Chain.{Header, Chain, ChainEnd, Upper, Cut, LiesIn, FirstNotPassed, AtHeader, AtUpper, AtCut, is_extension, is_whole, extension_bytes, behind, chain_at, header_at, is_passed, first_processed, processed_in};
+ghost use Rattle.srv6_rules.specs.Packet.{Packet, Content, V6, Unreadable, IsSpellable, IsContent, Spells, spelling, content_of, entered, bytes_of, two_bytes, four_bytes, first_word, address_bytes, two_number, four_number, address_number};
+ghost use Rattle.srv6_rules.specs.Chain.{Header, Chain, ChainEnd, Upper, Cut, LiesIn, FirstNotPassed, AtHeader, AtUpper, AtCut, is_extension, routing, is_whole, extension_bytes, behind, chain_at, header_at, is_passed, first_processed, processed_in, processed_of};
 ghost use Rattle.srv6_rules.specs.Srh.{Srh, IsSrhSpellable, srh_of, srh_spelling, segment_routing};
 
 /// A number has 2, 4 or 16 bytes, each below 256.
@@ -46,6 +46,24 @@ pub fn spelling_is_header_and_payload()
     ensures bytes { (p : Packet) → IsSpellable p → All (λ b. b < 2 ^ 8) (spelling p) }
 {}
 
+/// Where each field stands in a spelling (RFC 8200 section 3).
+pub fn fields_stand_in_the_spelling()
+    ensures word { (p : Packet) → take 4 (spelling p) ≡ four_bytes (first_word p.traffic_class p.flow_label) }
+    ensures payload_len { (p : Packet) → take 2 (drop 4 (spelling p)) ≡ two_bytes (length p.payload) }
+    ensures next_header { (p : Packet) → slice_index (spelling p) 6 ≡ p.next_header }
+    ensures hop_limit { (p : Packet) → slice_index (spelling p) 7 ≡ p.hop_limit }
+    ensures source { (p : Packet) → take 16 (drop 8 (spelling p)) ≡ address_bytes p.source }
+    ensures destination { (p : Packet) → take 16 (drop 24 (spelling p)) ≡ address_bytes p.destination }
+    ensures payload { (p : Packet) → drop 40 (spelling p) ≡ p.payload }
+{}
+
+/// A field that changes changes its bytes in the spelling and no other (RFC 8200 section 3).
+pub fn field_changes_its_bytes()
+    ensures hop_limit { (p : Packet) (x : ℕ) → spelling (record p { hop_limit = x }) ≡ slice_set (spelling p) 7 x }
+    ensures destination { (p : Packet) (a : ℕ) → spelling (record p { destination = a }) ≡ take 24 (spelling p) ++ (address_bytes a ++ drop 40 (spelling p)) }
+    ensures payload { (p : Packet) (k v : ℕ) → spelling (record p { payload = slice_set p.payload k v }) ≡ slice_set (spelling p) (40 + k) v }
+{}
+
 /// Bytes that read as a packet begin with its spelling; with nothing behind the packet's end they are its
 /// spelling (RFC 8200 section 3).
 pub fn what_reads_was_spelled()
@@ -73,6 +91,14 @@ pub fn srh_in_bytes_was_spelled()
     ensures front { (bytes : List ℕ) → All (λ b. b < 2 ^ 8) bytes → 8 ≤ length bytes → slice_index bytes 2 ≡ segment_routing → srh_spelling (srh_of bytes) ≡ take (8 + 8 * slice_index bytes 1) bytes }
 {}
 
+/// Addresses that stand one after the other in a segment list are its entries, the first at place 0, and Segments
+/// Left is the header's byte 3 (RFC 8754 section 2).
+pub fn srh_holds_its_list()
+    ensures entry { (list more : List ℕ) (i : ℕ) → i < length list → All (λ a. a < 2 ^ 128) list → address_number (drop (16 * i) (flat_map address_bytes list ++ more)) ≡ slice_index list i }
+    ensures length { (list : List ℕ) → length (flat_map address_bytes list) ≡ 16 * length list }
+    ensures left { (s : Srh) (rest : List ℕ) (v : ℕ) → slice_set (srh_spelling s ++ rest) 3 v ≡ srh_spelling (record s { segments_left = v }) ++ rest }
+{}
+
 /// How a chain goes on from each place of a payload: it ends at an upper layer or at a header that is cut, and goes
 /// on behind a whole header with the value in that header's first byte (RFC 8200 section 4).
 pub fn chain_goes_on()
@@ -82,6 +108,12 @@ pub fn chain_goes_on()
     ensures header { (payload : List ℕ) (kind at : ℕ) → is_extension kind ≡ true → is_whole kind (drop at payload) ≡ true → chain_at payload kind at ≡ behind (header_at payload kind at) (chain_at payload (slice_index (drop at payload) 0) (at + extension_bytes kind (drop at payload))) }
 {}
 
+/// The chain from a place of a payload where a segment routing header was spelled: that header, and the chain behind
+/// it (RFC 8200 section 4, RFC 8754 section 2).
+pub fn chain_goes_on_behind_a_spelled_header()
+    ensures { (payload : List ℕ) (at : ℕ) (s : Srh) (rest : List ℕ) → length s.body ≡ 8 * s.extension_len → drop at payload ≡ srh_spelling s ++ rest → chain_at payload routing at ≡ behind (record { kind = routing; at = at; bytes = srh_spelling s }) (chain_at payload s.next_header (at + length (srh_spelling s))) }
+{}
+
 /// Each header of a chain lies whole in the payload, and an upper layer stands in the payload or at its end, at or
 /// behind the place where the chain started (RFC 8200 section 4).
 pub fn chain_is_in_the_payload()
@@ -89,9 +121,11 @@ pub fn chain_is_in_the_payload()
     ensures upper { (payload : List ℕ) (kind at upper place : ℕ) → at ≤ length payload → (chain_at payload kind at).end ≡ Upper upper place → (is_extension upper ≡ false) × (at ≤ place) × (place ≤ length payload) }
 {}
 
-/// The bytes of a header that lies in a payload are the payload's at the header's place.
+/// The bytes of a header that lies in a payload are the payload's at the header's place, and as many as are stated
+/// there.
 pub fn header_has_bytes_of_the_payload()
     ensures each { (payload : List ℕ) (h : Header) (k : ℕ) → LiesIn payload h → k < length h.bytes → slice_index h.bytes k ≡ slice_index payload (h.at + k) }
+    ensures stated { (payload : List ℕ) (h : Header) → LiesIn payload h → length h.bytes ≡ extension_bytes h.kind (drop h.at payload) }
     ensures below { (payload : List ℕ) (h : Header) → LiesIn payload h → All (λ b. b < 2 ^ 8) payload → All (λ b. b < 2 ^ 8) h.bytes }
 {}
 
@@ -131,8 +165,8 @@ pub fn onward_is_one_step()
 /// packet the bytes there begin with its spelling, and bytes that do not read are those there (RFC 8986 section 4.6).
 pub fn decapsulation_changes_no_byte()
     ensures exposes { (b : Behaviour) (allow : List ℕ) (p : Packet) (c : Content) → at_sid b allow p ≡ Exposed c → Exposes b p c }
-    ensures packet { (b : Behaviour) (allow : List ℕ) (p q : Packet) → IsSpellable p → at_sid b allow p ≡ Exposed (V6 q) → (at : ℕ) × (drop at p.payload ≡ spelling q ++ drop (length (spelling q)) (drop at p.payload)) }
-    ensures unreadable { (b : Behaviour) (allow : List ℕ) (p : Packet) (bytes : List ℕ) (why : Reason) → at_sid b allow p ≡ Exposed (Unreadable bytes why) → (at : ℕ) × (bytes ≡ drop at p.payload) }
+    ensures packet { (b : Behaviour) (allow : List ℕ) (p q : Packet) → IsSpellable p → at_sid b allow p ≡ Exposed (V6 q) → (at : ℕ) × (processed_of p ≡ AtUpper ipv6_inside at) × (drop at p.payload ≡ spelling q ++ drop (length (spelling q)) (drop at p.payload)) }
+    ensures unreadable { (b : Behaviour) (allow : List ℕ) (p : Packet) (bytes : List ℕ) (why : Reason) → at_sid b allow p ≡ Exposed (Unreadable bytes why) → (at : ℕ) × (processed_of p ≡ AtUpper ipv6_inside at) × (bytes ≡ drop at p.payload) }
     ensures content { (b : Behaviour) (allow : List ℕ) (p : Packet) (c : Content) → IsSpellable p → at_sid b allow p ≡ Exposed c → IsContent c }
     ensures back { (b : Behaviour) (allow : List ℕ) (p : Packet) (c : Content) → IsSpellable p → at_sid b allow p ≡ Exposed c → content_of (bytes_of c) ≡ c }
 {}

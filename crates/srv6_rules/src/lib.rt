@@ -1,12 +1,14 @@
 //! What SRv6 nodes do, as definitions over plain values.
 //!
 //! `specs/` has the IPv6 packet and the segment routing header as values with their one spelling
-//! each, how bytes are read, how the chain of extension headers is taken apart, and what an
-//! endpoint does with a packet that came to one of its SIDs. The code here has the types that
-//! these definitions speak of, and the laws about the definitions.
+//! each, how bytes are read, how the chain of extension headers is taken apart, what an endpoint
+//! does with a packet that came to one of its SIDs, and how a packet is encapsulated behind a
+//! segment list. The code here has the types that these definitions speak of, and the laws about
+//! the definitions.
 #![tactic(auto)]
 
-mod laws;
+pub mod encapsulation;
+pub mod laws;
 mod sid;
 
 pub use sid::{Behaviour, Family, LinkSet, Reason, SidEntry};

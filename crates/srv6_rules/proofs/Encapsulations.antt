@@ -1,0 +1,543 @@
+-- A packet in an outer header with a segment list: what is processed of it, and what SIDs do with it.
+use Rattle.std.proofs.Common.{◌≡◌, ℕ, ◌+◌, ◌-◌, ◌*◌, ◌/◌, ◌^◌, ◌<◌, ◌≤◌, Bool, true, false, not, ◌==◌, ◌||◌, nat_lt, nat_le, if◌then◌else◌, List, [], ◌∷◌, ◌++◌, length, take, drop, reverse, slice_index, slice_set, All, flat_map, refl, sym, ap, subst, ◌∙◌, ◌⊎◌, ◌↔◌, arith, inl, inr, length-append, length-drop}
+use Rattle.std.proofs.Math.Bool.{or-true}
+use Rattle.std.proofs.lemmas.Bool.{cases_Bool, cases_lt, or_from, lt-ltb, ltb-true, ltb-false, le-ltb, le-leb, lt-leb, eq-eqb, ne_eqb}
+use Rattle.std.proofs.lemmas.List.{append-nil, drop_all, drop_at, take_at, get_or-drop, get_or_past, get_or-reverse, length-reverse}
+use Rattle.std.proofs.lemmas.List.Elements.{All-nil, All-append, All-drop}
+use Rattle.srv6_rules.specs.declared.sid.Behaviour.{Behaviour}
+use Rattle.srv6_rules.specs.declared.sid.Behaviour.TheVariants.{End, EndX, Dt6}
+use Rattle.srv6_rules.specs.declared.sid.Reason.TheVariants as reasons
+use Rattle.srv6_rules.specs.Packet.{Packet, V6, IsSpellable, most_len, spelling, content_of, two_bytes, two_number, address_bytes, address_number}
+use Rattle.srv6_rules.specs.Srh.{Srh, IsSrhSpellable, srh_of, srh_spelling, entry_of, tlv_bytes}
+use Rattle.srv6_rules.specs.Chain.{Header, AtHeader, AtUpper, routing, is_extension, chain_at, is_segment_routing, processed_in, processed_of}
+use Rattle.srv6_rules.specs.Endpoint.{Onward, Exposed, Refused, ipv6_inside, upper_layer, has_bad_segments, advanced, next_segment, processed_at_sid, at_sid}
+use Rattle.srv6_rules.specs.Encapsulation.{Encapsulation, segment_list, has_segment_routing, segment_routing_of, outer, at_segment, header_bytes, IsSpellableEncapsulation, inner_lowered, encapsulated, takes_next_segment}
+use Rattle.srv6_rules.proofs.Bytes.{all-address_bytes, length-two_bytes, two_number-bytes}
+use Rattle.srv6_rules.proofs.Packets.{content_of-spelling_alone, length-spelling, all-spelling}
+use Rattle.srv6_rules.proofs.Edits.{edit-hop_limit}
+use Rattle.srv6_rules.proofs.Headers.{length-srh_spelling, all-srh_spelling, entry-at, length-entries}
+use Rattle.srv6_rules.proofs.Chains.{chain_at-spelled, chain_at-upper}
+
+-- ---- a segment routing header at the start of a payload
+
+-- reading a header's spelling gives the header, also where its numbers are above what bytes can spell
+pub srh_of-spelled : (s : Srh) → s.tag < 2 ^ 16 → length s.body ≡ 8 * s.extension_len → srh_of (srh_spelling s) ≡ s
+srh_of-spelled s tag body =
+    let number : two_number (two_bytes s.tag ++ s.body) ≡ s.tag = two_number-bytes s.tag s.body tag in
+    let behind : drop 2 (two_bytes s.tag ++ s.body) ≡ s.body = drop_at (two_bytes s.tag) s.body 2 (length-two_bytes s.tag) in
+    let whole : take (8 * s.extension_len) (drop 2 (two_bytes s.tag ++ s.body)) ≡ s.body =
+    ap (take (8 * s.extension_len)) (behind ∙ sym (append-nil s.body)) ∙ take_at s.body [] (8 * s.extension_len) body in
+    rw (number, whole) refl
+
+-- a header with segments left is processed
+pub spelled-processed : (s : Srh) (inner : List ℕ) → length s.body ≡ 8 * s.extension_len → 0 < s.segments_left
+    → processed_in (chain_at (srh_spelling s ++ inner) routing 0) ≡ AtHeader (record { kind = routing; at = 0; bytes = srh_spelling s })
+spelled-processed s inner body left =
+    let some : (s.segments_left == 0) ≡ false = ne_eqb s.segments_left 0 (omega arith) in
+    ap (λ c. processed_in c) (chain_at-spelled (srh_spelling s ++ inner) 0 s inner body refl) ∙ rw some refl
+
+-- a header with no segments left is passed over
+pub spelled-passed : (s : Srh) (inner : List ℕ) → length s.body ≡ 8 * s.extension_len → s.segments_left ≡ 0 → is_extension s.next_header ≡ false
+    → processed_in (chain_at (srh_spelling s ++ inner) routing 0) ≡ AtUpper s.next_header (length (srh_spelling s))
+spelled-passed s inner body left upper =
+    let none : (s.segments_left == 0) ≡ true = eq-eqb s.segments_left 0 left in
+    let place : 0 + length (srh_spelling s) ≡ length (srh_spelling s) = omega arith in
+    ap (λ c. processed_in c) (chain_at-spelled (srh_spelling s ++ inner) 0 s inner body refl)
+    ∙ rw none (ap (λ c. processed_in c) (chain_at-upper (srh_spelling s ++ inner) s.next_header (0 + length (srh_spelling s)) upper))
+    ∙ ap (AtUpper s.next_header) place
+
+-- the step over a header with good segments and nothing behind its entries
+step-onward : (p : Packet) (at : ℕ) (s : Srh) → 1 < p.hop_limit → has_bad_segments s ≡ false → length (tlv_bytes s) ≡ 0
+    → next_segment p at s ≡ Onward (advanced p at s)
+step-onward p at s hop good none =
+    let high : nat_le p.hop_limit 1 ≡ false = lt-leb p.hop_limit 1 hop in
+    let empty : (length (tlv_bytes s) == 0) ≡ true = eq-eqb (length (tlv_bytes s)) 0 none in
+    rw (high, good, empty) refl
+
+step-hop_limit : (p : Packet) (at : ℕ) (s : Srh) → p.hop_limit ≤ 1 → next_segment p at s ≡ Refused reasons.HopLimit
+step-hop_limit p at s hop =
+    let low : nat_le p.hop_limit 1 ≡ true = le-leb p.hop_limit 1 hop in
+    rw low refl
+
+-- ---- the segment list
+
+listed : Bool → List ℕ → List ℕ
+listed reduced segments = reverse (if reduced then drop 1 segments else segments)
+
+length-listed : (reduced : Bool) (segments : List ℕ) → length (listed reduced segments) ≡ (if reduced then length segments - 1 else length segments)
+unfolding listed
+length-listed true segments = length-reverse (drop 1 segments) ∙ length-drop 1 segments
+length-listed false segments = length-reverse segments
+
+-- the list lacks at most one segment
+listed-most : (reduced : Bool) (segments : List ℕ) → length segments ≤ length (listed reduced segments) + 1
+listed-most true segments = let len = length-listed true segments in omega arith
+listed-most false segments = let len = length-listed false segments in omega arith
+
+listed-no_more : (reduced : Bool) (segments : List ℕ) → length (listed reduced segments) ≤ length segments
+listed-no_more true segments = let len = length-listed true segments in omega arith
+listed-no_more false segments = let len = length-listed false segments in omega arith
+
+-- the entry at a place is the segment at that place from the end, but for the first segment
+listed-at : (reduced : Bool) (segments : List ℕ) (k : ℕ) → k + 1 < length segments → slice_index (listed reduced segments) k ≡ slice_index segments (length segments - 1 - k)
+unfolding listed
+listed-at true segments k below =
+    let len = length-drop 1 segments in
+    let place : 1 + (length (drop 1 segments) - 1 - k) ≡ length segments - 1 - k = omega arith in
+    get_or-reverse (drop 1 segments) k 0 (omega arith)
+    ∙ get_or-drop 1 segments (length (drop 1 segments) - 1 - k) 0
+    ∙ ap (slice_index segments) place
+listed-at false segments k below = get_or-reverse segments k 0 (omega arith)
+
+All-reversed : (P : ℕ → Type 0) (xs : List ℕ) → All P xs → All P (reverse xs)
+All-reversed P xs all = λ k d below.
+    let len = length-reverse xs in
+    let within : k < length xs = omega arith in
+    let Q : ℕ → Type 0 = λ x. P x in
+    subst Q (sym (get_or-reverse xs k d within)) (all (length xs - 1 - k) d (omega arith))
+
+All-listed : (P : ℕ → Type 0) (reduced : Bool) (segments : List ℕ) → All P segments → All P (listed reduced segments)
+unfolding listed
+All-listed P true segments all = All-reversed P (drop 1 segments) (All-drop P 1 segments all)
+All-listed P false segments all = All-reversed P segments all
+
+-- the header bytes with a routing header and without
+size-routed : (reduced many : Bool) (segments : List ℕ) → nat_lt 1 (length segments) ≡ many → (not reduced || many) ≡ true
+    → 48 + 16 * length (listed reduced segments) ≡ header_bytes reduced (length segments)
+size-routed true true segments is has =
+    let more = ltb-true 1 (length segments) is in
+    let len = length-listed true segments in
+    rw is (omega arith)
+size-routed true false segments is has = cc
+size-routed false many segments is has = let len = length-listed false segments in omega arith
+
+size-bare : (reduced many : Bool) (n : ℕ) → nat_lt 1 n ≡ many → (not reduced || many) ≡ false → 40 ≡ header_bytes reduced n
+size-bare true true n is has = cc
+size-bare true false n is has = rw is refl
+size-bare false many n is has = cc
+
+-- ---- the header of an encapsulation
+
+module _ (e : Encapsulation) (left : ℕ) where
+  length-list : length (segment_list e) ≡ (if e.reduced then length e.segments - 1 else length e.segments)
+  unfolding listed
+  length-list = length-listed e.reduced e.segments
+
+  length-body : length (segment_routing_of e left).body ≡ 8 * (segment_routing_of e left).extension_len
+  length-body = length-entries (segment_list e) ∙ omega arith
+
+  pub length-header : length (srh_spelling (segment_routing_of e left)) ≡ 8 + 16 * length (segment_list e)
+  length-header = length-srh_spelling (segment_routing_of e left) ∙ ap (λ n. 8 + n) (length-entries (segment_list e))
+
+  no_tlv_bytes : 0 < length (segment_list e) → length (tlv_bytes (segment_routing_of e left)) ≡ 0
+  no_tlv_bytes some =
+      let all : length (flat_map address_bytes (segment_list e)) ≡ 16 * length (segment_list e) = length-entries (segment_list e) in
+      ap length (drop_all (16 * (length (segment_list e) - 1 + 1)) (flat_map address_bytes (segment_list e)) (omega arith))
+
+  good_segments : 0 < length (segment_list e) → left ≤ length (segment_list e) → has_bad_segments (segment_routing_of e left) ≡ false
+  good_segments some within =
+      or_from (nat_lt (2 * length (segment_list e) / 2) (length (segment_list e) - 1 + 1)) (nat_lt (length (segment_list e) - 1 + 1) left)
+      (le-ltb (2 * length (segment_list e) / 2) (length (segment_list e) - 1 + 1) (omega arith))
+      (le-ltb (length (segment_list e) - 1 + 1) left (omega arith))
+
+  read_back : srh_of (srh_spelling (segment_routing_of e left)) ≡ segment_routing_of e left
+  read_back = srh_of-spelled (segment_routing_of e left) (omega arith) length-body
+
+module _ (e : Encapsulation) where
+  list-most : length e.segments ≤ length (segment_list e) + 1
+  unfolding listed
+  list-most = listed-most e.reduced e.segments
+
+  list-no_more : length (segment_list e) ≤ length e.segments
+  unfolding listed
+  list-no_more = listed-no_more e.reduced e.segments
+
+  pub list-at : (k : ℕ) → k + 1 < length e.segments → slice_index (segment_list e) k ≡ slice_index e.segments (length e.segments - 1 - k)
+  unfolding listed
+  list-at k below = listed-at e.reduced e.segments k below
+
+  list-addresses : All (λ a. a < 2 ^ 128) e.segments → All (λ a. a < 2 ^ 128) (segment_list e)
+  unfolding listed
+  list-addresses all = All-listed (λ a. a < 2 ^ 128) e.reduced e.segments all
+
+  -- two segments or more have a routing header
+  more-routing : 1 < length e.segments → has_segment_routing e ≡ true
+  more-routing more =
+      let many : nat_lt 1 (length e.segments) ≡ true = lt-ltb 1 (length e.segments) more in
+      ap (λ b. not e.reduced || b) many ∙ or-true (not e.reduced)
+
+  -- the entry that is active next
+  next-entry : (left : ℕ) → 0 < left → left < length e.segments → All (λ a. a < 2 ^ 128) e.segments
+      → entry_of (segment_routing_of e left) (left - 1) ≡ slice_index e.segments (length e.segments - left)
+  next-entry left some below all =
+      let most = list-most in
+      let place : length e.segments - 1 - (left - 1) ≡ length e.segments - left = omega arith in
+      ap (λ xs. address_number (drop (16 * (left - 1)) xs)) (sym (append-nil (flat_map address_bytes (segment_list e))))
+      ∙ entry-at (segment_list e) [] (left - 1) (omega arith) (list-addresses all)
+      ∙ list-at (left - 1) (omega arith)
+      ∙ ap (slice_index e.segments) place
+
+-- ---- the packet
+
+-- the outer packet with a next header and a payload
+abbrev framed : Encapsulation → ℕ → List ℕ → ℕ → ℕ → Packet
+framed e next payload hop destination =
+    record {
+      traffic_class = e.traffic_class;
+      flow_label = e.flow_label;
+      next_header = next;
+      hop_limit = hop;
+      source = e.source;
+      destination = destination;
+      payload = payload;
+    }
+
+module _ (e : Encapsulation) (inner : List ℕ) (left hop destination : ℕ) where
+  pub outer-routed : has_segment_routing e ≡ true → outer e inner left hop destination ≡ framed e routing (srh_spelling (segment_routing_of e left) ++ inner) hop destination
+  outer-routed has = rw has refl
+
+  pub outer-bare : has_segment_routing e ≡ false → outer e inner left hop destination ≡ framed e ipv6_inside inner hop destination
+  outer-bare has = rw has refl
+
+  routed-processed : 0 < left → processed_of (framed e routing (srh_spelling (segment_routing_of e left) ++ inner) hop destination)
+      ≡ AtHeader (record { kind = routing; at = 0; bytes = srh_spelling (segment_routing_of e left) })
+  routed-processed some = spelled-processed (segment_routing_of e left) inner (length-body e left) some
+
+  routed-passed : left ≡ 0 → processed_of (framed e routing (srh_spelling (segment_routing_of e left) ++ inner) hop destination)
+      ≡ AtUpper ipv6_inside (length (srh_spelling (segment_routing_of e left)))
+  routed-passed none = spelled-passed (segment_routing_of e left) inner (length-body e left) none refl
+
+  bare-passed : processed_of (framed e ipv6_inside inner hop destination) ≡ AtUpper ipv6_inside 0
+  bare-passed = ap (λ c. processed_in c) (chain_at-upper inner ipv6_inside 0 refl)
+
+-- ---- the length, and the place of the packet inside
+
+module _ (e : Encapsulation) where
+  header-size : (left : ℕ) → has_segment_routing e ≡ true → 40 + length (srh_spelling (segment_routing_of e left)) ≡ header_bytes e.reduced (length e.segments)
+  unfolding listed
+  header-size left has =
+      let len = length-header e left in
+      let size = size-routed e.reduced (nat_lt 1 (length e.segments)) e.segments refl has in
+      omega arith
+
+  bare-size : has_segment_routing e ≡ false → 40 ≡ header_bytes e.reduced (length e.segments)
+  bare-size has = size-bare e.reduced (nat_lt 1 (length e.segments)) (length e.segments) refl has
+
+-- the packet without the inner one is its header bytes
+pub length-outer : (e : Encapsulation) (inner : List ℕ) (left hop destination : ℕ)
+    → 40 + length (outer e inner left hop destination).payload ≡ header_bytes e.reduced (length e.segments) + length inner
+length-outer e inner left hop destination = elim (cases_Bool (has_segment_routing e)) [
+  | inl has ↦
+      let size = header-size e left has in
+      let len = length-append (srh_spelling (segment_routing_of e left)) inner in
+      ap (λ (p : Packet). 40 + length p.payload) (outer-routed e inner left hop destination has) ∙ omega arith
+  | inr not ↦
+      let size = bare-size e not in
+      ap (λ (p : Packet). 40 + length p.payload) (outer-bare e inner left hop destination not) ∙ omega arith
+]
+
+-- behind the headers the packet is the inner one
+pub outer-inner : (e : Encapsulation) (inner : List ℕ) (left hop destination : ℕ)
+    → drop (header_bytes e.reduced (length e.segments) - 40) (outer e inner left hop destination).payload ≡ inner
+outer-inner e inner left hop destination = elim (cases_Bool (has_segment_routing e)) [
+  | inl has ↦
+      let size = header-size e left has in
+      let place : header_bytes e.reduced (length e.segments) - 40 ≡ length (srh_spelling (segment_routing_of e left)) = omega arith in
+      ap (λ (p : Packet). drop (header_bytes e.reduced (length e.segments) - 40) p.payload) (outer-routed e inner left hop destination has)
+      ∙ ap (λ n. drop n (srh_spelling (segment_routing_of e left) ++ inner)) place
+      ∙ drop_at (srh_spelling (segment_routing_of e left)) inner (length (srh_spelling (segment_routing_of e left))) refl
+  | inr not ↦
+      let size = bare-size e not in
+      let place : header_bytes e.reduced (length e.segments) - 40 ≡ 0 = omega arith in
+      ap (λ (p : Packet). drop (header_bytes e.reduced (length e.segments) - 40) p.payload) (outer-bare e inner left hop destination not)
+      ∙ ap (λ n. drop n inner) place
+]
+
+-- ---- what is processed
+
+-- with segments left the routing header
+pub outer-processed : (e : Encapsulation) (inner : List ℕ) (left hop destination : ℕ) → has_segment_routing e ≡ true → 0 < left
+    → processed_of (outer e inner left hop destination) ≡ AtHeader (record { kind = routing; at = 0; bytes = srh_spelling (segment_routing_of e left) })
+outer-processed e inner left hop destination has some =
+    ap (λ (p : Packet). processed_of p) (outer-routed e inner left hop destination has) ∙ routed-processed e inner left hop destination some
+
+-- with none left the packet inside
+pub outer-passed : (e : Encapsulation) (inner : List ℕ) (left hop destination : ℕ) → left ≡ 0
+    → processed_of (outer e inner left hop destination) ≡ AtUpper ipv6_inside (header_bytes e.reduced (length e.segments) - 40)
+outer-passed e inner left hop destination none = elim (cases_Bool (has_segment_routing e)) [
+  | inl has ↦
+      let size = header-size e left has in
+      let place : length (srh_spelling (segment_routing_of e left)) ≡ header_bytes e.reduced (length e.segments) - 40 = omega arith in
+      ap (λ (p : Packet). processed_of p) (outer-routed e inner left hop destination has)
+      ∙ routed-passed e inner left hop destination none
+      ∙ ap (AtUpper ipv6_inside) place
+  | inr not ↦
+      let size = bare-size e not in
+      let place : 0 ≡ header_bytes e.reduced (length e.segments) - 40 = omega arith in
+      ap (λ (p : Packet). processed_of p) (outer-bare e inner left hop destination not)
+      ∙ bare-passed e inner left hop destination
+      ∙ ap (AtUpper ipv6_inside) place
+]
+
+-- ---- at a SID
+
+-- End and End.X take the step at a segment routing header
+header-takes_step : (b : Behaviour) (allow : List ℕ) (p : Packet) (h : Header) → takes_next_segment b ≡ true → is_segment_routing h ≡ true
+    → processed_at_sid b allow p (AtHeader h) ≡ next_segment p h.at (srh_of h.bytes)
+header-takes_step End allow p h takes is = rw is refl
+header-takes_step EndX allow p h takes is = rw is refl
+header-takes_step (Dt6 table) allow p h takes is = cc
+
+upper-takes_step : (b : Behaviour) (allow : List ℕ) (p : Packet) (kind at : ℕ) → takes_next_segment b ≡ true
+    → processed_at_sid b allow p (AtUpper kind at) ≡ upper_layer allow kind
+upper-takes_step End allow p kind at takes = refl
+upper-takes_step EndX allow p kind at takes = refl
+upper-takes_step (Dt6 table) allow p kind at takes = cc
+
+module _ (e : Encapsulation) (inner : List ℕ) (left hop destination : ℕ) (has : has_segment_routing e ≡ true) (some : 0 < left) where
+  step-at_sid : (b : Behaviour) (allow : List ℕ) → takes_next_segment b ≡ true
+      → at_sid b allow (outer e inner left hop destination)
+      ≡ next_segment (framed e routing (srh_spelling (segment_routing_of e left) ++ inner) hop destination) 0 (segment_routing_of e left)
+  step-at_sid b allow takes =
+      let p : Packet = framed e routing (srh_spelling (segment_routing_of e left) ++ inner) hop destination in
+      let h : Header = record { kind = routing; at = 0; bytes = srh_spelling (segment_routing_of e left) } in
+      ap (λ (x : Packet). at_sid b allow x) (outer-routed e inner left hop destination has)
+      ∙ ap (processed_at_sid b allow p) (routed-processed e inner left hop destination some)
+      ∙ header-takes_step b allow p h takes refl
+      ∙ ap (next_segment p 0) (read_back e left)
+
+  pub outer-hop_limit : (b : Behaviour) (allow : List ℕ) → takes_next_segment b ≡ true → hop ≤ 1
+      → at_sid b allow (outer e inner left hop destination) ≡ Refused reasons.HopLimit
+  outer-hop_limit b allow takes low =
+      step-at_sid b allow takes
+      ∙ step-hop_limit (framed e routing (srh_spelling (segment_routing_of e left) ++ inner) hop destination) 0 (segment_routing_of e left) low
+
+  -- End and End.X go on to the next segment
+  pub outer-onward : (b : Behaviour) (allow : List ℕ) → takes_next_segment b ≡ true → left < length e.segments → All (λ a. a < 2 ^ 128) e.segments → 1 < hop
+      → at_sid b allow (outer e inner left hop destination) ≡ Onward (outer e inner (left - 1) (hop - 1) (slice_index e.segments (length e.segments - left)))
+  outer-onward b allow takes below all high =
+      let most = list-most e in
+      let s : Srh = segment_routing_of e left in
+      let p : Packet = framed e routing (srh_spelling s ++ inner) hop destination in
+      let entry = next-entry e left some below all in
+      step-at_sid b allow takes
+      ∙ step-onward p 0 s high (good_segments e left (omega arith) (omega arith)) (no_tlv_bytes e left (omega arith))
+      ∙ ap (λ a. Onward (framed e routing (srh_spelling (segment_routing_of e (left - 1)) ++ inner) (hop - 1) a)) entry
+      ∙ ap (λ (x : Packet). Onward x) (sym (outer-routed e inner (left - 1) (hop - 1) (slice_index e.segments (length e.segments - left)) has))
+
+  -- End.DT6 takes no segment routing header with segments left
+  pub outer-bad_segments : (table : ℕ) (allow : List ℕ) → at_sid (Dt6 table) allow (outer e inner left hop destination) ≡ Refused reasons.BadSegments
+  outer-bad_segments table allow =
+      ap (processed_at_sid (Dt6 table) allow (outer e inner left hop destination)) (outer-processed e inner left hop destination has some)
+
+-- with no segments left
+module _ (e : Encapsulation) (inner : List ℕ) (left hop destination : ℕ) (none : left ≡ 0) where
+  pub outer-upper_layer : (b : Behaviour) (allow : List ℕ) → takes_next_segment b ≡ true
+      → at_sid b allow (outer e inner left hop destination) ≡ upper_layer allow ipv6_inside
+  outer-upper_layer b allow takes =
+      ap (processed_at_sid b allow (outer e inner left hop destination)) (outer-passed e inner left hop destination none)
+      ∙ upper-takes_step b allow (outer e inner left hop destination) ipv6_inside (header_bytes e.reduced (length e.segments) - 40) takes
+
+  pub outer-exposed : (table : ℕ) (allow : List ℕ) → at_sid (Dt6 table) allow (outer e inner left hop destination) ≡ Exposed (content_of inner)
+  outer-exposed table allow =
+      ap (processed_at_sid (Dt6 table) allow (outer e inner left hop destination)) (outer-passed e inner left hop destination none)
+      ∙ ap (λ xs. Exposed (content_of xs)) (outer-inner e inner left hop destination)
+
+-- ---- while a segment is the active one
+
+module _ (e : Encapsulation) (inner : List ℕ) (i hop : ℕ) where
+  pub at_segment-onward : (b : Behaviour) (allow : List ℕ) → takes_next_segment b ≡ true → i + 1 < length e.segments → All (λ a. a < 2 ^ 128) e.segments → 1 < hop
+      → at_sid b allow (at_segment e inner i hop) ≡ Onward (at_segment e inner (i + 1) (hop - 1))
+  at_segment-onward b allow takes below all high =
+      let n : ℕ = length e.segments in
+      let left : n - 1 - i - 1 ≡ n - 1 - (i + 1) = omega arith in
+      let next : n - (n - 1 - i) ≡ i + 1 = omega arith in
+      outer-onward e inner (n - 1 - i) hop (slice_index e.segments i) (more-routing e (omega arith)) (omega arith) b allow takes (omega arith) all high
+      ∙ ap (λ k. Onward (outer e inner k (hop - 1) (slice_index e.segments (n - (n - 1 - i))))) left
+      ∙ ap (λ k. Onward (outer e inner (n - 1 - (i + 1)) (hop - 1) (slice_index e.segments k))) next
+
+  pub at_segment-hop_limit : (b : Behaviour) (allow : List ℕ) → takes_next_segment b ≡ true → i + 1 < length e.segments → hop ≤ 1
+      → at_sid b allow (at_segment e inner i hop) ≡ Refused reasons.HopLimit
+  at_segment-hop_limit b allow takes below low =
+      outer-hop_limit e inner (length e.segments - 1 - i) hop (slice_index e.segments i) (more-routing e (omega arith)) (omega arith) b allow takes low
+
+  pub at_segment-bad_segments : (table : ℕ) (allow : List ℕ) → i + 1 < length e.segments
+      → at_sid (Dt6 table) allow (at_segment e inner i hop) ≡ Refused reasons.BadSegments
+  at_segment-bad_segments table allow below =
+      outer-bad_segments e inner (length e.segments - 1 - i) hop (slice_index e.segments i) (more-routing e (omega arith)) (omega arith) table allow
+
+  pub at_segment-upper_layer : (b : Behaviour) (allow : List ℕ) → takes_next_segment b ≡ true → i + 1 ≡ length e.segments
+      → at_sid b allow (at_segment e inner i hop) ≡ upper_layer allow ipv6_inside
+  at_segment-upper_layer b allow takes last =
+      outer-upper_layer e inner (length e.segments - 1 - i) hop (slice_index e.segments i) (omega arith) b allow takes
+
+  pub at_segment-exposed : (table : ℕ) (allow : List ℕ) → i + 1 ≡ length e.segments
+      → at_sid (Dt6 table) allow (at_segment e inner i hop) ≡ Exposed (content_of inner)
+  at_segment-exposed table allow last =
+      outer-exposed e inner (length e.segments - 1 - i) hop (slice_index e.segments i) (omega arith) table allow
+
+-- the packet inside is exposed as it was
+pub at_segment-exposed_packet : (e : Encapsulation) (p : Packet) (i hop table : ℕ) (allow : List ℕ) → IsSpellable p → i + 1 ≡ length e.segments
+    → at_sid (Dt6 table) allow (at_segment e (spelling p) i hop) ≡ Exposed (V6 p)
+at_segment-exposed_packet e p i hop table allow ok last =
+    at_segment-exposed e (spelling p) i hop table allow last ∙ ap (λ c. Exposed c) (content_of-spelling_alone p ok)
+
+-- ---- packets that bytes can spell
+
+all-entries : (list : List ℕ) → All (λ b. b < 2 ^ 8) (flat_map address_bytes list)
+all-entries [] = All-nil (λ b. b < 2 ^ 8)
+all-entries (a ∷ list) = All-append (λ b. b < 2 ^ 8) (address_bytes a) (flat_map address_bytes list) (all-address_bytes a) (all-entries list)
+
+header-spellable : (e : Encapsulation) (left : ℕ) → IsSpellableEncapsulation e → left < 2 ^ 8 → IsSrhSpellable (segment_routing_of e left)
+header-spellable e left ok below =
+    let list = list-no_more e in
+    let most = ok.most in
+    record {
+      next_header = omega arith;
+      extension_len = omega arith;
+      segments_left = below;
+      last_entry = omega arith;
+      flags = omega arith;
+      tag = omega arith;
+      body_len = length-body e left;
+      body = all-entries (segment_list e);
+    }
+
+-- an address of a list, or 0 past its end
+address-below : (segments : List ℕ) (i : ℕ) → All (λ a. a < 2 ^ 128) segments → slice_index segments i < 2 ^ 128
+address-below segments i all = elim (cases_lt i (length segments)) [
+  | inl within ↦ all i 0 within
+  | inr past ↦ rw (get_or_past segments i 0 past) (omega arith)
+]
+
+outer-payload_bytes : (e : Encapsulation) (inner : List ℕ) (left hop destination : ℕ) → IsSpellableEncapsulation e → left < 2 ^ 8 → All (λ b. b < 2 ^ 8) inner
+    → All (λ b. b < 2 ^ 8) (outer e inner left hop destination).payload
+outer-payload_bytes e inner left hop destination ok below all =
+    let Q : Packet → Type 0 = λ p. All (λ b. b < 2 ^ 8) p.payload in
+    elim (cases_Bool (has_segment_routing e)) [
+      | inl has ↦ subst Q (sym (outer-routed e inner left hop destination has))
+          (All-append (λ b. b < 2 ^ 8) (srh_spelling (segment_routing_of e left)) inner
+          (all-srh_spelling (segment_routing_of e left) (header-spellable e left ok below)) all)
+      | inr not ↦ subst Q (sym (outer-bare e inner left hop destination not)) all
+    ]
+
+outer-next_header : (has : Bool) → (if has then routing else ipv6_inside) < 2 ^ 8
+outer-next_header true = omega arith
+outer-next_header false = omega arith
+
+pub at_segment-spellable : (e : Encapsulation) (inner : List ℕ) (i hop : ℕ) → IsSpellableEncapsulation e → hop < 2 ^ 8 → All (λ b. b < 2 ^ 8) inner
+    → header_bytes e.reduced (length e.segments) + length inner ≤ most_len → IsSpellable (at_segment e inner i hop)
+at_segment-spellable e inner i hop ok low all short =
+    let left : ℕ = length e.segments - 1 - i in
+    let most = ok.most in
+    let below : left < 2 ^ 8 = omega arith in
+    let len = length-outer e inner left hop (slice_index e.segments i) in
+    record {
+      traffic_class = ok.traffic_class;
+      flow_label = ok.flow_label;
+      next_header = outer-next_header (has_segment_routing e);
+      hop_limit = low;
+      source = ok.source;
+      destination = address-below e.segments i ok.segments;
+      payload_len = omega arith;
+      payload = outer-payload_bytes e inner left hop (slice_index e.segments i) ok below all;
+    }
+
+-- ---- a packet that is encapsulated
+
+pub lowered-spellable : (p : Packet) → IsSpellable p → IsSpellable (inner_lowered p)
+lowered-spellable p ok =
+    let hop : p.hop_limit < 2 ^ 8 = ok.hop_limit in
+    record {
+      traffic_class = ok.traffic_class;
+      flow_label = ok.flow_label;
+      next_header = ok.next_header;
+      hop_limit = omega arith;
+      source = ok.source;
+      destination = ok.destination;
+      payload_len = ok.payload_len;
+      payload = ok.payload;
+    }
+
+-- the hop limit's byte alone is another
+pub lowered-spelling : (p : Packet) → spelling (inner_lowered p) ≡ slice_set (spelling p) 7 (p.hop_limit - 1)
+lowered-spelling p = edit-hop_limit p (p.hop_limit - 1)
+
+pub encapsulated-spellable : (e : Encapsulation) (p : Packet) (hop : ℕ) → IsSpellableEncapsulation e → IsSpellable p → hop < 2 ^ 8
+    → header_bytes e.reduced (length e.segments) + length (spelling p) ≤ most_len → IsSpellable (encapsulated e p hop)
+encapsulated-spellable e p hop ok inner low short =
+    let one = length-spelling p in
+    let two = length-spelling (inner_lowered p) in
+    let same : length (spelling (inner_lowered p)) ≡ length (spelling p) = two ∙ sym one in
+    at_segment-spellable e (spelling (inner_lowered p)) 0 hop ok low (all-spelling (inner_lowered p) (lowered-spellable p inner)) (omega arith)
+
+-- the header bytes of at least one segment grow with their number
+pub header_bytes-more : (reduced : Bool) (m n : ℕ) → 0 < m → m < n → header_bytes reduced m < header_bytes reduced n
+header_bytes-more true m n some more =
+    let many : nat_lt 1 n ≡ true = lt-ltb 1 n (omega arith) in
+    elim (cases_Bool (nat_lt 1 m)) [
+      | inl two ↦ rw (many, two) (omega arith)
+      | inr one ↦ let few = ltb-false 1 m one in rw (many, one) (omega arith)
+    ]
+header_bytes-more false m n some more = omega arith
+
+-- ---- the forms
+
+pub list-full : (e : Encapsulation) (left : ℕ) → e.reduced ≡ false
+    → (has_segment_routing e ≡ true) × (segment_list e ≡ reverse e.segments) × ((segment_routing_of e left).last_entry ≡ length e.segments - 1)
+list-full e left full =
+    let list : segment_list e ≡ reverse e.segments = rw full refl in
+    (rw full refl, list, ap (λ xs. length xs - 1) list ∙ ap (λ n. n - 1) (length-reverse e.segments))
+
+pub list-reduced : (e : Encapsulation) (left : ℕ) → e.reduced ≡ true → 1 < length e.segments
+    → (has_segment_routing e ≡ true) × (segment_list e ≡ reverse (drop 1 e.segments)) × ((segment_routing_of e left).last_entry ≡ length e.segments - 2)
+list-reduced e left reduced more =
+    let list : segment_list e ≡ reverse (drop 1 e.segments) = rw reduced refl in
+    let len : length (reverse (drop 1 e.segments)) ≡ length e.segments - 1 = length-reverse (drop 1 e.segments) ∙ length-drop 1 e.segments in
+    (more-routing e more, list, ap (λ xs. length xs - 1) list ∙ omega arith)
+
+pub list-one : (e : Encapsulation) → e.reduced ≡ true → length e.segments ≡ 1 → has_segment_routing e ≡ false
+list-one e reduced one = rw (reduced, one) refl
+
+pub outer-with_header : (e : Encapsulation) (inner : List ℕ) (left hop destination : ℕ) → has_segment_routing e ≡ true
+    → ((outer e inner left hop destination).next_header ≡ routing) × ((outer e inner left hop destination).payload ≡ srh_spelling (segment_routing_of e left) ++ inner)
+outer-with_header e inner left hop destination has =
+    let is = outer-routed e inner left hop destination has in
+    (ap (λ (p : Packet). p.next_header) is, ap (λ (p : Packet). p.payload) is)
+
+pub outer-without_header : (e : Encapsulation) (inner : List ℕ) (left hop destination : ℕ) → has_segment_routing e ≡ false
+    → ((outer e inner left hop destination).next_header ≡ ipv6_inside) × ((outer e inner left hop destination).payload ≡ inner)
+outer-without_header e inner left hop destination has =
+    let is = outer-bare e inner left hop destination has in
+    (ap (λ (p : Packet). p.next_header) is, ap (λ (p : Packet). p.payload) is)
+
+-- the header byte by byte: its first eight, and the entries
+pub header-bytes : (e : Encapsulation) (left : ℕ) → srh_spelling (segment_routing_of e left)
+    ≡ 41 ∷ (2 * length (segment_list e)) ∷ 4 ∷ left ∷ (length (segment_list e) - 1) ∷ 0 ∷ 0 ∷ 0 ∷ flat_map address_bytes (segment_list e)
+unfolding two_bytes
+header-bytes e left = refl
+
+-- ---- lengths of spellings
+
+pub length-at_segment : (e : Encapsulation) (inner : List ℕ) (i hop : ℕ) → length (spelling (at_segment e inner i hop)) ≡ header_bytes e.reduced (length e.segments) + length inner
+length-at_segment e inner i hop =
+    length-spelling (at_segment e inner i hop) ∙ length-outer e inner (length e.segments - 1 - i) hop (slice_index e.segments i)
+
+pub encapsulated-exposed : (e : Encapsulation) (p : Packet) (i hop table : ℕ) (allow : List ℕ) → IsSpellable p → i + 1 ≡ length e.segments
+    → at_sid (Dt6 table) allow (at_segment e (spelling (inner_lowered p)) i hop) ≡ Exposed (V6 (inner_lowered p))
+encapsulated-exposed e p i hop table allow ok last = at_segment-exposed_packet e (inner_lowered p) i hop table allow (lowered-spellable p ok) last
+
+pub length-encapsulated : (e : Encapsulation) (p : Packet) (hop : ℕ) → length (spelling (encapsulated e p hop)) ≡ header_bytes e.reduced (length e.segments) + length (spelling p)
+length-encapsulated e p hop =
+    length-at_segment e (spelling (inner_lowered p)) 0 hop
+    ∙ ap (λ n. header_bytes e.reduced (length e.segments) + n) (length-spelling (inner_lowered p) ∙ sym (length-spelling p))
+
+pub header_bytes-reduced : (n : ℕ) → 1 < n → header_bytes true n ≡ 32 + 16 * n
+header_bytes-reduced n more = let many : nat_lt 1 n ≡ true = lt-ltb 1 n more in rw many refl
+
+-- ---- the behaviours
+
+pub takes-end : (b : Behaviour) → (takes_next_segment b ≡ true) ↔ ((b ≡ End) ⊎ (b ≡ EndX))
+takes-end End = (λ e. inl refl, λ e. refl)
+takes-end EndX = (λ e. inr refl, λ e. refl)
+takes-end (Dt6 table) = (λ e. cc, λ e. elim e [ inl same ↦ cc | inr same ↦ cc ])
