@@ -10,14 +10,14 @@ use Rattle.net_model.specs.Best.{Entry, longer, longest, sid_entries, route_entr
 longer_three : (e f g : Entry) → longer (longer (Some e) (Some f)) (Some g) ≡ longer (Some e) (longer (Some f) (Some g))
 longer_three e f g =
     elim (cases_Bool (ltb e.prefix.len f.prefix.len)) [
-      inl ef ↦ elim (cases_Bool (ltb f.prefix.len g.prefix.len)) [
-          inl fg ↦ rw (ef, fg, lt-ltb e.prefix.len g.prefix.len (omega (arith, ltb-true _ _ ef, ltb-true _ _ fg))) refl
+      | inl ef ↦ elim (cases_Bool (ltb f.prefix.len g.prefix.len)) [
+        | inl fg ↦ rw (ef, fg, lt-ltb e.prefix.len g.prefix.len (omega (arith, ltb-true _ _ ef, ltb-true _ _ fg))) refl
         | inr fg ↦ rw (ef, fg, ef) refl
-        ]
-    | inr ef ↦ elim (cases_Bool (ltb f.prefix.len g.prefix.len)) [
-          inl fg ↦ rw (ef, fg) refl
+      ]
+      | inr ef ↦ elim (cases_Bool (ltb f.prefix.len g.prefix.len)) [
+        | inl fg ↦ rw (ef, fg) refl
         | inr fg ↦ rw (ef, fg, ef, le-ltb e.prefix.len g.prefix.len (omega (arith, ltb-false _ _ ef, ltb-false _ _ fg))) refl
-        ]
+      ]
     ]
 
 longer_none : (o : Option Entry) → longer o None ≡ o
@@ -34,8 +34,8 @@ pub longest-append : (a : ℕ) (xs ys : List Entry) → longest a (xs ++ ys) ≡
 longest-append a [] ys = refl
 longest-append a (x ∷ xs) ys =
     elim (cases_Bool (holds_address x.prefix a)) [
-      inl h ↦ rw (h, longest-append a xs ys) (sym (longer_assoc (Some x) (longest a xs) (longest a ys)))
-    | inr h ↦ rw h (longest-append a xs ys)
+      | inl h ↦ rw (h, longest-append a xs ys) (sym (longer_assoc (Some x) (longest a xs) (longest a ys)))
+      | inr h ↦ rw h (longest-append a xs ys)
     ]
 
 sid_entries-cons : (node n : ℕ) (s : SidEntry) (more : List SidEntry) → sid_entries node n (s ∷ more) ≡ sid_entries node n (s ∷ []) ++ sid_entries node (n + 1) more

@@ -40,12 +40,12 @@ pub sid_means : (node n : ℕ) (sids : List SidEntry) (e : Entry) → Contains (
 sid_means node n [] e c = absurd (contains_none e c)
 sid_means node n (s ∷ sids) e c =
     elim (cases_Bool (s.node == node)) [
-      inl mine ↦ elim (contains_cases _ _ e (rw mine at c)) [
-          inl is ↦ let shift : n ≡ n + 0 = omega arith in
-              (0, s, refl, eqb-true _ _ mine, sym is ∙ ap (λ k. record { hit = hits.Sid k; prefix = s.prefix }) shift)
+      | inl mine ↦ elim (contains_cases _ _ e (rw mine at c)) [
+        | inl is ↦ let shift : n ≡ n + 0 = omega arith in
+            (0, s, refl, eqb-true _ _ mine, sym is ∙ ap (λ k. record { hit = hits.Sid k; prefix = s.prefix }) shift)
         | inr more ↦ sid_later node n s sids e (sid_means node (n + 1) sids e more)
-        ]
-    | inr other ↦ sid_later node n s sids e (sid_means node (n + 1) sids e (rw other at c))
+      ]
+      | inr other ↦ sid_later node n s sids e (sid_means node (n + 1) sids e (rw other at c))
     ]
 
 sid_in_front : (node n : ℕ) (s : SidEntry) (sids : List SidEntry) (e : Entry) → Contains (sid_entries node (n + 1) sids) e → Contains (sid_entries node n (s ∷ sids)) e
@@ -77,13 +77,13 @@ pub route_means : (node table n : ℕ) (routes : List Route) (e : Entry) → Con
 route_means node table n [] e c = absurd (contains_none e c)
 route_means node table n (r ∷ routes) e c =
     elim (cases_Bool ((r.node == node) && (r.table == table))) [
-      inl mine ↦ elim (contains_cases _ _ e (rw mine at c)) [
-          inl is ↦ let shift : n ≡ n + 0 = omega arith in
-              let both = and_parts _ _ mine in
-              (0, r, refl, eqb-true _ _ both.0, eqb-true _ _ both.1, sym is ∙ ap (λ k. record { hit = hits.Route k; prefix = r.prefix }) shift)
+      | inl mine ↦ elim (contains_cases _ _ e (rw mine at c)) [
+        | inl is ↦ let shift : n ≡ n + 0 = omega arith in
+            let both = and_parts _ _ mine in
+            (0, r, refl, eqb-true _ _ both.0, eqb-true _ _ both.1, sym is ∙ ap (λ k. record { hit = hits.Route k; prefix = r.prefix }) shift)
         | inr more ↦ route_later node table n r routes e (route_means node table (n + 1) routes e more)
-        ]
-    | inr other ↦ route_later node table n r routes e (route_means node table (n + 1) routes e (rw other at c))
+      ]
+      | inr other ↦ route_later node table n r routes e (route_means node table (n + 1) routes e (rw other at c))
     ]
 
 route_in_front : (node table n : ℕ) (r : Route) (routes : List Route) (e : Entry) → Contains (route_entries node table (n + 1) routes) e → Contains (route_entries node table n (r ∷ routes)) e
@@ -115,8 +115,8 @@ by_address : (net : Network) (node table : ℕ) (e : Entry) (o : Option Node) �
 by_address net node table e None at first c = absurd (contains_none e c)
 by_address net node table e (Some n) at first c =
     elim (contains_cases (record { hit = hits.Address; prefix = record { value = n.address.value; len = 128 } }) [] e c) [
-      inl is ↦ subst (IsEntry net node table) is (n, at, refl, first)
-    | inr none ↦ absurd (contains_none e none)
+      | inl is ↦ subst (IsEntry net node table) is (n, at, refl, first)
+      | inr none ↦ absurd (contains_none e none)
     ]
 
 by_route : (net : Network) (node table : ℕ) (e : Entry) → Contains (route_entries node table 0 net.routes) e → IsEntry net node table e
@@ -136,23 +136,23 @@ entries_of-other net node table other = rw other refl
 pub entry_means : (net : Network) (node table : ℕ) (e : Entry) → Contains (entries_of net node table) e → IsEntry net node table e
 entry_means net node table e c =
     elim (cases_Bool (table == 0)) [
-      inl is ↦ let first = eqb-true table 0 is in
+      | inl is ↦ let first = eqb-true table 0 is in
           elim (Contains-append_cases (sid_entries node 0 net.sids) _ e (subst (λ es. Contains es e) (entries_of-first net node table first) c)) [
-              inl sid ↦ by_sid net node table e first sid
+            | inl sid ↦ by_sid net node table e first sid
             | inr more ↦ elim (Contains-append_cases (address_entries (slice_get net.nodes node)) (route_entries node table 0 net.routes) e more) [
-                  inl own ↦ by_address net node table e (slice_get net.nodes node) refl first own
-                | inr route ↦ by_route net node table e route
-                ]
+              | inl own ↦ by_address net node table e (slice_get net.nodes node) refl first own
+              | inr route ↦ by_route net node table e route
             ]
-    | inr other ↦ by_route net node table e (subst (λ es. Contains es e) (entries_of-other net node table other) c)
+          ]
+      | inr other ↦ by_route net node table e (subst (λ es. Contains es e) (entries_of-other net node table other) c)
     ]
 
 route_among : (net : Network) (node table : ℕ) (e : Entry) → Contains (route_entries node table 0 net.routes) e → Contains (entries_of net node table) e
 route_among net node table e c =
     elim (cases_Bool (table == 0)) [
-      inl is ↦ subst (λ es. Contains es e) (sym (entries_of-first net node table (eqb-true table 0 is)))
+      | inl is ↦ subst (λ es. Contains es e) (sym (entries_of-first net node table (eqb-true table 0 is)))
           (Contains-append_right (sid_entries node 0 net.sids) _ e (Contains-append_right (address_entries (slice_get net.nodes node)) (route_entries node table 0 net.routes) e c))
-    | inr other ↦ subst (λ es. Contains es e) (sym (entries_of-other net node table other)) c
+      | inr other ↦ subst (λ es. Contains es e) (sym (entries_of-other net node table other)) c
     ]
 
 pub entry_is_there : (net : Network) (node table : ℕ) (p : PrefixValue) (h : Hit) → IsEntryAs net node table p h → Contains (entries_of net node table) (record { hit = h; prefix = p })
@@ -165,7 +165,7 @@ entry_is_there net node table p hits.Address (n, at, is, first) =
     let own = subst (λ q. Contains (address_entries (Some n)) (record { hit = hits.Address; prefix = q })) (sym is) (contains_first (record { hit = hits.Address; prefix = record { value = n.address.value; len = 128 } }) []) in
     let there = subst (λ o. Contains (address_entries o) e) (sym at) own in
     subst (λ es. Contains es e) (sym (entries_of-first net node table first))
-        (Contains-append_right (sid_entries node 0 net.sids) _ e (Contains-append_left (address_entries (slice_get net.nodes node)) (route_entries node table 0 net.routes) e there))
+    (Contains-append_right (sid_entries node 0 net.sids) _ e (Contains-append_left (address_entries (slice_get net.nodes node)) (route_entries node table 0 net.routes) e there))
 entry_is_there net node table p (hits.Route n) (r, at, of, in_table, is) =
     let there = subst (λ q. Contains (route_entries node table 0 net.routes) (record { hit = hits.Route n; prefix = q })) is (route_is_there node table 0 net.routes n n r at of in_table (omega arith)) in
     route_among net node table _ there

@@ -35,56 +35,56 @@ fails_from p a h held = both_ways _ h ((holds_address_is p a).1 held)
 -- an entry in front that doesn't hold the address
 past_one : (a : ℕ) (x : Entry) (xs : List Entry) (o : Option Entry) → ¬ Holds x.prefix a → IsLongest a xs o → IsLongest a (x ∷ xs) o
 past_one a x xs None fails best = λ e c held. elim (contains_cases x xs e c) [
-      inl is ↦ fails (subst (λ z. Holds z.prefix a) (sym is) held)
-    | inr more ↦ best e more held
-    ]
+  | inl is ↦ fails (subst (λ z. Holds z.prefix a) (sym is) held)
+  | inr more ↦ best e more held
+]
 past_one a x xs (Some f) fails best = record {
-      is_there = contains_later x xs f best.is_there;
-      holds = best.holds;
-      no_better = λ other c held. elim (contains_cases x xs other c) [
-          inl is ↦ absurd (fails (subst (λ z. Holds z.prefix a) (sym is) held))
-        | inr more ↦ best.no_better other more held
-        ];
-    }
+  is_there = contains_later x xs f best.is_there;
+  holds = best.holds;
+  no_better = λ other c held. elim (contains_cases x xs other c) [
+    | inl is ↦ absurd (fails (subst (λ z. Holds z.prefix a) (sym is) held))
+    | inr more ↦ best.no_better other more held
+  ];
+}
 
 -- an entry in front that holds the address, by whether the best of the rest is longer
 with_one : (a : ℕ) (x : Entry) (xs : List Entry) (o : Option Entry) → Holds x.prefix a → IsRanked (x ∷ xs) → IsLongest a xs o → IsLongest a (x ∷ xs) (longer (Some x) o)
 with_one a x xs None held ranked best = record {
-      is_there = contains_first x xs;
-      holds = held;
-      no_better = λ other c other_held. elim (contains_cases x xs other c) [
-          inl is ↦ subst (FitsNoWorse x) is (omega arith, λ _. omega arith)
-        | inr more ↦ absurd (best other more other_held)
-        ];
-    }
+  is_there = contains_first x xs;
+  holds = held;
+  no_better = λ other c other_held. elim (contains_cases x xs other c) [
+    | inl is ↦ subst (FitsNoWorse x) is (omega arith, λ _. omega arith)
+    | inr more ↦ absurd (best other more other_held)
+  ];
+}
 with_one a x xs (Some f) held ranked best =
     elim (cases_Bool (ltb x.prefix.len f.prefix.len)) [
-      inl longer ↦ rw longer (record {
-          is_there = contains_later x xs f best.is_there;
-          holds = best.holds;
-          no_better = λ other c other_held. elim (contains_cases x xs other c) [
-              inl is ↦ subst (FitsNoWorse f) is (let below = ltb-true _ _ longer in (omega arith, λ same. absurd (omega arith)))
-            | inr more ↦ best.no_better other more other_held
-            ];
-        })
-    | inr shorter ↦ rw shorter (record {
-          is_there = contains_first x xs;
-          holds = held;
-          no_better = λ other c other_held. elim (contains_cases x xs other c) [
-              inl is ↦ subst (FitsNoWorse x) is (omega arith, λ _. omega arith)
-            | inr more ↦ let no_longer = ltb-false _ _ shorter in
-                let rest = best.no_better other more other_held in
-                (omega (arith, rest.0), λ same. ranked.0 other more)
-            ];
-        })
+      | inl longer ↦ rw longer (record {
+        is_there = contains_later x xs f best.is_there;
+        holds = best.holds;
+        no_better = λ other c other_held. elim (contains_cases x xs other c) [
+          | inl is ↦ subst (FitsNoWorse f) is (let below = ltb-true _ _ longer in (omega arith, λ same. absurd (omega arith)))
+          | inr more ↦ best.no_better other more other_held
+        ];
+      })
+      | inr shorter ↦ rw shorter (record {
+        is_there = contains_first x xs;
+        holds = held;
+        no_better = λ other c other_held. elim (contains_cases x xs other c) [
+          | inl is ↦ subst (FitsNoWorse x) is (omega arith, λ _. omega arith)
+          | inr more ↦ let no_longer = ltb-false _ _ shorter in
+              let rest = best.no_better other more other_held in
+              (omega (arith, rest.0), λ same. ranked.0 other more)
+        ];
+      })
     ]
 
 longest_best : (a : ℕ) (es : List Entry) → IsRanked es → IsLongest a es (longest a es)
 longest_best a [] ranked = λ e c. absurd (contains_none e c)
 longest_best a (x ∷ xs) ranked =
     elim (cases_Bool (holds_address x.prefix a)) [
-      inl held ↦ rw held (with_one a x xs (longest a xs) (holds_from x.prefix a held) ranked (longest_best a xs ranked.1))
-    | inr fails ↦ rw fails (past_one a x xs (longest a xs) (fails_from x.prefix a fails) (longest_best a xs ranked.1))
+      | inl held ↦ rw held (with_one a x xs (longest a xs) (holds_from x.prefix a held) ranked (longest_best a xs ranked.1))
+      | inr fails ↦ rw fails (past_one a x xs (longest a xs) (fails_from x.prefix a fails) (longest_best a xs ranked.1))
     ]
 
 -- entries of one rank, and entries in the order of their ranks
@@ -99,12 +99,13 @@ ranked_from k (e ∷ es) rank =
 
 ranked_append : (xs ys : List Entry) → IsRanked xs → IsRanked ys → ((x y : Entry) → Contains xs x → Contains ys y → rank_of x.hit ≤ rank_of y.hit) → IsRanked (xs ++ ys)
 ranked_append [] ys first later between = later
-ranked_append (x ∷ xs) ys first later between =
-    (λ other c. elim (Contains-append_cases xs ys other c) [
-        inl among ↦ first.0 other among
-      | inr behind ↦ between x other (contains_first x xs) behind
-      ],
-    ranked_append xs ys first.1 later (λ y z c d. between y z (contains_later x xs y c) d))
+ranked_append (x ∷ xs) ys first later between = (
+  λ other c. elim (Contains-append_cases xs ys other c) [
+    | inl among ↦ first.0 other among
+    | inr behind ↦ between x other (contains_first x xs) behind
+  ],
+  ranked_append xs ys first.1 later (λ y z c d. between y z (contains_later x xs y c) d),
+)
 
 sids_rank : (node n : ℕ) (net : Network) → HasRank 0 (sid_entries node n net.sids)
 sids_rank node n net e c = let (i, s, at, of, is) = sid_means node n net.sids e c in ap (λ f. rank_of f.hit) is
@@ -116,8 +117,8 @@ address_rank : (o : Option Node) → HasRank 1 (address_entries o)
 address_rank None e c = absurd (contains_none e c)
 address_rank (Some n) e c =
     elim (contains_cases (record { hit = hits.Address; prefix = record { value = n.address.value; len = 128 } }) [] e c) [
-      inl is ↦ ap (λ f. rank_of f.hit) (sym is)
-    | inr none ↦ absurd (contains_none e none)
+      | inl is ↦ ap (λ f. rank_of f.hit) (sym is)
+      | inr none ↦ absurd (contains_none e none)
     ]
 
 first_ranked : (net : Network) (node table : ℕ) → IsRanked (sid_entries node 0 net.sids ++ (address_entries (slice_get net.nodes node) ++ route_entries node table 0 net.routes))
@@ -126,15 +127,15 @@ first_ranked net node table =
     let own = address_entries (slice_get net.nodes node) in
     let routes = route_entries node table 0 net.routes in
     ranked_append sids (own ++ routes) (ranked_from 0 sids (sids_rank node 0 net))
-        (ranked_append own routes (ranked_from 1 own (address_rank (slice_get net.nodes node))) (ranked_from 2 routes (routes_rank node table 0 net))
-            (λ x y c d. omega (arith, address_rank (slice_get net.nodes node) x c, routes_rank node table 0 net y d)))
-        (λ x y c d. omega (arith, sids_rank node 0 net x c))
+    (ranked_append own routes (ranked_from 1 own (address_rank (slice_get net.nodes node))) (ranked_from 2 routes (routes_rank node table 0 net))
+    (λ x y c d. omega (arith, address_rank (slice_get net.nodes node) x c, routes_rank node table 0 net y d)))
+    (λ x y c d. omega (arith, sids_rank node 0 net x c))
 
 entries_ranked : (net : Network) (node table : ℕ) → IsRanked (entries_of net node table)
 entries_ranked net node table =
     elim (cases_Bool (table == 0)) [
-      inl is ↦ subst IsRanked (sym (entries_of-first net node table (eqb-true table 0 is))) (first_ranked net node table)
-    | inr other ↦ subst IsRanked (sym (entries_of-other net node table other)) (ranked_from 2 (route_entries node table 0 net.routes) (routes_rank node table 0 net))
+      | inl is ↦ subst IsRanked (sym (entries_of-first net node table (eqb-true table 0 is))) (first_ranked net node table)
+      | inr other ↦ subst IsRanked (sym (entries_of-other net node table other)) (ranked_from 2 (route_entries node table 0 net.routes) (routes_rank node table 0 net))
     ]
 
 -- the look-up is a best match
@@ -162,7 +163,7 @@ best_agree es a e f is_e is_f =
     let same : e.prefix.len ≡ f.prefix.len = omega (arith, to_f.0, to_e.0) in
     (same, omega (arith, to_f.1 (sym same), to_e.1 same))
 
-same_prefix_value : (p q : PrefixValue) → p.value ≡ q.value → p.len ≡ q.len → p ≡ q
+pub same_prefix_value : (p q : PrefixValue) → p.value ≡ q.value → p.len ≡ q.len → p ≡ q
 same_prefix_value p q value len = λ i. record { value = value i; len = len i }
 
 -- two best entries of one rank have one prefix
@@ -177,7 +178,7 @@ one_sid net node table a m n p q keeps is_m is_n =
     let (s, at_m, of_s, prefix_s, first) = entry_means net node table _ is_m.is_there in
     let (t, at_n, of_t, prefix_t, also) = entry_means net node table _ is_n.is_there in
     let same = same_best_prefix (entries_of net node table) a _ _ is_m is_n
-        (subst IsPrefix prefix_s (keeps.sid m s at_m).prefix) (subst IsPrefix prefix_t (keeps.sid n t at_n).prefix) in
+    (subst IsPrefix prefix_s (keeps.sid m s at_m).prefix) (subst IsPrefix prefix_t (keeps.sid n t at_n).prefix) in
     keeps.sid_prefix m n s t at_m at_n (of_s ∙ sym of_t) (prefix_s ∙ same ∙ sym prefix_t)
 
 one_route : (net : Network) (node table a m n : ℕ) (p q : PrefixValue) → Keeps net
@@ -186,7 +187,7 @@ one_route net node table a m n p q keeps is_m is_n =
     let (r, at_m, of_r, in_r, prefix_r) = entry_means net node table _ is_m.is_there in
     let (t, at_n, of_t, in_t, prefix_t) = entry_means net node table _ is_n.is_there in
     let same = same_best_prefix (entries_of net node table) a _ _ is_m is_n
-        (subst IsPrefix prefix_r (keeps.route m r at_m).prefix) (subst IsPrefix prefix_t (keeps.route n t at_n).prefix) in
+    (subst IsPrefix prefix_r (keeps.route m r at_m).prefix) (subst IsPrefix prefix_t (keeps.route n t at_n).prefix) in
     keeps.route_prefix m n r t at_m at_n (of_r ∙ sym of_t) (in_r ∙ sym in_t) (prefix_r ∙ same ∙ sym prefix_t)
 
 -- a best match has one rank

@@ -5,3 +5,5 @@ pub mod NamedLemmas
 pub mod BestLemmas
 pub mod EntryLemmas
 pub mod IsBestLemmas
+pub mod FlatLemmas
+pub mod AlikeLemmas

@@ -26,8 +26,8 @@ position-None p xs h i x e =
 pub position_item : {X : Type 0} (p : X → Bool) (xs : List X) (i : ℕ) → position p xs ≡ Some i → (x : X) × (slice_get xs i ≡ Some x) × (p x ≡ true)
 position_item p xs i h =
     elim (slice_get_cases xs i).1 [
-      inl w ↦ (w.0, w.2, subst (λ z. p z ≡ true) w.3 (position-Some p xs i w.0 h).1)
-    | inr w ↦ absurd (let within = cond_some _ _ _ h in omega (arith, ltb-true _ _ within.0, w.0, within.1))
+      | inl w ↦ (w.0, w.2, subst (λ z. p z ≡ true) w.3 (position-Some p xs i w.0 h).1)
+      | inr w ↦ absurd (let within = cond_some _ _ _ h in omega (arith, ltb-true _ _ within.0, w.0, within.1))
     ]
 
 pub position_within : {X : Type 0} (p : X → Bool) (xs : List X) (i : ℕ) → position p xs ≡ Some i → i < length xs

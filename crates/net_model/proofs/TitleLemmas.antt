@@ -20,7 +20,7 @@ some_same t (s ∷ sids) =
 pub are_distinct-titles : (sids : List SidEntry) → are_distinct same_title sids ≡ are_distinct same_number (filter_map title_of sids)
 are_distinct-titles [] = refl
 are_distinct-titles (s ∷ sids) =
-    elim s.title as (λ o. (not (list_any (λ x. same_option o x.title) sids) && are_distinct same_title sids) ≡ are_distinct same_number (cons_option o (filter_map title_of sids)))
-    [ None ↦ ap (λ b. not b && are_distinct same_title sids) (none_same sids) ∙ are_distinct-titles sids
-    | Some t ↦ ap (λ b. not b && are_distinct same_title sids) (some_same t sids) ∙ ap (λ b. not (list_any (same_number t) (filter_map title_of sids)) && b) (are_distinct-titles sids)
+    elim s.title as (λ o. (not (list_any (λ x. same_option o x.title) sids) && are_distinct same_title sids) ≡ are_distinct same_number (cons_option o (filter_map title_of sids))) [
+      | None ↦ ap (λ b. not b && are_distinct same_title sids) (none_same sids) ∙ are_distinct-titles sids
+      | Some t ↦ ap (λ b. not b && are_distinct same_title sids) (some_same t sids) ∙ ap (λ b. not (list_any (same_number t) (filter_map title_of sids)) && b) (are_distinct-titles sids)
     ]

@@ -6,3 +6,4 @@ pub mod Keeps
 pub mod Named
 pub mod Found
 pub mod Entries
+pub mod Flat

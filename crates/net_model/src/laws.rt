@@ -1,10 +1,14 @@
 //! Laws of the definitions: each is the contract of an empty function.
 
-ghost use Rattle.std.specs.Prelude.{◌≡◌, ◌↔◌, ℕ, Contains};
+ghost use Rattle.std.specs.Prelude.{◌≡◌, ◌↔◌, ℕ, slice_get, Contains};
+ghost use Rattle.v6_addr.specs.Address.{Holds};
+ghost use Rattle.srv6_rules.specs.declared.sid.SidEntry.{SidEntry};
 ghost use Rattle.net_model.specs.declared.net.Hit.{Hit};
+ghost use Rattle.net_model.specs.declared.net.Hit.TheVariants.{Sid};
 ghost use Rattle.net_model.specs.Network.{Network};
 ghost use Rattle.net_model.specs.Rules.{IsNetwork};
 ghost use Rattle.net_model.specs.Best.{Entry, entries_of, IsBest, lookup_of};
+ghost use Rattle.net_model.specs.Flat.{IsFlat};
 ghost use Rattle.net_model.specs.Entries.{IsEntry};
 
 /// Best match has one answer in a network that keeps the rules, and the look-up gives it.
@@ -12,12 +16,31 @@ pub fn best_match_is_one()
     ensures found { (net : Network) (node table a : ℕ) → IsBest net node table a (lookup_of net node table a) }
     ensures one { (net : Network) (node table a : ℕ) (h k : Hit) → IsNetwork net
         → IsBest net node table a h → IsBest net node table a k → h ≡ k }
-{
-}
+{}
 
 /// The entries of a node's table are its SIDs and its address in table 0, and its routes in their tables.
 pub fn entries_are_its_own()
     ensures { (net : Network) (node table : ℕ) (e : Entry)
         → Contains (entries_of net node table) e ↔ IsEntry net node table e }
-{
-}
+{}
+
+/// A flat network treats all addresses in the prefix of a SID alike: in each table of each node they have the same
+/// best match; at the SID's own node that match in table 0 is the SID; and SIDs that hold one address have one
+/// prefix.
+pub fn flat_networks_treat_addresses_alike()
+    ensures alike { (net : Network) (n : ℕ) (s : SidEntry) (node table a b : ℕ) → IsFlat net
+        → slice_get net.sids n ≡ Some s → Holds s.prefix a → Holds s.prefix b
+        → lookup_of net node table a ≡ lookup_of net node table b }
+    ensures own { (net : Network) (n : ℕ) (s : SidEntry) (a : ℕ) → IsNetwork net → IsFlat net
+        → slice_get net.sids n ≡ Some s → Holds s.prefix a → lookup_of net s.node 0 a ≡ Sid n }
+    ensures one { (net : Network) (n m : ℕ) (s t : SidEntry) (a : ℕ) → IsNetwork net → IsFlat net
+        → slice_get net.sids n ≡ Some s → slice_get net.sids m ≡ Some t
+        → Holds s.prefix a → Holds t.prefix a → s.prefix ≡ t.prefix }
+{}
+
+/// A SID that an address is looked up to is a SID of that node, in table 0, and holds the address.
+pub fn matched_sids_hold_the_address()
+    ensures { (net : Network) (m : ℕ) (t : SidEntry) (node table a : ℕ)
+        → lookup_of net node table a ≡ Sid m → slice_get net.sids m ≡ Some t
+        → (t.node ≡ node) × (table ≡ 0) × Holds t.prefix a }
+{}

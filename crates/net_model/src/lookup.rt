@@ -61,7 +61,14 @@ fn with_sid(best: Option<Found>, n: u32, s: &SidEntry, node: u32, a: Addr) -> Op
     ensures { seen result ≡ longer (seen best) (longest a.value (sid_entries node n (s.now ∷ []))) }
 {
     if s.node == node {
-        with_entry(best, Found { hit: Hit::Sid(n), prefix: s.prefix }, a)
+        with_entry(
+            best,
+            Found {
+                hit: Hit::Sid(n),
+                prefix: s.prefix,
+            },
+            a,
+        )
     } else {
         best
     }
@@ -79,7 +86,14 @@ fn with_route(
     ensures { seen result ≡ longer (seen best) (longest a.value (route_entries node table n (r.now ∷ []))) }
 {
     if r.node == node && r.table == table {
-        with_entry(best, Found { hit: Hit::Route(n), prefix: r.prefix }, a)
+        with_entry(
+            best,
+            Found {
+                hit: Hit::Route(n),
+                prefix: r.prefix,
+            },
+            a,
+        )
     } else {
         best
     }
@@ -128,7 +142,14 @@ fn with_address(best: Option<Found>, node: &Node, a: Addr) -> Option<Found>
     ensures { seen result ≡ longer (seen best) (longest a.value (address_entries (Some node.now))) }
 {
     let prefix = whole(node.address);
-    with_entry(best, Found { hit: Hit::Address, prefix }, a)
+    with_entry(
+        best,
+        Found {
+            hit: Hit::Address,
+            prefix,
+        },
+        a,
+    )
 }
 
 /// The best of the entries of a node's table 0.

@@ -68,6 +68,13 @@ impl Net {
         let _ = &self.parts;
     }
 
+    /// The parts.
+    pub(crate) fn parts(&self) -> &NetParts
+        ensures { network_of result.now ≡ self.now }
+    {
+        &self.parts
+    }
+
     /// How many nodes there are, at most 256.
     pub fn nodes(&self) -> u32
         ensures { result ≡ length self.now.nodes }

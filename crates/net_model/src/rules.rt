@@ -222,8 +222,7 @@ fn keeps_links(node_count: usize, links: &[Link]) -> bool
     ensures { result ≡ keeps_links node_count links.now }
 {
     links.len() <= 4096
-        && (each_keeps_link(node_count, links)
-            && are_distinct::<Link, LinkNames>(links))
+        && (each_keeps_link(node_count, links) && are_distinct::<Link, LinkNames>(links))
 }
 
 /// Whether a link is there, and starts at the node.
@@ -281,8 +280,7 @@ fn keeps_routes(node_count: usize, links: &[Link], routes: &[Route]) -> bool
     ensures { result ≡ keeps_routes node_count links.now routes.now }
 {
     routes.len() <= 65536
-        && (each_keeps_route(node_count, links, routes)
-            && are_distinct::<Route, Routes>(routes))
+        && (each_keeps_route(node_count, links, routes) && are_distinct::<Route, Routes>(routes))
 }
 
 /// Whether the links of a SID, and the table of one that decapsulates, are as its behaviour wants them.
@@ -323,15 +321,11 @@ fn has_room(sids: &[SidEntry], s: &SidEntry) -> bool
     sids.iter().filter(|other| other.node == node).count() <= 64
 }
 
-fn each_keeps_sid(
-    node_count: usize,
-    links: &[Link],
-    title_count: usize,
-    sids: &[SidEntry],
-) -> bool
+fn each_keeps_sid(node_count: usize, links: &[Link], title_count: usize, sids: &[SidEntry]) -> bool
     ensures { result ≡ list_all (keeps_sid node_count links.now title_count) sids.now }
 {
-    sids.iter().all(|s| keeps_sid(node_count, links, title_count, s))
+    sids.iter()
+        .all(|s| keeps_sid(node_count, links, title_count, s))
 }
 
 fn each_has_room(sids: &[SidEntry]) -> bool

@@ -2,3 +2,7 @@ pub mod PacketView
 pub mod ContentView
 pub mod Reading
 pub mod Fronts
+pub mod Stepping
+pub mod Judging
+pub mod Leading
+pub mod Staging

@@ -1,8 +1,11 @@
 //! What a node holds: a packet, or bytes that do not read as one.
 
+ghost use Rattle.std.specs.Prelude.{◌≡◌};
+
 use crate::packet::Packet;
 use srv6_rules::Reason;
 use std::marker::Model;
+use std::mem;
 
 #[derive(Debug, Drop)]
 pub(crate) enum Held {
@@ -23,4 +26,22 @@ impl Model for Content {
     ghost Value = { ContentValue };
 
     ghost view = { λ c. content_view c.held };
+}
+
+impl Content {
+    /// Takes the content out without taking memory; what is left is no use.
+    pub(crate) fn take(&mut self) -> Content
+        ensures { result ≡ self.old }
+    {
+        let empty = match &self.held {
+            Held::V6(packet) => packet.no_bytes(),
+            Held::Unreadable(bytes, _) => Vec::new(*bytes.allocator()),
+        };
+        mem::replace(
+            self,
+            Content {
+                held: Held::Unreadable(empty, Reason::Truncated),
+            },
+        )
+    }
 }

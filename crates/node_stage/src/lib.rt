@@ -4,11 +4,18 @@
 //! node does with it at a place under a choice among equal next hops; it takes no memory.
 #![tactic(auto)]
 
+mod chain;
 mod content;
+mod endpoint;
+mod next;
 mod numbers;
 mod packet;
 mod reading;
 mod spelling;
+mod treatment;
+mod way;
 
 pub use content::Content;
+pub use next::{ended_by, next_place};
 pub use packet::Packet;
+pub use treatment::stage;

@@ -1,9 +1,10 @@
 //! The packet: the fields of its IPv6 header, and the bytes behind that header.
 
-ghost use Rattle.std.specs.Prelude.{◌≡◌, ◌-◌, ◌<◌, ◌≤◌, length, slice_set};
-ghost use Rattle.srv6_rules.specs.Packet.{packet_at, first_word, IsSpellable};
+ghost use Rattle.std.specs.Prelude.{◌≡◌, ◌-◌, ◌<◌, ◌≤◌, length, drop, slice_set};
+ghost use Rattle.srv6_rules.specs.Packet.{content_of, packet_at, first_word, IsSpellable};
 ghost use Rattle.node_stage.specs.Reading.{HoldsPacket};
 
+use crate::content::Content;
 use crate::numbers::{address_at, four_at};
 use crate::reading::{drop_front, stated_len};
 use std::marker::Model;
@@ -151,5 +152,20 @@ impl Packet {
         ensures { self.new ≡ record self.old { payload = slice_set self.old.payload at byte } }
     {
         self.payload[at] = byte;
+    }
+
+    /// No bytes, of the payload's allocator.
+    pub(crate) fn no_bytes(&self) -> Vec<u8> {
+        Vec::new(*self.payload.allocator())
+    }
+
+    /// What the payload's bytes from a place on read as, in place.
+    pub(crate) fn exposed(self, at: usize) -> Content
+        requires { at ≤ length self.payload }
+        ensures { result ≡ content_of (drop at self.payload) }
+    {
+        let mut bytes = self.payload;
+        drop_front(&mut bytes, at);
+        Content::read(bytes)
     }
 }

@@ -1,5 +1,5 @@
 -- What a stage has in common at all choices, and what its drops leave.
-use Rattle.std.proofs.Common.{◌≡◌, ◌≢◌, ℕ, ◌+◌, ◌-◌, ◌<◌, ◌≤◌, ◌⊎◌, inl, inr, ◌↔◌, Bool, true, false, nat_le, eqb, nat_eq, if◌then◌else◌, List, [], ◌∷◌, length, Option, Some, None, slice_get, Contains, refl, sym, ◌∙◌, subst, ap, arith, sub-one}
+use Rattle.std.proofs.Common.{◌≡◌, ◌≢◌, ℕ, ◌<◌, ◌≤◌, ◌⊎◌, inl, inr, ◌↔◌, Bool, true, false, nat_le, eqb, List, [], Option, Some, None, slice_get, Contains, refl, sym, ◌∙◌, subst, ap, arith}
 use Rattle.std.proofs.lemmas.Bool.Decides.{leb_tells, eqb_tells}
 use Rattle.srv6_rules.specs.declared.sid.Behaviour.{Behaviour}
 use Rattle.srv6_rules.specs.declared.sid.Reason.{Reason}
@@ -8,7 +8,6 @@ use Rattle.srv6_rules.specs.declared.sid.SidEntry.{SidEntry}
 use Rattle.srv6_rules.specs.Packet.{Packet, Content, V6, Unreadable}
 use Rattle.srv6_rules.specs.Endpoint.{Endpoint, Onward, Exposed, Delivered, Refused, at_sid, at_address}
 use Rattle.net_model.specs.Network.{Network}
-use Rattle.walk_rules.specs.declared.place.How.{How}
 use Rattle.walk_rules.specs.declared.place.Place.{Place}
 use Rattle.walk_rules.specs.declared.place.Outcome.{Outcome}
 use Rattle.walk_rules.specs.declared.place.Outcome.TheVariants as outcomes
@@ -227,3 +226,43 @@ pub stage-each : (net : Network) (place : Place) (content : Content) (link other
     → Stage net place content (outcomes.Send link) after → Contains (hops_at net place content) other → Stage net place content (outcomes.Send other) after
 stage-each net place (Unreadable bytes reason) link other after h there = absurd (drop-quiet reason link h.0)
 stage-each net place (V6 p) link other after h there = treats-each net place.node (way_of net place p.destination) p link other after h there
+
+-- a choice sends on the member that it names
+abbrev Names : List ℕ → ℕ → Outcome → Type 0
+Names set choice (outcomes.Send link) = link ≡ member_of set choice
+Names set choice (outcomes.Again n how) = Unit {0}
+Names set choice (outcomes.Hand n how family) = Unit {0}
+Names set choice outcomes.Local = Unit {0}
+Names set choice (outcomes.Drop reason) = Unit {0}
+
+quiet-names : (set : List ℕ) (choice : ℕ) (o : Outcome) → ((link : ℕ) → outcomes.Send link ≡ o → ⊥) → Names set choice o
+quiet-names set choice (outcomes.Send link) quiet = absurd (quiet link refl)
+quiet-names set choice (outcomes.Again n how) quiet = tt
+quiet-names set choice (outcomes.Hand n how family) quiet = tt
+quiet-names set choice outcomes.Local quiet = tt
+quiet-names set choice (outcomes.Drop reason) quiet = tt
+
+sent-names : (set : List ℕ) (lower : Bool) (p : Packet) (choice : ℕ) → Names set choice (sent set lower p choice).outcome
+sent-names set lower p choice = by_case (sent-cases set lower p)
+  where
+    by_case : ((c : ℕ) → sent set lower p c ≡ dropped reasons.HopLimit (V6 p))
+        ⊎ ((c : ℕ) → sent set lower p c ≡ record { outcome = outcomes.Send (member_of set c); after = V6 (lowered lower p) })
+        → Names set choice (sent set lower p choice).outcome
+    by_case (inl drops) = rw (drops choice) tt
+    by_case (inr sends) = rw (sends choice) refl
+
+treated-names : (net : Network) (node : ℕ) (w : Way) (p : Packet) (choice : ℕ) → Names (set_of w) choice (treated net node w p choice).outcome
+treated-names net node (Away reason) p choice = tt
+treated-names net node (Over set lower) p choice = sent-names set lower p choice
+treated-names net node Own p choice = quiet-names [] choice (treated_at_address p (at_address p)).outcome (address-quiet p (at_address p))
+treated-names net node (Into n) p choice =
+    quiet-names [] choice (treated_in net node n (slice_get net.sids n) p).outcome (sid-quiet net node n (slice_get net.sids n) p)
+
+step-names : (net : Network) (place : Place) (content : Content) (choice : ℕ) → Names (hops_at net place content) choice (step_of net place content choice).outcome
+step-names net place (Unreadable bytes reason) choice = tt
+step-names net place (V6 p) choice = treated-names net place.node (way_of net place p.destination) p choice
+
+pub step-member : (net : Network) (place : Place) (content : Content) (choice link : ℕ)
+    → (step_of net place content choice).outcome ≡ outcomes.Send link → link ≡ member_of (hops_at net place content) choice
+step-member net place content choice link e =
+    subst (λ (o : Outcome). Names (hops_at net place content) choice o) e (step-names net place content choice)

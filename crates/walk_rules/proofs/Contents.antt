@@ -1,5 +1,5 @@
 -- What stands at a place after a stage can be spelled, and reads again from its bytes.
-use Rattle.std.proofs.Common.{◌≡◌, ℕ, ◌+◌, ◌-◌, ◌<◌, ◌≤◌, ◌^◌, ◌⊎◌, inl, inr, Bool, true, false, List, [], ◌∷◌, length, Option, Some, None, slice_get, All, refl, sym, ◌∙◌, subst, ap, arith}
+use Rattle.std.proofs.Common.{◌≡◌, ℕ, ◌⊎◌, inl, inr, Bool, true, false, List, Option, Some, None, slice_get, refl, sym, subst, arith}
 use Rattle.srv6_rules.specs.declared.sid.Behaviour.{Behaviour}
 use Rattle.srv6_rules.specs.declared.sid.Reason.{Reason}
 use Rattle.srv6_rules.specs.declared.sid.Reason.TheVariants as reasons
@@ -12,7 +12,6 @@ use Rattle.net_model.specs.Network.{Network}
 use Rattle.walk_rules.specs.declared.place.Place.{Place}
 use Rattle.walk_rules.specs.declared.place.Outcome.TheVariants as outcomes
 use Rattle.walk_rules.specs.Treatment.{Way, Away, Over, Own, Into, way_of, Gave, dropped, member_of, lowered, sent, treated_at_address, treated_at_sid, treated_in, treated, step_of, allow_of}
-use Rattle.walk_rules.specs.Walk.{Step, walk_of, content_after}
 use Rattle.walk_rules.proofs.Choices.{sent-cases}
 
 -- a content that can be spelled and reads again from its bytes

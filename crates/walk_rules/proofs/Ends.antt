@@ -1,7 +1,6 @@
 -- The stages of a walk at a network's places, and how a walk ended.
-use Rattle.std.proofs.Common.{◌≡◌, ◌≢◌, ℕ, zero, suc, ◌+◌, ◌<◌, ◌↔◌, List, [], ◌∷◌, length, Option, Some, None, IsSome, slice_get, refl, subst, arith, le_of_suc-le-suc, suc-le-suc}
+use Rattle.std.proofs.Common.{◌≡◌, ◌≢◌, ℕ, zero, suc, ◌+◌, ◌<◌, ◌↔◌, List, [], ◌∷◌, length, Option, Some, None, IsSome, slice_get, refl}
 use Rattle.srv6_rules.specs.Packet.{Content}
-use Rattle.net_model.specs.declared.parts.Link.{Link}
 use Rattle.net_model.specs.Keeps.{Keeps}
 use Rattle.net_model.specs.Network.{Network}
 use Rattle.walk_rules.specs.declared.place.Ended.{Ended}
@@ -10,8 +9,8 @@ use Rattle.walk_rules.specs.declared.place.Outcome.{Outcome}
 use Rattle.walk_rules.specs.declared.place.Outcome.TheVariants as outcomes
 use Rattle.walk_rules.specs.declared.place.Place.{Place}
 use Rattle.walk_rules.specs.Treatment.{step_of}
-use Rattle.walk_rules.specs.Relation.{IsPlace, Stage}
-use Rattle.walk_rules.specs.Walk.{Step, stage_of, far_end, arrival, next_place, decisions, walk_of, walk_on, place_after, left_or_stages, end_by, end_of}
+use Rattle.walk_rules.specs.Relation.{IsPlace}
+use Rattle.walk_rules.specs.Walk.{Step, stage_of, far_end, arrival, next_place, decisions, walk_of, place_after, left_or_stages, end_by, end_of}
 use Rattle.walk_rules.specs.Laws.{AreStages}
 use Rattle.walk_rules.proofs.Walks.{walk_of-short}
 use Rattle.walk_rules.proofs.Places.{stage-step, step-place}

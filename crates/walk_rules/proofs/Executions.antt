@@ -1,15 +1,13 @@
 -- Where a stage executes a SID: the SID is there and stands at the node, and the hop limit falls by one before a packet goes on.
-use Rattle.std.proofs.Common.{◌≡◌, ℕ, ◌+◌, ◌-◌, ◌<◌, ◌≤◌, ◌⊎◌, inl, inr, Bool, true, false, nat_le, if◌then◌else◌, List, [], ◌∷◌, length, Option, Some, None, slice_get, drop, nat_eq, ◌==◌, refl, sym, ◌∙◌, subst, ap, arith, leb-false}
+use Rattle.std.proofs.Common.{◌≡◌, ℕ, ◌+◌, ◌<◌, ◌⊎◌, inl, inr, Bool, true, false, if◌then◌else◌, List, Option, Some, None, slice_get, refl, sym, subst, ap}
 use Rattle.srv6_rules.specs.declared.sid.Behaviour.{Behaviour}
-use Rattle.srv6_rules.specs.declared.sid.Behaviour.TheVariants.{End, EndX, Dt6}
 use Rattle.srv6_rules.specs.declared.sid.Family.{Family}
 use Rattle.srv6_rules.specs.declared.sid.Reason.{Reason}
 use Rattle.srv6_rules.specs.declared.sid.Reason.TheVariants as reasons
 use Rattle.srv6_rules.specs.declared.sid.SidEntry.{SidEntry}
-use Rattle.srv6_rules.specs.Packet.{Packet, Content, V6, Unreadable, content_of}
-use Rattle.srv6_rules.specs.Srh.{Srh, srh_of, tlv_bytes}
-use Rattle.srv6_rules.specs.Chain.{Processed, AtHeader, AtUpper, AtCut, is_segment_routing, processed_of, Header}
-use Rattle.srv6_rules.specs.Endpoint.{Endpoint, Onward, Exposed, Delivered, Refused, at_sid, at_address, processed_at_sid, header_at_sid, upper_at_sid, upper_layer, is_allowed, next_segment, has_bad_segments, advanced, ipv6_inside}
+use Rattle.srv6_rules.specs.Packet.{Packet, Content, V6, Unreadable}
+use Rattle.srv6_rules.specs.Endpoint.{Endpoint, Onward, Exposed, Delivered, Refused, at_sid, at_address}
+use Rattle.srv6_rules.proofs.Endpoints.{at_sid-steps}
 use Rattle.net_model.specs.declared.net.Hit.{Hit}
 use Rattle.net_model.specs.declared.net.Hit.TheVariants as hits
 use Rattle.net_model.specs.Network.{Network}
@@ -19,7 +17,7 @@ use Rattle.walk_rules.specs.declared.place.How.TheVariants.{Arrived, Submitted, 
 use Rattle.walk_rules.specs.declared.place.Place.{Place}
 use Rattle.walk_rules.specs.declared.place.Outcome.{Outcome}
 use Rattle.walk_rules.specs.declared.place.Outcome.TheVariants as outcomes
-use Rattle.walk_rules.specs.Treatment.{Way, Away, Over, Own, Into, is_multicast, way_by_hit, way_by_table, way_by, way_of, Gave, dropped, member_of, lowered, sent, on_from, treated_at_address, treated_at_sid, treated_in, treated, step_of, allow_of}
+use Rattle.walk_rules.specs.Treatment.{Way, Away, Over, Own, Into, is_multicast, way_by_hit, way_by_table, way_by, way_of, Gave, dropped, member_of, lowered, sent, treated_at_address, treated_at_sid, treated_in, treated, step_of, allow_of}
 use Rattle.walk_rules.specs.Laws.{IsLoweredByOne, Executes}
 use Rattle.walk_rules.proofs.Lookups.{SidStandsAt, IsThere, lookup-there}
 use Rattle.walk_rules.proofs.Choices.{sent-cases}
@@ -123,55 +121,8 @@ step-hand net place content choice n how family e =
 abbrev IsOneLess : Packet → Packet → Type 0
 IsOneLess p q = (1 < p.hop_limit) × (q.hop_limit + 1 ≡ p.hop_limit)
 
-advanced-less : (p : Packet) (at : ℕ) (s : Srh) (q : Packet) → 1 < p.hop_limit → Onward (advanced p at s) ≡ Onward q → IsOneLess p q
-advanced-less p at s q above e =
-    let same : advanced p at s ≡ q = cc in
-    let hop : p.hop_limit - 1 ≡ q.hop_limit = ap (λ (x : Packet). x.hop_limit) same in
-    (above, omega arith)
-
-segment-less : (p : Packet) (at : ℕ) (s : Srh) (q : Packet) → next_segment p at s ≡ Onward q → IsOneLess p q
-segment-less p at s q e = by_test (nat_le p.hop_limit 1) (has_bad_segments s) (nat_eq (length (tlv_bytes s)) 0) refl e
-  where
-    by_test : (low bad bare : Bool) → nat_le p.hop_limit 1 ≡ low
-        → (if low then Refused reasons.HopLimit else if bad then Refused reasons.BadSegments else if bare then Onward (advanced p at s) else Refused reasons.NotBuilt) ≡ Onward q
-        → IsOneLess p q
-    by_test true bad bare is h = cc
-    by_test false true bare is h = cc
-    by_test false false true is h = advanced-less p at s q (leb-false p.hop_limit 1 is) h
-    by_test false false false is h = cc
-
-routing-less : (p : Packet) (h : Header) (q : Packet) (t : Bool)
-    → (if t then next_segment p h.at (srh_of h.bytes) else Refused reasons.NotBuilt) ≡ Onward q → IsOneLess p q
-routing-less p h q true e = segment-less p h.at (srh_of h.bytes) q e
-routing-less p h q false e = cc
-
-decap-header : (q : Packet) (t : Bool) → (if t then Refused reasons.BadSegments else Refused reasons.NotBuilt) ≡ Onward q → ⊥
-decap-header q true e = cc
-decap-header q false e = cc
-
-upper-stays : (allow : List ℕ) (kind : ℕ) (q : Packet) → upper_layer allow kind ≡ Onward q → ⊥
-upper-stays allow kind q e = by_test (is_allowed allow kind) e
-  where
-    by_test : (t : Bool) → (if t then Delivered else Refused reasons.UpperLayer) ≡ Onward q → ⊥
-    by_test true h = cc
-    by_test false h = cc
-
-exposed-stays : (allow : List ℕ) (kind : ℕ) (content : Content) (q : Packet) (t : Bool)
-    → (if t then Exposed content else upper_layer allow kind) ≡ Onward q → ⊥
-exposed-stays allow kind content q true e = cc
-exposed-stays allow kind content q false e = upper-stays allow kind q e
-
-processed-less : (b : Behaviour) (allow : List ℕ) (p q : Packet) (x : Processed) → processed_at_sid b allow p x ≡ Onward q → IsOneLess p q
-processed-less End allow p q (AtHeader h) e = routing-less p h q (is_segment_routing h) e
-processed-less EndX allow p q (AtHeader h) e = routing-less p h q (is_segment_routing h) e
-processed-less (Dt6 table) allow p q (AtHeader h) e = absurd (decap-header q (is_segment_routing h) e)
-processed-less End allow p q (AtUpper kind at) e = absurd (upper-stays allow kind q e)
-processed-less EndX allow p q (AtUpper kind at) e = absurd (upper-stays allow kind q e)
-processed-less (Dt6 table) allow p q (AtUpper kind at) e = absurd (exposed-stays allow kind (content_of (drop at p.payload)) q (kind == ipv6_inside) e)
-processed-less b allow p q AtCut e = cc
-
 pub sid-less : (b : Behaviour) (allow : List ℕ) (p q : Packet) → at_sid b allow p ≡ Onward q → IsOneLess p q
-sid-less b allow p q e = processed-less b allow p q (processed_of p) e
+sid-less b allow p q e = let step = at_sid-steps b allow p q e in (step.above_one, sym step.hop_limit)
 
 -- of an execution after which the packet stays at the node
 abbrev IfAgainLess : Packet → Outcome → Content → Type 0

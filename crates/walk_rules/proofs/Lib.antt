@@ -6,3 +6,4 @@ pub mod Executions
 pub mod Places
 pub mod Ends
 pub mod Contents
+pub mod Picks

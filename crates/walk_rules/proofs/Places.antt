@@ -1,10 +1,10 @@
 -- Places go on to places, and the sets of links at places are not empty.
-use Rattle.std.proofs.Common.{◌≡◌, ℕ, ◌+◌, ◌<◌, ◌⊎◌, inl, inr, Bool, true, false, if◌then◌else◌, List, [], ◌∷◌, length, Option, Some, None, slice_get, Contains, refl, sym, ◌∙◌, subst, ap, arith}
+use Rattle.std.proofs.Common.{◌≡◌, ℕ, ◌<◌, Bool, true, false, if◌then◌else◌, List, length, Option, Some, None, slice_get, Contains, refl, sym, subst, ap, arith}
 use Rattle.srv6_rules.specs.declared.sid.Behaviour.{Behaviour}
 use Rattle.srv6_rules.specs.declared.sid.Behaviour.TheVariants.{End, EndX, Dt6}
 use Rattle.srv6_rules.specs.declared.sid.Reason.TheVariants as reasons
 use Rattle.srv6_rules.specs.declared.sid.SidEntry.{SidEntry}
-use Rattle.srv6_rules.specs.Packet.{Packet, Content, V6, Unreadable}
+use Rattle.srv6_rules.specs.Packet.{Content, V6, Unreadable}
 use Rattle.net_model.specs.declared.parts.Link.{Link}
 use Rattle.net_model.specs.declared.parts.Route.{Route}
 use Rattle.net_model.specs.declared.net.Hit.{Hit}

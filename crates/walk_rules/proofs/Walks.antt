@@ -3,7 +3,7 @@ use Rattle.std.proofs.Common.{◌≡◌, ℕ, zero, suc, ◌+◌, ◌<◌, ◌�
 use Rattle.srv6_rules.specs.Packet.{Content}
 use Rattle.net_model.specs.Network.{Network}
 use Rattle.walk_rules.specs.declared.place.Place.{Place}
-use Rattle.walk_rules.specs.Walk.{Step, stage_of, next_place, decisions, walk_of, walk_on, place_after, content_after, taken_after, IsStageOf, ComesNext, Follows, BeginsAt, IsWalk}
+use Rattle.walk_rules.specs.Walk.{Step, stage_of, next_place, decisions, walk_of, walk_on, place_after, content_after, taken_after, IsStageOf, Follows, BeginsAt, IsWalk}
 use Rattle.walk_rules.specs.Treatment.{step_of}
 
 pub walk_of-suc : (more : ℕ) (net : Network) (place : Place) (content : Content) (pick : ℕ → ℕ) (taken : ℕ)

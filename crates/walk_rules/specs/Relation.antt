@@ -1,6 +1,5 @@
 -- One node's treatment of one packet, as a relation by cases: which outcomes there are, and the packet after each.
-use Rattle.std.specs.Prelude.{◌≡◌, ℕ, ◌+◌, ◌-◌, ◌<◌, ◌≤◌, Bool, true, false, List, [], ◌∷◌, length, slice_get, Option, Some, None, Contains}
-use Rattle.srv6_rules.specs.declared.sid.Reason.{Reason}
+use Rattle.std.specs.Prelude.{◌≡◌, ℕ, ◌<◌, ◌≤◌, Bool, true, false, List, length, slice_get, Option, Some, None, Contains}
 use Rattle.srv6_rules.specs.declared.sid.Reason.TheVariants as reasons
 use Rattle.srv6_rules.specs.declared.sid.SidEntry.{SidEntry}
 use Rattle.srv6_rules.specs.Packet.{Packet, Content, V6, Unreadable}
@@ -11,7 +10,7 @@ use Rattle.walk_rules.specs.declared.place.How.TheVariants.{Arrived, Submitted, 
 use Rattle.walk_rules.specs.declared.place.Place.{Place}
 use Rattle.walk_rules.specs.declared.place.Outcome.{Outcome}
 use Rattle.walk_rules.specs.declared.place.Outcome.TheVariants as outcomes
-use Rattle.walk_rules.specs.Treatment.{Way, Away, Over, Own, Into, way_of, Gave, lowered, treated_at_address, treated_in}
+use Rattle.walk_rules.specs.Treatment.{Way, Away, Over, Own, Into, way_of, lowered, treated_at_address, treated_in}
 
 -- over a set of links: one outcome for each member; a drop where the hop limit would have to fall and can't
 abbrev pub Sends : List ℕ → Bool → Packet → Outcome → Content → Type 0

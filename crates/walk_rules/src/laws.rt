@@ -9,8 +9,8 @@ ghost use Rattle.srv6_rules.specs.declared.sid.Family.{Family};
 ghost use Rattle.srv6_rules.specs.declared.sid.Reason.{Reason};
 ghost use Rattle.walk_rules.specs.Laws.{AreStages, DifferAtMostInLink, Executes, IsLoweredByOne, SendsApart, hops_at};
 ghost use Rattle.walk_rules.specs.Relation.{IsPlace, Stage};
-ghost use Rattle.walk_rules.specs.Treatment.{step_of};
-ghost use Rattle.walk_rules.specs.Walk.{Follows, IsWalk, Step, content_after, decisions, end_of, next_place, place_after, stage_of, taken_after, walk_of, walk_on};
+ghost use Rattle.walk_rules.specs.Treatment.{member_of, step_of};
+ghost use Rattle.walk_rules.specs.Walk.{IsWalk, Step, choice_at, content_after, decisions, end_of, next_place, place_after, stage_of, taken_after, walk_of, walk_on};
 ghost use Rattle.walk_rules.specs.declared.place.Ended.{Ended};
 ghost use Rattle.walk_rules.specs.declared.place.How.{How};
 ghost use Rattle.walk_rules.specs.declared.place.Outcome.{Outcome};
@@ -58,9 +58,12 @@ pub fn outcomes_differ_in_the_link()
         (after ≡ later) × ((one ≡ other) ⊎ SendsApart (hops_at net place content) one other) }
 {}
 
-/// The choice tells at most the link on which a stage sends.
+/// The choice tells at most the link on which a stage sends, which is the member that it names.
 pub fn only_a_send_depends_on_the_choice()
-    ensures { (net : Network) (place : Place) (content : Content) (choice other : ℕ) →
+    ensures named { (net : Network) (place : Place) (content : Content) (choice link : ℕ) →
+        (step_of net place content choice).outcome ≡ Outcome.Send link →
+        link ≡ member_of (hops_at net place content) choice }
+    ensures else_same { (net : Network) (place : Place) (content : Content) (choice other : ℕ) →
         DifferAtMostInLink (step_of net place content choice) (step_of net place content other) }
 {}
 
@@ -141,6 +144,17 @@ pub fn an_ended_walk_stays()
     ensures { (m n : ℕ) (net : Network) (place : Option Place) (content : Content) (pick : ℕ → ℕ) (taken : ℕ) →
         let w = walk_of m net place content pick taken in
         place_after net place w ≡ None → walk_of (m + n) net place content pick taken ≡ w }
+{}
+
+/// A walk depends on the choices of the decisions that it may take alone, so each walk is that of some
+/// list of choices.
+pub fn a_walk_is_of_some_list()
+    ensures same { (fuel : ℕ) (net : Network) (place : Option Place) (content : Content) (pick other : ℕ → ℕ) →
+        (taken : ℕ) → ((d : ℕ) → taken ≤ d → d < taken + fuel → pick d ≡ other d) →
+        walk_of fuel net place content pick taken ≡ walk_of fuel net place content other taken }
+    ensures list { (fuel : ℕ) (net : Network) (place : Option Place) (content : Content) (pick : ℕ → ℕ) →
+        (choices : List ℕ) × (0 < length choices) ×
+        (walk_of fuel net place content pick 0 ≡ walk_of fuel net place content (choice_at choices) 0) }
 {}
 
 /// A walk has no more stages than it may have, so a run has at most 10,000 (own rule).

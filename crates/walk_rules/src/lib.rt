@@ -11,9 +11,10 @@ mod place;
 pub use laws::{
     a_choice_has_an_outcome, a_place_leads_to_a_place, a_run_has_few_stages,
     a_send_is_one_decision, a_stage_keeps_a_content, a_walk_follows_its_stages,
-    a_walk_is_a_beginning, a_walk_stays_at_places, a_walk_that_could_go_on_used_its_stages,
-    a_walk_unfolds, an_end_leaves_what_stood_there, an_ended_walk_stays,
-    an_execution_lowers_the_hop_limit, an_execution_names_its_sid, an_outcome_has_a_choice,
-    each_next_hop_is_an_outcome, only_a_send_depends_on_the_choice, outcomes_differ_in_the_link,
+    a_walk_is_a_beginning, a_walk_is_of_some_list, a_walk_stays_at_places,
+    a_walk_that_could_go_on_used_its_stages, a_walk_unfolds, an_end_leaves_what_stood_there,
+    an_ended_walk_stays, an_execution_lowers_the_hop_limit, an_execution_names_its_sid,
+    an_outcome_has_a_choice, each_next_hop_is_an_outcome, only_a_send_depends_on_the_choice,
+    outcomes_differ_in_the_link,
 };
 pub use place::{Ended, How, Outcome, Place};

@@ -1,5 +1,5 @@
-use Rattle.walk_rules.proofs.Choices.{step-same}
+use Rattle.walk_rules.proofs.Choices.{step-member, step-same}
 use Rattle.walk_rules.proofs.laws.only_a_send_depends_on_the_choice.Goals as goal
 
 pub returns : goal.returns
-returns c = step-same
+returns c = record { named = step-member; else_same = step-same }

@@ -1,0 +1,5 @@
+use Rattle.net_model.proofs.AlikeLemmas.{matched_sid_holds}
+use Rattle.net_model.proofs.laws.matched_sids_hold_the_address.Goals as goal
+
+pub returns : goal.returns
+returns c = matched_sid_holds

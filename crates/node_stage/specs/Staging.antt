@@ -1,0 +1,6 @@
+-- What a stage of the code gives.
+use Rattle.walk_rules.specs.Treatment.{Gave}
+use Rattle.node_stage.specs.declared.treatment.Staged.{Staged}
+
+abbrev pub gave_of : Staged → Gave
+gave_of s = record { outcome = s.outcome; after = s.after }
