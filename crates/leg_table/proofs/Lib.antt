@@ -10,3 +10,4 @@ pub mod Placing
 pub mod Positions
 pub mod StrictLaws
 pub mod Ways
+pub mod Handing

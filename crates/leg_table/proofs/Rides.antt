@@ -98,7 +98,7 @@ function-never set true p sid R E h = by (by_limit set p 0)
     by (inl low) = subst (λ (g : Gave). Goes g.outcome (Function sid) (R g) (E g)) low.1 h
     by (inr high) = subst (λ (g : Gave). Goes g.outcome (Function sid) (R g) (E g)) high.1 h
 
-same_packet : (p : Packet) → with_hop_limit (p.hop_limit - 0) p ≡ p
+pub same_packet : (p : Packet) → with_hop_limit (p.hop_limit - 0) p ≡ p
 same_packet p = ap (λ (h : ℕ). with_hop_limit h p) (sub-zero p.hop_limit)
 
 abbrev pub arrived : ℕ → Place → Place

@@ -7,3 +7,4 @@ pub mod Leg
 pub mod Table
 pub mod Value
 pub mod Course
+pub mod Realizes
