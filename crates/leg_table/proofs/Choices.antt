@@ -92,11 +92,11 @@ module _ (net : Network) (end : List Step → walks.Step → Bool) where
           → (d : ℕ) → d ≤ length ts → p (a + 1 + d) ≡ q (b + 1 + d)
       later a b p q same d h = ap p (omega arith) ∙ (same (suc d) (omega arith) ∙ ap q (omega arith))
 
-  abbrev then_row : ℕ → (ℕ → ℕ) → ℕ → ℕ
+  abbrev pub then_row : ℕ → (ℕ → ℕ) → ℕ → ℕ
   then_row x pick zero = x
   then_row x pick (suc d) = pick d
 
-  then_row-later : (x : ℕ) (pick : ℕ → ℕ) (d : ℕ) → then_row x pick (0 + 1 + d) ≡ pick (0 + d)
+  pub then_row-later : (x : ℕ) (pick : ℕ → ℕ) (d : ℕ) → then_row x pick (0 + 1 + d) ≡ pick (0 + d)
   then_row-later x pick d =
       let e : 0 + 1 + d ≡ suc d = omega arith in
       let f : 0 + d ≡ d = omega arith in
@@ -164,11 +164,11 @@ module _ (net : Network) (end : List Step → walks.Step → Bool) where
       (λ pick e. let got = all pick in first_goes t ts place content pick choice got.0 e got.1)
       (λ next rest. all-every ts next gave.after rest)
 
-  abbrev row_from : (ℕ → ℕ) → ℕ → ℕ → List ℕ
+  abbrev pub row_from : (ℕ → ℕ) → ℕ → ℕ → List ℕ
   row_from pick i zero = []
   row_from pick i (suc n) = pick i ∷ row_from pick (suc i) n
 
-  length-row_from : (pick : ℕ → ℕ) (i n : ℕ) → length (row_from pick i n) ≡ n
+  pub length-row_from : (pick : ℕ → ℕ) (i n : ℕ) → length (row_from pick i n) ≡ n
   length-row_from pick i zero = refl
   length-row_from pick i (suc n) = ap suc (length-row_from pick (suc i) n)
 
@@ -177,7 +177,7 @@ module _ (net : Network) (end : List Step → walks.Step → Bool) where
   row_from-at pick i (suc n) zero h = ap pick (omega arith)
   row_from-at pick i (suc n) (suc k) h = row_from-at pick (suc i) n k (omega arith) ∙ ap pick (omega arith)
 
-  row_agrees : (pick : ℕ → ℕ) (n d : ℕ) → d < n → choice_at (row_from pick 0 n) (0 + d) ≡ pick (0 + d)
+  pub row_agrees : (pick : ℕ → ℕ) (n d : ℕ) → d < n → choice_at (row_from pick 0 n) (0 + d) ≡ pick (0 + d)
   row_agrees pick n d h =
       let len = length-row_from pick 0 n in
       let z : 0 + d ≡ d = omega arith in

@@ -41,7 +41,7 @@ pub record NextRide (net : Network) (intent : Intent) (position : ℕ) (via : Op
   pub left : ℕ
   pub left_is : left_after net next ride.left ≡ Some left
 
-middle-sid : (net : Network) (n : ℕ) → is_middle net n ≡ true → (s : SidEntry) × (slice_get net.sids n ≡ Some s) × (goes_on s.behaviour ≡ true)
+pub middle-sid : (net : Network) (n : ℕ) → is_middle net n ≡ true → (s : SidEntry) × (slice_get net.sids n ≡ Some s) × (goes_on s.behaviour ≡ true)
 middle-sid net n h = by_sid (slice_get net.sids n) refl h
   where
     by_sid : (o : Option SidEntry) → slice_get net.sids n ≡ o → sid_goes_on o ≡ true
@@ -49,7 +49,7 @@ middle-sid net n h = by_sid (slice_get net.sids n) refl h
     by_sid None e h = absurd (false≢true h)
     by_sid (Some s) e h = (s, e, h)
 
-last-sid : (net : Network) (n : ℕ) → is_last net n ≡ true
+pub last-sid : (net : Network) (n : ℕ) → is_last net n ≡ true
     → (s : SidEntry) × (table : ℕ) × (slice_get net.sids n ≡ Some s) × (s.behaviour ≡ behaviours.Dt6 table)
 last-sid net n h = by_sid (slice_get net.sids n) refl h
   where

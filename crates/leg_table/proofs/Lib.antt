@@ -11,3 +11,6 @@ pub mod Positions
 pub mod StrictLaws
 pub mod Ways
 pub mod Handing
+pub mod Segments
+pub mod PathsUp
+pub mod PathsDown

@@ -65,7 +65,7 @@ ascends-from net intent (n ∷ m ∷ ms) h =
     and_from _ (ascends (legs_value net intent) (m ∷ ms)) (before-shapes (slice_get net.sids n) (slice_get net.sids m) parts.0)
     (ascends-from net intent (m ∷ ms) parts.1)
 
-drop-drop : {X : Type 0} (n m : ℕ) (xs : List X) → drop m (drop n xs) ≡ drop (n + m) xs
+pub drop-drop : {X : Type 0} (n m : ℕ) (xs : List X) → drop m (drop n xs) ≡ drop (n + m) xs
 drop-drop zero m xs = let e : 0 + m ≡ m = omega arith in rw e refl
 drop-drop (suc n) zero [] = let e : suc n + 0 ≡ suc n = omega arith in rw e refl
 drop-drop {X} (suc n) (suc m) [] = let e : suc n + suc m ≡ suc (n + suc m) = omega arith in rw e refl
@@ -81,18 +81,18 @@ get-drop (y ∷ xs) (suc n) x ys e = get-drop xs n x ys e
 module _ (net : Network) (keeps : Keeps net) (intent : Intent) (is_intent : IsIntent net intent) where
 
   -- where a ride ends: the SID stands there, and so many steps are done
-  record Arrives (position next : ℕ) (left : ℕ) : Type 0 where
-    sid : SidEntry
-    there : slice_get net.sids next ≡ Some sid
-    done : ℕ
-    from : position ≤ done
-    until : done ≤ length intent.steps
-    stands : node_at net intent done ≡ Some sid.node
-    rest : List Step
-    rest_is : drop done intent.steps ≡ rest
-    left_is : left_after net next rest ≡ Some left
+  pub record Arrives (position next : ℕ) (left : ℕ) : Type 0 where
+    pub sid : SidEntry
+    pub there : slice_get net.sids next ≡ Some sid
+    pub done : ℕ
+    pub from : position ≤ done
+    pub until : done ≤ length intent.steps
+    pub stands : node_at net intent done ≡ Some sid.node
+    pub rest : List Step
+    pub rest_is : drop done intent.steps ≡ rest
+    pub left_is : left_after net next rest ≡ Some left
 
-  into-stands : (place : Place) (d n : ℕ) → way_of net place d ≡ Into n → (s : SidEntry) × (slice_get net.sids n ≡ Some s) × (s.node ≡ place.node)
+  pub into-stands : (place : Place) (d n : ℕ) → way_of net place d ≡ Into n → (s : SidEntry) × (slice_get net.sids n ≡ Some s) × (s.node ≡ place.node)
   into-stands place d n e = by_sid (slice_get net.sids n) refl (subst (IntoStands net place.node) e (way-stands net place d))
     where
       by_sid : (o : Option SidEntry) → slice_get net.sids n ≡ o → SidStandsAt place.node o
@@ -100,7 +100,7 @@ module _ (net : Network) (keeps : Keeps net) (intent : Intent) (is_intent : IsIn
       by_sid None f h = absurd h
       by_sid (Some s) f h = (s, f, h)
 
-  arrives : (position : ℕ) (via : Option ℕ) (next : ℕ) (n : NextRide net intent position via next) → Arrives position next n.left
+  pub arrives : (position : ℕ) (via : Option ℕ) (next : ℕ) (n : NextRide net intent position via next) → Arrives position next n.left
   arrives position via next n =
       let s = start-facts net keeps intent is_intent position via n.place n.start n.from in
       let f = ride-facts net keeps (sid_address net next) (drop position intent.steps) n.place n.ride s.how s.rest n.is_ride in
@@ -122,7 +122,7 @@ module _ (net : Network) (keeps : Keeps net) (intent : Intent) (is_intent : IsIn
         left_is = n.left_is;
       }
 
-  abbrev AtEnd : ℕ → ℕ → ℕ → Type 0
+  abbrev pub AtEnd : ℕ → ℕ → ℕ → Type 0
   AtEnd position next left =
       (to : ℕ) × (length intent.steps - left ≡ to) × (position ≤ to) × (to ≤ length intent.steps) × (is_sid_at net intent to next ≡ true)
 
@@ -174,7 +174,7 @@ module _ (net : Network) (keeps : Keeps net) (intent : Intent) (is_intent : IsIn
            sid-at-from (suc a.done) next a.sid a.there stands
            (ap (title_suits next (slice_get intent.steps a.done)) some ∙ ap (is_function_of next) at ∙ got.0))
 
-  at-end : (position next left : ℕ) → Arrives position next left → AtEnd position next left
+  pub at-end : (position next left : ℕ) → Arrives position next left → AtEnd position next left
   at-end position next left a = by_title a.sid.title refl
     where
       by_title : (o : Option ℕ) → a.sid.title ≡ o → AtEnd position next left
