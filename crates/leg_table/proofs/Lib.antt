@@ -14,3 +14,4 @@ pub mod Handing
 pub mod Segments
 pub mod PathsUp
 pub mod PathsDown
+pub mod Realizing

@@ -47,7 +47,7 @@ use Rattle.leg_table.proofs.Handing.{handed-stage, walk-same, handed-more, RideW
 use Rattle.leg_table.proofs.Segments.{family-v6, into-address, mid-onward, mid-low, mid-exposes, last-exposes, last-stays, LeftBehind, left-behind, meets-behind, behind-alone}
 use Rattle.leg_table.proofs.PathsUp.{first-left, rest-is}
 
-abbrev yes : List Step → walks.Step → Bool
+abbrev pub yes : List Step → walks.Step → Bool
 yes ts s = true
 
 module _ (net : Network) where
