@@ -1,6 +1,6 @@
 -- The network that the TOML tree of a description gives (own rules): nodes, links, routes and SIDs
 -- are arrays of tables, each of which may be absent, and items name one another by their names.
-use Rattle.std.specs.Prelude.{ℕ, ◌+◌, Bool, ◌&&◌, if◌then◌else◌, List, [], ◌∷◌, Option, Some, None, bytes_eq, codes, option_map, position, filter_map}
+use Rattle.std.specs.Prelude.{ℕ, ◌+◌, Bool, false, ◌&&◌, if◌then◌else◌, List, [], ◌∷◌, Option, Some, None, bytes_eq, codes, option_map, filter_map}
 use Rattle.toml.specs.Data.{Data, Members, get_member, as_str}
 use Rattle.v6_addr.specs.Address.{PrefixValue}
 use Rattle.v6_addr.specs.Text.{address_of_text, prefix_of_text}
@@ -10,9 +10,12 @@ use Rattle.srv6_rules.specs.declared.sid.Behaviour.TheVariants.{End, EndX, Dt6}
 use Rattle.net_model.specs.declared.parts.Node.{Node}
 use Rattle.net_model.specs.declared.parts.Link.{Link}
 use Rattle.net_model.specs.declared.parts.Route.{Route}
+use Rattle.net_model.specs.Named.{node_numbered, link_numbered}
 use Rattle.net_model.specs.Network.{Network}
 use Rattle.net_model.specs.Rules.{is_network}
-use Rattle.net_reader.specs.Tree.{◌>>=◌, table_with, has_only, needed, optional, array_of, number_at_most, is_empty_at}
+use Rattle.net_reader.specs.declared.described.DescribedSid.{DescribedSid}
+use Rattle.net_reader.specs.declared.described.Treatment.{Treatment}
+use Rattle.net_reader.specs.Tree.{◌>>=◌, table_with, has_only, needed, optional, array_of, number_at_most, is_empty_at, each_at}
 
 -- addresses, prefixes and tables' numbers
 
@@ -41,17 +44,14 @@ node_of d = do
   t ← table_with node_keys d
   name ← needed as_str (codes "name") t
   address ← needed address_in (codes "address") t
-  allow ← optional (array_of (number_at_most 255)) [] (codes "allow") t
+  allow ← each_at (number_at_most 255) (codes "allow") t
   Some (record { name = name; address = record { value = address }; allow = allow })
 
--- the number of the first node of a name
-abbrev pub node_named : List Node → List ℕ → Option ℕ
-node_named nodes name = position (λ n. bytes_eq n.name name) nodes
-
+-- the number of the node that a text names
 abbrev pub node_in : List Node → Data → Option ℕ
 node_in nodes d = do
   name ← as_str d
-  node_named nodes name
+  node_numbered name nodes
 
 -- links
 
@@ -67,14 +67,11 @@ link_of nodes d = do
   to ← optional (λ end. option_map Some (node_in nodes end)) None (codes "to") t
   Some (record { name = name; from = from; to = to })
 
--- the number of the first link of a name
-abbrev pub link_named : List Link → List ℕ → Option ℕ
-link_named links name = position (λ l. bytes_eq l.name name) links
-
+-- the number of the link that a text names
 abbrev pub link_in : List Link → Data → Option ℕ
 link_in links d = do
   name ← as_str d
-  link_named links name
+  link_numbered name links
 
 abbrev pub links_in : List Link → Data → Option (List ℕ)
 links_in links = array_of (link_in links)
@@ -101,11 +98,6 @@ sid_keys =
     codes "node" ∷ codes "prefix" ∷ codes "behaviour" ∷ codes "csid" ∷ codes "flavours" ∷ codes "title"
         ∷ codes "links" ∷ codes "table" ∷ []
 
--- what a SID does, and its links
-pub record Treatment : Type 0 where
-  pub behaviour : Behaviour
-  pub links : List ℕ
-
 -- End takes neither links nor a table
 abbrev pub end_from : Option Data → Option Data → Option Treatment
 end_from None None = Some (record { behaviour = End; links = [] })
@@ -131,24 +123,28 @@ treatment_of all word links number =
     else (if bytes_eq word (codes "End.X") then end_x_from all links number
     else (if bytes_eq word (codes "End.DT6") then end_dt6_from links number else None))
 
--- a SID as its table describes it: an entry without a title's number, and the title
-pub record TitledSid : Type 0 where
-  pub entry : SidEntry
-  pub title : Option (List ℕ)
+-- a kind that is given is plain
+abbrev pub is_plain_kind : Option (List ℕ) → Bool
+is_plain_kind None = false
+is_plain_kind (Some kind) = bytes_eq kind (codes "plain")
 
--- the only kind of SID is plain, and a SID has no flavours
-abbrev pub sid_of : List Node → List Link → Data → Option TitledSid
+-- the only kind of SID is plain, the default, and there are no flavours
+abbrev pub is_plain_sid : Members → Bool
+is_plain_sid t = is_plain_kind (optional as_str (codes "plain") (codes "csid") t) && is_empty_at (codes "flavours") t
+
+abbrev pub sid_of : List Node → List Link → Data → Option DescribedSid
 sid_of nodes links d = do
   t ← table_with sid_keys d
   node ← needed (node_in nodes) (codes "node") t
   prefix ← needed prefix_in (codes "prefix") t
   word ← needed as_str (codes "behaviour") t
-  csid ← optional as_str (codes "plain") (codes "csid") t
-  title ← optional (λ text. option_map Some (as_str text)) None (codes "title") t
   treatment ← treatment_of links word (get_member (codes "links") t) (get_member (codes "table") t)
-  let entry : SidEntry = record { node = node; prefix = prefix; behaviour = treatment.behaviour; title = None; links = treatment.links }
-  if bytes_eq csid (codes "plain") && is_empty_at (codes "flavours") t then Some (record { entry = entry; title = title }) else None
+  title ← optional (λ text. option_map Some (as_str text)) None (codes "title") t
+  if is_plain_sid t
+    then Some (record { node = node; prefix = prefix; behaviour = treatment.behaviour; title = title; links = treatment.links })
+    else None
 
+-- a title's number is its place among the titles, of which n stand before it
 abbrev pub number_of_title : ℕ → Option (List ℕ) → Option ℕ
 number_of_title n None = None
 number_of_title n (Some title) = Some n
@@ -157,33 +153,45 @@ abbrev pub after_title : ℕ → Option (List ℕ) → ℕ
 after_title n None = n
 after_title n (Some title) = n + 1
 
--- the entries with the numbers of their titles, the first of which has the number n
-abbrev pub numbered : ℕ → List TitledSid → List SidEntry
+-- the entries of SIDs, before whose titles n others stand
+abbrev pub numbered : ℕ → List DescribedSid → List SidEntry
 numbered n [] = []
-numbered n (s ∷ ss) = record s.entry { title = number_of_title n s.title } ∷ numbered (after_title n s.title) ss
+numbered n (s ∷ ss) =
+    record { node = s.node; prefix = s.prefix; behaviour = s.behaviour; title = number_of_title n s.title; links = s.links }
+        ∷ numbered (after_title n s.title) ss
+
+abbrev pub title_in : DescribedSid → Option (List ℕ)
+title_in s = s.title
 
 -- the titles in order
-abbrev pub titles_of : List TitledSid → List (List ℕ)
-titles_of = filter_map (λ s. s.title)
+abbrev pub titles_of : List DescribedSid → List (List ℕ)
+titles_of = filter_map title_in
 
 -- the network
 
 abbrev pub root_keys : List (List ℕ)
 root_keys = codes "block" ∷ codes "node" ∷ codes "link" ∷ codes "route" ∷ codes "policy" ∷ codes "sid" ∷ []
 
--- an array of tables that may be absent
-abbrev pub items_at : {X : Type 0} → (Data → Option X) → List ℕ → Members → Option (List X)
-items_at read key root = optional (array_of read) [] key root
-
 abbrev pub if_kept : Network → Option Network
 if_kept net = if is_network net then Some net else None
 
--- the network of a description without blocks and policies, if it keeps the rules
+-- the network of nodes and links, if it keeps the rules
+abbrev pub network_with : List Node → List Link → Members → Option Network
+network_with nodes links root = do
+  routes ← each_at (route_of nodes links) (codes "route") root
+  sids ← each_at (sid_of nodes links) (codes "sid") root
+  if_kept (record { nodes = nodes; links = links; routes = routes; titles = titles_of sids; sids = numbered 0 sids })
+
+-- there are no other keys, no blocks and no policies
+abbrev pub is_plain : Members → Bool
+is_plain root = has_only root_keys root && (is_empty_at (codes "block") root && is_empty_at (codes "policy") root)
+
+-- the network that a description gives
 abbrev pub network_of_document : Members → Option Network
-network_of_document root = do
-  nodes ← items_at node_of (codes "node") root
-  links ← items_at (link_of nodes) (codes "link") root
-  routes ← items_at (route_of nodes links) (codes "route") root
-  sids ← items_at (sid_of nodes links) (codes "sid") root
-  let net : Network = record { nodes = nodes; links = links; routes = routes; titles = titles_of sids; sids = numbered 0 sids }
-  if has_only root_keys root && (is_empty_at (codes "block") root && is_empty_at (codes "policy") root) then if_kept net else None
+network_of_document root =
+    if is_plain root
+        then (do
+            nodes ← each_at node_of (codes "node") root
+            links ← each_at (link_of nodes) (codes "link") root
+            network_with nodes links root)
+        else None

@@ -78,3 +78,13 @@ is_empty_or_absent (Some d) = is_empty_array d
 -- the key is absent, or holds an array without items
 abbrev pub is_empty_at : List ℕ → Members → Bool
 is_empty_at key t = is_empty_or_absent (get_member key t)
+
+-- the items of an array that may be absent
+abbrev pub array_at : List ℕ → Members → Option Items
+array_at = optional as_array no_items
+
+-- their values in order
+abbrev pub each_at : {X : Type 0} → (Data → Option X) → List ℕ → Members → Option (List X)
+each_at read key t = do
+  ds ← array_at key t
+  each_of read ds

@@ -4,7 +4,20 @@
 //! absent. `specs/` says which network a document gives, as functions on its tree.
 #![tactic(auto)]
 
+mod described;
 mod fault;
-mod tree;
+mod links;
+mod nodes;
+mod read;
+mod routes;
+mod sids;
+mod texts;
+mod titles;
+pub mod tree;
 
 pub use fault::NetFault;
+pub use read::{document, read_net};
+pub use texts::address_at;
+
+#[cfg(test)]
+mod tests;

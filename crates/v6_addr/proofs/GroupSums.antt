@@ -145,7 +145,8 @@ unfolding address_of_parts
 shortened_right_refused text right gap is_right many =
     right_refused (groups_of_text (take gap text)) (groups_of_text (drop (gap + 2) text)) (let P : List ℕ → Type 0 = λ t. TooMany (groups_of_text t) in subst P is_right many)
 
-shortened_parts : (text left right ls rs : List ℕ) (gap : ℕ) → left ≡ take gap text → right ≡ drop (gap + 2) text → groups_of_text left ≡ Some ls → groups_of_text right ≡ Some rs
+-- the address round `::`
+pub shortened_parts : (text left right ls rs : List ℕ) (gap : ℕ) → left ≡ take gap text → right ≡ drop (gap + 2) text → groups_of_text left ≡ Some ls → groups_of_text right ≡ Some rs
     → address_of_parts text (Some gap) ≡ shortened_address ls rs
 unfolding address_of_parts
 shortened_parts text left right ls rs gap is_left is_right read_left read_right =

@@ -7,12 +7,16 @@ mod address;
 mod bits;
 mod errors;
 mod groups;
+mod laws;
 mod parse;
 mod prefix;
 mod text;
+mod write;
 
 pub use address::Addr;
 pub use bits::{field, with_field};
 pub use errors::BadAddr;
+pub use laws::address_grammar;
 pub use prefix::Prefix;
 pub use text::{parse_addr, parse_prefix};
+pub use write::{write_addr, write_prefix};
