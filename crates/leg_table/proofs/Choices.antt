@@ -1,12 +1,12 @@
 -- A way is there for all lists of choices exactly where it is there whatever is chosen at each stage.
-use Rattle.std.proofs.Common.{◌≡◌, ℕ, zero, suc, ◌+◌, ◌%◌, ◌<◌, ◌≤◌, Bool, List, [], ◌∷◌, length, get_or, Option, Some, None, IsTrue, refl, sym, ◌∙◌, ap, subst, arith, mod-eq_of_lt, add-one}
+use Rattle.std.proofs.Common.{◌≡◌, ℕ, zero, suc, ◌+◌, ◌<◌, ◌≤◌, Bool, List, [], ◌∷◌, length, Option, Some, None, IsTrue, refl, ◌∙◌, ap, subst, arith, mod-eq_of_lt}
 use Rattle.std.specs.Prelude.{◌↔◌, slice_index}
 use Rattle.srv6_rules.specs.Packet.{Content}
 use Rattle.net_model.specs.Network.{Network}
 use Rattle.walk_rules.specs.declared.place.Place.{Place}
 use Rattle.walk_rules.specs.declared.place.Outcome.{Outcome}
 use Rattle.walk_rules.specs.declared.place.Outcome.TheVariants as outcomes
-use Rattle.walk_rules.specs.Treatment.{Gave, step_of}
+use Rattle.walk_rules.specs.Treatment.{step_of}
 use Rattle.walk_rules.specs.Walk as walks
 use Rattle.walk_rules.specs.Walk.{walk_of, next_place, choice_at, decisions}
 use Rattle.intent_reader.specs.declared.intent.Step.{Step}

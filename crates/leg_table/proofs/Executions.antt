@@ -1,5 +1,5 @@
 -- What the execution of a SID gives: a packet with a next segment goes on, lowered; a packet inside is exposed.
-use Rattle.std.proofs.Common.{◌≡◌, ℕ, ◌+◌, ◌-◌, ◌<◌, ◌≤◌, ◌⊎◌, inl, inr, Bool, true, false, ◌==◌, ◌&&◌, nat_le, if◌then◌else◌, List, [], ◌∷◌, length, drop, Option, Some, None, IsTrue, slice_get, refl, sym, ◌∙◌, ap, subst, arith, eqb-true}
+use Rattle.std.proofs.Common.{◌≡◌, ℕ, ◌-◌, ◌<◌, ◌≤◌, ◌⊎◌, inl, inr, Bool, true, false, ◌==◌, ◌&&◌, nat_le, if◌then◌else◌, List, [], ◌∷◌, length, drop, Option, Some, None, IsTrue, slice_get, refl, sym, ◌∙◌, ap, subst, eqb-true}
 use Rattle.std.specs.Prelude.{◌↔◌}
 use Rattle.std.proofs.lemmas.Bool.{false≢true, and_parts, and_from, eq-eqb, le-leb, lt-leb}
 use Rattle.std.proofs.lemmas.Bool.Decides.{leb_tells}
@@ -11,7 +11,7 @@ use Rattle.srv6_rules.specs.declared.sid.SidEntry.{SidEntry}
 use Rattle.srv6_rules.specs.Packet.{Packet, Content, V6, content_of}
 use Rattle.srv6_rules.specs.Srh.{Srh, srh_of}
 use Rattle.srv6_rules.specs.Chain.{Header, Processed, AtHeader, AtUpper, AtCut, is_segment_routing, processed_of, chain_at, chain_within}
-use Rattle.srv6_rules.specs.Endpoint.{Endpoint, Onward, Exposed, Delivered, Refused, at_sid, processed_at_sid, next_segment, has_bad_segments, advanced, upper_layer, is_allowed, ipv6_inside}
+use Rattle.srv6_rules.specs.Endpoint.{Endpoint, Onward, Exposed, Delivered, Refused, at_sid, processed_at_sid, next_segment, has_bad_segments, advanced, ipv6_inside}
 use Rattle.srv6_rules.specs.Srh.{tlv_bytes}
 use Rattle.net_model.specs.Network.{Network}
 use Rattle.walk_rules.specs.declared.place.Place.{Place}
@@ -23,7 +23,7 @@ use Rattle.leg_table.specs.Tasks.{left_after}
 use Rattle.leg_table.specs.Choices.{Ends, seen_at}
 use Rattle.leg_table.specs.Ride.{with_hop_limit}
 use Rattle.leg_table.specs.Sids.{goes_on}
-use Rattle.leg_table.specs.Leg.{is_onward, is_exposed, has_next_segment, has_packet_inside, is_again, is_hand, has_limit, is_left, executes, exposes}
+use Rattle.leg_table.specs.Leg.{is_onward, is_exposed, has_next_segment, has_packet_inside, is_again, is_hand, is_left, executes, exposes}
 
 -- where a next segment is there, the step over the header depends on the hop limit alone
 segment_opens : (p : Packet) (at : ℕ) (s : Srh) → is_onward (next_segment (with_hop_limit 2 p) at s) ≡ true

@@ -1,16 +1,16 @@
 -- What walks hand over: with more fuel, under other choices, and along a ride.
-use Rattle.std.proofs.Common.{◌≡◌, ℕ, zero, suc, ◌+◌, ◌-◌, ◌<◌, ◌≤◌, ◌⊎◌, inl, inr, Bool, true, false, ◌==◌, ◌&&◌, if◌then◌else◌, List, [], ◌∷◌, ◌++◌, length, Option, Some, None, IsTrue, slice_get, refl, sym, ◌∙◌, ap, subst, arith, append_assoc, zero-add, add-zero}
+use Rattle.std.proofs.Common.{◌≡◌, ℕ, zero, suc, ◌+◌, ◌-◌, ◌<◌, ◌≤◌, Bool, true, false, ◌&&◌, if◌then◌else◌, List, [], ◌∷◌, ◌++◌, length, Option, Some, None, slice_get, refl, sym, ◌∙◌, ap, subst, arith, append_assoc, zero-add, add-zero}
 use Rattle.std.specs.Prelude.{is_some}
 use Rattle.std.specs.List.{list_all}
 use Rattle.std.specs.Option.{option_map}
-use Rattle.std.proofs.lemmas.Bool.{false≢true, and_parts, and_from, cases_Bool}
+use Rattle.std.proofs.lemmas.Bool.{false≢true, and_parts}
 use Rattle.srv6_rules.specs.Packet.{Packet, Content, V6}
 use Rattle.net_model.specs.Network.{Network}
 use Rattle.net_model.specs.Keeps.{Keeps}
 use Rattle.walk_rules.specs.declared.place.Place.{Place}
 use Rattle.walk_rules.specs.declared.place.Outcome.{Outcome}
 use Rattle.walk_rules.specs.declared.place.Outcome.TheVariants as outcomes
-use Rattle.walk_rules.specs.Treatment.{Way, Away, Over, Own, Into, way_of, Gave, member_of, lowered, sent, treated, step_of}
+use Rattle.walk_rules.specs.Treatment.{Way, Away, Over, Own, Into, way_of, Gave, member_of, lowered, treated, step_of}
 use Rattle.walk_rules.specs.Relation.{IsHow}
 use Rattle.walk_rules.specs.Walk as walks
 use Rattle.walk_rules.specs.Walk.{walk_of, next_place, arrival, decisions}
@@ -20,7 +20,7 @@ use Rattle.intent_reader.specs.declared.intent.Step.{Step}
 use Rattle.intent_reader.specs.declared.intent.Step.TheVariants.{Links, Function}
 use Rattle.leg_table.specs.Trace.{Event, Crossed, Executed, is_titled, executed, Handed, after_events, handed_first, handed_over}
 use Rattle.leg_table.specs.Tasks.{has_link, meets, matches}
-use Rattle.leg_table.specs.Ride.{Ride, one_if, more_lowered, ride_on, ride_over, ride_by, ride_end, ride_of, with_hop_limit}
+use Rattle.leg_table.specs.Ride.{Ride, one_if, more_lowered, ride_on, ride_by, ride_end, ride_of, with_hop_limit}
 use Rattle.leg_table.proofs.Links.{way-links, member-of_all, far_end-is, link_ends, first_end-is, step_opens}
 use Rattle.leg_table.proofs.Options.{map-some, if-some, some-same}
 use Rattle.leg_table.proofs.Rides.{arrived, same_packet}

@@ -1,17 +1,17 @@
 -- A leg and a finish by look-ups are there exactly where all choices take a packet so.
-use Rattle.std.proofs.Common.{◌≡◌, ℕ, zero, suc, ◌+◌, ◌-◌, ◌<◌, ◌≤◌, Bool, true, false, ◌==◌, ◌&&◌, not, if◌then◌else◌, List, [], ◌∷◌, ◌++◌, length, take, drop, Option, Some, None, IsTrue, slice_get, refl, sym, ◌∙◌, ap, subst, arith, eqb-true}
-use Rattle.std.specs.Prelude.{◌↔◌, is_some}
+use Rattle.std.proofs.Common.{◌≡◌, ℕ, zero, suc, ◌+◌, ◌-◌, ◌<◌, ◌≤◌, Bool, true, false, ◌==◌, ◌&&◌, not, if◌then◌else◌, List, [], ◌∷◌, length, drop, Option, Some, None, slice_get, refl, sym, ◌∙◌, ap, subst, arith, eqb-true}
+use Rattle.std.specs.Prelude.{◌↔◌}
 use Rattle.std.specs.Option.{option_map, option_and_then}
 use Rattle.std.proofs.lemmas.Bool.{false≢true, and_parts, and_from, eq-eqb}
 use Rattle.std.proofs.lemmas.List.{length-drop}
 use Rattle.srv6_rules.specs.declared.sid.Behaviour.{Behaviour}
 use Rattle.srv6_rules.specs.declared.sid.Behaviour.TheVariants as behaviours
 use Rattle.srv6_rules.specs.declared.sid.SidEntry.{SidEntry}
-use Rattle.srv6_rules.specs.Packet.{Packet, Content, V6}
+use Rattle.srv6_rules.specs.Packet.{Packet, V6}
 use Rattle.net_model.specs.Network.{Network}
 use Rattle.net_model.specs.Keeps.{Keeps}
 use Rattle.walk_rules.specs.declared.place.Place.{Place}
-use Rattle.walk_rules.specs.Treatment.{Way, Into, way_of, step_of}
+use Rattle.walk_rules.specs.Treatment.{Into, way_of, step_of}
 use Rattle.walk_rules.specs.Walk as walks
 use Rattle.intent_reader.specs.Rules.{IsIntent}
 use Rattle.intent_reader.specs.declared.intent.Step.{Step}
@@ -20,14 +20,14 @@ use Rattle.intent_reader.specs.declared.intent.Intent.{Intent}
 use Rattle.leg_table.specs.declared.types.Leg.{Leg}
 use Rattle.leg_table.specs.Tasks.{left_after, left_after_function}
 use Rattle.leg_table.specs.Trace.{is_titled}
-use Rattle.leg_table.specs.Choices.{ForAllChoices, EveryWay, Ends, seen_at}
+use Rattle.leg_table.specs.Choices.{ForAllChoices, seen_at}
 use Rattle.leg_table.specs.Ride.{Ride, ride_of, with_hop_limit, RideEnds}
 use Rattle.leg_table.specs.Sids.{goes_on, sid_goes_on, is_middle, sid_exposes, is_last, sid_address}
-use Rattle.leg_table.specs.Leg.{place_from, is_start, ride_to, left_behind, leg_with, leg_behind, leg_of, if_none_left, finish_behind, finish_of, has_next_segment, has_packet_inside, is_again, is_hand, is_left, has_limit, executes, exposes, IsTaken, IsHanded, FromPlace, IsLeg, IsFinish}
+use Rattle.leg_table.specs.Leg.{place_from, is_start, ride_to, left_behind, leg_with, leg_behind, leg_of, if_none_left, finish_behind, finish_of, is_again, is_hand, is_left, has_limit, executes, exposes, IsTaken, IsHanded, FromPlace, IsLeg, IsFinish}
 use Rattle.leg_table.proofs.Options.{map-some, then-some, if-some, some-same}
 use Rattle.leg_table.proofs.Choices.{choices-every}
 use Rattle.leg_table.proofs.Rides.{every-ride}
-use Rattle.leg_table.proofs.RideFacts.{RideFacts, ride-facts, StartFacts, start-facts}
+use Rattle.leg_table.proofs.RideFacts.{ride-facts, StartFacts, start-facts}
 use Rattle.leg_table.proofs.Executions.{some_packet, some_packet-has, last_packet, last_packet-has, step-again_names, step-hand_names, Ends-test, executes-is, exposes-is}
 
 -- a ride to the next SID that is executed, with the steps left then

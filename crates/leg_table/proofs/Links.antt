@@ -1,7 +1,7 @@
 -- Sets of links: the links of a way, of a step, and where they end.
-use Rattle.std.proofs.Common.{◌≡◌, ℕ, zero, suc, ◌+◌, ◌%◌, ◌<◌, ◌≤◌, Bool, true, false, ◌==◌, ◌&&◌, ◌||◌, if◌then◌else◌, List, [], ◌∷◌, length, get_or, Option, Some, None, IsTrue, slice_get, slice_index, refl, sym, ◌∙◌, ap, subst, arith, mod-eq_of_lt, mod-lt, eqb-true}
+use Rattle.std.proofs.Common.{◌≡◌, ℕ, zero, suc, ◌%◌, ◌<◌, Bool, true, false, ◌==◌, ◌&&◌, ◌||◌, if◌then◌else◌, List, [], ◌∷◌, length, Option, Some, None, slice_get, slice_index, refl, ap, subst, arith, mod-eq_of_lt, mod-lt, eqb-true}
 use Rattle.std.specs.Prelude.{is_some}
-use Rattle.std.specs.List.{list_all, list_any}
+use Rattle.std.specs.List.{list_all}
 use Rattle.std.specs.Option.{option_and_then}
 use Rattle.std.proofs.lemmas.Bool.{and_parts, and_from, false≢true}
 use Rattle.srv6_rules.specs.declared.sid.SidEntry.{SidEntry}
@@ -17,14 +17,14 @@ use Rattle.net_model.specs.Rules.{is_link_set}
 use Rattle.walk_rules.specs.declared.place.How.{How}
 use Rattle.walk_rules.specs.declared.place.How.TheVariants.{Arrived, Submitted, Through}
 use Rattle.walk_rules.specs.declared.place.Place.{Place}
-use Rattle.walk_rules.specs.Treatment.{Way, Away, Over, Own, Into, way_of, way_by, way_by_hit, route_links, sid_links, is_multicast, member_of}
+use Rattle.walk_rules.specs.Treatment.{Away, way_of, way_by, way_by_hit, route_links, sid_links, is_multicast, member_of}
 use Rattle.walk_rules.specs.Relation.{IsHow, IsThrough}
 use Rattle.walk_rules.specs.Walk.{far_end}
 use Rattle.walk_rules.proofs.Stages.{HasLinks}
 use Rattle.walk_rules.proofs.Lookups.{IsThere, RouteStandsAt, lookup-there}
 use Rattle.intent_reader.specs.Rules.{end_of_link, ends_at, is_at, far_node, first_end, stand_after, node_after}
 use Rattle.intent_reader.specs.declared.intent.Step.{Step}
-use Rattle.intent_reader.specs.declared.intent.Step.TheVariants.{Links, Function}
+use Rattle.intent_reader.specs.declared.intent.Step.TheVariants.{Links}
 use Rattle.leg_table.specs.Tasks.{has_link}
 
 module _ (net : Network) (keeps : Keeps net) where

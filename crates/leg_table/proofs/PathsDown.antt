@@ -1,18 +1,16 @@
 -- A list of segments that hands over for all choices is a path of legs and a finish.
-use Rattle.std.proofs.Common.{◌≡◌, ℕ, zero, suc, ◌+◌, ◌-◌, ◌^◌, ◌<◌, ◌≤◌, ◌⊎◌, inl, inr, Bool, true, false, ◌==◌, ◌&&◌, if◌then◌else◌, List, [], ◌∷◌, ◌++◌, length, take, drop, map, get_or, Option, Some, None, IsTrue, slice_get, slice_index, refl, sym, ◌∙◌, ap, subst, arith, append-nil, not}
+use Rattle.std.proofs.Common.{◌≡◌, ℕ, zero, suc, ◌+◌, ◌-◌, ◌^◌, ◌<◌, ◌≤◌, ◌⊎◌, inl, inr, Bool, true, false, ◌&&◌, if◌then◌else◌, List, [], ◌∷◌, ◌++◌, length, drop, map, Option, Some, None, IsTrue, slice_get, slice_index, refl, sym, ◌∙◌, ap, subst, arith, append-nil, not}
 use Rattle.std.specs.Prelude.{nat_le}
 use Rattle.std.specs.List.{All}
 use Rattle.std.specs.Option.{option_map}
 use Rattle.std.proofs.lemmas.Bool.{false≢true, and_parts, and_from, cases_lt, le-leb}
 use Rattle.std.proofs.lemmas.List.{length-drop}
-use Rattle.v6_addr.specs.Address.{PrefixValue}
 use Rattle.srv6_rules.specs.declared.sid.Behaviour.{Behaviour}
 use Rattle.srv6_rules.specs.declared.sid.Behaviour.TheVariants as behaviours
-use Rattle.srv6_rules.specs.declared.sid.Family.TheVariants as families
 use Rattle.srv6_rules.specs.declared.sid.Reason.TheVariants as reasons
 use Rattle.srv6_rules.specs.declared.sid.SidEntry.{SidEntry}
-use Rattle.srv6_rules.specs.Packet.{Packet, Content, V6, content_of}
-use Rattle.srv6_rules.specs.Endpoint.{Endpoint, upper_layer, is_allowed, ipv6_inside, Delivered, Refused}
+use Rattle.srv6_rules.specs.Packet.{Packet, Content, V6}
+use Rattle.srv6_rules.specs.Endpoint.{is_allowed, ipv6_inside, Delivered, Refused}
 use Rattle.srv6_rules.specs.Encapsulation.{Encapsulation, at_segment}
 use Rattle.net_model.specs.Network.{Network}
 use Rattle.net_model.specs.Rules.{IsNetwork}
@@ -22,29 +20,28 @@ use Rattle.net_model.proofs.KeepsLemmas.{keeps_from_network}
 use Rattle.walk_rules.specs.declared.place.Place.{Place}
 use Rattle.walk_rules.specs.declared.place.Outcome.{Outcome}
 use Rattle.walk_rules.specs.declared.place.Outcome.TheVariants as outcomes
-use Rattle.walk_rules.specs.Treatment.{Way, Into, way_of, Gave, dropped, step_of, on_from, treated_at_sid, allow_of}
+use Rattle.walk_rules.specs.Treatment.{Into, way_of, Gave, dropped, step_of, on_from, treated_at_sid, allow_of}
 use Rattle.walk_rules.specs.Walk as walks
 use Rattle.walk_rules.specs.Walk.{walk_of, next_place, decisions}
 use Rattle.intent_reader.specs.Rules.{IsIntent}
 use Rattle.intent_reader.specs.declared.intent.Step.{Step}
 use Rattle.intent_reader.specs.declared.intent.Step.TheVariants.{Links, Function}
 use Rattle.intent_reader.specs.declared.intent.Intent.{Intent}
-use Rattle.leg_table.specs.declared.types.Leg.{Leg}
-use Rattle.leg_table.specs.Trace.{Event, Crossed, executed, Handed, after_events, handed_first, handed_over}
-use Rattle.leg_table.specs.Tasks.{has_link, meets, matches, left_after}
+use Rattle.leg_table.specs.Trace.{Crossed, executed, Handed, after_events, handed_first, handed_over}
+use Rattle.leg_table.specs.Tasks.{meets, matches, left_after}
 use Rattle.leg_table.specs.Choices.{Crosses, Goes, Ends, AtNext, EveryWay}
 use Rattle.leg_table.specs.Ride.{Ride, ride_of, with_hop_limit, RideEnds}
 use Rattle.leg_table.specs.Sids.{goes_on, is_sid_at, is_middle, sid_goes_on, is_last, sid_exposes, sid_address}
-use Rattle.leg_table.specs.Leg.{place_behind, place_from, is_start, leg_with, leg_of, finish_of}
+use Rattle.leg_table.specs.Leg.{place_behind, place_from, is_start}
 use Rattle.leg_table.specs.Realizes.{with_leg, path_need}
 use Rattle.leg_table.proofs.Options.{map-some, some-same}
 use Rattle.leg_table.proofs.Choices.{then_row, then_row-later}
 use Rattle.leg_table.proofs.Rides.{every-ride}
-use Rattle.leg_table.proofs.RideFacts.{RideFacts, ride-facts, StartFacts, start-facts}
+use Rattle.leg_table.proofs.RideFacts.{ride-facts, StartFacts, start-facts}
 use Rattle.leg_table.proofs.LegLemmas.{NextRide, leg-from, finish-from}
 use Rattle.leg_table.proofs.StrictLaws.{into-stands, arrives, at-end}
 use Rattle.leg_table.proofs.Handing.{handed-stage, walk-same, handed-more, RideWalk, ride-walk}
-use Rattle.leg_table.proofs.Segments.{family-v6, into-address, mid-onward, mid-low, mid-exposes, last-exposes, last-stays, LeftBehind, left-behind, meets-behind, behind-alone}
+use Rattle.leg_table.proofs.Segments.{family-v6, into-address, mid-onward, mid-low, mid-exposes, last-exposes, last-stays, LeftBehind, meets-behind, behind-alone}
 use Rattle.leg_table.proofs.PathsUp.{first-left, rest-is}
 
 abbrev pub yes : List Step → walks.Step → Bool

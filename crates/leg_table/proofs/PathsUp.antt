@@ -1,35 +1,32 @@
 -- A path of legs and a finish hands an encapsulated packet over.
-use Rattle.std.proofs.Common.{◌≡◌, ℕ, zero, suc, ◌+◌, ◌-◌, ◌^◌, ◌<◌, ◌≤◌, Bool, true, false, ◌==◌, ◌&&◌, if◌then◌else◌, List, [], ◌∷◌, ◌++◌, length, take, drop, map, get_or, Option, Some, None, IsTrue, slice_get, slice_index, refl, sym, ◌∙◌, ap, subst, arith}
+use Rattle.std.proofs.Common.{◌≡◌, ℕ, zero, suc, ◌+◌, ◌-◌, ◌^◌, ◌<◌, ◌≤◌, true, List, [], ◌∷◌, ◌++◌, length, drop, map, Option, Some, None, slice_get, slice_index, refl, sym, ◌∙◌, ap, arith}
 use Rattle.std.specs.List.{All}
 use Rattle.std.specs.Option.{option_map}
-use Rattle.std.proofs.lemmas.Bool.{false≢true}
 use Rattle.std.proofs.lemmas.List.{length-drop}
-use Rattle.srv6_rules.specs.declared.sid.Family.TheVariants as families
 use Rattle.srv6_rules.specs.declared.sid.SidEntry.{SidEntry}
-use Rattle.srv6_rules.specs.Packet.{Packet, Content, V6, content_of}
+use Rattle.srv6_rules.specs.Packet.{V6, content_of}
 use Rattle.srv6_rules.specs.Encapsulation.{Encapsulation, at_segment}
 use Rattle.net_model.specs.Network.{Network}
 use Rattle.net_model.specs.Keeps.{Keeps}
 use Rattle.walk_rules.specs.declared.place.Place.{Place}
-use Rattle.walk_rules.specs.declared.place.Outcome.TheVariants as outcomes
-use Rattle.walk_rules.specs.Treatment.{Way, Into, way_of, on_from}
+use Rattle.walk_rules.specs.Treatment.{Into, way_of, on_from}
 use Rattle.walk_rules.specs.Walk.{walk_of}
 use Rattle.intent_reader.specs.Rules.{IsIntent}
 use Rattle.intent_reader.specs.declared.intent.Step.{Step}
 use Rattle.intent_reader.specs.declared.intent.Intent.{Intent}
 use Rattle.leg_table.specs.declared.types.Leg.{Leg}
-use Rattle.leg_table.specs.Trace.{Event, executed, Handed, after_events, handed_over}
-use Rattle.leg_table.specs.Tasks.{matches, left_after}
-use Rattle.leg_table.specs.Ride.{Ride, ride_of}
+use Rattle.leg_table.specs.Trace.{executed, Handed, after_events, handed_over}
+use Rattle.leg_table.specs.Tasks.{matches}
+use Rattle.leg_table.specs.Ride.{ride_of}
 use Rattle.leg_table.specs.Sids.{sid_address}
 use Rattle.leg_table.specs.Leg.{place_behind, place_from, leg_of, finish_of}
 use Rattle.leg_table.specs.Realizes.{with_leg, path_need}
 use Rattle.leg_table.proofs.Options.{map-some, some-same}
-use Rattle.leg_table.proofs.RideFacts.{RideFacts, ride-facts, StartFacts, start-facts}
-use Rattle.leg_table.proofs.LegLemmas.{NextRide, leg-ride, finish-ride, middle-sid, last-sid}
+use Rattle.leg_table.proofs.RideFacts.{ride-facts, start-facts}
+use Rattle.leg_table.proofs.LegLemmas.{leg-ride, finish-ride, middle-sid, last-sid}
 use Rattle.leg_table.proofs.StrictLaws.{into-stands, drop-drop}
-use Rattle.leg_table.proofs.Handing.{after-after, handed-stage, RideWalk, ride-walk}
-use Rattle.leg_table.proofs.Segments.{family-v6, mid-onward, last-exposes, LeftBehind, left-behind, behind-alone}
+use Rattle.leg_table.proofs.Handing.{handed-stage, ride-walk}
+use Rattle.leg_table.proofs.Segments.{family-v6, mid-onward, last-exposes, left-behind, behind-alone}
 
 -- the first of what is left, and what is left behind it
 pub first-left : (xs ys : List ℕ) (i a : ℕ) → drop i xs ≡ a ∷ ys → (slice_index xs i ≡ a) × (drop (suc i) xs ≡ ys) × (i < length xs)

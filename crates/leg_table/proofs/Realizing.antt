@@ -1,12 +1,11 @@
 -- A path of legs and a finish realizes the intent with the sum of its lowerings as its need.
-use Rattle.std.proofs.Common.{◌≡◌, ℕ, zero, suc, ◌+◌, ◌-◌, ◌^◌, ◌<◌, ◌≤◌, Bool, true, false, List, [], ◌∷◌, ◌++◌, length, take, drop, map, get_or, Option, Some, None, IsTrue, slice_get, slice_index, refl, sym, ◌∙◌, ap, subst, arith, lit<}
+use Rattle.std.proofs.Common.{◌≡◌, ℕ, zero, suc, ◌+◌, ◌^◌, ◌<◌, ◌≤◌, true, List, [], ◌∷◌, length, drop, map, get_or, Option, Some, None, slice_get, refl, sym, ◌∙◌, ap, subst, arith, lit<}
 use Rattle.std.specs.Prelude.{nat_le}
 use Rattle.std.specs.List.{All}
 use Rattle.std.proofs.lemmas.Bool.{and_from, le-leb}
-use Rattle.std.specs.Option.{option_map}
 use Rattle.srv6_rules.specs.declared.sid.SidEntry.{SidEntry}
-use Rattle.srv6_rules.specs.Packet.{Packet, Content, V6, IsSpellable, spelling, content_of}
-use Rattle.srv6_rules.specs.Encapsulation.{Encapsulation, at_segment, encapsulated, inner_lowered}
+use Rattle.srv6_rules.specs.Packet.{Packet, V6, IsSpellable, spelling}
+use Rattle.srv6_rules.specs.Encapsulation.{at_segment, inner_lowered}
 use Rattle.srv6_rules.proofs.Packets.{content_of-spelling_alone}
 use Rattle.srv6_rules.proofs.Encapsulations.{lowered-spellable}
 use Rattle.net_model.specs.Network.{Network}
@@ -17,22 +16,19 @@ use Rattle.net_model.proofs.KeepsLemmas.{keeps_from_network}
 use Rattle.walk_rules.specs.declared.place.Place.{Place}
 use Rattle.walk_rules.specs.Walk.{walk_of, choice_at}
 use Rattle.intent_reader.specs.Rules.{IsIntent}
-use Rattle.intent_reader.specs.declared.intent.Step.{Step}
 use Rattle.intent_reader.specs.declared.intent.Intent.{Intent}
 use Rattle.leg_table.specs.declared.types.Leg.{Leg}
-use Rattle.leg_table.specs.Trace.{Handed, handed_over}
-use Rattle.leg_table.specs.Tasks.{matches}
+use Rattle.leg_table.specs.Trace.{handed_over}
 use Rattle.leg_table.specs.Ride.{Ride, ride_of}
 use Rattle.leg_table.specs.Sids.{first_address, sid_address}
-use Rattle.leg_table.specs.Leg.{place_from, is_start, leg_of, finish_of}
-use Rattle.leg_table.specs.Realizes.{headend_place, encapsulation_of, HandsOver, AlwaysHandsOver, ReachesAbove, Realizes, with_leg, path_need, AreSidAddresses, IsPathOf}
-use Rattle.leg_table.proofs.Options.{map-some, some-same}
+use Rattle.leg_table.specs.Leg.{is_start, leg_of, finish_of}
+use Rattle.leg_table.specs.Realizes.{headend_place, encapsulation_of, HandsOver, AlwaysHandsOver, ReachesAbove, Realizes, path_need, AreSidAddresses, IsPathOf}
+use Rattle.leg_table.proofs.Options.{some-same}
 use Rattle.leg_table.proofs.Choices.{row_from, length-row_from, row_agrees}
 use Rattle.leg_table.proofs.LegLemmas.{NextRide, leg-ride, finish-ride, middle-sid, last-sid}
-use Rattle.leg_table.proofs.RideFacts.{intent-stands}
 use Rattle.leg_table.proofs.Handing.{hands-agree}
 use Rattle.leg_table.proofs.PathsUp.{with_leg-some, path-hands}
-use Rattle.leg_table.proofs.PathsDown.{yes, Hands, PathFrom, path-from}
+use Rattle.leg_table.proofs.PathsDown.{yes, Hands, path-from}
 
 module _ (net : Network) (keeps : Keeps net) where
   address-below : (n : ℕ) → sid_address net n < 2 ^ 128

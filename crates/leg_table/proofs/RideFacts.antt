@@ -1,5 +1,5 @@
 -- What is known of a ride that is there, and of the place and the steps that it starts from.
-use Rattle.std.proofs.Common.{◌≡◌, ℕ, zero, suc, ◌+◌, ◌-◌, ◌^◌, ◌<◌, ◌≤◌, Bool, true, false, ◌==◌, ◌&&◌, if◌then◌else◌, List, [], ◌∷◌, ◌++◌, length, take, drop, Option, Some, None, IsTrue, slice_get, refl, sym, ◌∙◌, ap, subst, arith, eqb-true}
+use Rattle.std.proofs.Common.{◌≡◌, ℕ, suc, ◌+◌, ◌^◌, ◌<◌, ◌≤◌, Bool, true, false, ◌==◌, List, [], ◌∷◌, ◌++◌, length, take, drop, Option, Some, None, slice_get, refl, sym, ◌∙◌, ap, subst, arith, eqb-true}
 use Rattle.std.specs.Prelude.{is_some, nat_le, nat_lt}
 use Rattle.std.specs.List.{list_all}
 use Rattle.std.specs.Option.{option_map, option_and_then}
@@ -11,7 +11,6 @@ use Rattle.srv6_rules.specs.declared.sid.Family.TheVariants as families
 use Rattle.srv6_rules.specs.declared.sid.SidEntry.{SidEntry}
 use Rattle.net_model.specs.Network.{Network}
 use Rattle.net_model.specs.Keeps.{Keeps, SuitsBehaviour}
-use Rattle.walk_rules.specs.declared.place.How.TheVariants.{Arrived, Submitted, Through}
 use Rattle.walk_rules.specs.declared.place.Place.{Place}
 use Rattle.walk_rules.specs.Treatment.{Way, Away, Over, Own, Into, way_of, on_from}
 use Rattle.walk_rules.specs.Relation.{IsHow, IsThrough}
@@ -22,11 +21,11 @@ use Rattle.intent_reader.specs.declared.intent.Step.{Step}
 use Rattle.intent_reader.specs.declared.intent.Step.TheVariants.{Links, Function}
 use Rattle.intent_reader.specs.declared.intent.Intent.{Intent}
 use Rattle.leg_table.specs.Tasks.{has_link}
-use Rattle.leg_table.specs.Ride.{Ride, one_if, more_lowered, ride_on, ride_over, ride_by, ride_end, ride_of}
+use Rattle.leg_table.specs.Ride.{Ride, one_if, more_lowered, ride_on, ride_by, ride_end, ride_of}
 use Rattle.leg_table.specs.Sids.{is_sid_at, sid_suits, title_suits, is_middle, node_at, step_before}
 use Rattle.leg_table.specs.Leg.{place_behind, place_from, is_via, is_start}
 use Rattle.leg_table.proofs.Links.{way-links, first_end-is, step_opens}
-use Rattle.leg_table.proofs.Options.{map-some, then-some, if-some, some-same}
+use Rattle.leg_table.proofs.Options.{map-some, if-some, some-same}
 use Rattle.leg_table.proofs.Rides.{arrived}
 
 pub record RideFacts (net : Network) (destination : ℕ) (ts : List Step) (place : Place) (r : Ride) : Type 0 where

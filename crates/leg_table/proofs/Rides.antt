@@ -1,27 +1,24 @@
 -- A packet has a way to an execution whatever is chosen exactly where the ride by look-ups alone has it.
-use Rattle.std.proofs.Common.{◌≡◌, ℕ, zero, suc, ◌+◌, ◌-◌, ◌<◌, ◌≤◌, ◌⊎◌, inl, inr, Bool, true, false, List, [], ◌∷◌, length, Option, Some, None, IsTrue, slice_get, refl, sym, ◌∙◌, ap, subst, arith}
+use Rattle.std.proofs.Common.{◌≡◌, ℕ, ◌+◌, ◌-◌, ◌<◌, ◌≤◌, ◌⊎◌, inl, inr, Bool, true, false, List, [], ◌∷◌, length, Option, Some, None, IsTrue, slice_get, refl, sym, ◌∙◌, ap, subst, arith}
 use Rattle.std.proofs.Math.Nat.{sub-zero}
 use Rattle.std.specs.Prelude.{◌↔◌, is_some, nat_le, if◌then◌else◌}
 use Rattle.std.specs.List.{list_all}
 use Rattle.std.specs.Option.{option_map}
-use Rattle.std.proofs.lemmas.Bool.{false≢true}
 use Rattle.std.proofs.lemmas.Bool.Decides.{leb_tells}
 use Rattle.srv6_rules.specs.declared.sid.SidEntry.{SidEntry}
 use Rattle.srv6_rules.specs.declared.sid.Behaviour.{Behaviour}
 use Rattle.srv6_rules.specs.declared.sid.Reason.{Reason}
 use Rattle.srv6_rules.specs.declared.sid.Reason.TheVariants as reasons
-use Rattle.srv6_rules.specs.Packet.{Packet, Content, V6}
+use Rattle.srv6_rules.specs.Packet.{Packet, V6}
 use Rattle.srv6_rules.specs.Endpoint.{Endpoint, Onward, Exposed, Delivered, Refused, at_sid, at_address}
 use Rattle.net_model.specs.Network.{Network}
-use Rattle.net_model.specs.Rules.{IsNetwork}
 use Rattle.net_model.specs.Keeps.{Keeps}
-use Rattle.net_model.proofs.KeepsLemmas.{keeps_from_network}
 use Rattle.walk_rules.specs.declared.place.How.TheVariants.{Arrived}
 use Rattle.walk_rules.specs.declared.place.Place.{Place}
 use Rattle.walk_rules.specs.declared.place.Outcome.{Outcome}
 use Rattle.walk_rules.specs.declared.place.Outcome.TheVariants as outcomes
 use Rattle.walk_rules.specs.Treatment.{Way, Away, Over, Own, Into, way_of, Gave, dropped, member_of, lowered, sent, treated, treated_in, treated_at_sid, treated_at_address, allow_of, step_of}
-use Rattle.walk_rules.specs.Relation.{IsPlace, IsHow}
+use Rattle.walk_rules.specs.Relation.{IsHow}
 use Rattle.walk_rules.specs.Walk as walks
 use Rattle.walk_rules.specs.Walk.{next_place, arrival}
 use Rattle.walk_rules.proofs.Stages.{HasLinks, sent-low, sent-high}
@@ -29,8 +26,8 @@ use Rattle.intent_reader.specs.Rules.{stand_after, first_end, ends_at}
 use Rattle.intent_reader.specs.declared.intent.Step.{Step}
 use Rattle.intent_reader.specs.declared.intent.Step.TheVariants.{Links, Function}
 use Rattle.leg_table.specs.Tasks.{has_link}
-use Rattle.leg_table.specs.Choices.{Crosses, Goes, Ends, AtNext, seen_at, EveryWay}
-use Rattle.leg_table.specs.Ride.{Ride, one_if, more_lowered, all_in_step, ride_on, ride_over, ride_by, ride_end, ride_of, with_hop_limit, RideEnds}
+use Rattle.leg_table.specs.Choices.{Goes, Ends, AtNext, seen_at, EveryWay}
+use Rattle.leg_table.specs.Ride.{Ride, more_lowered, ride_on, ride_over, ride_by, ride_end, ride_of, with_hop_limit, RideEnds}
 use Rattle.leg_table.proofs.Links.{way-links, all-members, member-of_all, far_end-is, link_ends, first_end-is, step_opens}
 
 abbrev IsNoSend : Outcome → Type 0

@@ -1,8 +1,8 @@
 -- Encapsulated packets at the SIDs of their segments.
-use Rattle.std.proofs.Common.{◌≡◌, ℕ, zero, suc, ◌+◌, ◌-◌, ◌^◌, ◌<◌, ◌≤◌, ◌⊎◌, inl, inr, Bool, true, false, ◌==◌, ◌&&◌, if◌then◌else◌, List, [], ◌∷◌, ◌++◌, length, drop, map, Option, Some, None, IsTrue, slice_get, slice_index, refl, sym, ◌∙◌, ap, subst, arith, eqb-true}
+use Rattle.std.proofs.Common.{◌≡◌, ℕ, suc, ◌+◌, ◌-◌, ◌^◌, ◌<◌, ◌≤◌, Bool, true, false, ◌==◌, ◌&&◌, if◌then◌else◌, List, [], ◌∷◌, ◌++◌, length, drop, Some, None, slice_get, slice_index, refl, sym, ◌∙◌, ap, arith, eqb-true}
 use Rattle.std.proofs.Common.{append-nil}
 use Rattle.std.specs.List.{All}
-use Rattle.std.proofs.lemmas.Bool.{false≢true, and_parts, and_from, eq-eqb}
+use Rattle.std.proofs.lemmas.Bool.{false≢true, and_parts, eq-eqb}
 use Rattle.v6_addr.specs.Address.{PrefixValue, Holds}
 use Rattle.srv6_rules.specs.declared.sid.Behaviour.{Behaviour}
 use Rattle.srv6_rules.specs.declared.sid.Behaviour.TheVariants as behaviours
@@ -10,8 +10,8 @@ use Rattle.srv6_rules.specs.declared.sid.Family.{Family}
 use Rattle.srv6_rules.specs.declared.sid.Family.TheVariants as families
 use Rattle.srv6_rules.specs.declared.sid.Reason.TheVariants as reasons
 use Rattle.srv6_rules.specs.declared.sid.SidEntry.{SidEntry}
-use Rattle.srv6_rules.specs.Packet.{Packet, Content, V6, content_of}
-use Rattle.srv6_rules.specs.Endpoint.{Endpoint, Onward, Exposed, Delivered, Refused, at_sid, upper_layer, is_allowed, ipv6_inside}
+use Rattle.srv6_rules.specs.Packet.{V6, content_of}
+use Rattle.srv6_rules.specs.Endpoint.{at_sid, upper_layer, ipv6_inside}
 use Rattle.srv6_rules.specs.Encapsulation.{Encapsulation, at_segment, takes_next_segment}
 use Rattle.srv6_rules.proofs.Encapsulations.{at_segment-onward, at_segment-hop_limit, at_segment-bad_segments, at_segment-upper_layer, at_segment-exposed}
 use Rattle.net_model.specs.declared.net.Hit.{Hit}
@@ -25,11 +25,11 @@ use Rattle.walk_rules.specs.declared.place.How.{How}
 use Rattle.walk_rules.specs.declared.place.How.TheVariants.{Arrived, Submitted, Through}
 use Rattle.walk_rules.specs.declared.place.Place.{Place}
 use Rattle.walk_rules.specs.declared.place.Outcome.TheVariants as outcomes
-use Rattle.walk_rules.specs.Treatment.{Way, Away, Over, Own, Into, is_multicast, way_of, way_by, way_by_hit, Gave, treated_at_sid, allow_of, step_of, on_from, dropped}
+use Rattle.walk_rules.specs.Treatment.{Away, Into, is_multicast, way_of, way_by, way_by_hit, Gave, treated_at_sid, allow_of, step_of, on_from, dropped}
 use Rattle.intent_reader.specs.declared.intent.Step.{Step}
 use Rattle.intent_reader.specs.declared.intent.Step.TheVariants.{Links, Function}
 use Rattle.leg_table.specs.Trace.{Event, Executed, is_titled, executed}
-use Rattle.leg_table.specs.Tasks.{meets, matches, left_after, left_after_function}
+use Rattle.leg_table.specs.Tasks.{matches, left_after, left_after_function}
 use Rattle.leg_table.specs.Sids.{goes_on, first_address, sid_address}
 use Rattle.leg_table.proofs.Options.{if-some, some-same}
 use Rattle.leg_table.proofs.Executions.{stage_into}

@@ -1,20 +1,19 @@
 -- The legs of an intent in a network keep the laws of legs.
-use Rattle.std.proofs.Common.{◌≡◌, ℕ, zero, suc, ◌+◌, ◌-◌, ◌<◌, ◌≤◌, ◌⊎◌, inl, inr, Bool, true, false, ◌==◌, ◌&&◌, ◌||◌, not, if◌then◌else◌, List, [], ◌∷◌, ◌++◌, length, take, drop, Option, Some, None, IsTrue, slice_get, Contains, refl, sym, ◌∙◌, ap, subst, arith, eqb-true, add-one, nat_le}
-use Rattle.std.specs.Prelude.{◌↔◌, is_some}
+use Rattle.std.proofs.Common.{◌≡◌, ℕ, zero, suc, ◌+◌, ◌-◌, ◌<◌, ◌≤◌, Bool, true, false, ◌==◌, ◌||◌, not, if◌then◌else◌, List, [], ◌∷◌, length, take, drop, Option, Some, None, slice_get, Contains, refl, sym, ◌∙◌, ap, subst, arith, eqb-true, add-one, nat_le}
+use Rattle.std.specs.Prelude.{is_some}
 use Rattle.std.specs.Option.{option_and_then}
-use Rattle.std.proofs.lemmas.Bool.{false≢true, and_parts, and_from, eq-eqb, leb-true, or_cases, both_ways, cases_Bool}
+use Rattle.std.proofs.lemmas.Bool.{false≢true, and_parts, and_from, eq-eqb, leb-true}
 use Rattle.std.proofs.lemmas.List.{length-drop}
 use Rattle.std.proofs.lemmas.Option.{slice_get_within, get_or_from_slice_get}
 use Rattle.std.proofs.Math.Seq.{take-add}
 use Rattle.v6_addr.specs.Address.{PrefixValue}
 use Rattle.srv6_rules.specs.declared.sid.SidEntry.{SidEntry}
-use Rattle.srv6_rules.specs.declared.sid.Behaviour.{Behaviour}
 use Rattle.net_model.specs.Network.{Network}
 use Rattle.net_model.specs.Rules.{IsNetwork}
 use Rattle.net_model.specs.Keeps.{Keeps}
 use Rattle.net_model.proofs.KeepsLemmas.{keeps_from_network}
 use Rattle.walk_rules.specs.declared.place.Place.{Place}
-use Rattle.walk_rules.specs.Treatment.{Way, Into, way_of}
+use Rattle.walk_rules.specs.Treatment.{Into, way_of}
 use Rattle.walk_rules.proofs.Lookups.{SidStandsAt}
 use Rattle.walk_rules.proofs.Executions.{IntoStands, way-stands}
 use Rattle.intent_reader.specs.Rules.{IsIntent, stand_after, node_after, function_node, is_at}
@@ -22,15 +21,15 @@ use Rattle.intent_reader.specs.declared.intent.Step.{Step}
 use Rattle.intent_reader.specs.declared.intent.Step.TheVariants.{Links, Function}
 use Rattle.intent_reader.specs.declared.intent.Intent.{Intent}
 use Rattle.leg_table.specs.declared.types.Leg.{Leg}
-use Rattle.leg_table.specs.Trace.{has_title, is_titled}
+use Rattle.leg_table.specs.Trace.{has_title}
 use Rattle.leg_table.specs.Tasks.{left_after, left_after_function}
 use Rattle.leg_table.specs.Ride.{Ride, ride_of}
-use Rattle.leg_table.specs.Sids.{comes_before, goes_on, sid_goes_on, is_middle, sid_exposes, is_last, first_address, sid_address, sid_before, in_order, sids_of, is_sid_at, sid_suits, title_suits, step_before, is_function_of, node_at}
+use Rattle.leg_table.specs.Sids.{comes_before, goes_on, sid_goes_on, is_middle, sid_exposes, first_address, sid_address, sid_before, in_order, sids_of, is_sid_at, sid_suits, title_suits, step_before, is_function_of, node_at}
 use Rattle.leg_table.specs.Table.{shape_by, shape_of}
-use Rattle.leg_table.specs.Leg.{is_via, is_start, leg_with, leg_of, finish_of}
-use Rattle.leg_table.specs.Value.{LegsValue, ascends, IsVia, comes_to, IsLegOf, IsFinishOf, KeepsLaws, legs_value}
+use Rattle.leg_table.specs.Leg.{is_via, is_start, leg_of, finish_of}
+use Rattle.leg_table.specs.Value.{ascends, IsVia, comes_to, IsLegOf, IsFinishOf, KeepsLaws, legs_value}
 use Rattle.leg_table.proofs.Options.{some-same, if-some}
-use Rattle.leg_table.proofs.RideFacts.{RideFacts, ride-facts, StartFacts, start-facts, intent-stands, stand_after-append, sid-at}
+use Rattle.leg_table.proofs.RideFacts.{ride-facts, start-facts, intent-stands, stand_after-append}
 use Rattle.leg_table.proofs.LegLemmas.{NextRide, leg-ride, finish-ride}
 use Rattle.leg_table.proofs.Placing.{step-lands}
 use Rattle.leg_table.proofs.Positions.{are-sids, sids-few}

@@ -1,9 +1,8 @@
 -- The way to a next SID, and the place to start from, as the code finds them.
-use Rattle.std.proofs.Common.{◌≡◌, ℕ, zero, suc, ◌+◌, ◌-◌, ◌<◌, ◌≤◌, ◌⊎◌, inl, inr, Bool, true, false, ◌==◌, ◌&&◌, ◌||◌, if◌then◌else◌, List, [], ◌∷◌, length, drop, get_or, Option, Some, None, slice_get, Contains, refl, sym, ◌∙◌, ap, subst, arith, eqb-true}
-use Rattle.std.specs.Prelude.{◌↔◌}
-use Rattle.std.specs.List.{list_any, list_all}
+use Rattle.std.proofs.Common.{◌≡◌, ℕ, suc, ◌-◌, ◌<◌, ◌≤◌, ◌⊎◌, inl, inr, Bool, true, false, ◌==◌, ◌||◌, if◌then◌else◌, List, [], ◌∷◌, length, drop, Option, Some, None, slice_get, Contains, refl, sym, ◌∙◌, ap, subst, arith, eqb-true}
+use Rattle.std.specs.List.{list_any}
 use Rattle.std.specs.Option.{option_map}
-use Rattle.std.proofs.lemmas.Bool.{false≢true, eq-eqb, or_cases, or_left, or_right, true_from_ne_false, false_from_ne_true}
+use Rattle.std.proofs.lemmas.Bool.{false≢true, eq-eqb, or_cases, or_left, or_right, false_from_ne_true}
 use Rattle.std.proofs.lemmas.List.{length-drop}
 use Rattle.srv6_rules.specs.declared.sid.Behaviour.{Behaviour}
 use Rattle.srv6_rules.specs.declared.sid.Behaviour.TheVariants as behaviours
@@ -18,11 +17,9 @@ use Rattle.intent_reader.specs.Rules.{first_end}
 use Rattle.intent_reader.specs.declared.intent.Step.{Step}
 use Rattle.intent_reader.specs.declared.intent.Intent.{Intent}
 use Rattle.leg_table.specs.declared.ride.Reached.{Reached}
-use Rattle.leg_table.specs.declared.ride.Behind.{Behind}
 use Rattle.leg_table.specs.Tasks.{left_after}
 use Rattle.leg_table.specs.Ride.{Ride, ride_of, ride_end, ride_by, ride_on, more_lowered, all_in_step}
 use Rattle.leg_table.specs.Sids.{is_sid_at, sids_of, first_address, sid_address}
-use Rattle.leg_table.specs.Leg.{left_behind}
 use Rattle.leg_table.specs.Course.{reached_of, behind_with, behind_of}
 use Rattle.leg_table.proofs.Options.{map-some, if-some, some-same}
 use Rattle.leg_table.proofs.Positions.{contains-first, contains-later, contains-cases, are-sids}

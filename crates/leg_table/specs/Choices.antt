@@ -1,5 +1,5 @@
 -- Ways of a packet to the next SID that is executed, along the steps of an intent, whichever equal next hop is chosen.
-use Rattle.std.specs.Prelude.{◌≡◌, ℕ, zero, suc, ◌<◌, Bool, true, false, List, [], ◌∷◌, length, Option, Some, None, IsTrue}
+use Rattle.std.specs.Prelude.{ℕ, ◌<◌, Bool, List, [], ◌∷◌, length, Option, Some, None, IsTrue}
 use Rattle.srv6_rules.specs.Packet.{Content}
 use Rattle.net_model.specs.Network.{Network}
 use Rattle.walk_rules.specs.declared.place.Place.{Place}

@@ -1,7 +1,6 @@
 -- The code's view of ways and rides.
-use Rattle.std.specs.Prelude.{◌≡◌, ℕ, ◌+◌, List, [], ◌∷◌, length, drop, Option, Some, None}
+use Rattle.std.specs.Prelude.{◌≡◌, ℕ, length, drop, Option, Some, None}
 use Rattle.std.specs.Option.{option_map, option_and_then}
-use Rattle.srv6_rules.specs.declared.sid.Reason.{Reason}
 use Rattle.net_model.specs.Network.{Network}
 use Rattle.net_model.specs.Keeps.{IsLinkSet}
 use Rattle.walk_rules.specs.Treatment.{Way, Away, Over, Own, Into}

@@ -1,9 +1,9 @@
 -- Lists of segments that realize an intent, and paths of legs.
-use Rattle.std.specs.Prelude.{◌≡◌, ℕ, ◌+◌, ◌-◌, ◌<◌, ◌≤◌, Bool, List, [], ◌∷◌, length, map, slice_get, slice_index, Option, Some, None, IsTrue}
-use Rattle.std.specs.Option.{option_map, option_and_then}
+use Rattle.std.specs.Prelude.{◌≡◌, ℕ, ◌+◌, ◌<◌, ◌≤◌, List, [], ◌∷◌, length, map, slice_get, slice_index, Option, Some, None, IsTrue}
+use Rattle.std.specs.Option.{option_map}
 use Rattle.srv6_rules.specs.declared.sid.Family.TheVariants as families
 use Rattle.srv6_rules.specs.declared.sid.SidEntry.{SidEntry}
-use Rattle.srv6_rules.specs.Packet.{Packet, Content, V6, IsSpellable}
+use Rattle.srv6_rules.specs.Packet.{Packet, V6, IsSpellable}
 use Rattle.srv6_rules.specs.Encapsulation.{Encapsulation, encapsulated, inner_lowered}
 use Rattle.net_model.specs.Network.{Network}
 use Rattle.walk_rules.specs.declared.place.How.TheVariants.{Submitted}

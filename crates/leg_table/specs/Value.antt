@@ -1,6 +1,5 @@
 -- What a search sees of legs, and what holds of it.
-use Rattle.std.specs.Prelude.{◌≡◌, ℕ, ◌+◌, ◌<◌, ◌≤◌, ◌⊎◌, Bool, true, false, List, [], ◌∷◌, length, Option, Some, None, IsTrue, ◌&&◌, is_some, ◌||◌, Contains}
-use Rattle.v6_addr.specs.Address.{PrefixValue}
+use Rattle.std.specs.Prelude.{◌≡◌, ℕ, ◌<◌, ◌≤◌, Bool, true, List, [], ◌∷◌, length, Option, Some, None, IsTrue, ◌&&◌, is_some, ◌||◌, Contains}
 use Rattle.leg_table.specs.declared.types.Shape.{Shape}
 use Rattle.leg_table.specs.declared.types.Leg.{Leg}
 use Rattle.net_model.specs.Network.{Network}

@@ -17,3 +17,6 @@ pub use types::{
     Container, Cost, Leg, PathStep, PathSteps, Potential, Potentials, Prefixes, Shape, SidList,
     Solution, State,
 };
+
+#[cfg(test)]
+mod tests;

@@ -1,6 +1,5 @@
-use Rattle.std.proofs.Common.{ℕ, ◌≡◌, sym, ap, subst, ◌∙◌, None, Some, Option}
+use Rattle.std.proofs.Common.{ℕ, sym, ap, ◌∙◌}
 use Rattle.std.specs.Option.{option_map}
-use Rattle.leg_table.specs.declared.ride.Behind.{Behind}
 use Rattle.leg_table.specs.Ride.{ride_of}
 use Rattle.leg_table.specs.Course.{behind_of, behind_with}
 use Rattle.leg_table.proofs.Ways.{way-is, address-is}

@@ -1,7 +1,4 @@
-use Rattle.std.proofs.Common.{rules, ◌≡◌, ◌+◌, ◌<◌, ◌≤◌, ℕ, length, Some, arith, Fits, w32, get_or, sym, subst}
-use Rattle.intent_reader.specs.declared.intent.Step.{Step}
-use Rattle.leg_table.specs.Sids as sids
-use Rattle.leg_table.specs.Table.{AreRows}
+use Rattle.std.proofs.Common.{arith}
 use Rattle.leg_table.proofs.Placing.{step-opens, step-lands, in_steps, intent-short, rows-more}
 use Rattle.leg_table.proofs.rows.rows_of.Goals as goal
 

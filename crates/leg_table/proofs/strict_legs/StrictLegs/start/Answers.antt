@@ -1,4 +1,4 @@
-use Rattle.std.proofs.Common.{ℕ, ◌<◌, ◌≤◌, length, arith, ap, subst}
+use Rattle.std.proofs.Common.{length, arith, ap}
 use Rattle.leg_table.specs.Table.{LegTable}
 use Rattle.leg_table.proofs.RideFacts.{intent-stands}
 use Rattle.leg_table.proofs.strict_legs.StrictLegs.start.Goals as goal

@@ -1,4 +1,4 @@
-use Rattle.std.proofs.Common.{ℕ, ◌<◌, length, arith, ap}
+use Rattle.std.proofs.Common.{length, arith, ap}
 use Rattle.net_model.proofs.KeepsLemmas.{keeps_from_network}
 use Rattle.leg_table.specs.Table.{LegTable}
 use Rattle.leg_table.proofs.Positions.{sid-within}
