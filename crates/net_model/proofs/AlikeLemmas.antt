@@ -1,20 +1,19 @@
 -- A flat network looks all addresses in the prefix of a SID up alike.
-use Rattle.std.proofs.Common.{◌≡◌, ℕ, ◌+◌, ◌-◌, ◌/◌, ◌^◌, ◌<◌, ◌≤◌, Bool, true, false, cond, ltb, List, [], ◌∷◌, ◌++◌, map, length, Option, Some, None, ◌⊎◌, refl, sym, ap, ◌∙◌, subst, arith, inl, inr}
+use Rattle.std.proofs.Common.{◌≡◌, ℕ, ◌-◌, ◌≤◌, Bool, true, false, cond, List, [], ◌∷◌, map, Some, refl, sym, ap, ◌∙◌, subst, arith, inl, inr}
 use Rattle.std.specs.List.{slice_get, Contains}
 use Rattle.std.specs.Option.{option_map}
-use Rattle.std.proofs.lemmas.Bool.{cases_Bool, cases_lt, cases_order, both_ways, true_from_ne_false, false_from_ne_true}
+use Rattle.std.proofs.lemmas.Bool.{cases_lt}
 use Rattle.std.proofs.lemmas.Option.{slice_get-map, same_Some}
 use Rattle.std.proofs.lemmas.List.Elements.{Contains-append_left, Contains-append_right}
-use Rattle.v6_addr.specs.Address.{PrefixValue, IsPrefix, Holds, holds_address, IsInside}
+use Rattle.v6_addr.specs.Address.{PrefixValue, Holds, holds_address}
 use Rattle.v6_addr.proofs.Prefixes.{holds_address_is, Holds_nested, same_above, same_value}
 use Rattle.srv6_rules.specs.declared.sid.SidEntry.{SidEntry}
 use Rattle.net_model.specs.declared.net.Hit.{Hit}
 use Rattle.net_model.specs.declared.net.Hit.TheVariants as hits
 use Rattle.net_model.specs.Network.{Network}
 use Rattle.net_model.specs.Rules.{IsNetwork}
-use Rattle.net_model.specs.Keeps.{Keeps}
-use Rattle.net_model.specs.Best.{Entry, entries_of, rank_of, FitsNoWorse, IsBestEntry, IsBest, longer, longest, hit_of, lookup_of}
-use Rattle.net_model.specs.Entries.{IsEntryAs, IsEntry}
+use Rattle.net_model.specs.Best.{Entry, entries_of, IsBestEntry, IsBest, longer, longest, hit_of, lookup_of}
+use Rattle.net_model.specs.Entries.{IsEntryAs}
 use Rattle.net_model.specs.Flat.{sid_prefix, route_prefix, address_prefix, inner_entries, IsFlat}
 use Rattle.net_model.proofs.KeepsLemmas.{keeps_from_network}
 use Rattle.net_model.proofs.EntryLemmas.{entry_means, entry_is_there, contains_first, contains_later}

@@ -1,10 +1,9 @@
 -- The longest of joined entries, and a scan one item on.
-use Rattle.std.proofs.Common.{◌≡◌, ℕ, zero, suc, ◌+◌, ◌<◌, ◌≤◌, Bool, true, false, cond, ltb, ◌==◌, ◌&&◌, List, [], ◌∷◌, ◌++◌, Option, Some, None, refl, sym, ap, ◌∙◌, subst, arith, inl, inr, append_assoc}
+use Rattle.std.proofs.Common.{◌≡◌, ℕ, ◌+◌, ltb, ◌==◌, ◌&&◌, List, [], ◌∷◌, ◌++◌, Option, Some, None, refl, sym, ap, ◌∙◌, arith, inl, inr}
 use Rattle.std.proofs.lemmas.Bool.{cases_Bool, ltb-true, ltb-false, lt-ltb, le-ltb}
 use Rattle.v6_addr.specs.Address.{holds_address}
 use Rattle.srv6_rules.specs.declared.sid.SidEntry.{SidEntry}
 use Rattle.net_model.specs.declared.parts.Route.{Route}
-use Rattle.net_model.specs.declared.net.Hit.TheVariants as hits
 use Rattle.net_model.specs.Best.{Entry, longer, longest, sid_entries, route_entries}
 
 longer_three : (e f g : Entry) → longer (longer (Some e) (Some f)) (Some g) ≡ longer (Some e) (longer (Some f) (Some g))

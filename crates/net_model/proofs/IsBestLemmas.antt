@@ -1,8 +1,8 @@
 -- Best match: the look-up meets the relation, and the relation has one answer.
-use Rattle.std.proofs.Common.{◌≡◌, ◌≢◌, ℕ, zero, suc, ◌+◌, ◌<◌, ◌≤◌, Bool, true, false, cond, ltb, ◌==◌, eqb, ◌⊎◌, List, [], ◌∷◌, ◌++◌, length, get_or, Option, Some, None, refl, sym, ap, ◌∙◌, subst, arith, inl, inr}
+use Rattle.std.proofs.Common.{◌≡◌, ℕ, ◌≤◌, true, false, ltb, ◌==◌, List, [], ◌∷◌, ◌++◌, Option, Some, None, refl, sym, ap, ◌∙◌, subst, arith, inl, inr}
 use Rattle.std.specs.List.{slice_get, Contains}
-use Rattle.std.proofs.lemmas.Bool.{cases_Bool, both_ways, eqb-true, eq-eqb, ltb-true, ltb-false}
-use Rattle.std.proofs.lemmas.List.Elements.{Contains-append_left, Contains-append_right, Contains-append_cases}
+use Rattle.std.proofs.lemmas.Bool.{cases_Bool, both_ways, eqb-true, ltb-true, ltb-false}
+use Rattle.std.proofs.lemmas.List.Elements.{Contains-append_cases}
 use Rattle.v6_addr.specs.Address.{PrefixValue, IsPrefix, Holds, holds_address}
 use Rattle.v6_addr.proofs.Prefixes.{holds_address_is, same_value}
 use Rattle.net_model.specs.declared.parts.Node.{Node}
@@ -13,8 +13,7 @@ use Rattle.net_model.specs.Best.{Entry, sid_entries, route_entries, address_entr
 use Rattle.net_model.specs.Rules.{IsNetwork}
 use Rattle.net_model.specs.Keeps.{Keeps}
 use Rattle.net_model.proofs.KeepsLemmas.{keeps_from_network}
-use Rattle.net_model.specs.Entries.{IsEntryAs, IsEntry}
-use Rattle.net_model.proofs.EntryLemmas.{contains_none, contains_cases, contains_first, contains_later, sid_means, sid_is_there, route_means, route_is_there, entry_means, entry_is_there, entries_of-first, entries_of-other}
+use Rattle.net_model.proofs.EntryLemmas.{contains_none, contains_cases, contains_first, contains_later, sid_means, route_means, entry_means, entries_of-first, entries_of-other}
 
 -- each entry ranks no later than those after it
 abbrev pub IsRanked : List Entry → Type 0

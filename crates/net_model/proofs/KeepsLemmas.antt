@@ -1,6 +1,6 @@
 -- The facts of a network that keeps the rules.
-use Rattle.std.proofs.Common.{◌≡◌, ℕ, ◌<◌, ◌≤◌, ◌^◌, Bool, true, false, ◌==◌, ◌&&◌, not, eqb, List, [], length, Option, Some, None, IsTrue, refl, sym, ap, ◌∙◌, subst, arith}
-use Rattle.std.specs.List.{slice_get, Contains}
+use Rattle.std.proofs.Common.{◌≡◌, ℕ, true, List, length, Option, Some, None, refl, sym, ap, ◌∙◌}
+use Rattle.std.specs.List.{slice_get}
 use Rattle.std.proofs.lemmas.Bool.{and_parts, and_from, not-true, leb-true, ltb-true, eqb-true, eqb-false, eq-eqb}
 use Rattle.std.proofs.lemmas.List.{nil_from_length}
 use Rattle.v6_addr.specs.Address.{PrefixValue, IsPrefix}
@@ -11,9 +11,9 @@ use Rattle.net_model.specs.declared.parts.Node.{Node}
 use Rattle.net_model.specs.declared.parts.Link.{Link}
 use Rattle.net_model.specs.declared.parts.Route.{Route}
 use Rattle.net_model.specs.Network.{Network}
-use Rattle.net_model.specs.Rules.{IsNetwork, is_network, is_address, is_prefix, same_bytes, same_prefix, same_number, same_node_name, same_node_address, same_link_name, same_route, same_sid, keeps_node, keeps_link, ends_elsewhere, starts_at_node, starts_at, is_link_set, keeps_route, keeps_behaviour, is_title, keeps_sid, has_room, title_of, keeps_nodes, keeps_links, keeps_routes, keeps_titles, keeps_sids, is_name}
+use Rattle.net_model.specs.Rules.{IsNetwork, is_network, is_address, is_prefix, same_bytes, same_prefix, same_node_name, same_node_address, same_link_name, same_route, same_sid, keeps_node, keeps_link, ends_elsewhere, starts_at_node, starts_at, is_link_set, keeps_route, keeps_behaviour, is_title, keeps_sid, has_room, is_name}
 use Rattle.net_model.specs.Titles.{same_option, same_title}
-use Rattle.net_model.specs.Keeps.{StartsAt, IsLinkSet, EndsElsewhere, SuitsBehaviour, IsTitleOf, KeepsNode, KeepsLink, KeepsRoute, KeepsSid, Keeps}
+use Rattle.net_model.specs.Keeps.{IsLinkSet, EndsElsewhere, SuitsBehaviour, IsTitleOf, KeepsNode, KeepsLink, KeepsRoute, KeepsSid, Keeps}
 use Rattle.net_model.proofs.ListLemmas.{passes_at, passes_among, same_number_of, same_bytes_from}
 use Rattle.net_model.proofs.TitleLemmas.{are_distinct-titles}
 

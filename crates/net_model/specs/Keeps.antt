@@ -1,6 +1,6 @@
 -- What holds of a network that keeps the rules, fact by fact.
-use Rattle.std.specs.Prelude.{◌≡◌, ◌≢◌, ℕ, ◌+◌, ◌<◌, ◌≤◌, ◌^◌, count_by, List, [], length, slice_get, Option, Some, None, IsTrue, Contains}
-use Rattle.v6_addr.specs.Address.{PrefixValue, IsPrefix}
+use Rattle.std.specs.Prelude.{◌≡◌, ◌≢◌, ℕ, ◌<◌, ◌≤◌, ◌^◌, count_by, List, [], length, slice_get, Option, Some, None, IsTrue, Contains}
+use Rattle.v6_addr.specs.Address.{IsPrefix}
 use Rattle.srv6_rules.specs.declared.sid.SidEntry.{SidEntry}
 use Rattle.srv6_rules.specs.declared.sid.Behaviour.{Behaviour}
 use Rattle.srv6_rules.specs.declared.sid.Behaviour.TheVariants.{End, EndX, Dt6}

@@ -1,5 +1,5 @@
 -- The rules that a network keeps (own rules, but for the ranges of addresses and prefixes).
-use Rattle.std.specs.Prelude.{◌≡◌, ℕ, ◌+◌, ◌-◌, ◌%◌, ◌^◌, ◌<◌, ◌≤◌, Bool, true, false, ◌==◌, ◌&&◌, ◌||◌, not, nat_lt, nat_le, count_by, if◌then◌else◌, List, [], ◌∷◌, length, slice_get, Option, Some, None, IsTrue}
+use Rattle.std.specs.Prelude.{ℕ, ◌-◌, ◌%◌, ◌^◌, Bool, true, false, ◌==◌, ◌&&◌, ◌||◌, not, nat_lt, nat_le, count_by, List, [], ◌∷◌, length, slice_get, Option, Some, None, IsTrue}
 use Rattle.std.specs.List.{filter_map, list_any, list_all}
 use Rattle.v6_addr.specs.Address.{PrefixValue}
 use Rattle.srv6_rules.specs.declared.sid.SidEntry.{SidEntry}

@@ -57,7 +57,8 @@ fn first_entry_inside(outer: &Prefix, parts: &NetParts) -> Option<Prefix>
 
 /// The first nested pair of the SIDs from one on.
 fn first_nested(sids: &[SidEntry], parts: &NetParts) -> Result<(), NotFlat>
-    ensures { result ≡ first_nested (inner_entries (network_of parts.now)) (map sid_prefix sids.now) }
+    ensures { result
+        ≡ first_nested (inner_entries (network_of parts.now)) (map sid_prefix sids.now) }
 {
     let mut rest = sids;
     while let [s, more @ ..] = rest {

@@ -13,7 +13,8 @@ ghost use Rattle.net_model.specs.Entries.{IsEntry};
 
 /// Best match has one answer in a network that keeps the rules, and the look-up gives it.
 pub fn best_match_is_one()
-    ensures found { (net : Network) (node table a : ℕ) → IsBest net node table a (lookup_of net node table a) }
+    ensures found { (net : Network) (node table a : ℕ)
+        → IsBest net node table a (lookup_of net node table a) }
     ensures one { (net : Network) (node table a : ℕ) (h k : Hit) → IsNetwork net
         → IsBest net node table a h → IsBest net node table a k → h ≡ k }
 {}

@@ -1,5 +1,11 @@
 //! A network: nodes with addresses, links, routes and SIDs, as lists in the order of its
-//! description, and which entry of a node's table fits an address best.
+//! description.
+//!
+//! `Net::build` takes the parts that keep the rules of descriptions, and `Net::keeps_rules` tells
+//! them to proofs. `Net::lookup` gives the entry of a node's table that fits an address best.
+//! `compilable` tells whether the network is flat: then no entry lies strictly inside the prefix
+//! of a SID, and all addresses of that prefix are looked up alike. Nothing here takes memory. The
+//! laws about the definitions are the contracts of empty functions.
 #![tactic(auto)]
 
 mod flat;

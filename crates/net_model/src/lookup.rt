@@ -83,7 +83,8 @@ fn with_route(
     table: u32,
     a: Addr,
 ) -> Option<Found>
-    ensures { seen result ≡ longer (seen best) (longest a.value (route_entries node table n (r.now ∷ []))) }
+    ensures { seen result
+        ≡ longer (seen best) (longest a.value (route_entries node table n (r.now ∷ []))) }
 {
     if r.node == node && r.table == table {
         with_entry(
@@ -124,7 +125,8 @@ fn with_routes(
     a: Addr,
 ) -> Option<Found>
     requires { length routes.now < 2 ^ 32 }
-    ensures { seen result ≡ longer (seen best) (longest a.value (route_entries node table 0 routes.now)) }
+    ensures { seen result
+        ≡ longer (seen best) (longest a.value (route_entries node table 0 routes.now)) }
 {
     let mut found = best;
     let mut n = 0;

@@ -1,11 +1,11 @@
 -- Reading an array's items one after another.
-use Rattle.std.proofs.Common.{◌≡◌, ℕ, ◌+◌, ◌<◌, ◌≤◌, ◌==◌, Bool, true, false, List, [], ◌∷◌, ◌++◌, length, get_or, drop, map, Option, Some, None, option_map, Bor, String, Global, string_bytes, refl, sym, ap, ◌∙◌, append_assoc, arith}
+use Rattle.std.proofs.Common.{◌≡◌, ℕ, ◌+◌, ◌<◌, ◌≤◌, ◌==◌, Bool, List, [], ◌∷◌, ◌++◌, length, get_or, drop, map, Option, Some, None, option_map, String, Global, string_bytes, refl, sym, ap, ◌∙◌, append_assoc, append-nil, arith}
 use Rattle.std.proofs.Math.ListN.{drop_of_length-le}
 use Rattle.std.proofs.lemmas.Bool.Decides.{nat_tests}
 use Rattle.std.specs.List.{list_any, list_all}
 use Rattle.std.specs.Map.{keys_of}
 use Rattle.std.specs.Str.{bytes_eq}
-use Rattle.toml.specs.Data.{Data, Items, no_items, item, Members}
+use Rattle.toml.specs.Data.{Data}
 use Rattle.toml.specs.View.{view, items_view, members_view}
 use Rattle.toml.specs.declared.value.Value.{Value}
 use Rattle.toml.proofs.Views.{items_view-drop}
@@ -29,9 +29,9 @@ front_moves done y (Some rest) = ap Some (sym (append_assoc done (y ∷ []) rest
 pub reads_more : {X : Type 0} (read : Data → Option X) (vs : List Value) (i : ℕ) (done : List X) (x : Value) (y : X) → HasRead read vs i done → i < length vs → x ≡ get_or vs i x → read (view x) ≡ Some y → HasRead read vs (i + 1) (done ++ y ∷ [])
 reads_more read vs i done x y so_far within is gives = record {
   same =
-    let turn : each_of read (items_view (drop i vs)) ≡ in_front (Some y) (each_of read (items_view (drop (i + 1) vs))) =
+      let turn : each_of read (items_view (drop i vs)) ≡ in_front (Some y) (each_of read (items_view (drop (i + 1) vs))) =
       rw (items_view-drop vs i x within, ← is, gives) in
-    sym (front_moves done y (each_of read (items_view (drop (i + 1) vs)))) ∙ rw (← turn) so_far.same
+      sym (front_moves done y (each_of read (items_view (drop (i + 1) vs)))) ∙ rw (← turn) so_far.same;
 }
 
 pub reads_stop : {X : Type 0} (read : Data → Option X) (vs : List Value) (i : ℕ) (done : List X) (x : Value) → HasRead read vs i done → i < length vs → x ≡ get_or vs i x → read (view x) ≡ None → None ≡ each_of read (items_view vs)
@@ -39,13 +39,9 @@ reads_stop read vs i done x so_far within is gives =
     let turn : each_of read (items_view (drop i vs)) ≡ None = rw (items_view-drop vs i x within, ← is, gives) in
     rw turn at so_far.same
 
-append_nothing : {X : Type 0} (xs : List X) → xs ++ [] ≡ xs
-append_nothing [] = refl
-append_nothing (x ∷ xs) = ap (λ ys. x ∷ ys) (append_nothing xs)
-
 pub reads_end : {X : Type 0} (read : Data → Option X) (vs : List Value) (i : ℕ) (done : List X) → HasRead read vs i done → length vs ≤ i → Some done ≡ each_of read (items_view vs)
 reads_end read vs i done so_far past =
-    ap Some (sym (append_nothing done)) ∙ rw (drop_of_length-le vs past) at so_far.same
+    ap Some (sym (append-nil done)) ∙ rw (drop_of_length-le vs past) at so_far.same
 
 pub ruleset reading = (reads_start, reads_more, reads_stop, reads_end)
 

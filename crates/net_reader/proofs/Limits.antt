@@ -1,5 +1,5 @@
 -- A description with more nodes, links or SIDs than the rules allow gives no network.
-use Rattle.std.proofs.Common.{◌≡◌, ℕ, ◌<◌, Bool, true, false, ◌&&◌, nat_le, cond, List, length, Option, Some, None, refl, sym, arith}
+use Rattle.std.proofs.Common.{◌≡◌, ◌<◌, Bool, true, false, ◌&&◌, nat_le, cond, List, length, Option, Some, None, refl, sym, arith}
 use Rattle.std.specs.Prelude.{codes}
 use Rattle.std.proofs.lemmas.Bool.Decides.{nat_tests}
 use Rattle.toml.specs.Data.{Members}
@@ -7,7 +7,7 @@ use Rattle.net_model.specs.declared.parts.Node.{Node}
 use Rattle.net_model.specs.declared.parts.Link.{Link}
 use Rattle.net_model.specs.declared.parts.Route.{Route}
 use Rattle.net_model.specs.Network.{Network}
-use Rattle.net_model.specs.Rules.{is_network, keeps_nodes, keeps_links, keeps_routes, keeps_titles}
+use Rattle.net_model.specs.Rules.{is_network, keeps_nodes}
 use Rattle.net_reader.specs.declared.described.DescribedSid.{DescribedSid}
 use Rattle.net_reader.specs.Tree.{◌>>=◌, each_at}
 use Rattle.net_reader.specs.Description.{node_of, link_of, route_of, sid_of, titles_of, numbered, if_kept, network_with, is_plain, network_of_document}
@@ -69,21 +69,21 @@ pub with_too_many_sids : (nodes : List Node) (links : List Link) (root : Members
 with_too_many_sids nodes links root sids given many =
     let over : 4096 < length (numbered 0 sids) = omega (arith, length-numbered 0 sids) in
     let none : network_with nodes links root ≡ None =
-        rw given (none_after (each_at (route_of nodes links) (codes "route") root) _
-        (λ routes. broken (network_from nodes links routes sids) (too_many_sids (network_from nodes links routes sids) over))) in
+    rw given (none_after (each_at (route_of nodes links) (codes "route") root) _
+    (λ routes. broken (network_from nodes links routes sids) (too_many_sids (network_from nodes links routes sids) over))) in
     sym none
 
 pub of_too_many_nodes : (root : Members) (nodes : List Node) → each_at node_of (codes "node") root ≡ Some nodes → 256 < length nodes → None ≡ network_of_document root
 of_too_many_nodes root nodes given many =
     let rest : ◌>>=◌ (each_at (link_of nodes) (codes "link") root) (λ links. network_with nodes links root) ≡ None =
-        none_after (each_at (link_of nodes) (codes "link") root) _ (λ links. with_too_many_nodes nodes links root many) in
+    none_after (each_at (link_of nodes) (codes "link") root) _ (λ links. with_too_many_nodes nodes links root many) in
     let none : network_of_document root ≡ None = rw given (none_if (is_plain root) _ rest) in
     sym none
 
 pub of_too_many_links : (root : Members) (nodes : List Node) (links : List Link) → each_at node_of (codes "node") root ≡ Some nodes → each_at (link_of nodes) (codes "link") root ≡ Some links → 4096 < length links → None ≡ network_of_document root
 of_too_many_links root nodes links nodes_given links_given many =
     let none : network_of_document root ≡ None =
-        rw (nodes_given, links_given) (none_if (is_plain root) _ (with_too_many_links nodes links root many)) in
+    rw (nodes_given, links_given) (none_if (is_plain root) _ (with_too_many_links nodes links root many)) in
     sym none
 
 pub ruleset limits = (with_too_many_sids, of_too_many_nodes, of_too_many_links)

@@ -5,7 +5,6 @@ use Rattle.toml.specs.Data.{Data, Members, get_member, as_str}
 use Rattle.v6_addr.specs.Address.{PrefixValue}
 use Rattle.v6_addr.specs.Text.{address_of_text, prefix_of_text}
 use Rattle.srv6_rules.specs.declared.sid.SidEntry.{SidEntry}
-use Rattle.srv6_rules.specs.declared.sid.Behaviour.{Behaviour}
 use Rattle.srv6_rules.specs.declared.sid.Behaviour.TheVariants.{End, EndX, Dt6}
 use Rattle.net_model.specs.declared.parts.Node.{Node}
 use Rattle.net_model.specs.declared.parts.Link.{Link}
@@ -96,7 +95,7 @@ route_of nodes links d = do
 abbrev pub sid_keys : List (List ℕ)
 sid_keys =
     codes "node" ∷ codes "prefix" ∷ codes "behaviour" ∷ codes "csid" ∷ codes "flavours" ∷ codes "title"
-        ∷ codes "links" ∷ codes "table" ∷ []
+    ∷ codes "links" ∷ codes "table" ∷ []
 
 -- End takes neither links nor a table
 abbrev pub end_from : Option Data → Option Data → Option Treatment
@@ -141,8 +140,8 @@ sid_of nodes links d = do
   treatment ← treatment_of links word (get_member (codes "links") t) (get_member (codes "table") t)
   title ← optional (λ text. option_map Some (as_str text)) None (codes "title") t
   if is_plain_sid t
-    then Some (record { node = node; prefix = prefix; behaviour = treatment.behaviour; title = title; links = treatment.links })
-    else None
+      then Some (record { node = node; prefix = prefix; behaviour = treatment.behaviour; title = title; links = treatment.links })
+      else None
 
 -- a title's number is its place among the titles, of which n stand before it
 abbrev pub number_of_title : ℕ → Option (List ℕ) → Option ℕ
@@ -158,7 +157,7 @@ abbrev pub numbered : ℕ → List DescribedSid → List SidEntry
 numbered n [] = []
 numbered n (s ∷ ss) =
     record { node = s.node; prefix = s.prefix; behaviour = s.behaviour; title = number_of_title n s.title; links = s.links }
-        ∷ numbered (after_title n s.title) ss
+    ∷ numbered (after_title n s.title) ss
 
 abbrev pub title_in : DescribedSid → Option (List ℕ)
 title_in s = s.title
@@ -190,8 +189,8 @@ is_plain root = has_only root_keys root && (is_empty_at (codes "block") root && 
 abbrev pub network_of_document : Members → Option Network
 network_of_document root =
     if is_plain root
-        then (do
-            nodes ← each_at node_of (codes "node") root
-            links ← each_at (link_of nodes) (codes "link") root
-            network_with nodes links root)
-        else None
+    then (do
+      nodes ← each_at node_of (codes "node") root
+      links ← each_at (link_of nodes) (codes "link") root
+      network_with nodes links root)
+    else None

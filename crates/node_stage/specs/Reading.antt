@@ -1,7 +1,7 @@
 -- What a test of bytes says of how they read.
 use Rattle.std.specs.Prelude.{◌≡◌, ℕ, ◌+◌, ◌<◌, ◌^◌, ◌≤◌, List, length, All, Option, Some, None}
 use Rattle.srv6_rules.specs.declared.sid.Reason.{Reason}
-use Rattle.srv6_rules.specs.Packet.{Content, V6, Unreadable, content_of, packet_at, stated_len}
+use Rattle.srv6_rules.specs.Packet.{V6, Unreadable, content_of, packet_at, stated_len}
 
 -- the bytes hold the packet that their header states
 pub record HoldsPacket (bytes : List ℕ) : Type 0 where

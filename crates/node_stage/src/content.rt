@@ -29,6 +29,19 @@ impl Model for Content {
 }
 
 impl Content {
+    ghost use Rattle.std.specs.Option.{option_copied};
+    ghost use Rattle.node_stage.specs.ContentView.{packet_in};
+
+    /// The packet, if it is one.
+    pub fn packet(&self) -> Option<&Packet>
+        ensures { option_copied result ≡ packet_in self.now }
+    {
+        match &self.held {
+            Held::V6(packet) => Some(packet),
+            Held::Unreadable(_, _) => None,
+        }
+    }
+
     /// Takes the content out without taking memory; what is left is no use.
     pub(crate) fn take(&mut self) -> Content
         ensures { result ≡ self.old }

@@ -12,6 +12,8 @@ mod numbers;
 mod packet;
 mod reading;
 mod spelling;
+#[cfg(test)]
+mod tests;
 mod treatment;
 mod way;
 

@@ -1,5 +1,9 @@
 pub mod Command
+pub mod Seen
 pub mod Capture
 pub mod Lines
 pub mod Output
+pub mod Early
 pub mod Served
+pub mod Halted
+pub mod Sent

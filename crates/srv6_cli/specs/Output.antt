@@ -36,9 +36,6 @@ input_limit = 67108864
 abbrev pub most_stages : ℕ
 most_stages = 10000
 
-abbrev pub refused : Refusal → Output
-refused refusal = record { written = []; told = refusal_line refusal; status = statuses.Refused }
-
 -- a bare IPv6 packet: the first half byte is 6
 abbrev pub is_bare : List ℕ → Bool
 is_bare input = not (length input == 0) && ((slice_index input 0 / 16) == 6)

@@ -1,8 +1,9 @@
 -- What a call of `serve` leaves, by the status that it answers.
-use Rattle.std.specs.Prelude.{◌≡◌, ◌≢◌, ℕ, List, [], ◌∷◌, ◌++◌, Option, Some, None, ¬}
+use Rattle.std.specs.Prelude.{◌≡◌, ◌≢◌, ℕ, List, [], ◌∷◌, ◌++◌, Option, Some, None, ⊤}
 use Rattle.srx_edge.specs.Edge.{Rose, append_to, append_name, Front}
 use Rattle.srv6_cli.specs.declared.status.Status.{Status}
 use Rattle.srv6_cli.specs.declared.status.Status.TheVariants as statuses
+use Rattle.srv6_cli.specs.Command.{Command, Run, Unknown}
 use Rattle.srv6_cli.specs.Output.{Output}
 
 -- each of the two sinks has received all that is wanted, and the status is the wanted one
@@ -23,3 +24,48 @@ Served wanted statuses.Refused a b c d = IsWhole wanted statuses.Refused a b c d
 Served wanted statuses.Usage a b c d = IsWhole wanted statuses.Usage a b c d
 Served wanted statuses.OutsideFault a b c d = IsFront wanted a b c d
 Served wanted statuses.NoMemory a b c d = IsFront wanted a b c d
+
+-- the line went out whole and the status is the one that goes with it, or a front of it went out and the status is a fault's
+abbrev pub Told : Status → List ℕ → Status → Option (List ℕ) → Option (List ℕ) → Type 0
+Told status line statuses.Done old new = (status ≡ statuses.Done) × (new ≡ append_to line old)
+Told status line statuses.Refused old new = (status ≡ statuses.Refused) × (new ≡ append_to line old)
+Told status line statuses.Usage old new = (status ≡ statuses.Usage) × (new ≡ append_to line old)
+Told status line statuses.OutsideFault old new = Front line old new
+Told status line statuses.NoMemory old new = Front line old new
+
+-- P, where the status is a fault's
+abbrev pub OnOutsideFault : Status → Type 0 → Type 0
+OnOutsideFault statuses.Done P = ⊤
+OnOutsideFault statuses.Refused P = ⊤
+OnOutsideFault statuses.Usage P = ⊤
+OnOutsideFault statuses.OutsideFault P = P
+OnOutsideFault statuses.NoMemory P = ⊤
+
+-- P, where the status is not want of memory
+abbrev pub UnlessNoMemory : Status → Type 0 → Type 0
+UnlessNoMemory statuses.Done P = P
+UnlessNoMemory statuses.Refused P = P
+UnlessNoMemory statuses.Usage P = P
+UnlessNoMemory statuses.OutsideFault P = P
+UnlessNoMemory statuses.NoMemory P = ⊤
+
+-- P, where the command was done
+abbrev pub OnDone : Status → Type 0 → Type 0
+OnDone statuses.Done P = P
+OnDone statuses.Refused P = ⊤
+OnDone statuses.Usage P = ⊤
+OnDone statuses.OutsideFault P = ⊤
+OnDone statuses.NoMemory P = ⊤
+
+-- words that are no command end in Usage, if nothing failed, and no others do
+abbrev pub UsageAsAsked : Command → Status → Type 0
+UsageAsAsked Unknown statuses.Done = ⊥
+UsageAsAsked Unknown statuses.Refused = ⊥
+UsageAsAsked Unknown statuses.Usage = ⊤
+UsageAsAsked Unknown statuses.OutsideFault = ⊤
+UsageAsAsked Unknown statuses.NoMemory = ⊤
+UsageAsAsked (Run file name) statuses.Done = ⊤
+UsageAsAsked (Run file name) statuses.Refused = ⊤
+UsageAsAsked (Run file name) statuses.Usage = ⊥
+UsageAsAsked (Run file name) statuses.OutsideFault = ⊤
+UsageAsAsked (Run file name) statuses.NoMemory = ⊤

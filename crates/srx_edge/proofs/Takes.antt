@@ -1,5 +1,5 @@
 -- What is taken in parts is taken whole.
-use Rattle.std.proofs.Common.{◌≡◌, ℕ, ◌+◌, ◌≤◌, List, ◌++◌, length, take, Option, Result, subst, sym, ap, ◌∙◌, arith, length-append}
+use Rattle.std.proofs.Common.{◌≡◌, ℕ, ◌+◌, ◌≤◌, List, ◌++◌, length, take, Option, Result, subst, ap, ◌∙◌, arith, length-append}
 use Rattle.std.proofs.Math.Seq.{length-take-le}
 use Rattle.srx_edge.specs.Edge.{prepend_to}
 use Rattle.srx_edge.specs.declared.input.DrawFault.{DrawFault}

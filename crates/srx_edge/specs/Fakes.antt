@@ -1,6 +1,5 @@
 -- What is seen of the fakes in memory: what they tell, and the plan of their faults.
-use Rattle.std.specs.Prelude.{ℕ, ◌+◌, ◌++◌, List, [], ◌∷◌, Contains, length}
-use Rattle.srx_edge.specs.Edge.{next_count}
+use Rattle.std.specs.Prelude.{ℕ, List}
 
 -- a sink in memory
 pub record SinkState : Type 0 where

@@ -1,5 +1,5 @@
 -- What a read of files in memory does.
-use Rattle.std.specs.Prelude.{◌≡◌, ◌==◌, ℕ, ◌+◌, ◌<◌, ◌≤◌, ◌++◌, ◌∷◌, [], List, length, Bool, Contains, Option, None, Some, IsSomeAnd, Result, Ok, Err}
+use Rattle.std.specs.Prelude.{◌≡◌, ◌==◌, ℕ, ◌+◌, ◌<◌, ◌≤◌, ◌++◌, ◌∷◌, [], List, length, Bool, Contains, None, Some, IsSomeAnd, Result, Ok, Err}
 use Rattle.std.specs.Global.{Vec}
 use Rattle.srx_edge.specs.Edge.{next_count, file_named}
 use Rattle.srx_edge.specs.Fakes.{FilesState}

@@ -1,5 +1,6 @@
 -- What is seen of the adapters: what they stand on, and the count of their faults.
 use Rattle.std.specs.Prelude.{ℕ}
+use Rattle.srx_edge.specs.declared.host_files.HostFiles.{HostFiles}
 use Rattle.srx_edge.specs.declared.host_source.HostSource.{HostSource}
 use Rattle.srx_edge.specs.declared.host_sink.HostSink.{HostSink}
 
@@ -14,3 +15,6 @@ writer_of sink = sink.writer
 
 abbrev pub write_faults : {W : Type 0} → HostSink W → ℕ
 write_faults sink = sink.faults
+
+abbrev pub file_faults : {R : Type 0} → HostFiles R → ℕ
+file_faults files = files.faults

@@ -1,5 +1,5 @@
 -- What a write to a sink answers, by cases.
-use Rattle.std.specs.Prelude.{ℕ, ⊤, Result, Ok, Err}
+use Rattle.std.specs.Prelude.{⊤, Result, Ok, Err}
 use Rattle.srx_edge.specs.declared.output.SinkFault.{SinkFault}
 use Rattle.srx_edge.specs.declared.output.SinkFault.TheVariants.{Failed, NoMemory}
 

@@ -1,6 +1,7 @@
 //! The files of the system.
 ghost use Rattle.std.specs.Prelude.{◌≡◌, ◌≤◌, None, IfOk, vec_len};
 ghost use Rattle.srx_edge.specs.FileAnswer.{IfFileTooBig};
+ghost use Rattle.srx_edge.specs.Host.{file_faults};
 
 use crate::file_access::{FileFault, Files};
 use crate::host_source::HostSource;
@@ -17,7 +18,9 @@ pub struct HostFiles<'a, R> {
 
 impl<'a, R> HostFiles<'a, R> {
     /// No read has failed yet.
-    pub fn new(rt: &'a R) -> HostFiles<'a, R> {
+    pub fn new(rt: &'a R) -> HostFiles<'a, R>
+        ensures { file_faults result ≡ 0 }
+    {
         HostFiles { rt, faults: 0 }
     }
 }
@@ -49,7 +52,7 @@ impl<R: fs::Files> Files for HostFiles<'_, R> {
 
     ghost asked = { λ _. None };
 
-    ghost faults = { λ f. f.faults };
+    ghost faults = { file_faults };
 
     fn read(&mut self, alloc: Global, name: &str, limit: usize) -> Result<Vec<u8>, FileFault> {
         let answer = fetch(self.rt, alloc, name, limit);

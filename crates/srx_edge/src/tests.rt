@@ -49,6 +49,7 @@ impl Write for Broken {
 #[test]
 fn bytes_there_and_back(rt: HostRuntime) -> Result<(), Fail> {
     let bytes = Bytes::new(b"abc".to_vec(rt.alloc())?);
+    assert!(rt; bytes == Bytes::new(b"abc".to_vec(rt.alloc())?));
     assert_eq!(rt; bytes.as_slice(), b"abc".as_slice());
     assert_eq!(rt; bytes.into_vec().as_slice(), b"abc".as_slice());
     Ok(())

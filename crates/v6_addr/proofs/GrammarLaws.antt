@@ -1,26 +1,26 @@
 -- the function that reads a text and the grammar as a relation say the same
-use Rattle.std.proofs.Common.{◌≡◌, ℕ, zero, suc, ◌+◌, ◌-◌, ◌*◌, ◌/◌, ◌%◌, ◌^◌, ◌<◌, ◌≤◌, ◌↔◌, ◌⊎◌, inl, inr, Bool, true, false, eqb, ltb, leb, cond, ◌&&◌, List, [], ◌∷◌, ◌++◌, length, get_or, take, drop, replicate, Option, Some, None, sym, ◌∙◌, ap, subst, refl, arith, append_assoc, length-append}
+use Rattle.std.proofs.Common.{◌≡◌, ℕ, suc, ◌+◌, ◌<◌, ◌≤◌, ◌↔◌, inl, inr, Bool, true, false, eqb, cond, ◌&&◌, List, [], ◌∷◌, ◌++◌, length, get_or, take, drop, Option, Some, None, sym, ◌∙◌, ap, subst, refl, arith, append_assoc, length-append}
 use Rattle.std.specs.Prelude.{option_map, option_and_then}
 use Rattle.std.specs.Char.{digit_value, is_digit}
 use Rattle.std.specs.List.{list_all, slice_split, join_with_byte, AllZip, All}
 use Rattle.std.specs.Str.Parse.{digits_value, AllDigits}
-use Rattle.std.proofs.lemmas.List.{append-nil, take-append-drop, length-take-le, drop-drop}
+use Rattle.std.proofs.lemmas.List.{append-nil}
 use Rattle.std.proofs.lemmas.List.Elements.{All-nil, All-cons}
 use Rattle.std.proofs.lemmas.List.Splits.{slice_split_none, slice_split_at, join_with_byte-slice_split}
 use Rattle.std.proofs.lemmas.Option.{same_Some, none-some}
-use Rattle.std.proofs.lemmas.Bool.{and_parts, and_from, and_left, and_right, ltb-true, lt-ltb, leb-true, le-leb, eqb-true, eq-eqb, ne_eqb, cond-true, cond-false, false≢true}
-use Rattle.v6_addr.specs.Text.{number_of_text, group_of_text, groups_of_texts, groups_of_text, number_of_groups, full_address, shortened_address, gap_of, address_of_parts, address_of_text}
+use Rattle.std.proofs.lemmas.Bool.{and_parts, and_from, and_left, and_right, ltb-true, lt-ltb, leb-true, le-leb, eqb-true, ne_eqb, cond-true, cond-false}
+use Rattle.v6_addr.specs.Text.{number_of_text, group_of_text, groups_of_texts, groups_of_text, full_address, shortened_address, gap_of, address_of_parts, address_of_text}
 use Rattle.v6_addr.specs.Grammar.{IsGroupText, IsGroupsText, IsFullText, IsShortenedText, IsAddressText}
 use Rattle.v6_addr.proofs.Reading.{groups_of_some_text}
 use Rattle.v6_addr.proofs.GroupSums.{full_reads, shortened_parts}
 
 -- ---- cases of options
 
-some_cond : {A : Type 0} (b : Bool) (o : Option A) (x : A) → cond b o None ≡ Some x → (b ≡ true) × (o ≡ Some x)
+pub some_cond : {A : Type 0} (b : Bool) (o : Option A) (x : A) → cond b o None ≡ Some x → (b ≡ true) × (o ≡ Some x)
 some_cond true o x e = (refl, e)
 some_cond false o x e = absurd (none-some x e)
 
-some_then : {A B : Type 0} (f : A → Option B) (o : Option A) (y : B) → option_and_then f o ≡ Some y → (x : A) × (o ≡ Some x) × (f x ≡ Some y)
+pub some_then : {A B : Type 0} (f : A → Option B) (o : Option A) (y : B) → option_and_then f o ≡ Some y → (x : A) × (o ≡ Some x) × (f x ≡ Some y)
 some_then f None y e = absurd (none-some y e)
 some_then f (Some x) y e = (x, refl, e)
 
@@ -91,9 +91,9 @@ groups_are [] groups e =
     let P : List ℕ → Type 0 = AllZip IsGroupText [] in
     record { texts = []; joined = refl; each = subst P (same_Some [] groups e) tt }
 groups_are (c ∷ cs) groups e = record {
-    texts = slice_split (λ b. eqb b 58) (c ∷ cs);
-    joined = sym (join_with_byte-slice_split 58 (c ∷ cs));
-    each = texts_are (slice_split (λ b. eqb b 58) (c ∷ cs)) groups e;
+  texts = slice_split (λ b. eqb b 58) (c ∷ cs);
+  joined = sym (join_with_byte-slice_split 58 (c ∷ cs));
+  each = texts_are (slice_split (λ b. eqb b 58) (c ∷ cs)) groups e;
 }
 
 -- a digit is no colon
@@ -192,11 +192,13 @@ gap_parts (c ∷ cs) gap e = by_test c cs gap ((eqb c 58) && (eqb (get_or cs 0 0
     here c (d ∷ ds) gap is_gap first second =
         let P : ℕ → Type 0 = λ n. c ∷ d ∷ ds ≡ take n (c ∷ d ∷ ds) ++ (58 ∷ 58 ∷ drop (n + 2) (c ∷ d ∷ ds)) in
         subst P is_gap (ap (λ n. n ∷ d ∷ ds) first ∙ ap (λ n. 58 ∷ n ∷ ds) second)
+
     behind : (c : ℕ) (cs : List ℕ) (gap k : ℕ) → suc k ≡ gap → cs ≡ take k cs ++ (58 ∷ 58 ∷ drop (k + 2) cs) → c ∷ cs ≡ take gap (c ∷ cs) ++ (58 ∷ 58 ∷ drop (gap + 2) (c ∷ cs))
     behind c cs gap k is_gap rest =
         let sum : suc k + 2 ≡ suc (k + 2) = omega arith in
         let P : ℕ → Type 0 = λ n. c ∷ cs ≡ take n (c ∷ cs) ++ (58 ∷ 58 ∷ drop (n + 2) (c ∷ cs)) in
         subst P is_gap (ap (λ t. c ∷ t) rest ∙ ap (λ n. c ∷ (take k cs ++ (58 ∷ 58 ∷ drop n (c ∷ cs)))) (sym sum))
+
     by_test : (c : ℕ) (cs : List ℕ) (gap : ℕ) (b : Bool) → ((eqb c 58) && (eqb (get_or cs 0 0) 58)) ≡ b → cond b (Some 0) (option_map suc (gap_of cs)) ≡ Some gap
         → ((k : ℕ) → gap_of cs ≡ Some k → cs ≡ take k cs ++ (58 ∷ 58 ∷ drop (k + 2) cs)) → c ∷ cs ≡ take gap (c ∷ cs) ++ (58 ∷ 58 ∷ drop (gap + 2) (c ∷ cs))
     by_test c cs gap true test e more =
@@ -214,25 +216,25 @@ parts_are text a None place e =
     let read = some_then full_address (groups_of_text text) a e in
     let whole = some_cond _ _ a read.2 in
     inl (record {
-        groups = read.0;
-        written = groups_are text read.0 read.1;
-        eight = eqb-true _ _ whole.0;
-        value = sym (same_Some _ a whole.1);
+      groups = read.0;
+      written = groups_are text read.0 read.1;
+      eight = eqb-true _ _ whole.0;
+      value = sym (same_Some _ a whole.1);
     })
 parts_are text a (Some gap) place e =
     let left = some_then _ (groups_of_text (take gap text)) a e in
     let right = some_then (shortened_address left.0) (groups_of_text (drop (gap + 2) text)) a left.2 in
     let whole = some_cond _ _ a right.2 in
     inr (record {
-        left_text = take gap text;
-        right_text = drop (gap + 2) text;
-        left = left.0;
-        right = right.0;
-        parts = gap_parts text gap place;
-        left_written = groups_are _ _ left.1;
-        right_written = groups_are _ _ right.1;
-        some_zeros = (let below = ltb-true (length left.0 + length right.0) 8 whole.0 in omega arith);
-        value = sym (same_Some _ a whole.1);
+      left_text = take gap text;
+      right_text = drop (gap + 2) text;
+      left = left.0;
+      right = right.0;
+      parts = gap_parts text gap place;
+      left_written = groups_are _ _ left.1;
+      right_written = groups_are _ _ right.1;
+      some_zeros = (let below = ltb-true (length left.0 + length right.0) 8 whole.0 in omega arith);
+      value = sym (same_Some _ a whole.1);
     })
 
 no_gap_behind : (n : ℕ) → option_map (λ k. n + k) (gap_of []) ≡ None
@@ -264,11 +266,11 @@ unfolding address_of_text shortened_address
 shortened_from text a h =
     let whole = h.left_text ++ (58 ∷ 58 ∷ h.right_text) in
     let gap : gap_of whole ≡ Some (length h.left_text) =
-        gap_behind_groups h.left_text h.left (58 ∷ 58 ∷ h.right_text) h.left_written ∙ gap_here (length h.left_text) h.right_text in
+    gap_behind_groups h.left_text h.left (58 ∷ 58 ∷ h.right_text) h.left_written ∙ gap_here (length h.left_text) h.right_text in
     let read : address_of_text whole ≡ shortened_address h.left h.right =
-        ap (address_of_parts whole) gap
-        ∙ shortened_parts whole h.left_text h.right_text h.left h.right (length h.left_text) (take_front h.left_text (58 ∷ 58 ∷ h.right_text)) (drop_back h.left_text h.right_text 58 58)
-            (groups_from _ _ h.left_written) (groups_from _ _ h.right_written) in
+    ap (address_of_parts whole) gap
+    ∙ shortened_parts whole h.left_text h.right_text h.left h.right (length h.left_text) (take_front h.left_text (58 ∷ 58 ∷ h.right_text)) (drop_back h.left_text h.right_text 58 58)
+    (groups_from _ _ h.left_written) (groups_from _ _ h.right_written) in
     ap address_of_text h.parts ∙ read ∙ cond-true _ _ _ (lt-ltb (length h.left + length h.right) 8 (omega (arith, h.some_zeros))) ∙ ap Some (sym h.value)
 
 pub address_text_is : (text : List ℕ) (a : ℕ) → (address_of_text text ≡ Some a) ↔ IsAddressText text a

@@ -45,7 +45,7 @@ no_groups_yet groups = record { same = refl; bound = lit< tt }
 -- ---- two lists of groups, one behind the other
 
 -- groups behind a number
-number_from : (n : ℕ) (groups : List ℕ) → fold (λ m g. m * 2 ^ 16 + g) n groups ≡ n * 2 ^ (16 * length groups) + fold (λ m g. m * 2 ^ 16 + g) 0 groups
+pub number_from : (n : ℕ) (groups : List ℕ) → fold (λ m g. m * 2 ^ 16 + g) n groups ≡ n * 2 ^ (16 * length groups) + fold (λ m g. m * 2 ^ 16 + g) 0 groups
 number_from n [] = omega arith
 number_from n (g ∷ groups) =
     let sum : 16 * suc (length groups) ≡ 16 + 16 * length groups = omega arith in

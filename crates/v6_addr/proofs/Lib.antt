@@ -1,8 +1,10 @@
-pub mod Examples
 pub mod Fields
 pub mod GrammarLaws
 pub mod GroupSums
+pub mod PrefixGrammar
 pub mod Prefixes
 pub mod Reading
+pub mod RoundTrip
+pub mod RunLaws
 pub mod Runs
 pub mod Writing

@@ -1,7 +1,6 @@
 -- the longest run of groups that are 0
-use Rattle.std.proofs.Common.{◌≡◌, ℕ, zero, suc, ◌+◌, ◌-◌, ◌*◌, ◌<◌, ◌≤◌, Bool, true, false, eqb, ltb, leb, cond, List, [], ◌∷◌, ◌++◌, length, get_or, take, drop, sym, ◌∙◌, ap, subst, refl, arith, drop-cons, add-one}
+use Rattle.std.proofs.Common.{◌≡◌, ℕ, suc, ◌+◌, ◌-◌, ◌<◌, ◌≤◌, Bool, true, false, eqb, leb, cond, List, ◌∷◌, length, get_or, drop, sym, ◌∙◌, ap, subst, refl, arith, drop-cons, add-one}
 use Rattle.std.proofs.lemmas.List.{drop_all}
-use Rattle.std.proofs.lemmas.Bool.{cond-true, cond-false, eq-eqb, ne_eqb, le-leb, lt-leb}
 use Rattle.v6_addr.specs.Text.{Run, leading_zeros, longer_run, longest_run}
 
 -- what the groups from a place on have: how many zeros they begin with, and the longest run, by its place among all groups
@@ -14,16 +13,16 @@ pub record RunsFrom (groups : List ℕ) (i here start count : ℕ) : Type 0 wher
 
 pub no_runs : (groups : List ℕ) → RunsFrom groups (length groups) 0 (length groups) 0
 unfolding leading_zeros longest_run
-no_runs groups = 
+no_runs groups =
     let nothing = drop_all (length groups) groups (omega arith) in
     let none : 0 ≡ length groups - length groups = omega arith in
     record {
-  zeros = ap leading_zeros nothing;
-  longest = ap longest_run nothing ∙ ap (λ (n : ℕ). record { start = n; count = 0 }) none;
-  at = omega arith;
-  within = omega arith;
-  room = omega arith;
-}
+      zeros = ap leading_zeros nothing;
+      longest = ap longest_run nothing ∙ ap (λ (n : ℕ). record { start = n; count = 0 }) none;
+      at = omega arith;
+      within = omega arith;
+      room = omega arith;
+    }
 
 same_run : (a b c d : ℕ) → a ≡ c → b ≡ d → ◌≡◌ {A = Run} (record { start = a; count = b }) (record { start = c; count = d })
 same_run a b c d e f = ap (λ (n : ℕ). record { start = n; count = b }) e ∙ ap (λ (n : ℕ). record { start = c; count = n }) f
@@ -55,15 +54,15 @@ runs_before groups i here start count next here' start' count' is_next runs is_h
     let inside : next < length groups = omega (arith, runs.room) in
     let parts : drop next groups ≡ g ∷ drop i groups = rw (← is_next) (rw add-one (drop-cons groups next 0 inside)) in
     let after : leading_zeros (g ∷ drop i groups) ≡ here' =
-        ap (λ n. cond (eqb g 0) n 0) (ap suc runs.zeros ∙ sym (add-one here)) ∙ sym is_here in
+    ap (λ n. cond (eqb g 0) n 0) (ap suc runs.zeros ∙ sym (add-one here)) ∙ sym is_here in
     let room = step_room next i here here' (length groups) (eqb g 0) is_next is_here runs.room in
     record {
-        zeros = ap leading_zeros parts ∙ after;
-        longest = ap longest_run parts ∙ ap (λ n. longer_run n (longest_run (drop i groups))) after ∙ ap (longer_run here') runs.longest
-            ∙ step_run next i here' start count start' count' (leb count here') is_next runs.at is_start is_count;
-        at = step_at next i start start' (leb count here') is_next runs.at is_start;
-        within = step_within next here' start count start' count' (length groups) (leb count here') is_start is_count room runs.within;
-        room = room;
+      zeros = ap leading_zeros parts ∙ after;
+      longest = ap longest_run parts ∙ ap (λ n. longer_run n (longest_run (drop i groups))) after ∙ ap (longer_run here') runs.longest
+          ∙ step_run next i here' start count start' count' (leb count here') is_next runs.at is_start is_count;
+      at = step_at next i start start' (leb count here') is_next runs.at is_start;
+      within = step_within next here' start count start' count' (length groups) (leb count here') is_start is_count room runs.within;
+      room = room;
     }
 
 -- the run of all groups

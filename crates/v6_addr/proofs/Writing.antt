@@ -1,11 +1,11 @@
 -- what the writers of texts stand on
-use Rattle.std.proofs.Common.{◌≡◌, ℕ, zero, suc, ◌+◌, ◌-◌, ◌*◌, ◌/◌, ◌%◌, ◌^◌, ◌<◌, ◌≤◌, Bool, true, false, leb, ltb, cond, List, [], ◌∷◌, ◌++◌, length, take, drop, map, sym, ◌∙◌, ap, subst, refl, arith, append_assoc}
+use Rattle.std.proofs.Common.{◌≡◌, ℕ, ◌+◌, ◌<◌, ◌≤◌, List, [], ◌∷◌, ◌++◌, length, take, drop, sym, ◌∙◌, ap, arith, append_assoc}
 use Rattle.std.specs.Prelude.{flat_map}
 use Rattle.std.proofs.lemmas.List.{append-nil}
 use Rattle.std.proofs.lemmas.List.Concat.{flat_map-cons}
-use Rattle.std.proofs.lemmas.Bool.{cond-true, cond-false, le-leb, lt-leb, lt-ltb, le-ltb}
+use Rattle.std.proofs.lemmas.Bool.{cond-true, cond-false, le-leb, lt-leb}
 use Rattle.v6_addr.specs.Address.{PrefixValue}
-use Rattle.v6_addr.specs.Text.{Run, groups_of, group_text, groups_text, longest_run, text_with_run, address_text, length_text, prefix_text}
+use Rattle.v6_addr.specs.Text.{groups_of, group_text, groups_text, longest_run, text_with_run, address_text, length_text, prefix_text}
 
 -- a colon and a group
 abbrev pub behind_colon : ℕ → List ℕ
@@ -46,7 +46,7 @@ unfolding text_with_run address_text
 written_short a start count groups front back old one two three new is_groups is_run long is_front is_back empty is_one is_two is_three is_new =
     let before : one ≡ groups_text (take start groups) = is_one ∙ ap (λ t. t ++ groups_text front) empty ∙ ap groups_text is_front in
     let colons : three ≡ groups_text (take start groups) ++ (58 ∷ 58 ∷ []) =
-        is_three ∙ ap (λ t. t ++ 58 ∷ []) (is_two ∙ ap (λ t. t ++ 58 ∷ []) before) ∙ append_assoc (groups_text (take start groups)) (58 ∷ []) (58 ∷ []) in
+    is_three ∙ ap (λ t. t ++ 58 ∷ []) (is_two ∙ ap (λ t. t ++ 58 ∷ []) before) ∙ append_assoc (groups_text (take start groups)) (58 ∷ []) (58 ∷ []) in
     is_new ∙ ap (λ t. t ++ groups_text back) colons ∙ append_assoc (groups_text (take start groups)) (58 ∷ 58 ∷ []) (groups_text back)
     ∙ ap (λ t. groups_text (take start groups) ++ (58 ∷ 58 ∷ groups_text t)) is_back
     ∙ sym (cond-true _ _ _ (le-leb 2 count long))

@@ -1,7 +1,7 @@
-/// A text that is no address, or no prefix.
+/// A text that is outside the grammar of addresses, or of prefixes.
 #[derive(thiserror::Error, Debug, Clone, Copy, PartialEq, Eq)]
 #[error("not an IPv6 address or prefix")]
 pub struct BadAddr {
-    /// Always 0 for now: the place of the fault in the text comes with a later version.
+    /// Always 0 for now (own rule): the place of the fault in the text comes with a later version.
     pub at: usize,
 }

@@ -1,11 +1,67 @@
-ghost use Rattle.std.specs.Prelude.{◌≡◌, ℕ, ◌+◌, ◌-◌, ◌*◌, ◌^◌, ◌<◌, ◌≤◌, ◌↔◌, List, Some, length};
-ghost use Rattle.v6_addr.specs.Address.{PrefixValue, IsPrefix, Holds, IsInside};
-ghost use Rattle.v6_addr.specs.Text.{address_of_text, prefix_of_text, address_text, prefix_text, groups_of, longest_run};
+ghost use Rattle.std.specs.Prelude.{◌≡◌, ℕ, ◌+◌, ◌-◌, ◌*◌, ◌^◌, ◌<◌, ◌≤◌, ◌↔◌, IsTrue, List, Some, length};
+ghost use Rattle.v6_addr.specs.Address.{PrefixValue, IsPrefix, Holds, holds_address, IsInside, is_inside, field_of, with_field_of};
+ghost use Rattle.v6_addr.specs.Text.{address_of_text, prefix_of_text, address_text, prefix_text, longest_run};
 ghost use Rattle.v6_addr.specs.Grammar.{IsAddressText, IsPrefixText, IsLongestRun};
 
 /// A law: an address's text is read exactly where the grammar of RFC 4291 section 2.2 has it, and so as one address
 /// at most.
 pub fn address_grammar()
     ensures { (text : List ℕ) (a : ℕ) → (address_of_text text ≡ Some a) ↔ IsAddressText text a }
-{
-}
+{}
+
+/// A law: the run of groups that `::` stands for is of groups that are 0, none is longer, and none as long begins
+/// earlier (RFC 5952 section 4.2.3).
+pub fn longest_run_rule()
+    ensures { (groups : List ℕ) → IsLongestRun groups (longest_run groups) }
+{}
+
+/// A law: the text of an address has at most 39 bytes, and is read as that address.
+pub fn address_reads_back()
+    ensures read_back { (a : ℕ) → a < 2 ^ 128 → address_of_text (address_text a) ≡ Some a }
+    ensures len { (a : ℕ) → length (address_text a) ≤ 39 }
+{}
+
+/// A law: a prefix's text is read exactly where the grammar of RFC 4291 section 2.3 has it, and so as one prefix at
+/// most.
+pub fn prefix_grammar()
+    ensures { (text : List ℕ) (p : PrefixValue) → (prefix_of_text text ≡ Some p) ↔ IsPrefixText text p }
+{}
+
+/// A law: the text of a prefix has at most 43 bytes, and is read as that prefix.
+pub fn prefix_reads_back()
+    ensures read_back { (p : PrefixValue) → IsPrefix p → prefix_of_text (prefix_text p) ≡ Some p }
+    ensures len { (p : PrefixValue) → length (prefix_text p) ≤ 43 }
+{}
+
+/// Laws on what prefixes hold: a prefix holds its own address, and one of 128 bits no other; what a prefix holds is
+/// held by each prefix that it lies inside; of two prefixes that hold one address the shorter holds the other's, and
+/// two of one length are one.
+pub fn prefixes_nest()
+    ensures own { (p : PrefixValue) → Holds p p.value }
+    ensures whole { (p : PrefixValue) (a : ℕ) → p.len ≡ 128 → Holds p a ↔ (a ≡ p.value) }
+    ensures outer { (inner outer : PrefixValue) (a : ℕ) → IsInside inner outer → Holds inner a → Holds outer a }
+    ensures nested { (p q : PrefixValue) (a : ℕ) → p.len ≤ q.len → Holds p a → Holds q a → Holds p q.value }
+    ensures same { (p q : PrefixValue) (a : ℕ) → IsPrefix p → IsPrefix q → p.len ≡ q.len
+        → Holds p a → Holds q a → p.value ≡ q.value }
+{}
+
+/// Laws on the tests of prefixes: each is true exactly where its fact holds.
+pub fn prefix_tests()
+    ensures holds { (p : PrefixValue) (a : ℕ) → IsTrue (holds_address p a) ↔ Holds p a }
+    ensures inside { (inner outer : PrefixValue) → IsTrue (is_inside inner outer) ↔ IsInside inner outer }
+{}
+
+/// Laws on a field that is written: it is read back, each other field is as it was, the result is an address, and a
+/// prefix that ends before the field still holds it.
+pub fn fields_apart()
+    ensures same { (a at width v : ℕ) → at + width ≤ 128 → v < 2 ^ width
+        → field_of (with_field_of a at width v) at width ≡ v }
+    ensures before { (a at width v other size : ℕ) → at + width ≤ 128 → v < 2 ^ width → other + size ≤ at
+        → field_of (with_field_of a at width v) other size ≡ field_of a other size }
+    ensures behind { (a at width v other size : ℕ) → at + width ≤ 128 → v < 2 ^ width → at + width ≤ other
+        → other + size ≤ 128 → field_of (with_field_of a at width v) other size ≡ field_of a other size }
+    ensures bound { (a at width v : ℕ) → at + width ≤ 128 → a < 2 ^ 128 → v < 2 ^ width
+        → with_field_of a at width v < 2 ^ 128 }
+    ensures held { (p : PrefixValue) (a at width v : ℕ) → at + width ≤ 128 → v < 2 ^ width → p.len ≤ at
+        → Holds p a → Holds p (with_field_of a at width v) }
+{}

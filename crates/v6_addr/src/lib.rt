@@ -16,7 +16,13 @@ mod write;
 pub use address::Addr;
 pub use bits::{field, with_field};
 pub use errors::BadAddr;
-pub use laws::address_grammar;
+pub use laws::{
+    address_grammar, address_reads_back, fields_apart, longest_run_rule, prefix_grammar,
+    prefix_reads_back, prefix_tests, prefixes_nest,
+};
 pub use prefix::Prefix;
 pub use text::{parse_addr, parse_prefix};
 pub use write::{write_addr, write_prefix};
+
+#[cfg(test)]
+mod tests;

@@ -3,11 +3,10 @@ ghost use Rattle.std.specs.Char.{digit_char};
 ghost use Rattle.arrayvec.specs.ArrayString.{array_string_len};
 ghost use Rattle.v6_addr.specs.Text.{groups_of, group_text, groups_text, leading_zeros, longest_run, text_with_run, address_text, length_text, prefix_text};
 
-use arrayvec::ArrayString;
-
 use crate::address::Addr;
 use crate::bits::field;
 use crate::prefix::Prefix;
+use arrayvec::ArrayString;
 
 /// Appends a hexadecimal digit in lower case.
 fn push_digit(out: &mut ArrayString<39>, digit: u16)
@@ -15,7 +14,11 @@ fn push_digit(out: &mut ArrayString<39>, digit: u16)
     requires room { array_string_len out.old < 39 }
     ensures { out.new.bytes ≡ out.old.bytes ++ digit_char digit ∷ [] }
 {
-    let byte = if digit < 10 { b'0' + digit as u8 } else { b'a' + (digit as u8 - 10) };
+    let byte = if digit < 10 {
+        b'0' + digit as u8
+    } else {
+        b'a' + (digit as u8 - 10)
+    };
     out.push(char::from(byte));
 }
 

@@ -1,4 +1,4 @@
-use Rattle.std.proofs.Common.{◌≡◌, sym, ap, ◌∙◌, subst, map, ◌↔◌, Result}
+use Rattle.std.proofs.Common.{sym, ap, ◌∙◌, subst, map, ◌↔◌, Result}
 use Rattle.std.specs.Result.{IsOk}
 use Rattle.net_model.specs.declared.flat.NotFlat.{NotFlat}
 use Rattle.net_model.specs.Network.{network_of}

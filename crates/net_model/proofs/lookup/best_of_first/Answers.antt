@@ -1,4 +1,4 @@
-use Rattle.std.proofs.Common.{length, Some, refl, sym, ap, ◌∙◌}
+use Rattle.std.proofs.Common.{length, refl, sym, ap, ◌∙◌}
 use Rattle.std.specs.List.{slice_get}
 use Rattle.std.proofs.lemmas.Option.{slice_get_read}
 use Rattle.net_model.specs.Best.{longer, longest, sid_entries, address_entries, route_entries}

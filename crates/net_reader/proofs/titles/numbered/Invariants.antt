@@ -6,5 +6,5 @@ abbrev pub invariant-loop-sid : goal.invariant-loop-sid
 invariant-loop-sid l = record {
   titles : l.titles.items ≡ titles_of l.yielded;
   entries : l.entries.items ≡ numbered 0 l.yielded;
-  few : length l.titles.items ≤ length l.yielded
+  few : length l.titles.items ≤ length l.yielded;
 }

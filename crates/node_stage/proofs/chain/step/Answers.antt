@@ -1,6 +1,6 @@
-use Rattle.std.proofs.Common.{◌≡◌, Bool, true, false, drop, slice_index, ap, sym, ◌∙◌, arith}
-use Rattle.srv6_rules.specs.Chain.{is_extension, is_whole, extension_bytes}
-use Rattle.node_stage.specs.Stepping.{IsFound, GoesOn, passes}
+use Rattle.std.proofs.Common.{◌≡◌, true, false, drop, ap, sym, ◌∙◌}
+use Rattle.srv6_rules.specs.Chain.{is_whole}
+use Rattle.node_stage.specs.Stepping.{passes}
 use Rattle.node_stage.proofs.ChainLemmas.{found_upper, found_cut, found_header, goes_on}
 use Rattle.node_stage.proofs.chain.step.Goals as goal
 

@@ -1,5 +1,4 @@
-use Rattle.std.proofs.Common.{◌≡◌, ℕ, List, ◌+◌, ◌<◌, ◌≤◌, false, length, slice_index, sym, ap, ◌∙◌, arith}
-use Rattle.srv6_rules.specs.Packet.{address_number}
+use Rattle.std.proofs.Common.{◌≡◌, ℕ, List, ◌+◌, ◌<◌, false, slice_index, sym, ap, ◌∙◌, arith}
 use Rattle.node_stage.specs.Judging.{passes_entries, has_values}
 use Rattle.node_stage.proofs.SegmentLemmas.{next_segment-moves}
 use Rattle.node_stage.proofs.endpoint.judge_segment.Goals as goal

@@ -1,4 +1,4 @@
-use Rattle.std.proofs.Common.{length, ◌-◌, ◌≡◌, ◌≤◌, vec_len}
+use Rattle.std.proofs.Common.{◌-◌, ◌≡◌, ◌≤◌, vec_len}
 use Rattle.srx_edge.specs.Edge.{prepend_to}
 use Rattle.srx_edge.proofs.input.draw.Given as goal
 

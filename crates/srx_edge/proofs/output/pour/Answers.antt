@@ -1,5 +1,4 @@
-use Rattle.std.proofs.Common.{◌≡◌, ◌<◌, ◌+◌, ◌≤◌, drop, length, take, arith, subst, ◌∙◌, List, ℕ}
-use Rattle.srx_edge.specs.Edge.{append_to}
+use Rattle.std.proofs.Common.{◌<◌, arith, ◌∙◌}
 use Rattle.srx_edge.proofs.Fronts.{append_next}
 use Rattle.srx_edge.proofs.output.pour.Goals as goal
 

@@ -1,7 +1,5 @@
-use Rattle.std.proofs.Common.{◌≡◌, ◌/◌, ◌%◌, take, drop, slice_index, sym, subst, refl, ap, ◌∙◌}
-use Rattle.srv6_rules.specs.Packet.{Packet, packet_at, four_number, stated_len, IsSpellable}
+use Rattle.srv6_rules.specs.Packet.{packet_at}
 use Rattle.srv6_rules.proofs.Packets.{packet_at-spellable}
-use Rattle.node_stage.specs.PacketView.{packet_view}
 use Rattle.node_stage.proofs.packet.Packet.at_front.Goals as goal
 
 pub invariant_of-result : goal.invariant_of-result

@@ -1,0 +1,17 @@
+pub mod Choices
+pub mod Links
+pub mod Rides
+pub mod Options
+pub mod Executions
+pub mod RideFacts
+pub mod LegLemmas
+pub mod Courses
+pub mod Placing
+pub mod Positions
+pub mod StrictLaws
+pub mod Ways
+pub mod Handing
+pub mod Segments
+pub mod PathsUp
+pub mod PathsDown
+pub mod Realizing

@@ -1,0 +1,5 @@
+pub mod Asking
+pub mod Judging
+pub mod Walking
+pub mod Writable
+pub mod Serving

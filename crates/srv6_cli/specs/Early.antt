@@ -1,0 +1,40 @@
+-- Whether a run ends before its input is read.
+use Rattle.std.specs.Prelude.{◌≡◌, ℕ, List, [], ◌∷◌, ◌++◌, Option, Some, None, Result, Ok, Err, ⊤}
+use Rattle.net_model.specs.Network.{Network}
+use Rattle.srx_edge.specs.Edge.{append_name}
+use Rattle.srv6_cli.specs.declared.refusal.Refusal.{Refusal}
+use Rattle.srv6_cli.specs.Command.{Command, Run, Unknown}
+use Rattle.srv6_cli.specs.Output.{network_in, node_in}
+use Rattle.srx_edge.specs.Edge.{file_named}
+
+-- the node's name is refused
+abbrev pub EndsAtNode : Result ℕ Refusal → Type 0
+EndsAtNode (Ok node) = ⊥
+EndsAtNode (Err refusal) = ⊤
+
+-- the file is refused, or the node's name is
+abbrev pub EndsAtNetwork : Result Network Refusal → List ℕ → Type 0
+EndsAtNetwork (Ok net) name = EndsAtNode (node_in net name)
+EndsAtNetwork (Err refusal) name = ⊤
+
+-- the file isn't held, or it or the node's name is refused
+abbrev pub EndsEarly : Option (List ℕ) → List ℕ → Type 0
+EndsEarly None name = ⊤
+EndsEarly (Some text) name = EndsAtNetwork (network_in text) name
+
+-- the command ends before the input is read
+abbrev pub LeavesInput : Command → List (List ℕ × List ℕ) → Type 0
+LeavesInput (Run file name) files = EndsEarly (file_named files file) name
+LeavesInput Unknown files = ⊤
+
+-- the names asked for, oldest first, with more
+abbrev pub append_names : List (List ℕ) → Option (List (List ℕ)) → Option (List (List ℕ))
+append_names [] asked = asked
+append_names (name ∷ names) asked = append_names names (append_name name asked)
+
+-- a front of the names was asked for, in order, and nothing else
+pub record AsksAtMost (names : List (List ℕ)) (old new : Option (List (List ℕ))) : Type 0 where
+  pub some : List (List ℕ)
+  pub rest : List (List ℕ)
+  pub whole : some ++ rest ≡ names
+  pub asked : new ≡ append_names some old

@@ -1,0 +1,100 @@
+//! The top call.
+
+ghost use Rattle.std.specs.Prelude.{◌≡◌, ◌≢◌, IfSome, IsOk, List, ℕ, Option};
+ghost use Rattle.srx_edge.specs.Edge.{Rose, emptied};
+ghost use Rattle.srv6_cli.specs.Command.{Unknown, command_of, words_of, files_of};
+ghost use Rattle.srv6_cli.specs.Early.{AsksAtMost, LeavesInput, append_names};
+ghost use Rattle.srv6_cli.specs.Halted.{Commanded, FaultIn, HadMemory};
+ghost use Rattle.srv6_cli.specs.Lines.{usage_line};
+ghost use Rattle.srv6_cli.specs.Output.{Output, wanted};
+ghost use Rattle.srv6_cli.specs.Served.{Served, Told, OnOutsideFault, UnlessNoMemory, OnDone, UsageAsAsked};
+
+use crate::halt::Halt;
+use crate::lines::{USAGE, line_of_refusal};
+use crate::run::run;
+use crate::status::Status;
+use crate::walk::write_all;
+use crate::words::{Words, command};
+use srx_edge::{Files, Sink, Source};
+use std::alloc::Global;
+
+/// Writes a command's line on `err`, and answers the status that goes with it.
+fn tell<E: Sink>(err: &mut E, line: &[u8], status: Status) -> Status
+    ensures told { Told status line.now result (E.held err.old) (E.held err.new) }
+    ensures failed { OnOutsideFault result (status ≢ Status.OutsideFault → Rose (E.faults err.old) (E.faults err.new)) }
+{
+    match write_all(err, line) {
+        Ok(()) => status,
+        Err(Halt::NoMemory) => Status::NoMemory,
+        Err(_) => Status::OutsideFault,
+    }
+}
+
+/// Writes how the program is called.
+#[tactic(auto, unfolding(crate::specs::Lines::usage_line))]
+fn tell_usage<E: Sink>(err: &mut E) -> Status
+    ensures told { Told Status.Usage usage_line result (E.held err.old) (E.held err.new) }
+    ensures failed { OnOutsideFault result (Rose (E.faults err.old) (E.faults err.new)) }
+    ensures command { UsageAsAsked Unknown result }
+{
+    tell(err, USAGE, Status::Usage)
+}
+
+/// Ends a command: its line on `err`, or nothing more where it met a fault.
+fn conclude<E: Sink>(alloc: Global, answer: Result<Vec<u8>, Halt>, err: &mut E) -> Status
+    ensures failed { OnOutsideFault result (FaultIn answer (E.faults err.old) (E.faults err.new)) }
+    ensures done { OnDone result (IsOk answer) }
+    ensures memory { UnlessNoMemory result (HadMemory answer) }
+    ensures command { result ≢ Status.Usage }
+    ensures served { (w : Output) (a b : Option (List ℕ)) → Commanded answer w a b → Served w result a b (E.held err.old) (E.held err.new) }
+{
+    match answer {
+        Ok(line) => tell(err, line.as_slice(), Status::Done),
+        Err(Halt::Refused(refusal)) => match line_of_refusal(alloc, refusal) {
+            Ok(line) => tell(err, line.as_slice(), Status::Refused),
+            Err(_) => Status::NoMemory,
+        },
+        Err(Halt::Fault) => Status::OutsideFault,
+        Err(Halt::NoMemory) => Status::NoMemory,
+    }
+}
+
+/// Runs a command: words, files and input to output and a status. The words are those behind the
+/// program's name. After a fault of the outside and after want of memory nothing more is written.
+pub fn serve<F: Files, S: Source, O: Sink, E: Sink>(
+    alloc: Global,
+    words: &[String],
+    files: &mut F,
+    input: &mut S,
+    out: &mut O,
+    err: &mut E,
+) -> Status
+    // With every status but the two faults the output and the status are exactly those that are
+    // wanted; with the two faults each sink has received a front.
+    ensures served { IfSome (F.told files.old) (λ held. IfSome (S.left input.old) (λ bytes.
+        Served (wanted (words_of words.now) held bytes) result (O.held out.old) (O.held out.new) (E.held err.old) (E.held err.new))) }
+    ensures usage { UsageAsAsked (command_of (words_of words.now)) result }
+
+    // A fault comes only where a count of faults rose.
+    ensures fault { OnOutsideFault result (¬ Rose (F.faults files.old) (F.faults files.new) → ¬ Rose (S.faults input.old) (S.faults input.new) →
+        ¬ Rose (O.faults out.old) (O.faults out.new) → ¬ Rose (E.faults err.old) (E.faults err.new) → ⊥) }
+
+    // The files that the command names are asked for, in order, each once, and no others.
+    ensures asks { AsksAtMost (files_of (command_of (words_of words.now))) (F.asked files.old) (F.asked files.new) }
+    ensures asked { UnlessNoMemory result (F.asked files.new ≡ append_names (files_of (command_of (words_of words.now))) (F.asked files.old)) }
+
+    // The input stays as it was where the command ends before it is read, and is read to its end where it is done.
+    ensures unread { IfSome (F.told files.old) (λ held. LeavesInput (command_of (words_of words.now)) held →
+        (S.left input.new ≡ S.left input.old) × (S.faults input.new ≡ S.faults input.old)) }
+    ensures unread_after_fault { F.faults files.new ≢ F.faults files.old →
+        (S.left input.new ≡ S.left input.old) × (S.faults input.new ≡ S.faults input.old) }
+    ensures read_to_end { OnDone result (S.left input.new ≡ emptied (S.left input.old)) }
+{
+    match command(words) {
+        Words::Run { file, node } => {
+            let answer = run(alloc, file, node, files, input, out);
+            conclude(alloc, answer, err)
+        }
+        Words::Unknown => tell_usage(err),
+    }
+}
