@@ -1,6 +1,6 @@
 -- Walks over steps: what a step means, and where the walk stands before and after each.
-use Rattle.std.proofs.Common.{◌≡◌, ℕ, zero, suc, ◌+◌, ◌-◌, ◌<◌, ◌≤◌, Bool, true, false, ◌==◌, ◌&&◌, cond, List, [], ◌∷◌, length, get_or, take, Option, Some, None, refl, sym, ap, ◌∙◌, subst, add-one, arith}
-use Rattle.std.specs.List.{slice_get, list_all, Contains}
+use Rattle.std.proofs.Common.{◌≡◌, ℕ, zero, suc, ◌+◌, true, List, [], ◌∷◌, length, get_or, take, Option, Some, None, refl, sym, ap, subst, add-one, arith}
+use Rattle.std.specs.List.{slice_get, list_all}
 use Rattle.std.specs.Option.{option_and_then, is_some}
 use Rattle.std.proofs.lemmas.Bool.{and_parts, leb-true, eqb-true}
 use Rattle.std.proofs.lemmas.Option.{same_Some, cond_some}

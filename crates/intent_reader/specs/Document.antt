@@ -3,7 +3,6 @@ use Rattle.std.specs.Prelude.{ℕ, Bool, true, false, if◌then◌else◌, List,
 use Rattle.toml.specs.Data.{Data, Members, get_member, as_str}
 use Rattle.srv6_rules.specs.declared.sid.Family.{Family}
 use Rattle.srv6_rules.specs.declared.sid.Family.TheVariants.{V6}
-use Rattle.v6_addr.specs.declared.address.Addr.{Addr}
 use Rattle.net_model.specs.Network.{Network}
 use Rattle.net_reader.specs.Tree.{◌>>=◌, table_with, has_only, needed, optional, array_of, number_at_most}
 use Rattle.net_reader.specs.Description.{address_in, node_in, links_in}
