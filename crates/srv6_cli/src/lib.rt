@@ -13,6 +13,8 @@ mod refusal;
 mod run;
 mod start;
 mod status;
+#[cfg(test)]
+mod tests;
 mod top;
 mod walk;
 mod words;
