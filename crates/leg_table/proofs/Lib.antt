@@ -1,0 +1,13 @@
+pub mod Choices
+pub mod Links
+pub mod Rides
+pub mod Options
+pub mod Executions
+pub mod RideFacts
+pub mod LegLemmas
+pub mod Courses
+pub mod Placing
+pub mod Positions
+pub mod StrictLaws
+pub mod Ways
+pub mod Handing
