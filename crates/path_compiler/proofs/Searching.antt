@@ -1,16 +1,21 @@
 -- The search: marks, what is tried, and paths.
-use Rattle.std.proofs.Common.{◌≡◌, ℕ, zero, suc, ◌+◌, ◌-◌, ◌*◌, ◌<◌, ◌≤◌, ◌⊎◌, inl, inr, Bool, true, false, not, ◌==◌, if◌then◌else◌, List, [], ◌∷◌, ◌++◌, length, get_or, set, Option, Some, None, Result, Ok, Err, replicate, slice_get, Contains, refl, sym, ◌∙◌, ap, subst, arith, add-one, eqb-true, eq-eqb}
+use Rattle.std.proofs.Common.{◌≡◌, ℕ, zero, suc, ◌+◌, ◌-◌, ◌*◌, ◌<◌, ◌≤◌, ◌⊎◌, inl, inr, Bool, true, false, not, ◌==◌, if◌then◌else◌, List, [], ◌∷◌, ◌++◌, length, get_or, set, Option, Some, None, Result, Ok, Err, replicate, slice_get, Contains, All, refl, sym, ◌∙◌, ap, subst, arith, add-one, eqb-true, eq-eqb}
 use Rattle.std.specs.Prelude.{count_by, cond}
 use Rattle.std.specs.Option.{option_map, option_and_then}
 use Rattle.std.proofs.lemmas.Bool.{cases_lt}
 use Rattle.std.proofs.lemmas.List.{length-replicate}
+use Rattle.std.proofs.lemmas.List.Elements.{All-cons, All-nil}
+use Rattle.std.proofs.Math.Nat.{le_refl}
 use Rattle.std.proofs.lemmas.List.Sums.{sum_by-set, count_by-le-length}
 use Rattle.std.proofs.lemmas.Grind.{get_or_default_zero}
 use Rattle.std.proofs.lemmas.Option.{slice_get-get_or, slice_get_within, get_or_from_slice_get}
 use Rattle.leg_table.specs.declared.no_memory.NoMemory.{NoMemory}
 use Rattle.leg_table.specs.declared.types.Leg.{Leg}
-use Rattle.leg_table.specs.Value.{LegsValue, KeepsLaws, IsLegOf, IsFinishOf}
-use Rattle.leg_table.specs.Realizes.{with_leg}
+use Rattle.leg_table.specs.Value.{LegsValue, KeepsLaws, IsSid, legs_value}
+use Rattle.net_model.specs.Network.{Network}
+use Rattle.intent_reader.specs.declared.intent.Intent.{Intent}
+use Rattle.leg_table.specs.Leg.{leg_of}
+use Rattle.leg_table.specs.Realizes.{with_leg, path_need}
 use Rattle.path_compiler.specs.declared.cells.Cell.{Cell}
 use Rattle.path_compiler.specs.declared.find.Found.{Found}
 use Rattle.path_compiler.specs.Paths.{need_through}
@@ -304,3 +309,38 @@ found-all v laws cells before after n (Ok (Some found)) are none long searched =
     let h : length before ≡ n = ap length none ∙ length-replicate n false in
     path-few v found before (omega (arith, are.few)) searched
 found-all v laws cells before after n (Err why) are none long searched = tt
+
+-- the SIDs of a path are SIDs of positions
+pub sids-are : (v : LegsValue) → KeepsLaws v → (position : ℕ) (via : Option ℕ) (sids : List ℕ) (need : ℕ) → need_through v position via sids ≡ Some need
+    → All (IsSid v) sids
+sids-are v laws position via [] need e = absurd (cc)
+sids-are v laws position via (n ∷ []) need e =
+    All-cons (IsSid v) n [] (v.steps, le_refl v.steps, (laws.finish position via n need e).is_next) (All-nil (IsSid v))
+sids-are v laws position via (n ∷ m ∷ more) need e =
+    let T : Type 0 = All (IsSid v) (n ∷ m ∷ more) in
+    let by : (o : Option Leg) → v.leg position via n ≡ o → with_leg o (λ to. need_through v to (Some n) (m ∷ more)) ≡ Some need → T =
+        λ o. elim o as (λ o. v.leg position via n ≡ o → with_leg o (λ to. need_through v to (Some n) (m ∷ more)) ≡ Some need → T) [
+        | None ↦ λ is f. absurd (cc)
+        | Some leg ↦ λ is f.
+            let at = laws.leg position via n leg is in
+            let later : (q : Option ℕ) → need_through v leg.to (Some n) (m ∷ more) ≡ q → option_map (λ (k : ℕ). leg.hops + k) q ≡ Some need → T =
+                λ q. elim q as (λ q. need_through v leg.to (Some n) (m ∷ more) ≡ q → option_map (λ (k : ℕ). leg.hops + k) q ≡ Some need → T) [
+                | None ↦ λ g h. absurd (cc)
+                | Some rest ↦ λ g h. All-cons (IsSid v) n (m ∷ more) (leg.to, at.within, at.is_next) (sids-are v laws leg.to (Some n) (m ∷ more) rest g)
+                ] in
+            later (need_through v leg.to (Some n) (m ∷ more)) refl f
+        ] in
+    by (v.leg position via n) refl e
+
+-- paths over the table of an intent's legs are the intent's
+pub need-is : (net : Network) (intent : Intent) (position : ℕ) (via : Option ℕ) (sids : List ℕ)
+    → need_through (legs_value net intent) position via sids ≡ path_need net intent position via sids
+need-is net intent position via [] = refl
+need-is net intent position via (n ∷ []) = refl
+need-is net intent position via (n ∷ m ∷ more) =
+    let by : (o : Option Leg) → with_leg o (λ to. need_through (legs_value net intent) to (Some n) (m ∷ more)) ≡ with_leg o (λ to. path_need net intent to (Some n) (m ∷ more)) =
+        λ o. elim o as (λ o. with_leg o (λ to. need_through (legs_value net intent) to (Some n) (m ∷ more)) ≡ with_leg o (λ to. path_need net intent to (Some n) (m ∷ more))) [
+        | None ↦ refl
+        | Some leg ↦ ap (option_map (λ (k : ℕ). leg.hops + k)) (need-is net intent leg.to (Some n) (m ∷ more))
+        ] in
+    by (leg_of net intent position via n)
