@@ -11,3 +11,7 @@ pub mod Positions
 pub mod StrictLaws
 pub mod Ways
 pub mod Handing
+pub mod Segments
+pub mod PathsUp
+pub mod PathsDown
+pub mod Realizing

@@ -1,7 +1,8 @@
 -- Lists of segments that realize an intent, and paths of legs.
-use Rattle.std.specs.Prelude.{◌≡◌, ℕ, ◌+◌, ◌-◌, ◌<◌, ◌≤◌, Bool, List, [], ◌∷◌, length, map, Option, Some, None, IsTrue}
+use Rattle.std.specs.Prelude.{◌≡◌, ℕ, ◌+◌, ◌-◌, ◌<◌, ◌≤◌, Bool, List, [], ◌∷◌, length, map, slice_get, slice_index, Option, Some, None, IsTrue}
 use Rattle.std.specs.Option.{option_map, option_and_then}
 use Rattle.srv6_rules.specs.declared.sid.Family.TheVariants as families
+use Rattle.srv6_rules.specs.declared.sid.SidEntry.{SidEntry}
 use Rattle.srv6_rules.specs.Packet.{Packet, Content, V6, IsSpellable}
 use Rattle.srv6_rules.specs.Encapsulation.{Encapsulation, encapsulated, inner_lowered}
 use Rattle.net_model.specs.Network.{Network}
@@ -12,6 +13,7 @@ use Rattle.intent_reader.specs.declared.intent.Intent.{Intent}
 use Rattle.leg_table.specs.declared.types.Leg.{Leg}
 use Rattle.leg_table.specs.Trace.{Handed, handed_over}
 use Rattle.leg_table.specs.Tasks.{matches}
+use Rattle.leg_table.specs.Sids.{sid_address}
 use Rattle.leg_table.specs.Leg.{leg_of, finish_of}
 
 -- where the headend's own packets are looked up
@@ -63,3 +65,13 @@ path_need net intent position via [] = None
 path_need net intent position via (n ∷ []) = finish_of net intent position via n
 path_need net intent position via (n ∷ m ∷ more) =
     with_leg (leg_of net intent position via n) (λ to. path_need net intent to (Some n) (m ∷ more))
+
+-- each of these segments is the first address of a SID's prefix
+abbrev pub AreSidAddresses : Network → List ℕ → Type 0
+AreSidAddresses net segments =
+    (i : ℕ) → i < length segments → (m : ℕ) × (s : SidEntry) × (slice_get net.sids m ≡ Some s) × (s.prefix.value ≡ slice_index segments i)
+
+-- a path of legs and a finish from the start, the first addresses of whose SIDs are these segments, with its need
+pub record IsPathOf (net : Network) (intent : Intent) (segments : List ℕ) (sids : List ℕ) (need : ℕ) : Type 0 where
+  pub names : map (sid_address net) sids ≡ segments
+  pub is_path : path_need net intent 0 None sids ≡ Some need
