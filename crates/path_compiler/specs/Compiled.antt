@@ -2,6 +2,7 @@
 use Rattle.std.specs.Prelude.{◌≡◌, ℕ, ◌<◌, ◌≤◌, Bool, List, [], ◌∷◌, length, map, Option, Some, None, Result, Ok, Err}
 use Rattle.v6_addr.specs.Address.{PrefixValue}
 use Rattle.srv6_rules.specs.Encapsulation.{header_bytes}
+use Rattle.srv6_rules.specs.Packet.{Packet}
 use Rattle.net_model.specs.Network.{Network}
 use Rattle.net_model.specs.Flat.{flatness_of}
 use Rattle.intent_reader.specs.declared.intent.Intent.{Intent}
@@ -9,7 +10,8 @@ use Rattle.leg_table.specs.declared.types.Container.{Container}
 use Rattle.leg_table.specs.declared.types.Container.TheVariants.{Full}
 use Rattle.leg_table.specs.declared.types.Shape.{Shape}
 use Rattle.leg_table.specs.declared.types.Solution.{Solution}
-use Rattle.leg_table.specs.Realizes.{path_need}
+use Rattle.leg_table.specs.Realizes.{path_need, Realizes, AlwaysHandsOver, AreSidAddresses}
+use Rattle.leg_table.specs.Sids.{sid_address}
 use Rattle.leg_table.specs.Table.{shape_of}
 use Rattle.path_compiler.specs.declared.compiled.Compiled.{Compiled}
 use Rattle.path_compiler.specs.declared.compiled.CompileFault.{CompileFault}
@@ -35,15 +37,20 @@ pub record IsListOf (shape : ℕ → Shape) (reduced : Bool) (sids : List ℕ) (
   pub need : c.need ≡ lowerings
   pub solution : IsEmptySolution c.solution
 
--- the list of a path of legs and a finish from the start to the end
+-- the list of a path of legs and a finish from the start to the end, which realizes the intent with this need
 pub record IsFound (net : Network) (intent : Intent) (c : Compiled) : Type 0 where
   pub sids : List ℕ
   pub is_path : path_need net intent 0 None sids ≡ Some c.need
   pub is_list : IsListOf (shape_of net) intent.reduced sids c.need c
+  pub realizes : Realizes net intent (map (sid_address net) sids) c.need
 
--- no SIDs are those of such a path
-abbrev pub HasNoPath : Network → Intent → Type 0
-HasNoPath net intent = (sids : List ℕ) → path_need net intent 0 None sids ≡ None
+-- no SIDs are those of such a path; and no list of first addresses of SIDs hands over even one inner packet at one hop
+-- limit along exactly the steps for all choices, so none realizes the intent
+pub record IsWithoutList (net : Network) (intent : Intent) : Type 0 where
+  pub no_path : (sids : List ℕ) → path_need net intent 0 None sids ≡ None
+  pub none_hands_over : (segments : List ℕ) (inner : Packet) (hop : ℕ) → AreSidAddresses net segments → 0 < length segments → 0 < hop
+    → ¬ AlwaysHandsOver net intent segments inner hop
+  pub none_realizes : (segments : List ℕ) (need : ℕ) → AreSidAddresses net segments → 0 < length segments → ¬ Realizes net intent segments need
 
 -- a list is found in a flat network, and both bounds are kept
 pub record IsCompiled (net : Network) (intent : Intent) (c : Compiled) : Type 0 where
@@ -65,7 +72,7 @@ pub record IsOverHopLimit (net : Network) (intent : Intent) (c : Compiled) : Typ
 
 pub record IsNoList (net : Network) (intent : Intent) (s : Solution) : Type 0 where
   pub flat : flatness_of net ≡ Ok tt
-  pub none : HasNoPath net intent
+  pub none : IsWithoutList net intent
   pub solution : IsEmptySolution s
 
 -- the answer: a network that is not flat is refused first, then an intent without a list, then a list of too many
@@ -80,5 +87,5 @@ CompileAnswers net intent (Err faults.NoMemory) = Unit {0}
 
 -- a list, or that there is none
 abbrev pub ListOrNone : Network → Intent → Option Compiled → Type 0
-ListOrNone net intent None = HasNoPath net intent
+ListOrNone net intent None = IsWithoutList net intent
 ListOrNone net intent (Some c) = IsFound net intent c

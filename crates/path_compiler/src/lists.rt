@@ -2,7 +2,7 @@
 
 ghost use Rattle.std.specs.Prelude.{◌≡◌, ◌≤◌, ◌++◌, All, IfOk, None, Ok};
 ghost use Rattle.srv6_rules.specs.Encapsulation as encapsulation;
-ghost use Rattle.net_model.specs.Flat.{flatness_of};
+ghost use Rattle.net_model.specs.Flat.{IsFlat, flatness_of};
 ghost use Rattle.intent_reader.specs.Rules.{IsIntent};
 ghost use Rattle.leg_table.specs.Value.{IsSid};
 ghost use Rattle.path_compiler.specs.Search.{IsPath};
@@ -72,9 +72,11 @@ fn compiled_of<L: Legs>(alloc: Global, legs: &L, reduced: bool, found: Found) ->
 
 // a list for the intent, where there is one
 fn list_for(alloc: Global, net: &Net, intent: &Intent) -> Result<Option<Compiled>, NoMemory>
-    requires { IsIntent net.now intent.now }
+    requires flat { IsFlat net.now }
+    requires intent { IsIntent net.now intent.now }
     ensures { IfOk result (ListOrNone net.now intent.now) }
 {
+    net.keeps_rules();
     let legs = StrictLegs::build(alloc, net, intent)?;
     match find(alloc, &legs)? {
         Some(found) => Ok(Some(compiled_of(alloc, &legs, intent.reduced, found)?)),
