@@ -15,3 +15,4 @@ pub mod Segments
 pub mod PathsUp
 pub mod PathsDown
 pub mod Realizing
+pub mod Traces

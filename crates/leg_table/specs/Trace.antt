@@ -59,3 +59,16 @@ handed_first net gave (outcomes.Drop reason) later = None
 abbrev pub handed_over : Network → List walks.Step → Option Handed
 handed_over net [] = None
 handed_over net (s ∷ ss) = handed_first net s.gave s.gave.outcome (handed_over net ss)
+
+-- what follows a stage in the stages up to and with the first hand-over
+abbrev pub behind_stage : Outcome → List walks.Step → List walks.Step
+behind_stage (outcomes.Hand n how family) later = []
+behind_stage (outcomes.Again n how) later = later
+behind_stage (outcomes.Send link) later = later
+behind_stage outcomes.Local later = later
+behind_stage (outcomes.Drop reason) later = later
+
+-- the stages up to and with the first hand-over
+abbrev pub through_hand : List walks.Step → List walks.Step
+through_hand [] = []
+through_hand (s ∷ ss) = s ∷ behind_stage s.gave.outcome (through_hand ss)

@@ -16,6 +16,7 @@ ghost use Rattle.intent_reader.specs.declared.intent.Intent.{Intent};
 ghost use Rattle.leg_table.specs.declared.types.Leg.{Leg};
 ghost use Rattle.leg_table.specs.Leg.{leg_of, IsLeg, finish_of, IsFinish};
 ghost use Rattle.leg_table.specs.Sids.{sid_address, sids_of, AreSidsAt};
+ghost use Rattle.leg_table.specs.Trace.{Handed, handed_over, trace_of, through_hand};
 ghost use Rattle.leg_table.specs.Realizes.{path_need, Realizes, AlwaysHandsOver, AreSidAddresses, IsPathOf};
 ghost use Rattle.net_model.specs.Flat.{IsFlat};
 
@@ -76,4 +77,11 @@ pub fn a_list_that_always_hands_over_is_a_path()
         IsNetwork net → IsFlat net → IsIntent net intent → AreSidAddresses net segments → 0 < length segments → 0 < hop →
         AlwaysHandsOver net intent segments inner hop →
         (sids : List ℕ) × (need : ℕ) × IsPathOf net intent segments sids need × (need < hop) }
+{}
+
+/// The trace that comes with what stages hand over is that of the stages up to and with the first
+/// hand-over.
+pub fn what_is_handed_over_has_its_trace()
+    ensures { (net : Network) (stages : List walks.Step) (h : Handed) → handed_over net stages ≡ Some h →
+        h.trace ≡ trace_of net (through_hand stages) }
 {}
