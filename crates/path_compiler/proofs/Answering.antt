@@ -23,9 +23,9 @@ pub found-is : (net : Network) (intent : Intent) (t : LegTable) (o : Option Foun
 found-is net intent t o f c network flat is_intent e found some list =
     let path : IsPath (legs_value t.net t.intent) 0 None f 6273 = subst (λ (p : Option Found). Finds (legs_value t.net t.intent) (Ok p)) some found in
     let here : need_through (legs_value net intent) 0 None f.sids.items ≡ Some f.need =
-        subst (λ (u : LegTable). need_through (legs_value u.net u.intent) 0 None f.sids.items ≡ Some f.need) e path.is_path in
+    subst (λ (u : LegTable). need_through (legs_value u.net u.intent) 0 None f.sids.items ≡ Some f.need) e path.is_path in
     let it : IsListOf (shape_of net) intent.reduced f.sids.items f.need c =
-        subst (λ (u : LegTable). IsListOf (shape_of u.net) intent.reduced f.sids.items f.need c) e list in
+    subst (λ (u : LegTable). IsListOf (shape_of u.net) intent.reduced f.sids.items f.need c) e list in
     let need : path_need net intent 0 None f.sids.items ≡ Some c.need = sym (need-is net intent 0 None f.sids.items) ∙ here ∙ ap Some (sym it.need) in
     record {
       sids = f.sids.items;
@@ -38,7 +38,7 @@ none-path : (net : Network) (intent : Intent) (t : LegTable) (o : Option Found) 
     → Finds (legs_value t.net t.intent) (Ok o) → o ≡ None → (sids : List ℕ) → path_need net intent 0 None sids ≡ None
 none-path net intent t o e found none sids =
     let all : (sids : List ℕ) → need_through (legs_value t.net t.intent) 0 None sids ≡ None =
-        subst (λ (p : Option Found). Finds (legs_value t.net t.intent) (Ok p)) none found in
+    subst (λ (p : Option Found). Finds (legs_value t.net t.intent) (Ok p)) none found in
     sym (need-is net intent 0 None sids) ∙ subst (λ (u : LegTable). need_through (legs_value u.net u.intent) 0 None sids ≡ None) e (all sids)
 
 -- a packet without a payload, to try lists with
@@ -49,7 +49,13 @@ small-spellable : IsSpellable small-packet
 unfolding small-packet
 small-spellable =
     record {
-      traffic_class = lit< tt; flow_label = lit< tt; next_header = lit< tt; hop_limit = lit< tt; source = lit< tt; destination = lit< tt; payload_len = lit< tt;
+      traffic_class = lit< tt;
+      flow_label = lit< tt;
+      next_header = lit< tt;
+      hop_limit = lit< tt;
+      source = lit< tt;
+      destination = lit< tt;
+      payload_len = lit< tt;
       payload = λ k d h. absurd (omega arith);
     }
 
@@ -62,12 +68,12 @@ pub none-is : (net : Network) (intent : Intent) (t : LegTable) (o : Option Found
 none-is net intent t o network flat is_intent e found none =
     let no = none-path net intent t o e found none in
     let never : (segments : List ℕ) (inner : Packet) (hop : ℕ) → AreSidAddresses net segments → 0 < length segments → 0 < hop
-        → AlwaysHandsOver net intent segments inner hop → ⊥ =
-        λ segments inner hop are some above always.
-        let p = list-path net intent segments inner hop network flat is_intent are some above always in
-        let one : path_need net intent 0 None p.0 ≡ Some p.1 = p.2.is_path in
-        let zero : path_need net intent 0 None p.0 ≡ None = no p.0 in
-        cc in
+    → AlwaysHandsOver net intent segments inner hop → ⊥ =
+    λ segments inner hop are some above always.
+    let p = list-path net intent segments inner hop network flat is_intent are some above always in
+    let one : path_need net intent 0 None p.0 ≡ Some p.1 = p.2.is_path in
+    let zero : path_need net intent 0 None p.0 ≡ None = no p.0 in
+    cc in
     record {
       no_path = no;
       none_hands_over = never;

@@ -35,10 +35,10 @@ last-more v laws count cells h are =
     record {
       each = λ position n within above c.
           elim (order position (v.steps - count) (omega arith)) as (λ w. Contains (cells ++ map (cell_at (v.steps - count)) (v.sids_at (v.steps - count))) (cell_at position n)) [
-          | inl same ↦
-              Contains-append_right cells _ (cell_at position n)
-              (subst (λ (p : ℕ). Contains (map (cell_at p) (v.sids_at p)) (cell_at position n)) same (mapped (cell_at position) (v.sids_at position) n c))
-          | inr more ↦ Contains-append_left cells _ (cell_at position n) (are.each position n within (omega arith) c)
+            | inl same ↦
+                Contains-append_right cells _ (cell_at position n)
+                (subst (λ (p : ℕ). Contains (map (cell_at p) (v.sids_at p)) (cell_at position n)) same (mapped (cell_at position) (v.sids_at position) n c))
+            | inr more ↦ Contains-append_left cells _ (cell_at position n) (are.each position n within (omega arith) c)
           ];
       few = omega (arith, length-append cells (map (cell_at (v.steps - count)) (v.sids_at (v.steps - count))), long, few, are.few);
     }
@@ -51,6 +51,6 @@ pub last-turn : (v : LegsValue) → KeepsLaws v → (steps count : ℕ) (sids : 
     → sids ≡ v.sids_at (steps - count) → more ≡ cells ++ map (cell_at (steps - count)) sids → AreLastCells v count cells → AreLastCells v (count + 1) more
 last-turn v laws steps count sids cells more same h row e are =
     let here : more ≡ cells ++ map (cell_at (v.steps - count)) (v.sids_at (v.steps - count)) =
-        e ∙ ap (λ (xs : List ℕ). cells ++ map (cell_at (steps - count)) xs) row
-        ∙ ap (λ (n : ℕ). cells ++ map (cell_at (n - count)) (v.sids_at (n - count))) same in
+    e ∙ ap (λ (xs : List ℕ). cells ++ map (cell_at (steps - count)) xs) row
+    ∙ ap (λ (n : ℕ). cells ++ map (cell_at (n - count)) (v.sids_at (n - count))) same in
     subst (λ (xs : List Cell). AreLastCells v (count + 1) xs) (sym here) (last-more v laws count cells (omega arith) are)

@@ -82,15 +82,15 @@ trying-skip v cells before after position via count cell at trying either =
       no_finish = trying.no_finish;
       legs = λ k n leg h e here.
           elim (up-to k count h) as (λ w. slice_get after k ≡ Some true) [
-          | inl less ↦ trying.legs k n leg less e here
-          | inr same ↦
-              elim either as (λ w. slice_get after k ≡ Some true) [
-              | inl marked ↦ subst (λ (j : ℕ). slice_get after j ≡ Some true) (sym same) marked
-              | inr none ↦
-                  let it : Some cell ≡ Some (cell_at leg.to n) = sym at ∙ subst (λ (j : ℕ). slice_get cells j ≡ Some (cell_at leg.to n)) same here in
-                  let c : cell ≡ cell_at leg.to n = cc in
-                  absurd (no-leg v position via cell n leg none e c)
-              ]
+            | inl less ↦ trying.legs k n leg less e here
+            | inr same ↦
+                elim either as (λ w. slice_get after k ≡ Some true) [
+                  | inl marked ↦ subst (λ (j : ℕ). slice_get after j ≡ Some true) (sym same) marked
+                  | inr none ↦
+                      let it : Some cell ≡ Some (cell_at leg.to n) = sym at ∙ subst (λ (j : ℕ). slice_get cells j ≡ Some (cell_at leg.to n)) same here in
+                      let c : cell ≡ cell_at leg.to n = cc in
+                      absurd (no-leg v position via cell n leg none e c)
+                ]
           ];
       grows = trying.grows;
       is_new = trying.is_new;
@@ -108,25 +108,25 @@ trying-more v cells before marks after position via count cell at within none tr
       no_finish = trying.no_finish;
       legs = λ k n leg h e is.
           elim (up-to k count h) as (λ w. slice_get after k ≡ Some true) [
-          | inl less ↦ grows k (trying.legs k n leg less e is)
-          | inr same ↦ subst (λ (j : ℕ). slice_get after j ≡ Some true) (sym same) here
+            | inl less ↦ grows k (trying.legs k n leg less e is)
+            | inr same ↦ subst (λ (j : ℕ). slice_get after j ≡ Some true) (sym same) here
           ];
       grows = λ k e. grows k (trying.grows k e);
       is_new = λ k c is e.
           elim (tried.is_new k c is e) as (λ w. (slice_get before k ≡ Some true) ⊎ IsClosed v cells after c.position (Some c.sid)) [
-          | inl set_ ↦
-              elim (set-cases marks count k set_) as (λ w. (slice_get before k ≡ Some true) ⊎ IsClosed v cells after c.position (Some c.sid)) [
-              | inl marked ↦
-                  elim (trying.is_new k c is marked) as (λ w. (slice_get before k ≡ Some true) ⊎ IsClosed v cells after c.position (Some c.sid)) [
-                  | inl old ↦ inl old
-                  | inr closed ↦ inr (closed-grows v cells marks after c.position (Some c.sid) grows closed)
-                  ]
-              | inr same ↦
-                  let it : Some cell ≡ Some c = sym at ∙ subst (λ (j : ℕ). slice_get cells j ≡ Some c) same is in
-                  let e : cell ≡ c = cc in
-                  inr (subst (λ (d : Cell). IsClosed v cells after d.position (Some d.sid)) e tried.closed)
-              ]
-          | inr closed ↦ inr closed
+            | inl set_ ↦
+                elim (set-cases marks count k set_) as (λ w. (slice_get before k ≡ Some true) ⊎ IsClosed v cells after c.position (Some c.sid)) [
+                  | inl marked ↦
+                      elim (trying.is_new k c is marked) as (λ w. (slice_get before k ≡ Some true) ⊎ IsClosed v cells after c.position (Some c.sid)) [
+                        | inl old ↦ inl old
+                        | inr closed ↦ inr (closed-grows v cells marks after c.position (Some c.sid) grows closed)
+                      ]
+                  | inr same ↦
+                      let it : Some cell ≡ Some c = sym at ∙ subst (λ (j : ℕ). slice_get cells j ≡ Some c) same is in
+                      let e : cell ≡ c = cc in
+                      inr (subst (λ (d : Cell). IsClosed v cells after d.position (Some d.sid)) e tried.closed)
+                ]
+            | inr closed ↦ inr closed
           ];
       fewer = omega (arith, one, tried.fewer, trying.fewer);
     }
@@ -136,10 +136,10 @@ pub trying-end : (v : LegsValue) (cells : List Cell) (before after : List Bool) 
 trying-end v cells before after position via count h trying =
     record {
       closed =
-        record {
-          no_finish = trying.no_finish;
-          legs = λ n leg e k at. let w = slice_get_within cells k (cell_at leg.to n) at in trying.legs k n leg (omega arith) e at;
-        };
+          record {
+            no_finish = trying.no_finish;
+            legs = λ n leg e k at. let w = slice_get_within cells k (cell_at leg.to n) at in trying.legs k n leg (omega arith) e at;
+          };
       grows = trying.grows;
       is_new = trying.is_new;
       fewer = trying.fewer;
@@ -150,10 +150,10 @@ leg-none : (v : LegsValue) (position : ℕ) (via : Option ℕ) (n : ℕ) (later 
     → with_leg (v.leg position via n) later ≡ None
 leg-none v position via n later h =
     let by : (o : Option Leg) → v.leg position via n ≡ o → with_leg o later ≡ None =
-        λ o. elim o as (λ o. v.leg position via n ≡ o → with_leg o later ≡ None) [
-        | None ↦ λ e. refl
-        | Some leg ↦ λ e. ap (option_map (λ (m : ℕ). leg.hops + m)) (h leg e)
-        ] in
+    λ o. elim o as (λ o. v.leg position via n ≡ o → with_leg o later ≡ None) [
+      | None ↦ λ e. refl
+      | Some leg ↦ λ e. ap (option_map (λ (m : ℕ). leg.hops + m)) (h leg e)
+    ] in
     by (v.leg position via n) refl
 
 pub closed-none : (v : LegsValue) → KeepsLaws v → (cells : List Cell) (marks : List Bool) → AreCells v cells
@@ -163,9 +163,9 @@ closed-none v laws cells marks are all position via [] closed = refl
 closed-none v laws cells marks are all position via (n ∷ []) closed = closed.no_finish n
 closed-none v laws cells marks are all position via (n ∷ m ∷ more) closed =
     leg-none v position via n (λ to. need_through v to (Some n) (m ∷ more)) (λ leg e.
-      let is = laws.leg position via n leg e in
-      let at = place_of cells (cell_at leg.to n) (are.each leg.to n is.within is.is_next) in
-      closed-none v laws cells marks are all leg.to (Some n) (m ∷ more) (all at.0 (cell_at leg.to n) at.1 (closed.legs n leg e at.0 at.1)))
+    let is = laws.leg position via n leg e in
+    let at = place_of cells (cell_at leg.to n) (are.each leg.to n is.within is.is_next) in
+    closed-none v laws cells marks are all leg.to (Some n) (m ∷ more) (all at.0 (cell_at leg.to n) at.1 (closed.legs n leg e at.0 at.1)))
 
 -- paths
 some-hops : (v : LegsValue) (position : ℕ) (via : Option ℕ) (cell : Cell) (hops : ℕ) → hops_into v position via cell ≡ Some hops
@@ -173,16 +173,16 @@ some-hops : (v : LegsValue) (position : ℕ) (via : Option ℕ) (cell : Cell) (h
 some-hops v position via cell hops e =
     let T : Type 0 = (leg : Leg) × (v.leg position via cell.sid ≡ Some leg) × (leg.to ≡ cell.position) × (leg.hops ≡ hops) in
     let by : (o : Option Leg) → v.leg position via cell.sid ≡ o → option_and_then (hops_to cell.position) o ≡ Some hops → T =
-        λ o. elim o as (λ o. v.leg position via cell.sid ≡ o → option_and_then (hops_to cell.position) o ≡ Some hops → T) [
-        | None ↦ λ is f. absurd (cc)
-        | Some leg ↦ λ is f.
-            let test : (b : Bool) → (leg.to == cell.position) ≡ b → (if b then Some leg.hops else None) ≡ Some hops → T =
-                λ b. elim b as (λ b. (leg.to == cell.position) ≡ b → (if b then Some leg.hops else None) ≡ Some hops → T) [
-                | true ↦ λ same g. let h : leg.hops ≡ hops = cc in (leg, is, eqb-true leg.to cell.position same, h)
-                | false ↦ λ same g. absurd (cc)
-                ] in
-            test (leg.to == cell.position) refl f
-        ] in
+    λ o. elim o as (λ o. v.leg position via cell.sid ≡ o → option_and_then (hops_to cell.position) o ≡ Some hops → T) [
+      | None ↦ λ is f. absurd (cc)
+      | Some leg ↦ λ is f.
+          let test : (b : Bool) → (leg.to == cell.position) ≡ b → (if b then Some leg.hops else None) ≡ Some hops → T =
+          λ b. elim b as (λ b. (leg.to == cell.position) ≡ b → (if b then Some leg.hops else None) ≡ Some hops → T) [
+            | true ↦ λ same g. let h : leg.hops ≡ hops = cc in (leg, is, eqb-true leg.to cell.position same, h)
+            | false ↦ λ same g. absurd (cc)
+          ] in
+          test (leg.to == cell.position) refl f
+    ] in
     by (v.leg position via cell.sid) refl e
 
 through-leg : (v : LegsValue) (position : ℕ) (via : Option ℕ) (n : ℕ) (leg : Leg) (sids : List ℕ) (need : ℕ) → v.leg position via n ≡ Some leg
@@ -197,7 +197,7 @@ pub path-more : (v : LegsValue) (position : ℕ) (via : Option ℕ) (cell : Cell
 path-more v position via cell hops few most found longer e small less sids need path =
     let leg = some-hops v position via cell hops e in
     let there : need_through v leg.0.to (Some cell.sid) found.sids.items ≡ Some found.need =
-        subst (λ (p : ℕ). need_through v p (Some cell.sid) found.sids.items ≡ Some found.need) (sym leg.2) path.is_path in
+    subst (λ (p : ℕ). need_through v p (Some cell.sid) found.sids.items ≡ Some found.need) (sym leg.2) path.is_path in
     let all = through-leg v position via cell.sid leg.0 found.sids.items found.need leg.1 there in
     let sum : leg.0.hops + found.need ≡ longer.need = ap (λ (h : ℕ). h + found.need) leg.3 ∙ sym need in
     record {
@@ -211,14 +211,14 @@ pub no-finish : (v : LegsValue) → KeepsLaws v → (position : ℕ) (via : Opti
     → ((k : ℕ) → k < length sids → v.finish position via (get_or sids k 0) ≡ None) → (n : ℕ) → v.finish position via n ≡ None
 no-finish v laws position via sids are none n =
     let by : (o : Option ℕ) → v.finish position via n ≡ o → v.finish position via n ≡ None =
-        λ o. elim o as (λ o. v.finish position via n ≡ o → v.finish position via n ≡ None) [
-        | None ↦ λ e. e
-        | Some lowered ↦ λ e.
-            let is = (laws.finish position via n lowered e).is_next in
-            let here = subst (λ (xs : List ℕ). Contains xs n) (sym are) is in
-            let same : get_or sids here.0 0 ≡ n = sym (get_or_default_zero sids here.0 n here.1) ∙ here.2 in
-            subst (λ (m : ℕ). v.finish position via m ≡ None) same (none here.0 here.1)
-        ] in
+    λ o. elim o as (λ o. v.finish position via n ≡ o → v.finish position via n ≡ None) [
+      | None ↦ λ e. e
+      | Some lowered ↦ λ e.
+          let is = (laws.finish position via n lowered e).is_next in
+          let here = subst (λ (xs : List ℕ). Contains xs n) (sym are) is in
+          let same : get_or sids here.0 0 ≡ n = sym (get_or_default_zero sids here.0 n here.1) ∙ here.2 in
+          subst (λ (m : ℕ). v.finish position via m ≡ None) same (none here.0 here.1)
+    ] in
     by (v.finish position via n) refl
 
 pub unmarked-few : (marks : List Bool) → unmarked marks ≤ length marks
@@ -233,20 +233,20 @@ no-way : (v : LegsValue) (marks : List Bool) (k : ℕ) (position : ℕ) (via : O
     → way_into v (get_or marks k false) position via cell ≡ None → (slice_get marks k ≡ Some true) ⊎ (hops_into v position via cell ≡ None)
 no-way v marks k position via cell h none =
     let by : (b : Bool) → get_or marks k false ≡ b → way_into v b position via cell ≡ None → (slice_get marks k ≡ Some true) ⊎ (hops_into v position via cell ≡ None) =
-        λ b. elim b as (λ b. get_or marks k false ≡ b → way_into v b position via cell ≡ None → (slice_get marks k ≡ Some true) ⊎ (hops_into v position via cell ≡ None)) [
-        | true ↦ λ e f. inl (slice_get-get_or marks k false h ∙ ap Some e)
-        | false ↦ λ e f. inr f
-        ] in
+    λ b. elim b as (λ b. get_or marks k false ≡ b → way_into v b position via cell ≡ None → (slice_get marks k ≡ Some true) ⊎ (hops_into v position via cell ≡ None)) [
+      | true ↦ λ e f. inl (slice_get-get_or marks k false h ∙ ap Some e)
+      | false ↦ λ e f. inr f
+    ] in
     by (get_or marks k false) refl none
 
 pub some-way : (v : LegsValue) (marks : List Bool) (k : ℕ) (position : ℕ) (via : Option ℕ) (cell : Cell) (hops : ℕ)
     → way_into v (get_or marks k false) position via cell ≡ Some hops → (get_or marks k false ≡ false) × (hops_into v position via cell ≡ Some hops)
 some-way v marks k position via cell hops some =
     let by : (b : Bool) → get_or marks k false ≡ b → way_into v b position via cell ≡ Some hops → (get_or marks k false ≡ false) × (hops_into v position via cell ≡ Some hops) =
-        λ b. elim b as (λ b. get_or marks k false ≡ b → way_into v b position via cell ≡ Some hops → (get_or marks k false ≡ false) × (hops_into v position via cell ≡ Some hops)) [
-        | true ↦ λ e f. absurd (cc)
-        | false ↦ λ e f. (e, f)
-        ] in
+    λ b. elim b as (λ b. get_or marks k false ≡ b → way_into v b position via cell ≡ Some hops → (get_or marks k false ≡ false) × (hops_into v position via cell ≡ Some hops)) [
+      | true ↦ λ e f. absurd (cc)
+      | false ↦ λ e f. (e, f)
+    ] in
     by (get_or marks k false) refl some
 
 -- a turn of the search over the cells
@@ -266,8 +266,8 @@ pub turn-more : (v : LegsValue) (cells : List Cell) (before marks after : List B
 turn-more v cells before marks after position via k hops found h long some trying none searched =
     let way = some-way v marks k position via (get_or cells k (cell_at 0 0)) hops some in
     let tried : IsTried v cells (set marks k true) after (get_or cells k (cell_at 0 0)).position (Some (get_or cells k (cell_at 0 0)).sid) =
-        subst (λ (o : Option Found). Searched v cells (set marks k true) after (get_or cells k (cell_at 0 0)).position (Some (get_or cells k (cell_at 0 0)).sid) (Ok o))
-        none searched in
+    subst (λ (o : Option Found). Searched v cells (set marks k true) after (get_or cells k (cell_at 0 0)).position (Some (get_or cells k (cell_at 0 0)).sid) (Ok o))
+    none searched in
     trying-more v cells before marks after position via k (get_or cells k (cell_at 0 0)) (cell-at cells k h) (omega arith) way.0 trying tried
 
 -- a path found behind a leg
@@ -319,17 +319,17 @@ sids-are v laws position via (n ∷ []) need e =
 sids-are v laws position via (n ∷ m ∷ more) need e =
     let T : Type 0 = All (IsSid v) (n ∷ m ∷ more) in
     let by : (o : Option Leg) → v.leg position via n ≡ o → with_leg o (λ to. need_through v to (Some n) (m ∷ more)) ≡ Some need → T =
-        λ o. elim o as (λ o. v.leg position via n ≡ o → with_leg o (λ to. need_through v to (Some n) (m ∷ more)) ≡ Some need → T) [
-        | None ↦ λ is f. absurd (cc)
-        | Some leg ↦ λ is f.
-            let at = laws.leg position via n leg is in
-            let later : (q : Option ℕ) → need_through v leg.to (Some n) (m ∷ more) ≡ q → option_map (λ (k : ℕ). leg.hops + k) q ≡ Some need → T =
-                λ q. elim q as (λ q. need_through v leg.to (Some n) (m ∷ more) ≡ q → option_map (λ (k : ℕ). leg.hops + k) q ≡ Some need → T) [
-                | None ↦ λ g h. absurd (cc)
-                | Some rest ↦ λ g h. All-cons (IsSid v) n (m ∷ more) (leg.to, at.within, at.is_next) (sids-are v laws leg.to (Some n) (m ∷ more) rest g)
-                ] in
-            later (need_through v leg.to (Some n) (m ∷ more)) refl f
-        ] in
+    λ o. elim o as (λ o. v.leg position via n ≡ o → with_leg o (λ to. need_through v to (Some n) (m ∷ more)) ≡ Some need → T) [
+      | None ↦ λ is f. absurd (cc)
+      | Some leg ↦ λ is f.
+          let at = laws.leg position via n leg is in
+          let later : (q : Option ℕ) → need_through v leg.to (Some n) (m ∷ more) ≡ q → option_map (λ (k : ℕ). leg.hops + k) q ≡ Some need → T =
+          λ q. elim q as (λ q. need_through v leg.to (Some n) (m ∷ more) ≡ q → option_map (λ (k : ℕ). leg.hops + k) q ≡ Some need → T) [
+            | None ↦ λ g h. absurd (cc)
+            | Some rest ↦ λ g h. All-cons (IsSid v) n (m ∷ more) (leg.to, at.within, at.is_next) (sids-are v laws leg.to (Some n) (m ∷ more) rest g)
+          ] in
+          later (need_through v leg.to (Some n) (m ∷ more)) refl f
+    ] in
     by (v.leg position via n) refl e
 
 -- paths over the table of an intent's legs are the intent's
@@ -339,8 +339,8 @@ need-is net intent position via [] = refl
 need-is net intent position via (n ∷ []) = refl
 need-is net intent position via (n ∷ m ∷ more) =
     let by : (o : Option Leg) → with_leg o (λ to. need_through (legs_value net intent) to (Some n) (m ∷ more)) ≡ with_leg o (λ to. path_need net intent to (Some n) (m ∷ more)) =
-        λ o. elim o as (λ o. with_leg o (λ to. need_through (legs_value net intent) to (Some n) (m ∷ more)) ≡ with_leg o (λ to. path_need net intent to (Some n) (m ∷ more))) [
-        | None ↦ refl
-        | Some leg ↦ ap (option_map (λ (k : ℕ). leg.hops + k)) (need-is net intent leg.to (Some n) (m ∷ more))
-        ] in
+    λ o. elim o as (λ o. with_leg o (λ to. need_through (legs_value net intent) to (Some n) (m ∷ more)) ≡ with_leg o (λ to. path_need net intent to (Some n) (m ∷ more))) [
+      | None ↦ refl
+      | Some leg ↦ ap (option_map (λ (k : ℕ). leg.hops + k)) (need-is net intent leg.to (Some n) (m ∷ more))
+    ] in
     by (leg_of net intent position via n)

@@ -17,7 +17,12 @@ pub struct Found {
 }
 
 // a finish from a state, where there is one
-fn last_hop<L: Legs>(alloc: Global, legs: &L, position: u32, via: Option<u32>) -> Result<Option<Found>, NoMemory>
+fn last_hop<L: Legs>(
+    alloc: Global,
+    legs: &L,
+    position: u32,
+    via: Option<u32>,
+) -> Result<Option<Found>, NoMemory>
     ensures { IfOk result (LastHop (L.seen legs.now) position via) }
 {
     for n in legs.sids_at(legs.steps()) {
@@ -34,7 +39,13 @@ fn last_hop<L: Legs>(alloc: Global, legs: &L, position: u32, via: Option<u32>) -
 }
 
 // the hops of the leg into a cell that has no mark, where there is one
-fn way_into<L: Legs>(legs: &L, has_mark: bool, position: u32, via: Option<u32>, cell: Cell) -> Option<u32>
+fn way_into<L: Legs>(
+    legs: &L,
+    has_mark: bool,
+    position: u32,
+    via: Option<u32>,
+    cell: Cell,
+) -> Option<u32>
     ensures value { result ≡ way_into (L.seen legs.now) has_mark position via cell }
     ensures few { IfSome result (λ hops. hops ≤ 1000) }
 {
@@ -62,7 +73,14 @@ fn behind_leg(found: Found, sid: u32, hops: u32) -> Result<Found, NoMemory>
 }
 
 // a path from a state to the end; where there is none, each state that is come to is tried once, and its cell marked
-fn search<L: Legs>(alloc: Global, legs: &L, cells: &[Cell], marks: &mut [bool], position: u32, via: Option<u32>) -> Result<Option<Found>, NoMemory>
+fn search<L: Legs>(
+    alloc: Global,
+    legs: &L,
+    cells: &[Cell],
+    marks: &mut [bool],
+    position: u32,
+    via: Option<u32>,
+) -> Result<Option<Found>, NoMemory>
     requires fits { length marks.old ≡ length cells.now }
     requires few { length cells.now ≤ 6272 }
     ensures { Searched (L.seen legs.now) cells.now marks.old marks.new position via result }

@@ -7,11 +7,11 @@
 #![tactic(auto)]
 
 mod cells;
-
 mod compiled;
 mod find;
 mod lists;
-
+#[cfg(test)]
+mod tests;
 
 pub use compiled::{CompileFault, Compiled};
 pub use lists::compile;

@@ -11,7 +11,9 @@ ghost use Rattle.path_compiler.specs.Compiled.{CompileAnswers, IsEmptySolution, 
 use crate::compiled::{CompileFault, Compiled};
 use crate::find::{Found, find};
 use intent_reader::Intent;
-use leg_table::{Container, Legs, NoMemory, PathSteps, Potentials, Prefixes, SidList, Solution, StrictLegs};
+use leg_table::{
+    Container, Legs, NoMemory, PathSteps, Potentials, Prefixes, SidList, Solution, StrictLegs,
+};
 use net_model::{Net, compilable};
 use std::alloc::Global;
 
@@ -54,7 +56,12 @@ fn list_of<L: Legs>(alloc: Global, legs: &L, sids: &[u32]) -> Result<SidList, No
 }
 
 // the list of a path, with its numbers
-fn compiled_of<L: Legs>(alloc: Global, legs: &L, reduced: bool, found: Found) -> Result<Compiled, NoMemory>
+fn compiled_of<L: Legs>(
+    alloc: Global,
+    legs: &L,
+    reduced: bool,
+    found: Found,
+) -> Result<Compiled, NoMemory>
     requires { IsPath (L.seen legs.now) 0 None found 6273 }
     ensures { IfOk result (IsListOf (L.seen legs.now).shape reduced found.sids.items found.need) }
 {
