@@ -1,1 +1,5 @@
 pub mod Rules
+pub mod Functions
+pub mod Document
+pub mod Reading
+pub mod Keeps

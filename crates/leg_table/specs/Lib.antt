@@ -1,0 +1,10 @@
+pub mod Trace
+pub mod Tasks
+pub mod Choices
+pub mod Ride
+pub mod Sids
+pub mod Leg
+pub mod Table
+pub mod Value
+pub mod Course
+pub mod Realizes

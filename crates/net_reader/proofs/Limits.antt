@@ -1,5 +1,5 @@
 -- A description with more nodes, links or SIDs than the rules allow gives no network.
-use Rattle.std.proofs.Common.{◌≡◌, ℕ, ◌<◌, Bool, true, false, ◌&&◌, nat_le, cond, List, length, Option, Some, None, refl, sym, arith}
+use Rattle.std.proofs.Common.{◌≡◌, ◌<◌, Bool, true, false, ◌&&◌, nat_le, cond, List, length, Option, Some, None, refl, sym, arith}
 use Rattle.std.specs.Prelude.{codes}
 use Rattle.std.proofs.lemmas.Bool.Decides.{nat_tests}
 use Rattle.toml.specs.Data.{Members}
@@ -7,7 +7,7 @@ use Rattle.net_model.specs.declared.parts.Node.{Node}
 use Rattle.net_model.specs.declared.parts.Link.{Link}
 use Rattle.net_model.specs.declared.parts.Route.{Route}
 use Rattle.net_model.specs.Network.{Network}
-use Rattle.net_model.specs.Rules.{is_network, keeps_nodes, keeps_links, keeps_routes, keeps_titles}
+use Rattle.net_model.specs.Rules.{is_network, keeps_nodes}
 use Rattle.net_reader.specs.declared.described.DescribedSid.{DescribedSid}
 use Rattle.net_reader.specs.Tree.{◌>>=◌, each_at}
 use Rattle.net_reader.specs.Description.{node_of, link_of, route_of, sid_of, titles_of, numbered, if_kept, network_with, is_plain, network_of_document}

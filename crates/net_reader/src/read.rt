@@ -16,14 +16,16 @@ use net_model::{Link, Net, NetParts, Node};
 use std::alloc::{AllocError, Global};
 use toml::Table;
 
+/// More nodes than these break the rules of a network, and so do more links or SIDs: with so few, their
+/// numbers fit.
 const MOST_NODES: usize = 256;
 
 const MOST_LINKS: usize = 4096;
 
 const MOST_SIDS: usize = 4096;
 
-/// The document that a text is, if it is TOML.
-fn document(alloc: Global, text: &[u8]) -> Result<Option<Table>, AllocError>
+/// The document that a text is; `None` exactly where the bytes are not UTF-8 or not TOML.
+pub fn document(alloc: Global, text: &[u8]) -> Result<Option<Table>, AllocError>
     ensures { IfOk result (λ r. option_map (λ t. table_view t) r ≡ document_of text.now) }
 {
     let Ok(text) = std::str::from_utf8(text) else {
@@ -45,8 +47,8 @@ fn is_plain(root: &Table) -> bool
         && is_empty_at(root, "policy")
 }
 
-#[tactic(auto, using(crate::proofs::Limits::limits))]
 /// The network of nodes and links, with the routes and SIDs that a document describes.
+#[tactic(auto, using(crate::proofs::Limits::limits))]
 fn network_with(
     alloc: Global,
     nodes: Vec<Node>,
@@ -76,8 +78,8 @@ fn network_with(
     }))
 }
 
-#[tactic(auto, using(crate::proofs::Limits::limits))]
 /// The network that a document describes.
+#[tactic(auto, using(crate::proofs::Limits::limits))]
 fn network(alloc: Global, root: &Table) -> Result<Option<Net>, AllocError>
     ensures { IfOk result (λ r. r ≡ network_of_document (table_view root.now)) }
 {
@@ -101,9 +103,9 @@ fn network(alloc: Global, root: &Table) -> Result<Option<Net>, AllocError>
 
 /// The network that a description's text gives.
 ///
-/// `NotToml` comes exactly where the text is no TOML, and `NotBuilt` exactly where it is TOML that
-/// describes no network that keeps the rules. `NoMemory` may come at any time, and says nothing
-/// about the text.
+/// `NotToml` comes exactly where the text is no TOML, as where it isn't UTF-8, and `NotBuilt` exactly
+/// where it is TOML that describes no network in the form that is built, or a network that breaks a
+/// rule (own rules). `NoMemory` may come at any time, and says nothing about the text.
 pub fn read_net(alloc: Global, text: &[u8]) -> Result<Net, NetFault>
     ensures { ReadsAs text.now result }
 {

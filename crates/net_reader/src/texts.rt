@@ -21,8 +21,9 @@ fn address_in(value: &Value) -> Option<Addr>
     }
 }
 
-/// The address at a key.
-pub(crate) fn address_at(table: &Table, key: &str) -> Option<Addr>
+/// The IPv6 address that the text at a key writes (RFC 4291 section 2.2); `None` where the key is absent, holds no
+/// text, or holds a text that is no address.
+pub fn address_at(table: &Table, key: &str) -> Option<Addr>
     ensures { option_map (λ a. a.value) result ≡ needed address_in key.now (table_view table.now) }
 {
     match at(table, key) {

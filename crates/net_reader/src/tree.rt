@@ -1,4 +1,5 @@
-//! Values of the tree of a TOML document.
+//! Values of the tree of a TOML document. Each reader answers one word of `specs/Tree.antt`, and is `None` where
+//! the tree does not have what is asked for.
 
 ghost use Rattle.std.specs.Prelude.{◌≡◌, ◌≤◌, ◌<◌, ◌^◌, IfOk, IfSome, Some, None, option_map, map, length, bytes_eq};
 ghost use Rattle.toml.specs.Data.{get_member, as_str, as_array};
@@ -11,14 +12,14 @@ use std::alloc::{AllocError, Global};
 use toml::{Table, Value};
 
 /// The value at a key.
-pub(crate) fn at<'a>(table: &'a Table, key: &str) -> Option<&'a Value>
+pub fn at<'a>(table: &'a Table, key: &str) -> Option<&'a Value>
     ensures { option_map (λ v. view v.now) result ≡ get_member key.now (table_view table.now) }
 {
     table.get(key)
 }
 
 /// The text at a key.
-pub(crate) fn text_at<'a>(table: &'a Table, key: &str) -> Option<&'a str>
+pub fn text_at<'a>(table: &'a Table, key: &str) -> Option<&'a str>
     ensures { option_map (λ s. s.now) result ≡ needed as_str key.now (table_view table.now) }
 {
     match at(table, key) {
@@ -28,7 +29,7 @@ pub(crate) fn text_at<'a>(table: &'a Table, key: &str) -> Option<&'a str>
 }
 
 /// The text at a key that may be absent.
-pub(crate) fn text_if_given<'a>(table: &'a Table, key: &str) -> Option<Option<&'a str>>
+pub fn text_if_given<'a>(table: &'a Table, key: &str) -> Option<Option<&'a str>>
     ensures { option_map option_copied result ≡ optional (λ text. option_map Some (as_str text)) None key.now (table_view table.now) }
 {
     match at(table, key) {
@@ -41,7 +42,7 @@ pub(crate) fn text_if_given<'a>(table: &'a Table, key: &str) -> Option<Option<&'
 }
 
 /// The table that a value is, if each of its keys is one of these.
-pub(crate) fn table_with<'a>(value: &'a Value, keys: &[&str]) -> Option<&'a Table>
+pub fn table_with<'a>(value: &'a Value, keys: &[&str]) -> Option<&'a Table>
     ensures { option_map (λ t. table_view t.now) result ≡ table_with (map (λ k. k.now) keys.now) (view value.now) }
 {
     match value.as_table() {
@@ -51,7 +52,7 @@ pub(crate) fn table_with<'a>(value: &'a Value, keys: &[&str]) -> Option<&'a Tabl
 }
 
 /// The integer, if it is from 0 to the most.
-pub(crate) fn number_at_most(value: &Value, most: u32) -> Option<u32>
+pub fn number_at_most(value: &Value, most: u32) -> Option<u32>
     ensures exact { result ≡ number_at_most most (view value.now) }
     ensures within { IfSome result (λ n. n ≤ most) }
 {
@@ -64,7 +65,7 @@ pub(crate) fn number_at_most(value: &Value, most: u32) -> Option<u32>
 }
 
 /// The items of an array.
-pub(crate) fn items_of(value: &Value) -> Option<&[Value]>
+pub fn items_of(value: &Value) -> Option<&[Value]>
     ensures { option_map (λ s. items_view s.now) result ≡ as_array (view value.now) }
 {
     match value.as_array() {
@@ -74,7 +75,7 @@ pub(crate) fn items_of(value: &Value) -> Option<&[Value]>
 }
 
 /// The items of an array that may be absent.
-pub(crate) fn array_at<'a>(table: &'a Table, key: &str) -> Option<&'a [Value]>
+pub fn array_at<'a>(table: &'a Table, key: &str) -> Option<&'a [Value]>
     ensures { option_map (λ s. items_view s.now) result ≡ array_at key.now (table_view table.now) }
 {
     match at(table, key) {
@@ -85,7 +86,7 @@ pub(crate) fn array_at<'a>(table: &'a Table, key: &str) -> Option<&'a [Value]>
 
 /// Whether the value is an array without items.
 #[tactic(auto, using(crate::proofs::Items::emptiness))]
-pub(crate) fn is_empty_array(value: &Value) -> bool
+pub fn is_empty_array(value: &Value) -> bool
     ensures { result ≡ is_empty_array (view value.now) }
 {
     match items_of(value) {
@@ -95,7 +96,7 @@ pub(crate) fn is_empty_array(value: &Value) -> bool
 }
 
 /// Whether a key is absent, or holds an array without items.
-pub(crate) fn is_empty_at(table: &Table, key: &str) -> bool
+pub fn is_empty_at(table: &Table, key: &str) -> bool
     ensures { result ≡ is_empty_at key.now (table_view table.now) }
 {
     match at(table, key) {
@@ -106,7 +107,7 @@ pub(crate) fn is_empty_at(table: &Table, key: &str) -> bool
 
 /// The bytes that items hold, if each is an integer from 0 to 255.
 #[tactic(auto, using(crate::proofs::Items::reading))]
-pub(crate) fn bytes(alloc: Global, items: &[Value]) -> Result<Option<Vec<u8>>, AllocError>
+pub fn bytes(alloc: Global, items: &[Value]) -> Result<Option<Vec<u8>>, AllocError>
     ensures { IfOk result (λ r. option_map (λ v. v.items) r ≡ each_of (number_at_most 255) (items_view items.now)) }
 {
     let mut bytes = Vec::new(alloc);
@@ -120,7 +121,7 @@ pub(crate) fn bytes(alloc: Global, items: &[Value]) -> Result<Option<Vec<u8>>, A
 }
 
 /// Whether the text is one of these.
-pub(crate) fn is_among(text: &str, texts: &[&str]) -> bool
+pub fn is_among(text: &str, texts: &[&str]) -> bool
     ensures { result ≡ list_any (λ known. bytes_eq known text.now) (map (λ t. t.now) texts.now) }
 {
     texts.contains(&text)
@@ -128,7 +129,7 @@ pub(crate) fn is_among(text: &str, texts: &[&str]) -> bool
 
 /// Whether each key of the table is one of these.
 #[tactic(auto, using(crate::proofs::Items::only_keys))]
-pub(crate) fn has_only(table: &Table, keys: &[&str]) -> bool
+pub fn has_only(table: &Table, keys: &[&str]) -> bool
     ensures { result ≡ has_only (map (λ k. k.now) keys.now) (table_view table.now) }
 {
     for key in table.keys() {

@@ -1,0 +1,5 @@
+use Rattle.intent_reader.proofs.KeepsLemmas.{keeps_from_intent}
+use Rattle.intent_reader.proofs.laws.intents_have_walks.Goals as goal
+
+pub returns : goal.returns
+returns c = keeps_from_intent

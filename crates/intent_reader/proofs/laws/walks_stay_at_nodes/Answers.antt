@@ -1,0 +1,5 @@
+use Rattle.intent_reader.proofs.KeepsLemmas.{stays_within}
+use Rattle.intent_reader.proofs.laws.walks_stay_at_nodes.Goals as goal
+
+pub returns : goal.returns
+returns c = stays_within

@@ -1,0 +1,187 @@
+//! The rules of an intent in its network, each as a function that answers one word of the definitions.
+
+ghost use Rattle.std.specs.Prelude.{◌≡◌, ◌<◌, length, slice_get, option_map};
+ghost use Rattle.std.specs.List.{list_all};
+ghost use Rattle.net_model.specs.Rules.{are_distinct, same_number, starts_at, is_link_set};
+ghost use Rattle.intent_reader.specs.Rules.{end_of_link, ends_at, far_node, first_end, function_node};
+ghost use Rattle.intent_reader.specs.Rules.{node_after, stand_after, is_function, ends_in_function, is_intent};
+
+use crate::intent::{Intent, Step};
+use net_model::{Link, Net};
+use srv6_rules::SidEntry;
+
+/// The link with a number, if there is one.
+#[tactic(auto, using(std::proofs::lemmas::Option::gets))]
+fn link_at(net: &Net, n: u32) -> Option<&Link>
+    ensures { option_map (λ l. l.now) result ≡ slice_get net.now.links n }
+{
+    if n < net.links() {
+        Some(net.link(n))
+    } else {
+        None
+    }
+}
+
+/// The SID with a number, if there is one.
+#[tactic(auto, using(std::proofs::lemmas::Option::gets))]
+fn sid_at(net: &Net, n: u32) -> Option<&SidEntry>
+    ensures { option_map (λ s. s.now) result ≡ slice_get net.now.sids n }
+{
+    if n < net.sids() {
+        Some(net.sid(n))
+    } else {
+        None
+    }
+}
+
+fn starts_at(net: &Net, node: u32, n: u32) -> bool
+    ensures { result ≡ starts_at net.now.links node n }
+{
+    match link_at(net, n) {
+        Some(link) => link.from == node,
+        None => false,
+    }
+}
+
+fn each_starts_at(net: &Net, node: u32, set: &[u32]) -> bool
+    ensures { result ≡ list_all (starts_at net.now.links node) set.now }
+{
+    set.iter().all(|n| starts_at(net, node, *n))
+}
+
+fn are_distinct(numbers: &[u32]) -> bool
+    ensures { result ≡ are_distinct same_number numbers.now }
+{
+    let mut rest = numbers;
+    while let [first, others @ ..] = rest {
+        if others.contains(first) {
+            return false;
+        }
+        rest = others;
+    }
+    true
+}
+
+/// Whether a set has 1 to 64 links of the node, each once.
+fn is_link_set(net: &Net, node: u32, set: &[u32]) -> bool
+    ensures { result ≡ is_link_set net.now.links node set.now }
+{
+    1 <= set.len() && (set.len() <= 64 && (are_distinct(set) && each_starts_at(net, node, set)))
+}
+
+/// The node where a link ends, if it is there and ends in the network.
+fn end_of(net: &Net, n: u32) -> Option<u32>
+    ensures { result ≡ end_of_link (slice_get net.now.links n) }
+{
+    match link_at(net, n) {
+        Some(link) => link.to,
+        None => None,
+    }
+}
+
+fn ends_at(net: &Net, node: u32, n: u32) -> bool
+    ensures { result ≡ ends_at net.now node n }
+{
+    match end_of(net, n) {
+        Some(to) => to == node,
+        None => false,
+    }
+}
+
+fn each_ends_at(net: &Net, node: u32, set: &[u32]) -> bool
+    ensures { result ≡ list_all (ends_at net.now node) set.now }
+{
+    set.iter().all(|n| ends_at(net, node, *n))
+}
+
+fn first_end(net: &Net, set: &[u32]) -> Option<u32>
+    ensures { result ≡ first_end net.now set.now }
+{
+    match set {
+        [] => None,
+        [first, ..] => end_of(net, *first),
+    }
+}
+
+/// The node where links of one node all end, if they do.
+fn far_node(net: &Net, node: u32, set: &[u32], first: Option<u32>) -> Option<u32>
+    ensures { result ≡ far_node net.now node set.now first }
+{
+    match first {
+        Some(to) if is_link_set(net, node, set) && each_ends_at(net, to, set) => Some(to),
+        _ => None,
+    }
+}
+
+/// The node where a walk stands after a function, if the function is at the node.
+fn function_node(net: &Net, node: u32, n: u32) -> Option<u32>
+    ensures { result ≡ function_node node (slice_get net.now.sids n) }
+{
+    match sid_at(net, n) {
+        Some(sid) if sid.node == node && sid.title.is_some() => Some(node),
+        _ => None,
+    }
+}
+
+/// The node where a walk stands after a step from a node, if the step starts there.
+fn node_after(net: &Net, node: u32, step: &Step) -> Option<u32>
+    ensures { result ≡ node_after net.now node step.now }
+{
+    match step {
+        Step::Links(links) => {
+            let set = links.as_slice();
+            far_node(net, node, set, first_end(net, set))
+        }
+        Step::Function(sid) => function_node(net, node, *sid),
+    }
+}
+
+/// The node where a walk stands after steps from a node, if each starts where the one before it ended.
+fn stand_after(net: &Net, node: u32, steps: &[Step]) -> Option<u32>
+    ensures { result ≡ stand_after net.now node steps.now }
+{
+    let mut at = node;
+    let mut rest = steps;
+    while let [step, others @ ..] = rest {
+        let Some(next) = node_after(net, at, step) else {
+            return None;
+        };
+        at = next;
+        rest = others;
+    }
+    Some(at)
+}
+
+fn is_function(step: &Step) -> bool
+    ensures { result ≡ is_function step.now }
+{
+    matches!(step, Step::Function(_))
+}
+
+/// Whether there is a last step, and it is a function.
+fn ends_in_function(steps: &[Step]) -> bool
+    ensures { result ≡ ends_in_function steps.now }
+{
+    match steps {
+        [] => false,
+        [.., last] => is_function(last),
+    }
+}
+
+/// Whether an intent keeps all rules in a network (own rules): its headend is there, its numbers are in their
+/// ranges, it has 1 to 48 steps, each of which starts where the one before it ended, and the last is a function.
+#[tactic(auto, unfolding(crate::specs::Rules::is_intent))]
+pub fn is_intent(net: &Net, intent: &Intent) -> bool
+    ensures { result ≡ is_intent net.now intent.now }
+{
+    let steps = intent.steps.as_slice();
+    intent.headend < net.nodes()
+        && (1 <= intent.hop_limit
+            && (1 <= intent.max_containers
+                && (intent.max_containers <= 127
+                    && (intent.flow_label < 0x10_0000
+                        && (1 <= steps.len()
+                            && (steps.len() <= 48
+                                && (stand_after(net, intent.headend, steps).is_some()
+                                    && ends_in_function(steps))))))))
+}

@@ -1,0 +1,274 @@
+-- What walks hand over: with more fuel, under other choices, and along a ride.
+use Rattle.std.proofs.Common.{◌≡◌, ℕ, zero, suc, ◌+◌, ◌-◌, ◌<◌, ◌≤◌, Bool, true, false, ◌&&◌, if◌then◌else◌, List, [], ◌∷◌, ◌++◌, length, Option, Some, None, slice_get, refl, sym, ◌∙◌, ap, subst, arith, append_assoc, zero-add, add-zero}
+use Rattle.std.specs.Prelude.{is_some}
+use Rattle.std.specs.List.{list_all}
+use Rattle.std.specs.Option.{option_map}
+use Rattle.std.proofs.lemmas.Bool.{false≢true, and_parts}
+use Rattle.srv6_rules.specs.Packet.{Packet, Content, V6}
+use Rattle.net_model.specs.Network.{Network}
+use Rattle.net_model.specs.Keeps.{Keeps}
+use Rattle.walk_rules.specs.declared.place.Place.{Place}
+use Rattle.walk_rules.specs.declared.place.Outcome.{Outcome}
+use Rattle.walk_rules.specs.declared.place.Outcome.TheVariants as outcomes
+use Rattle.walk_rules.specs.Treatment.{Way, Away, Over, Own, Into, way_of, Gave, member_of, lowered, treated, step_of}
+use Rattle.walk_rules.specs.Relation.{IsHow}
+use Rattle.walk_rules.specs.Walk as walks
+use Rattle.walk_rules.specs.Walk.{walk_of, next_place, arrival, decisions}
+use Rattle.walk_rules.proofs.Stages.{HasLinks, sent-high}
+use Rattle.intent_reader.specs.Rules.{stand_after, first_end, ends_at}
+use Rattle.intent_reader.specs.declared.intent.Step.{Step}
+use Rattle.intent_reader.specs.declared.intent.Step.TheVariants.{Links, Function}
+use Rattle.leg_table.specs.Trace.{Event, Crossed, Executed, is_titled, executed, Handed, after_events, handed_first, handed_over}
+use Rattle.leg_table.specs.Tasks.{has_link, meets, matches}
+use Rattle.leg_table.specs.Ride.{Ride, one_if, more_lowered, ride_on, ride_by, ride_end, ride_of, with_hop_limit}
+use Rattle.leg_table.proofs.Links.{way-links, member-of_all, far_end-is, link_ends, first_end-is, step_opens}
+use Rattle.leg_table.proofs.Options.{map-some, if-some, some-same}
+use Rattle.leg_table.proofs.Rides.{arrived, same_packet}
+
+-- events before events
+pub after-after : (xs ys : List Event) (o : Option Handed) → option_map (after_events xs) (option_map (after_events ys) o) ≡ option_map (after_events (xs ++ ys)) o
+after-after xs ys None = refl
+after-after xs ys (Some h) = ap (λ (t : List Event). Some (record { trace = t; content = h.content })) (sym (append_assoc xs ys h.trace))
+
+pub after-none : (o : Option Handed) → option_map (after_events []) o ≡ o
+after-none None = refl
+after-none (Some h) = refl
+
+module _ (net : Network) where
+  -- what a walk hands over, by what its first stage gives
+  pub handed-stage : (more : ℕ) (place : Place) (content : Content) (pick : ℕ → ℕ) (taken : ℕ) (gave : Gave) → step_of net place content (pick taken) ≡ gave
+      → handed_over net (walk_of (suc more) net (Some place) content pick taken)
+      ≡ handed_first net gave gave.outcome (handed_over net (walk_of more net (next_place net place gave.outcome) gave.after pick (taken + decisions gave.outcome)))
+  unfolding walk_of
+  handed-stage more place content pick taken gave e =
+      ap (λ (g : Gave). handed_first net g g.outcome (handed_over net (walk_of more net (next_place net place g.outcome) g.after pick (taken + decisions g.outcome)))) e
+
+  -- rows that agree from here on give one walk
+  pub walk-same : (fuel : ℕ) (o : Option Place) (content : Content) (pick qick : ℕ → ℕ) (taken uaken : ℕ) → ((d : ℕ) → pick (taken + d) ≡ qick (uaken + d))
+      → walk_of fuel net o content pick taken ≡ walk_of fuel net o content qick uaken
+  unfolding walk_of
+  walk-same zero o content pick qick taken uaken same = refl
+  walk-same (suc more) None content pick qick taken uaken same = refl
+  walk-same (suc more) (Some place) content pick qick taken uaken same =
+      let stage : ℕ → walks.Step = λ c. record { place = place; before = content; gave = step_of net place content c } in
+      let at_first : pick taken ≡ qick uaken = first_same taken uaken pick qick (same 0) in
+      let gave = step_of net place content (pick taken) in
+      ap (λ (rest : List walks.Step). stage (pick taken) ∷ rest)
+      (walk-same more (next_place net place gave.outcome) gave.after pick qick (taken + decisions gave.outcome) (uaken + decisions gave.outcome)
+      (later taken uaken (decisions gave.outcome) pick qick same))
+      ∙ ap (λ (c : ℕ). let gave = step_of net place content c in
+      stage c ∷ walk_of more net (next_place net place gave.outcome) gave.after qick (uaken + decisions gave.outcome)) at_first
+    where
+      first_same : (a b : ℕ) (p q : ℕ → ℕ) → p (a + 0) ≡ q (b + 0) → p a ≡ q b
+      first_same a b p q e = ap p (omega arith) ∙ (e ∙ ap q (omega arith))
+
+      later : (a b k : ℕ) (p q : ℕ → ℕ) → ((d : ℕ) → p (a + d) ≡ q (b + d)) → (d : ℕ) → p (a + k + d) ≡ q (b + k + d)
+      later a b k p q same d = ap p (omega arith) ∙ (same (k + d) ∙ ap q (omega arith))
+
+  first-more : (gave : Gave) (o : Outcome) (later more : Option Handed) (h : Handed) → ((k : Handed) → later ≡ Some k → more ≡ Some k)
+      → handed_first net gave o later ≡ Some h → handed_first net gave o more ≡ Some h
+  first-more gave (outcomes.Hand n how family) later more h f e = e
+  first-more gave (outcomes.Again n how) later more h f e =
+      let got = map-some (after_events (executed net n)) later h e in
+      ap (option_map (after_events (executed net n))) (f got.0 got.1) ∙ ap Some got.2
+  first-more gave (outcomes.Send link) later more h f e =
+      let got = map-some (after_events (Crossed link ∷ [])) later h e in
+      ap (option_map (after_events (Crossed link ∷ []))) (f got.0 got.1) ∙ ap Some got.2
+  first-more gave outcomes.Local later more h f e = absurd (cc)
+  first-more gave (outcomes.Drop reason) later more h f e = absurd (cc)
+
+  -- more fuel hands over the same
+  pub handed-more : (m n : ℕ) (o : Option Place) (content : Content) (pick : ℕ → ℕ) (taken : ℕ) (h : Handed)
+      → handed_over net (walk_of m net o content pick taken) ≡ Some h → handed_over net (walk_of (m + n) net o content pick taken) ≡ Some h
+  unfolding walk_of
+  handed-more zero n o content pick taken h e = absurd (cc)
+  handed-more (suc m) n None content pick taken h e = absurd (cc)
+  handed-more (suc m) n (Some place) content pick taken h e =
+      let f : suc m + n ≡ suc (m + n) = omega arith in
+      let gave = step_of net place content (pick taken) in
+      rw f
+      (first-more gave gave.outcome (handed_over net (walk_of m net (next_place net place gave.outcome) gave.after pick (taken + decisions gave.outcome)))
+      (handed_over net (walk_of (m + n) net (next_place net place gave.outcome) gave.after pick (taken + decisions gave.outcome))) h
+      (λ k. handed-more m n (next_place net place gave.outcome) gave.after pick (taken + decisions gave.outcome) k) e)
+
+  -- the events of an execution, before others, that meet steps
+  pub executed-meets : (ts : List Step) (n : ℕ) (es : List Event) → matches ts (executed net n ++ es) ≡ true
+      → (us : List Step) × (matches us es ≡ true) × (length us ≤ length ts)
+  executed-meets ts n es h = by_title (is_titled net n) ts h
+    where
+      by_title : (t : Bool) (ts : List Step) → matches ts ((if t then Executed n ∷ [] else []) ++ es) ≡ true → (us : List Step) × (matches us es ≡ true) × (length us ≤ length ts)
+      by_title false ts h = (ts, h, omega arith)
+      by_title true [] h = absurd (false≢true h)
+      by_title true (t ∷ ts) h = (ts, (and_parts (meets t (Executed n)) (matches ts es) h).1, omega arith)
+
+  first-agree : (gave : Gave) (o : Outcome) (ts : List Step) (later other : Option Handed) (h : Handed)
+      → ((us : List Step) (k : Handed) → length us + decisions o ≤ length ts → matches us k.trace ≡ true → later ≡ Some k → other ≡ Some k)
+      → matches ts h.trace ≡ true → handed_first net gave o later ≡ Some h → handed_first net gave o other ≡ Some h
+  first-agree gave (outcomes.Hand n how family) ts later other h f m e = e
+  first-agree gave (outcomes.Again n how) ts later other h f m e =
+      let got = map-some (after_events (executed net n)) later h e in
+      let met : matches ts (executed net n ++ got.0.trace) ≡ true = ap (λ (k : Handed). matches ts k.trace) got.2 ∙ m in
+      let us = executed-meets ts n got.0.trace met in
+      ap (option_map (after_events (executed net n))) (f us.0 got.0 (omega (arith, us.2)) us.1 got.1) ∙ ap Some got.2
+  first-agree gave (outcomes.Send link) [] later other h f m e =
+      let got = map-some (after_events (Crossed link ∷ [])) later h e in
+      let met : matches [] (Crossed link ∷ got.0.trace) ≡ true = ap (λ (k : Handed). matches [] k.trace) got.2 ∙ m in
+      absurd (false≢true met)
+  first-agree gave (outcomes.Send link) (t ∷ ts) later other h f m e =
+      let got = map-some (after_events (Crossed link ∷ [])) later h e in
+      let met : matches (t ∷ ts) (Crossed link ∷ got.0.trace) ≡ true = ap (λ (k : Handed). matches (t ∷ ts) k.trace) got.2 ∙ m in
+      let parts = and_parts (meets t (Crossed link)) (matches ts got.0.trace) met in
+      ap (option_map (after_events (Crossed link ∷ []))) (f ts got.0 (omega arith) parts.1 got.1) ∙ ap Some got.2
+  first-agree gave outcomes.Local ts later other h f m e = absurd (cc)
+  first-agree gave (outcomes.Drop reason) ts later other h f m e = absurd (cc)
+
+  -- where the trace meets steps, only as many choices matter as there are steps
+  pub hands-agree : (fuel : ℕ) (ts : List Step) (o : Option Place) (content : Content) (pick qick : ℕ → ℕ) (taken uaken : ℕ) (h : Handed)
+      → ((d : ℕ) → d ≤ length ts → pick (taken + d) ≡ qick (uaken + d)) → matches ts h.trace ≡ true
+      → handed_over net (walk_of fuel net o content pick taken) ≡ Some h → handed_over net (walk_of fuel net o content qick uaken) ≡ Some h
+  unfolding walk_of
+  hands-agree zero ts o content pick qick taken uaken h same m e = absurd (cc)
+  hands-agree (suc more) ts None content pick qick taken uaken h same m e = absurd (cc)
+  hands-agree (suc more) ts (Some place) content pick qick taken uaken h same m e =
+      let at_first : pick taken ≡ qick uaken = first_same taken uaken pick qick (same 0 (omega arith)) in
+      let gave = step_of net place content (pick taken) in
+      subst
+      (λ (c : ℕ). let gave = step_of net place content c in
+      handed_first net gave gave.outcome (handed_over net (walk_of more net (next_place net place gave.outcome) gave.after qick (uaken + decisions gave.outcome))) ≡ Some h)
+      at_first
+      (first-agree gave gave.outcome ts
+      (handed_over net (walk_of more net (next_place net place gave.outcome) gave.after pick (taken + decisions gave.outcome)))
+      (handed_over net (walk_of more net (next_place net place gave.outcome) gave.after qick (uaken + decisions gave.outcome))) h
+      (λ us k few met. hands-agree more us (next_place net place gave.outcome) gave.after pick qick (taken + decisions gave.outcome) (uaken + decisions gave.outcome) k
+      (later taken uaken (decisions gave.outcome) (length us) pick qick few same) met)
+      m e)
+    where
+      first_same : (a b : ℕ) (p q : ℕ → ℕ) → p (a + 0) ≡ q (b + 0) → p a ≡ q b
+      first_same a b p q e = ap p (omega arith) ∙ (e ∙ ap q (omega arith))
+
+      later : (a b k u : ℕ) (p q : ℕ → ℕ) → u + k ≤ length ts → ((d : ℕ) → d ≤ length ts → p (a + d) ≡ q (b + d))
+          → (d : ℕ) → d ≤ u → p (a + k + d) ≡ q (b + k + d)
+      later a b k u p q few same d h = ap p (omega arith) ∙ (same (k + d) (omega arith) ∙ ap q (omega arith))
+
+-- a walk along a ride: its stages send, its events meet the steps that are ridden, and then it goes on where the ride ends
+pub record RideWalk (net : Network) (ts : List Step) (place : Place) (p : Packet) (r : Ride) : Type 0 where
+  pub count : ℕ
+  pub events : (ℕ → ℕ) → ℕ → List Event
+  pub meets_them : (pick : ℕ → ℕ) (taken : ℕ) (more : List Event) → matches ts (events pick taken ++ more) ≡ matches r.left more
+  pub walk : (pick : ℕ → ℕ) (taken fuel : ℕ)
+      → handed_over net (walk_of (count + fuel) net (Some place) (V6 p) pick taken)
+      ≡ option_map (after_events (events pick taken))
+      (handed_over net (walk_of fuel net (Some r.place) (V6 (with_hop_limit (p.hop_limit - r.lowered) p)) pick (taken + count)))
+
+module _ (net : Network) (keeps : Keeps net) where
+  walk-here : (ts : List Step) (place : Place) (p : Packet) (n : ℕ) → RideWalk net ts place p (record { sid = n; place = place; left = ts; lowered = 0 })
+  walk-here ts place p n =
+      record {
+        count = 0;
+        events = λ pick taken. [];
+        meets_them = λ pick taken more. refl;
+        walk = λ pick taken fuel. at pick taken fuel;
+      }
+    where
+      at : (pick : ℕ → ℕ) (taken fuel : ℕ)
+          → handed_over net (walk_of (0 + fuel) net (Some place) (V6 p) pick taken)
+          ≡ option_map (after_events []) (handed_over net (walk_of fuel net (Some place) (V6 (with_hop_limit (p.hop_limit - 0) p)) pick (taken + 0)))
+      at pick taken fuel =
+          ap (λ (k : ℕ). handed_over net (walk_of k net (Some place) (V6 p) pick taken)) (zero-add fuel)
+          ∙ ap (λ (q : Packet). handed_over net (walk_of fuel net (Some place) (V6 q) pick taken)) (sym (same_packet p))
+          ∙ ap (λ (k : ℕ). handed_over net (walk_of fuel net (Some place) (V6 (with_hop_limit (p.hop_limit - 0) p)) pick k)) (sym (add-zero taken))
+          ∙ sym (after-none _)
+
+  -- the stage that sends, in a set whose members lie in the step
+  sends : (place : Place) (p : Packet) (set : List ℕ) (lower : Bool) (k : ℕ) → way_of net place p.destination ≡ Over set lower → one_if lower + k < p.hop_limit
+      → (choice : ℕ) → step_of net place (V6 p) choice ≡ record { outcome = outcomes.Send (member_of set choice); after = V6 (lowered lower p) }
+  sends place p set false k e high choice = ap (λ (w : Way). treated net place.node w p choice) e
+  sends place p set true k e high choice =
+      ap (λ (w : Way). treated net place.node w p choice) e ∙ sent-high set p choice (omega arith)
+
+  same_left : (p : Packet) (lower : Bool) (k : ℕ)
+      → with_hop_limit ((lowered lower p).hop_limit - k) (lowered lower p) ≡ with_hop_limit (p.hop_limit - (one_if lower + k)) p
+  same_left p true k = ap (λ (h : ℕ). with_hop_limit h p) (omega arith)
+  same_left p false k = ap (λ (h : ℕ). with_hop_limit h p) (omega arith)
+
+  same_destination : (p : Packet) (lower : Bool) → (lowered lower p).destination ≡ p.destination
+  same_destination p true = refl
+  same_destination p false = refl
+
+  high_enough : (p : Packet) (lower : Bool) (k : ℕ) → one_if lower + k < p.hop_limit → k < (lowered lower p).hop_limit
+  high_enough p true k h = omega arith
+  high_enough p false k h = omega arith
+
+  walk-later : (step : List ℕ) (ts : List Step) (place : Place) (p : Packet) (set : List ℕ) (lower : Bool) (to : ℕ) (r : Ride)
+      → way_of net place p.destination ≡ Over set lower → list_all (has_link step) set ≡ true → 0 < length set → list_all (ends_at net to) step ≡ true
+      → one_if lower + r.lowered < p.hop_limit → RideWalk net ts (arrived to place) (lowered lower p) r
+      → RideWalk net (Links step ∷ ts) place p (more_lowered lower r)
+  walk-later step ts place p set lower to r way all some ends high w =
+      record {
+        count = suc w.count;
+        events = λ pick taken. Crossed (member_of set (pick taken)) ∷ w.events pick (taken + 1);
+        meets_them = λ pick taken more.
+            and_both (has_link step (member_of set (pick taken))) _ (member-of_all (has_link step) set some all (pick taken)) ∙ w.meets_them pick (taken + 1) more;
+        walk = λ pick taken fuel. at pick taken fuel;
+      }
+    where
+      and_both : (a b : Bool) → a ≡ true → (a && b) ≡ b
+      and_both true b e = refl
+      and_both false b e = absurd (false≢true e)
+
+      at : (pick : ℕ → ℕ) (taken fuel : ℕ)
+          → handed_over net (walk_of (suc w.count + fuel) net (Some place) (V6 p) pick taken)
+          ≡ option_map (after_events (Crossed (member_of set (pick taken)) ∷ w.events pick (taken + 1)))
+          (handed_over net (walk_of fuel net (Some r.place) (V6 (with_hop_limit (p.hop_limit - (one_if lower + r.lowered)) p)) pick (taken + suc w.count)))
+      at pick taken fuel =
+          let link = member_of set (pick taken) in
+          let q = lowered lower p in
+          let more : suc w.count + fuel ≡ suc (w.count + fuel) = omega arith in
+          let here = member-of_all (has_link step) set some all (pick taken) in
+          let next : next_place net place (outcomes.Send link) ≡ Some (arrived to place)
+          = ap (λ (o : Option ℕ). arrival o place) (far_end-is (slice_get net.links link) ∙ link_ends net to step link ends here) in
+          let count : taken + 1 + w.count ≡ taken + suc w.count = omega arith in
+          ap (λ (k : ℕ). handed_over net (walk_of k net (Some place) (V6 p) pick taken)) more
+          ∙ handed-stage net (w.count + fuel) place (V6 p) pick taken (record { outcome = outcomes.Send link; after = V6 q }) (sends place p set lower r.lowered way high (pick taken))
+          ∙ ap (λ (o : Option Place). option_map (after_events (Crossed link ∷ [])) (handed_over net (walk_of (w.count + fuel) net o (V6 q) pick (taken + 1)))) next
+          ∙ ap (option_map (after_events (Crossed link ∷ []))) (w.walk pick (taken + 1) fuel)
+          ∙ after-after (Crossed link ∷ []) (w.events pick (taken + 1)) _
+          ∙ ap (λ (x : Packet). option_map (after_events (Crossed link ∷ w.events pick (taken + 1))) (handed_over net (walk_of fuel net (Some r.place) (V6 x) pick (taken + 1 + w.count))))
+          (same_left p lower r.lowered)
+          ∙ ap (λ (k : ℕ). option_map (after_events (Crossed link ∷ w.events pick (taken + 1)))
+          (handed_over net (walk_of fuel net (Some r.place) (V6 (with_hop_limit (p.hop_limit - (one_if lower + r.lowered)) p)) pick k))) count
+
+  pub ride-walk : (ts : List Step) (place : Place) (p : Packet) (r : Ride) → IsHow net place.node place.how → is_some (stand_after net place.node ts) ≡ true
+      → ride_of net p.destination ts place ≡ Some r → r.lowered < p.hop_limit → RideWalk net ts place p r
+  ride-walk [] place p r how stands h high = by_way (way_of net place p.destination) refl h
+    where
+      by_way : (w : Way) → way_of net place p.destination ≡ w → ride_end place w ≡ Some r → RideWalk net [] place p r
+      by_way (Away reason) e h = absurd (cc)
+      by_way Own e h = absurd (cc)
+      by_way (Over set lower) e h = absurd (cc)
+      by_way (Into n) e h = subst (RideWalk net [] place p) (some-same _ r h) (walk-here [] place p n)
+  ride-walk (t ∷ ts) place p r how stands h high =
+      by_way t (way_of net place p.destination) refl (way-links net keeps place p.destination how) stands h
+      (λ to q k stands h high. ride-walk ts (arrived to place) q k tt stands h high)
+    where
+      by_way : (t : Step) (w : Way) → way_of net place p.destination ≡ w → HasLinks w → is_some (stand_after net place.node (t ∷ ts)) ≡ true
+          → ride_by net place (t ∷ ts) t (ride_of net p.destination ts) w ≡ Some r
+          → ((to : ℕ) (q : Packet) (k : Ride) → is_some (stand_after net to ts) ≡ true → ride_of net q.destination ts (arrived to place) ≡ Some k → k.lowered < q.hop_limit
+          → RideWalk net ts (arrived to place) q k)
+          → RideWalk net (t ∷ ts) place p r
+      by_way t (Away reason) e links stands h ih = absurd (cc)
+      by_way t Own e links stands h ih = absurd (cc)
+      by_way t (Into n) e links stands h ih = subst (RideWalk net (t ∷ ts) place p) (some-same _ r h) (walk-here (t ∷ ts) place p n)
+      by_way (Function sid) (Over set lower) e links stands h ih = absurd (cc)
+      by_way (Links step) (Over set lower) e links stands h ih =
+          let opened = step_opens net place.node step ts stands in
+          let all = if-some (list_all (has_link step) set) _ r h in
+          let got = map-some (more_lowered lower) _ r all.1 in
+          let at : first_end net set ≡ Some opened.0 = first_end-is net opened.0 step set opened.1 all.0 links in
+          let later : ride_of net p.destination ts (arrived opened.0 place) ≡ Some got.0
+          = ap (λ (o : Option ℕ). ride_on (arrival o place) (ride_of net p.destination ts)) (sym at) ∙ got.1 in
+          let low : one_if lower + got.0.lowered < p.hop_limit = subst (λ (x : Ride). x.lowered < p.hop_limit) (sym got.2) high in
+          subst (RideWalk net (Links step ∷ ts) place p) got.2
+          (walk-later step ts place p set lower opened.0 got.0 e all.0 links opened.1 low
+          (ih opened.0 (lowered lower p) got.0 opened.2
+          (ap (λ (d : ℕ). ride_of net d ts (arrived opened.0 place)) (same_destination p lower) ∙ later) (high_enough p lower got.0.lowered low)))

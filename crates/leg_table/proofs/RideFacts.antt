@@ -1,0 +1,189 @@
+-- What is known of a ride that is there, and of the place and the steps that it starts from.
+use Rattle.std.proofs.Common.{◌≡◌, ℕ, suc, ◌+◌, ◌^◌, ◌<◌, ◌≤◌, Bool, true, false, ◌==◌, List, [], ◌∷◌, ◌++◌, length, take, drop, Option, Some, None, slice_get, refl, sym, ◌∙◌, ap, subst, arith, eqb-true}
+use Rattle.std.specs.Prelude.{is_some, nat_le, nat_lt}
+use Rattle.std.specs.List.{list_all}
+use Rattle.std.specs.Option.{option_map, option_and_then}
+use Rattle.std.proofs.lemmas.Bool.{false≢true, and_parts, leb-true, ltb-true}
+use Rattle.std.proofs.lemmas.List.{take-append-drop}
+use Rattle.srv6_rules.specs.declared.sid.Behaviour.{Behaviour}
+use Rattle.srv6_rules.specs.declared.sid.Behaviour.TheVariants as behaviours
+use Rattle.srv6_rules.specs.declared.sid.Family.TheVariants as families
+use Rattle.srv6_rules.specs.declared.sid.SidEntry.{SidEntry}
+use Rattle.net_model.specs.Network.{Network}
+use Rattle.net_model.specs.Keeps.{Keeps, SuitsBehaviour}
+use Rattle.walk_rules.specs.declared.place.Place.{Place}
+use Rattle.walk_rules.specs.Treatment.{Way, Away, Over, Own, Into, way_of, on_from}
+use Rattle.walk_rules.specs.Relation.{IsHow, IsThrough}
+use Rattle.walk_rules.specs.Walk.{arrival}
+use Rattle.walk_rules.proofs.Stages.{HasLinks}
+use Rattle.intent_reader.specs.Rules.{stand_after, first_end, node_after, is_at, IsIntent, is_intent, ends_in_function}
+use Rattle.intent_reader.specs.declared.intent.Step.{Step}
+use Rattle.intent_reader.specs.declared.intent.Step.TheVariants.{Links, Function}
+use Rattle.intent_reader.specs.declared.intent.Intent.{Intent}
+use Rattle.leg_table.specs.Tasks.{has_link}
+use Rattle.leg_table.specs.Ride.{Ride, one_if, more_lowered, ride_on, ride_by, ride_end, ride_of}
+use Rattle.leg_table.specs.Sids.{is_sid_at, sid_suits, title_suits, is_middle, node_at, step_before}
+use Rattle.leg_table.specs.Leg.{place_behind, place_from, is_via, is_start}
+use Rattle.leg_table.proofs.Links.{way-links, first_end-is, step_opens}
+use Rattle.leg_table.proofs.Options.{map-some, if-some, some-same}
+use Rattle.leg_table.proofs.Rides.{arrived}
+
+pub record RideFacts (net : Network) (destination : ℕ) (ts : List Step) (place : Place) (r : Ride) : Type 0 where
+  pub count : ℕ
+  pub within : count ≤ length ts
+  pub left : r.left ≡ drop count ts
+  pub lowered : r.lowered ≤ count
+  pub into : way_of net r.place destination ≡ Into r.sid
+  pub stands : stand_after net place.node (take count ts) ≡ Some r.place.node
+
+module _ (net : Network) (keeps : Keeps net) (destination : ℕ) where
+  facts_here : (ts : List Step) (place : Place) (n : ℕ) → way_of net place destination ≡ Into n
+      → RideFacts net destination ts place (record { sid = n; place = place; left = ts; lowered = 0 })
+  facts_here ts place n e =
+      record { count = 0; within = omega arith; left = refl; lowered = omega arith; into = e; stands = refl }
+
+  facts_later : (step : List ℕ) (ts : List Step) (place : Place) (to : ℕ) (lower : Bool) (r : Ride) → node_after net place.node (Links step) ≡ Some to
+      → RideFacts net destination ts (arrived to place) r
+      → RideFacts net destination (Links step ∷ ts) place (more_lowered lower r)
+  facts_later step ts place to lower r e f =
+      record {
+        count = suc f.count;
+        within = omega (arith, f.within);
+        left = f.left;
+        lowered = bound lower;
+        into = f.into;
+        stands = ap (option_and_then (λ next. stand_after net next (take f.count ts))) e ∙ f.stands;
+      }
+    where
+      bound : (lower : Bool) → one_if lower + r.lowered ≤ suc f.count
+      bound true = omega (arith, f.lowered)
+      bound false = omega (arith, f.lowered)
+
+  pub ride-facts : (ts : List Step) (place : Place) (r : Ride) → IsHow net place.node place.how → is_some (stand_after net place.node ts) ≡ true
+      → ride_of net destination ts place ≡ Some r → RideFacts net destination ts place r
+  ride-facts [] place r how stands h = by_way (way_of net place destination) refl h
+    where
+      by_way : (w : Way) → way_of net place destination ≡ w → ride_end place w ≡ Some r → RideFacts net destination [] place r
+      by_way (Away reason) e h = absurd (cc)
+      by_way Own e h = absurd (cc)
+      by_way (Over set lower) e h = absurd (cc)
+      by_way (Into n) e h = subst (RideFacts net destination [] place) (some-same _ r h) (facts_here [] place n e)
+  ride-facts (t ∷ ts) place r how stands h =
+      by_way t (way_of net place destination) refl (way-links net keeps place destination how) stands h
+      (λ to q stands h. ride-facts ts (arrived to place) q tt stands h)
+    where
+      by_way : (t : Step) (w : Way) → way_of net place destination ≡ w → HasLinks w → is_some (stand_after net place.node (t ∷ ts)) ≡ true
+          → ride_by net place (t ∷ ts) t (ride_of net destination ts) w ≡ Some r
+          → ((to : ℕ) (q : Ride) → is_some (stand_after net to ts) ≡ true → ride_of net destination ts (arrived to place) ≡ Some q
+          → RideFacts net destination ts (arrived to place) q)
+          → RideFacts net destination (t ∷ ts) place r
+      by_way t (Away reason) e links stands h ih = absurd (cc)
+      by_way t Own e links stands h ih = absurd (cc)
+      by_way t (Into n) e links stands h ih = subst (RideFacts net destination (t ∷ ts) place) (some-same _ r h) (facts_here (t ∷ ts) place n e)
+      by_way (Function sid) (Over set lower) e links stands h ih = absurd (cc)
+      by_way (Links step) (Over set lower) e links stands h ih =
+          let opened = step_opens net place.node step ts stands in
+          let all = if-some (list_all (has_link step) set) _ r h in
+          let got = map-some (more_lowered lower) _ r all.1 in
+          let at : first_end net set ≡ Some opened.0 = first_end-is net opened.0 step set opened.1 all.0 links in
+          let later : ride_of net destination ts (arrived opened.0 place) ≡ Some got.0
+          = ap (λ (o : Option ℕ). ride_on (arrival o place) (ride_of net destination ts)) (sym at) ∙ got.1 in
+          subst (RideFacts net destination (Links step ∷ ts) place) got.2
+          (facts_later step ts place opened.0 lower got.0 opened.3 (ih opened.0 got.0 opened.2 later))
+
+-- where the walk stands after some steps and then others
+pub stand_after-append : (net : Network) (node : ℕ) (xs ys : List Step)
+    → stand_after net node (xs ++ ys) ≡ option_and_then (λ n. stand_after net n ys) (stand_after net node xs)
+stand_after-append net node [] ys = refl
+stand_after-append net node (x ∷ xs) ys = by_next (node_after net node x) (λ next. stand_after-append net next xs ys)
+  where
+    by_next : (o : Option ℕ)
+        → ((next : ℕ) → stand_after net next (xs ++ ys) ≡ option_and_then (λ n. stand_after net n ys) (stand_after net next xs))
+        → option_and_then (λ next. stand_after net next (xs ++ ys)) o
+        ≡ option_and_then (λ n. stand_after net n ys) (option_and_then (λ next. stand_after net next xs) o)
+    by_next None ih = refl
+    by_next (Some next) ih = ih next
+
+pub stand_after-split : (net : Network) (node to : ℕ) (steps : List Step) (position : ℕ) → stand_after net node (take position steps) ≡ Some to
+    → stand_after net node steps ≡ stand_after net to (drop position steps)
+stand_after-split net node to steps position e =
+    ap (stand_after net node) (sym (take-append-drop position steps))
+    ∙ stand_after-append net node (take position steps) (drop position steps)
+    ∙ ap (option_and_then (λ n. stand_after net n (drop position steps))) e
+
+pub is_at-is : (to : ℕ) (o : Option ℕ) → is_at to o ≡ true → o ≡ Some to
+is_at-is to None h = absurd (false≢true h)
+is_at-is to (Some n) h = ap Some (eqb-true n to h)
+
+-- a SID of a position is there, and stands where the walk stands
+pub sid-at : (net : Network) (intent : Intent) (position n : ℕ) → is_sid_at net intent position n ≡ true
+    → (s : SidEntry) × (slice_get net.sids n ≡ Some s) × (node_at net intent position ≡ Some s.node)
+    × (title_suits n (step_before intent.steps position) s.title ≡ true)
+sid-at net intent position n h = by_sid (slice_get net.sids n) refl h
+  where
+    by_sid : (o : Option SidEntry) → slice_get net.sids n ≡ o → sid_suits n (node_at net intent position) (step_before intent.steps position) o ≡ true
+        → (s : SidEntry) × (slice_get net.sids n ≡ Some s) × (node_at net intent position ≡ Some s.node)
+        × (title_suits n (step_before intent.steps position) s.title ≡ true)
+    by_sid None e h = absurd (false≢true h)
+    by_sid (Some s) e h =
+        let parts = and_parts (is_at s.node (node_at net intent position)) (title_suits n (step_before intent.steps position) s.title) h in
+        (s, e, is_at-is s.node (node_at net intent position) parts.0, parts.1)
+
+-- what holds of the place where a packet starts to the next SID
+pub record StartFacts (net : Network) (intent : Intent) (position : ℕ) (place : Place) : Type 0 where
+  pub within : position ≤ length intent.steps
+  pub stands : node_at net intent position ≡ Some place.node
+  pub rest : is_some (stand_after net place.node (drop position intent.steps)) ≡ true
+  pub how : IsHow net place.node place.how
+  pub family : place.family ≡ families.V6
+
+pub intent-stands : (net : Network) (intent : Intent) → IsIntent net intent
+    → (is_some (stand_after net intent.headend intent.steps) ≡ true) × (length intent.steps ≤ 48) × (1 ≤ length intent.steps) × (intent.headend < length net.nodes)
+unfolding is_intent
+intent-stands net intent h =
+    let a = and_parts (nat_lt intent.headend (length net.nodes)) _ h in
+    let b = and_parts (nat_le 1 intent.hop_limit) _ a.1 in
+    let c = and_parts (nat_le 1 intent.max_containers) _ b.1 in
+    let d = and_parts (nat_le intent.max_containers 127) _ c.1 in
+    let e = and_parts (nat_lt intent.flow_label (2 ^ 20)) _ d.1 in
+    let f = and_parts (nat_le 1 (length intent.steps)) _ e.1 in
+    let g = and_parts (nat_le (length intent.steps) 48) _ f.1 in
+    let k = and_parts (is_some (stand_after net intent.headend intent.steps)) (ends_in_function intent.steps) g.1 in
+    (k.0, leb-true (length intent.steps) 48 g.0, leb-true 1 (length intent.steps) f.0, ltb-true intent.headend (length net.nodes) a.0)
+
+module _ (net : Network) (keeps : Keeps net) (intent : Intent) (is_intent : IsIntent net intent) where
+  behind-how : (v : ℕ) (s : SidEntry) → slice_get net.sids v ≡ Some s → IsHow net s.node (on_from v s.behaviour)
+  behind-how v s e = by_behaviour s.behaviour ((keeps.sid v s e).links)
+    where
+      by_behaviour : (b : Behaviour) → SuitsBehaviour net.links s.node b s.links → IsHow net s.node (on_from v b)
+      by_behaviour behaviours.End suits = tt
+      by_behaviour behaviours.EndX suits = subst (IsThrough s.node) (sym e) (refl, suits.some)
+      by_behaviour (behaviours.Dt6 table) suits = tt
+
+  start_from : (position : ℕ) (place : Place) → position ≤ length intent.steps → node_at net intent position ≡ Some place.node
+      → IsHow net place.node place.how → place.family ≡ families.V6 → StartFacts net intent position place
+  start_from position place within stands how family =
+      record {
+        within = within;
+        stands = stands;
+        rest = ap is_some (sym (stand_after-split net intent.headend place.node intent.steps position stands)) ∙ (intent-stands net intent is_intent).0;
+        how = how;
+        family = family;
+      }
+
+  pub start-facts : (position : ℕ) (via : Option ℕ) (place : Place) → is_start net intent position via ≡ true → place_from net intent via ≡ Some place
+      → StartFacts net intent position place
+  start-facts position None place start from =
+      let parts = and_parts (nat_le position (length intent.steps)) (position == 0) start in
+      let e : position ≡ 0 = eqb-true position 0 parts.1 in
+      subst (StartFacts net intent position) (some-same _ place from)
+      (start_from position _ (leb-true position (length intent.steps) parts.0)
+      (ap (λ (n : ℕ). stand_after net intent.headend (take n intent.steps)) e) tt refl)
+  start-facts position (Some v) place start from =
+      let parts = and_parts (nat_le position (length intent.steps)) (is_via net intent position (Some v)) start in
+      let at = and_parts (is_sid_at net intent position v) (is_middle net v) parts.1 in
+      let sid = sid-at net intent position v at.0 in
+      let e : Path (Option Place) (Some (place_behind v sid.0)) (Some place)
+      = ap (option_map (place_behind v)) (sym sid.1) ∙ from in
+      subst (StartFacts net intent position) (some-same _ place e)
+      (start_from position (place_behind v sid.0) (leb-true position (length intent.steps) parts.0) sid.2 (behind-how v sid.0 sid.1) refl)

@@ -1,0 +1,181 @@
+-- Encapsulated packets at the SIDs of their segments.
+use Rattle.std.proofs.Common.{◌≡◌, ℕ, suc, ◌+◌, ◌-◌, ◌^◌, ◌<◌, ◌≤◌, Bool, true, false, ◌==◌, ◌&&◌, if◌then◌else◌, List, [], ◌∷◌, ◌++◌, length, drop, Some, None, slice_get, slice_index, refl, sym, ◌∙◌, ap, arith, eqb-true}
+use Rattle.std.proofs.Common.{append-nil}
+use Rattle.std.specs.List.{All}
+use Rattle.std.proofs.lemmas.Bool.{false≢true, and_parts, eq-eqb}
+use Rattle.v6_addr.specs.Address.{PrefixValue, Holds}
+use Rattle.srv6_rules.specs.declared.sid.Behaviour.{Behaviour}
+use Rattle.srv6_rules.specs.declared.sid.Behaviour.TheVariants as behaviours
+use Rattle.srv6_rules.specs.declared.sid.Family.{Family}
+use Rattle.srv6_rules.specs.declared.sid.Family.TheVariants as families
+use Rattle.srv6_rules.specs.declared.sid.Reason.TheVariants as reasons
+use Rattle.srv6_rules.specs.declared.sid.SidEntry.{SidEntry}
+use Rattle.srv6_rules.specs.Packet.{V6, content_of}
+use Rattle.srv6_rules.specs.Endpoint.{at_sid, upper_layer, ipv6_inside}
+use Rattle.srv6_rules.specs.Encapsulation.{Encapsulation, at_segment, takes_next_segment}
+use Rattle.srv6_rules.proofs.Encapsulations.{at_segment-onward, at_segment-hop_limit, at_segment-bad_segments, at_segment-upper_layer, at_segment-exposed}
+use Rattle.net_model.specs.declared.net.Hit.{Hit}
+use Rattle.net_model.specs.declared.net.Hit.TheVariants as hits
+use Rattle.net_model.specs.Network.{Network}
+use Rattle.net_model.specs.Rules.{IsNetwork}
+use Rattle.net_model.specs.Flat.{IsFlat}
+use Rattle.net_model.specs.Best.{lookup_of}
+use Rattle.net_model.proofs.AlikeLemmas.{one_sid_prefix, matched_sid_holds}
+use Rattle.walk_rules.specs.declared.place.How.{How}
+use Rattle.walk_rules.specs.declared.place.How.TheVariants.{Arrived, Submitted, Through}
+use Rattle.walk_rules.specs.declared.place.Place.{Place}
+use Rattle.walk_rules.specs.declared.place.Outcome.TheVariants as outcomes
+use Rattle.walk_rules.specs.Treatment.{Away, Into, is_multicast, way_of, way_by, way_by_hit, Gave, treated_at_sid, allow_of, step_of, on_from, dropped}
+use Rattle.intent_reader.specs.declared.intent.Step.{Step}
+use Rattle.intent_reader.specs.declared.intent.Step.TheVariants.{Links, Function}
+use Rattle.leg_table.specs.Trace.{Event, Executed, is_titled, executed}
+use Rattle.leg_table.specs.Tasks.{matches, left_after, left_after_function}
+use Rattle.leg_table.specs.Sids.{goes_on, first_address, sid_address}
+use Rattle.leg_table.proofs.Options.{if-some, some-same}
+use Rattle.leg_table.proofs.Executions.{stage_into}
+
+pub goes-takes : (b : Behaviour) → takes_next_segment b ≡ goes_on b
+goes-takes behaviours.End = refl
+goes-takes behaviours.EndX = refl
+goes-takes (behaviours.Dt6 table) = refl
+
+pub family-v6 : (f : Family) → f ≡ families.V6
+family-v6 families.V6 = refl
+
+-- the way into a SID is by a look-up
+into-lookup : (net : Network) (place : Place) (a n : ℕ) → way_of net place a ≡ Into n → (table : ℕ) × (lookup_of net place.node table a ≡ hits.Sid n)
+unfolding way_of
+into-lookup net place a n e = by_how place.how e
+  where
+    by_hit : (lower : Bool) (h : Hit) → way_by_hit net lower h ≡ Into n → h ≡ hits.Sid n
+    by_hit lower (hits.Sid m) e = cc
+    by_hit lower hits.Address e = absurd (cc)
+    by_hit lower (hits.Route m) e = absurd (cc)
+    by_hit lower hits.Nothing e = absurd (cc)
+
+    by_table : (table : ℕ) (lower t : Bool) → (if t then Away reasons.Multicast else way_by_hit net lower (lookup_of net place.node table a)) ≡ Into n
+        → (table : ℕ) × (lookup_of net place.node table a ≡ hits.Sid n)
+    by_table table lower true e = absurd (cc)
+    by_table table lower false e = (table, by_hit lower (lookup_of net place.node table a) e)
+
+    by_how : (how : How) → way_by net place.node how a ≡ Into n → (table : ℕ) × (lookup_of net place.node table a ≡ hits.Sid n)
+    by_how (Arrived table) e = by_table table true (is_multicast a) e
+    by_how (Submitted table) e = by_table table false (is_multicast a) e
+    by_how (Through sid lower) e = absurd (cc)
+
+holds-itself : (p : PrefixValue) → Holds p p.value
+unfolding Holds
+holds-itself p = refl
+
+-- in a flat network a packet to the first address of a SID's prefix comes into SIDs of that prefix alone
+pub into-address : (net : Network) → IsNetwork net → IsFlat net → (place : Place) (m n : ℕ) (s t : SidEntry) → slice_get net.sids m ≡ Some s
+    → slice_get net.sids n ≡ Some t → way_of net place s.prefix.value ≡ Into n → sid_address net n ≡ s.prefix.value
+into-address net network flat place m n s t hm hn e =
+    let found = into-lookup net place s.prefix.value n e in
+    let holds = matched_sid_holds net n t place.node found.0 s.prefix.value found.1 hn in
+    let same = one_sid_prefix net m n s t s.prefix.value network flat hm hn (holds-itself s.prefix) holds.2 in
+    ap first_address hn ∙ ap (λ (p : PrefixValue). p.value) (sym same)
+
+module _ (net : Network) (e : Encapsulation) (bytes : List ℕ) (place : Place) (n i hop choice : ℕ) (s : SidEntry)
+    (into : way_of net place (slice_index e.segments i) ≡ Into n) (there : slice_get net.sids n ≡ Some s) where
+  abbrev stage : Gave
+  stage = step_of net place (V6 (at_segment e bytes i hop)) choice
+
+  stage-is : stage ≡ treated_at_sid n s.behaviour (at_segment e bytes i hop) (at_sid s.behaviour (allow_of (slice_get net.nodes place.node)) (at_segment e bytes i hop))
+  stage-is = stage_into net place (at_segment e bytes i hop) n s choice into there
+
+  abbrev allow : List ℕ
+  allow = allow_of (slice_get net.nodes place.node)
+
+  -- at a segment that is not the last
+  pub mid-onward : goes_on s.behaviour ≡ true → i + 1 < length e.segments → All (λ a. a < 2 ^ 128) e.segments → 1 < hop
+      → stage ≡ record { outcome = outcomes.Again n (on_from n s.behaviour); after = V6 (at_segment e bytes (i + 1) (hop - 1)) }
+  mid-onward middle below all high =
+      stage-is
+      ∙ ap (treated_at_sid n s.behaviour (at_segment e bytes i hop))
+      (at_segment-onward e bytes i hop s.behaviour allow (goes-takes s.behaviour ∙ middle) below all high)
+
+  pub mid-low : goes_on s.behaviour ≡ true → i + 1 < length e.segments → hop ≤ 1 → stage ≡ dropped reasons.HopLimit (V6 (at_segment e bytes i hop))
+  mid-low middle below low =
+      stage-is
+      ∙ ap (treated_at_sid n s.behaviour (at_segment e bytes i hop))
+      (at_segment-hop_limit e bytes i hop s.behaviour allow (goes-takes s.behaviour ∙ middle) below low)
+
+  pub mid-exposes : (table : ℕ) → s.behaviour ≡ behaviours.Dt6 table → i + 1 < length e.segments
+      → stage ≡ dropped reasons.BadSegments (V6 (at_segment e bytes i hop))
+  mid-exposes table last below =
+      stage-is
+      ∙ ap (λ (b : Behaviour). treated_at_sid n b (at_segment e bytes i hop) (at_sid b allow (at_segment e bytes i hop))) last
+      ∙ ap (treated_at_sid n (behaviours.Dt6 table) (at_segment e bytes i hop)) (at_segment-bad_segments e bytes i hop table allow below)
+
+  -- at the last segment
+  pub last-exposes : (table : ℕ) → s.behaviour ≡ behaviours.Dt6 table → i + 1 ≡ length e.segments
+      → stage ≡ record { outcome = outcomes.Hand n (on_from n (behaviours.Dt6 table)) families.V6; after = content_of bytes }
+  last-exposes table last end =
+      stage-is
+      ∙ ap (λ (b : Behaviour). treated_at_sid n b (at_segment e bytes i hop) (at_sid b allow (at_segment e bytes i hop))) last
+      ∙ ap (treated_at_sid n (behaviours.Dt6 table) (at_segment e bytes i hop)) (at_segment-exposed e bytes i hop table allow end)
+
+  pub last-stays : goes_on s.behaviour ≡ true → i + 1 ≡ length e.segments
+      → stage ≡ treated_at_sid n s.behaviour (at_segment e bytes i hop) (upper_layer allow ipv6_inside)
+  last-stays middle end =
+      stage-is
+      ∙ ap (treated_at_sid n s.behaviour (at_segment e bytes i hop))
+      (at_segment-upper_layer e bytes i hop s.behaviour allow (goes-takes s.behaviour ∙ middle) end)
+
+-- the steps left behind an execution that meets the steps
+module _ (net : Network) (n : ℕ) where
+  pub record LeftBehind (ts us : List Step) : Type 0 where
+    pub left : left_after net n ts ≡ Some (length us)
+    pub rest : us ≡ drop (length ts - length us) ts
+    pub few : length us ≤ length ts
+    pub same : (es : List Event) → matches ts (executed net n ++ es) ≡ matches us es
+
+  title-out : is_titled net n ≡ false → (ts : List Step) → LeftBehind ts ts
+  title-out e ts =
+      record {
+        left = ap (λ (t : Bool). if t then left_after_function n ts else Some (length ts)) e;
+        rest = let z : length ts - length ts ≡ 0 = omega arith in ap (λ (k : ℕ). drop k ts) (sym z);
+        few = omega arith;
+        same = λ es. ap (λ (t : Bool). matches ts ((if t then Executed n ∷ [] else []) ++ es)) e;
+      }
+
+  title-in : is_titled net n ≡ true → (sid : ℕ) (ts : List Step) → sid ≡ n → LeftBehind (Function sid ∷ ts) ts
+  title-in e sid ts same =
+      record {
+        left =
+            ap (λ (t : Bool). if t then left_after_function n (Function sid ∷ ts) else Some (suc (length ts))) e
+            ∙ ap (λ (t : Bool). if t then Some (length ts) else None) (eq-eqb sid n same);
+        rest = let z : suc (length ts) - length ts ≡ 1 = omega arith in ap (λ (k : ℕ). drop k (Function sid ∷ ts)) (sym z);
+        few = omega arith;
+        same = λ es.
+            ap (λ (t : Bool). matches (Function sid ∷ ts) ((if t then Executed n ∷ [] else []) ++ es)) e
+            ∙ ap (λ (t : Bool). t && matches ts es) (eq-eqb sid n same);
+      }
+
+  -- so many steps are left
+  pub left-behind : (ts : List Step) (left : ℕ) → left_after net n ts ≡ Some left → (us : List Step) × LeftBehind ts us × (length us ≡ left)
+  left-behind ts left h = by_title (is_titled net n) refl ts h
+    where
+      by_title : (t : Bool) → is_titled net n ≡ t → (ts : List Step) → (if t then left_after_function n ts else Some (length ts)) ≡ Some left
+          → (us : List Step) × LeftBehind ts us × (length us ≡ left)
+      by_title false e ts h = (ts, title-out e ts, some-same (length ts) left h)
+      by_title true e [] h = absurd (cc)
+      by_title true e (Links set ∷ ts) h = absurd (cc)
+      by_title true e (Function sid ∷ ts) h =
+          let got = if-some (sid == n) (Some (length ts)) left h in
+          (ts, title-in e sid ts (eqb-true sid n got.0), some-same (length ts) left got.1)
+
+  -- and so it is where the events meet the steps
+  pub meets-behind : (ts : List Step) (es : List Event) → matches ts (executed net n ++ es) ≡ true → (us : List Step) × LeftBehind ts us
+  meets-behind ts es h = by_title (is_titled net n) refl ts h
+    where
+      by_title : (t : Bool) → is_titled net n ≡ t → (ts : List Step) → matches ts ((if t then Executed n ∷ [] else []) ++ es) ≡ true
+          → (us : List Step) × LeftBehind ts us
+      by_title false e ts h = (ts, title-out e ts)
+      by_title true e [] h = absurd (false≢true h)
+      by_title true e (Links set ∷ ts) h = absurd (false≢true h)
+      by_title true e (Function sid ∷ ts) h = (ts, title-in e sid ts (eqb-true sid n (and_parts (sid == n) (matches ts es) h).0))
+
+  pub behind-alone : (ts us : List Step) → LeftBehind ts us → matches ts (executed net n) ≡ matches us []
+  behind-alone ts us b = ap (matches ts) (sym (append-nil (executed net n))) ∙ b.same []

@@ -1,0 +1,291 @@
+-- The legs of an intent in a network keep the laws of legs.
+use Rattle.std.proofs.Common.{◌≡◌, ℕ, zero, suc, ◌+◌, ◌-◌, ◌<◌, ◌≤◌, Bool, true, false, ◌==◌, ◌||◌, not, if◌then◌else◌, List, [], ◌∷◌, length, take, drop, Option, Some, None, slice_get, Contains, refl, sym, ◌∙◌, ap, subst, arith, eqb-true, add-one, nat_le}
+use Rattle.std.specs.Prelude.{is_some}
+use Rattle.std.specs.Option.{option_and_then}
+use Rattle.std.proofs.lemmas.Bool.{false≢true, and_parts, and_from, eq-eqb, leb-true}
+use Rattle.std.proofs.lemmas.List.{length-drop}
+use Rattle.std.proofs.lemmas.Option.{slice_get_within, get_or_from_slice_get}
+use Rattle.std.proofs.Math.Seq.{take-add}
+use Rattle.v6_addr.specs.Address.{PrefixValue}
+use Rattle.srv6_rules.specs.declared.sid.SidEntry.{SidEntry}
+use Rattle.net_model.specs.Network.{Network}
+use Rattle.net_model.specs.Rules.{IsNetwork}
+use Rattle.net_model.specs.Keeps.{Keeps}
+use Rattle.net_model.proofs.KeepsLemmas.{keeps_from_network}
+use Rattle.walk_rules.specs.declared.place.Place.{Place}
+use Rattle.walk_rules.specs.Treatment.{Into, way_of}
+use Rattle.walk_rules.proofs.Lookups.{SidStandsAt}
+use Rattle.walk_rules.proofs.Executions.{IntoStands, way-stands}
+use Rattle.intent_reader.specs.Rules.{IsIntent, stand_after, node_after, function_node, is_at}
+use Rattle.intent_reader.specs.declared.intent.Step.{Step}
+use Rattle.intent_reader.specs.declared.intent.Step.TheVariants.{Links, Function}
+use Rattle.intent_reader.specs.declared.intent.Intent.{Intent}
+use Rattle.leg_table.specs.declared.types.Leg.{Leg}
+use Rattle.leg_table.specs.Trace.{has_title}
+use Rattle.leg_table.specs.Tasks.{left_after, left_after_function}
+use Rattle.leg_table.specs.Ride.{Ride, ride_of}
+use Rattle.leg_table.specs.Sids.{comes_before, goes_on, sid_goes_on, is_middle, sid_exposes, first_address, sid_address, sid_before, in_order, sids_of, is_sid_at, sid_suits, title_suits, step_before, is_function_of, node_at}
+use Rattle.leg_table.specs.Table.{shape_by, shape_of}
+use Rattle.leg_table.specs.Leg.{is_via, is_start, leg_of, finish_of}
+use Rattle.leg_table.specs.Value.{ascends, IsVia, comes_to, IsLegOf, IsFinishOf, KeepsLaws, legs_value}
+use Rattle.leg_table.proofs.Options.{some-same, if-some}
+use Rattle.leg_table.proofs.RideFacts.{ride-facts, start-facts, intent-stands, stand_after-append}
+use Rattle.leg_table.proofs.LegLemmas.{NextRide, leg-ride, finish-ride}
+use Rattle.leg_table.proofs.Placing.{step-lands}
+use Rattle.leg_table.proofs.Positions.{are-sids, sids-few}
+
+shape-middle : (o : Option SidEntry) → (shape_by o).middle ≡ sid_goes_on o
+shape-middle None = refl
+shape-middle (Some s) = refl
+
+shape-address : (o : Option SidEntry) → (shape_by o).prefix.value ≡ first_address o
+shape-address None = refl
+shape-address (Some s) = refl
+
+before-shapes : (o q : Option SidEntry) → sid_before o q ≡ true → comes_before (shape_by o).prefix (shape_by q).prefix ≡ true
+before-shapes None q h = absurd (false≢true h)
+before-shapes (Some s) None h = absurd (false≢true h)
+before-shapes (Some s) (Some t) h = h
+
+-- a SID is not both middle and last
+middle-last : (o : Option SidEntry) → sid_goes_on o ≡ true → sid_exposes o ≡ true → ⊥
+middle-last None h k = false≢true h
+middle-last (Some s) h k = not_both (goes_on s.behaviour) h k
+  where
+    not_both : (t : Bool) → t ≡ true → not t ≡ true → ⊥
+    not_both true h k = false≢true k
+    not_both false h k = false≢true h
+
+ascends-from : (net : Network) (intent : Intent) (xs : List ℕ) → in_order net xs ≡ true → ascends (legs_value net intent) xs ≡ true
+ascends-from net intent [] h = refl
+ascends-from net intent (n ∷ []) h = refl
+ascends-from net intent (n ∷ m ∷ ms) h =
+    let parts = and_parts (sid_before (slice_get net.sids n) (slice_get net.sids m)) (in_order net (m ∷ ms)) h in
+    and_from _ (ascends (legs_value net intent) (m ∷ ms)) (before-shapes (slice_get net.sids n) (slice_get net.sids m) parts.0)
+    (ascends-from net intent (m ∷ ms) parts.1)
+
+pub drop-drop : {X : Type 0} (n m : ℕ) (xs : List X) → drop m (drop n xs) ≡ drop (n + m) xs
+drop-drop zero m xs = let e : 0 + m ≡ m = omega arith in rw e refl
+drop-drop (suc n) zero [] = let e : suc n + 0 ≡ suc n = omega arith in rw e refl
+drop-drop {X} (suc n) (suc m) [] = let e : suc n + suc m ≡ suc (n + suc m) = omega arith in rw e refl
+drop-drop {X} (suc n) m (x ∷ xs) = let e : suc n + m ≡ suc (n + m) = omega arith in rw e (drop-drop n m xs)
+
+-- the first of what is left from a place on
+get-drop : {X : Type 0} (xs : List X) (n : ℕ) (x : X) (ys : List X) → drop n xs ≡ x ∷ ys → slice_get xs n ≡ Some x
+get-drop [] zero x ys e = absurd (cc)
+get-drop [] (suc n) x ys e = absurd (cc)
+get-drop (y ∷ xs) zero x ys e = cc
+get-drop (y ∷ xs) (suc n) x ys e = get-drop xs n x ys e
+
+module _ (net : Network) (keeps : Keeps net) (intent : Intent) (is_intent : IsIntent net intent) where
+  -- where a ride ends: the SID stands there, and so many steps are done
+  pub record Arrives (position next : ℕ) (left : ℕ) : Type 0 where
+    pub sid : SidEntry
+    pub there : slice_get net.sids next ≡ Some sid
+    pub done : ℕ
+    pub from : position ≤ done
+    pub until : done ≤ length intent.steps
+    pub stands : node_at net intent done ≡ Some sid.node
+    pub rest : List Step
+    pub rest_is : drop done intent.steps ≡ rest
+    pub left_is : left_after net next rest ≡ Some left
+
+  pub into-stands : (place : Place) (d n : ℕ) → way_of net place d ≡ Into n → (s : SidEntry) × (slice_get net.sids n ≡ Some s) × (s.node ≡ place.node)
+  into-stands place d n e = by_sid (slice_get net.sids n) refl (subst (IntoStands net place.node) e (way-stands net place d))
+    where
+      by_sid : (o : Option SidEntry) → slice_get net.sids n ≡ o → SidStandsAt place.node o
+          → (s : SidEntry) × (slice_get net.sids n ≡ Some s) × (s.node ≡ place.node)
+      by_sid None f h = absurd h
+      by_sid (Some s) f h = (s, f, h)
+
+  pub arrives : (position : ℕ) (via : Option ℕ) (next : ℕ) (n : NextRide net intent position via next) → Arrives position next n.left
+  arrives position via next n =
+      let s = start-facts net keeps intent is_intent position via n.place n.start n.from in
+      let f = ride-facts net keeps (sid_address net next) (drop position intent.steps) n.place n.ride s.how s.rest n.is_ride in
+      let sid = into-stands n.ride.place (sid_address net next) next (f.into ∙ ap Into n.sid) in
+      let len = length-drop position intent.steps in
+      record {
+        sid = sid.0;
+        there = sid.1;
+        done = position + f.count;
+        from = omega arith;
+        until = omega (arith, f.within, s.within);
+        stands =
+            ap (stand_after net intent.headend) (take-add position f.count intent.steps)
+            ∙ stand_after-append net intent.headend (take position intent.steps) (take f.count (drop position intent.steps))
+            ∙ ap (option_and_then (λ k. stand_after net k (take f.count (drop position intent.steps)))) s.stands
+            ∙ f.stands ∙ ap Some (sym sid.2);
+        rest = n.ride.left;
+        rest_is = sym (drop-drop position f.count intent.steps) ∙ sym f.left;
+        left_is = n.left_is;
+      }
+
+  abbrev pub AtEnd : ℕ → ℕ → ℕ → Type 0
+  AtEnd position next left =
+      (to : ℕ) × (length intent.steps - left ≡ to) × (position ≤ to) × (to ≤ length intent.steps) × (is_sid_at net intent to next ≡ true)
+
+  left-by : (position next left : ℕ) (a : Arrives position next left) (t : Bool) → is_some a.sid.title ≡ t
+      → (if t then left_after_function next a.rest else Some (length a.rest)) ≡ Some left
+  left-by position next left a t e =
+      ap (λ (b : Bool). if b then left_after_function next a.rest else Some (length a.rest)) (sym e)
+      ∙ ap (λ (o : Option SidEntry). if has_title o then left_after_function next a.rest else Some (length a.rest)) (sym a.there)
+      ∙ a.left_is
+
+  sid-at-from : (to next : ℕ) (s : SidEntry) → slice_get net.sids next ≡ Some s → node_at net intent to ≡ Some s.node
+      → title_suits next (step_before intent.steps to) s.title ≡ true → is_sid_at net intent to next ≡ true
+  sid-at-from to next s there stands suits =
+      ap (sid_suits next (node_at net intent to) (step_before intent.steps to)) there
+      ∙ and_from (is_at s.node (node_at net intent to)) (title_suits next (step_before intent.steps to) s.title)
+      (ap (is_at s.node) stands ∙ eq-eqb s.node s.node refl) suits
+
+  at-untitled : (position next left : ℕ) (a : Arrives position next left) → a.sid.title ≡ None → AtEnd position next left
+  at-untitled position next left a none =
+      let e : length a.rest ≡ left = some-same (length a.rest) left (left-by position next left a false (ap is_some none)) in
+      let l = ap length a.rest_is in
+      let k = length-drop a.done intent.steps in (
+        a.done,
+        omega (arith, a.until),
+        a.from,
+        a.until,
+        sid-at-from a.done next a.sid a.there a.stands (ap (title_suits next (step_before intent.steps a.done)) none),
+      )
+
+  at-titled : (position next left : ℕ) (a : Arrives position next left) (title : ℕ) → a.sid.title ≡ Some title → AtEnd position next left
+  at-titled position next left a title some = by_rest a.rest a.rest_is (left-by position next left a true (ap is_some some))
+    where
+      by_rest : (rest : List Step) → drop a.done intent.steps ≡ rest → left_after_function next rest ≡ Some left → AtEnd position next left
+      by_rest [] e h = absurd (cc)
+      by_rest (Links set ∷ ts) e h = absurd (cc)
+      by_rest (Function m ∷ ts) e h =
+          let got = if-some (m == next) (Some (length ts)) left h in
+          let same : m ≡ next = eqb-true m next got.0 in
+          let count : length ts ≡ left = some-same (length ts) left got.1 in
+          let l = ap length e in
+          let k = length-drop a.done intent.steps in
+          let at = get-drop intent.steps a.done (Function m) ts e in
+          let below : a.done < length intent.steps = slice_get_within intent.steps a.done (Function m) at in
+          let after : node_after net a.sid.node (Function m) ≡ Some a.sid.node
+          = ap (λ (j : ℕ). function_node a.sid.node (slice_get net.sids j)) same
+          ∙ ap (function_node a.sid.node) a.there
+          ∙ ap (λ (b : Bool). if b then Some a.sid.node else None)
+          (and_from (a.sid.node == a.sid.node) (is_some a.sid.title) (eq-eqb a.sid.node a.sid.node refl) (ap is_some some)) in
+          let lands = step-lands net intent a.done a.sid.node a.sid.node (Function m) a.stands below
+          (get_or_from_slice_get intent.steps a.done (Function m) (Function m) at) after in
+          let stands : node_at net intent (suc a.done) ≡ Some a.sid.node = rw add-one at lands in (
+            suc a.done,
+            omega arith,
+            omega (arith, a.from),
+            omega arith,
+            sid-at-from (suc a.done) next a.sid a.there stands
+                (ap (title_suits next (slice_get intent.steps a.done)) some ∙ ap (is_function_of next) at ∙ got.0),
+          )
+
+  pub at-end : (position next left : ℕ) → Arrives position next left → AtEnd position next left
+  at-end position next left a = by_title a.sid.title refl
+    where
+      by_title : (o : Option ℕ) → a.sid.title ≡ o → AtEnd position next left
+      by_title None e = at-untitled position next left a e
+      by_title (Some title) e = at-titled position next left a title e
+
+  via-is : (position : ℕ) (via : Option ℕ) → is_start net intent position via ≡ true → (position ≤ length intent.steps) × IsVia (legs_value net intent) position via
+  via-is position None start =
+      let parts = and_parts (nat_le position (length intent.steps)) (position == 0) start in
+      (leb-true position (length intent.steps) parts.0, eqb-true position 0 parts.1)
+  via-is position (Some v) start =
+      let parts = and_parts (nat_le position (length intent.steps)) (is_via net intent position (Some v)) start in
+      let at = and_parts (is_sid_at net intent position v) (is_middle net v) parts.1 in
+      (leb-true position (length intent.steps) parts.0, (((are-sids net keeps intent position).each v).1 at.0, shape-middle (slice_get net.sids v) ∙ at.1))
+
+  few-lowered : (position : ℕ) (via : Option ℕ) (next : ℕ) → (n : NextRide net intent position via next) → n.ride.lowered ≤ 48
+  few-lowered position via next n =
+      let s = start-facts net keeps intent is_intent position via n.place n.start n.from in
+      let f = ride-facts net keeps (sid_address net next) (drop position intent.steps) n.place n.ride s.how s.rest n.is_ride in
+      let len = length-drop position intent.steps in
+      let few = (intent-stands net intent is_intent).1 in
+      omega (arith, f.within, f.lowered)
+
+  law-leg : (position : ℕ) (via : Option ℕ) (next : ℕ) (leg : Leg) → leg_of net intent position via next ≡ Some leg
+      → IsLegOf (legs_value net intent) position via next leg
+  law-leg position via next leg h =
+      let got = leg-ride net intent position via next leg h in
+      let n = got.0 in
+      let at = at-end position next n.left (arrives position via next n) in
+      let via_is = via-is position via n.start in
+      let low = few-lowered position via next n in
+      subst (IsLegOf (legs_value net intent) position via next) got.2
+      (record {
+        start = via_is.0;
+        from_via = via_is.1;
+        forward = omega (arith, at.1, at.2);
+        within = omega arith;
+        is_next =
+            subst (λ (to : ℕ). Contains (sids_of net intent to) next) (sym at.1) (((are-sids net keeps intent at.0).each next).1 at.4);
+        middle = shape-middle (slice_get net.sids next) ∙ got.1;
+        hops = omega arith;
+      })
+
+  law-finish : (position : ℕ) (via : Option ℕ) (next lowered : ℕ) → finish_of net intent position via next ≡ Some lowered
+      → IsFinishOf (legs_value net intent) position via next lowered
+  law-finish position via next lowered h =
+      let got = finish-ride net intent position via next lowered h in
+      let n = got.0 in
+      let at = at-end position next n.left (arrives position via next n) in
+      let via_is = via-is position via n.start in
+      let low = few-lowered position via next n in
+      let last : length intent.steps ≡ at.0 = omega (arith, at.1, got.3) in
+      record {
+        start = via_is.0;
+        from_via = via_is.1;
+        is_next = subst (λ (to : ℕ). Contains (sids_of net intent to) next) (sym last) (((are-sids net keeps intent at.0).each next).1 at.4);
+        hops = omega (arith, got.2);
+      }
+
+  -- what comes to a SID is a ride
+  comes-ride : (position : ℕ) (via : Option ℕ) (next : ℕ) → comes_to (legs_value net intent) position via next ≡ true → NextRide net intent position via next
+  comes-ride position via next h = by_leg (leg_of net intent position via next) refl h
+    where
+      by_finish : (o : Option ℕ) → finish_of net intent position via next ≡ o → is_some o ≡ true → NextRide net intent position via next
+      by_finish None e h = absurd (false≢true h)
+      by_finish (Some lowered) e h = (finish-ride net intent position via next lowered e).0
+
+      by_leg : (o : Option Leg) → leg_of net intent position via next ≡ o → (is_some o || is_some (finish_of net intent position via next)) ≡ true
+          → NextRide net intent position via next
+      by_leg None e h = by_finish (finish_of net intent position via next) refl h
+      by_leg (Some leg) e h = (leg-ride net intent position via next leg e).0
+
+  law-one : (position : ℕ) (via : Option ℕ) (next other : ℕ) → comes_to (legs_value net intent) position via next ≡ true
+      → comes_to (legs_value net intent) position via other ≡ true → (shape_of net next).prefix ≡ (shape_of net other).prefix → next ≡ other
+  law-one position via next other h k e =
+      let n = comes-ride position via next h in
+      let m = comes-ride position via other k in
+      let place : n.place ≡ m.place = some-same n.place m.place (sym n.from ∙ m.from) in
+      let address : sid_address net next ≡ sid_address net other
+      = sym (shape-address (slice_get net.sids next)) ∙ ap (λ (p : PrefixValue). p.value) e ∙ shape-address (slice_get net.sids other) in
+      let ride : n.ride ≡ m.ride
+      = some-same n.ride m.ride
+      (sym n.is_ride
+      ∙ ap (λ (d : ℕ). ride_of net d (drop position intent.steps) n.place) address
+      ∙ ap (ride_of net (sid_address net other) (drop position intent.steps)) place
+      ∙ m.is_ride) in
+      sym n.sid ∙ ap (λ (r : Ride). r.sid) ride ∙ m.sid
+
+  law-above : (position : ℕ) (via : Option ℕ) (next : ℕ) (leg : Leg) (lowered : ℕ) → leg_of net intent position via next ≡ Some leg
+      → finish_of net intent position via next ≡ Some lowered → lowered < leg.hops
+  law-above position via next leg lowered h k =
+      absurd (middle-last (slice_get net.sids next) (leg-ride net intent position via next leg h).1 (finish-ride net intent position via next lowered k).1)
+
+  laws : KeepsLaws (legs_value net intent)
+  laws =
+      record {
+        steps = (intent-stands net intent is_intent).1;
+        sids_count = λ position within. let few = sids-few net keeps intent position in omega arith;
+        sids_order = λ position within. ascends-from net intent (sids_of net intent position) (are-sids net keeps intent position).order;
+        leg = law-leg;
+        finish = law-finish;
+        one_of_prefix = law-one;
+        above_finish = law-above;
+      }
+
+-- the legs of an intent that keeps the rules, in a network that keeps the rules
+pub strict-laws : (net : Network) (intent : Intent) → IsNetwork net → IsIntent net intent → KeepsLaws (legs_value net intent)
+strict-laws net intent network is_intent = laws net (keeps_from_network net network) intent is_intent

@@ -1,0 +1,169 @@
+-- Legs and finishes: from the execution of one SID to that of the next.
+use Rattle.std.specs.Prelude.{◌≡◌, ℕ, zero, suc, ◌+◌, ◌-◌, ◌<◌, ◌≤◌, Bool, true, false, ◌==◌, ◌&&◌, nat_le, if◌then◌else◌, List, [], drop, length, slice_get, Option, Some, None, IsTrue, ◌↔◌}
+use Rattle.std.specs.Option.{option_map, option_and_then}
+use Rattle.srv6_rules.specs.declared.sid.Behaviour.TheVariants as behaviours
+use Rattle.srv6_rules.specs.declared.sid.Family.TheVariants as families
+use Rattle.srv6_rules.specs.declared.sid.SidEntry.{SidEntry}
+use Rattle.srv6_rules.specs.Packet.{Packet, Content, V6, Unreadable}
+use Rattle.srv6_rules.specs.Endpoint.{Endpoint, Onward, Exposed, Delivered, Refused, at_sid}
+use Rattle.net_model.specs.Network.{Network}
+use Rattle.walk_rules.specs.declared.place.How.TheVariants.{Submitted}
+use Rattle.walk_rules.specs.declared.place.Place.{Place}
+use Rattle.walk_rules.specs.declared.place.Outcome.{Outcome}
+use Rattle.walk_rules.specs.declared.place.Outcome.TheVariants as outcomes
+use Rattle.walk_rules.specs.Treatment.{on_from}
+use Rattle.walk_rules.specs.Walk as walks
+use Rattle.intent_reader.specs.declared.intent.Step.{Step}
+use Rattle.intent_reader.specs.declared.intent.Intent.{Intent}
+use Rattle.leg_table.specs.declared.types.Leg.{Leg}
+use Rattle.leg_table.specs.Tasks.{left_after}
+use Rattle.leg_table.specs.Choices.{ForAllChoices}
+use Rattle.leg_table.specs.Ride.{Ride, ride_of, with_hop_limit}
+use Rattle.leg_table.specs.Sids.{goes_on, is_sid_at, is_middle, is_last, sid_address}
+
+-- from where a packet goes to the next SID: from the headend, which made it, or from the SID that was executed last
+abbrev pub place_behind : ℕ → SidEntry → Place
+place_behind v s = record { node = s.node; how = on_from v s.behaviour; family = families.V6 }
+
+abbrev pub place_from : Network → Intent → Option ℕ → Option Place
+place_from net intent None = Some (record { node = intent.headend; how = Submitted 0; family = families.V6 })
+place_from net intent (Some v) = option_map (place_behind v) (slice_get net.sids v)
+
+-- a SID may have been executed last at a position: none at the start alone, else one of that position that is middle
+abbrev pub is_via : Network → Intent → ℕ → Option ℕ → Bool
+is_via net intent position None = position == 0
+is_via net intent position (Some v) = is_sid_at net intent position v && is_middle net v
+
+abbrev pub is_start : Network → Intent → ℕ → Option ℕ → Bool
+is_start net intent position via = nat_le position (length intent.steps) && is_via net intent position via
+
+-- the ride to the next SID
+abbrev pub ride_to : Network → Intent → ℕ → Option ℕ → ℕ → Option Ride
+ride_to net intent position via next =
+    option_and_then (ride_of net (sid_address net next) (drop position intent.steps)) (place_from net intent via)
+
+-- the steps left behind the ride and the execution, where the ride ends at the SID
+abbrev pub left_behind : Network → ℕ → Ride → Option ℕ
+left_behind net next r = if r.sid == next then left_after net next r.left else None
+
+abbrev pub leg_with : ℕ → ℕ → ℕ → Leg
+leg_with count lowered left = record { to = count - left; hops = lowered + 1 }
+
+abbrev pub leg_behind : Network → ℕ → ℕ → Option Ride → Option Leg
+leg_behind net count next None = None
+leg_behind net count next (Some r) = option_map (leg_with count r.lowered) (left_behind net next r)
+
+-- the leg to the next SID, by look-ups alone
+abbrev pub leg_of : Network → Intent → ℕ → Option ℕ → ℕ → Option Leg
+leg_of net intent position via next =
+    if is_start net intent position via && is_middle net next
+    then leg_behind net (length intent.steps) next (ride_to net intent position via next)
+    else None
+
+abbrev pub if_none_left : ℕ → ℕ → Option ℕ
+if_none_left lowered zero = Some lowered
+if_none_left lowered (suc more) = None
+
+abbrev pub finish_behind : Network → ℕ → Option Ride → Option ℕ
+finish_behind net next None = None
+finish_behind net next (Some r) = option_and_then (if_none_left r.lowered) (left_behind net next r)
+
+-- how often the hop limit is lowered on the way to the last SID, by look-ups alone
+abbrev pub finish_of : Network → Intent → ℕ → Option ℕ → ℕ → Option ℕ
+finish_of net intent position via next =
+    if is_start net intent position via && is_last net next
+    then finish_behind net next (ride_to net intent position via next)
+    else None
+
+-- packets that End takes on to a next segment, and packets from which End.DT6 exposes a packet
+abbrev pub is_onward : Endpoint → Bool
+is_onward (Onward q) = true
+is_onward (Exposed content) = false
+is_onward Delivered = false
+is_onward (Refused reason) = false
+
+abbrev pub is_exposed : Endpoint → Bool
+is_exposed (Onward q) = false
+is_exposed (Exposed content) = true
+is_exposed Delivered = false
+is_exposed (Refused reason) = false
+
+abbrev pub has_next_segment : Packet → Bool
+has_next_segment p = is_onward (at_sid behaviours.End [] (with_hop_limit 2 p))
+
+abbrev pub has_packet_inside : Packet → Bool
+has_packet_inside p = is_exposed (at_sid (behaviours.Dt6 0) [] p)
+
+-- SID n was executed, and the packet goes on
+abbrev pub is_again : ℕ → Outcome → Bool
+is_again n (outcomes.Again m how) = m == n
+is_again n (outcomes.Hand m how family) = false
+is_again n (outcomes.Send link) = false
+is_again n outcomes.Local = false
+is_again n (outcomes.Drop reason) = false
+
+-- SID n was executed, and exposed the packet inside
+abbrev pub is_hand : ℕ → Outcome → Bool
+is_hand n (outcomes.Again m how) = false
+is_hand n (outcomes.Hand m how family) = m == n
+is_hand n (outcomes.Send link) = false
+is_hand n outcomes.Local = false
+is_hand n (outcomes.Drop reason) = false
+
+abbrev pub has_limit : ℕ → Content → Bool
+has_limit limit (V6 p) = p.hop_limit == limit
+has_limit limit (Unreadable bytes reason) = false
+
+abbrev pub is_left : ℕ → Option ℕ → Bool
+is_left left None = false
+is_left left (Some m) = m == left
+
+-- the stage executes SID n, with so many steps left then and this hop limit behind it
+abbrev pub executes : Network → ℕ → ℕ → ℕ → List Step → walks.Step → Bool
+executes net n left limit ts s = is_again n s.gave.outcome && (is_left left (left_after net n ts) && has_limit limit s.gave.after)
+
+-- the stage exposes the packet inside at SID n, with so many steps left then and this hop limit before it
+abbrev pub exposes : Network → ℕ → ℕ → ℕ → List Step → walks.Step → Bool
+exposes net n left limit ts s = is_hand n s.gave.outcome && (is_left left (left_after net n ts) && has_limit limit s.before)
+
+-- a packet to the SID's address that has a next segment is taken from a place along the first steps to SID n and executed
+-- there, for all choices, with so many steps left; that is so exactly above so many hops, by which its hop limit falls
+abbrev pub IsTaken : Network → List Step → ℕ → ℕ → ℕ → Place → Type 0
+IsTaken net ts n left hops place =
+    (p : Packet) → p.destination ≡ sid_address net n → IsTrue (has_next_segment p) → 0 < p.hop_limit →
+    (hops < p.hop_limit) ↔ ForAllChoices net (executes net n left (p.hop_limit - hops)) ts place (V6 p)
+
+-- the same of a packet with a packet inside, which SID n exposes
+abbrev pub IsHanded : Network → List Step → ℕ → ℕ → ℕ → Place → Type 0
+IsHanded net ts n left lowered place =
+    (p : Packet) → p.destination ≡ sid_address net n → IsTrue (has_packet_inside p) → 0 < p.hop_limit →
+    (lowered < p.hop_limit) ↔ ForAllChoices net (exposes net n left (p.hop_limit - lowered)) ts place (V6 p)
+
+abbrev pub FromPlace : Option Place → (Place → Type 0) → Type 0
+FromPlace None P = ⊥
+FromPlace (Some place) P = P place
+
+-- a leg: from a position, and the SID that was executed last there if one was, to a next SID that is middle
+pub record IsLeg (net : Network) (intent : Intent) (position : ℕ) (via : Option ℕ) (next : ℕ) (leg : Leg) : Type 0 where
+  pub start : IsTrue (is_start net intent position via)
+  pub middle : IsTrue (is_middle net next)
+  pub within : leg.to ≤ length intent.steps
+  pub taken : FromPlace (place_from net intent via) (IsTaken net (drop position intent.steps) next (length intent.steps - leg.to) leg.hops)
+
+-- a finish: to a last SID, which exposes the packet inside with no step left
+pub record IsFinish (net : Network) (intent : Intent) (position : ℕ) (via : Option ℕ) (next : ℕ) (lowered : ℕ) : Type 0 where
+  pub start : IsTrue (is_start net intent position via)
+  pub last : IsTrue (is_last net next)
+  pub handed : FromPlace (place_from net intent via) (IsHanded net (drop position intent.steps) next 0 lowered)
+
+-- the place to start from, where a packet may start so
+abbrev pub start_of : Network → Intent → ℕ → Option ℕ → Option Place
+start_of net intent position via = if is_start net intent position via then place_from net intent via else None
+
+-- from where a packet goes on behind the execution of a middle SID
+abbrev pub middle_place_by : ℕ → Option SidEntry → Option Place
+middle_place_by v None = None
+middle_place_by v (Some s) = if goes_on s.behaviour then Some (place_behind v s) else None
+
+abbrev pub middle_place : Network → ℕ → Option Place
+middle_place net v = middle_place_by v (slice_get net.sids v)

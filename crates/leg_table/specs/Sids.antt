@@ -1,0 +1,104 @@
+-- The SIDs that may be executed at a position of an intent: after so many of its steps.
+use Rattle.std.specs.Prelude.{ℕ, zero, suc, Bool, true, false, ◌==◌, ◌&&◌, ◌||◌, nat_lt, not, if◌then◌else◌, List, [], ◌∷◌, take, length, slice_get, Option, Some, None, IsTrue, Contains, ◌↔◌}
+use Rattle.v6_addr.specs.Address.{PrefixValue}
+use Rattle.srv6_rules.specs.declared.sid.Behaviour.{Behaviour}
+use Rattle.srv6_rules.specs.declared.sid.Behaviour.TheVariants as behaviours
+use Rattle.srv6_rules.specs.declared.sid.SidEntry.{SidEntry}
+use Rattle.net_model.specs.Network.{Network}
+use Rattle.intent_reader.specs.Rules.{stand_after, is_at}
+use Rattle.intent_reader.specs.declared.intent.Step.{Step}
+use Rattle.intent_reader.specs.declared.intent.Step.TheVariants.{Links, Function}
+use Rattle.intent_reader.specs.declared.intent.Intent.{Intent}
+
+-- from a SID that is middle the packet goes on to a next segment
+abbrev pub goes_on : Behaviour → Bool
+goes_on behaviours.End = true
+goes_on behaviours.EndX = true
+goes_on (behaviours.Dt6 table) = false
+
+abbrev pub sid_goes_on : Option SidEntry → Bool
+sid_goes_on None = false
+sid_goes_on (Some s) = goes_on s.behaviour
+
+abbrev pub is_middle : Network → ℕ → Bool
+is_middle net n = sid_goes_on (slice_get net.sids n)
+
+-- a SID that exposes the packet inside
+abbrev pub sid_exposes : Option SidEntry → Bool
+sid_exposes None = false
+sid_exposes (Some s) = not (goes_on s.behaviour)
+
+abbrev pub is_last : Network → ℕ → Bool
+is_last net n = sid_exposes (slice_get net.sids n)
+
+-- the address that a SID's prefix begins with
+abbrev pub first_address : Option SidEntry → ℕ
+first_address None = 0
+first_address (Some s) = s.prefix.value
+
+abbrev pub sid_address : Network → ℕ → ℕ
+sid_address net n = first_address (slice_get net.sids n)
+
+-- where the walk stands after so many steps
+abbrev pub node_at : Network → Intent → ℕ → Option ℕ
+node_at net intent position = stand_after net intent.headend (take position intent.steps)
+
+-- the step that ends at a position, if one does
+abbrev pub step_before : List Step → ℕ → Option Step
+step_before steps zero = None
+step_before steps (suc i) = slice_get steps i
+
+-- the function of a step
+abbrev pub is_function_of : ℕ → Option Step → Bool
+is_function_of n None = false
+is_function_of n (Some (Links set)) = false
+is_function_of n (Some (Function sid)) = sid == n
+
+-- a SID without a title, or one whose title is that of the step's function
+abbrev pub title_suits : ℕ → Option Step → Option ℕ → Bool
+title_suits n step None = true
+title_suits n step (Some title) = is_function_of n step
+
+abbrev pub sid_suits : ℕ → Option ℕ → Option Step → Option SidEntry → Bool
+sid_suits n stands step None = false
+sid_suits n stands step (Some s) = is_at s.node stands && title_suits n step s.title
+
+-- SID n stands at the node where the walk is after so many steps, and has no title or is the function of the last of them
+abbrev pub is_sid_at : Network → Intent → ℕ → ℕ → Bool
+is_sid_at net intent position n =
+    sid_suits n (node_at net intent position) (step_before intent.steps position) (slice_get net.sids n)
+
+-- the order of prefixes: by value, then by length
+abbrev pub comes_before : PrefixValue → PrefixValue → Bool
+comes_before p q = nat_lt p.value q.value || ((p.value == q.value) && nat_lt p.len q.len)
+
+abbrev pub sid_before : Option SidEntry → Option SidEntry → Bool
+sid_before None t = false
+sid_before (Some s) None = false
+sid_before (Some s) (Some t) = comes_before s.prefix t.prefix
+
+-- numbers of SIDs in the order of their prefixes, each prefix once
+abbrev pub in_order : Network → List ℕ → Bool
+in_order net [] = true
+in_order net (n ∷ []) = true
+in_order net (n ∷ m ∷ ms) = sid_before (slice_get net.sids n) (slice_get net.sids m) && in_order net (m ∷ ms)
+
+-- the SIDs at a position, in order, each once; they stand at one node, where no two SIDs have one prefix
+pub record AreSidsAt (net : Network) (intent : Intent) (position : ℕ) (sids : List ℕ) : Type 0 where
+  pub each : (n : ℕ) → Contains sids n ↔ IsTrue (is_sid_at net intent position n)
+  pub order : IsTrue (in_order net sids)
+
+-- the number of a SID put into its place among others in order
+abbrev pub placed : Network → ℕ → List ℕ → List ℕ
+placed net n [] = n ∷ []
+placed net n (m ∷ ms) = if sid_before (slice_get net.sids n) (slice_get net.sids m) then n ∷ m ∷ ms else m ∷ placed net n ms
+
+-- the SIDs of a position among those of lower numbers, in order
+unfoldable pub sids_below : Network → Intent → ℕ → ℕ → List ℕ
+sids_below net intent position zero = []
+sids_below net intent position (suc k) =
+    if is_sid_at net intent position k then placed net k (sids_below net intent position k) else sids_below net intent position k
+
+-- the SIDs of a position, in order
+abbrev pub sids_of : Network → Intent → ℕ → List ℕ
+sids_of net intent position = sids_below net intent position (length net.sids)

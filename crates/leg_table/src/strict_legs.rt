@@ -1,0 +1,229 @@
+//! The legs of an intent in a network.
+
+ghost use Rattle.std.specs.Prelude.{◌≡◌, ◌<◌, ◌≤◌, ℕ, length, drop, slice_get, Some, IfOk, IfSome};
+ghost use Rattle.std.specs.Option.{option_map};
+ghost use Rattle.net_model.specs.Rules.{IsNetwork};
+ghost use Rattle.walk_rules.specs.Relation.{IsPlace};
+ghost use Rattle.walk_rules.specs.Treatment.{on_from};
+ghost use Rattle.intent_reader.specs.Rules.{IsIntent};
+ghost use Rattle.leg_table.specs.Course.{way_behind};
+ghost use Rattle.leg_table.specs.Leg as legs;
+ghost use Rattle.leg_table.specs.Sids as sids;
+ghost use Rattle.leg_table.specs.Tasks as tasks;
+ghost use Rattle.leg_table.specs.Table.{LegTable, shape_of};
+
+use crate::legs::Legs;
+use crate::no_memory::NoMemory;
+use crate::ride::{Behind, way_to};
+use crate::rows::{Row, rows_of};
+use crate::types::{Leg, Shape};
+use intent_reader::Intent;
+use net_model::Net;
+use srv6_rules::{Behaviour, Family};
+use std::alloc::Global;
+use std::marker::Model;
+use walk_rules::{How, Place};
+
+/// The legs of an intent in a network, with the SIDs of each position.
+#[derive(Debug, Drop)]
+pub struct StrictLegs<'a> {
+    net: &'a Net,
+    intent: &'a Intent,
+    rows: Vec<Row>,
+}
+
+impl<'a> Model for StrictLegs<'a> {
+    ghost use Rattle.leg_table.specs.Table.{LegTable, IsTable};
+
+    ghost Value = { LegTable };
+
+    ghost view = { λ s. record { net = s.net.now; intent = s.intent.now } };
+
+    ghost invariant = { λ s. IsTable s.net.now s.intent.now s.rows.items };
+}
+
+impl<'a> StrictLegs<'a> {
+    /// The legs of an intent that keeps the rules in the network.
+    pub fn build(
+        alloc: Global,
+        net: &'a Net,
+        intent: &'a Intent,
+    ) -> Result<StrictLegs<'a>, NoMemory>
+        requires { IsIntent net.now intent.now }
+        ensures { IfOk result (λ t. t ≡ record { net = net.now; intent = intent.now }) }
+    {
+        net.keeps_rules();
+        let rows = rows_of(alloc, net, intent)?;
+        Ok(StrictLegs { net, intent, rows })
+    }
+
+    /// That the table is whole: an empty function, for the callers' proofs.
+    pub fn keeps_rules(&self)
+        ensures network { IsNetwork self.now.net }
+        ensures intent { IsIntent self.now.net self.now.intent }
+    {
+        let _ = &self.rows;
+    }
+
+    fn count(&self) -> u32
+        ensures value { result ≡ length self.now.intent.steps }
+        ensures few { result ≤ 48 }
+    {
+        self.keeps_rules();
+        self.intent.steps.as_slice().len() as u32
+    }
+
+    fn row(&self, position: u32) -> &[u32]
+        requires { position ≤ length self.now.intent.steps }
+        ensures { result.now ≡ sids.sids_of self.now.net self.now.intent position }
+    {
+        self.rows[position as usize].as_slice()
+    }
+
+    // a SID is one of a position
+    fn has_sid(&self, position: u32, n: u32) -> bool
+        requires { position ≤ length self.now.intent.steps }
+        ensures { result ≡ sids.is_sid_at self.now.net self.now.intent position n }
+    {
+        self.keeps_rules();
+        self.row(position).contains(&n)
+    }
+
+    // from where a packet starts to the next SID
+    fn start(&self, position: u32, via: Option<u32>) -> Option<Place>
+        ensures value { result ≡ legs.start_of self.now.net self.now.intent position via }
+        ensures is_place { IfSome result (λ place. IsPlace self.now.net place × (position ≤ length self.now.intent.steps)) }
+    {
+        self.keeps_rules();
+        if position > self.count() {
+            return None;
+        }
+        match via {
+            None if position == 0 => Some(Place {
+                node: self.intent.headend,
+                how: How::Submitted { table: 0 },
+                family: Family::V6,
+            }),
+            None => None,
+            Some(v) if self.has_sid(position, v) => place_behind(self.net, v),
+            Some(_) => None,
+        }
+    }
+}
+
+impl<'a> StrictLegs<'a> {
+    // the way from the start to a next SID
+    fn way_behind(&self, position: u32, via: Option<u32>, next: u32) -> Option<Behind>
+        requires { next < length self.now.net.sids }
+        ensures value { result ≡ way_behind self.now.net self.now.intent position via next }
+        ensures few { IfSome result (λ b. (b.left ≤ length self.now.intent.steps) × (b.lowered ≤ 48)) }
+    {
+        self.count();
+        let place = self.start(position, via)?;
+        let (_, rest) = self.intent.steps.as_slice().split_at(position as usize);
+        way_to(self.net, next, rest, place)
+    }
+}
+
+impl<'a> Legs for StrictLegs<'a> {
+    ghost use Rattle.leg_table.specs.Value.{legs_value};
+
+    ghost seen = { λ t. legs_value t.net t.intent };
+
+    fn steps(&self) -> u32 {
+        self.keeps_rules();
+        self.count()
+    }
+
+    fn sids_at(&self, position: u32) -> &[u32] {
+        self.row(position)
+    }
+
+    fn shape(&self, sid: u32) -> Shape {
+        self.keeps_rules();
+        let sid = self.net.sid(sid);
+        Shape {
+            prefix: sid.prefix,
+            middle: goes_on(sid.behaviour),
+        }
+    }
+
+    fn leg(&self, position: u32, via: Option<u32>, next: u32) -> Option<Leg> {
+        if !is_middle(self.net, next) {
+            return None;
+        }
+        match self.way_behind(position, via, next) {
+            Some(behind) => Some(Leg {
+                to: self.count() - behind.left,
+                hops: behind.lowered + 1,
+            }),
+            None => None,
+        }
+    }
+
+    fn finish(&self, position: u32, via: Option<u32>, next: u32) -> Option<u32> {
+        if !is_last(self.net, next) {
+            return None;
+        }
+        match self.way_behind(position, via, next) {
+            Some(behind) if behind.left == 0 => Some(behind.lowered),
+            _ => None,
+        }
+    }
+}
+
+// from a SID the packet goes on to a next segment
+fn goes_on(behaviour: Behaviour) -> bool
+    ensures { result ≡ sids.goes_on behaviour }
+{
+    match behaviour {
+        Behaviour::End | Behaviour::EndX => true,
+        Behaviour::Dt6 { .. } => false,
+    }
+}
+
+fn is_middle(net: &Net, n: u32) -> bool
+    ensures { result ≡ sids.is_middle net.now n }
+{
+    n < net.sids() && goes_on(net.sid(n).behaviour)
+}
+
+fn is_last(net: &Net, n: u32) -> bool
+    ensures { result ≡ sids.is_last net.now n }
+{
+    n < net.sids() && !goes_on(net.sid(n).behaviour)
+}
+
+// where the packet stands behind the execution of a middle SID
+fn place_behind(net: &Net, v: u32) -> Option<Place>
+    ensures value { result ≡ legs.middle_place net.now v }
+    ensures is_place { IfSome result (IsPlace net.now) }
+{
+    net.keeps_rules();
+    if v >= net.sids() {
+        return None;
+    }
+    let sid = net.sid(v);
+    if !goes_on(sid.behaviour) {
+        return None;
+    }
+    Some(Place {
+        node: sid.node,
+        how: how_behind(v, sid.behaviour),
+        family: Family::V6,
+    })
+}
+
+// how the packet goes on from a SID
+fn how_behind(v: u32, behaviour: Behaviour) -> How
+    ensures { result ≡ on_from v behaviour }
+{
+    match behaviour {
+        Behaviour::End => How::Submitted { table: 0 },
+        Behaviour::EndX => How::Through {
+            sid: v,
+            lower: false,
+        },
+        Behaviour::Dt6 { table } => How::Arrived { table },
+    }
+}
