@@ -47,7 +47,7 @@ pub fn name_of_reason(reason: Reason) -> &'static str
 }
 
 /// The bytes of two texts, one after the other.
-fn joined(alloc: Global, first: &[u8], second: &[u8]) -> Result<Vec<u8>, AllocError>
+pub fn joined(alloc: Global, first: &[u8], second: &[u8]) -> Result<Vec<u8>, AllocError>
     ensures { IfOk result (λ bytes. bytes.items ≡ first.now ++ second.now) }
 {
     let mut bytes = first.to_vec(alloc)?;

@@ -14,6 +14,13 @@ pub enum Words<'a> {
         /// The node's name.
         node: &'a str,
     },
+    /// A list for the intent of a file in the network that another describes.
+    Compile {
+        /// The description's name.
+        file: &'a str,
+        /// The intent's name.
+        intent: &'a str,
+    },
     /// Nothing that there is.
     Unknown,
 }
@@ -23,12 +30,17 @@ pub fn command(words: &[String]) -> Words<'_>
     ensures { command_seen result ≡ command_of (words_of words.now) }
 {
     match words {
-        [verb, file, node] if verb.as_str() == "run" && !file.is_empty() && !node.is_empty() => {
-            Words::Run {
-                file: file.as_str(),
-                node: node.as_str(),
-            }
-        }
+        [verb, first, second] if !first.is_empty() && !second.is_empty() => match verb.as_str() {
+            "run" => Words::Run {
+                file: first.as_str(),
+                node: second.as_str(),
+            },
+            "compile" => Words::Compile {
+                file: first.as_str(),
+                intent: second.as_str(),
+            },
+            _ => Words::Unknown,
+        },
         _ => Words::Unknown,
     }
 }

@@ -1,0 +1,51 @@
+-- Which output is wanted of a command, the files and the input.
+use Rattle.std.specs.Prelude.{◌≡◌, ◌⊎◌, ℕ, List, [], ◌∷◌, Option, Some, None, Result, Ok, Err}
+use Rattle.srx_edge.specs.Edge.{file_named}
+use Rattle.net_model.specs.Network.{Network}
+use Rattle.srv6_cli.specs.declared.refusal.Refusal.{Refusal}
+use Rattle.srv6_cli.specs.declared.status.Status.{Status}
+use Rattle.srv6_cli.specs.declared.status.Status.TheVariants as statuses
+use Rattle.srv6_cli.specs.Command.{Command, Run, Compile, Unknown}
+use Rattle.srv6_cli.specs.Output.{Output, with_file, run_output, usage_output, network_in}
+use Rattle.srv6_cli.specs.Compiling.{CompileWants}
+use Rattle.srv6_cli.specs.Served.{IsWhole, IsFront}
+
+-- an output that a command may have; only `compile` may have several, by the list that it finds
+abbrev pub Wants : Command → List (List ℕ × List ℕ) → List ℕ → Output → Type 0
+Wants (Run file name) files input w = w ≡ with_file (file_named files file) (λ text. run_output text name input)
+Wants (Compile file intent) files input w = CompileWants (file_named files file) (file_named files intent) w
+Wants Unknown files input w = w ≡ usage_output
+
+-- with the two faults each of the two sinks has received a front of such an output, or nothing
+pub record IsFrontOfSome (command : Command) (files : List (List ℕ × List ℕ)) (input : List ℕ) (out_old out_new err_old err_new : Option (List ℕ)) : Type 0 where
+  pub some : Output
+  pub wanted : ((some.written ≡ []) × (some.told ≡ [])) ⊎ Wants command files input some
+  pub front : IsFront some out_old out_new err_old err_new
+
+-- with every other status they have received all of it, and the status is its own
+pub record IsWholeOfSome (command : Command) (files : List (List ℕ × List ℕ)) (input : List ℕ) (status : Status) (out_old out_new err_old err_new : Option (List ℕ)) : Type 0 where
+  pub some : Output
+  pub wanted : Wants command files input some
+  pub whole : IsWhole some status out_old out_new err_old err_new
+
+abbrev pub ServedAs : Command → List (List ℕ × List ℕ) → List ℕ → Status → Option (List ℕ) → Option (List ℕ) → Option (List ℕ) → Option (List ℕ) → Type 0
+ServedAs command files input statuses.Done a b c d = IsWholeOfSome command files input statuses.Done a b c d
+ServedAs command files input statuses.Refused a b c d = IsWholeOfSome command files input statuses.Refused a b c d
+ServedAs command files input statuses.Usage a b c d = IsWholeOfSome command files input statuses.Usage a b c d
+ServedAs command files input statuses.NoAnswer a b c d = IsWholeOfSome command files input statuses.NoAnswer a b c d
+ServedAs command files input statuses.OutsideFault a b c d = IsFrontOfSome command files input a b c d
+ServedAs command files input statuses.NoMemory a b c d = IsFrontOfSome command files input a b c d
+
+-- the files that are asked for: an intent only where the description gives a network
+abbrev pub intent_asked : Result Network Refusal → List ℕ → List (List ℕ)
+intent_asked (Ok net) intent = intent ∷ []
+intent_asked (Err refusal) intent = []
+
+abbrev pub intent_asked_after : Option (List ℕ) → List ℕ → List (List ℕ)
+intent_asked_after None intent = []
+intent_asked_after (Some text) intent = intent_asked (network_in text) intent
+
+abbrev pub asked_files : Command → List (List ℕ × List ℕ) → List (List ℕ)
+asked_files (Run file name) files = file ∷ []
+asked_files (Compile file intent) files = file ∷ intent_asked_after (file_named files file) intent
+asked_files Unknown files = []
