@@ -53,6 +53,15 @@ UnlessNoMemory statuses.NoAnswer P = P
 UnlessNoMemory statuses.OutsideFault P = P
 UnlessNoMemory statuses.NoMemory P = ⊤
 
+-- P, where the status is neither of the two faults
+abbrev pub OnWhole : Status → Type 0 → Type 0
+OnWhole statuses.Done P = P
+OnWhole statuses.Refused P = P
+OnWhole statuses.Usage P = P
+OnWhole statuses.NoAnswer P = P
+OnWhole statuses.OutsideFault P = ⊤
+OnWhole statuses.NoMemory P = ⊤
+
 -- which command it is
 abbrev pub IsCommand : Command → Type 0
 IsCommand (Run file name) = ⊤

@@ -8,7 +8,8 @@ use Rattle.srv6_cli.specs.declared.status.Status.TheVariants as statuses
 use Rattle.srv6_cli.specs.Command.{Command, Run, Compile, Unknown}
 use Rattle.srv6_cli.specs.Output.{Output, with_file, run_output, usage_output, network_in}
 use Rattle.srv6_cli.specs.Compiling.{CompileWants}
-use Rattle.srv6_cli.specs.Served.{IsWhole, IsFront}
+use Rattle.srv6_cli.specs.Served.{IsWhole, IsFront, UnlessNoMemory, OnWhole}
+use Rattle.srv6_cli.specs.Early.{append_names}
 
 -- an output that a command may have; only `compile` may have several, by the list that it finds
 abbrev pub Wants : Command → List (List ℕ × List ℕ) → List ℕ → Output → Type 0
@@ -45,7 +46,12 @@ abbrev pub intent_asked_after : Option (List ℕ) → List ℕ → List (List �
 intent_asked_after None intent = []
 intent_asked_after (Some text) intent = intent_asked (network_in text) intent
 
-abbrev pub asked_files : Command → List (List ℕ × List ℕ) → List (List ℕ)
-asked_files (Run file name) files = file ∷ []
-asked_files (Compile file intent) files = file ∷ intent_asked_after (file_named files file) intent
-asked_files Unknown files = []
+-- the names asked for: the command's files, but an intent only where the description gives a network; after a fault maybe
+-- fewer, and after want of memory too
+abbrev pub asked_of_compile : List ℕ → List ℕ → List (List ℕ × List ℕ) → List (List ℕ)
+asked_of_compile file intent files = file ∷ intent_asked_after (file_named files file) intent
+
+abbrev pub AskedAs : Command → List (List ℕ × List ℕ) → Status → Option (List (List ℕ)) → Option (List (List ℕ)) → Type 0
+AskedAs (Run file name) files status old new = UnlessNoMemory status (new ≡ append_names (file ∷ []) old)
+AskedAs (Compile file intent) files status old new = OnWhole status (new ≡ append_names (asked_of_compile file intent files) old)
+AskedAs Unknown files status old new = new ≡ old
