@@ -26,7 +26,6 @@ Goes-map outcomes.Local t E f h = absurd h
 Goes-map (outcomes.Drop reason) t E f h = absurd h
 
 module _ (net : Network) (end : List Step → walks.Step → Bool) where
-
   -- a row of choices for every list of choices
   abbrev AllPicks : List Step → Place → Content → Type 0
   AllPicks ts place content = (pick : ℕ → ℕ) → (fuel : ℕ) × Rides end ts (walk_of fuel net (Some place) content pick 0)
@@ -46,7 +45,7 @@ module _ (net : Network) (end : List Step → walks.Step → Bool) where
       let gave = step_of net place content (pick taken) in
       Goes-map gave.outcome t _
       (next_rides ts (length ts) (next_place net place gave.outcome) gave.after pick (taken + decisions gave.outcome)
-       (λ next e. every-rides ts next gave.after pick (taken + decisions gave.outcome) e))
+      (λ next e. every-rides ts next gave.after pick (taken + decisions gave.outcome) e))
       (every (pick taken))
 
   goes_agree : (ts : List Step) (more : ℕ) (place : Place) (after : Content) (pick qick : ℕ → ℕ) (taken uaken : ℕ) (o : Outcome) (t : Step) (E : Type 0)
@@ -79,15 +78,16 @@ module _ (net : Network) (end : List Step → walks.Step → Bool) where
       let gave = step_of net place content (pick taken) in
       subst
       (λ (c : ℕ). let gave = step_of net place content c in
-       Goes gave.outcome t (Rides end ts (walk_of more net (next_place net place gave.outcome) gave.after qick (uaken + decisions gave.outcome)))
-       (IsTrue (end (t ∷ ts) (seen_at place content gave))))
+      Goes gave.outcome t (Rides end ts (walk_of more net (next_place net place gave.outcome) gave.after qick (uaken + decisions gave.outcome)))
+      (IsTrue (end (t ∷ ts) (seen_at place content gave))))
       at_first
       (goes_agree ts more place gave.after pick qick taken uaken gave.outcome t _
-       (λ next r. agree more ts next gave.after pick qick (taken + 1) (uaken + 1) (later taken uaken pick qick same) r)
-       h)
+      (λ next r. agree more ts next gave.after pick qick (taken + 1) (uaken + 1) (later taken uaken pick qick same) r)
+      h)
     where
       first_same : (a b : ℕ) (p q : ℕ → ℕ) → p (a + 0) ≡ q (b + 0) → p a ≡ q b
       first_same a b p q e = ap p (omega arith) ∙ (e ∙ ap q (omega arith))
+
       later : (a b : ℕ) (p q : ℕ → ℕ) → ((d : ℕ) → d ≤ suc (length ts) → p (a + d) ≡ q (b + d))
           → (d : ℕ) → d ≤ length ts → p (a + 1 + d) ≡ q (b + 1 + d)
       later a b p q same d h = ap p (omega arith) ∙ (same (suc d) (omega arith) ∙ ap q (omega arith))
@@ -116,17 +116,19 @@ module _ (net : Network) (end : List Step → walks.Step → Bool) where
       none (suc more) (t ∷ ts) r = r
   next_every ts after choice (Some next) all ih =
       ih next (λ pick. let (fuel, r) = all (then_row choice pick) refl in
-          (fuel, agree fuel ts (Some next) after (then_row choice pick) pick (0 + 1) 0 (λ d h. then_row-later choice pick d) r))
+      (fuel, agree fuel ts (Some next) after (then_row choice pick) pick (0 + 1) 0 (λ d h. then_row-later choice pick d) r))
 
   every_from : (ts : List Step) (place : Place) (after : Content) (choice : ℕ) (o : Outcome) (t : Step) (E : Type 0)
       → ((pick : ℕ → ℕ) → pick 0 ≡ choice
-         → (fuel : ℕ) × Goes o t (Rides end ts (walk_of fuel net (next_place net place o) after pick (0 + decisions o))) E)
+      → (fuel : ℕ) × Goes o t (Rides end ts (walk_of fuel net (next_place net place o) after pick (0 + decisions o))) E)
       → ((next : Place) → AllPicks ts next after → EveryWay net end ts next after)
       → Goes o t (AtNext (next_place net place o) (λ next. EveryWay net end ts next after)) E
   every_from ts place after choice (outcomes.Send link) (Links set) E all ih =
-      let first = all (λ _. choice) refl in
-      (first.1.0, next_every ts after choice (next_place net place (outcomes.Send link))
-       (λ pick e. let got = all pick e in (got.0, got.1.1)) ih)
+      let first = all (λ _. choice) refl in (
+        first.1.0,
+        next_every ts after choice (next_place net place (outcomes.Send link))
+            (λ pick e. let got = all pick e in (got.0, got.1.1)) ih,
+      )
   every_from ts place after choice (outcomes.Send link) (Function sid) E all ih = let first = all (λ _. choice) refl in absurd first.1
   every_from ts place after choice (outcomes.Again n how) t E all ih = let first = all (λ _. choice) refl in first.1
   every_from ts place after choice (outcomes.Hand n how family) t E all ih = let first = all (λ _. choice) refl in first.1
@@ -144,16 +146,18 @@ module _ (net : Network) (end : List Step → walks.Step → Bool) where
   first_goes : (t : Step) (ts : List Step) (place : Place) (content : Content) (pick : ℕ → ℕ) (choice fuel : ℕ) → pick 0 ≡ choice
       → Rides end (t ∷ ts) (walk_of fuel net (Some place) content pick 0)
       → let gave = step_of net place content choice in
-        (more : ℕ) × Goes gave.outcome t (Rides end ts (walk_of more net (next_place net place gave.outcome) gave.after pick (0 + decisions gave.outcome)))
-          (IsTrue (end (t ∷ ts) (seen_at place content gave)))
+      (more : ℕ) × Goes gave.outcome t (Rides end ts (walk_of more net (next_place net place gave.outcome) gave.after pick (0 + decisions gave.outcome)))
+      (IsTrue (end (t ∷ ts) (seen_at place content gave)))
   unfolding walk_of
   first_goes t ts place content pick choice zero e r = absurd r
-  first_goes t ts place content pick choice (suc more) e r =
-      (more, subst
-       (λ (c : ℕ). let gave = step_of net place content c in
+  first_goes t ts place content pick choice (suc more) e r = (
+    more,
+    subst
+        (λ (c : ℕ). let gave = step_of net place content c in
         Goes gave.outcome t (Rides end ts (walk_of more net (next_place net place gave.outcome) gave.after pick (0 + decisions gave.outcome)))
         (IsTrue (end (t ∷ ts) (seen_at place content gave))))
-       e r)
+        e r,
+  )
 
   all-every : (ts : List Step) (place : Place) (content : Content) → AllPicks ts place content → EveryWay net end ts place content
   all-every [] place content all =
@@ -193,6 +197,7 @@ module _ (net : Network) (end : List Step → walks.Step → Bool) where
 
   pub choices-every : (ts : List Step) (place : Place) (content : Content)
       → ForAllChoices net end ts place content ↔ EveryWay net end ts place content
-  choices-every ts place content =
-      (λ all. all-every ts place content (choices-picks ts place content all),
-       λ every choices some. (suc (length ts), every-rides ts place content (choice_at choices) 0 every))
+  choices-every ts place content = (
+    λ all. all-every ts place content (choices-picks ts place content all),
+    λ every choices some. (suc (length ts), every-rides ts place content (choice_at choices) 0 every),
+  )

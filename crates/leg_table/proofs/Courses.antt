@@ -31,9 +31,10 @@ pub route-over : (net : Network) → Keeps net → (node : ℕ) (lower : Bool) (
     → (way_by_hit net lower hit ≡ Over links lower) × IsLinkSet net.links node links
 route-over net keeps node lower hit n r links there is_route at same =
     let here : RouteStandsAt node (slice_get net.routes n) = subst (IsThere net node) is_route there in
-    let stands : r.node ≡ node = route-stands node (slice_get net.routes n) r here at in
-    (ap (way_by_hit net lower) is_route ∙ ap (λ (o : Option Route). Over (route_links o) lower) at ∙ ap (λ (s : List ℕ). Over s lower) (sym same),
-     subst (λ (s : List ℕ). IsLinkSet net.links node s) (sym same) (subst (λ (x : ℕ). IsLinkSet net.links x r.via) stands ((keeps.route n r at).via)))
+    let stands : r.node ≡ node = route-stands node (slice_get net.routes n) r here at in (
+      ap (way_by_hit net lower) is_route ∙ ap (λ (o : Option Route). Over (route_links o) lower) at ∙ ap (λ (s : List ℕ). Over s lower) (sym same),
+      subst (λ (s : List ℕ). IsLinkSet net.links node s) (sym same) (subst (λ (x : ℕ). IsLinkSet net.links x r.via) stands ((keeps.route n r at).via)),
+    )
 
 through-stands : (node : ℕ) (o : Option SidEntry) (s : SidEntry) → IsThrough node o → o ≡ Some s → (s.node ≡ node) × (0 < length s.links)
 through-stands node None s h e = absurd h
@@ -50,11 +51,12 @@ pub through-over : (net : Network) → Keeps net → (place : Place) (destinatio
 unfolding way_of
 through-over net keeps place destination sid lower s links is_place through at same =
     let how : IsHow net place.node (hows.Through sid lower) = subst (IsHow net place.node) through is_place.1 in
-    let stands = through-stands place.node (slice_get net.sids sid) s how at in
-    (ap (λ (h : How). way_by net place.node h destination) through
-     ∙ ap (λ (o : Option SidEntry). Over (sid_links o) lower) at ∙ ap (λ (x : List ℕ). Over x lower) (sym same),
-     subst (λ (x : List ℕ). IsLinkSet net.links place.node x) (sym same)
-     (subst (λ (x : ℕ). IsLinkSet net.links x s.links) stands.0 (suits-links net s.node s.behaviour s.links ((keeps.sid sid s at).links) stands.1)))
+    let stands = through-stands place.node (slice_get net.sids sid) s how at in (
+      ap (λ (h : How). way_by net place.node h destination) through
+          ∙ ap (λ (o : Option SidEntry). Over (sid_links o) lower) at ∙ ap (λ (x : List ℕ). Over x lower) (sym same),
+      subst (λ (x : List ℕ). IsLinkSet net.links place.node x) (sym same)
+          (subst (λ (x : ℕ). IsLinkSet net.links x s.links) stands.0 (suits-links net s.node s.behaviour s.links ((keeps.sid sid s at).links) stands.1)),
+    )
 
 -- the first link of a set is there
 pub first-within : (net : Network) (node : ℕ) (set : List ℕ) → IsLinkSet net.links node set → get_or set 0 0 < length net.links

@@ -28,13 +28,13 @@ use Rattle.leg_table.specs.Leg.{is_onward, is_exposed, has_next_segment, has_pac
 -- where a next segment is there, the step over the header depends on the hop limit alone
 segment_opens : (p : Packet) (at : ℕ) (s : Srh) → is_onward (next_segment (with_hop_limit 2 p) at s) ≡ true
     → ((limit : ℕ) → 1 < limit → next_segment (with_hop_limit limit p) at s ≡ Onward (advanced (with_hop_limit limit p) at s))
-      × ((limit : ℕ) → limit ≤ 1 → next_segment (with_hop_limit limit p) at s ≡ Refused reasons.HopLimit)
+    × ((limit : ℕ) → limit ≤ 1 → next_segment (with_hop_limit limit p) at s ≡ Refused reasons.HopLimit)
 segment_opens p at s h = by_tests (has_bad_segments s) (length (tlv_bytes s) == 0) refl refl h
   where
     by_tests : (bad fits : Bool) → has_bad_segments s ≡ bad → (length (tlv_bytes s) == 0) ≡ fits
         → is_onward (if bad then Refused reasons.BadSegments else if fits then Onward (advanced (with_hop_limit 2 p) at s) else Refused reasons.NotBuilt) ≡ true
         → ((limit : ℕ) → 1 < limit → next_segment (with_hop_limit limit p) at s ≡ Onward (advanced (with_hop_limit limit p) at s))
-          × ((limit : ℕ) → limit ≤ 1 → next_segment (with_hop_limit limit p) at s ≡ Refused reasons.HopLimit)
+        × ((limit : ℕ) → limit ≤ 1 → next_segment (with_hop_limit limit p) at s ≡ Refused reasons.HopLimit)
     by_tests true fits e f h = absurd (false≢true h)
     by_tests false false e f h = absurd (false≢true h)
     by_tests false true e f h =
@@ -51,13 +51,14 @@ header_steps b allow p h middle on = by_test (is_segment_routing h) refl on
   where
     with_test : (b : Behaviour) → goes_on b ≡ true → is_segment_routing h ≡ true
         → ((limit : ℕ) → 1 < limit → next_segment (with_hop_limit limit p) h.at (srh_of h.bytes) ≡ Onward (advanced (with_hop_limit limit p) h.at (srh_of h.bytes)))
-          × ((limit : ℕ) → limit ≤ 1 → next_segment (with_hop_limit limit p) h.at (srh_of h.bytes) ≡ Refused reasons.HopLimit)
+        × ((limit : ℕ) → limit ≤ 1 → next_segment (with_hop_limit limit p) h.at (srh_of h.bytes) ≡ Refused reasons.HopLimit)
         → Steps-on b allow p (AtHeader h)
     with_test behaviours.End middle e opens =
         (λ limit high. (advanced (with_hop_limit limit p) h.at (srh_of h.bytes), rw e (opens.0 limit high), refl), λ limit low. rw e (opens.1 limit low))
     with_test behaviours.EndX middle e opens =
         (λ limit high. (advanced (with_hop_limit limit p) h.at (srh_of h.bytes), rw e (opens.0 limit high), refl), λ limit low. rw e (opens.1 limit low))
     with_test (behaviours.Dt6 table) middle e opens = absurd (false≢true middle)
+
     by_test : (t : Bool) → is_segment_routing h ≡ t
         → is_onward (if t then next_segment (with_hop_limit 2 p) h.at (srh_of h.bytes) else Refused reasons.NotBuilt) ≡ true
         → Steps-on b allow p (AtHeader h)
@@ -73,17 +74,17 @@ processed_steps b allow p AtCut middle on = absurd (false≢true on)
 -- at a SID from which packets go on, a packet with a next segment goes on where its hop limit is above 1, else is dropped
 pub steps_on : (b : Behaviour) (allow : List ℕ) (p : Packet) → goes_on b ≡ true → has_next_segment p ≡ true
     → ((limit : ℕ) → 1 < limit → (q : Packet) × (at_sid b allow (with_hop_limit limit p) ≡ Onward q) × (q.hop_limit ≡ limit - 1))
-      × ((limit : ℕ) → limit ≤ 1 → at_sid b allow (with_hop_limit limit p) ≡ Refused reasons.HopLimit)
+    × ((limit : ℕ) → limit ≤ 1 → at_sid b allow (with_hop_limit limit p) ≡ Refused reasons.HopLimit)
 steps_on b allow p middle on = processed_steps b allow p (processed_of p) middle on
 
 dt6_exposes : (table : ℕ) (allow : List ℕ) (p : Packet) (limit : ℕ) (x : Processed) → is_exposed (processed_at_sid (behaviours.Dt6 0) [] p x) ≡ true
     → (content : Content) × (processed_at_sid (behaviours.Dt6 table) allow (with_hop_limit limit p) x ≡ Exposed content)
-      × (processed_at_sid (behaviours.Dt6 0) [] p x ≡ Exposed content)
+    × (processed_at_sid (behaviours.Dt6 0) [] p x ≡ Exposed content)
 dt6_exposes table allow p limit (AtHeader h) on = by_test (is_segment_routing h) on
   where
     by_test : (t : Bool) → is_exposed (if t then Refused reasons.BadSegments else Refused reasons.NotBuilt) ≡ true
         → (content : Content) × (processed_at_sid (behaviours.Dt6 table) allow (with_hop_limit limit p) (AtHeader h) ≡ Exposed content)
-          × (processed_at_sid (behaviours.Dt6 0) [] p (AtHeader h) ≡ Exposed content)
+        × (processed_at_sid (behaviours.Dt6 0) [] p (AtHeader h) ≡ Exposed content)
     by_test true on = absurd (false≢true on)
     by_test false on = absurd (false≢true on)
 dt6_exposes table allow p limit (AtUpper kind at) on = by_test (kind == ipv6_inside) refl on
@@ -91,7 +92,7 @@ dt6_exposes table allow p limit (AtUpper kind at) on = by_test (kind == ipv6_ins
     by_test : (t : Bool) → (kind == ipv6_inside) ≡ t
         → is_exposed (if t then Exposed (content_of (drop at p.payload)) else Refused reasons.UpperLayer) ≡ true
         → (content : Content) × (processed_at_sid (behaviours.Dt6 table) allow (with_hop_limit limit p) (AtUpper kind at) ≡ Exposed content)
-          × (processed_at_sid (behaviours.Dt6 0) [] p (AtUpper kind at) ≡ Exposed content)
+        × (processed_at_sid (behaviours.Dt6 0) [] p (AtUpper kind at) ≡ Exposed content)
     by_test true e on = (content_of (drop at p.payload), rw e refl, rw e refl)
     by_test false e on = absurd (false≢true on)
 dt6_exposes table allow p limit AtCut on = absurd (false≢true on)
@@ -99,20 +100,25 @@ dt6_exposes table allow p limit AtCut on = absurd (false≢true on)
 -- End.DT6 exposes the packet inside, whatever the hop limit
 pub exposes_inside : (table : ℕ) (allow : List ℕ) (p : Packet) (limit : ℕ) → has_packet_inside p ≡ true
     → (content : Content) × (at_sid (behaviours.Dt6 table) allow (with_hop_limit limit p) ≡ Exposed content)
-      × (at_sid (behaviours.Dt6 0) [] p ≡ Exposed content)
+    × (at_sid (behaviours.Dt6 0) [] p ≡ Exposed content)
 exposes_inside table allow p limit on = dt6_exposes table allow p limit (processed_of p) on
 
 -- a packet with one segment to come, and a packet in which a packet begins
 pub some_packet : ℕ → ℕ → Packet
 some_packet destination limit =
     record {
-      traffic_class = 0; flow_label = 0; next_header = 43; hop_limit = limit; source = 0; destination = destination;
-      payload = 41 ∷ 2 ∷ 4 ∷ 1 ∷ 0 ∷ 0 ∷ 0 ∷ 0 ∷ 0 ∷ 0 ∷ 0 ∷ 0 ∷ 0 ∷ 0 ∷ 0 ∷ 0 ∷ 0 ∷ 0 ∷ 0 ∷ 0 ∷ 0 ∷ 0 ∷ 0 ∷ 0 ∷ []
+      traffic_class = 0;
+      flow_label = 0;
+      next_header = 43;
+      hop_limit = limit;
+      source = 0;
+      destination = destination;
+      payload = 41 ∷ 2 ∷ 4 ∷ 1 ∷ 0 ∷ 0 ∷ 0 ∷ 0 ∷ 0 ∷ 0 ∷ 0 ∷ 0 ∷ 0 ∷ 0 ∷ 0 ∷ 0 ∷ 0 ∷ 0 ∷ 0 ∷ 0 ∷ 0 ∷ 0 ∷ 0 ∷ 0 ∷ [];
     }
 
 pub some_packet-has : (destination limit : ℕ)
     → (has_next_segment (some_packet destination limit) ≡ true) × ((some_packet destination limit).destination ≡ destination)
-      × ((some_packet destination limit).hop_limit ≡ limit)
+    × ((some_packet destination limit).hop_limit ≡ limit)
 unfolding some_packet chain_at chain_within
 some_packet-has destination limit = (refl, refl, refl)
 
@@ -122,7 +128,7 @@ last_packet destination limit =
 
 pub last_packet-has : (destination limit : ℕ)
     → (has_packet_inside (last_packet destination limit) ≡ true) × ((last_packet destination limit).destination ≡ destination)
-      × ((last_packet destination limit).hop_limit ≡ limit)
+    × ((last_packet destination limit).hop_limit ≡ limit)
 unfolding last_packet chain_at chain_within
 last_packet-has destination limit = (refl, refl, refl)
 
@@ -177,7 +183,6 @@ is_left-is left (Some m) h = ap Some (eqb-true m left h)
 
 module _ (net : Network) (place : Place) (p : Packet) (n : ℕ) (s : SidEntry) (ts : List Step) (limit left behind : ℕ)
     (into : way_of net place p.destination ≡ Into n) (there : slice_get net.sids n ≡ Some s) where
-
   abbrev Executes : Gave → Type 0
   Executes gave = Ends gave.outcome (IsTrue (executes net n left behind ts (seen_at place (V6 (with_hop_limit limit p)) gave)))
 
@@ -188,16 +193,20 @@ module _ (net : Network) (place : Place) (p : Packet) (n : ℕ) (s : SidEntry) (
     where
       allow : List ℕ
       allow = allow_of (slice_get net.nodes place.node)
+
       stage : step_of net place (V6 (with_hop_limit limit p)) 0
           ≡ treated_at_sid n s.behaviour (with_hop_limit limit p) (at_sid s.behaviour allow (with_hop_limit limit p))
       stage = stage_into net place (with_hop_limit limit p) n s 0 into there
+
       drops : limit ≤ 1 → step_of net place (V6 (with_hop_limit limit p)) 0 ≡ dropped reasons.HopLimit (V6 (with_hop_limit limit p))
       drops low = stage ∙ ap (treated_at_sid n s.behaviour (with_hop_limit limit p)) ((steps_on s.behaviour allow p middle on).1 limit low)
+
       goes : 1 < limit → (q : Packet) × (step_of net place (V6 (with_hop_limit limit p)) 0 ≡ record { outcome = outcomes.Again n (on_from n s.behaviour); after = V6 q })
           × (q.hop_limit ≡ limit - 1)
       goes high =
           let got = (steps_on s.behaviour allow p middle on).0 limit high in
           (got.0, stage ∙ ap (treated_at_sid n s.behaviour (with_hop_limit limit p)) got.1, got.2)
+
       forth : Executes (step_of net place (V6 (with_hop_limit limit p)) 0)
           → ((nat_le limit 1 ≡ true) × (limit ≤ 1)) ⊎ ((nat_le limit 1 ≡ false) × (1 < limit))
           → (1 < limit) × (left_after net n ts ≡ Some left) × (limit - 1 ≡ behind)
@@ -205,17 +214,18 @@ module _ (net : Network) (place : Place) (p : Packet) (n : ℕ) (s : SidEntry) (
       forth h (inr high) =
           let got = goes high.1 in
           let e : executes net n left behind ts (seen_at place (V6 (with_hop_limit limit p)) (record { outcome = outcomes.Again n (on_from n s.behaviour); after = V6 got.0 })) ≡ true
-              = subst Executes got.1 h in
+          = subst Executes got.1 h in
           let parts = and_parts (n == n) (is_left left (left_after net n ts) && (got.0.hop_limit == behind)) e in
           let more = and_parts (is_left left (left_after net n ts)) (got.0.hop_limit == behind) parts.1 in
           (high.1, is_left-is left (left_after net n ts) more.0, sym got.2 ∙ eqb-true got.0.hop_limit behind more.1)
+
       back : (1 < limit) × (left_after net n ts ≡ Some left) × (limit - 1 ≡ behind) → Executes (step_of net place (V6 (with_hop_limit limit p)) 0)
       back h =
           let got = goes h.0 in
           subst Executes (sym got.1)
           (and_from (n == n) (is_left left (left_after net n ts) && (got.0.hop_limit == behind)) (eq-eqb n n refl)
-           (and_from (is_left left (left_after net n ts)) (got.0.hop_limit == behind)
-            (ap (is_left left) h.1 ∙ eq-eqb left left refl) (eq-eqb got.0.hop_limit behind (got.2 ∙ h.2))))
+          (and_from (is_left left (left_after net n ts)) (got.0.hop_limit == behind)
+          (ap (is_left left) h.1 ∙ eq-eqb left left refl) (eq-eqb got.0.hop_limit behind (got.2 ∙ h.2))))
 
   abbrev Exposes : Gave → Type 0
   Exposes gave = Ends gave.outcome (IsTrue (exposes net n left behind ts (seen_at place (V6 (with_hop_limit limit p)) gave)))
@@ -227,25 +237,29 @@ module _ (net : Network) (place : Place) (p : Packet) (n : ℕ) (s : SidEntry) (
     where
       allow : List ℕ
       allow = allow_of (slice_get net.nodes place.node)
+
       content : Content
       content = (exposes_inside table allow p limit on).0
+
       stage : step_of net place (V6 (with_hop_limit limit p)) 0
           ≡ record { outcome = outcomes.Hand n (on_from n (behaviours.Dt6 table)) families.V6; after = content }
       stage =
           stage_into net place (with_hop_limit limit p) n s 0 into there
           ∙ ap (λ (b : Behaviour). treated_at_sid n b (with_hop_limit limit p) (at_sid b allow (with_hop_limit limit p))) last
           ∙ ap (treated_at_sid n (behaviours.Dt6 table) (with_hop_limit limit p)) (exposes_inside table allow p limit on).1
+
       forth : Exposes (step_of net place (V6 (with_hop_limit limit p)) 0) → (left_after net n ts ≡ Some left) × (limit ≡ behind)
       forth h =
           let e : exposes net n left behind ts (seen_at place (V6 (with_hop_limit limit p))
-                  (record { outcome = outcomes.Hand n (on_from n (behaviours.Dt6 table)) families.V6; after = content })) ≡ true
-              = subst Exposes stage h in
+          (record { outcome = outcomes.Hand n (on_from n (behaviours.Dt6 table)) families.V6; after = content })) ≡ true
+          = subst Exposes stage h in
           let parts = and_parts (n == n) (is_left left (left_after net n ts) && (limit == behind)) e in
           let more = and_parts (is_left left (left_after net n ts)) (limit == behind) parts.1 in
           (is_left-is left (left_after net n ts) more.0, eqb-true limit behind more.1)
+
       back : (left_after net n ts ≡ Some left) × (limit ≡ behind) → Exposes (step_of net place (V6 (with_hop_limit limit p)) 0)
       back h =
           subst Exposes (sym stage)
           (and_from (n == n) (is_left left (left_after net n ts) && (limit == behind)) (eq-eqb n n refl)
-           (and_from (is_left left (left_after net n ts)) (limit == behind)
-            (ap (is_left left) h.0 ∙ eq-eqb left left refl) (eq-eqb limit behind h.1)))
+          (and_from (is_left left (left_after net n ts)) (limit == behind)
+          (ap (is_left left) h.0 ∙ eq-eqb left left refl) (eq-eqb limit behind h.1)))

@@ -35,11 +35,10 @@ after-none None = refl
 after-none (Some h) = refl
 
 module _ (net : Network) where
-
   -- what a walk hands over, by what its first stage gives
   pub handed-stage : (more : ℕ) (place : Place) (content : Content) (pick : ℕ → ℕ) (taken : ℕ) (gave : Gave) → step_of net place content (pick taken) ≡ gave
       → handed_over net (walk_of (suc more) net (Some place) content pick taken)
-        ≡ handed_first net gave gave.outcome (handed_over net (walk_of more net (next_place net place gave.outcome) gave.after pick (taken + decisions gave.outcome)))
+      ≡ handed_first net gave gave.outcome (handed_over net (walk_of more net (next_place net place gave.outcome) gave.after pick (taken + decisions gave.outcome)))
   unfolding walk_of
   handed-stage more place content pick taken gave e =
       ap (λ (g : Gave). handed_first net g g.outcome (handed_over net (walk_of more net (next_place net place g.outcome) g.after pick (taken + decisions g.outcome)))) e
@@ -56,12 +55,13 @@ module _ (net : Network) where
       let gave = step_of net place content (pick taken) in
       ap (λ (rest : List walks.Step). stage (pick taken) ∷ rest)
       (walk-same more (next_place net place gave.outcome) gave.after pick qick (taken + decisions gave.outcome) (uaken + decisions gave.outcome)
-       (later taken uaken (decisions gave.outcome) pick qick same))
+      (later taken uaken (decisions gave.outcome) pick qick same))
       ∙ ap (λ (c : ℕ). let gave = step_of net place content c in
-            stage c ∷ walk_of more net (next_place net place gave.outcome) gave.after qick (uaken + decisions gave.outcome)) at_first
+      stage c ∷ walk_of more net (next_place net place gave.outcome) gave.after qick (uaken + decisions gave.outcome)) at_first
     where
       first_same : (a b : ℕ) (p q : ℕ → ℕ) → p (a + 0) ≡ q (b + 0) → p a ≡ q b
       first_same a b p q e = ap p (omega arith) ∙ (e ∙ ap q (omega arith))
+
       later : (a b k : ℕ) (p q : ℕ → ℕ) → ((d : ℕ) → p (a + d) ≡ q (b + d)) → (d : ℕ) → p (a + k + d) ≡ q (b + k + d)
       later a b k p q same d = ap p (omega arith) ∙ (same (k + d) ∙ ap q (omega arith))
 
@@ -88,8 +88,8 @@ module _ (net : Network) where
       let gave = step_of net place content (pick taken) in
       rw f
       (first-more gave gave.outcome (handed_over net (walk_of m net (next_place net place gave.outcome) gave.after pick (taken + decisions gave.outcome)))
-       (handed_over net (walk_of (m + n) net (next_place net place gave.outcome) gave.after pick (taken + decisions gave.outcome))) h
-       (λ k. handed-more m n (next_place net place gave.outcome) gave.after pick (taken + decisions gave.outcome) k) e)
+      (handed_over net (walk_of (m + n) net (next_place net place gave.outcome) gave.after pick (taken + decisions gave.outcome))) h
+      (λ k. handed-more m n (next_place net place gave.outcome) gave.after pick (taken + decisions gave.outcome) k) e)
 
   -- the events of an execution, before others, that meet steps
   pub executed-meets : (ts : List Step) (n : ℕ) (es : List Event) → matches ts (executed net n ++ es) ≡ true
@@ -134,17 +134,18 @@ module _ (net : Network) where
       let gave = step_of net place content (pick taken) in
       subst
       (λ (c : ℕ). let gave = step_of net place content c in
-       handed_first net gave gave.outcome (handed_over net (walk_of more net (next_place net place gave.outcome) gave.after qick (uaken + decisions gave.outcome))) ≡ Some h)
+      handed_first net gave gave.outcome (handed_over net (walk_of more net (next_place net place gave.outcome) gave.after qick (uaken + decisions gave.outcome))) ≡ Some h)
       at_first
       (first-agree gave gave.outcome ts
-       (handed_over net (walk_of more net (next_place net place gave.outcome) gave.after pick (taken + decisions gave.outcome)))
-       (handed_over net (walk_of more net (next_place net place gave.outcome) gave.after qick (uaken + decisions gave.outcome))) h
-       (λ us k few met. hands-agree more us (next_place net place gave.outcome) gave.after pick qick (taken + decisions gave.outcome) (uaken + decisions gave.outcome) k
-        (later taken uaken (decisions gave.outcome) (length us) pick qick few same) met)
-       m e)
+      (handed_over net (walk_of more net (next_place net place gave.outcome) gave.after pick (taken + decisions gave.outcome)))
+      (handed_over net (walk_of more net (next_place net place gave.outcome) gave.after qick (uaken + decisions gave.outcome))) h
+      (λ us k few met. hands-agree more us (next_place net place gave.outcome) gave.after pick qick (taken + decisions gave.outcome) (uaken + decisions gave.outcome) k
+      (later taken uaken (decisions gave.outcome) (length us) pick qick few same) met)
+      m e)
     where
       first_same : (a b : ℕ) (p q : ℕ → ℕ) → p (a + 0) ≡ q (b + 0) → p a ≡ q b
       first_same a b p q e = ap p (omega arith) ∙ (e ∙ ap q (omega arith))
+
       later : (a b k u : ℕ) (p q : ℕ → ℕ) → u + k ≤ length ts → ((d : ℕ) → d ≤ length ts → p (a + d) ≡ q (b + d))
           → (d : ℕ) → d ≤ u → p (a + k + d) ≡ q (b + k + d)
       later a b k u p q few same d h = ap p (omega arith) ∙ (same (k + d) (omega arith) ∙ ap q (omega arith))
@@ -155,12 +156,11 @@ pub record RideWalk (net : Network) (ts : List Step) (place : Place) (p : Packet
   pub events : (ℕ → ℕ) → ℕ → List Event
   pub meets_them : (pick : ℕ → ℕ) (taken : ℕ) (more : List Event) → matches ts (events pick taken ++ more) ≡ matches r.left more
   pub walk : (pick : ℕ → ℕ) (taken fuel : ℕ)
-    → handed_over net (walk_of (count + fuel) net (Some place) (V6 p) pick taken)
+      → handed_over net (walk_of (count + fuel) net (Some place) (V6 p) pick taken)
       ≡ option_map (after_events (events pick taken))
-        (handed_over net (walk_of fuel net (Some r.place) (V6 (with_hop_limit (p.hop_limit - r.lowered) p)) pick (taken + count)))
+      (handed_over net (walk_of fuel net (Some r.place) (V6 (with_hop_limit (p.hop_limit - r.lowered) p)) pick (taken + count)))
 
 module _ (net : Network) (keeps : Keeps net) where
-
   walk-here : (ts : List Step) (place : Place) (p : Packet) (n : ℕ) → RideWalk net ts place p (record { sid = n; place = place; left = ts; lowered = 0 })
   walk-here ts place p n =
       record {
@@ -172,7 +172,7 @@ module _ (net : Network) (keeps : Keeps net) where
     where
       at : (pick : ℕ → ℕ) (taken fuel : ℕ)
           → handed_over net (walk_of (0 + fuel) net (Some place) (V6 p) pick taken)
-            ≡ option_map (after_events []) (handed_over net (walk_of fuel net (Some place) (V6 (with_hop_limit (p.hop_limit - 0) p)) pick (taken + 0)))
+          ≡ option_map (after_events []) (handed_over net (walk_of fuel net (Some place) (V6 (with_hop_limit (p.hop_limit - 0) p)) pick (taken + 0)))
       at pick taken fuel =
           ap (λ (k : ℕ). handed_over net (walk_of k net (Some place) (V6 p) pick taken)) (zero-add fuel)
           ∙ ap (λ (q : Packet). handed_over net (walk_of fuel net (Some place) (V6 q) pick taken)) (sym (same_packet p))
@@ -215,17 +215,18 @@ module _ (net : Network) (keeps : Keeps net) where
       and_both : (a b : Bool) → a ≡ true → (a && b) ≡ b
       and_both true b e = refl
       and_both false b e = absurd (false≢true e)
+
       at : (pick : ℕ → ℕ) (taken fuel : ℕ)
           → handed_over net (walk_of (suc w.count + fuel) net (Some place) (V6 p) pick taken)
-            ≡ option_map (after_events (Crossed (member_of set (pick taken)) ∷ w.events pick (taken + 1)))
-              (handed_over net (walk_of fuel net (Some r.place) (V6 (with_hop_limit (p.hop_limit - (one_if lower + r.lowered)) p)) pick (taken + suc w.count)))
+          ≡ option_map (after_events (Crossed (member_of set (pick taken)) ∷ w.events pick (taken + 1)))
+          (handed_over net (walk_of fuel net (Some r.place) (V6 (with_hop_limit (p.hop_limit - (one_if lower + r.lowered)) p)) pick (taken + suc w.count)))
       at pick taken fuel =
           let link = member_of set (pick taken) in
           let q = lowered lower p in
           let more : suc w.count + fuel ≡ suc (w.count + fuel) = omega arith in
           let here = member-of_all (has_link step) set some all (pick taken) in
           let next : next_place net place (outcomes.Send link) ≡ Some (arrived to place)
-              = ap (λ (o : Option ℕ). arrival o place) (far_end-is (slice_get net.links link) ∙ link_ends net to step link ends here) in
+          = ap (λ (o : Option ℕ). arrival o place) (far_end-is (slice_get net.links link) ∙ link_ends net to step link ends here) in
           let count : taken + 1 + w.count ≡ taken + suc w.count = omega arith in
           ap (λ (k : ℕ). handed_over net (walk_of k net (Some place) (V6 p) pick taken)) more
           ∙ handed-stage net (w.count + fuel) place (V6 p) pick taken (record { outcome = outcomes.Send link; after = V6 q }) (sends place p set lower r.lowered way high (pick taken))
@@ -233,9 +234,9 @@ module _ (net : Network) (keeps : Keeps net) where
           ∙ ap (option_map (after_events (Crossed link ∷ []))) (w.walk pick (taken + 1) fuel)
           ∙ after-after (Crossed link ∷ []) (w.events pick (taken + 1)) _
           ∙ ap (λ (x : Packet). option_map (after_events (Crossed link ∷ w.events pick (taken + 1))) (handed_over net (walk_of fuel net (Some r.place) (V6 x) pick (taken + 1 + w.count))))
-            (same_left p lower r.lowered)
+          (same_left p lower r.lowered)
           ∙ ap (λ (k : ℕ). option_map (after_events (Crossed link ∷ w.events pick (taken + 1)))
-                (handed_over net (walk_of fuel net (Some r.place) (V6 (with_hop_limit (p.hop_limit - (one_if lower + r.lowered)) p)) pick k))) count
+          (handed_over net (walk_of fuel net (Some r.place) (V6 (with_hop_limit (p.hop_limit - (one_if lower + r.lowered)) p)) pick k))) count
 
   pub ride-walk : (ts : List Step) (place : Place) (p : Packet) (r : Ride) → IsHow net place.node place.how → is_some (stand_after net place.node ts) ≡ true
       → ride_of net p.destination ts place ≡ Some r → r.lowered < p.hop_limit → RideWalk net ts place p r
@@ -253,7 +254,7 @@ module _ (net : Network) (keeps : Keeps net) where
       by_way : (t : Step) (w : Way) → way_of net place p.destination ≡ w → HasLinks w → is_some (stand_after net place.node (t ∷ ts)) ≡ true
           → ride_by net place (t ∷ ts) t (ride_of net p.destination ts) w ≡ Some r
           → ((to : ℕ) (q : Packet) (k : Ride) → is_some (stand_after net to ts) ≡ true → ride_of net q.destination ts (arrived to place) ≡ Some k → k.lowered < q.hop_limit
-             → RideWalk net ts (arrived to place) q k)
+          → RideWalk net ts (arrived to place) q k)
           → RideWalk net (t ∷ ts) place p r
       by_way t (Away reason) e links stands h ih = absurd (cc)
       by_way t Own e links stands h ih = absurd (cc)
@@ -265,9 +266,9 @@ module _ (net : Network) (keeps : Keeps net) where
           let got = map-some (more_lowered lower) _ r all.1 in
           let at : first_end net set ≡ Some opened.0 = first_end-is net opened.0 step set opened.1 all.0 links in
           let later : ride_of net p.destination ts (arrived opened.0 place) ≡ Some got.0
-              = ap (λ (o : Option ℕ). ride_on (arrival o place) (ride_of net p.destination ts)) (sym at) ∙ got.1 in
+          = ap (λ (o : Option ℕ). ride_on (arrival o place) (ride_of net p.destination ts)) (sym at) ∙ got.1 in
           let low : one_if lower + got.0.lowered < p.hop_limit = subst (λ (x : Ride). x.lowered < p.hop_limit) (sym got.2) high in
           subst (RideWalk net (Links step ∷ ts) place p) got.2
           (walk-later step ts place p set lower opened.0 got.0 e all.0 links opened.1 low
-           (ih opened.0 (lowered lower p) got.0 opened.2
-            (ap (λ (d : ℕ). ride_of net d ts (arrived opened.0 place)) (same_destination p lower) ∙ later) (high_enough p lower got.0.lowered low)))
+          (ih opened.0 (lowered lower p) got.0 opened.2
+          (ap (λ (d : ℕ). ride_of net d ts (arrived opened.0 place)) (same_destination p lower) ∙ later) (high_enough p lower got.0.lowered low)))

@@ -58,6 +58,7 @@ last-sid net n h = by_sid (slice_get net.sids n) refl h
     by_behaviour s behaviours.End e f h = absurd (false≢true h)
     by_behaviour s behaviours.EndX e f h = absurd (false≢true h)
     by_behaviour s (behaviours.Dt6 table) e f h = (s, table, e, f)
+
     by_sid : (o : Option SidEntry) → slice_get net.sids n ≡ o → sid_exposes o ≡ true
         → (s : SidEntry) × (table : ℕ) × (slice_get net.sids n ≡ Some s) × (s.behaviour ≡ behaviours.Dt6 table)
     by_sid None e h = absurd (false≢true h)
@@ -74,6 +75,7 @@ left_after-le net n ts left h = by_title (is_titled net n) ts h
         let got = if-some (sid == n) (Some (length ts)) left h in
         let e : length ts ≡ left = some-same (length ts) left got.1 in
         omega arith
+
     by_title : (t : Bool) (ts : List Step) → (if t then left_after_function n ts else Some (length ts)) ≡ Some left → left ≤ length ts
     by_title true ts h = by_function ts h
     by_title false ts h = let e : length ts ≡ left = some-same (length ts) left h in omega arith
@@ -114,17 +116,19 @@ leg-ride net intent position via next leg h =
     let both = and_parts (is_start net intent position via) (is_middle net next) tests.0 in
     let got = leg_behind-parts net (length intent.steps) next (ride_to net intent position via next) leg tests.1 in
     let ridden = then-some (ride_of net (sid_address net next) (drop position intent.steps)) (place_from net intent via) got.0 got.1 in
-    let parts = behind-parts net next got.0 got.2 got.3 in
-    (record { start = both.0; place = ridden.0; from = ridden.1; ride = got.0; is_ride = ridden.2; sid = parts.0; left = got.2; left_is = parts.1 },
-     both.1, got.4)
+    let parts = behind-parts net next got.0 got.2 got.3 in (
+      record { start = both.0; place = ridden.0; from = ridden.1; ride = got.0; is_ride = ridden.2; sid = parts.0; left = got.2; left_is = parts.1 },
+      both.1,
+      got.4,
+    )
 
 pub leg-from : (net : Network) (intent : Intent) (position : ℕ) (via : Option ℕ) (next : ℕ) (n : NextRide net intent position via next) → is_middle net next ≡ true
     → leg_of net intent position via next ≡ Some (leg_with (length intent.steps) n.ride.lowered n.left)
 leg-from net intent position via next n middle =
     rw (and_from (is_start net intent position via) (is_middle net next) n.start middle)
     (ap (λ o. leg_behind net (length intent.steps) next (option_and_then (ride_of net (sid_address net next) (drop position intent.steps)) o)) n.from
-     ∙ ap (leg_behind net (length intent.steps) next) n.is_ride
-     ∙ ap (option_map (leg_with (length intent.steps) n.ride.lowered)) (behind-from net next n.ride n.left n.sid n.left_is))
+    ∙ ap (leg_behind net (length intent.steps) next) n.is_ride
+    ∙ ap (option_map (leg_with (length intent.steps) n.ride.lowered)) (behind-from net next n.ride n.left n.sid n.left_is))
 
 -- a finish by look-ups is a ride to a last SID with no step left, and the other way round
 pub finish-ride : (net : Network) (intent : Intent) (position : ℕ) (via : Option ℕ) (next lowered : ℕ) → finish_of net intent position via next ≡ Some lowered
@@ -134,24 +138,26 @@ finish-ride net intent position via next lowered h =
     let both = and_parts (is_start net intent position via) (is_last net next) tests.0 in
     let got = finish_behind-parts net next (ride_to net intent position via next) lowered tests.1 in
     let ridden = then-some (ride_of net (sid_address net next) (drop position intent.steps)) (place_from net intent via) got.0 got.1 in
-    let parts = behind-parts net next got.0 0 got.2 in
-    (record { start = both.0; place = ridden.0; from = ridden.1; ride = got.0; is_ride = ridden.2; sid = parts.0; left = 0; left_is = parts.1 },
-     both.1, got.3, refl)
+    let parts = behind-parts net next got.0 0 got.2 in (
+      record { start = both.0; place = ridden.0; from = ridden.1; ride = got.0; is_ride = ridden.2; sid = parts.0; left = 0; left_is = parts.1 },
+      both.1,
+      got.3,
+      refl,
+    )
 
 pub finish-from : (net : Network) (intent : Intent) (position : ℕ) (via : Option ℕ) (next : ℕ) (n : NextRide net intent position via next) → is_last net next ≡ true
     → n.left ≡ 0 → finish_of net intent position via next ≡ Some n.ride.lowered
 finish-from net intent position via next n last none =
     rw (and_from (is_start net intent position via) (is_last net next) n.start last)
     (ap (λ o. finish_behind net next (option_and_then (ride_of net (sid_address net next) (drop position intent.steps)) o)) n.from
-     ∙ ap (finish_behind net next) n.is_ride
-     ∙ ap (option_and_then (if_none_left n.ride.lowered)) (behind-from net next n.ride n.left n.sid n.left_is ∙ ap Some none))
+    ∙ ap (finish_behind net next) n.is_ride
+    ∙ ap (option_and_then (if_none_left n.ride.lowered)) (behind-from net next n.ride n.left n.sid n.left_is ∙ ap Some none))
 
 module _ (net : Network) (keeps : Keeps net) (intent : Intent) (is_intent : IsIntent net intent) where
-
   -- a way for all choices is a ride by look-ups
   choices-ride : (end : List Step → walks.Step → Bool) (position : ℕ) (place : Place) (p : Packet) → StartFacts net intent position place → 0 < p.hop_limit
       → ForAllChoices net end (drop position intent.steps) place (V6 p)
-        ↔ RideEnds net end p (ride_of net p.destination (drop position intent.steps) place)
+      ↔ RideEnds net end p (ride_of net p.destination (drop position intent.steps) place)
   choices-ride end position place p f positive =
       let a = choices-every net end (drop position intent.steps) place (V6 p) in
       let b = every-ride net end keeps (drop position intent.steps) place p f.how f.rest positive in
@@ -189,16 +195,17 @@ module _ (net : Network) (keeps : Keeps net) (intent : Intent) (is_intent : IsIn
       let f = ride-facts net keeps (sid_address net next) (drop position intent.steps) n.place n.ride s.how s.rest n.is_ride in
       let sid = middle-sid net next middle in
       let into : way_of net n.ride.place p.destination ≡ Into next
-          = ap (way_of net n.ride.place) to ∙ (f.into ∙ ap Into n.sid) in
+      = ap (way_of net n.ride.place) to ∙ (f.into ∙ ap Into n.sid) in
       let behind = p.hop_limit - (n.ride.lowered + 1) in
       let is = executes-is net n.ride.place p next sid.0 n.ride.left (p.hop_limit - n.ride.lowered) n.left behind into sid.1 sid.2 on in
       let end = executes net next n.left behind in
       let all = choices-ride end position n.place p s positive in
       let there : ride_of net p.destination (drop position intent.steps) n.place ≡ Some n.ride
-          = ap (λ (d : ℕ). ride_of net d (drop position intent.steps) n.place) to ∙ n.is_ride in
-      let at = ends-at end p (ride_of net p.destination (drop position intent.steps) n.place) n.ride there in
-      (λ high. all.1 (at.1 (omega (arith, high), is.1 (omega (arith, high), n.left_is, omega (arith, high)))),
-       λ h. let r = at.0 (all.0 h) in let got = is.0 r.1 in high n.ride.lowered p.hop_limit got.0)
+      = ap (λ (d : ℕ). ride_of net d (drop position intent.steps) n.place) to ∙ n.is_ride in
+      let at = ends-at end p (ride_of net p.destination (drop position intent.steps) n.place) n.ride there in (
+        λ high. all.1 (at.1 (omega (arith, high), is.1 (omega (arith, high), n.left_is, omega (arith, high)))),
+        λ h. let r = at.0 (all.0 h) in let got = is.0 r.1 in high n.ride.lowered p.hop_limit got.0,
+      )
     where
       high : (k h : ℕ) → 1 < h - k → k + 1 < h
       high k h e = omega arith
@@ -214,9 +221,9 @@ module _ (net : Network) (keeps : Keeps net) (intent : Intent) (is_intent : IsIn
         middle = got.1;
         within = omega arith;
         taken =
-          let e : length intent.steps - (length intent.steps - n.left) ≡ n.left = omega (arith, few) in
-          from-place via n.place (IsTaken net (drop position intent.steps) next (length intent.steps - (length intent.steps - n.left)) (n.ride.lowered + 1)) n.from
-          (subst (λ (left : ℕ). IsTaken net (drop position intent.steps) next left (n.ride.lowered + 1) n.place) (sym e) (ride-taken position via next n got.1));
+            let e : length intent.steps - (length intent.steps - n.left) ≡ n.left = omega (arith, few) in
+            from-place via n.place (IsTaken net (drop position intent.steps) next (length intent.steps - (length intent.steps - n.left)) (n.ride.lowered + 1)) n.from
+            (subst (λ (left : ℕ). IsTaken net (drop position intent.steps) next left (n.ride.lowered + 1) n.place) (sym e) (ride-taken position via next n got.1));
       })
 
   -- a packet that all choices take so shows the ride
@@ -235,7 +242,7 @@ module _ (net : Network) (keeps : Keeps net) (intent : Intent) (is_intent : IsIn
       let got = ride-is_there end p (ride_of net p.destination (drop position intent.steps) place) ends in
       let r = got.0 in
       let there : ride_of net (sid_address net next) (drop position intent.steps) place ≡ Some r
-          = ap (λ (d : ℕ). ride_of net d (drop position intent.steps) place) (sym has.1) ∙ got.1 in
+      = ap (λ (d : ℕ). ride_of net d (drop position intent.steps) place) (sym has.1) ∙ got.1 in
       let f = ride-facts net keeps (sid_address net next) (drop position intent.steps) place r s.how s.rest there in
       let at = (ends-at end p (ride_of net p.destination (drop position intent.steps) place) r got.1).0 ends in
       let into : way_of net r.place p.destination ≡ Into r.sid = ap (way_of net r.place) has.1 ∙ f.into in
@@ -246,10 +253,12 @@ module _ (net : Network) (keeps : Keeps net) (intent : Intent) (is_intent : IsIn
       let named : r.sid ≡ next = step-again_names net r.place q next r.sid into first.0 in
       let sid = middle-sid net next middle in
       let is =
-          executes-is net r.place p next sid.0 r.left (p.hop_limit - r.lowered) left behind (into ∙ ap Into named) sid.1 sid.2 has.0 in
-      let got2 = is.0 at.1 in
-      (record { start = start; place = place; from = from; ride = r; is_ride = there; sid = named; left = left; left_is = got2.1 },
-       refl, same_hops r.lowered hops p.hop_limit has.2 got2.0 got2.2)
+      executes-is net r.place p next sid.0 r.left (p.hop_limit - r.lowered) left behind (into ∙ ap Into named) sid.1 sid.2 has.0 in
+      let got2 = is.0 at.1 in (
+        record { start = start; place = place; from = from; ride = r; is_ride = there; sid = named; left = left; left_is = got2.1 },
+        refl,
+        same_hops r.lowered hops p.hop_limit has.2 got2.0 got2.2,
+      )
     where
       same_hops : (k hops limit : ℕ) → limit ≡ hops + 1 → 1 < limit - k → limit - k - 1 ≡ limit - hops → k + 1 ≡ hops
       same_hops k hops limit e f g = omega arith
@@ -264,6 +273,7 @@ module _ (net : Network) (keeps : Keeps net) (intent : Intent) (is_intent : IsIn
     where
       same_to : (count to left : ℕ) → to ≤ count → left ≡ count - to → count - left ≡ to
       same_to count to left e f = omega arith
+
       same_leg : (a b c d : ℕ) → a ≡ b → c ≡ d → Path Leg (record { to = a; hops = c }) (record { to = b; hops = d })
       same_leg a b c d e f = cc
 
@@ -278,13 +288,13 @@ module _ (net : Network) (keeps : Keeps net) (intent : Intent) (is_intent : IsIn
       let f = ride-facts net keeps (sid_address net next) (drop position intent.steps) n.place n.ride s.how s.rest n.is_ride in
       let sid = last-sid net next last in
       let into : way_of net n.ride.place p.destination ≡ Into next
-          = ap (way_of net n.ride.place) to ∙ (f.into ∙ ap Into n.sid) in
+      = ap (way_of net n.ride.place) to ∙ (f.into ∙ ap Into n.sid) in
       let behind = p.hop_limit - n.ride.lowered in
       let is = exposes-is net n.ride.place p next sid.0 n.ride.left (p.hop_limit - n.ride.lowered) n.left behind into sid.2 sid.1 sid.3 on in
       let end = exposes net next n.left behind in
       let all = choices-ride end position n.place p s positive in
       let there : ride_of net p.destination (drop position intent.steps) n.place ≡ Some n.ride
-          = ap (λ (d : ℕ). ride_of net d (drop position intent.steps) n.place) to ∙ n.is_ride in
+      = ap (λ (d : ℕ). ride_of net d (drop position intent.steps) n.place) to ∙ n.is_ride in
       let at = ends-at end p (ride_of net p.destination (drop position intent.steps) n.place) n.ride there in
       (λ high. all.1 (at.1 (high, is.1 (n.left_is, refl))), λ h. (at.0 (all.0 h)).0)
 
@@ -298,8 +308,8 @@ module _ (net : Network) (keeps : Keeps net) (intent : Intent) (is_intent : IsIn
         start = n.start;
         last = got.1;
         handed =
-          from-place via n.place (IsHanded net (drop position intent.steps) next 0 n.ride.lowered) n.from
-          (subst (λ (left : ℕ). IsHanded net (drop position intent.steps) next left n.ride.lowered n.place) got.3 (ride-handed position via next n got.1));
+            from-place via n.place (IsHanded net (drop position intent.steps) next 0 n.ride.lowered) n.from
+            (subst (λ (left : ℕ). IsHanded net (drop position intent.steps) next left n.ride.lowered n.place) got.3 (ride-handed position via next n got.1));
       })
 
   handed-ride : (position : ℕ) (via : Option ℕ) (next left lowered : ℕ) (place : Place) → is_start net intent position via ≡ true → is_last net next ≡ true
@@ -317,7 +327,7 @@ module _ (net : Network) (keeps : Keeps net) (intent : Intent) (is_intent : IsIn
       let got = ride-is_there end p (ride_of net p.destination (drop position intent.steps) place) ends in
       let r = got.0 in
       let there : ride_of net (sid_address net next) (drop position intent.steps) place ≡ Some r
-          = ap (λ (d : ℕ). ride_of net d (drop position intent.steps) place) (sym has.1) ∙ got.1 in
+      = ap (λ (d : ℕ). ride_of net d (drop position intent.steps) place) (sym has.1) ∙ got.1 in
       let f = ride-facts net keeps (sid_address net next) (drop position intent.steps) place r s.how s.rest there in
       let at = (ends-at end p (ride_of net p.destination (drop position intent.steps) place) r got.1).0 ends in
       let into : way_of net r.place p.destination ≡ Into r.sid = ap (way_of net r.place) has.1 ∙ f.into in
@@ -328,10 +338,12 @@ module _ (net : Network) (keeps : Keeps net) (intent : Intent) (is_intent : IsIn
       let named : r.sid ≡ next = step-hand_names net r.place q next r.sid into first.0 in
       let sid = last-sid net next last in
       let is =
-          exposes-is net r.place p next sid.0 r.left (p.hop_limit - r.lowered) left behind (into ∙ ap Into named) sid.2 sid.1 sid.3 has.0 in
-      let got2 = is.0 at.1 in
-      (record { start = start; place = place; from = from; ride = r; is_ride = there; sid = named; left = left; left_is = got2.0 },
-       refl, same_lowered r.lowered lowered p.hop_limit has.2 at.0 got2.1)
+      exposes-is net r.place p next sid.0 r.left (p.hop_limit - r.lowered) left behind (into ∙ ap Into named) sid.2 sid.1 sid.3 has.0 in
+      let got2 = is.0 at.1 in (
+        record { start = start; place = place; from = from; ride = r; is_ride = there; sid = named; left = left; left_is = got2.0 },
+        refl,
+        same_lowered r.lowered lowered p.hop_limit has.2 at.0 got2.1,
+      )
     where
       same_lowered : (k lowered limit : ℕ) → limit ≡ lowered + 1 → k < limit → limit - k ≡ limit - lowered → k ≡ lowered
       same_lowered k lowered limit e f g = omega arith

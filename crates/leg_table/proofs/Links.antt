@@ -28,7 +28,6 @@ use Rattle.intent_reader.specs.declared.intent.Step.TheVariants.{Links, Function
 use Rattle.leg_table.specs.Tasks.{has_link}
 
 module _ (net : Network) (keeps : Keeps net) where
-
   via_some : (node n : ℕ) (o : Option Route) → slice_get net.routes n ≡ o → RouteStandsAt node o → 0 < length (route_links o)
   via_some node n None e there = absurd there
   via_some node n (Some r) e there = (keeps.route n r e).via.some
@@ -96,6 +95,7 @@ link_ends net to (k ∷ ks) link all here =
   where
     parts : (ends_at net to k ≡ true) × (list_all (ends_at net to) ks ≡ true)
     parts = and_parts (ends_at net to k) (list_all (ends_at net to) ks) all
+
     by_first : (has_link ks link ≡ true → end_of_link (slice_get net.links link) ≡ Some to) → (t : Bool) → (k == link) ≡ t
         → (t || has_link ks link) ≡ true → end_of_link (slice_get net.links link) ≡ Some to
     by_first later true e h = subst (λ (n : ℕ). end_of_link (slice_get net.links n) ≡ Some to) (eqb-true k link e) (is_at-is to (end_of_link (slice_get net.links k)) parts.0)
@@ -120,7 +120,7 @@ step_opens net node step ts h = by_end (first_end net step) h
         by_test : (s t : Bool) → list_all (ends_at net to) step ≡ t
             → is_some (option_and_then (λ next. stand_after net next ts) (if s && t then Some to else None)) ≡ true
             → (at : ℕ) × (list_all (ends_at net at) step ≡ true) × (is_some (stand_after net at ts) ≡ true)
-              × ((if s && t then Some to else None) ≡ Some at)
+            × ((if s && t then Some to else None) ≡ Some at)
         by_test true true e h = (to, e, h, refl)
         by_test true false e h = absurd (false≢true h)
         by_test false t e h = absurd (false≢true h)

@@ -51,7 +51,6 @@ abbrev pub yes : List Step → walks.Step → Bool
 yes ts s = true
 
 module _ (net : Network) where
-
   -- under every row of choices a walk hands over, and its trace meets the steps
   abbrev pub Hands : Place → Content → List Step → Type 0
   Hands place content ts =
@@ -101,14 +100,16 @@ module _ (net : Network) where
 
   next-hands : (ts : List Step) (o : Option Place) (after : Content) (choice : ℕ)
       → ((pick : ℕ → ℕ) → pick 0 ≡ choice
-         → (more : ℕ) × (h : Handed) × (handed_over net (walk_of more net o after pick (0 + 1)) ≡ Some h) × (matches ts h.trace ≡ true))
+      → (more : ℕ) × (h : Handed) × (handed_over net (walk_of more net o after pick (0 + 1)) ≡ Some h) × (matches ts h.trace ≡ true))
       → AtNext o (λ next. Hands next after ts)
   next-hands ts None after choice all = let got = all (λ _. choice) refl in walk-none got.0 after (λ _. choice) (0 + 1) got.1 got.2
   next-hands ts (Some next) after choice all =
-      λ pick. let got = all (then_row net yes choice pick) refl in
-      (got.0, got.1,
-       ap (handed_over net) (sym (walk-same net got.0 (Some next) after (then_row net yes choice pick) pick (0 + 1) 0 (then_row-later net yes choice pick))) ∙ got.2,
-       got.3)
+      λ pick. let got = all (then_row net yes choice pick) refl in (
+        got.0,
+        got.1,
+        ap (handed_over net) (sym (walk-same net got.0 (Some next) after (then_row net yes choice pick) pick (0 + 1) 0 (then_row-later net yes choice pick))) ∙ got.2,
+        got.3,
+      )
 
   AtNext-map : (o : Option Place) (P Q : Place → Type 0) → ((next : Place) → P next → Q next) → AtNext o P → AtNext o Q
   AtNext-map None P Q f h = absurd h
@@ -122,20 +123,22 @@ module _ (net : Network) where
     where
       sent : (t : Step) (pick : ℕ → ℕ) → First place (t ∷ ts) pick gave
           → (meets t (Crossed link) ≡ true)
-            × ((more : ℕ) × (h : Handed) × (handed_over net (walk_of more net (next_place net place (outcomes.Send link)) gave.after pick (0 + 1)) ≡ Some h) × (matches ts h.trace ≡ true))
+          × ((more : ℕ) × (h : Handed) × (handed_over net (walk_of more net (next_place net place (outcomes.Send link)) gave.after pick (0 + 1)) ≡ Some h) × (matches ts h.trace ≡ true))
       sent t pick f =
           let k = subst (λ (o : Outcome). handed_first net gave o (handed_over net (walk_of f.0 net (next_place net place o) gave.after pick (0 + decisions o))) ≡ Some f.1) e f.2 in
           let got = map-some (after_events (Crossed link ∷ [])) (handed_over net (walk_of f.0 net (next_place net place (outcomes.Send link)) gave.after pick (0 + 1))) f.1 k in
           let met : matches (t ∷ ts) (Crossed link ∷ got.0.trace) ≡ true = ap (λ (k : Handed). matches (t ∷ ts) k.trace) got.2 ∙ f.3 in
           let parts = and_parts (meets t (Crossed link)) (matches ts got.0.trace) met in
           (parts.0, (f.0, got.0, got.1, parts.1))
+
       by_step : (t : Step) → ((pick : ℕ → ℕ) → pick 0 ≡ choice → First place (t ∷ ts) pick gave)
           → Crosses t link (AtNext (next_place net place (outcomes.Send link)) (λ next. EveryWay net yes ts next gave.after))
       by_step (Function sid) all = false≢true (sent (Function sid) (λ _. choice) (all (λ _. choice) refl)).0
-      by_step (Links set) all =
-          ((sent (Links set) (λ _. choice) (all (λ _. choice) refl)).0,
-           AtNext-map (next_place net place (outcomes.Send link)) (λ next. Hands next gave.after ts) (λ next. EveryWay net yes ts next gave.after) ih
-           (next-hands ts (next_place net place (outcomes.Send link)) gave.after choice (λ pick k. (sent (Links set) pick (all pick k)).1)))
+      by_step (Links set) all = (
+        (sent (Links set) (λ _. choice) (all (λ _. choice) refl)).0,
+        AtNext-map (next_place net place (outcomes.Send link)) (λ next. Hands next gave.after ts) (λ next. EveryWay net yes ts next gave.after) ih
+            (next-hands ts (next_place net place (outcomes.Send link)) gave.after choice (λ pick k. (sent (Links set) pick (all pick k)).1)),
+      )
   goes-from place t ts choice gave (outcomes.Again n how) e all ih = refl
   goes-from place t ts choice gave (outcomes.Hand n how family) e all ih = refl
   goes-from place t ts choice gave outcomes.Local e all ih =
@@ -167,12 +170,14 @@ module _ (net : Network) where
       let more = handed-more net got.0 w.count (Some place) (V6 p) back 0 got.1 got.2 in
       let swap : got.0 + w.count ≡ w.count + got.0 = omega arith in
       let whole : handed_over net (walk_of (w.count + got.0) net (Some place) (V6 p) back 0) ≡ Some got.1
-          = ap (λ (k : ℕ). handed_over net (walk_of k net (Some place) (V6 p) back 0)) (sym swap) ∙ more in
+      = ap (λ (k : ℕ). handed_over net (walk_of k net (Some place) (V6 p) back 0)) (sym swap) ∙ more in
       let parts = map-some (after_events (w.events back 0)) (handed_over net (walk_of got.0 net (Some r.place) (V6 q) back (0 + w.count))) got.1
-          (sym (w.walk back 0 got.0) ∙ whole) in
-      (got.0, parts.0,
-       ap (handed_over net) (sym (walk-same net got.0 (Some r.place) (V6 q) back pick (0 + w.count) 0 (λ d. shift pick w.count d))) ∙ parts.1,
-       sym (w.meets_them back 0 parts.0.trace) ∙ ap (λ (h : Handed). matches ts h.trace) parts.2 ∙ got.3)
+      (sym (w.walk back 0 got.0) ∙ whole) in (
+        got.0,
+        parts.0,
+        ap (handed_over net) (sym (walk-same net got.0 (Some r.place) (V6 q) back pick (0 + w.count) 0 (λ d. shift pick w.count d))) ∙ parts.1,
+        sym (w.meets_them back 0 parts.0.trace) ∙ ap (λ (h : Handed). matches ts h.trace) parts.2 ∙ got.3,
+      )
     where
       shift : (pick : ℕ → ℕ) (c d : ℕ) → pick (0 + c + d - c) ≡ pick (0 + d)
       shift pick c d = ap pick (omega arith)
@@ -189,7 +194,6 @@ pub record PathFrom (net : Network) (intent : Intent) (position : ℕ) (via : Op
 module _ (net : Network) (network : IsNetwork net) (flat : IsFlat net) (intent : Intent) (is_intent : IsIntent net intent) (e : Encapsulation) (bytes : List ℕ)
     (all : All (λ a. a < 2 ^ 128) e.segments)
     (named : (i : ℕ) → i < length e.segments → (m : ℕ) × (s : SidEntry) × (slice_get net.sids m ≡ Some s) × (s.prefix.value ≡ slice_index e.segments i)) where
-
   keeps : Keeps net
   keeps = keeps_from_network net network
 
@@ -229,7 +233,7 @@ module _ (net : Network) (network : IsNetwork net) (flat : IsFlat net) (intent :
           let name = named i within in
           let into : way_of net r.place name.1.prefix.value ≡ Into r.sid = ap (way_of net r.place) name.3 ∙ facts.into in
           let address : sid_address net r.sid ≡ slice_index e.segments i
-              = into-address net network flat r.place name.0 r.sid name.1 stands.0 name.2 stands.1 into ∙ name.3 in
+          = into-address net network flat r.place name.0 r.sid name.1 stands.0 name.2 stands.1 into ∙ name.3 in
           let w = ride-walk net keeps (drop position intent.steps) place (at_segment e bytes i hop) r s.how s.rest f ends.0 in
           record {
             ride = r;
@@ -250,12 +254,16 @@ module _ (net : Network) (network : IsNetwork net) (flat : IsFlat net) (intent :
     where
       n : ℕ
       n = c.ride.sid
+
       zeros : ℕ → ℕ
       zeros d = 0
+
       p : Packet
       p = at_segment e bytes i (hop - c.ride.lowered)
+
       allow : List ℕ
       allow = allow_of (slice_get net.nodes c.ride.place.node)
+
       stays : goes_on c.sid.behaviour ≡ true → ⊥
       stays middle =
           by_test (is_allowed allow ipv6_inside) refl
@@ -263,14 +271,15 @@ module _ (net : Network) (network : IsNetwork net) (flat : IsFlat net) (intent :
           by_test : (t : Bool) → is_allowed allow ipv6_inside ≡ t → ⊥
           by_test true f =
               let gives = last-stays net e bytes c.ride.place n i (hop - c.ride.lowered) 0 c.sid c.into c.there middle last
-                  ∙ ap (λ (t : Bool). treated_at_sid n c.sid.behaviour p (if t then Delivered else Refused reasons.UpperLayer)) f in
+              ∙ ap (λ (t : Bool). treated_at_sid n c.sid.behaviour p (if t then Delivered else Refused reasons.UpperLayer)) f in
               no-more c.ride.place c.ride.left zeros (record { outcome = outcomes.Local; after = V6 p }) outcomes.Local refl (λ later. refl)
               (first-of net c.ride.place (V6 p) c.ride.left zeros (record { outcome = outcomes.Local; after = V6 p }) gives c.hands)
           by_test false f =
               let gives = last-stays net e bytes c.ride.place n i (hop - c.ride.lowered) 0 c.sid c.into c.there middle last
-                  ∙ ap (λ (t : Bool). treated_at_sid n c.sid.behaviour p (if t then Delivered else Refused reasons.UpperLayer)) f in
+              ∙ ap (λ (t : Bool). treated_at_sid n c.sid.behaviour p (if t then Delivered else Refused reasons.UpperLayer)) f in
               no-more c.ride.place c.ride.left zeros (dropped reasons.UpperLayer (V6 p)) (outcomes.Drop reasons.UpperLayer) refl (λ later. refl)
               (first-of net c.ride.place (V6 p) c.ride.left zeros (dropped reasons.UpperLayer (V6 p)) gives c.hands)
+
       exposes : (table : ℕ) → c.sid.behaviour ≡ behaviours.Dt6 table → PathFrom net intent position via (slice_index e.segments i ∷ []) hop
       exposes table last_sid =
           let gives = last-exposes net e bytes c.ride.place n i (hop - c.ride.lowered) 0 c.sid c.into c.there table last_sid last in
@@ -294,6 +303,7 @@ module _ (net : Network) (network : IsNetwork net) (flat : IsFlat net) (intent :
           no-steps : (us : List Step) → matches us [] ≡ true → length us ≡ 0
           no-steps [] h = refl
           no-steps (u ∷ us) h = absurd (false≢true h)
+
       by_behaviour : (b : Behaviour) → c.sid.behaviour ≡ b → PathFrom net intent position via (slice_index e.segments i ∷ []) hop
       by_behaviour behaviours.End f = absurd (stays (ap goes_on f))
       by_behaviour behaviours.EndX f = absurd (stays (ap goes_on f))
@@ -312,10 +322,13 @@ module _ (net : Network) (network : IsNetwork net) (flat : IsFlat net) (intent :
     where
       n : ℕ
       n = c.ride.sid
+
       zeros : ℕ → ℕ
       zeros d = 0
+
       p : Packet
       p = at_segment e bytes i (hop - c.ride.lowered)
+
       onward : goes_on c.sid.behaviour ≡ true → 1 < hop - c.ride.lowered → Goes-on i hop c.ride c.sid
       onward middle high =
           let behind = meets-behind net n c.ride.left (at zeros).1.trace (at zeros).3 in
@@ -329,10 +342,12 @@ module _ (net : Network) (network : IsNetwork net) (flat : IsFlat net) (intent :
         where
           here : Place
           here = record { node = c.ride.place.node; how = on_from n c.sid.behaviour; family = c.ride.place.family }
+
           same_place : here ≡ place_behind n c.sid
           same_place =
               ap (λ (x : ℕ). record { node = x; how = on_from n c.sid.behaviour; family = c.ride.place.family }) (sym c.stands)
               ∙ ap (λ x. record { node = c.sid.node; how = on_from n c.sid.behaviour; family = x }) (family-v6 c.ride.place.family)
+
           at : (pick : ℕ → ℕ) → (more : ℕ) × (h : Handed)
               × (handed_over net (walk_of more net (Some (place_behind n c.sid)) (V6 (at_segment e bytes (suc i) (hop - c.ride.lowered - 1))) pick 0) ≡ Some h)
               × (matches c.ride.left (executed net n ++ h.trace) ≡ true)
@@ -341,38 +356,42 @@ module _ (net : Network) (network : IsNetwork net) (flat : IsFlat net) (intent :
               let first = first-of net c.ride.place (V6 p) c.ride.left pick _ gives c.hands in
               let one : i + 1 ≡ suc i = omega arith in
               let got = map-some (after_events (executed net n))
-                  (handed_over net (walk_of first.0 net (Some here) (V6 (at_segment e bytes (i + 1) (hop - c.ride.lowered - 1))) pick (0 + 0))) first.1 first.2 in
-              (first.0, got.0,
-               ap (λ (x : Place). handed_over net (walk_of first.0 net (Some x) (V6 (at_segment e bytes (suc i) (hop - c.ride.lowered - 1))) pick 0)) (sym same_place)
-               ∙ ap (λ (j : ℕ). handed_over net (walk_of first.0 net (Some here) (V6 (at_segment e bytes j (hop - c.ride.lowered - 1))) pick 0)) (sym one)
-               ∙ got.1,
-               ap (λ (h : Handed). matches c.ride.left h.trace) got.2 ∙ first.3)
+              (handed_over net (walk_of first.0 net (Some here) (V6 (at_segment e bytes (i + 1) (hop - c.ride.lowered - 1))) pick (0 + 0))) first.1 first.2 in (
+                first.0,
+                got.0,
+                ap (λ (x : Place). handed_over net (walk_of first.0 net (Some x) (V6 (at_segment e bytes (suc i) (hop - c.ride.lowered - 1))) pick 0)) (sym same_place)
+                    ∙ ap (λ (j : ℕ). handed_over net (walk_of first.0 net (Some here) (V6 (at_segment e bytes j (hop - c.ride.lowered - 1))) pick 0)) (sym one)
+                    ∙ got.1,
+                ap (λ (h : Handed). matches c.ride.left h.trace) got.2 ∙ first.3,
+              )
+
       by_limit : goes_on c.sid.behaviour ≡ true → ((1 < hop - c.ride.lowered) ⊎ (hop - c.ride.lowered ≤ 1)) → Goes-on i hop c.ride c.sid
       by_limit middle (inl high) = onward middle high
       by_limit middle (inr low) =
           let gives = mid-low net e bytes c.ride.place n i (hop - c.ride.lowered) 0 c.sid c.into c.there middle below low in
           absurd (no-more c.ride.place c.ride.left zeros (dropped reasons.HopLimit (V6 p)) (outcomes.Drop reasons.HopLimit) refl (λ later. refl)
-            (first-of net c.ride.place (V6 p) c.ride.left zeros (dropped reasons.HopLimit (V6 p)) gives c.hands))
+          (first-of net c.ride.place (V6 p) c.ride.left zeros (dropped reasons.HopLimit (V6 p)) gives c.hands))
+
       by_behaviour : (b : Behaviour) → c.sid.behaviour ≡ b → Goes-on i hop c.ride c.sid
       by_behaviour behaviours.End f = by_limit (ap goes_on f) (cases_lt 1 (hop - c.ride.lowered))
       by_behaviour behaviours.EndX f = by_limit (ap goes_on f) (cases_lt 1 (hop - c.ride.lowered))
       by_behaviour (behaviours.Dt6 table) f =
           let gives = mid-exposes net e bytes c.ride.place n i (hop - c.ride.lowered) 0 c.sid c.into c.there table f below in
           absurd (no-more c.ride.place c.ride.left zeros (dropped reasons.BadSegments (V6 p)) (outcomes.Drop reasons.BadSegments) refl (λ later. refl)
-            (first-of net c.ride.place (V6 p) c.ride.left zeros (dropped reasons.BadSegments (V6 p)) gives c.hands))
+          (first-of net c.ride.place (V6 p) c.ride.left zeros (dropped reasons.BadSegments (V6 p)) gives c.hands))
 
   -- a leg in front of a path
   leg-path : (position : ℕ) (via : Option ℕ) (i hop : ℕ) (place : Place) (segments : List ℕ) → is_start net intent position via ≡ true → place_from net intent via ≡ Some place
       → (c : Comes position via i hop place) → Goes-on i hop c.ride c.sid
       → ((to : ℕ) → is_start net intent to (Some c.ride.sid) ≡ true → Hands net (place_behind c.ride.sid c.sid) (V6 (at_segment e bytes (suc i) (hop - c.ride.lowered - 1))) (drop to intent.steps)
-         → PathFrom net intent to (Some c.ride.sid) segments (hop - c.ride.lowered - 1))
+      → PathFrom net intent to (Some c.ride.sid) segments (hop - c.ride.lowered - 1))
       → PathFrom net intent position via (slice_index e.segments i ∷ segments) hop
   leg-path position via i hop place segments start from c g later =
       let n = c.ride.sid in
       let left = length g.rest in
       let to = length intent.steps - left in
       let nr : NextRide net intent position via n
-          = record { start = start; place = place; from = from; ride = c.ride; is_ride = c.is_ride; sid = refl; left = left; left_is = g.behind.left } in
+      = record { start = start; place = place; from = from; ride = c.ride; is_ride = c.is_ride; sid = refl; left = left; left_is = g.behind.left } in
       let middle : is_middle net n ≡ true = ap sid_goes_on c.there ∙ g.middle in
       let leg = leg-from net intent position via n nr middle in
       let s = start-facts net keeps intent is_intent position via place start from in
@@ -380,8 +399,8 @@ module _ (net : Network) (network : IsNetwork net) (flat : IsFlat net) (intent :
       let at = at-end net keeps intent is_intent position n left (arrives net keeps intent is_intent position via n nr) in
       let is_at : is_sid_at net intent to n ≡ true = subst (λ (j : ℕ). is_sid_at net intent j n ≡ true) (sym at.1) at.4 in
       let starts : is_start net intent to (Some n) ≡ true
-          = and_from (nat_le to (length intent.steps)) (is_sid_at net intent to n && is_middle net n) (le-leb to (length intent.steps) (omega arith))
-            (and_from (is_sid_at net intent to n) (is_middle net n) is_at middle) in
+      = and_from (nat_le to (length intent.steps)) (is_sid_at net intent to n && is_middle net n) (le-leb to (length intent.steps) (omega arith))
+      (and_from (is_sid_at net intent to n) (is_middle net n) is_at middle) in
       let rest = rest-is intent.steps c.ride.left g.rest position f.count left f.left g.behind.rest refl f.within s.within g.behind.few in
       let tail = later to starts (subst (λ (us : List Step). Hands net (place_behind n c.sid) (V6 (at_segment e bytes (suc i) (hop - c.ride.lowered - 1))) us) rest g.hands) in
       record {
@@ -390,8 +409,8 @@ module _ (net : Network) (network : IsNetwork net) (flat : IsFlat net) (intent :
         need = c.ride.lowered + 1 + tail.need;
         names = ap (λ (a : ℕ). a ∷ map (sid_address net) (tail.first ∷ tail.more)) c.address ∙ ap (λ (xs : List ℕ). slice_index e.segments i ∷ xs) tail.names;
         is_path =
-          ap (λ o. with_leg o (λ to. path_need net intent to (Some n) (tail.first ∷ tail.more))) leg
-          ∙ ap (option_map (λ (k : ℕ). c.ride.lowered + 1 + k)) tail.is_path;
+            ap (λ o. with_leg o (λ to. path_need net intent to (Some n) (tail.first ∷ tail.more))) leg
+            ∙ ap (option_map (λ (k : ℕ). c.ride.lowered + 1 + k)) tail.is_path;
         below = omega (arith, g.high, tail.below);
       }
 
@@ -412,5 +431,5 @@ module _ (net : Network) (network : IsNetwork net) (flat : IsFlat net) (intent :
       let g = mid-goes position via i hop place (omega (arith, first.2)) c in
       subst (λ (x : ℕ). PathFrom net intent position via (x ∷ b ∷ more) hop) first.0
       (leg-path position via i hop place (b ∷ more) start from c g
-       (λ to starts hands. path-from more b to (Some c.ride.sid) (suc i) (hop - c.ride.lowered - 1) (place_behind c.ride.sid c.sid) starts
-        (ap (option_map (place_behind c.ride.sid)) c.there) first.1 (omega (arith, g.high)) hands))
+      (λ to starts hands. path-from more b to (Some c.ride.sid) (suc i) (hop - c.ride.lowered - 1) (place_behind c.ride.sid c.sid) starts
+      (ap (option_map (place_behind c.ride.sid)) c.there) first.1 (omega (arith, g.high)) hands))

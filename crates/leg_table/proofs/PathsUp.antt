@@ -59,7 +59,6 @@ rest-is steps ts us position count left e f g h p few =
 
 module _ (net : Network) (keeps : Keeps net) (intent : Intent) (is_intent : IsIntent net intent) (e : Encapsulation) (bytes : List ℕ)
     (all : All (λ a. a < 2 ^ 128) e.segments) where
-
   pub record Hands (position i hop : ℕ) (place : Place) (pick : ℕ → ℕ) (taken : ℕ) : Type 0 where
     pub fuel : ℕ
     pub handed : Handed
@@ -81,23 +80,25 @@ module _ (net : Network) (keeps : Keeps net) (intent : Intent) (is_intent : IsIn
       let w = ride-walk net keeps ts n.place (at_segment e bytes i hop) n.ride s.how s.rest ridden low in
       let sid = last-sid net next got.1 in
       let into : way_of net n.ride.place (slice_index e.segments i) ≡ Into next
-          = ap (way_of net n.ride.place) address ∙ (f.into ∙ ap Into n.sid) in
+      = ap (way_of net n.ride.place) address ∙ (f.into ∙ ap Into n.sid) in
       let stage = last-exposes net e bytes n.ride.place next i (hop - n.ride.lowered) (pick (taken + w.count)) sid.0 into sid.2 sid.1 sid.3 last in
-      let left = left-behind net next n.ride.left 0 (n.left_is ∙ ap Some got.3) in
-      (n.place, n.from,
-       record {
-         fuel = w.count + 1;
-         handed = record { trace = w.events pick taken ++ executed net next; content = content_of bytes };
-         is_handed =
-           w.walk pick taken 1
-           ∙ ap (option_map (after_events (w.events pick taken)))
-             (handed-stage net 0 n.ride.place (V6 (at_segment e bytes i (hop - n.ride.lowered))) pick (taken + w.count) _ stage);
-         meets_steps =
-           w.meets_them pick taken (executed net next)
-           ∙ behind-alone net next n.ride.left left.0 left.1
-           ∙ none-left left.0 left.2;
-         content = refl;
-       })
+      let left = left-behind net next n.ride.left 0 (n.left_is ∙ ap Some got.3) in (
+        n.place,
+        n.from,
+        record {
+          fuel = w.count + 1;
+          handed = record { trace = w.events pick taken ++ executed net next; content = content_of bytes };
+          is_handed =
+              w.walk pick taken 1
+              ∙ ap (option_map (after_events (w.events pick taken)))
+              (handed-stage net 0 n.ride.place (V6 (at_segment e bytes i (hop - n.ride.lowered))) pick (taken + w.count) _ stage);
+          meets_steps =
+              w.meets_them pick taken (executed net next)
+              ∙ behind-alone net next n.ride.left left.0 left.1
+              ∙ none-left left.0 left.2;
+          content = refl;
+        },
+      )
     where
       none-left : (us : List Step) → length us ≡ 0 → matches us [] ≡ true
       none-left [] h = refl
@@ -120,39 +121,41 @@ module _ (net : Network) (keeps : Keeps net) (intent : Intent) (is_intent : IsIn
       let w = ride-walk net keeps ts n.place (at_segment e bytes i hop) n.ride s.how s.rest ridden low in
       let sid = middle-sid net next got.1 in
       let into : way_of net n.ride.place (slice_index e.segments i) ≡ Into next
-          = ap (way_of net n.ride.place) address ∙ (f.into ∙ ap Into n.sid) in
+      = ap (way_of net n.ride.place) address ∙ (f.into ∙ ap Into n.sid) in
       let stands = into-stands net keeps intent is_intent n.ride.place (slice_index e.segments i) next into in
       let stage = mid-onward net e bytes n.ride.place next i (hop - n.ride.lowered) (pick (taken + w.count)) sid.0 into sid.1 sid.2 below all (omega arith) in
       let left = left-behind net next n.ride.left n.left n.left_is in
       let rest = later pick (taken + w.count + 0) in
       let hand = rest.2 in
       let same_place : Path (Option Place) (Some (record { node = n.ride.place.node; how = on_from next sid.0.behaviour; family = n.ride.place.family })) (Some rest.0)
-          = place-is n.ride.place next sid.0 stands.0 sid.1 stands.1 stands.2 ∙ rest.1 in
+      = place-is n.ride.place next sid.0 stands.0 sid.1 stands.1 stands.2 ∙ rest.1 in
       let one : i + 1 ≡ suc i = omega arith in
       let less : hop - n.ride.lowered - 1 ≡ hop - leg.hops = omega arith in
-      let us_rest = rest-is intent.steps n.ride.left left.0 position f.count n.left f.left left.1.rest left.2 f.within s.within left.1.few in
-      (n.place, n.from,
-       record {
-         fuel = w.count + suc hand.fuel;
-         handed = record { trace = w.events pick taken ++ (executed net next ++ hand.handed.trace); content = hand.handed.content };
-         is_handed =
-           w.walk pick taken (suc hand.fuel)
-           ∙ ap (option_map (after_events (w.events pick taken)))
-             (handed-stage net hand.fuel n.ride.place (V6 (at_segment e bytes i (hop - n.ride.lowered))) pick (taken + w.count) _ stage
+      let us_rest = rest-is intent.steps n.ride.left left.0 position f.count n.left f.left left.1.rest left.2 f.within s.within left.1.few in (
+        n.place,
+        n.from,
+        record {
+          fuel = w.count + suc hand.fuel;
+          handed = record { trace = w.events pick taken ++ (executed net next ++ hand.handed.trace); content = hand.handed.content };
+          is_handed =
+              w.walk pick taken (suc hand.fuel)
+              ∙ ap (option_map (after_events (w.events pick taken)))
+              (handed-stage net hand.fuel n.ride.place (V6 (at_segment e bytes i (hop - n.ride.lowered))) pick (taken + w.count) _ stage
               ∙ ap (λ (o : Option Place). option_map (after_events (executed net next))
-                    (handed_over net (walk_of hand.fuel net o (V6 (at_segment e bytes (i + 1) (hop - n.ride.lowered - 1))) pick (taken + w.count + 0)))) same_place
+              (handed_over net (walk_of hand.fuel net o (V6 (at_segment e bytes (i + 1) (hop - n.ride.lowered - 1))) pick (taken + w.count + 0)))) same_place
               ∙ ap (λ (j : ℕ). option_map (after_events (executed net next))
-                    (handed_over net (walk_of hand.fuel net (Some rest.0) (V6 (at_segment e bytes j (hop - n.ride.lowered - 1))) pick (taken + w.count + 0)))) one
+              (handed_over net (walk_of hand.fuel net (Some rest.0) (V6 (at_segment e bytes j (hop - n.ride.lowered - 1))) pick (taken + w.count + 0)))) one
               ∙ ap (λ (j : ℕ). option_map (after_events (executed net next))
-                    (handed_over net (walk_of hand.fuel net (Some rest.0) (V6 (at_segment e bytes (suc i) j)) pick (taken + w.count + 0)))) less
+              (handed_over net (walk_of hand.fuel net (Some rest.0) (V6 (at_segment e bytes (suc i) j)) pick (taken + w.count + 0)))) less
               ∙ ap (option_map (after_events (executed net next))) hand.is_handed);
-         meets_steps =
-           w.meets_them pick taken (executed net next ++ hand.handed.trace)
-           ∙ left.1.same hand.handed.trace
-           ∙ ap (λ (us : List Step). matches us hand.handed.trace) (us_rest ∙ ap (λ (j : ℕ). drop j intent.steps) to)
-           ∙ hand.meets_steps;
-         content = hand.content;
-       })
+          meets_steps =
+              w.meets_them pick taken (executed net next ++ hand.handed.trace)
+              ∙ left.1.same hand.handed.trace
+              ∙ ap (λ (us : List Step). matches us hand.handed.trace) (us_rest ∙ ap (λ (j : ℕ). drop j intent.steps) to)
+              ∙ hand.meets_steps;
+          content = hand.content;
+        },
+      )
     where
       place-is : (at : Place) (next : ℕ) (s t : SidEntry) → slice_get net.sids next ≡ Some s → slice_get net.sids next ≡ Some t → t.node ≡ at.node
           → Path (Option Place) (Some (record { node = at.node; how = on_from next s.behaviour; family = at.family })) (place_from net intent (Some next))

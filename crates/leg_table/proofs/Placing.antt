@@ -82,7 +82,7 @@ pub step-opens : (net : Network) (intent : Intent) (i node : ℕ) (step : Step) 
     → get_or intent.steps i step ≡ step → is_some (node_after net node step) ≡ true
 step-opens net intent i node step is_intent stands h e =
     let whole : is_some (stand_after net node (drop i intent.steps)) ≡ true
-        = ap is_some (sym (stand_after-split net intent.headend node intent.steps i stands)) ∙ (intent-stands net intent is_intent).0 in
+    = ap is_some (sym (stand_after-split net intent.headend node intent.steps i stands)) ∙ (intent-stands net intent is_intent).0 in
     opens (node_after net node step) (ap (λ ts. is_some (stand_after net node ts)) (sym (drop-next intent.steps i step h e)) ∙ whole)
   where
     opens : (o : Option ℕ) → is_some (option_and_then (λ next. stand_after net next (drop (suc i) intent.steps)) o) ≡ true → is_some o ≡ true
@@ -121,9 +121,10 @@ slice_get-front (y ∷ xs) x (suc n) h = slice_get-front xs x n (omega arith)
 pub rows-more : (net : Network) (intent : Intent) (last : ℕ) (row : List ℕ) (rows more : List (List ℕ)) → AreRows net intent last rows
     → row ≡ sids_of net intent (last + 1) → more ≡ rows ++ row ∷ [] → AreRows net intent (last + 1) more
 rows-more net intent last row rows more h e f =
-    subst (AreRows net intent (last + 1)) (sym f)
-    (let len = length-append rows (row ∷ []) in omega (arith, h.0, len),
-     λ position within. at position (cases_order position (last + 1)) within)
+    subst (AreRows net intent (last + 1)) (sym f) (
+      let len = length-append rows (row ∷ []) in omega (arith, h.0, len),
+      λ position within. at position (cases_order position (last + 1)) within,
+    )
   where
     at : (position : ℕ) → ((position ≡ last + 1) ⊎ ((position < last + 1) ⊎ (last + 1 < position))) → position ≤ last + 1
         → slice_get (rows ++ row ∷ []) position ≡ Some (sids_of net intent position)

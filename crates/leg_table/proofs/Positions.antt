@@ -40,6 +40,7 @@ placed-contains net n (x ∷ xs) m h = by_test (sid_before (slice_get net.sids n
         by_rest : (n ≡ m) ⊎ Contains xs m → (n ≡ m) ⊎ Contains (x ∷ xs) m
         by_rest (inl e) = inl e
         by_rest (inr k) = inr (contains-later x m xs k)
+
         by_first : (x ≡ m) ⊎ Contains (placed net n xs) m → (n ≡ m) ⊎ Contains (x ∷ xs) m
         by_first (inl e) = inr (subst (λ (y : ℕ). Contains (x ∷ xs) y) e (contains-first x xs))
         by_first (inr k) = by_rest (later k)
@@ -89,6 +90,7 @@ placed-order net n (m ∷ k ∷ ks) order apart =
   where
     parts : (sid_before (slice_get net.sids m) (slice_get net.sids k) ≡ true) × (in_order net (k ∷ ks) ≡ true)
     parts = and_parts (sid_before (slice_get net.sids m) (slice_get net.sids k)) (in_order net (k ∷ ks)) order
+
     by_test : (t : Bool) → sid_before (slice_get net.sids n) (slice_get net.sids m) ≡ t → in_order net (placed net n (k ∷ ks)) ≡ true
         → in_order net (if t then n ∷ m ∷ k ∷ ks else m ∷ placed net n (k ∷ ks)) ≡ true
     by_test true e later = and_from (sid_before (slice_get net.sids n) (slice_get net.sids m)) (in_order net (m ∷ k ∷ ks)) e order
@@ -127,13 +129,13 @@ count-take {X} p xs k h = by_place (slice_get_cases xs k).1
         let more = ap (λ (j : ℕ). count_by p (take j xs)) (sym (add-one k)) ∙ count_by_more_yes p xs k x h e in omega arith
     by_test x false e =
         let more = ap (λ (j : ℕ). count_by p (take j xs)) (sym (add-one k)) ∙ count_by_more_no p xs k x h e in omega arith
+
     by_place : ((x : X) × (k < length xs) × (slice_get xs k ≡ Some x) × (get_or xs k x ≡ x)) ⊎ ((length xs ≤ k) × (slice_get xs k ≡ None))
         → count_by p (take k xs) ≤ count_by p (take (suc k) xs)
     by_place (inl there) = by_test there.0 (p (get_or xs k there.0)) refl
     by_place (inr past) = absurd (omega (arith, past.0))
 
 module _ (net : Network) (keeps : Keeps net) (intent : Intent) (position : ℕ) where
-
   -- two SIDs of a position stand at one node, so each prefix stands once
   apart-sids : (n m : ℕ) → is_sid_at net intent position n ≡ true → is_sid_at net intent position m ≡ true → (n ≡ m → ⊥)
       → sid_before (slice_get net.sids n) (slice_get net.sids m) ≡ false → sid_before (slice_get net.sids m) (slice_get net.sids n) ≡ true
@@ -142,9 +144,9 @@ module _ (net : Network) (keeps : Keeps net) (intent : Intent) (position : ℕ) 
       let t = sid-at net intent position m hm in
       let same_node : s.0.node ≡ t.0.node = some-same s.0.node t.0.node (sym s.2 ∙ t.2) in
       let e : comes_before s.0.prefix t.0.prefix ≡ false
-          = ap (λ o. sid_before o (Some t.0)) (sym s.1) ∙ ap (sid_before (slice_get net.sids n)) (sym t.1) ∙ before in
+      = ap (λ o. sid_before o (Some t.0)) (sym s.1) ∙ ap (sid_before (slice_get net.sids n)) (sym t.1) ∙ before in
       let f : comes_before t.0.prefix s.0.prefix ≡ true
-          = behind-prefixes s.0.prefix t.0.prefix e (λ same. differ (keeps.sid_prefix n m s.0 t.0 s.1 t.1 same_node same)) in
+      = behind-prefixes s.0.prefix t.0.prefix e (λ same. differ (keeps.sid_prefix n m s.0 t.0 s.1 t.1 same_node same)) in
       ap (λ o. sid_before o (slice_get net.sids n)) t.1 ∙ ap (sid_before (Some t.0)) s.1 ∙ f
 
   abbrev Row-is : ℕ → List ℕ → Type 0
@@ -161,13 +163,14 @@ module _ (net : Network) (keeps : Keeps net) (intent : Intent) (position : ℕ) 
         in_row = λ m h. in_it m (placed-contains net k xs m h);
         of_row = λ m below at. of_it m (cases_order m k) below at;
         order =
-          placed-order net k xs row.order
-          (λ m there before. let old = row.in_row m there in apart-sids k m e old.1 (λ same. absurd (omega (arith, same, old.0))) before);
+            placed-order net k xs row.order
+            (λ m there before. let old = row.in_row m there in apart-sids k m e old.1 (λ same. absurd (omega (arith, same, old.0))) before);
       }
     where
       in_it : (m : ℕ) → (k ≡ m) ⊎ Contains xs m → (m < suc k) × (is_sid_at net intent position m ≡ true)
       in_it m (inl same) = (omega arith, subst (λ (j : ℕ). is_sid_at net intent position j ≡ true) same e)
       in_it m (inr there) = let old = row.in_row m there in (omega (arith, old.0), old.1)
+
       of_it : (m : ℕ) → ((m ≡ k) ⊎ ((m < k) ⊎ (k < m))) → m < suc k → is_sid_at net intent position m ≡ true → Contains (placed net k xs) m
       of_it m (inl same) below at = subst (λ (j : ℕ). Contains (placed net k xs) j) (sym same) (placed-itself net k xs)
       of_it m (inr (inl lower)) below at = placed-others net k xs m (row.of_row m lower at)
@@ -212,7 +215,7 @@ module _ (net : Network) (keeps : Keeps net) (intent : Intent) (position : ℕ) 
       by_test : (t : Bool) → is_sid_at net intent position k ≡ t
           → length (sids_below net intent position k) ≤ count_by (is_sid_of node) (take k net.sids)
           → length (if t then placed net k (sids_below net intent position k) else sids_below net intent position k)
-            ≤ count_by (is_sid_of node) (take (suc k) net.sids)
+          ≤ count_by (is_sid_of node) (take (suc k) net.sids)
       by_test true e ih =
           let s = sid-at net intent position k e in
           let same : s.0.node ≡ node = some-same s.0.node node (sym s.2 ∙ stands) in
@@ -220,7 +223,7 @@ module _ (net : Network) (keeps : Keeps net) (intent : Intent) (position : ℕ) 
           let passes : is_sid_of node (get_or net.sids k s.0) ≡ true = ap (is_sid_of node) got ∙ eq-eqb s.0.node node same in
           let more = count_by_more_yes (is_sid_of node) net.sids k s.0 h passes in
           let more2 : count_by (is_sid_of node) (take (suc k) net.sids) ≡ count_by (is_sid_of node) (take k net.sids) + 1
-              = ap (λ (j : ℕ). count_by (is_sid_of node) (take j net.sids)) (sym (add-one k)) ∙ more in
+          = ap (λ (j : ℕ). count_by (is_sid_of node) (take j net.sids)) (sym (add-one k)) ∙ more in
           let len = placed-length net k (sids_below net intent position k) in
           omega arith
       by_test false e ih = let more = count-take (is_sid_of node) net.sids k h in omega arith
@@ -236,7 +239,7 @@ module _ (net : Network) (keeps : Keeps net) (intent : Intent) (position : ℕ) 
           let few = (keeps.sid n s.0 s.1).room in
           let all = row-count s.0.node s.2 (length net.sids) (omega arith) in
           let whole : count_by (is_sid_of s.0.node) (take (length net.sids) net.sids) ≡ count_by (is_sid_of s.0.node) net.sids
-              = ap (count_by (is_sid_of s.0.node)) (take-length net.sids) in
+          = ap (count_by (is_sid_of s.0.node)) (take-length net.sids) in
           omega arith
 
   -- a SID of the position is there

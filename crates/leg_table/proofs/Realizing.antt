@@ -35,7 +35,6 @@ use Rattle.leg_table.proofs.PathsUp.{with_leg-some, path-hands}
 use Rattle.leg_table.proofs.PathsDown.{yes, Hands, PathFrom, path-from}
 
 module _ (net : Network) (keeps : Keeps net) where
-
   address-below : (n : ℕ) → sid_address net n < 2 ^ 128
   address-below n = by_sid (slice_get net.sids n) refl
     where
@@ -71,18 +70,17 @@ there-named net (n ∷ ns) h zero below = (n, h.0.0, h.0.1, sym (ap first_addres
 there-named net (n ∷ ns) h (suc i) below = there-named net ns h.1 i (omega arith)
 
 module _ (net : Network) (intent : Intent) where
-
   -- SIDs with one first address to which packets are taken are one
   same-next : (position : ℕ) (via : Option ℕ) (next other : ℕ) → NextRide net intent position via next → NextRide net intent position via other
       → sid_address net next ≡ sid_address net other → next ≡ other
   same-next position via next other n m address =
       let place : n.place ≡ m.place = some-same n.place m.place (sym n.from ∙ m.from) in
       let ride : n.ride ≡ m.ride
-          = some-same n.ride m.ride
-            (sym n.is_ride
-             ∙ ap (λ (d : ℕ). ride_of net d (drop position intent.steps) n.place) address
-             ∙ ap (ride_of net (sid_address net other) (drop position intent.steps)) place
-             ∙ m.is_ride) in
+      = some-same n.ride m.ride
+      (sym n.is_ride
+      ∙ ap (λ (d : ℕ). ride_of net d (drop position intent.steps) n.place) address
+      ∙ ap (ride_of net (sid_address net other) (drop position intent.steps)) place
+      ∙ m.is_ride) in
       sym n.sid ∙ ap (λ (r : Ride). r.sid) ride ∙ m.sid
 
   heads : (a b : ℕ) (xs ys : List ℕ) → Path (List ℕ) (a ∷ xs) (b ∷ ys) → (a ≡ b) × (xs ≡ ys)
@@ -104,11 +102,11 @@ module _ (net : Network) (intent : Intent) where
       let b = with_leg-some (leg_of net intent position via other) (λ to. path_need net intent to (Some other) (o ∷ others)) least k in
       let parts = heads (sid_address net next) (sid_address net other) (map (sid_address net) (m ∷ more)) (map (sid_address net) (o ∷ others)) names in
       let same : next ≡ other
-          = same-next position via next other (leg-ride net intent position via next a.0 a.1).0 (leg-ride net intent position via other b.0 b.1).0 parts.0 in
+      = same-next position via next other (leg-ride net intent position via next a.0 a.1).0 (leg-ride net intent position via other b.0 b.1).0 parts.0 in
       let leg : a.0 ≡ b.0 = some-same a.0 b.0 (sym a.1 ∙ ap (leg_of net intent position via) same ∙ b.1) in
       let tail : path_need net intent a.0.to (Some next) (o ∷ others) ≡ Some b.2
-          = ap (λ (l : Leg). path_need net intent l.to (Some next) (o ∷ others)) leg
-            ∙ ap (λ (n : ℕ). path_need net intent b.0.to (Some n) (o ∷ others)) same ∙ b.3 in
+      = ap (λ (l : Leg). path_need net intent l.to (Some next) (o ∷ others)) leg
+      ∙ ap (λ (n : ℕ). path_need net intent b.0.to (Some n) (o ∷ others)) same ∙ b.3 in
       let rest = path-unique more m others o a.0.to (Some next) a.2 b.2 parts.1 a.3 tail in
       sym a.4 ∙ ap (λ (l : Leg). l.hops + a.2) leg ∙ ap (λ (n : ℕ). b.0.hops + n) rest ∙ b.4
 
@@ -124,11 +122,13 @@ lists-hands net intent segments inner hop all =
     let n = suc (length intent.steps) in
     let row = row_from net yes pick 0 n in
     let some : 0 < length row = rw (length-row_from net yes pick 0 n) (omega arith) in
-    let got = all row some in
-    (got.0, got.1,
-     hands-agree net got.0 intent.steps (Some (headend_place intent)) (V6 (at_segment (encapsulation_of intent segments) (bytes_of_inner inner) 0 hop))
-     (choice_at row) pick 0 0 got.1 (λ d few. row_agrees net yes pick n d (omega arith)) got.3 got.2,
-     got.3)
+    let got = all row some in (
+      got.0,
+      got.1,
+      hands-agree net got.0 intent.steps (Some (headend_place intent)) (V6 (at_segment (encapsulation_of intent segments) (bytes_of_inner inner) 0 hop))
+          (choice_at row) pick 0 0 got.1 (λ d few. row_agrees net yes pick n d (omega arith)) got.3 got.2,
+      got.3,
+    )
 
 -- a list that hands over for all choices is a path
 pub list-path : (net : Network) (intent : Intent) (segments : List ℕ) (inner : Packet) (hop : ℕ) → IsNetwork net → IsFlat net → IsIntent net intent
@@ -143,6 +143,7 @@ list-path net intent segments inner hop network flat is_intent named some positi
         let got = named 0 (omega arith) in
         subst (λ (a : ℕ). a < 2 ^ 128) got.3 (((keeps_from_network net network).sid got.0 got.1 got.2).prefix.1)
     below (x ∷ xs) named (suc k) d h = below xs (λ i within. named (suc i) (omega arith)) k d (omega arith)
+
     by_list : (xs : List ℕ) → segments ≡ xs → AreSidAddresses net xs → 0 < length xs
         → Hands net (headend_place intent) (V6 (at_segment (encapsulation_of intent segments) (bytes_of_inner inner) 0 hop)) intent.steps
         → (sids : List ℕ) × (need : ℕ) × IsPathOf net intent segments sids need × (need < hop)
@@ -150,8 +151,8 @@ list-path net intent segments inner hop network flat is_intent named some positi
     by_list (a ∷ more) e named some hands =
         let begins : is_start net intent 0 None ≡ true = and_from (nat_le 0 (length intent.steps)) true (le-leb 0 (length intent.steps) (omega arith)) refl in
         let path = path-from net network flat intent is_intent (encapsulation_of intent segments) (bytes_of_inner inner)
-            (subst (λ (xs : List ℕ). All (λ a. a < 2 ^ 128) xs) (sym e) (λ k d h. below (a ∷ more) named k d h))
-            (subst (AreSidAddresses net) (sym e) named) more a 0 None 0 hop (headend_place intent) begins refl e positive hands in
+        (subst (λ (xs : List ℕ). All (λ a. a < 2 ^ 128) xs) (sym e) (λ k d h. below (a ∷ more) named k d h))
+        (subst (AreSidAddresses net) (sym e) named) more a 0 None 0 hop (headend_place intent) begins refl e positive hands in
         (path.first ∷ path.more, path.need, record { names = path.names ∙ sym e; is_path = path.is_path }, path.below)
 
 -- a packet that bytes spell and that may be encapsulated
@@ -160,11 +161,19 @@ some_inner = record { traffic_class = 0; flow_label = 0; next_header = 59; hop_l
 
 some_inner-spellable : IsSpellable some_inner × (2 ≤ some_inner.hop_limit)
 unfolding some_inner
-some_inner-spellable =
-    (record {
-      traffic_class = lit< tt; flow_label = lit< tt; next_header = lit< tt; hop_limit = lit< tt; source = lit< tt; destination = lit< tt;
-      payload_len = lit< tt; payload = λ k d h. absurd (omega arith);
-    }, omega arith)
+some_inner-spellable = (
+  record {
+    traffic_class = lit< tt;
+    flow_label = lit< tt;
+    next_header = lit< tt;
+    hop_limit = lit< tt;
+    source = lit< tt;
+    destination = lit< tt;
+    payload_len = lit< tt;
+    payload = λ k d h. absurd (omega arith);
+  },
+  omega arith,
+)
 
 -- a path of legs and a finish realizes the intent
 pub path-realizes : (net : Network) (intent : Intent) (sids : List ℕ) (need : ℕ) → IsNetwork net → IsFlat net → IsIntent net intent
@@ -175,24 +184,29 @@ path-realizes net intent (next ∷ more) need network flat is_intent h =
   where
     keeps : Keeps net
     keeps = keeps_from_network net network
+
     segments : List ℕ
     segments = map (sid_address net) (next ∷ more)
+
     over : (inner : Packet) → IsSpellable inner → (hop : ℕ) → need < hop → (choices : List ℕ) → HandsOver net intent segments inner hop choices
     over inner ok hop above choices =
         let got = path-hands net keeps intent is_intent (encapsulation_of intent segments) (bytes_of_inner inner) (all-addresses net keeps (next ∷ more))
-            more next 0 None 0 hop need (choice_at choices) 0 refl h above in
+        more next 0 None 0 hop need (choice_at choices) 0 refl h above in
         let hand = got.2 in
-        let place : got.0 ≡ headend_place intent = some-same got.0 (headend_place intent) (sym got.1) in
-        (hand.fuel, hand.handed,
-         ap (λ (p : Place). handed_over net (walk_of hand.fuel net (Some p) (V6 (at_segment (encapsulation_of intent segments) (bytes_of_inner inner) 0 hop)) (choice_at choices) 0))
-         (sym place) ∙ hand.is_handed,
-         hand.meets_steps,
-         hand.content ∙ content_of-spelling_alone (inner_lowered inner) (lowered-spellable inner ok))
+        let place : got.0 ≡ headend_place intent = some-same got.0 (headend_place intent) (sym got.1) in (
+          hand.fuel,
+          hand.handed,
+          ap (λ (p : Place). handed_over net (walk_of hand.fuel net (Some p) (V6 (at_segment (encapsulation_of intent segments) (bytes_of_inner inner) 0 hop)) (choice_at choices) 0))
+              (sym place) ∙ hand.is_handed,
+          hand.meets_steps,
+          hand.content ∙ content_of-spelling_alone (inner_lowered inner) (lowered-spellable inner ok),
+        )
+
     least : (n : ℕ) → ReachesAbove net intent segments n → need ≤ n
     least n reaches =
         let inner = some_inner-spellable in
         let path = list-path net intent segments some_inner (n + 1) network flat is_intent (there-named net (next ∷ more) (path-there net intent more next 0 None need h))
-            (omega arith) (omega arith) (reaches some_inner inner.0 inner.1 (n + 1) (omega arith)) in
+        (omega arith) (omega arith) (reaches some_inner inner.0 inner.1 (n + 1) (omega arith)) in
         by_path path.0 path.1 path.2 path.3
       where
         by_path : (sids : List ℕ) (k : ℕ) → IsPathOf net intent segments sids k → k < n + 1 → need ≤ n

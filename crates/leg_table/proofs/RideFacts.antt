@@ -38,7 +38,6 @@ pub record RideFacts (net : Network) (destination : ℕ) (ts : List Step) (place
   pub stands : stand_after net place.node (take count ts) ≡ Some r.place.node
 
 module _ (net : Network) (keeps : Keeps net) (destination : ℕ) where
-
   facts_here : (ts : List Step) (place : Place) (n : ℕ) → way_of net place destination ≡ Into n
       → RideFacts net destination ts place (record { sid = n; place = place; left = ts; lowered = 0 })
   facts_here ts place n e =
@@ -77,7 +76,7 @@ module _ (net : Network) (keeps : Keeps net) (destination : ℕ) where
       by_way : (t : Step) (w : Way) → way_of net place destination ≡ w → HasLinks w → is_some (stand_after net place.node (t ∷ ts)) ≡ true
           → ride_by net place (t ∷ ts) t (ride_of net destination ts) w ≡ Some r
           → ((to : ℕ) (q : Ride) → is_some (stand_after net to ts) ≡ true → ride_of net destination ts (arrived to place) ≡ Some q
-             → RideFacts net destination ts (arrived to place) q)
+          → RideFacts net destination ts (arrived to place) q)
           → RideFacts net destination (t ∷ ts) place r
       by_way t (Away reason) e links stands h ih = absurd (cc)
       by_way t Own e links stands h ih = absurd (cc)
@@ -89,7 +88,7 @@ module _ (net : Network) (keeps : Keeps net) (destination : ℕ) where
           let got = map-some (more_lowered lower) _ r all.1 in
           let at : first_end net set ≡ Some opened.0 = first_end-is net opened.0 step set opened.1 all.0 links in
           let later : ride_of net destination ts (arrived opened.0 place) ≡ Some got.0
-              = ap (λ (o : Option ℕ). ride_on (arrival o place) (ride_of net destination ts)) (sym at) ∙ got.1 in
+          = ap (λ (o : Option ℕ). ride_on (arrival o place) (ride_of net destination ts)) (sym at) ∙ got.1 in
           subst (RideFacts net destination (Links step ∷ ts) place) got.2
           (facts_later step ts place opened.0 lower got.0 opened.3 (ih opened.0 got.0 opened.2 later))
 
@@ -102,7 +101,7 @@ stand_after-append net node (x ∷ xs) ys = by_next (node_after net node x) (λ 
     by_next : (o : Option ℕ)
         → ((next : ℕ) → stand_after net next (xs ++ ys) ≡ option_and_then (λ n. stand_after net n ys) (stand_after net next xs))
         → option_and_then (λ next. stand_after net next (xs ++ ys)) o
-          ≡ option_and_then (λ n. stand_after net n ys) (option_and_then (λ next. stand_after net next xs) o)
+        ≡ option_and_then (λ n. stand_after net n ys) (option_and_then (λ next. stand_after net next xs) o)
     by_next None ih = refl
     by_next (Some next) ih = ih next
 
@@ -120,12 +119,12 @@ is_at-is to (Some n) h = ap Some (eqb-true n to h)
 -- a SID of a position is there, and stands where the walk stands
 pub sid-at : (net : Network) (intent : Intent) (position n : ℕ) → is_sid_at net intent position n ≡ true
     → (s : SidEntry) × (slice_get net.sids n ≡ Some s) × (node_at net intent position ≡ Some s.node)
-      × (title_suits n (step_before intent.steps position) s.title ≡ true)
+    × (title_suits n (step_before intent.steps position) s.title ≡ true)
 sid-at net intent position n h = by_sid (slice_get net.sids n) refl h
   where
     by_sid : (o : Option SidEntry) → slice_get net.sids n ≡ o → sid_suits n (node_at net intent position) (step_before intent.steps position) o ≡ true
         → (s : SidEntry) × (slice_get net.sids n ≡ Some s) × (node_at net intent position ≡ Some s.node)
-          × (title_suits n (step_before intent.steps position) s.title ≡ true)
+        × (title_suits n (step_before intent.steps position) s.title ≡ true)
     by_sid None e h = absurd (false≢true h)
     by_sid (Some s) e h =
         let parts = and_parts (is_at s.node (node_at net intent position)) (title_suits n (step_before intent.steps position) s.title) h in
@@ -154,7 +153,6 @@ intent-stands net intent h =
     (k.0, leb-true (length intent.steps) 48 g.0, leb-true 1 (length intent.steps) f.0, ltb-true intent.headend (length net.nodes) a.0)
 
 module _ (net : Network) (keeps : Keeps net) (intent : Intent) (is_intent : IsIntent net intent) where
-
   behind-how : (v : ℕ) (s : SidEntry) → slice_get net.sids v ≡ Some s → IsHow net s.node (on_from v s.behaviour)
   behind-how v s e = by_behaviour s.behaviour ((keeps.sid v s e).links)
     where
@@ -181,12 +179,12 @@ module _ (net : Network) (keeps : Keeps net) (intent : Intent) (is_intent : IsIn
       let e : position ≡ 0 = eqb-true position 0 parts.1 in
       subst (StartFacts net intent position) (some-same _ place from)
       (start_from position _ (leb-true position (length intent.steps) parts.0)
-       (ap (λ (n : ℕ). stand_after net intent.headend (take n intent.steps)) e) tt refl)
+      (ap (λ (n : ℕ). stand_after net intent.headend (take n intent.steps)) e) tt refl)
   start-facts position (Some v) place start from =
       let parts = and_parts (nat_le position (length intent.steps)) (is_via net intent position (Some v)) start in
       let at = and_parts (is_sid_at net intent position v) (is_middle net v) parts.1 in
       let sid = sid-at net intent position v at.0 in
       let e : Path (Option Place) (Some (place_behind v sid.0)) (Some place)
-          = ap (option_map (place_behind v)) (sym sid.1) ∙ from in
+      = ap (option_map (place_behind v)) (sym sid.1) ∙ from in
       subst (StartFacts net intent position) (some-same _ place e)
       (start_from position (place_behind v sid.0) (leb-true position (length intent.steps) parts.0) sid.2 (behind-how v sid.0 sid.1) refl)

@@ -68,12 +68,12 @@ own-ends p (Some reason) E h = h
 
 by_limit : (set : List ℕ) (p : Packet) (choice : ℕ)
     → ((p.hop_limit ≤ 1) × (sent set true p choice ≡ dropped reasons.HopLimit (V6 p)))
-      ⊎ ((1 < p.hop_limit) × (sent set true p choice ≡ record { outcome = outcomes.Send (member_of set choice); after = V6 (lowered true p) }))
+    ⊎ ((1 < p.hop_limit) × (sent set true p choice ≡ record { outcome = outcomes.Send (member_of set choice); after = V6 (lowered true p) }))
 by_limit set p choice = by_test (leb_tells p.hop_limit 1)
   where
     by_test : ((nat_le p.hop_limit 1 ≡ true) × (p.hop_limit ≤ 1)) ⊎ ((nat_le p.hop_limit 1 ≡ false) × (1 < p.hop_limit))
         → ((p.hop_limit ≤ 1) × (sent set true p choice ≡ dropped reasons.HopLimit (V6 p)))
-          ⊎ ((1 < p.hop_limit) × (sent set true p choice ≡ record { outcome = outcomes.Send (member_of set choice); after = V6 (lowered true p) }))
+        ⊎ ((1 < p.hop_limit) × (sent set true p choice ≡ record { outcome = outcomes.Send (member_of set choice); after = V6 (lowered true p) }))
     by_test (inl low) = inl (low.1, sent-low set p choice low.1)
     by_test (inr high) = inr (high.1, sent-high set p choice high.1)
 
@@ -105,7 +105,6 @@ abbrev pub arrived : ℕ → Place → Place
 arrived to place = record { node = to; how = Arrived 0; family = place.family }
 
 module _ (net : Network) (end : List Step → walks.Step → Bool) where
-
   -- the stage that ends a ride, as a fact about the packet there
   abbrev EndsAt : Place → List Step → Packet → Type 0
   EndsAt place left q =
@@ -114,11 +113,12 @@ module _ (net : Network) (end : List Step → walks.Step → Bool) where
   -- a packet that comes into a SID has ended its ride there
   into : (place : Place) (left : List Step) (p : Packet) (n : ℕ) → way_of net place p.destination ≡ Into n → 0 < p.hop_limit
       → (let gave = treated net place.node (Into n) p 0 in Ends gave.outcome (IsTrue (end left (seen_at place (V6 p) gave))))
-        ↔ RideEnds net end p (Some (record { sid = n; place = place; left = left; lowered = 0 }))
+      ↔ RideEnds net end p (Some (record { sid = n; place = place; left = left; lowered = 0 }))
   into place left p n e some =
-      let Q : Way → Type 0 = λ w. let gave = treated net place.node w p 0 in Ends gave.outcome (IsTrue (end left (seen_at place (V6 p) gave))) in
-      (λ h. (some, subst (EndsAt place left) (sym (same_packet p)) (subst Q (sym e) h)),
-       λ h. subst Q e (subst (EndsAt place left) (same_packet p) h.1))
+      let Q : Way → Type 0 = λ w. let gave = treated net place.node w p 0 in Ends gave.outcome (IsTrue (end left (seen_at place (V6 p) gave))) in (
+        λ h. (some, subst (EndsAt place left) (sym (same_packet p)) (subst Q (sym e) h)),
+        λ h. subst Q e (subst (EndsAt place left) (same_packet p) h.1),
+      )
 
   -- the ride goes on from the end of a link, lowered or not
   stays : (p : Packet) (r : Option Ride) → RideEnds net end (lowered false p) r ↔ RideEnds net end p (option_map (more_lowered false) r)
@@ -142,7 +142,6 @@ module _ (net : Network) (end : List Step → walks.Step → Bool) where
 
   module _ (place : Place) (step : List ℕ) (ts : List Step) (set : List ℕ) (to : ℕ)
       (ends : list_all (ends_at net to) step ≡ true) (some : 0 < length set) where
-
     -- what is sent on any member lies in the step, and comes to where all its links end
     abbrev Sends : Packet → Type 0
     Sends q = (choice : ℕ) → IsTrue (has_link step (member_of set choice))
@@ -182,14 +181,14 @@ module _ (net : Network) (end : List Step → walks.Step → Bool) where
 
     module _ (ih : (q : Packet) → 0 < q.hop_limit
         → EveryWay net end ts (arrived to place) (V6 q) ↔ RideEnds net end q (ride_of net q.destination ts (arrived to place))) where
-
       over-false : (p : Packet) → 0 < p.hop_limit
           → Over-every false p ↔ RideEnds net end p (ride_over net place (Links step) set false (ride_of net p.destination ts))
-      over-false p positive =
-          (λ h. let got = sends-rides p h in
-           subst (RideEnds net end p) (sym (over_is false (ride_of net p.destination ts) got.0)) ((stays p _).0 ((ih p positive).0 got.1)),
-           λ h. let all = over_all false (ride_of net p.destination ts) p h in
-           rides-sends p all ((ih p positive).1 ((stays p _).1 (subst (RideEnds net end p) (over_is false (ride_of net p.destination ts) all) h))))
+      over-false p positive = (
+        λ h. let got = sends-rides p h in
+            subst (RideEnds net end p) (sym (over_is false (ride_of net p.destination ts) got.0)) ((stays p _).0 ((ih p positive).0 got.1)),
+        λ h. let all = over_all false (ride_of net p.destination ts) p h in
+            rides-sends p all ((ih p positive).1 ((stays p _).1 (subst (RideEnds net end p) (over_is false (ride_of net p.destination ts) all) h))),
+      )
 
       abbrev Goes-as : Packet → Gave → Type 0
       Goes-as p gave =
@@ -202,15 +201,17 @@ module _ (net : Network) (end : List Step → walks.Step → Bool) where
         where
           high_sends : 1 < p.hop_limit → Over-every true p → Sends (lowered true p)
           high_sends high h = λ choice. subst (Goes-as p) (sent-high set p choice high) (h choice)
+
           to_ride : Over-every true p
               → ((p.hop_limit ≤ 1) × (sent set true p 0 ≡ dropped reasons.HopLimit (V6 p)))
-                ⊎ ((1 < p.hop_limit) × (sent set true p 0 ≡ record { outcome = outcomes.Send (member_of set 0); after = V6 (lowered true p) }))
+              ⊎ ((1 < p.hop_limit) × (sent set true p 0 ≡ record { outcome = outcomes.Send (member_of set 0); after = V6 (lowered true p) }))
               → RideEnds net end p (ride_over net place (Links step) set true (ride_of net p.destination ts))
           to_ride h (inl low) = absurd (subst (Goes-as p) low.1 (h 0))
           to_ride h (inr high) =
               let got = sends-rides (lowered true p) (high_sends high.0 h) in
               subst (RideEnds net end p) (sym (over_is true (ride_of net p.destination ts) got.0))
               ((falls p _ high.0).0 ((ih (lowered true p) (omega (arith, high.0))).0 got.1))
+
           from_ride : RideEnds net end p (ride_over net place (Links step) set true (ride_of net p.destination ts)) → Over-every true p
           from_ride h =
               let all = over_all true (ride_of net p.destination ts) p h in
@@ -222,22 +223,24 @@ module _ (net : Network) (end : List Step → walks.Step → Bool) where
   by_way : (place : Place) (p : Packet) (t : Step) (ts : List Step) (w : Way) → way_of net place p.destination ≡ w → HasLinks w
       → is_some (stand_after net place.node (t ∷ ts)) ≡ true → 0 < p.hop_limit
       → ((to : ℕ) (q : Packet) → is_some (stand_after net to ts) ≡ true → 0 < q.hop_limit
-         → EveryWay net end ts (arrived to place) (V6 q) ↔ RideEnds net end q (ride_of net q.destination ts (arrived to place)))
+      → EveryWay net end ts (arrived to place) (V6 q) ↔ RideEnds net end q (ride_of net q.destination ts (arrived to place)))
       → ((choice : ℕ) → let gave = treated net place.node w p choice in
-         Goes gave.outcome t (AtNext (next_place net place gave.outcome) (λ next. EveryWay net end ts next gave.after))
-         (IsTrue (end (t ∷ ts) (seen_at place (V6 p) gave))))
-        ↔ RideEnds net end p (ride_by net place (t ∷ ts) t (ride_of net p.destination ts) w)
+      Goes gave.outcome t (AtNext (next_place net place gave.outcome) (λ next. EveryWay net end ts next gave.after))
+      (IsTrue (end (t ∷ ts) (seen_at place (V6 p) gave))))
+      ↔ RideEnds net end p (ride_by net place (t ∷ ts) t (ride_of net p.destination ts) w)
   by_way place p t ts (Away reason) e links stands positive ih = (λ h. h 0, λ h. absurd h)
   by_way place p t ts Own e links stands positive ih = (λ h. own-never p (at_address p) t _ _ (h 0), λ h. absurd h)
   by_way place p t ts (Into n) e links stands positive ih =
-      let quiet = in-no_send net place.node n (slice_get net.sids n) p in
-      (λ h. (into place (t ∷ ts) p n e positive).0 ((goes-ends _ t _ _ quiet).0 (h 0)),
-       λ h choice. (goes-ends _ t _ _ quiet).1 ((into place (t ∷ ts) p n e positive).1 h))
-  by_way place p (Function sid) ts (Over set lower) e links stands positive ih =
-      (λ h. function-never set lower p sid
-       (λ gave. AtNext (next_place net place gave.outcome) (λ next. EveryWay net end ts next gave.after))
-       (λ gave. IsTrue (end (Function sid ∷ ts) (seen_at place (V6 p) gave))) (h 0),
-       λ h. absurd h)
+      let quiet = in-no_send net place.node n (slice_get net.sids n) p in (
+        λ h. (into place (t ∷ ts) p n e positive).0 ((goes-ends _ t _ _ quiet).0 (h 0)),
+        λ h choice. (goes-ends _ t _ _ quiet).1 ((into place (t ∷ ts) p n e positive).1 h),
+      )
+  by_way place p (Function sid) ts (Over set lower) e links stands positive ih = (
+    λ h. function-never set lower p sid
+        (λ gave. AtNext (next_place net place gave.outcome) (λ next. EveryWay net end ts next gave.after))
+        (λ gave. IsTrue (end (Function sid ∷ ts) (seen_at place (V6 p) gave))) (h 0),
+    λ h. absurd h,
+  )
   by_way place p (Links step) ts (Over set false) e links stands positive ih =
       let opened = step_opens net place.node step ts stands in
       over-false place step ts set opened.0 opened.1 links (λ q high. ih opened.0 q opened.2 high) p positive
@@ -247,7 +250,7 @@ module _ (net : Network) (end : List Step → walks.Step → Bool) where
 
   by_end : (place : Place) (p : Packet) (w : Way) → way_of net place p.destination ≡ w → 0 < p.hop_limit
       → ((choice : ℕ) → let gave = treated net place.node w p choice in Ends gave.outcome (IsTrue (end [] (seen_at place (V6 p) gave))))
-        ↔ RideEnds net end p (ride_end place w)
+      ↔ RideEnds net end p (ride_end place w)
   by_end place p (Away reason) e positive = (λ h. h 0, λ h. absurd h)
   by_end place p Own e positive = (λ h. own-ends p (at_address p) _ (h 0), λ h. absurd h)
   by_end place p (Into n) e positive = (λ h. (into place [] p n e positive).0 (h 0), λ h choice. (into place [] p n e positive).1 h)

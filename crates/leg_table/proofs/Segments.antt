@@ -52,10 +52,12 @@ into-lookup net place a n e = by_how place.how e
     by_hit lower hits.Address e = absurd (cc)
     by_hit lower (hits.Route m) e = absurd (cc)
     by_hit lower hits.Nothing e = absurd (cc)
+
     by_table : (table : ℕ) (lower t : Bool) → (if t then Away reasons.Multicast else way_by_hit net lower (lookup_of net place.node table a)) ≡ Into n
         → (table : ℕ) × (lookup_of net place.node table a ≡ hits.Sid n)
     by_table table lower true e = absurd (cc)
     by_table table lower false e = (table, by_hit lower (lookup_of net place.node table a) e)
+
     by_how : (how : How) → way_by net place.node how a ≡ Into n → (table : ℕ) × (lookup_of net place.node table a ≡ hits.Sid n)
     by_how (Arrived table) e = by_table table true (is_multicast a) e
     by_how (Submitted table) e = by_table table false (is_multicast a) e
@@ -76,7 +78,6 @@ into-address net network flat place m n s t hm hn e =
 
 module _ (net : Network) (e : Encapsulation) (bytes : List ℕ) (place : Place) (n i hop choice : ℕ) (s : SidEntry)
     (into : way_of net place (slice_index e.segments i) ≡ Into n) (there : slice_get net.sids n ≡ Some s) where
-
   abbrev stage : Gave
   stage = step_of net place (V6 (at_segment e bytes i hop)) choice
 
@@ -92,13 +93,13 @@ module _ (net : Network) (e : Encapsulation) (bytes : List ℕ) (place : Place) 
   mid-onward middle below all high =
       stage-is
       ∙ ap (treated_at_sid n s.behaviour (at_segment e bytes i hop))
-        (at_segment-onward e bytes i hop s.behaviour allow (goes-takes s.behaviour ∙ middle) below all high)
+      (at_segment-onward e bytes i hop s.behaviour allow (goes-takes s.behaviour ∙ middle) below all high)
 
   pub mid-low : goes_on s.behaviour ≡ true → i + 1 < length e.segments → hop ≤ 1 → stage ≡ dropped reasons.HopLimit (V6 (at_segment e bytes i hop))
   mid-low middle below low =
       stage-is
       ∙ ap (treated_at_sid n s.behaviour (at_segment e bytes i hop))
-        (at_segment-hop_limit e bytes i hop s.behaviour allow (goes-takes s.behaviour ∙ middle) below low)
+      (at_segment-hop_limit e bytes i hop s.behaviour allow (goes-takes s.behaviour ∙ middle) below low)
 
   pub mid-exposes : (table : ℕ) → s.behaviour ≡ behaviours.Dt6 table → i + 1 < length e.segments
       → stage ≡ dropped reasons.BadSegments (V6 (at_segment e bytes i hop))
@@ -120,11 +121,10 @@ module _ (net : Network) (e : Encapsulation) (bytes : List ℕ) (place : Place) 
   last-stays middle end =
       stage-is
       ∙ ap (treated_at_sid n s.behaviour (at_segment e bytes i hop))
-        (at_segment-upper_layer e bytes i hop s.behaviour allow (goes-takes s.behaviour ∙ middle) end)
+      (at_segment-upper_layer e bytes i hop s.behaviour allow (goes-takes s.behaviour ∙ middle) end)
 
 -- the steps left behind an execution that meets the steps
 module _ (net : Network) (n : ℕ) where
-
   pub record LeftBehind (ts us : List Step) : Type 0 where
     pub left : left_after net n ts ≡ Some (length us)
     pub rest : us ≡ drop (length ts - length us) ts
@@ -144,8 +144,8 @@ module _ (net : Network) (n : ℕ) where
   title-in e sid ts same =
       record {
         left =
-          ap (λ (t : Bool). if t then left_after_function n (Function sid ∷ ts) else Some (suc (length ts))) e
-          ∙ ap (λ (t : Bool). if t then Some (length ts) else None) (eq-eqb sid n same);
+            ap (λ (t : Bool). if t then left_after_function n (Function sid ∷ ts) else Some (suc (length ts))) e
+            ∙ ap (λ (t : Bool). if t then Some (length ts) else None) (eq-eqb sid n same);
         rest = let z : suc (length ts) - length ts ≡ 1 = omega arith in ap (λ (k : ℕ). drop k (Function sid ∷ ts)) (sym z);
         few = omega arith;
         same = λ es.

@@ -79,7 +79,6 @@ get-drop (y ∷ xs) zero x ys e = cc
 get-drop (y ∷ xs) (suc n) x ys e = get-drop xs n x ys e
 
 module _ (net : Network) (keeps : Keeps net) (intent : Intent) (is_intent : IsIntent net intent) where
-
   -- where a ride ends: the SID stands there, and so many steps are done
   pub record Arrives (position next : ℕ) (left : ℕ) : Type 0 where
     pub sid : SidEntry
@@ -113,10 +112,10 @@ module _ (net : Network) (keeps : Keeps net) (intent : Intent) (is_intent : IsIn
         from = omega arith;
         until = omega (arith, f.within, s.within);
         stands =
-          ap (stand_after net intent.headend) (take-add position f.count intent.steps)
-          ∙ stand_after-append net intent.headend (take position intent.steps) (take f.count (drop position intent.steps))
-          ∙ ap (option_and_then (λ k. stand_after net k (take f.count (drop position intent.steps)))) s.stands
-          ∙ f.stands ∙ ap Some (sym sid.2);
+            ap (stand_after net intent.headend) (take-add position f.count intent.steps)
+            ∙ stand_after-append net intent.headend (take position intent.steps) (take f.count (drop position intent.steps))
+            ∙ ap (option_and_then (λ k. stand_after net k (take f.count (drop position intent.steps)))) s.stands
+            ∙ f.stands ∙ ap Some (sym sid.2);
         rest = n.ride.left;
         rest_is = sym (drop-drop position f.count intent.steps) ∙ sym f.left;
         left_is = n.left_is;
@@ -138,15 +137,19 @@ module _ (net : Network) (keeps : Keeps net) (intent : Intent) (is_intent : IsIn
   sid-at-from to next s there stands suits =
       ap (sid_suits next (node_at net intent to) (step_before intent.steps to)) there
       ∙ and_from (is_at s.node (node_at net intent to)) (title_suits next (step_before intent.steps to) s.title)
-        (ap (is_at s.node) stands ∙ eq-eqb s.node s.node refl) suits
+      (ap (is_at s.node) stands ∙ eq-eqb s.node s.node refl) suits
 
   at-untitled : (position next left : ℕ) (a : Arrives position next left) → a.sid.title ≡ None → AtEnd position next left
   at-untitled position next left a none =
       let e : length a.rest ≡ left = some-same (length a.rest) left (left-by position next left a false (ap is_some none)) in
       let l = ap length a.rest_is in
-      let k = length-drop a.done intent.steps in
-      (a.done, omega (arith, a.until), a.from, a.until,
-       sid-at-from a.done next a.sid a.there a.stands (ap (title_suits next (step_before intent.steps a.done)) none))
+      let k = length-drop a.done intent.steps in (
+        a.done,
+        omega (arith, a.until),
+        a.from,
+        a.until,
+        sid-at-from a.done next a.sid a.there a.stands (ap (title_suits next (step_before intent.steps a.done)) none),
+      )
 
   at-titled : (position next left : ℕ) (a : Arrives position next left) (title : ℕ) → a.sid.title ≡ Some title → AtEnd position next left
   at-titled position next left a title some = by_rest a.rest a.rest_is (left-by position next left a true (ap is_some some))
@@ -163,16 +166,20 @@ module _ (net : Network) (keeps : Keeps net) (intent : Intent) (is_intent : IsIn
           let at = get-drop intent.steps a.done (Function m) ts e in
           let below : a.done < length intent.steps = slice_get_within intent.steps a.done (Function m) at in
           let after : node_after net a.sid.node (Function m) ≡ Some a.sid.node
-              = ap (λ (j : ℕ). function_node a.sid.node (slice_get net.sids j)) same
-                ∙ ap (function_node a.sid.node) a.there
-                ∙ ap (λ (b : Bool). if b then Some a.sid.node else None)
-                  (and_from (a.sid.node == a.sid.node) (is_some a.sid.title) (eq-eqb a.sid.node a.sid.node refl) (ap is_some some)) in
+          = ap (λ (j : ℕ). function_node a.sid.node (slice_get net.sids j)) same
+          ∙ ap (function_node a.sid.node) a.there
+          ∙ ap (λ (b : Bool). if b then Some a.sid.node else None)
+          (and_from (a.sid.node == a.sid.node) (is_some a.sid.title) (eq-eqb a.sid.node a.sid.node refl) (ap is_some some)) in
           let lands = step-lands net intent a.done a.sid.node a.sid.node (Function m) a.stands below
-              (get_or_from_slice_get intent.steps a.done (Function m) (Function m) at) after in
-          let stands : node_at net intent (suc a.done) ≡ Some a.sid.node = rw add-one at lands in
-          (suc a.done, omega arith, omega (arith, a.from), omega arith,
-           sid-at-from (suc a.done) next a.sid a.there stands
-           (ap (title_suits next (slice_get intent.steps a.done)) some ∙ ap (is_function_of next) at ∙ got.0))
+          (get_or_from_slice_get intent.steps a.done (Function m) (Function m) at) after in
+          let stands : node_at net intent (suc a.done) ≡ Some a.sid.node = rw add-one at lands in (
+            suc a.done,
+            omega arith,
+            omega (arith, a.from),
+            omega arith,
+            sid-at-from (suc a.done) next a.sid a.there stands
+                (ap (title_suits next (slice_get intent.steps a.done)) some ∙ ap (is_function_of next) at ∙ got.0),
+          )
 
   pub at-end : (position next left : ℕ) → Arrives position next left → AtEnd position next left
   at-end position next left a = by_title a.sid.title refl
@@ -213,7 +220,7 @@ module _ (net : Network) (keeps : Keeps net) (intent : Intent) (is_intent : IsIn
         forward = omega (arith, at.1, at.2);
         within = omega arith;
         is_next =
-          subst (λ (to : ℕ). Contains (sids_of net intent to) next) (sym at.1) (((are-sids net keeps intent at.0).each next).1 at.4);
+            subst (λ (to : ℕ). Contains (sids_of net intent to) next) (sym at.1) (((are-sids net keeps intent at.0).each next).1 at.4);
         middle = shape-middle (slice_get net.sids next) ∙ got.1;
         hops = omega arith;
       })
@@ -241,6 +248,7 @@ module _ (net : Network) (keeps : Keeps net) (intent : Intent) (is_intent : IsIn
       by_finish : (o : Option ℕ) → finish_of net intent position via next ≡ o → is_some o ≡ true → NextRide net intent position via next
       by_finish None e h = absurd (false≢true h)
       by_finish (Some lowered) e h = (finish-ride net intent position via next lowered e).0
+
       by_leg : (o : Option Leg) → leg_of net intent position via next ≡ o → (is_some o || is_some (finish_of net intent position via next)) ≡ true
           → NextRide net intent position via next
       by_leg None e h = by_finish (finish_of net intent position via next) refl h
@@ -253,13 +261,13 @@ module _ (net : Network) (keeps : Keeps net) (intent : Intent) (is_intent : IsIn
       let m = comes-ride position via other k in
       let place : n.place ≡ m.place = some-same n.place m.place (sym n.from ∙ m.from) in
       let address : sid_address net next ≡ sid_address net other
-          = sym (shape-address (slice_get net.sids next)) ∙ ap (λ (p : PrefixValue). p.value) e ∙ shape-address (slice_get net.sids other) in
+      = sym (shape-address (slice_get net.sids next)) ∙ ap (λ (p : PrefixValue). p.value) e ∙ shape-address (slice_get net.sids other) in
       let ride : n.ride ≡ m.ride
-          = some-same n.ride m.ride
-            (sym n.is_ride
-             ∙ ap (λ (d : ℕ). ride_of net d (drop position intent.steps) n.place) address
-             ∙ ap (ride_of net (sid_address net other) (drop position intent.steps)) place
-             ∙ m.is_ride) in
+      = some-same n.ride m.ride
+      (sym n.is_ride
+      ∙ ap (λ (d : ℕ). ride_of net d (drop position intent.steps) n.place) address
+      ∙ ap (ride_of net (sid_address net other) (drop position intent.steps)) place
+      ∙ m.is_ride) in
       sym n.sid ∙ ap (λ (r : Ride). r.sid) ride ∙ m.sid
 
   law-above : (position : ℕ) (via : Option ℕ) (next : ℕ) (leg : Leg) (lowered : ℕ) → leg_of net intent position via next ≡ Some leg

@@ -71,8 +71,8 @@ way-is net destination next ts rest place reached h sid is_rest =
     let got = map-some reached_of (ride_of net destination ts place) reached (sym h) in
     let r = got.0 in
     let left : r.left ≡ rest
-        = rest-by_length ts r (ride-rest net destination ts place r got.1)
-          ∙ ap (λ (x : Reached). drop (length ts - x.left) ts) got.2 ∙ sym is_rest in
+    = rest-by_length ts r (ride-rest net destination ts place r got.1)
+    ∙ ap (λ (x : Reached). drop (length ts - x.left) ts) got.2 ∙ sym is_rest in
     let named : r.sid ≡ next = ap (λ (x : Reached). x.sid) got.2 ∙ sid in
     ap (behind_of net next) got.1
     ∙ ap (λ (b : Bool). option_map (behind_with r.lowered) (if b then left_after net next r.left else None)) (eq-eqb r.sid next named)

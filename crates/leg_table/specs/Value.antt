@@ -60,9 +60,9 @@ pub record KeepsLaws (v : LegsValue) : Type 0 where
   pub leg : (position : ℕ) (via : Option ℕ) (next : ℕ) (leg : Leg) → v.leg position via next ≡ Some leg → IsLegOf v position via next leg
   pub finish : (position : ℕ) (via : Option ℕ) (next lowered : ℕ) → v.finish position via next ≡ Some lowered → IsFinishOf v position via next lowered
   pub one_of_prefix : (position : ℕ) (via : Option ℕ) (next other : ℕ) → IsTrue (comes_to v position via next) → IsTrue (comes_to v position via other)
-    → (v.shape next).prefix ≡ (v.shape other).prefix → next ≡ other
+      → (v.shape next).prefix ≡ (v.shape other).prefix → next ≡ other
   pub above_finish : (position : ℕ) (via : Option ℕ) (next : ℕ) (leg : Leg) (lowered : ℕ) → v.leg position via next ≡ Some leg
-    → v.finish position via next ≡ Some lowered → lowered < leg.hops
+      → v.finish position via next ≡ Some lowered → lowered < leg.hops
 
 -- what the table of an intent's legs is to a search
 abbrev pub legs_value : Network → Intent → LegsValue

@@ -13,4 +13,7 @@ mod types;
 pub use legs::Legs;
 pub use no_memory::NoMemory;
 pub use strict_legs::StrictLegs;
-pub use types::{Container, Cost, Leg, PathStep, PathSteps, Potential, Potentials, Prefixes, Shape, SidList, Solution, State};
+pub use types::{
+    Container, Cost, Leg, PathStep, PathSteps, Potential, Potentials, Prefixes, Shape, SidList,
+    Solution, State,
+};

@@ -92,7 +92,13 @@ fn place_of(net: &Net, among: &[u32], n: u32) -> usize
 }
 
 // the SIDs of a position, where the walk stands at a node
-fn row_of(alloc: Global, net: &Net, intent: &Intent, position: u32, node: u32) -> Result<Row, NoMemory>
+fn row_of(
+    alloc: Global,
+    net: &Net,
+    intent: &Intent,
+    position: u32,
+    node: u32,
+) -> Result<Row, NoMemory>
     requires within { position ≤ length intent.now.steps }
     requires stands { sids.node_at net.now intent.now position ≡ Some node }
     ensures { IfOk result (λ row. row ≡ sids.sids_of net.now intent.now position) }

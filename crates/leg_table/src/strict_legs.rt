@@ -44,7 +44,11 @@ impl<'a> Model for StrictLegs<'a> {
 
 impl<'a> StrictLegs<'a> {
     /// The legs of an intent that keeps the rules in the network.
-    pub fn build(alloc: Global, net: &'a Net, intent: &'a Intent) -> Result<StrictLegs<'a>, NoMemory>
+    pub fn build(
+        alloc: Global,
+        net: &'a Net,
+        intent: &'a Intent,
+    ) -> Result<StrictLegs<'a>, NoMemory>
         requires { IsIntent net.now intent.now }
         ensures { IfOk result (λ t. t ≡ record { net = net.now; intent = intent.now }) }
     {

@@ -35,7 +35,7 @@ loop-i-preserved c =
     let pushed = c.in_ok-push-2.ensures.items in
     record {
       stands =
-        step-lands c.args.net.now c.args.intent.now c.loop-i.i c.loop-i.node c.node_behind-node.result c.index-steps-i.result c.loop-i.invariant.stands at.0 at.1
-        c.node_behind-node.ensures;
+          step-lands c.args.net.now c.args.intent.now c.loop-i.i c.loop-i.node c.node_behind-node.result c.index-steps-i.result c.loop-i.invariant.stands at.0 at.1
+          c.node_behind-node.ensures;
       rows = rows-more c.args.net.now c.args.intent.now c.loop-i.i c.in_ok-row_of-2.field-0 c.loop-i.rows.items _ c.loop-i.invariant.rows row pushed;
     }

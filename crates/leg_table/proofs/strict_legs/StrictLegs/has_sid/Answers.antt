@@ -7,4 +7,4 @@ pub returns : goal.returns
 returns c =
     c.contains.ensures.value
     ∙ any-sid c.args.self.now.net (keeps_from_network c.args.self.now.net c.keeps_rules.ensures.network) c.args.self.now.intent c.args.position c.args.n
-      c.row.result.now c.row.ensures
+    c.row.result.now c.row.ensures

@@ -1,0 +1,45 @@
+//! Compiled lists, and when an intent is refused.
+
+use leg_table::{SidList, Solution};
+use net_model::NotFlat;
+
+/// A list of segments that an intent is compiled to.
+#[derive(Debug, Drop)]
+pub struct Compiled {
+    /// The list, the SID that is executed first in front, one SID to a container.
+    pub list: SidList,
+    /// How many containers of 16 bytes the list has.
+    pub containers: u32,
+    /// How many bytes stand in front of the inner packet: the outer header of 40 bytes, and the
+    /// segment routing header, if there is one (RFC 8754 section 2, RFC 8986 sections 5.1 and 5.2).
+    pub header: u32,
+    /// How often the outer hop limit is lowered on the way: the hop limit has to be above it.
+    pub need: u32,
+    /// What the search found. Empty for now: no potentials and no path.
+    pub solution: Solution,
+}
+
+/// Why an intent is not compiled. The refusals come in this order (own rule); want of memory may
+/// come in place of any answer.
+#[derive(Debug, Drop)]
+pub enum CompileFault {
+    /// The network is not flat: an entry lies strictly inside the prefix of a SID.
+    NotFlat(NotFlat),
+    /// No list of SIDs, one to a container, takes packets along the steps for all choices.
+    NoList {
+        /// What the search found. Empty for now.
+        solution: Solution,
+    },
+    /// The list that was found has more containers than the intent allows.
+    TooLong {
+        /// The list.
+        found: Compiled,
+    },
+    /// The need of the list that was found is not below the intent's hop limit.
+    HopLimit {
+        /// The list.
+        found: Compiled,
+    },
+    /// Want of memory.
+    NoMemory,
+}
