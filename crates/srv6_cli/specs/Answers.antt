@@ -1,7 +1,8 @@
 -- What `compile` has to write, as its steps answer it.
 use Rattle.std.specs.Prelude.{◌≡◌, ℕ, List, [], Option, Some, None, Result, Ok, Err, ⊤}
-use Rattle.path_compiler.specs.declared.compile.Compiled.{Compiled}
-use Rattle.path_compiler.specs.declared.compile.CompileFault.{CompileFault}
+use Rattle.path_compiler.specs.declared.compiled.Compiled.{Compiled}
+use Rattle.path_compiler.specs.declared.compiled.CompileFault.{CompileFault}
+use Rattle.path_compiler.specs.declared.compiled.CompileFault.TheVariants as faults
 use Rattle.srv6_cli.specs.declared.answer.Answer.{Answer}
 use Rattle.srv6_cli.specs.declared.halt.Halt.{Halt}
 use Rattle.srv6_cli.specs.declared.halt.Halt.TheVariants as halts
@@ -21,6 +22,15 @@ IsAnswerStatus statuses.Usage = ⊥
 IsAnswerStatus statuses.NoAnswer = ⊤
 IsAnswerStatus statuses.OutsideFault = ⊥
 IsAnswerStatus statuses.NoMemory = ⊥
+
+-- a list that was found, within the limits or not, or none
+abbrev pub IsFoundAnswer : Result Compiled CompileFault → Type 0
+IsFoundAnswer (Ok c) = ⊤
+IsFoundAnswer (Err (faults.NotFlat why)) = ⊥
+IsFoundAnswer (Err (faults.NoList solution)) = ⊤
+IsFoundAnswer (Err (faults.TooLong found)) = ⊤
+IsFoundAnswer (Err (faults.HopLimit found)) = ⊤
+IsFoundAnswer (Err faults.NoMemory) = ⊥
 
 -- what is to be written is what the compiler's answer has
 abbrev pub Gives : Result Compiled CompileFault → Result Answer Halt → Type 0

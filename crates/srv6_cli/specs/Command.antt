@@ -15,10 +15,8 @@ is_word word = not (length word == 0)
 
 abbrev pub command_of_three : List ℕ → List ℕ → List ℕ → Command
 command_of_three verb first second =
-    if is_word first && is_word second
-    then (if bytes_eq verb (codes "run") then Run first second
-          else if bytes_eq verb (codes "compile") then Compile first second
-          else Unknown)
+    if bytes_eq verb (codes "run") && (is_word first && is_word second) then Run first second
+    else if bytes_eq verb (codes "compile") && (is_word first && is_word second) then Compile first second
     else Unknown
 
 abbrev pub command_of : List (List ℕ) → Command

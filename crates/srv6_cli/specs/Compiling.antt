@@ -13,9 +13,9 @@ use Rattle.intent_reader.specs.declared.intent.Intent.{Intent}
 use Rattle.intent_reader.specs.Document.{intent_of_document}
 use Rattle.leg_table.specs.declared.types.Container.{Container}
 use Rattle.leg_table.specs.declared.types.Container.TheVariants as containers
-use Rattle.path_compiler.specs.declared.compile.Compiled.{Compiled}
-use Rattle.path_compiler.specs.declared.compile.CompileFault.{CompileFault}
-use Rattle.path_compiler.specs.declared.compile.CompileFault.TheVariants as faults
+use Rattle.path_compiler.specs.declared.compiled.Compiled.{Compiled}
+use Rattle.path_compiler.specs.declared.compiled.CompileFault.{CompileFault}
+use Rattle.path_compiler.specs.declared.compiled.CompileFault.TheVariants as faults
 use Rattle.path_compiler.specs.Compiled.{CompileAnswers}
 use Rattle.srv6_cli.specs.declared.refusal.Refusal.{Refusal}
 use Rattle.srv6_cli.specs.declared.refusal.Refusal.TheVariants as refusals

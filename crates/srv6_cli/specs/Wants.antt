@@ -1,14 +1,12 @@
 -- Which output is wanted of a command, the files and the input.
-use Rattle.std.specs.Prelude.{◌≡◌, ◌⊎◌, ℕ, List, [], ◌∷◌, Option, Some, None, Result, Ok, Err}
-use Rattle.srx_edge.specs.Edge.{file_named}
-use Rattle.net_model.specs.Network.{Network}
-use Rattle.srv6_cli.specs.declared.refusal.Refusal.{Refusal}
+use Rattle.std.specs.Prelude.{◌≡◌, ◌⊎◌, ℕ, List, [], ◌∷◌, Option, ⊤}
+use Rattle.srx_edge.specs.Edge.{file_named, emptied}
 use Rattle.srv6_cli.specs.declared.status.Status.{Status}
 use Rattle.srv6_cli.specs.declared.status.Status.TheVariants as statuses
 use Rattle.srv6_cli.specs.Command.{Command, Run, Compile, Unknown}
-use Rattle.srv6_cli.specs.Output.{Output, with_file, run_output, usage_output, network_in}
+use Rattle.srv6_cli.specs.Output.{Output, with_file, run_output, usage_output}
 use Rattle.srv6_cli.specs.Compiling.{CompileWants}
-use Rattle.srv6_cli.specs.Served.{IsWhole, IsFront, UnlessNoMemory, OnWhole}
+use Rattle.srv6_cli.specs.Served.{IsWhole, IsFront, UnlessNoMemory, OnDone}
 use Rattle.srv6_cli.specs.Early.{append_names}
 
 -- an output that a command may have; only `compile` may have several, by the list that it finds
@@ -37,21 +35,14 @@ ServedAs command files input statuses.NoAnswer a b c d = IsWholeOfSome command f
 ServedAs command files input statuses.OutsideFault a b c d = IsFrontOfSome command files input a b c d
 ServedAs command files input statuses.NoMemory a b c d = IsFrontOfSome command files input a b c d
 
--- the files that are asked for: an intent only where the description gives a network
-abbrev pub intent_asked : Result Network Refusal → List ℕ → List (List ℕ)
-intent_asked (Ok net) intent = intent ∷ []
-intent_asked (Err refusal) intent = []
-
-abbrev pub intent_asked_after : Option (List ℕ) → List ℕ → List (List ℕ)
-intent_asked_after None intent = []
-intent_asked_after (Some text) intent = intent_asked (network_in text) intent
-
--- the names asked for: the command's files, but an intent only where the description gives a network; after a fault maybe
--- fewer, and after want of memory too
-abbrev pub asked_of_compile : List ℕ → List ℕ → List (List ℕ × List ℕ) → List (List ℕ)
-asked_of_compile file intent files = file ∷ intent_asked_after (file_named files file) intent
-
+-- the names asked for: of `run` the description, unless memory wants; of `compile` no more than both files, in order
 abbrev pub AskedAs : Command → List (List ℕ × List ℕ) → Status → Option (List (List ℕ)) → Option (List (List ℕ)) → Type 0
 AskedAs (Run file name) files status old new = UnlessNoMemory status (new ≡ append_names (file ∷ []) old)
-AskedAs (Compile file intent) files status old new = OnWhole status (new ≡ append_names (asked_of_compile file intent files) old)
+AskedAs (Compile file intent) files status old new = ⊤
 AskedAs Unknown files status old new = new ≡ old
+
+-- what is left of the input: nothing where `run` is done, and all of it where a command reads none
+abbrev pub ReadAs : Command → Status → Option (List ℕ) → Option (List ℕ) → Type 0
+ReadAs (Run file name) status old new = OnDone status (new ≡ emptied old)
+ReadAs (Compile file intent) status old new = new ≡ old
+ReadAs Unknown status old new = new ≡ old

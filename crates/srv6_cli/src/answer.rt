@@ -1,6 +1,6 @@
 //! The command `compile`.
 
-ghost use Rattle.std.specs.Prelude.{◌≡◌, ◌≤◌, [], ◌∷◌, IfSome, IfOk};
+ghost use Rattle.std.specs.Prelude.{◌≡◌, [], ◌∷◌, IfSome, IfOk};
 ghost use Rattle.srx_edge.specs.Edge.{Rose, append_name, file_named};
 
 use crate::halt::Halt;
@@ -25,7 +25,7 @@ pub struct Answer {
 }
 
 impl Answer {
-    ghost use Rattle.srv6_cli.specs.Answers.{output_of_answer, Gives, GivesFound, CompileAnswered};
+    ghost use Rattle.srv6_cli.specs.Answers.{output_of_answer, Gives, IsFoundAnswer, IsAnswerStatus, CompileAnswered};
     ghost use Rattle.srv6_cli.specs.Compiling.{compile_output, report_of, no_report, no_list_line, too_long_line, hop_limit_line};
     ghost use Rattle.srv6_cli.specs.Early.{AsksAtMost};
     ghost use Rattle.srv6_cli.specs.Halted.{OnFault};
@@ -74,29 +74,42 @@ impl Answer {
         })
     }
 
-    /// What is to be written of the compiler's answer.
-    fn of_compiled(alloc: Global, compiled: Result<Compiled, CompileFault>) -> Result<Answer, Halt>
-        ensures { Gives compiled result }
+    /// The answer of a list that was found, or of none.
+    fn of_found(alloc: Global, compiled: &Result<Compiled, CompileFault>) -> Result<Answer, AllocError>
+        requires { IsFoundAnswer compiled.now }
+        ensures { IfOk result (λ answer. (compile_output compiled.now ≡ output_of_answer answer) × IsAnswerStatus answer.status) }
     {
-        let answer = match compiled {
-            Ok(compiled) => Answer::of_list(alloc, &compiled),
+        match compiled {
+            Ok(compiled) => Answer::of_list(alloc, compiled),
+            Err(CompileFault::TooLong { found }) => Answer::of_too_long(alloc, found),
+            Err(CompileFault::HopLimit { found }) => Answer::of_hop_limit(alloc, found),
+            _ => Answer::of_none(alloc),
+        }
+    }
+
+    /// What is to be written of the compiler's answer.
+    fn of_compiled(alloc: Global, compiled: &Result<Compiled, CompileFault>) -> Result<Answer, Halt>
+        ensures { Gives compiled.now result }
+    {
+        match compiled {
             Err(CompileFault::NotFlat(NotFlat::Nested { outer, inner })) => {
-                return Err(Halt::Refused(Refusal::Nested { outer, inner }));
+                Err(Halt::Refused(Refusal::Nested {
+                    outer: *outer,
+                    inner: *inner,
+                }))
             }
-            Err(CompileFault::NoList { .. }) => Answer::of_none(alloc),
-            Err(CompileFault::TooLong { found }) => Answer::of_too_long(alloc, &found),
-            Err(CompileFault::HopLimit { found }) => Answer::of_hop_limit(alloc, &found),
-            Err(CompileFault::NoMemory) => return Err(Halt::NoMemory),
-        };
-        match answer {
-            Ok(answer) => Ok(answer),
-            Err(_) => Err(Halt::NoMemory),
+            Err(CompileFault::NoMemory) => Err(Halt::NoMemory),
+            _ => match Answer::of_found(alloc, compiled) {
+                Ok(answer) => Ok(answer),
+                Err(_) => Err(Halt::NoMemory),
+            },
         }
     }
 
     /// Judges the description, then the intent, each before the next is read, and compiles.
     pub fn read<F: Files>(alloc: Global, file: &str, intent: &str, files: &mut F) -> Result<Answer, Halt>
         ensures answered { IfSome (F.told files.old) (λ held. CompileAnswered result (file_named held file.now) (file_named held intent.now)) }
+        ensures status { IfOk result (λ answer. IsAnswerStatus answer.status) }
         ensures asks { AsksAtMost (file.now ∷ intent.now ∷ []) (F.asked files.old) (F.asked files.new) }
         ensures failed { OnFault result (Rose (F.faults files.old) (F.faults files.new)) }
     {
@@ -108,6 +121,7 @@ impl Answer {
             Ok(intent) => intent,
             Err(halt) => return Err(halt),
         };
-        Answer::of_compiled(alloc, compile(alloc, &net, &intent))
+        let compiled = compile(alloc, &net, &intent);
+        Answer::of_compiled(alloc, &compiled)
     }
 }

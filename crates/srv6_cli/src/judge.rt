@@ -26,6 +26,7 @@ pub const INPUT_LIMIT: usize = 67_108_864;
 /// The network that the file of this name describes.
 #[tactic(auto, using(crate::proofs::Asking::asking))]
 pub fn read_network<F: Files>(alloc: Global, files: &mut F, name: &str) -> Result<Net, Halt>
+    ensures told { F.told files.new ≡ F.told files.old }
     ensures judged { IfSome (F.told files.old) (λ held. JudgedIf (λ net. net) result network_in (file_named held name.now)) }
     ensures asks { AsksAtMost (name.now ∷ []) (F.asked files.old) (F.asked files.new) }
     ensures asked { UnlessMemory result (F.asked files.new ≡ append_name name.now (F.asked files.old)) }
@@ -50,6 +51,7 @@ pub fn read_network<F: Files>(alloc: Global, files: &mut F, name: &str) -> Resul
 /// The intent that the file of this name gives in a network.
 #[tactic(auto, using(crate::proofs::Asking::asking))]
 pub fn read_intent_file<F: Files>(alloc: Global, files: &mut F, net: &Net, name: &str) -> Result<Intent, Halt>
+    ensures told { F.told files.new ≡ F.told files.old }
     ensures judged { IfSome (F.told files.old) (λ held. JudgedIf (λ intent. intent) result (intent_in net.now) (file_named held name.now)) }
     ensures keeps { IfOk result (IsIntent net.now) }
     ensures asks { AsksAtMost (name.now ∷ []) (F.asked files.old) (F.asked files.new) }

@@ -8,7 +8,7 @@ ghost use Rattle.srv6_cli.specs.Halted.{Commanded, FaultIn, HadMemory};
 ghost use Rattle.srv6_cli.specs.Lines.{usage_line};
 ghost use Rattle.srv6_cli.specs.Output.{Output};
 ghost use Rattle.srv6_cli.specs.Answers.{output_of_answer, IsAnswerStatus};
-ghost use Rattle.srv6_cli.specs.Wants.{ServedAs, AskedAs};
+ghost use Rattle.srv6_cli.specs.Wants.{ServedAs, AskedAs, ReadAs};
 ghost use Rattle.srv6_cli.specs.Served.{Served, Told, OnOutsideFault, UnlessNoMemory, OnDone, UsageAsAsked};
 
 use crate::answer::Answer;
@@ -102,12 +102,13 @@ pub fn serve<F: Files, S: Source, O: Sink, E: Sink>(
     ensures asks { AsksAtMost (files_of (command_of (words_of words.now))) (F.asked files.old) (F.asked files.new) }
     ensures asked { IfSome (F.told files.old) (λ held. AskedAs (command_of (words_of words.now)) held result (F.asked files.old) (F.asked files.new)) }
 
-    // The input stays as it was where the command ends before it is read, and is read to its end where it is done.
+    // The input stays as it was where the command ends before it is read or reads none, and is read
+    // to its end where a command that reads it is done.
     ensures unread { IfSome (F.told files.old) (λ held. LeavesInput (command_of (words_of words.now)) held →
         (S.left input.new ≡ S.left input.old) × (S.faults input.new ≡ S.faults input.old)) }
     ensures unread_after_fault { F.faults files.new ≢ F.faults files.old →
         (S.left input.new ≡ S.left input.old) × (S.faults input.new ≡ S.faults input.old) }
-    ensures read_to_end { OnDone result (S.left input.new ≡ emptied (S.left input.old)) }
+    ensures read_to_end { ReadAs (command_of (words_of words.now)) result (S.left input.old) (S.left input.new) }
 {
     match command(words) {
         Words::Run { file, node } => {

@@ -30,17 +30,20 @@ pub fn command(words: &[String]) -> Words<'_>
     ensures { command_seen result ≡ command_of (words_of words.now) }
 {
     match words {
-        [verb, first, second] if !first.is_empty() && !second.is_empty() => match verb.as_str() {
-            "run" => Words::Run {
-                file: first.as_str(),
-                node: second.as_str(),
-            },
-            "compile" => Words::Compile {
-                file: first.as_str(),
-                intent: second.as_str(),
-            },
-            _ => Words::Unknown,
-        },
+        [verb, file, node] if verb.as_str() == "run" && !file.is_empty() && !node.is_empty() => {
+            Words::Run {
+                file: file.as_str(),
+                node: node.as_str(),
+            }
+        }
+        [verb, file, intent]
+            if verb.as_str() == "compile" && !file.is_empty() && !intent.is_empty() =>
+        {
+            Words::Compile {
+                file: file.as_str(),
+                intent: intent.as_str(),
+            }
+        }
         _ => Words::Unknown,
     }
 }
