@@ -1,5 +1,5 @@
 -- The names that were asked for.
-use Rattle.std.proofs.Common.{◌≡◌, ℕ, List, [], ◌∷◌, ◌++◌, Option, refl}
+use Rattle.std.proofs.Common.{◌≡◌, ℕ, List, [], ◌∷◌, ◌++◌, Option, refl, sym, ap, ◌∙◌, append_assoc}
 use Rattle.srx_edge.specs.Edge.{append_name}
 use Rattle.srv6_cli.specs.Early.{AsksAtMost, append_names}
 
@@ -11,5 +11,15 @@ asks_one name old new h = record { some = name ∷ []; rest = []; whole = refl; 
 
 pub asks_nothing : (old new : Option (List (List ℕ))) → new ≡ old → AsksAtMost [] old new
 asks_nothing old new h = record { some = []; rest = []; whole = refl; asked = h }
+
+-- a further file may not be asked for
+pub asks_more : (file intent : List ℕ) (old new : Option (List (List ℕ))) → AsksAtMost (file ∷ []) old new → AsksAtMost (file ∷ intent ∷ []) old new
+asks_more file intent old new h =
+    record { some = h.some; rest = h.rest ++ intent ∷ []; whole = sym (append_assoc h.some h.rest (intent ∷ [])) ∙ ap (λ (names : List (List ℕ)). names ++ intent ∷ []) h.whole; asked = h.asked }
+
+-- one file was asked for, and then at most another
+pub asks_both : (file intent : List ℕ) (old mid new : Option (List (List ℕ))) → mid ≡ append_name file old → AsksAtMost (intent ∷ []) mid new → AsksAtMost (file ∷ intent ∷ []) old new
+asks_both file intent old mid new first h =
+    record { some = file ∷ h.some; rest = h.rest; whole = ap (λ (names : List (List ℕ)). file ∷ names) h.whole; asked = h.asked ∙ ap (append_names h.some) first }
 
 pub ruleset asking = (asks_none, asks_one, asks_nothing)

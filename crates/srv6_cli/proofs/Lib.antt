@@ -3,3 +3,4 @@ pub mod Judging
 pub mod Walking
 pub mod Writable
 pub mod Serving
+pub mod Compiling

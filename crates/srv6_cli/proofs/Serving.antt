@@ -1,16 +1,20 @@
 -- From what a command leaves to what `serve` leaves.
-use Rattle.std.proofs.Common.{◌≡◌, ℕ, List, [], ◌++◌, Option, Some, None, IfSome, Result, Ok, Err, refl, sym, ap, ◌∙◌, subst}
+use Rattle.std.proofs.Common.{◌≡◌, ℕ, List, [], ◌++◌, Option, Some, None, IfSome, Result, Ok, Err, Vec, Global, inl, inr, refl, sym, ap, ◌∙◌, subst}
 use Rattle.srx_edge.specs.Edge.{Rose, append_to, Front}
 use Rattle.srx_edge.proofs.Fronts.{append_to-nil, front_none, front_whole}
 use Rattle.srv6_cli.specs.declared.refusal.Refusal.{Refusal}
 use Rattle.srv6_cli.specs.declared.status.Status.{Status}
 use Rattle.srv6_cli.specs.declared.status.Status.TheVariants as statuses
 use Rattle.srv6_cli.specs.Lines.{refusal_line, usage_line}
-use Rattle.srv6_cli.specs.Output.{Output, refused, output_of, wanted}
-use Rattle.srv6_cli.specs.Command.{Command, Run, Unknown, command_of}
+use Rattle.srv6_cli.specs.Output.{Output, refused, usage_output, with_file, run_output}
+use Rattle.srv6_cli.specs.Wants.{Wants, ServedAs, IsFrontOfSome, IsWholeOfSome}
+use Rattle.srv6_cli.specs.Answers.{output_of_answer, CompileAnswered}
+use Rattle.srv6_cli.specs.declared.answer.Answer.{Answer}
+use Rattle.srx_edge.specs.Edge.{file_named}
+use Rattle.srv6_cli.specs.Command.{Command, Run, Compile, Unknown}
 use Rattle.srv6_cli.specs.declared.halt.Halt.{Halt}
 use Rattle.srv6_cli.specs.declared.halt.Halt.TheVariants as halts
-use Rattle.srv6_cli.specs.Halted.{FaultIn, OnFault}
+use Rattle.srv6_cli.specs.Halted.{FaultIn, OnFault, Commanded}
 use Rattle.srv6_cli.specs.Served.{IsWhole, IsFront, Served, Told, OnOutsideFault}
 
 whole_of : (wanted : Output) (status : Status) (line : List ℕ) (a b c d : Option (List ℕ)) → wanted.status ≡ status → wanted.told ≡ line
@@ -28,6 +32,7 @@ pub told_served : (wanted : Output) (status : Status) (line : List ℕ) (answer 
 told_served wanted status line statuses.Done a b c d s t out told = whole_of wanted statuses.Done line a b c d (s ∙ told.0) t out told.1
 told_served wanted status line statuses.Refused a b c d s t out told = whole_of wanted statuses.Refused line a b c d (s ∙ told.0) t out told.1
 told_served wanted status line statuses.Usage a b c d s t out told = whole_of wanted statuses.Usage line a b c d (s ∙ told.0) t out told.1
+told_served wanted status line statuses.NoAnswer a b c d s t out told = whole_of wanted statuses.NoAnswer line a b c d (s ∙ told.0) t out told.1
 told_served wanted status line statuses.OutsideFault a b c d s t out told = front_of wanted line a b c d t out told
 told_served wanted status line statuses.NoMemory a b c d s t out told = front_of wanted line a b c d t out told
 
@@ -60,28 +65,103 @@ pub fault_from : (X : Type 0) (answer : Result X Halt) (status : Status) (P Q R 
 fault_from X answer statuses.Done P Q R old new rose failed = tt
 fault_from X answer statuses.Refused P Q R old new rose failed = tt
 fault_from X answer statuses.Usage P Q R old new rose failed = tt
+fault_from X answer statuses.NoAnswer P Q R old new rose failed = tt
 fault_from X answer statuses.OutsideFault P Q R old new rose failed = fault-answer answer P Q R old new rose failed
 fault_from X answer statuses.NoMemory P Q R old new rose failed = tt
 
 -- words that are no command
 
-usage-output : (command : Command) (held : List (List ℕ × List ℕ)) (bytes : List ℕ) → Unknown ≡ command
-    → output_of command held bytes ≡ record { written = []; told = usage_line; status = statuses.Usage }
-usage-output command held bytes is = subst (λ (k : Command). output_of k held bytes ≡ record { written = []; told = usage_line; status = statuses.Usage }) is refl
+usage-whole : (answer : Status) (a c d : Option (List ℕ)) → Told statuses.Usage usage_line answer c d → Served usage_output answer a a c d
+usage-whole answer a c d told = told_served usage_output statuses.Usage usage_line answer a a c d refl refl (sym (append_to-nil a)) told
 
-usage-whole : (words : List (List ℕ)) (held : List (List ℕ × List ℕ)) (bytes : List ℕ) (answer : Status) (a c d : Option (List ℕ)) → Unknown ≡ command_of words
-    → Told statuses.Usage usage_line answer c d → Served (wanted words held bytes) answer a a c d
-usage-whole words held bytes answer a c d is told =
-    let w : wanted words held bytes ≡ record { written = []; told = usage_line; status = statuses.Usage } = usage-output (command_of words) held bytes is in
-    told_served (wanted words held bytes) statuses.Usage usage_line answer a a c d (ap (λ (o : Output). o.status) w) (ap (λ (o : Output). o.told) w)
-    (sym (append_to-nil a) ∙ ap (λ (o : Output). append_to o.written a) (sym w)) told
+-- what is left of one wanted output is what is left of some
 
-usage-input : (words : List (List ℕ)) (held : List (List ℕ × List ℕ)) (left : Option (List ℕ)) (answer : Status) (a c d : Option (List ℕ)) → Unknown ≡ command_of words
-    → Told statuses.Usage usage_line answer c d → IfSome left (λ bytes. Served (wanted words held bytes) answer a a c d)
-usage-input words held None answer a c d is told = tt
-usage-input words held (Some bytes) answer a c d is told = usage-whole words held bytes answer a c d is told
+pub served_as : (command : Command) (files : List (List ℕ × List ℕ)) (input : List ℕ) (w : Output) (status : Status) (a b c d : Option (List ℕ))
+    → Wants command files input w → Served w status a b c d → ServedAs command files input status a b c d
+served_as command files input w statuses.Done a b c d wants served = record { some = w; wanted = wants; whole = served }
+served_as command files input w statuses.Refused a b c d wants served = record { some = w; wanted = wants; whole = served }
+served_as command files input w statuses.Usage a b c d wants served = record { some = w; wanted = wants; whole = served }
+served_as command files input w statuses.NoAnswer a b c d wants served = record { some = w; wanted = wants; whole = served }
+served_as command files input w statuses.OutsideFault a b c d wants served = record { some = w; wanted = inr wants; front = served }
+served_as command files input w statuses.NoMemory a b c d wants served = record { some = w; wanted = inr wants; front = served }
 
-pub usage_served : (words : List (List ℕ)) (files : Option (List (List ℕ × List ℕ))) (left : Option (List ℕ)) (answer : Status) (a c d : Option (List ℕ)) → Unknown ≡ command_of words
-    → Told statuses.Usage usage_line answer c d → IfSome files (λ held. IfSome left (λ bytes. Served (wanted words held bytes) answer a a c d))
-usage_served words None left answer a c d is told = tt
-usage_served words (Some held) left answer a c d is told = usage-input words held left answer a c d is told
+-- nothing was written, which is a front of nothing
+abbrev pub nothing : Output
+nothing = record { written = []; told = []; status = statuses.OutsideFault }
+
+nothing-served : (command : Command) (files : List (List ℕ × List ℕ)) (input : List ℕ) (status : Status) (a b c d : Option (List ℕ))
+    → Served nothing status a b c d → ServedAs command files input status a b c d
+nothing-served command files input statuses.Done a b c d served = let e : statuses.OutsideFault ≡ statuses.Done = served.status_wanted in cc
+nothing-served command files input statuses.Refused a b c d served = let e : statuses.OutsideFault ≡ statuses.Refused = served.status_wanted in cc
+nothing-served command files input statuses.Usage a b c d served = let e : statuses.OutsideFault ≡ statuses.Usage = served.status_wanted in cc
+nothing-served command files input statuses.NoAnswer a b c d served = let e : statuses.OutsideFault ≡ statuses.NoAnswer = served.status_wanted in cc
+nothing-served command files input statuses.OutsideFault a b c d served = record { some = nothing; wanted = inl (refl, refl); front = served }
+nothing-served command files input statuses.NoMemory a b c d served = record { some = nothing; wanted = inl (refl, refl); front = served }
+
+-- what is said of files and of an input that are told
+both : (told : Option (List (List ℕ × List ℕ))) (left : Option (List ℕ)) (P Q : List (List ℕ × List ℕ) → List ℕ → Type 0)
+    → ((held : List (List ℕ × List ℕ)) (bytes : List ℕ) → P held bytes → Q held bytes)
+    → IfSome told (λ held. IfSome left (P held)) → IfSome told (λ held. IfSome left (Q held))
+both None left P Q f h = tt
+both (Some held) None P Q f h = tt
+both (Some held) (Some bytes) P Q f h = f held bytes h
+
+pub run_served : (told : Option (List (List ℕ × List ℕ))) (left : Option (List ℕ)) (command : Command) (file name : List ℕ) (answer : Result (Vec ℕ Global) Halt) (status : Status) (a b c d : Option (List ℕ))
+    → Run file name ≡ command
+    → IfSome told (λ held. IfSome left (λ bytes. Commanded answer (with_file (file_named held file) (λ text. run_output text name bytes)) a b))
+    → ((w : Output) (x y : Option (List ℕ)) → Commanded answer w x y → Served w status x y c d)
+    → IfSome told (λ held. IfSome left (λ bytes. ServedAs command held bytes status a b c d))
+run_served told left command file name answer status a b c d is commanded served =
+    subst (λ (k : Command). IfSome told (λ held. IfSome left (λ bytes. ServedAs k held bytes status a b c d))) is
+    (both told left (λ held bytes. Commanded answer (with_file (file_named held file) (λ text. run_output text name bytes)) a b) (λ held bytes. ServedAs (Run file name) held bytes status a b c d)
+    (λ held bytes h. served_as (Run file name) held bytes (with_file (file_named held file) (λ text. run_output text name bytes)) status a b c d refl (served (with_file (file_named held file) (λ text. run_output text name bytes)) a b h))
+    commanded)
+
+every : (told : Option (List (List ℕ × List ℕ))) (left : Option (List ℕ)) (Q : List (List ℕ × List ℕ) → List ℕ → Type 0) → ((held : List (List ℕ × List ℕ)) (bytes : List ℕ) → Q held bytes)
+    → IfSome told (λ held. IfSome left (Q held))
+every None left Q f = tt
+every (Some held) None Q f = tt
+every (Some held) (Some bytes) Q f = f held bytes
+
+pub usage_served : (told : Option (List (List ℕ × List ℕ))) (left : Option (List ℕ)) (command : Command) (status : Status) (a c d : Option (List ℕ)) → Unknown ≡ command
+    → Told statuses.Usage usage_line status c d → IfSome told (λ held. IfSome left (λ bytes. ServedAs command held bytes status a a c d))
+usage_served told left command status a c d is h =
+    subst (λ (k : Command). IfSome told (λ held. IfSome left (λ bytes. ServedAs k held bytes status a a c d))) is
+    (every told left (λ held bytes. ServedAs Unknown held bytes status a a c d) (λ held bytes. served_as Unknown held bytes usage_output status a a c d refl (usage-whole status a c d h)))
+
+-- of files alone
+with_input : (told : Option (List (List ℕ × List ℕ))) (left : Option (List ℕ)) (P : List (List ℕ × List ℕ) → Type 0) (Q : List (List ℕ × List ℕ) → List ℕ → Type 0)
+    → ((held : List (List ℕ × List ℕ)) (bytes : List ℕ) → P held → Q held bytes) → IfSome told P → IfSome told (λ held. IfSome left (Q held))
+with_input None left P Q f h = tt
+with_input (Some held) None P Q f h = tt
+with_input (Some held) (Some bytes) P Q f h = f held bytes h
+
+pub compile_served : (told : Option (List (List ℕ × List ℕ))) (left : Option (List ℕ)) (command : Command) (file intent : List ℕ) (answer : Answer) (status : Status) (a b c d : Option (List ℕ))
+    → Compile file intent ≡ command
+    → IfSome told (λ held. CompileAnswered (Ok answer) (file_named held file) (file_named held intent))
+    → Served (output_of_answer answer) status a b c d
+    → IfSome told (λ held. IfSome left (λ bytes. ServedAs command held bytes status a b c d))
+compile_served told left command file intent answer status a b c d is answered served =
+    subst (λ (k : Command). IfSome told (λ held. IfSome left (λ bytes. ServedAs k held bytes status a b c d))) is
+    (with_input told left (λ held. CompileAnswered (Ok answer) (file_named held file) (file_named held intent)) (λ held bytes. ServedAs (Compile file intent) held bytes status a b c d)
+    (λ held bytes h. served_as (Compile file intent) held bytes (output_of_answer answer) status a b c d h.0 served) answered)
+
+halted-as : (halt : Halt) (file intent : List ℕ) (held : List (List ℕ × List ℕ)) (bytes : List ℕ) (status : Status) (a c d : Option (List ℕ))
+    → ((w : Output) (x y : Option (List ℕ)) → Commanded (Err halt) w x y → Served w status x y c d)
+    → CompileAnswered (Err halt) (file_named held file) (file_named held intent) → ServedAs (Compile file intent) held bytes status a a c d
+halted-as (halts.Refused refusal) file intent held bytes status a c d served h =
+    served_as (Compile file intent) held bytes (refused refusal) status a a c d h (served (refused refusal) a a (refl, refl))
+halted-as halts.Fault file intent held bytes status a c d served h =
+    nothing-served (Compile file intent) held bytes status a a c d (served nothing a a (front_none [] a))
+halted-as halts.NoMemory file intent held bytes status a c d served h =
+    nothing-served (Compile file intent) held bytes status a a c d (served nothing a a (front_none [] a))
+
+pub halt_served : (told : Option (List (List ℕ × List ℕ))) (left : Option (List ℕ)) (command : Command) (file intent : List ℕ) (halt : Halt) (status : Status) (a c d : Option (List ℕ))
+    → Compile file intent ≡ command
+    → IfSome told (λ held. CompileAnswered (Err halt) (file_named held file) (file_named held intent))
+    → ((w : Output) (x y : Option (List ℕ)) → Commanded (Err halt) w x y → Served w status x y c d)
+    → IfSome told (λ held. IfSome left (λ bytes. ServedAs command held bytes status a a c d))
+halt_served told left command file intent halt status a c d is answered served =
+    subst (λ (k : Command). IfSome told (λ held. IfSome left (λ bytes. ServedAs k held bytes status a a c d))) is
+    (with_input told left (λ held. CompileAnswered (Err halt) (file_named held file) (file_named held intent)) (λ held bytes. ServedAs (Compile file intent) held bytes status a a c d)
+    (λ held bytes h. halted-as halt file intent held bytes status a c d served h) answered)

@@ -3,7 +3,7 @@ use Rattle.std.specs.Prelude.{◌≡◌, ℕ, List, [], ◌∷◌, ◌++◌, Opt
 use Rattle.net_model.specs.Network.{Network}
 use Rattle.srx_edge.specs.Edge.{append_name}
 use Rattle.srv6_cli.specs.declared.refusal.Refusal.{Refusal}
-use Rattle.srv6_cli.specs.Command.{Command, Run, Unknown}
+use Rattle.srv6_cli.specs.Command.{Command, Run, Compile, Unknown}
 use Rattle.srv6_cli.specs.Output.{network_in, node_in}
 use Rattle.srx_edge.specs.Edge.{file_named}
 
@@ -25,6 +25,7 @@ EndsEarly (Some text) name = EndsAtNetwork (network_in text) name
 -- the command ends before the input is read
 abbrev pub LeavesInput : Command → List (List ℕ × List ℕ) → Type 0
 LeavesInput (Run file name) files = EndsEarly (file_named files file) name
+LeavesInput (Compile file intent) files = ⊤
 LeavesInput Unknown files = ⊤
 
 -- the names asked for, oldest first, with more

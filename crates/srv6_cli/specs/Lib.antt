@@ -4,6 +4,9 @@ pub mod Capture
 pub mod Lines
 pub mod Output
 pub mod Early
+pub mod Compiling
+pub mod Answers
 pub mod Served
+pub mod Wants
 pub mod Halted
 pub mod Sent

@@ -1,6 +1,7 @@
 -- The lines on `err`.
 use Rattle.std.specs.Prelude.{◌≡◌, ℕ, List, [], ◌∷◌, ◌++◌, codes, slice_get, Option, Some, None}
 use Rattle.std.specs.Fmt.{decimal}
+use Rattle.v6_addr.specs.Text.{prefix_text}
 use Rattle.srv6_rules.specs.declared.sid.Reason.{Reason}
 use Rattle.srv6_rules.specs.declared.sid.Reason.TheVariants as reasons
 use Rattle.net_model.specs.declared.parts.Node.{Node}
@@ -22,7 +23,9 @@ usage_line = line (codes "usage: srv6 compile|check|walk|run|trace|replay|show|g
 unfoldable pub refusal_text : Refusal → List ℕ
 refusal_text (refusals.TooBig limit) = codes "refused 2 TooBig " ++ decimal limit
 refusal_text refusals.NotToml = codes "refused 21 NotToml"
+refusal_text refusals.IntentNotToml = codes "refused 33 Text NotToml"
 refusal_text refusals.BadNode = codes "refused 39 BadNode"
+refusal_text (refusals.Nested outer inner) = codes "refused 41 Nested " ++ (prefix_text outer ++ 32 ∷ prefix_text inner)
 refusal_text refusals.NotBuilt = codes "refused 90 NotBuilt"
 
 abbrev pub refusal_line : Refusal → List ℕ

@@ -1,7 +1,6 @@
 -- What the program writes, and with which status it ends, as a function of its words, the files and the input.
 use Rattle.std.specs.Prelude.{◌≡◌, ℕ, ◌/◌, ◌<◌, Bool, true, false, ◌&&◌, ◌==◌, not, nat_lt, if◌then◌else◌, List, [], ◌∷◌, ◌++◌, length, slice_index, Option, Some, None, Result, Ok, Err}
 use Rattle.toml.specs.Data.{Members}
-use Rattle.srx_edge.specs.Edge.{file_named}
 use Rattle.srv6_rules.specs.declared.sid.Family.TheVariants.{V6}
 use Rattle.srv6_rules.specs.Packet.{Content, entered}
 use Rattle.net_model.specs.Network.{Network}
@@ -15,7 +14,6 @@ use Rattle.srv6_cli.specs.declared.refusal.Refusal.{Refusal}
 use Rattle.srv6_cli.specs.declared.refusal.Refusal.TheVariants as refusals
 use Rattle.srv6_cli.specs.declared.status.Status.{Status}
 use Rattle.srv6_cli.specs.declared.status.Status.TheVariants as statuses
-use Rattle.srv6_cli.specs.Command.{Command, Run, Unknown, command_of}
 use Rattle.srv6_cli.specs.Capture.{capture_head, frames_of}
 use Rattle.srv6_cli.specs.Lines.{usage_line, refusal_line, packet_line}
 
@@ -101,10 +99,5 @@ run_output text name input =
     after (network_in text) (λ net. after (node_in net name) (λ node. after (content_in input) (λ content.
     ran net (walk_from net node no_choices content))))
 
-abbrev pub output_of : Command → List (List ℕ × List ℕ) → List ℕ → Output
-output_of (Run file name) files input = with_file (file_named files file) (λ text. run_output text name input)
-output_of Unknown files input = record { written = []; told = usage_line; status = statuses.Usage }
-
--- the output that is wanted of words, files and input
-abbrev pub wanted : List (List ℕ) → List (List ℕ × List ℕ) → List ℕ → Output
-wanted words files input = output_of (command_of words) files input
+abbrev pub usage_output : Output
+usage_output = record { written = []; told = usage_line; status = statuses.Usage }

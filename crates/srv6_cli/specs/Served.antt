@@ -3,7 +3,7 @@ use Rattle.std.specs.Prelude.{◌≡◌, ◌≢◌, ℕ, List, [], ◌∷◌, �
 use Rattle.srx_edge.specs.Edge.{Rose, append_to, append_name, Front}
 use Rattle.srv6_cli.specs.declared.status.Status.{Status}
 use Rattle.srv6_cli.specs.declared.status.Status.TheVariants as statuses
-use Rattle.srv6_cli.specs.Command.{Command, Run, Unknown}
+use Rattle.srv6_cli.specs.Command.{Command, Run, Compile, Unknown}
 use Rattle.srv6_cli.specs.Output.{Output}
 
 -- each of the two sinks has received all that is wanted, and the status is the wanted one
@@ -22,6 +22,7 @@ abbrev pub Served : Output → Status → Option (List ℕ) → Option (List ℕ
 Served wanted statuses.Done a b c d = IsWhole wanted statuses.Done a b c d
 Served wanted statuses.Refused a b c d = IsWhole wanted statuses.Refused a b c d
 Served wanted statuses.Usage a b c d = IsWhole wanted statuses.Usage a b c d
+Served wanted statuses.NoAnswer a b c d = IsWhole wanted statuses.NoAnswer a b c d
 Served wanted statuses.OutsideFault a b c d = IsFront wanted a b c d
 Served wanted statuses.NoMemory a b c d = IsFront wanted a b c d
 
@@ -30,6 +31,7 @@ abbrev pub Told : Status → List ℕ → Status → Option (List ℕ) → Optio
 Told status line statuses.Done old new = (status ≡ statuses.Done) × (new ≡ append_to line old)
 Told status line statuses.Refused old new = (status ≡ statuses.Refused) × (new ≡ append_to line old)
 Told status line statuses.Usage old new = (status ≡ statuses.Usage) × (new ≡ append_to line old)
+Told status line statuses.NoAnswer old new = (status ≡ statuses.NoAnswer) × (new ≡ append_to line old)
 Told status line statuses.OutsideFault old new = Front line old new
 Told status line statuses.NoMemory old new = Front line old new
 
@@ -38,6 +40,7 @@ abbrev pub OnOutsideFault : Status → Type 0 → Type 0
 OnOutsideFault statuses.Done P = ⊤
 OnOutsideFault statuses.Refused P = ⊤
 OnOutsideFault statuses.Usage P = ⊤
+OnOutsideFault statuses.NoAnswer P = ⊤
 OnOutsideFault statuses.OutsideFault P = P
 OnOutsideFault statuses.NoMemory P = ⊤
 
@@ -46,26 +49,49 @@ abbrev pub UnlessNoMemory : Status → Type 0 → Type 0
 UnlessNoMemory statuses.Done P = P
 UnlessNoMemory statuses.Refused P = P
 UnlessNoMemory statuses.Usage P = P
+UnlessNoMemory statuses.NoAnswer P = P
 UnlessNoMemory statuses.OutsideFault P = P
 UnlessNoMemory statuses.NoMemory P = ⊤
+
+-- P, where the status is neither of the two faults
+abbrev pub OnWhole : Status → Type 0 → Type 0
+OnWhole statuses.Done P = P
+OnWhole statuses.Refused P = P
+OnWhole statuses.Usage P = P
+OnWhole statuses.NoAnswer P = P
+OnWhole statuses.OutsideFault P = ⊤
+OnWhole statuses.NoMemory P = ⊤
+
+-- which command it is
+abbrev pub IsCommand : Command → Type 0
+IsCommand (Run file name) = ⊤
+IsCommand (Compile file intent) = ⊤
+IsCommand Unknown = ⊥
+
+abbrev pub IsCompile : Command → Type 0
+IsCompile (Run file name) = ⊥
+IsCompile (Compile file intent) = ⊤
+IsCompile Unknown = ⊥
+
+abbrev pub IsNoCommand : Command → Type 0
+IsNoCommand (Run file name) = ⊥
+IsNoCommand (Compile file intent) = ⊥
+IsNoCommand Unknown = ⊤
 
 -- P, where the command was done
 abbrev pub OnDone : Status → Type 0 → Type 0
 OnDone statuses.Done P = P
 OnDone statuses.Refused P = ⊤
 OnDone statuses.Usage P = ⊤
+OnDone statuses.NoAnswer P = ⊤
 OnDone statuses.OutsideFault P = ⊤
 OnDone statuses.NoMemory P = ⊤
 
--- words that are no command end in Usage, if nothing failed, and no others do
+-- words that are no command end in Usage, if nothing failed, and no others do; `compile` alone ends without an answer
 abbrev pub UsageAsAsked : Command → Status → Type 0
-UsageAsAsked Unknown statuses.Done = ⊥
-UsageAsAsked Unknown statuses.Refused = ⊥
-UsageAsAsked Unknown statuses.Usage = ⊤
-UsageAsAsked Unknown statuses.OutsideFault = ⊤
-UsageAsAsked Unknown statuses.NoMemory = ⊤
-UsageAsAsked (Run file name) statuses.Done = ⊤
-UsageAsAsked (Run file name) statuses.Refused = ⊤
-UsageAsAsked (Run file name) statuses.Usage = ⊥
-UsageAsAsked (Run file name) statuses.OutsideFault = ⊤
-UsageAsAsked (Run file name) statuses.NoMemory = ⊤
+UsageAsAsked command statuses.Done = IsCommand command
+UsageAsAsked command statuses.Refused = IsCommand command
+UsageAsAsked command statuses.Usage = IsNoCommand command
+UsageAsAsked command statuses.NoAnswer = IsCompile command
+UsageAsAsked command statuses.OutsideFault = ⊤
+UsageAsAsked command statuses.NoMemory = ⊤

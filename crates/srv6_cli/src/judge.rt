@@ -2,12 +2,15 @@
 
 ghost use Rattle.std.specs.Prelude.{◌≡◌, ◌≤◌, ◌<◌, IfSome, IfOk, OnOk, MatchResult, length, [], ◌∷◌};
 ghost use Rattle.srx_edge.specs.Edge.{Rose, append_name, file_named, emptied};
+ghost use Rattle.intent_reader.specs.Rules.{IsIntent};
+ghost use Rattle.srv6_cli.specs.Compiling.{intent_in};
 ghost use Rattle.srv6_cli.specs.Early.{AsksAtMost};
 ghost use Rattle.srv6_cli.specs.Halted.{Judged, JudgedIf, OnFault, UnlessFault, UnlessMemory};
 ghost use Rattle.srv6_cli.specs.Output.{network_in, node_in, content_in, is_bare, input_limit};
 
 use crate::halt::Halt;
 use crate::refusal::Refusal;
+use intent_reader::{Intent, IntentFault, read_intent};
 use net_model::Net;
 use net_reader::{NetFault, read_net};
 use node_stage::Content;
@@ -23,6 +26,7 @@ pub const INPUT_LIMIT: usize = 67_108_864;
 /// The network that the file of this name describes.
 #[tactic(auto, using(crate::proofs::Asking::asking))]
 pub fn read_network<F: Files>(alloc: Global, files: &mut F, name: &str) -> Result<Net, Halt>
+    ensures told { F.told files.new ≡ F.told files.old }
     ensures judged { IfSome (F.told files.old) (λ held. JudgedIf (λ net. net) result network_in (file_named held name.now)) }
     ensures asks { AsksAtMost (name.now ∷ []) (F.asked files.old) (F.asked files.new) }
     ensures asked { UnlessMemory result (F.asked files.new ≡ append_name name.now (F.asked files.old)) }
@@ -41,6 +45,32 @@ pub fn read_network<F: Files>(alloc: Global, files: &mut F, name: &str) -> Resul
         Err(NetFault::NotToml) => Err(Halt::Refused(Refusal::NotToml)),
         Err(NetFault::NotBuilt) => Err(Halt::Refused(Refusal::NotBuilt)),
         Err(NetFault::NoMemory) => Err(Halt::NoMemory),
+    }
+}
+
+/// The intent that the file of this name gives in a network.
+#[tactic(auto, using(crate::proofs::Asking::asking))]
+pub fn read_intent_file<F: Files>(alloc: Global, files: &mut F, net: &Net, name: &str) -> Result<Intent, Halt>
+    ensures told { F.told files.new ≡ F.told files.old }
+    ensures judged { IfSome (F.told files.old) (λ held. JudgedIf (λ intent. intent) result (intent_in net.now) (file_named held name.now)) }
+    ensures keeps { IfOk result (IsIntent net.now) }
+    ensures asks { AsksAtMost (name.now ∷ []) (F.asked files.old) (F.asked files.new) }
+    ensures asked { UnlessMemory result (F.asked files.new ≡ append_name name.now (F.asked files.old)) }
+    ensures failed { OnFault result (Rose (F.faults files.old) (F.faults files.new)) }
+    ensures no_fault { UnlessFault result (F.faults files.new ≡ F.faults files.old) }
+    ensures never_falls { F.faults files.old ≤ F.faults files.new }
+{
+    let text = match files.read(alloc, name, FILE_LIMIT) {
+        Ok(text) => text,
+        Err(FileFault::Failed) => return Err(Halt::Fault),
+        Err(FileFault::TooBig { limit }) => return Err(Halt::Refused(Refusal::TooBig { limit })),
+        Err(FileFault::NoMemory) => return Err(Halt::NoMemory),
+    };
+    match read_intent(alloc, text.as_slice(), net) {
+        Ok(intent) => Ok(intent),
+        Err(IntentFault::NotToml) => Err(Halt::Refused(Refusal::IntentNotToml)),
+        Err(IntentFault::NotBuilt) => Err(Halt::Refused(Refusal::NotBuilt)),
+        Err(IntentFault::NoMemory) => Err(Halt::NoMemory),
     }
 }
 

@@ -5,11 +5,13 @@
 //! sinks. A capture is written as the packet's walk goes, frame by frame.
 #![tactic(auto)]
 
+mod answer;
 mod capture;
 mod halt;
 mod judge;
 mod lines;
 mod refusal;
+mod report;
 mod run;
 mod start;
 mod status;

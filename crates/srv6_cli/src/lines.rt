@@ -1,30 +1,66 @@
 //! The lines on `err`.
 
-ghost use Rattle.std.specs.Prelude.{◌≡◌, IfOk, ◌++◌};
+ghost use Rattle.std.specs.Prelude.{◌≡◌, IfOk, ◌++◌, ◌∷◌, codes};
 ghost use Rattle.srv6_cli.specs.Sent.{IsEnd};
-ghost use Rattle.srv6_cli.specs.Lines.{refusal_line, reason_name, ended_text, packet_line};
+ghost use Rattle.v6_addr.specs.Text.{prefix_text};
+ghost use Rattle.srv6_cli.specs.Lines.{refusal_text, refusal_line, reason_name, ended_text, packet_line};
 
 use crate::refusal::Refusal;
+use arrayvec::ArrayString;
 use net_model::Net;
 use srv6_rules::Reason;
 use std::alloc::{AllocError, Global};
+use v6_addr::{Prefix, write_prefix};
 use walk_rules::Ended;
 
 /// The line that says how the program is called, with its line feed.
 pub const USAGE: &[u8] = b"usage: srv6 compile|check|walk|run|trace|replay|show|gen\n";
 
-/// A refusal's line.
+/// The text of a prefix.
+fn text_of_prefix(alloc: Global, prefix: &Prefix) -> Result<Vec<u8>, AllocError>
+    ensures { IfOk result (λ bytes. bytes.items ≡ prefix_text prefix.now) }
+{
+    let mut text = ArrayString::<43>::new();
+    write_prefix(&mut text, prefix);
+    text.as_str().as_bytes().to_vec(alloc)
+}
+
+/// The text of a refusal of two prefixes.
+fn text_of_nested(alloc: Global, outer: &Prefix, inner: &Prefix) -> Result<Vec<u8>, AllocError>
+    ensures { IfOk result (λ bytes. bytes.items ≡ codes "refused 41 Nested " ++ (prefix_text outer.now ++ 32 ∷ prefix_text inner.now)) }
+{
+    let inner = text_of_prefix(alloc, inner)?;
+    let inner = joined(alloc, b" ", inner.as_slice())?;
+    let outer = text_of_prefix(alloc, outer)?;
+    let both = joined(alloc, outer.as_slice(), inner.as_slice())?;
+    joined(alloc, b"refused 41 Nested ", both.as_slice())
+}
+
+/// A refusal's text.
 #[tactic(auto, unfolding(crate::specs::Lines::refusal_text))]
+fn text_of_refusal(alloc: Global, refusal: Refusal) -> Result<Vec<u8>, AllocError>
+    ensures { IfOk result (λ bytes. bytes.items ≡ refusal_text refusal) }
+{
+    match refusal {
+        Refusal::TooBig { limit } => {
+            let text = format!(in alloc; "refused 2 TooBig {limit}")?;
+            Ok(text.into_bytes())
+        }
+        Refusal::NotToml => b"refused 21 NotToml".to_vec(alloc),
+        Refusal::IntentNotToml => b"refused 33 Text NotToml".to_vec(alloc),
+        Refusal::BadNode => b"refused 39 BadNode".to_vec(alloc),
+        Refusal::Nested { outer, inner } => text_of_nested(alloc, &outer, &inner),
+        Refusal::NotBuilt => b"refused 90 NotBuilt".to_vec(alloc),
+    }
+}
+
+/// A refusal's line.
 pub fn line_of_refusal(alloc: Global, refusal: Refusal) -> Result<Vec<u8>, AllocError>
     ensures { IfOk result (λ bytes. bytes.items ≡ refusal_line refusal) }
 {
-    let text = match refusal {
-        Refusal::TooBig { limit } => format!(in alloc; "refused 2 TooBig {limit}\n")?,
-        Refusal::NotToml => String::from_str(alloc, "refused 21 NotToml\n")?,
-        Refusal::BadNode => String::from_str(alloc, "refused 39 BadNode\n")?,
-        Refusal::NotBuilt => String::from_str(alloc, "refused 90 NotBuilt\n")?,
-    };
-    Ok(text.into_bytes())
+    let mut line = text_of_refusal(alloc, refusal)?;
+    line.push(b'\n')?;
+    Ok(line)
 }
 
 /// A drop reason's name.
@@ -47,7 +83,7 @@ pub fn name_of_reason(reason: Reason) -> &'static str
 }
 
 /// The bytes of two texts, one after the other.
-fn joined(alloc: Global, first: &[u8], second: &[u8]) -> Result<Vec<u8>, AllocError>
+pub fn joined(alloc: Global, first: &[u8], second: &[u8]) -> Result<Vec<u8>, AllocError>
     ensures { IfOk result (λ bytes. bytes.items ≡ first.now ++ second.now) }
 {
     let mut bytes = first.to_vec(alloc)?;

@@ -1,3 +1,5 @@
+use v6_addr::Prefix;
+
 /// Why a command was refused; each has a number of its own in the line on `err`.
 #[derive(Clone, Copy, Debug, PartialEq, Eq)]
 pub enum Refusal {
@@ -8,8 +10,17 @@ pub enum Refusal {
     },
     /// 21: the description isn't TOML.
     NotToml,
+    /// 33: the intent isn't TOML.
+    IntentNotToml,
     /// 39: no node has the name.
     BadNode,
+    /// 41: an entry's prefix lies strictly inside a SID's.
+    Nested {
+        /// The SID's prefix.
+        outer: Prefix,
+        /// The prefix inside.
+        inner: Prefix,
+    },
     /// 90: a form that isn't built yet.
     NotBuilt,
 }

@@ -7,6 +7,8 @@ pub enum Status {
     Refused = 1,
     /// The words are no command.
     Usage = 2,
+    /// `compile` has no list, or none within the intent's limits.
+    NoAnswer = 3,
     /// A fault of the files, the input or a sink.
     OutsideFault = 5,
     /// Want of memory.

@@ -1,14 +1,17 @@
 //! The top call.
 
-ghost use Rattle.std.specs.Prelude.{◌≡◌, ◌≢◌, IfSome, IsOk, List, ℕ, Option};
+ghost use Rattle.std.specs.Prelude.{◌≡◌, ◌≢◌, [], IfSome, IsOk, List, ℕ, Option};
 ghost use Rattle.srx_edge.specs.Edge.{Rose, emptied};
-ghost use Rattle.srv6_cli.specs.Command.{Unknown, command_of, words_of, files_of};
-ghost use Rattle.srv6_cli.specs.Early.{AsksAtMost, LeavesInput, append_names};
+ghost use Rattle.srv6_cli.specs.Command.{Compile, Unknown, command_of, words_of, files_of};
+ghost use Rattle.srv6_cli.specs.Early.{AsksAtMost, LeavesInput};
 ghost use Rattle.srv6_cli.specs.Halted.{Commanded, FaultIn, HadMemory};
 ghost use Rattle.srv6_cli.specs.Lines.{usage_line};
-ghost use Rattle.srv6_cli.specs.Output.{Output, wanted};
+ghost use Rattle.srv6_cli.specs.Output.{Output};
+ghost use Rattle.srv6_cli.specs.Answers.{output_of_answer, IsAnswerStatus};
+ghost use Rattle.srv6_cli.specs.Wants.{ServedAs, AskedAs, ReadAs};
 ghost use Rattle.srv6_cli.specs.Served.{Served, Told, OnOutsideFault, UnlessNoMemory, OnDone, UsageAsAsked};
 
+use crate::answer::Answer;
 use crate::halt::Halt;
 use crate::lines::{USAGE, line_of_refusal};
 use crate::run::run;
@@ -45,7 +48,8 @@ fn conclude<E: Sink>(alloc: Global, answer: Result<Vec<u8>, Halt>, err: &mut E) 
     ensures failed { OnOutsideFault result (FaultIn answer (E.faults err.old) (E.faults err.new)) }
     ensures done { OnDone result (IsOk answer) }
     ensures memory { UnlessNoMemory result (HadMemory answer) }
-    ensures command { result ≢ Status.Usage }
+    ensures usage { result ≢ Status.Usage }
+    ensures no_answer { result ≢ Status.NoAnswer }
     ensures served { (w : Output) (a b : Option (List ℕ)) → Commanded answer w a b → Served w result a b (E.held err.old) (E.held err.new) }
 {
     match answer {
@@ -59,6 +63,21 @@ fn conclude<E: Sink>(alloc: Global, answer: Result<Vec<u8>, Halt>, err: &mut E) 
     }
 }
 
+/// Writes what `compile` has to write: on `out`, then on `err`.
+fn write_answer<O: Sink, E: Sink>(answer: Answer, out: &mut O, err: &mut E) -> Status
+    requires { IsAnswerStatus answer.status }
+    ensures served { Served (output_of_answer answer) result (O.held out.old) (O.held out.new) (E.held err.old) (E.held err.new) }
+    ensures command { UsageAsAsked (Compile [] []) result }
+    ensures refused { result ≢ Status.Refused }
+    ensures failed { OnOutsideFault result (¬ Rose (O.faults out.old) (O.faults out.new) → ¬ Rose (E.faults err.old) (E.faults err.new) → ⊥) }
+{
+    match write_all(out, answer.written.as_slice()) {
+        Ok(()) => tell(err, answer.told.as_slice(), answer.status),
+        Err(Halt::NoMemory) => Status::NoMemory,
+        Err(_) => Status::OutsideFault,
+    }
+}
+
 /// Runs a command: words, files and input to output and a status. The words are those behind the
 /// program's name. After a fault of the outside and after want of memory nothing more is written.
 pub fn serve<F: Files, S: Source, O: Sink, E: Sink>(
@@ -69,10 +88,10 @@ pub fn serve<F: Files, S: Source, O: Sink, E: Sink>(
     out: &mut O,
     err: &mut E,
 ) -> Status
-    // With every status but the two faults the output and the status are exactly those that are
-    // wanted; with the two faults each sink has received a front.
+    // With every status but the two faults the output and the status are those that are wanted; with
+    // the two faults each sink has received a front.
     ensures served { IfSome (F.told files.old) (λ held. IfSome (S.left input.old) (λ bytes.
-        Served (wanted (words_of words.now) held bytes) result (O.held out.old) (O.held out.new) (E.held err.old) (E.held err.new))) }
+        ServedAs (command_of (words_of words.now)) held bytes result (O.held out.old) (O.held out.new) (E.held err.old) (E.held err.new))) }
     ensures usage { UsageAsAsked (command_of (words_of words.now)) result }
 
     // A fault comes only where a count of faults rose.
@@ -81,20 +100,25 @@ pub fn serve<F: Files, S: Source, O: Sink, E: Sink>(
 
     // The files that the command names are asked for, in order, each once, and no others.
     ensures asks { AsksAtMost (files_of (command_of (words_of words.now))) (F.asked files.old) (F.asked files.new) }
-    ensures asked { UnlessNoMemory result (F.asked files.new ≡ append_names (files_of (command_of (words_of words.now))) (F.asked files.old)) }
+    ensures asked { IfSome (F.told files.old) (λ held. AskedAs (command_of (words_of words.now)) held result (F.asked files.old) (F.asked files.new)) }
 
-    // The input stays as it was where the command ends before it is read, and is read to its end where it is done.
+    // The input stays as it was where the command ends before it is read or reads none, and is read
+    // to its end where a command that reads it is done.
     ensures unread { IfSome (F.told files.old) (λ held. LeavesInput (command_of (words_of words.now)) held →
         (S.left input.new ≡ S.left input.old) × (S.faults input.new ≡ S.faults input.old)) }
     ensures unread_after_fault { F.faults files.new ≢ F.faults files.old →
         (S.left input.new ≡ S.left input.old) × (S.faults input.new ≡ S.faults input.old) }
-    ensures read_to_end { OnDone result (S.left input.new ≡ emptied (S.left input.old)) }
+    ensures read_to_end { ReadAs (command_of (words_of words.now)) result (S.left input.old) (S.left input.new) }
 {
     match command(words) {
         Words::Run { file, node } => {
             let answer = run(alloc, file, node, files, input, out);
             conclude(alloc, answer, err)
         }
+        Words::Compile { file, intent } => match Answer::read(alloc, file, intent, files) {
+            Ok(answer) => write_answer(answer, out, err),
+            Err(halt) => conclude(alloc, Err(halt), err),
+        },
         Words::Unknown => tell_usage(err),
     }
 }

@@ -14,6 +14,13 @@ pub enum Words<'a> {
         /// The node's name.
         node: &'a str,
     },
+    /// A list for the intent of a file in the network that another describes.
+    Compile {
+        /// The description's name.
+        file: &'a str,
+        /// The intent's name.
+        intent: &'a str,
+    },
     /// Nothing that there is.
     Unknown,
 }
@@ -27,6 +34,14 @@ pub fn command(words: &[String]) -> Words<'_>
             Words::Run {
                 file: file.as_str(),
                 node: node.as_str(),
+            }
+        }
+        [verb, file, intent]
+            if verb.as_str() == "compile" && !file.is_empty() && !intent.is_empty() =>
+        {
+            Words::Compile {
+                file: file.as_str(),
+                intent: intent.as_str(),
             }
         }
         _ => Words::Unknown,
