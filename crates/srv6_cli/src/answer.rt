@@ -75,7 +75,10 @@ impl Answer {
     }
 
     /// The answer of a list that was found, or of none.
-    fn of_found(alloc: Global, compiled: &Result<Compiled, CompileFault>) -> Result<Answer, AllocError>
+    fn of_found(
+        alloc: Global,
+        compiled: &Result<Compiled, CompileFault>,
+    ) -> Result<Answer, AllocError>
         requires { IsFoundAnswer compiled.now }
         ensures { IfOk result (λ answer. (compile_output compiled.now ≡ output_of_answer answer) × IsAnswerStatus answer.status) }
     {
@@ -107,7 +110,12 @@ impl Answer {
     }
 
     /// Judges the description, then the intent, each before the next is read, and compiles.
-    pub fn read<F: Files>(alloc: Global, file: &str, intent: &str, files: &mut F) -> Result<Answer, Halt>
+    pub fn read<F: Files>(
+        alloc: Global,
+        file: &str,
+        intent: &str,
+        files: &mut F,
+    ) -> Result<Answer, Halt>
         ensures answered { IfSome (F.told files.old) (λ held. CompileAnswered result (file_named held file.now) (file_named held intent.now)) }
         ensures status { IfOk result (λ answer. IsAnswerStatus answer.status) }
         ensures asks { AsksAtMost (file.now ∷ intent.now ∷ []) (F.asked files.old) (F.asked files.new) }

@@ -50,7 +50,12 @@ pub fn read_network<F: Files>(alloc: Global, files: &mut F, name: &str) -> Resul
 
 /// The intent that the file of this name gives in a network.
 #[tactic(auto, using(crate::proofs::Asking::asking))]
-pub fn read_intent_file<F: Files>(alloc: Global, files: &mut F, net: &Net, name: &str) -> Result<Intent, Halt>
+pub fn read_intent_file<F: Files>(
+    alloc: Global,
+    files: &mut F,
+    net: &Net,
+    name: &str,
+) -> Result<Intent, Halt>
     ensures told { F.told files.new ≡ F.told files.old }
     ensures judged { IfSome (F.told files.old) (λ held. JudgedIf (λ intent. intent) result (intent_in net.now) (file_named held name.now)) }
     ensures keeps { IfOk result (IsIntent net.now) }

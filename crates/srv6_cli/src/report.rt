@@ -60,7 +60,12 @@ fn line_of_number(alloc: Global, name: &[u8], number: u32) -> Result<Vec<u8>, Al
 
 /// The lines of the numbers: containers, header bytes and need.
 #[tactic(auto, unfolding(crate::specs::Compiling::numbers_lines))]
-fn lines_of_numbers(alloc: Global, containers: u32, header: u32, need: u32) -> Result<Vec<u8>, AllocError>
+fn lines_of_numbers(
+    alloc: Global,
+    containers: u32,
+    header: u32,
+    need: u32,
+) -> Result<Vec<u8>, AllocError>
     ensures { IfOk result (λ bytes. bytes.items ≡ numbers_lines containers header need) }
 {
     let need = line_of_number(alloc, b"# need ", need)?;

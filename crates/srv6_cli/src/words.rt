@@ -37,8 +37,7 @@ pub fn command(words: &[String]) -> Words<'_>
             }
         }
         [verb, file, intent]
-            if verb.as_str() == "compile" && !file.is_empty() && !intent.is_empty() =>
-        {
+            if verb.as_str() == "compile" && !file.is_empty() && !intent.is_empty() => {
             Words::Compile {
                 file: file.as_str(),
                 intent: intent.as_str(),
