@@ -3,6 +3,7 @@
 
 mod cases;
 mod commands;
+mod compile;
 mod cross_connect;
 mod faults;
 mod networks;

@@ -238,5 +238,37 @@ pub const FLAVOURED: &[&str] = &[NODES, TABLE_0, END_B_FLAVOURED, END_D];
 /// End, End.X and End.DT6.
 pub const CROSS_CONNECT: &[&str] = &[NODES, TABLE_0, TABLE_100, END_B, END_D, CROSS_AND_VPN];
 
+/// The function vpn at D alone.
+const VPN: &str = r#"[[sid]]
+node = "D"
+prefix = "fcbb:bb00:f001::/48"
+behaviour = "End.DT6"
+title = "vpn"
+table = 100
+
+"#;
+
+/// The same without the cross-connect at B.
+pub const NO_CROSS_CONNECT: &[&str] = &[NODES, TABLE_0, TABLE_100, END_B, END_D, VPN];
+
+/// A route of C inside the prefix of B's SID.
+const INSIDE: &str = r#"[[route]]
+node = "C"
+prefix = "fcbb:bb00:2:1::/64"
+via = ["cd"]
+
+"#;
+
+/// The cross-connect, with a route inside a SID's prefix.
+pub const NESTED: &[&str] = &[
+    NODES,
+    TABLE_0,
+    TABLE_100,
+    END_B,
+    END_D,
+    CROSS_AND_VPN,
+    INSIDE,
+];
+
 /// Compressed segments.
 pub const NEXT_CSID: &[&str] = &[BLOCK, NODES, TABLE_0, TABLE_100, COMPRESSED];
