@@ -1,16 +1,15 @@
 -- From paths over a table of legs to the intent's lists.
-use Rattle.std.proofs.Common.{◌≡◌, ℕ, ◌+◌, ◌<◌, ◌≤◌, lit<, lit≤, arith, List, [], length, Option, Some, None, Result, Ok, Err, refl, sym, ◌∙◌, ap, subst}
+use Rattle.std.proofs.Common.{◌≡◌, ℕ, ◌+◌, ◌<◌, ◌≤◌, lit<, lit≤, arith, List, [], length, Option, Some, None, Ok, refl, sym, ◌∙◌, ap, subst}
 use Rattle.srv6_rules.specs.Packet.{Packet, IsSpellable}
 use Rattle.net_model.specs.Network.{Network}
 use Rattle.net_model.specs.Rules.{IsNetwork}
 use Rattle.net_model.specs.Flat.{IsFlat}
 use Rattle.intent_reader.specs.Rules.{IsIntent}
 use Rattle.intent_reader.specs.declared.intent.Intent.{Intent}
-use Rattle.leg_table.specs.declared.no_memory.NoMemory.{NoMemory}
 use Rattle.leg_table.specs.Realizes.{path_need, AlwaysHandsOver, AreSidAddresses}
 use Rattle.leg_table.proofs.Realizing.{path-realizes, list-path}
 use Rattle.leg_table.specs.Table.{LegTable, shape_of}
-use Rattle.leg_table.specs.Value.{LegsValue, legs_value}
+use Rattle.leg_table.specs.Value.{legs_value}
 use Rattle.path_compiler.specs.declared.compiled.Compiled.{Compiled}
 use Rattle.path_compiler.specs.declared.find.Found.{Found}
 use Rattle.path_compiler.specs.Paths.{need_through}

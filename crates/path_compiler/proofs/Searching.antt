@@ -1,6 +1,6 @@
 -- The search: marks, what is tried, and paths.
-use Rattle.std.proofs.Common.{◌≡◌, ℕ, zero, suc, ◌+◌, ◌-◌, ◌*◌, ◌<◌, ◌≤◌, ◌⊎◌, inl, inr, Bool, true, false, not, ◌==◌, if◌then◌else◌, List, [], ◌∷◌, ◌++◌, length, get_or, set, Option, Some, None, Result, Ok, Err, replicate, slice_get, Contains, All, refl, sym, ◌∙◌, ap, subst, arith, add-one, eqb-true, eq-eqb}
-use Rattle.std.specs.Prelude.{count_by, cond}
+use Rattle.std.proofs.Common.{◌≡◌, ℕ, zero, suc, ◌+◌, ◌<◌, ◌≤◌, ◌⊎◌, inl, inr, Bool, true, false, not, ◌==◌, if◌then◌else◌, List, [], ◌∷◌, length, get_or, set, Option, Some, None, Result, Ok, Err, replicate, slice_get, Contains, All, refl, sym, ◌∙◌, ap, subst, arith, eqb-true, eq-eqb}
+use Rattle.std.specs.Prelude.{cond}
 use Rattle.std.specs.Option.{option_map, option_and_then}
 use Rattle.std.proofs.lemmas.Bool.{cases_lt}
 use Rattle.std.proofs.lemmas.List.{length-replicate}
@@ -8,7 +8,7 @@ use Rattle.std.proofs.lemmas.List.Elements.{All-cons, All-nil}
 use Rattle.std.proofs.Math.Nat.{le_refl}
 use Rattle.std.proofs.lemmas.List.Sums.{sum_by-set, count_by-le-length}
 use Rattle.std.proofs.lemmas.Grind.{get_or_default_zero}
-use Rattle.std.proofs.lemmas.Option.{slice_get-get_or, slice_get_within, get_or_from_slice_get}
+use Rattle.std.proofs.lemmas.Option.{slice_get-get_or, slice_get_within}
 use Rattle.leg_table.specs.declared.no_memory.NoMemory.{NoMemory}
 use Rattle.leg_table.specs.declared.types.Leg.{Leg}
 use Rattle.leg_table.specs.Value.{LegsValue, KeepsLaws, IsSid, legs_value}
@@ -19,7 +19,7 @@ use Rattle.leg_table.specs.Realizes.{with_leg, path_need}
 use Rattle.path_compiler.specs.declared.cells.Cell.{Cell}
 use Rattle.path_compiler.specs.declared.find.Found.{Found}
 use Rattle.path_compiler.specs.Paths.{need_through}
-use Rattle.path_compiler.specs.Search.{cell_at, AreCells, IsMarked, IsClosed, Grows, NewIsClosed, unmarked, IsTried, IsTrying, IsPath, hops_to, hops_into, way_into, Searched, Finds}
+use Rattle.path_compiler.specs.Search.{cell_at, AreCells, IsClosed, Grows, unmarked, IsTried, IsTrying, IsPath, hops_to, hops_into, way_into, Searched, Finds}
 use Rattle.path_compiler.proofs.Rows.{place_of}
 
 -- marks

@@ -1,6 +1,5 @@
 -- What an intent is compiled to, and when it is refused.
 use Rattle.std.specs.Prelude.{◌≡◌, ℕ, ◌<◌, ◌≤◌, Bool, List, [], ◌∷◌, length, map, Option, Some, None, Result, Ok, Err}
-use Rattle.v6_addr.specs.Address.{PrefixValue}
 use Rattle.srv6_rules.specs.Encapsulation.{header_bytes}
 use Rattle.srv6_rules.specs.Packet.{Packet}
 use Rattle.net_model.specs.Network.{Network}

@@ -1,5 +1,5 @@
 -- Paths of legs and a finish, over what a search sees of them.
-use Rattle.std.specs.Prelude.{◌≡◌, ℕ, ◌+◌, List, [], ◌∷◌, Option, Some, None}
+use Rattle.std.specs.Prelude.{ℕ, List, [], ◌∷◌, Option, Some, None}
 use Rattle.leg_table.specs.Value.{LegsValue}
 use Rattle.leg_table.specs.Realizes.{with_leg}
 

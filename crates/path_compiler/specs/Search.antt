@@ -1,7 +1,7 @@
 -- The search for a path: which SIDs of which positions it has come to, and what it has tried from them.
-use Rattle.std.specs.Prelude.{◌≡◌, ℕ, ◌+◌, ◌*◌, ◌<◌, ◌≤◌, ◌⊎◌, Bool, true, false, not, ◌==◌, if◌then◌else◌, List, [], ◌∷◌, length, slice_get, count_by, Option, Some, None, Result, Ok, Err, Contains, All}
+use Rattle.std.specs.Prelude.{◌≡◌, ℕ, ◌+◌, ◌*◌, ◌<◌, ◌≤◌, ◌⊎◌, Bool, true, not, ◌==◌, if◌then◌else◌, List, length, slice_get, count_by, Option, Some, None, Result, Ok, Err, Contains}
 use Rattle.std.specs.Option.{option_and_then}
-use Rattle.leg_table.specs.Value.{LegsValue, IsSid}
+use Rattle.leg_table.specs.Value.{LegsValue}
 use Rattle.leg_table.specs.declared.types.Leg.{Leg}
 use Rattle.leg_table.specs.declared.no_memory.NoMemory.{NoMemory}
 use Rattle.path_compiler.specs.declared.cells.Cell.{Cell}

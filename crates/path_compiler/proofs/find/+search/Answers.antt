@@ -1,4 +1,4 @@
-use Rattle.path_compiler.proofs.Searching.{turn-skip, turn-more, turn-found, trying-end}
+use Rattle.path_compiler.proofs.Searching.{turn-skip, turn-more, trying-end}
 use Rattle.std.proofs.Common.{◌∙◌, ◌+◌, List, Bool, subst, sym, arith}
 use Rattle.path_compiler.specs.Search.{IsTrying}
 use Rattle.path_compiler.proofs.find.+search.Goals as goal

@@ -1,7 +1,7 @@
-use Rattle.std.proofs.Common.{ℕ, ◌≡◌, ◌≤◌, ◌+◌, List, Bool, true, false, length, Option, Some, None, Result, Ok, Err, slice_get, replicate, subst, sym, ◌∙◌, ap, arith}
+use Rattle.std.proofs.Common.{◌≡◌, List, false, replicate, subst, sym, ◌∙◌}
 use Rattle.path_compiler.specs.declared.cells.Cell.{Cell}
 use Rattle.path_compiler.specs.Search.{AreCells}
-use Rattle.path_compiler.proofs.Searching.{found-all, no-mark}
+use Rattle.path_compiler.proofs.Searching.{found-all}
 use Rattle.path_compiler.proofs.find.find.Goals as goal
 
 pub returns : goal.returns
