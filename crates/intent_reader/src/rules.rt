@@ -2,7 +2,6 @@
 
 ghost use Rattle.std.specs.Prelude.{◌≡◌, ◌<◌, length, slice_get, option_map};
 ghost use Rattle.std.specs.List.{list_all};
-ghost use Rattle.net_model.specs.Rules.{are_distinct, same_number, starts_at, is_link_set};
 ghost use Rattle.intent_reader.specs.Rules.{end_of_link, ends_at, far_node, first_end, function_node};
 ghost use Rattle.intent_reader.specs.Rules.{node_after, stand_after, is_function, ends_in_function, is_intent};
 
@@ -32,41 +31,6 @@ fn sid_at(net: &Net, n: u32) -> Option<&SidEntry>
     } else {
         None
     }
-}
-
-fn starts_at(net: &Net, node: u32, n: u32) -> bool
-    ensures { result ≡ starts_at net.now.links node n }
-{
-    match link_at(net, n) {
-        Some(link) => link.from == node,
-        None => false,
-    }
-}
-
-fn each_starts_at(net: &Net, node: u32, set: &[u32]) -> bool
-    ensures { result ≡ list_all (starts_at net.now.links node) set.now }
-{
-    set.iter().all(|n| starts_at(net, node, *n))
-}
-
-fn are_distinct(numbers: &[u32]) -> bool
-    ensures { result ≡ are_distinct same_number numbers.now }
-{
-    let mut rest = numbers;
-    while let [first, others @ ..] = rest {
-        if others.contains(first) {
-            return false;
-        }
-        rest = others;
-    }
-    true
-}
-
-/// Whether a set has 1 to 64 links of the node, each once.
-fn is_link_set(net: &Net, node: u32, set: &[u32]) -> bool
-    ensures { result ≡ is_link_set net.now.links node set.now }
-{
-    1 <= set.len() && (set.len() <= 64 && (are_distinct(set) && each_starts_at(net, node, set)))
 }
 
 /// The node where a link ends, if it is there and ends in the network.
@@ -108,7 +72,7 @@ fn far_node(net: &Net, node: u32, set: &[u32], first: Option<u32>) -> Option<u32
     ensures { result ≡ far_node net.now node set.now first }
 {
     match first {
-        Some(to) if is_link_set(net, node, set) && each_ends_at(net, to, set) => Some(to),
+        Some(to) if net.is_link_set(node, set) && each_ends_at(net, to, set) => Some(to),
         _ => None,
     }
 }

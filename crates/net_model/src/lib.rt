@@ -23,5 +23,6 @@ pub use laws::{
     best_match_is_one, entries_are_its_own, flat_networks_treat_addresses_alike,
     matched_sids_hold_the_address,
 };
+pub use named::{place_of_link, place_of_node};
 pub use net::{Hit, Net};
 pub use parts::{Link, Name, NetParts, Node, Route, TypeList};

@@ -23,16 +23,16 @@ fn first_link(links: &[Link], name: &[u8]) -> Option<usize>
     links.iter().position(|l| is_called(&l.name, name))
 }
 
-/// The place of the first node with a name.
-pub(crate) fn place_of_node(nodes: &[Node], name: &[u8]) -> Option<usize>
+/// The place of the first node with a name, counted from 0; `None` exactly where no node has it.
+pub fn place_of_node(nodes: &[Node], name: &[u8]) -> Option<usize>
     ensures number { result ≡ node_numbered name.now nodes.now }
     ensures meaning { IsNodeNumbered name.now nodes.now result }
 {
     first_node(nodes, name)
 }
 
-/// The place of the first link with a name.
-pub(crate) fn place_of_link(links: &[Link], name: &[u8]) -> Option<usize>
+/// The place of the first link with a name, counted from 0; `None` exactly where no link has it.
+pub fn place_of_link(links: &[Link], name: &[u8]) -> Option<usize>
     ensures number { result ≡ link_numbered name.now links.now }
     ensures meaning { IsLinkNumbered name.now links.now result }
 {

@@ -3,7 +3,7 @@
 use crate::lookup::lookup_in;
 use crate::named::{place_of_link, place_of_node};
 use crate::parts::{Link, Name, NetParts, Node, Route};
-use crate::rules::is_network;
+use crate::rules::{is_link_set, is_network};
 use srv6_rules::SidEntry;
 use std::marker::Model;
 use v6_addr::Addr;
@@ -41,7 +41,7 @@ impl Model for Net {
 impl Net {
     ghost use Rattle.std.specs.Prelude.{◌≡◌, ◌↔◌, ℕ, ◌<◌, false, length, slice_get, IsTrue, IsSome, IfSome, IfNone};
     ghost use Rattle.net_model.specs.Network.{network_of};
-    ghost use Rattle.net_model.specs.Rules.{IsNetwork, is_network};
+    ghost use Rattle.net_model.specs.Rules.{IsNetwork, is_network, is_link_set};
     ghost use Rattle.net_model.specs.Keeps.{Keeps};
     ghost use Rattle.net_model.specs.Best.{IsBest, lookup_of};
     ghost use Rattle.net_model.specs.Named.{node_numbered, link_numbered, IsNodeNumbered, IsLinkNumbered};
@@ -145,6 +145,13 @@ impl Net {
             Some(n) => Some(n as u32),
             None => None,
         }
+    }
+
+    /// Whether a set has 1 to 64 links of the node, each once (own rule).
+    pub fn is_link_set(&self, node: u32, set: &[u32]) -> bool
+        ensures { result ≡ is_link_set self.now.links node set.now }
+    {
+        is_link_set(&self.parts.links, node, set)
     }
 
     /// What in a node's table fits an address best: the longest of the entries that hold it, and of equally long

@@ -242,7 +242,7 @@ fn each_starts_at(links: &[Link], node: u32, set: &[u32]) -> bool
 }
 
 /// Whether a set has 1 to 64 links of the node, each once.
-fn is_link_set(links: &[Link], node: u32, set: &[u32]) -> bool
+pub(crate) fn is_link_set(links: &[Link], node: u32, set: &[u32]) -> bool
     ensures { result ≡ is_link_set links.now node set.now }
 {
     1 <= set.len()

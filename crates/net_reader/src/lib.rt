@@ -20,6 +20,7 @@ mod titles;
 pub mod tree;
 
 pub use fault::NetFault;
+pub use laws::titles_have_their_numbers;
 pub use read::{document, read_net};
 pub use texts::address_at;
 

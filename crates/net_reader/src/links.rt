@@ -1,6 +1,6 @@
 //! The links of a description.
 
-ghost use Rattle.std.specs.Prelude.{◌≡◌, ◌<◌, ◌^◌, IfOk, IfSome, option_map, length, codes, Some, None};
+ghost use Rattle.std.specs.Prelude.{◌≡◌, ◌<◌, ◌^◌, IfOk, option_map, length, codes, Some, None};
 ghost use Rattle.toml.specs.View.{view, table_view, items_view};
 ghost use Rattle.net_model.specs.Named.{link_numbered};
 ghost use Rattle.net_reader.specs.Tree.{needed, optional, each_of, each_at};
@@ -8,7 +8,7 @@ ghost use Rattle.net_reader.specs.Description.{link_of, link_in, links_in, node_
 
 use crate::nodes::{node_at, node_in};
 use crate::tree::{array_at, at, items_of, table_with, text_at};
-use net_model::{Link, Name, Node};
+use net_model::{Link, Name, Node, place_of_link};
 use srv6_rules::LinkSet;
 use std::alloc::{AllocError, Global};
 use toml::{Table, Value};
@@ -84,14 +84,6 @@ pub(crate) fn links(
         Some(items) => each_link(alloc, nodes, items),
         None => Ok(None),
     }
-}
-
-/// The place of the first link of a name.
-fn place_of_link(links: &[Link], name: &[u8]) -> Option<usize>
-    ensures value { result ≡ link_numbered name.now links.now }
-    ensures within { IfSome result (λ i. i < length links.now) }
-{
-    links.iter().position(|l| l.name.as_bytes() == name)
 }
 
 /// The number of the first link of a name.

@@ -1,6 +1,6 @@
 //! The nodes of a description.
 
-ghost use Rattle.std.specs.Prelude.{◌≡◌, ◌<◌, ◌^◌, IfOk, IfSome, option_map, length, codes};
+ghost use Rattle.std.specs.Prelude.{◌≡◌, ◌<◌, ◌^◌, IfOk, option_map, length, codes};
 ghost use Rattle.toml.specs.View.{view, table_view, items_view};
 ghost use Rattle.net_model.specs.Named.{node_numbered};
 ghost use Rattle.net_reader.specs.Tree.{needed, each_of, each_at, number_at_most};
@@ -8,7 +8,7 @@ ghost use Rattle.net_reader.specs.Description.{node_of, node_in};
 
 use crate::texts::address_at;
 use crate::tree::{array_at, at, bytes, table_with, text_at};
-use net_model::{Name, Node, TypeList};
+use net_model::{Name, Node, TypeList, place_of_node};
 use std::alloc::{AllocError, Global};
 use toml::{Table, Value};
 
@@ -68,14 +68,6 @@ pub(crate) fn nodes(alloc: Global, root: &Table) -> Result<Option<Vec<Node>>, Al
         Some(items) => each_node(alloc, items),
         None => Ok(None),
     }
-}
-
-/// The place of the first node of a name.
-fn place_of_node(nodes: &[Node], name: &[u8]) -> Option<usize>
-    ensures value { result ≡ node_numbered name.now nodes.now }
-    ensures within { IfSome result (λ i. i < length nodes.now) }
-{
-    nodes.iter().position(|n| n.name.as_bytes() == name)
 }
 
 /// The number of the first node of a name.

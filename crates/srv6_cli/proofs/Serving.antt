@@ -24,7 +24,7 @@ whole_of wanted status line a b c d s t out err =
 
 front_of : (wanted : Output) (line : List ℕ) (a b c d : Option (List ℕ)) → wanted.told ≡ line → b ≡ append_to wanted.written a → Front line c d → IsFront wanted a b c d
 front_of wanted line a b c d t out err =
-    record { out_front = front_whole wanted.written a b out; err_front = subst (λ (bytes : List ℕ). Front bytes c d) (sym t) err }
+    record { out_front = front_whole wanted.written a b out; err_front = subst (λ (bytes : List ℕ). Front bytes c d) (sym t) err; in_order = inl out }
 
 -- once `out` has all that is wanted, the line on `err` decides
 pub told_served : (wanted : Output) (status : Status) (line : List ℕ) (answer : Status) (a b c d : Option (List ℕ)) → wanted.status ≡ status → wanted.told ≡ line
@@ -45,7 +45,7 @@ refused_served wanted refusal line answer a b c d is out l told =
 
 -- a fault on the way writes nothing on `err`
 pub halted_served : (wanted : Output) (a b c : Option (List ℕ)) → Front wanted.written a b → IsFront wanted a b c c
-halted_served wanted a b c out = record { out_front = out; err_front = front_none wanted.told c }
+halted_served wanted a b c out = record { out_front = out; err_front = front_none wanted.told c; in_order = inr refl }
 
 -- a refusal whose line isn't written
 pub refused_front : (wanted : Output) (refusal : Refusal) (a b c : Option (List ℕ)) → wanted ≡ refused refusal → b ≡ a → IsFront wanted a b c c

@@ -1,5 +1,5 @@
 -- What a call of `serve` leaves, by the status that it answers.
-use Rattle.std.specs.Prelude.{◌≡◌, ◌≢◌, ℕ, List, [], ◌∷◌, ◌++◌, Option, Some, None, ⊤}
+use Rattle.std.specs.Prelude.{◌≡◌, ◌≢◌, ◌⊎◌, ℕ, List, [], ◌∷◌, ◌++◌, Option, Some, None, ⊤}
 use Rattle.srx_edge.specs.Edge.{Rose, append_to, append_name, Front}
 use Rattle.srv6_cli.specs.declared.status.Status.{Status}
 use Rattle.srv6_cli.specs.declared.status.Status.TheVariants as statuses
@@ -12,10 +12,11 @@ pub record IsWhole (wanted : Output) (status : Status) (out_old out_new err_old 
   pub out_whole : out_new ≡ append_to wanted.written out_old
   pub err_whole : err_new ≡ append_to wanted.told err_old
 
--- each of the two sinks has received a front of what is wanted
+-- each of the two sinks has received a front of what is wanted, and `err` something only where `out` has received all
 pub record IsFront (wanted : Output) (out_old out_new err_old err_new : Option (List ℕ)) : Type 0 where
   pub out_front : Front wanted.written out_old out_new
   pub err_front : Front wanted.told err_old err_new
+  pub in_order : (out_new ≡ append_to wanted.written out_old) ⊎ (err_new ≡ err_old)
 
 -- with the two faults a front, with every other status all
 abbrev pub Served : Output → Status → Option (List ℕ) → Option (List ℕ) → Option (List ℕ) → Option (List ℕ) → Type 0
