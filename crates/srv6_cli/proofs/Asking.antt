@@ -17,6 +17,11 @@ pub asks_more : (file intent : List ℕ) (old new : Option (List (List ℕ))) �
 asks_more file intent old new h =
     record { some = h.some; rest = h.rest ++ intent ∷ []; whole = sym (append_assoc h.some h.rest (intent ∷ [])) ∙ ap (λ (names : List (List ℕ)). names ++ intent ∷ []) h.whole; asked = h.asked }
 
+-- one file, and behind it whatever may be asked for
+pub asks_front : (file : List ℕ) (rest : List (List ℕ)) (old new : Option (List (List ℕ))) → AsksAtMost (file ∷ []) old new → AsksAtMost (file ∷ rest) old new
+asks_front file rest old new h =
+    record { some = h.some; rest = h.rest ++ rest; whole = sym (append_assoc h.some h.rest rest) ∙ ap (λ (names : List (List ℕ)). names ++ rest) h.whole; asked = h.asked }
+
 -- one file was asked for, and then at most another
 pub asks_both : (file intent : List ℕ) (old mid new : Option (List (List ℕ))) → mid ≡ append_name file old → AsksAtMost (intent ∷ []) mid new → AsksAtMost (file ∷ intent ∷ []) old new
 asks_both file intent old mid new first h =

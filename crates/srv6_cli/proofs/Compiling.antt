@@ -12,7 +12,7 @@ use Rattle.srv6_cli.specs.declared.halt.Halt.TheVariants as halts
 use Rattle.srv6_cli.specs.declared.refusal.Refusal.{Refusal}
 use Rattle.srv6_cli.specs.Output.{Output, refused, network_in}
 use Rattle.srv6_cli.specs.Halted.{JudgedIf}
-use Rattle.srv6_cli.specs.Compiling.{CompileWants, WantsOfNetwork, WantsOfIntentFile, WantsOfIntent, intent_in, IsAnswer}
+use Rattle.srv6_cli.specs.Compiling.{CompileWants, WantsOfNetwork, WantsOfIntentFile, WantsOfIntent, intent_in}
 use Rattle.srv6_cli.specs.Answers.{output_of_answer, Gives, CompileAnswered}
 
 -- an output that is wanted once the description gives a network

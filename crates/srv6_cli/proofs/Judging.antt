@@ -1,5 +1,5 @@
 -- The output of `run` by its judgements.
-use Rattle.std.proofs.Common.{◌≡◌, ℕ, [], IfSome, ◌≤◌, Bool, true, false, List, length, nat_lt, Option, Some, None, Result, Ok, Err, refl, subst}
+use Rattle.std.proofs.Common.{◌≡◌, ℕ, [], IfSome, ◌≤◌, true, false, List, length, nat_lt, Option, Some, None, Result, Ok, Err, refl, subst}
 use Rattle.std.proofs.lemmas.Bool.{le-ltb}
 use Rattle.srx_edge.specs.Edge.{file_named}
 use Rattle.srx_edge.proofs.Fronts.{front_none}

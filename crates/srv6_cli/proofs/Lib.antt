@@ -4,3 +4,5 @@ pub mod Walking
 pub mod Writable
 pub mod Serving
 pub mod Compiling
+pub mod Asked
+pub mod Calmly

@@ -1,5 +1,5 @@
 -- From what a command leaves to what `serve` leaves.
-use Rattle.std.proofs.Common.{◌≡◌, ℕ, List, [], ◌++◌, Option, Some, None, IfSome, Result, Ok, Err, Vec, Global, inl, inr, refl, sym, ap, ◌∙◌, subst}
+use Rattle.std.proofs.Common.{◌≡◌, ℕ, List, [], Option, Some, None, IfSome, Result, Ok, Err, Vec, Global, inl, inr, refl, sym, ap, ◌∙◌, subst}
 use Rattle.srx_edge.specs.Edge.{Rose, append_to, Front}
 use Rattle.srx_edge.proofs.Fronts.{append_to-nil, front_none, front_whole}
 use Rattle.srv6_cli.specs.declared.refusal.Refusal.{Refusal}
@@ -7,7 +7,7 @@ use Rattle.srv6_cli.specs.declared.status.Status.{Status}
 use Rattle.srv6_cli.specs.declared.status.Status.TheVariants as statuses
 use Rattle.srv6_cli.specs.Lines.{refusal_line, usage_line}
 use Rattle.srv6_cli.specs.Output.{Output, refused, usage_output, with_file, run_output}
-use Rattle.srv6_cli.specs.Wants.{Wants, ServedAs, IsFrontOfSome, IsWholeOfSome}
+use Rattle.srv6_cli.specs.Wants.{Wants, ServedAs}
 use Rattle.srv6_cli.specs.Answers.{output_of_answer, CompileAnswered}
 use Rattle.srv6_cli.specs.declared.answer.Answer.{Answer}
 use Rattle.srx_edge.specs.Edge.{file_named}

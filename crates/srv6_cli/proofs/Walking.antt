@@ -1,7 +1,7 @@
 -- Output while walking: what is sent so far with the frames of the rest is the frames of the whole walk.
-use Rattle.std.proofs.Common.{◌≡◌, ℕ, zero, suc, ◌+◌, List, [], ◌∷◌, ◌++◌, Option, Some, None, refl, sym, ap, ◌∙◌, append_assoc, append-nil, subst, slice_get}
+use Rattle.std.proofs.Common.{◌≡◌, ℕ, suc, ◌+◌, List, [], ◌∷◌, ◌++◌, Option, Some, None, refl, sym, ap, ◌∙◌, append_assoc, append-nil, subst, slice_get}
 use Rattle.srx_edge.specs.Edge.{append_to, Front}
-use Rattle.srx_edge.proofs.Fronts.{append_to-nil, append_to-append_to, append_both, front_after, front_longer, front_whole}
+use Rattle.srx_edge.proofs.Fronts.{append_to-nil, append_to-append_to, front_after, front_longer}
 use Rattle.srv6_rules.specs.Packet.{Content}
 use Rattle.net_model.specs.Network.{Network}
 use Rattle.walk_rules.specs.declared.place.Place.{Place}
@@ -14,7 +14,7 @@ use Rattle.walk_rules.proofs.Walks.{walk_of-suc, walk_of-zero, walk_of-none}
 use Rattle.srv6_cli.specs.declared.halt.Halt.{Halt}
 use Rattle.srv6_cli.specs.declared.halt.Halt.TheVariants as halts
 use Rattle.srv6_cli.specs.Halted.{LeavesFront}
-use Rattle.srv6_cli.specs.Capture.{frames_of, frame_of_step, frame_by}
+use Rattle.srv6_cli.specs.Capture.{frames_of, frame_by}
 
 -- of a whole walk some stages are left: what was sent before is a front of its frames, and its end is theirs
 pub record Progress (net : Network) (left whole : List Step) (first now : Option (List ℕ)) : Type 0 where

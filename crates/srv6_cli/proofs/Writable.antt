@@ -1,9 +1,9 @@
 -- What a stage sends can be written: its link is there, and its packet is no longer than a packet can be.
-use Rattle.std.proofs.Common.{◌≡◌, ℕ, zero, suc, ◌+◌, ◌<◌, ◌≤◌, ◌^◌, Bool, true, false, ◌&&◌, if◌then◌else◌, nat_le, List, [], ◌∷◌, length, slice_get, Option, Some, None, refl, sym, ap, ◌∙◌, arith, subst}
+use Rattle.std.proofs.Common.{◌≡◌, ℕ, zero, suc, ◌<◌, ◌≤◌, true, false, List, [], ◌∷◌, length, slice_get, Option, Some, None, sym, arith, subst}
 use Rattle.srv6_rules.specs.declared.sid.Behaviour.{Behaviour}
 use Rattle.srv6_rules.specs.declared.sid.Reason.{Reason}
 use Rattle.srv6_rules.specs.declared.sid.SidEntry.{SidEntry}
-use Rattle.srv6_rules.specs.Packet.{Packet, Content, V6, Unreadable, IsSpellable, IsContent, bytes_of, most_len, spelling}
+use Rattle.srv6_rules.specs.Packet.{Packet, Content, V6, Unreadable, IsContent, bytes_of, most_len}
 use Rattle.srv6_rules.specs.Endpoint.{Endpoint, Onward, Exposed, Delivered, Refused, at_sid, at_address}
 use Rattle.srv6_rules.proofs.Packets.{length-spelling}
 use Rattle.net_model.specs.declared.parts.Link.{Link}
@@ -12,8 +12,8 @@ use Rattle.net_model.specs.Keeps.{Keeps, StartsAt}
 use Rattle.walk_rules.specs.declared.place.Place.{Place}
 use Rattle.walk_rules.specs.declared.place.Outcome.{Outcome}
 use Rattle.walk_rules.specs.declared.place.Outcome.TheVariants as outcomes
-use Rattle.walk_rules.specs.Treatment.{Way, Away, Over, Own, Into, way_of, Gave, step_of, lowered, treated_at_address, treated_in, treated_at_sid, allow_of}
-use Rattle.walk_rules.specs.Relation.{Sends, Treats, Stage, IsPlace}
+use Rattle.walk_rules.specs.Treatment.{Way, Away, Over, Own, Into, way_of, Gave, step_of, treated_at_address, treated_in, treated_at_sid, allow_of}
+use Rattle.walk_rules.specs.Relation.{Treats, Stage, IsPlace}
 use Rattle.walk_rules.specs.Walk.{far_end, left_or_stages, end_by}
 use Rattle.walk_rules.proofs.Choices.{stage-member}
 use Rattle.walk_rules.proofs.Places.{hops-start, stage-step}

@@ -33,6 +33,18 @@ abbrev pub append_names : List (List ℕ) → Option (List (List ℕ)) → Optio
 append_names [] asked = asked
 append_names (name ∷ names) asked = append_names names (append_name name asked)
 
+-- the names that `compile` asks for: the intent's only where the description is held and gives a network
+abbrev pub names_by : Result Network Refusal → List ℕ → List (List ℕ)
+names_by (Ok net) intent = intent ∷ []
+names_by (Err refusal) intent = []
+
+abbrev pub names_after : Option (List ℕ) → List ℕ → List (List ℕ)
+names_after None intent = []
+names_after (Some text) intent = names_by (network_in text) intent
+
+abbrev pub names_of_compile : List (List ℕ × List ℕ) → List ℕ → List ℕ → List (List ℕ)
+names_of_compile files file intent = file ∷ names_after (file_named files file) intent
+
 -- a front of the names was asked for, in order, and nothing else
 pub record AsksAtMost (names : List (List ℕ)) (old new : Option (List (List ℕ))) : Type 0 where
   pub some : List (List ℕ)

@@ -1,7 +1,7 @@
 -- What the steps of a command answer, by cases.
-use Rattle.std.specs.Prelude.{◌≡◌, ℕ, List, [], ◌∷◌, ◌++◌, Option, Some, None, Result, Ok, Err, ⊤, Vec}
+use Rattle.std.specs.Prelude.{◌≡◌, ℕ, List, Option, Some, None, Result, Ok, Err, ⊤, Vec}
 use Rattle.std.specs.declared.alloc.Global.{Global}
-use Rattle.srx_edge.specs.Edge.{Rose, append_to, append_name, Front}
+use Rattle.srx_edge.specs.Edge.{Rose, append_to, Front}
 use Rattle.srv6_cli.specs.declared.halt.Halt.{Halt}
 use Rattle.srv6_cli.specs.declared.halt.Halt.TheVariants as halts
 use Rattle.srv6_cli.specs.declared.refusal.Refusal.{Refusal}
@@ -37,6 +37,13 @@ UnlessFault (Err (halts.Refused refusal)) P = P
 UnlessFault (Err halts.Fault) P = ⊤
 UnlessFault (Err halts.NoMemory) P = P
 
+-- P, where the answer is neither a fault nor want of memory
+abbrev pub OnJudged : {X : Type 0} → Result X Halt → Type 0 → Type 0
+OnJudged (Ok x) P = P
+OnJudged (Err (halts.Refused refusal)) P = P
+OnJudged (Err halts.Fault) P = ⊤
+OnJudged (Err halts.NoMemory) P = ⊤
+
 -- P, where the answer is not want of memory
 abbrev pub UnlessMemory : {X : Type 0} → Result X Halt → Type 0 → Type 0
 UnlessMemory (Ok x) P = P
@@ -50,6 +57,13 @@ FaultIn (Ok x) old new = Rose old new
 FaultIn (Err (halts.Refused refusal)) old new = Rose old new
 FaultIn (Err halts.Fault) old new = ⊤
 FaultIn (Err halts.NoMemory) old new = ⊥
+
+-- the answer is no fault, and the count of the sink for its line is as it was
+abbrev pub Calm : {X : Type 0} → Result X Halt → ℕ → ℕ → Type 0
+Calm (Ok x) old new = new ≡ old
+Calm (Err (halts.Refused refusal)) old new = new ≡ old
+Calm (Err halts.Fault) old new = ⊥
+Calm (Err halts.NoMemory) old new = new ≡ old
 
 -- the answer isn't want of memory
 abbrev pub HadMemory : {X : Type 0} → Result X Halt → Type 0

@@ -1,5 +1,5 @@
 -- What the program writes, and with which status it ends, as a function of its words, the files and the input.
-use Rattle.std.specs.Prelude.{◌≡◌, ℕ, ◌/◌, ◌<◌, Bool, true, false, ◌&&◌, ◌==◌, not, nat_lt, if◌then◌else◌, List, [], ◌∷◌, ◌++◌, length, slice_index, Option, Some, None, Result, Ok, Err}
+use Rattle.std.specs.Prelude.{ℕ, ◌/◌, Bool, ◌&&◌, ◌==◌, not, nat_lt, if◌then◌else◌, List, [], ◌∷◌, ◌++◌, length, slice_index, Option, Some, None, Result, Ok, Err}
 use Rattle.toml.specs.Data.{Members}
 use Rattle.srv6_rules.specs.declared.sid.Family.TheVariants.{V6}
 use Rattle.srv6_rules.specs.Packet.{Content, entered}
@@ -8,7 +8,6 @@ use Rattle.net_model.specs.Named.{node_numbered}
 use Rattle.net_reader.specs.Reading.{document_of}
 use Rattle.net_reader.specs.Description.{network_of_document}
 use Rattle.walk_rules.specs.declared.place.How.TheVariants.{Arrived}
-use Rattle.walk_rules.specs.declared.place.Place.{Place}
 use Rattle.walk_rules.specs.Walk.{Step, walk_of, choice_at, end_of}
 use Rattle.srv6_cli.specs.declared.refusal.Refusal.{Refusal}
 use Rattle.srv6_cli.specs.declared.refusal.Refusal.TheVariants as refusals

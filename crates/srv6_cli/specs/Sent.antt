@@ -1,5 +1,5 @@
 -- What a stage's outcome and a walk's end name is there.
-use Rattle.std.specs.Prelude.{ℕ, ◌<◌, ◌≤◌, length, ⊤}
+use Rattle.std.specs.Prelude.{◌<◌, ◌≤◌, length, ⊤}
 use Rattle.srv6_rules.specs.Packet.{Content, bytes_of, most_len}
 use Rattle.net_model.specs.Network.{Network}
 use Rattle.walk_rules.specs.declared.place.Outcome.{Outcome}

@@ -1,6 +1,6 @@
 -- What a call of `serve` leaves, by the status that it answers.
-use Rattle.std.specs.Prelude.{◌≡◌, ◌≢◌, ◌⊎◌, ℕ, List, [], ◌∷◌, ◌++◌, Option, Some, None, ⊤}
-use Rattle.srx_edge.specs.Edge.{Rose, append_to, append_name, Front}
+use Rattle.std.specs.Prelude.{◌≡◌, ◌⊎◌, ℕ, List, Option, ⊤}
+use Rattle.srx_edge.specs.Edge.{append_to, Front}
 use Rattle.srv6_cli.specs.declared.status.Status.{Status}
 use Rattle.srv6_cli.specs.declared.status.Status.TheVariants as statuses
 use Rattle.srv6_cli.specs.Command.{Command, Run, Compile, Unknown}
@@ -44,6 +44,15 @@ OnOutsideFault statuses.Usage P = ⊤
 OnOutsideFault statuses.NoAnswer P = ⊤
 OnOutsideFault statuses.OutsideFault P = P
 OnOutsideFault statuses.NoMemory P = ⊤
+
+-- P, where the status is not a fault's
+abbrev pub UnlessOutsideFault : Status → Type 0 → Type 0
+UnlessOutsideFault statuses.Done P = P
+UnlessOutsideFault statuses.Refused P = P
+UnlessOutsideFault statuses.Usage P = P
+UnlessOutsideFault statuses.NoAnswer P = P
+UnlessOutsideFault statuses.OutsideFault P = ⊤
+UnlessOutsideFault statuses.NoMemory P = P
 
 -- P, where the status is not want of memory
 abbrev pub UnlessNoMemory : Status → Type 0 → Type 0

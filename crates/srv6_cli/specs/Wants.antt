@@ -1,13 +1,13 @@
 -- Which output is wanted of a command, the files and the input.
-use Rattle.std.specs.Prelude.{◌≡◌, ◌⊎◌, ℕ, List, [], ◌∷◌, Option, ⊤}
+use Rattle.std.specs.Prelude.{◌≡◌, ◌⊎◌, ℕ, List, [], ◌∷◌, Option}
 use Rattle.srx_edge.specs.Edge.{file_named, emptied}
 use Rattle.srv6_cli.specs.declared.status.Status.{Status}
 use Rattle.srv6_cli.specs.declared.status.Status.TheVariants as statuses
 use Rattle.srv6_cli.specs.Command.{Command, Run, Compile, Unknown}
 use Rattle.srv6_cli.specs.Output.{Output, with_file, run_output, usage_output}
 use Rattle.srv6_cli.specs.Compiling.{CompileWants}
-use Rattle.srv6_cli.specs.Served.{IsWhole, IsFront, UnlessNoMemory, OnDone}
-use Rattle.srv6_cli.specs.Early.{append_names}
+use Rattle.srv6_cli.specs.Served.{IsWhole, IsFront, UnlessNoMemory, OnDone, OnWhole}
+use Rattle.srv6_cli.specs.Early.{append_names, names_of_compile, AsksAtMost}
 
 -- an output that a command may have; only `compile` may have several, by the list that it finds
 abbrev pub Wants : Command → List (List ℕ × List ℕ) → List ℕ → Output → Type 0
@@ -35,10 +35,12 @@ ServedAs command files input statuses.NoAnswer a b c d = IsWholeOfSome command f
 ServedAs command files input statuses.OutsideFault a b c d = IsFrontOfSome command files input a b c d
 ServedAs command files input statuses.NoMemory a b c d = IsFrontOfSome command files input a b c d
 
--- the names asked for: of `run` the description, unless memory wants; of `compile` no more than both files, in order
+-- the names asked for: of `run` the description, unless memory wants; of `compile` the description, and then the intent where
+-- the description is held and gives a network, and with a fault or want of memory a front of these
 abbrev pub AskedAs : Command → List (List ℕ × List ℕ) → Status → Option (List (List ℕ)) → Option (List (List ℕ)) → Type 0
 AskedAs (Run file name) files status old new = UnlessNoMemory status (new ≡ append_names (file ∷ []) old)
-AskedAs (Compile file intent) files status old new = ⊤
+AskedAs (Compile file intent) files status old new =
+    AsksAtMost (names_of_compile files file intent) old new × OnWhole status (new ≡ append_names (names_of_compile files file intent) old)
 AskedAs Unknown files status old new = new ≡ old
 
 -- what is left of the input: nothing where `run` is done, and all of it where a command reads none

@@ -27,8 +27,8 @@ pub struct Answer {
 impl Answer {
     ghost use Rattle.srv6_cli.specs.Answers.{output_of_answer, Gives, IsFoundAnswer, IsAnswerStatus, CompileAnswered};
     ghost use Rattle.srv6_cli.specs.Compiling.{compile_output, report_of, no_report, no_list_line, too_long_line, hop_limit_line};
-    ghost use Rattle.srv6_cli.specs.Early.{AsksAtMost};
-    ghost use Rattle.srv6_cli.specs.Halted.{OnFault};
+    ghost use Rattle.srv6_cli.specs.Early.{AsksAtMost, append_names, names_of_compile};
+    ghost use Rattle.srv6_cli.specs.Halted.{OnFault, UnlessFault, OnJudged};
 
     /// The answer of a list within the intent's limits.
     fn of_list(alloc: Global, compiled: &Compiled) -> Result<Answer, AllocError>
@@ -119,6 +119,9 @@ impl Answer {
         ensures answered { IfSome (F.told files.old) (λ held. CompileAnswered result (file_named held file.now) (file_named held intent.now)) }
         ensures status { IfOk result (λ answer. IsAnswerStatus answer.status) }
         ensures asks { AsksAtMost (file.now ∷ intent.now ∷ []) (F.asked files.old) (F.asked files.new) }
+        ensures asked { IfSome (F.told files.old) (λ held. AsksAtMost (names_of_compile held file.now intent.now) (F.asked files.old) (F.asked files.new)
+            × OnJudged result (F.asked files.new ≡ append_names (names_of_compile held file.now intent.now) (F.asked files.old))) }
+        ensures no_fault { UnlessFault result (F.faults files.new ≡ F.faults files.old) }
         ensures failed { OnFault result (Rose (F.faults files.old) (F.faults files.new)) }
     {
         let net = match read_network(alloc, files, file) {

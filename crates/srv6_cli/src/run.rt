@@ -81,6 +81,7 @@ pub fn run<F: Files, S: Source, O: Sink>(
     ensures asks { AsksAtMost (file.now ∷ []) (F.asked files.old) (F.asked files.new) }
     ensures asked { UnlessMemory result (F.asked files.new ≡ append_name file.now (F.asked files.old)) }
     ensures failed { OnFault result (¬ Rose (F.faults files.old) (F.faults files.new) → ¬ Rose (S.faults input.old) (S.faults input.new) → ¬ Rose (O.faults out.old) (O.faults out.new) → ⊥) }
+    ensures no_fault { UnlessFault result ((F.faults files.new ≡ F.faults files.old) × (S.faults input.new ≡ S.faults input.old) × (O.faults out.new ≡ O.faults out.old)) }
     ensures unread { IfSome (F.told files.old) (λ held. EndsEarly (file_named held file.now) node.now →
         (S.left input.new ≡ S.left input.old) × (S.faults input.new ≡ S.faults input.old)) }
     ensures unread_after_fault { F.faults files.new ≢ F.faults files.old →

@@ -4,12 +4,12 @@ ghost use Rattle.std.specs.Prelude.{◌≡◌, ◌≢◌, [], IfSome, IsOk, List
 ghost use Rattle.srx_edge.specs.Edge.{Rose, emptied};
 ghost use Rattle.srv6_cli.specs.Command.{Compile, Unknown, command_of, words_of, files_of};
 ghost use Rattle.srv6_cli.specs.Early.{AsksAtMost, LeavesInput};
-ghost use Rattle.srv6_cli.specs.Halted.{Commanded, FaultIn, HadMemory};
+ghost use Rattle.srv6_cli.specs.Halted.{Commanded, FaultIn, Calm, HadMemory};
 ghost use Rattle.srv6_cli.specs.Lines.{usage_line};
 ghost use Rattle.srv6_cli.specs.Output.{Output};
 ghost use Rattle.srv6_cli.specs.Answers.{output_of_answer, IsAnswerStatus};
 ghost use Rattle.srv6_cli.specs.Wants.{ServedAs, AskedAs, ReadAs};
-ghost use Rattle.srv6_cli.specs.Served.{Served, Told, OnOutsideFault, UnlessNoMemory, OnDone, UsageAsAsked};
+ghost use Rattle.srv6_cli.specs.Served.{Served, Told, OnOutsideFault, UnlessOutsideFault, UnlessNoMemory, OnDone, UsageAsAsked};
 
 use crate::answer::Answer;
 use crate::halt::Halt;
@@ -24,6 +24,7 @@ use std::alloc::Global;
 /// Writes a command's line on `err`, and answers the status that goes with it.
 fn tell<E: Sink>(err: &mut E, line: &[u8], status: Status) -> Status
     ensures told { Told status line.now result (E.held err.old) (E.held err.new) }
+    ensures no_fault { UnlessOutsideFault result (E.faults err.new ≡ E.faults err.old) }
     ensures failed { OnOutsideFault result (status ≢ Status.OutsideFault → Rose (E.faults err.old) (E.faults err.new)) }
 {
     match write_all(err, line) {
@@ -37,6 +38,7 @@ fn tell<E: Sink>(err: &mut E, line: &[u8], status: Status) -> Status
 #[tactic(auto, unfolding(crate::specs::Lines::usage_line))]
 fn tell_usage<E: Sink>(err: &mut E) -> Status
     ensures told { Told Status.Usage usage_line result (E.held err.old) (E.held err.new) }
+    ensures no_fault { UnlessOutsideFault result (E.faults err.new ≡ E.faults err.old) }
     ensures failed { OnOutsideFault result (Rose (E.faults err.old) (E.faults err.new)) }
     ensures command { UsageAsAsked Unknown result }
 {
@@ -45,6 +47,7 @@ fn tell_usage<E: Sink>(err: &mut E) -> Status
 
 /// Ends a command: its line on `err`, or nothing more where it met a fault.
 fn conclude<E: Sink>(alloc: Global, answer: Result<Vec<u8>, Halt>, err: &mut E) -> Status
+    ensures no_fault { UnlessOutsideFault result (Calm answer (E.faults err.old) (E.faults err.new)) }
     ensures failed { OnOutsideFault result (FaultIn answer (E.faults err.old) (E.faults err.new)) }
     ensures done { OnDone result (IsOk answer) }
     ensures memory { UnlessNoMemory result (HadMemory answer) }
@@ -69,6 +72,7 @@ fn write_answer<O: Sink, E: Sink>(answer: Answer, out: &mut O, err: &mut E) -> S
     ensures served { Served (output_of_answer answer) result (O.held out.old) (O.held out.new) (E.held err.old) (E.held err.new) }
     ensures command { UsageAsAsked (Compile [] []) result }
     ensures refused { result ≢ Status.Refused }
+    ensures no_fault { UnlessOutsideFault result ((O.faults out.new ≡ O.faults out.old) × (E.faults err.new ≡ E.faults err.old)) }
     ensures failed { OnOutsideFault result (¬ Rose (O.faults out.old) (O.faults out.new) → ¬ Rose (E.faults err.old) (E.faults err.new) → ⊥) }
 {
     match write_all(out, answer.written.as_slice()) {
@@ -94,11 +98,14 @@ pub fn serve<F: Files, S: Source, O: Sink, E: Sink>(
         ServedAs (command_of (words_of words.now)) held bytes result (O.held out.old) (O.held out.new) (E.held err.old) (E.held err.new))) }
     ensures usage { UsageAsAsked (command_of (words_of words.now)) result }
 
-    // A fault comes only where a count of faults rose.
+    // A fault comes only where a count of faults rose, and with every other status none changed.
     ensures fault { OnOutsideFault result (¬ Rose (F.faults files.old) (F.faults files.new) → ¬ Rose (S.faults input.old) (S.faults input.new) →
         ¬ Rose (O.faults out.old) (O.faults out.new) → ¬ Rose (E.faults err.old) (E.faults err.new) → ⊥) }
+    ensures no_fault { UnlessOutsideFault result ((F.faults files.new ≡ F.faults files.old) × (S.faults input.new ≡ S.faults input.old) ×
+        (O.faults out.new ≡ O.faults out.old) × (E.faults err.new ≡ E.faults err.old)) }
 
-    // The files that the command names are asked for, in order, each once, and no others.
+    // The files that the command names are asked for, in order, each once, and no others; of `compile`
+    // the intent's only where the description is held and gives a network.
     ensures asks { AsksAtMost (files_of (command_of (words_of words.now))) (F.asked files.old) (F.asked files.new) }
     ensures asked { IfSome (F.told files.old) (λ held. AskedAs (command_of (words_of words.now)) held result (F.asked files.old) (F.asked files.new)) }
 

@@ -1,7 +1,7 @@
 //! `compile` over files in memory: the report and the line of each answer. The only list that
 //! executes each SID once goes by B's End and End.X, D's End and D's End.DT6.
 
-use super::cases::{text_of, words_of};
+use super::cases::{Faults, NONE, Ran, text_of, words_of};
 use super::networks::{CROSS_CONNECT, NESTED, NO_CROSS_CONNECT};
 use crate::{Status, serve};
 use srx_edge::{MemFiles, MemSink, MemSource};
@@ -111,18 +111,18 @@ const CASES: &[Case] = &[
     },
 ];
 
-/// Compiles a case and compares all that comes.
-fn expect(rt: &impl Abort, alloc: Global, case: &Case) -> Result<(), Fail> {
-    let mut files = MemFiles::new(alloc, &[])?;
+/// Compiles a case where these calls fail.
+fn compiled(alloc: Global, case: &Case, faults: &Faults) -> Result<Ran, Fail> {
+    let mut files = MemFiles::new(alloc, &[faults.files])?;
     if !files.holds("net.toml") {
         files.hold("net.toml", text_of(alloc, case.net)?.as_slice())?;
     }
     if !files.holds("intent.toml") {
         files.hold("intent.toml", text_of(alloc, case.intent)?.as_slice())?;
     }
-    let mut source = MemSource::new(alloc, &[], &[])?;
-    let mut out = MemSink::new(alloc, &[])?;
-    let mut err = MemSink::new(alloc, &[])?;
+    let mut source = MemSource::new(alloc, &[], &[faults.input])?;
+    let mut out = MemSink::new(alloc, &[faults.out])?;
+    let mut err = MemSink::new(alloc, &[faults.err])?;
     let words = words_of(alloc, &["compile", "net.toml", "intent.toml"])?;
     let status = serve(
         alloc,
@@ -132,9 +132,34 @@ fn expect(rt: &impl Abort, alloc: Global, case: &Case) -> Result<(), Fail> {
         &mut out,
         &mut err,
     );
-    assert_eq!(rt; err.held(), case.err.as_bytes());
-    assert_eq!(rt; out.held(), case.out.as_bytes());
-    assert_eq!(rt; status, case.status);
+    Ok(Ran {
+        status,
+        out: out.held().to_vec(alloc)?,
+        err: err.held().to_vec(alloc)?,
+    })
+}
+
+/// Compiles a case and compares all that comes.
+fn expect(rt: &impl Abort, alloc: Global, case: &Case) -> Result<(), Fail> {
+    let one = compiled(alloc, case, &NONE)?;
+    assert_eq!(rt; one.err.as_slice(), case.err.as_bytes());
+    assert_eq!(rt; one.out.as_slice(), case.out.as_bytes());
+    assert_eq!(rt; one.status, case.status);
+    Ok(())
+}
+
+/// Compiles a case where a call fails: `out` has all or nothing, and `err` nothing.
+fn expect_fault(
+    rt: &impl Abort,
+    alloc: Global,
+    case: &Case,
+    faults: &Faults,
+    out: &str,
+) -> Result<(), Fail> {
+    let one = compiled(alloc, case, faults)?;
+    assert_eq!(rt; one.err.len(), 0);
+    assert_eq!(rt; one.out.as_slice(), out.as_bytes());
+    assert_eq!(rt; one.status, Status::OutsideFault);
     Ok(())
 }
 
@@ -144,5 +169,39 @@ fn reports(rt: HostRuntime) -> Result<(), Fail> {
     for case in CASES {
         expect(&rt, alloc, case)?;
     }
+    Ok(())
+}
+
+/// A list that needs too great a hop limit, so that both sinks are written.
+const NEEDS_MORE: Case = Case {
+    net: CROSS_CONNECT,
+    intent: &[HEAD, REDUCED, "hop_limit = 4\n", STEPS],
+    out: REPORT,
+    err: "no answer HopLimit 4\n",
+    status: Status::NoAnswer,
+};
+
+// Each file is read by one call, and each sink written by one.
+#[test]
+fn faults(rt: HostRuntime) -> Result<(), Fail> {
+    let alloc = rt.alloc();
+    let whole = &NEEDS_MORE;
+    expect_fault(&rt, alloc, whole, &Faults { files: 1, ..NONE }, "")?;
+    expect_fault(&rt, alloc, whole, &Faults { files: 2, ..NONE }, "")?;
+    expect_fault(&rt, alloc, whole, &Faults { out: 1, ..NONE }, "")?;
+    expect_fault(&rt, alloc, whole, &Faults { err: 1, ..NONE }, REPORT)?;
+    let one = compiled(
+        alloc,
+        whole,
+        &Faults {
+            files: 3,
+            input: 1,
+            out: 2,
+            err: 2,
+        },
+    )?;
+    assert_eq!(rt; one.err.as_slice(), whole.err.as_bytes());
+    assert_eq!(rt; one.out.as_slice(), whole.out.as_bytes());
+    assert_eq!(rt; one.status, whole.status);
     Ok(())
 }

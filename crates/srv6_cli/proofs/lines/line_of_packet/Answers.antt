@@ -1,4 +1,4 @@
-use Rattle.std.proofs.Common.{◌≡◌, ℕ, ◌<◌, ◌^◌, List, [], ◌∷◌, ◌++◌, lit<, rules, ap, refl}
+use Rattle.std.proofs.Common.{◌≡◌, [], ◌∷◌, lit<, rules}
 use Rattle.std.proofs.lemmas.Fmt.{decimal_digit}
 use Rattle.std.specs.Fmt.{decimal}
 use Rattle.srv6_cli.specs.Lines.{ended_text}

@@ -1,5 +1,4 @@
-use Rattle.std.proofs.Common.{◌≡◌, ℕ, ◌++◌, Some, Option, List, sym, ◌∙◌, rules}
-use Rattle.srx_edge.specs.Edge.{Front, append_to}
+use Rattle.std.proofs.Common.{◌++◌}
 use Rattle.srx_edge.proofs.Fronts.{front_whole, front_longer, front_after, append_both}
 use Rattle.srv6_cli.specs.Capture.{capture_head, frames_of}
 use Rattle.srv6_cli.specs.Output.{walk_from, no_choices}

@@ -1,9 +1,8 @@
-use Rattle.std.proofs.Common.{◌≡◌, ℕ, suc, ◌+◌, ◌-◌, ◌<◌, ◌≤◌, Some, None, IfSome, List, length, refl, sym, ◌∙◌, arith, rules, subst, Option}
-use Rattle.srx_edge.specs.Edge.{Front}
+use Rattle.std.proofs.Common.{◌≡◌, ℕ, suc, ◌+◌, ◌-◌, ◌<◌, Some, IfSome, refl, sym, ◌∙◌, arith, subst, Option}
 use Rattle.walk_rules.specs.declared.place.Place.{Place}
 use Rattle.walk_rules.specs.Relation.{IsPlace}
 use Rattle.walk_rules.specs.Treatment.{Gave}
-use Rattle.walk_rules.specs.Walk.{Step, walk_of, choice_at, next_place}
+use Rattle.walk_rules.specs.Walk.{walk_of, choice_at}
 use Rattle.srv6_cli.specs.Capture.{frame_by, frames_of}
 use Rattle.srv6_cli.proofs.Walking.{Progress, progress_none, staged_on, staged_end, staged_front, staged_stop, poured_err}
 use Rattle.srv6_cli.proofs.walk.write_walk.Goals as goal
