@@ -7,9 +7,9 @@ use Rattle.std.proofs.lemmas.Option.{same_Some, cond_some}
 use Rattle.srv6_rules.specs.declared.sid.SidEntry.{SidEntry}
 use Rattle.net_model.specs.declared.parts.Link.{Link}
 use Rattle.net_model.specs.Network.{Network}
-use Rattle.net_model.specs.Rules.{starts_at_node, starts_at, is_link_set}
 use Rattle.net_model.specs.Keeps.{IsLinkSet}
 use Rattle.net_model.proofs.ListLemmas.{passes_among}
+use Rattle.net_model.proofs.KeepsLemmas.{link_set_from}
 use Rattle.intent_reader.specs.declared.intent.Step.{Step}
 use Rattle.intent_reader.specs.declared.intent.Step.TheVariants.{Links, Function}
 use Rattle.intent_reader.specs.Rules.{end_of_link, is_at, ends_at, far_node, first_end, function_node, node_after, stand_after, is_function, ends_in_function}
@@ -37,21 +37,6 @@ last_is_function (t ∷ u ∷ steps) (suc i) h e = last_is_function (u ∷ steps
 
 -- what a step means
 
-starts_from : (node : ℕ) (o : Option Link) → starts_at_node node o ≡ true → (l : Link) × (o ≡ Some l) × (l.from ≡ node)
-starts_from node None h = cc
-starts_from node (Some l) h = (l, refl, eqb-true _ _ h)
-
-is_set : (links : List Link) (node : ℕ) (set : List ℕ) → is_link_set links node set ≡ true → IsLinkSet links node set
-is_set links node set h =
-    let some = and_parts _ _ h in
-    let most = and_parts _ _ some.1 in
-    let each = and_parts _ _ most.1 in
-    record {
-      some = leb-true _ _ some.0;
-      at_most = leb-true _ _ most.0;
-      each = λ n c. starts_from node (slice_get links n) (passes_among (starts_at links node) set n each.1 c);
-    }
-
 end_from : (node : ℕ) (to : Option ℕ) → is_at node to ≡ true → to ≡ Some node
 end_from node None h = cc
 end_from node (Some to) h = ap Some (eqb-true _ _ h)
@@ -66,7 +51,7 @@ links_mean net node set None next h = cc
 links_mean net node set (Some to) next h =
     let kept = cond_some _ to next h in
     let parts = and_parts _ _ kept.0 in
-    let whole : IsLinkSet net.links node set = is_set net.links node set parts.0 in
+    let whole : IsLinkSet net.links node set = link_set_from net.links node set parts.0 in
     let ends : list_all (ends_at net next) set ≡ true = subst (λ n. list_all (ends_at net n) set ≡ true) kept.1 parts.1 in
     (whole, λ link c. leads_from net node next link (whole.each link c) (passes_among (ends_at net next) set link ends c))
 

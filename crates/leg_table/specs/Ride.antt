@@ -39,8 +39,7 @@ abbrev pub ride_on : Option Place → (Place → Option Ride) → Option Ride
 ride_on None ride = None
 ride_on (Some next) ride = ride next
 
--- the ride by the way that a place gives: over links of the first step, all of which end at one node, to that node; or
--- to the SID
+-- the ride over links of the first step, all of which end at one node, from that node on
 abbrev pub ride_over : Network → Place → Step → List ℕ → Bool → (Place → Option Ride) → Option Ride
 ride_over net place t set lower ride =
     if all_in_step t set then option_map (more_lowered lower) (ride_on (arrival (first_end net set) place) ride) else None
@@ -49,6 +48,7 @@ ride_over net place t set lower ride =
 abbrev pub next_over : Network → Place → Step → List ℕ → Option Place
 next_over net place t set = if all_in_step t set then arrival (first_end net set) place else None
 
+-- the ride by the way that a place gives: to the SID that is found there, or over links
 abbrev pub ride_by : Network → Place → List Step → Step → (Place → Option Ride) → Way → Option Ride
 ride_by net place left t ride (Away reason) = None
 ride_by net place left t ride Own = None

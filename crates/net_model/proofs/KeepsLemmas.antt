@@ -11,7 +11,7 @@ use Rattle.net_model.specs.declared.parts.Node.{Node}
 use Rattle.net_model.specs.declared.parts.Link.{Link}
 use Rattle.net_model.specs.declared.parts.Route.{Route}
 use Rattle.net_model.specs.Network.{Network}
-use Rattle.net_model.specs.Rules.{IsNetwork, is_network, is_address, is_prefix, same_bytes, same_prefix, same_node_name, same_node_address, same_link_name, same_route, same_sid, keeps_node, keeps_link, ends_elsewhere, starts_at_node, starts_at, is_link_set, keeps_route, keeps_behaviour, is_title, keeps_sid, has_room, is_name}
+use Rattle.net_model.specs.Rules.{IsNetwork, is_network, is_address, is_prefix, same_bytes, same_prefix, same_node_name, same_node_address, same_link_name, same_route, same_sid, keeps_node, keeps_link, ends_elsewhere, starts_at_node, starts_at, same_number, is_link_set, keeps_route, keeps_behaviour, is_title, keeps_sid, has_room, is_name}
 use Rattle.net_model.specs.Titles.{same_option, same_title}
 use Rattle.net_model.specs.Keeps.{IsLinkSet, EndsElsewhere, SuitsBehaviour, IsTitleOf, KeepsNode, KeepsLink, KeepsRoute, KeepsSid, Keeps}
 use Rattle.net_model.proofs.ListLemmas.{passes_at, passes_among, same_number_of, same_bytes_from}
@@ -28,7 +28,7 @@ starts_from : (node : ℕ) (o : Option Link) → starts_at_node node o ≡ true 
 starts_from node None h = cc
 starts_from node (Some l) h = (l, refl, eqb-true _ _ h)
 
-link_set_from : (links : List Link) (node : ℕ) (set : List ℕ) → is_link_set links node set ≡ true → IsLinkSet links node set
+pub link_set_from : (links : List Link) (node : ℕ) (set : List ℕ) → is_link_set links node set ≡ true → IsLinkSet links node set
 link_set_from links node set h =
     let some = and_parts _ _ h in
     let most = and_parts _ _ some.1 in
@@ -37,6 +37,7 @@ link_set_from links node set h =
       some = leb-true _ _ some.0;
       at_most = leb-true _ _ most.0;
       each = λ n c. starts_from node (slice_get links n) (passes_among (starts_at links node) set n each.1 c);
+      once = λ i j n e f. same_number_of same_number set i j n n each.0 e f (eq-eqb n n refl) (eq-eqb n n refl);
     }
 
 ends_from : (node_count from : ℕ) (to : Option ℕ) → ends_elsewhere node_count from to ≡ true → EndsElsewhere node_count from to

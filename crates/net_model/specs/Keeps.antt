@@ -14,11 +14,12 @@ use Rattle.net_model.specs.Rules.{is_name, is_sid_of}
 abbrev pub StartsAt : List Link → ℕ → ℕ → Type 0
 StartsAt links node n = (l : Link) × (slice_get links n ≡ Some l) × (l.from ≡ node)
 
--- a set of equal next hops: 1 to 64 links of the node
+-- a set of equal next hops: 1 to 64 links of the node, each once
 pub record IsLinkSet (links : List Link) (node : ℕ) (set : List ℕ) : Type 0 where
   pub some : 0 < length set
   pub at_most : length set ≤ 64
   pub each : (n : ℕ) → Contains set n → StartsAt links node n
+  pub once : (i j n : ℕ) → slice_get set i ≡ Some n → slice_get set j ≡ Some n → i ≡ j
 
 -- a link ends at a node that is there and is not its own, or leaves the network
 abbrev pub EndsElsewhere : ℕ → ℕ → Option ℕ → Type 0

@@ -14,7 +14,7 @@ use Rattle.srv6_cli.specs.Compiling.{compile_output, IsAnswer, CompileWants}
 abbrev pub output_of_answer : Answer → Output
 output_of_answer a = record { written = a.written.items; told = a.told.items; status = a.status }
 
--- the answer has a list, or says that there is none within the limits
+-- the answer has a list, or says that there is none or that the one found is outside the limits
 abbrev pub IsAnswerStatus : Status → Type 0
 IsAnswerStatus statuses.Done = ⊤
 IsAnswerStatus statuses.Refused = ⊥

@@ -1,4 +1,4 @@
--- Whether a run ends before its input is read.
+-- Whether a command ends before its input is read, and which files it asks for.
 use Rattle.std.specs.Prelude.{◌≡◌, ℕ, List, [], ◌∷◌, ◌++◌, Option, Some, None, Result, Ok, Err, ⊤}
 use Rattle.net_model.specs.Network.{Network}
 use Rattle.srx_edge.specs.Edge.{append_name}

@@ -1,4 +1,4 @@
--- What the program writes, and with which status it ends, as a function of its words, the files and the input.
+-- What `run` and words that are no command write, and with which status they end, as a function of the files and the input.
 use Rattle.std.specs.Prelude.{ℕ, ◌/◌, Bool, ◌&&◌, ◌==◌, not, nat_lt, if◌then◌else◌, List, [], ◌∷◌, ◌++◌, length, slice_index, Option, Some, None, Result, Ok, Err}
 use Rattle.toml.specs.Data.{Members}
 use Rattle.srv6_rules.specs.declared.sid.Family.TheVariants.{V6}

@@ -18,7 +18,7 @@ pub record IsFront (wanted : Output) (out_old out_new err_old err_new : Option (
   pub err_front : Front wanted.told err_old err_new
   pub in_order : (out_new ≡ append_to wanted.written out_old) ⊎ (err_new ≡ err_old)
 
--- with the two faults a front, with every other status all
+-- with OutsideFault and NoMemory a front, with every other status all
 abbrev pub Served : Output → Status → Option (List ℕ) → Option (List ℕ) → Option (List ℕ) → Option (List ℕ) → Type 0
 Served wanted statuses.Done a b c d = IsWhole wanted statuses.Done a b c d
 Served wanted statuses.Refused a b c d = IsWhole wanted statuses.Refused a b c d
@@ -27,7 +27,8 @@ Served wanted statuses.NoAnswer a b c d = IsWhole wanted statuses.NoAnswer a b c
 Served wanted statuses.OutsideFault a b c d = IsFront wanted a b c d
 Served wanted statuses.NoMemory a b c d = IsFront wanted a b c d
 
--- the line went out whole and the status is the one that goes with it, or a front of it went out and the status is a fault's
+-- the line went out whole and the status is the one that goes with it, or a front of it went out and the status is
+-- OutsideFault or NoMemory
 abbrev pub Told : Status → List ℕ → Status → Option (List ℕ) → Option (List ℕ) → Type 0
 Told status line statuses.Done old new = (status ≡ statuses.Done) × (new ≡ append_to line old)
 Told status line statuses.Refused old new = (status ≡ statuses.Refused) × (new ≡ append_to line old)
@@ -36,7 +37,7 @@ Told status line statuses.NoAnswer old new = (status ≡ statuses.NoAnswer) × (
 Told status line statuses.OutsideFault old new = Front line old new
 Told status line statuses.NoMemory old new = Front line old new
 
--- P, where the status is a fault's
+-- P, where the status is OutsideFault
 abbrev pub OnOutsideFault : Status → Type 0 → Type 0
 OnOutsideFault statuses.Done P = ⊤
 OnOutsideFault statuses.Refused P = ⊤
@@ -45,7 +46,7 @@ OnOutsideFault statuses.NoAnswer P = ⊤
 OnOutsideFault statuses.OutsideFault P = P
 OnOutsideFault statuses.NoMemory P = ⊤
 
--- P, where the status is not a fault's
+-- P, where the status is another than OutsideFault
 abbrev pub UnlessOutsideFault : Status → Type 0 → Type 0
 UnlessOutsideFault statuses.Done P = P
 UnlessOutsideFault statuses.Refused P = P
@@ -63,7 +64,7 @@ UnlessNoMemory statuses.NoAnswer P = P
 UnlessNoMemory statuses.OutsideFault P = P
 UnlessNoMemory statuses.NoMemory P = ⊤
 
--- P, where the status is neither of the two faults
+-- P, where the status is neither OutsideFault nor NoMemory
 abbrev pub OnWhole : Status → Type 0 → Type 0
 OnWhole statuses.Done P = P
 OnWhole statuses.Refused P = P

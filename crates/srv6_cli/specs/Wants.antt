@@ -15,7 +15,7 @@ Wants (Run file name) files input w = w ≡ with_file (file_named files file) (�
 Wants (Compile file intent) files input w = CompileWants (file_named files file) (file_named files intent) w
 Wants Unknown files input w = w ≡ usage_output
 
--- with the two faults each of the two sinks has received a front of such an output, or nothing
+-- with OutsideFault and NoMemory each of the two sinks has received a front of such an output, or nothing
 pub record IsFrontOfSome (command : Command) (files : List (List ℕ × List ℕ)) (input : List ℕ) (out_old out_new err_old err_new : Option (List ℕ)) : Type 0 where
   pub some : Output
   pub wanted : ((some.written ≡ []) × (some.told ≡ [])) ⊎ Wants command files input some
@@ -36,7 +36,7 @@ ServedAs command files input statuses.OutsideFault a b c d = IsFrontOfSome comma
 ServedAs command files input statuses.NoMemory a b c d = IsFrontOfSome command files input a b c d
 
 -- the names asked for: of `run` the description, unless memory wants; of `compile` the description, and then the intent where
--- the description is held and gives a network, and with a fault or want of memory a front of these
+-- the description is held and gives a network, and with OutsideFault and NoMemory a front of these
 abbrev pub AskedAs : Command → List (List ℕ × List ℕ) → Status → Option (List (List ℕ)) → Option (List (List ℕ)) → Type 0
 AskedAs (Run file name) files status old new = UnlessNoMemory status (new ≡ append_names (file ∷ []) old)
 AskedAs (Compile file intent) files status old new =

@@ -3,11 +3,11 @@
 pub enum Status {
     /// The command's output was written whole, and what it reads from the input was read to its end.
     Done = 0,
-    /// A file, the input or a node's name is outside its grammar or limit.
+    /// A file, the input or a node's name is outside its grammar or limit, or the network isn't flat for `compile`.
     Refused = 1,
     /// The words are no command.
     Usage = 2,
-    /// `compile` has no list, or none within the intent's limits.
+    /// `compile` has no list, or the list that it found is outside the intent's limits.
     NoAnswer = 3,
     /// A fault of the files, the input or a sink.
     OutsideFault = 5,

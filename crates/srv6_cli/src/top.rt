@@ -92,8 +92,9 @@ pub fn serve<F: Files, S: Source, O: Sink, E: Sink>(
     out: &mut O,
     err: &mut E,
 ) -> Status
-    // With every status but the two faults the output and the status are those that are wanted; with
-    // the two faults each sink has received a front.
+    // With every status but OutsideFault and NoMemory the output and the status are those that are
+    // wanted of what the files and the input tell; with these two each sink has received a front, and
+    // `err` something only where `out` has received all.
     ensures served { IfSome (F.told files.old) (λ held. IfSome (S.left input.old) (λ bytes.
         ServedAs (command_of (words_of words.now)) held bytes result (O.held out.old) (O.held out.new) (E.held err.old) (E.held err.new))) }
     ensures usage { UsageAsAsked (command_of (words_of words.now)) result }

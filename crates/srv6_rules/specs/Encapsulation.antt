@@ -21,7 +21,7 @@ pub record Encapsulation : Type 0 where
 abbrev pub segment_list : Encapsulation → List ℕ
 segment_list e = reverse (if e.reduced then drop 1 e.segments else e.segments)
 
--- the reduced form of one segment has no segment routing header (RFC 8986 section 5.2)
+-- the reduced form of one segment has no segment routing header (own rule; RFC 8986 section 5.2 lets it be left out)
 abbrev pub has_segment_routing : Encapsulation → Bool
 has_segment_routing e = not e.reduced || nat_lt 1 (length e.segments)
 

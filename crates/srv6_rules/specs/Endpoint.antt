@@ -73,7 +73,7 @@ abbrev pub at_sid : Behaviour → List ℕ → Packet → Endpoint
 at_sid b allow p = processed_at_sid b allow p (processed_of p)
 
 -- a packet at the node's own address: the reason for which it is dropped, or none where its upper layer takes it; every
--- upper layer is taken, and a routing header with segments left is unknown
+-- upper layer is taken, and a segment routing header with segments left is unknown
 abbrev pub refused_at_address : Processed → Option Reason
 refused_at_address (AtHeader h) = Some (if is_segment_routing h then reasons.UnknownRouting else reasons.NotBuilt)
 refused_at_address (AtUpper kind at) = None

@@ -51,7 +51,7 @@ address_number bytes = big_number 16 bytes
 unfoldable pub first_word : ℕ → ℕ → ℕ
 first_word traffic_class flow_label = 6 * 2 ^ 28 + traffic_class * 2 ^ 20 + flow_label
 
--- the header of a packet whose payload has this length
+-- the bytes of a packet's header; its payload length is the payload's (RFC 8200 section 3)
 unfoldable pub header_spelling : Packet → List ℕ
 header_spelling p =
     four_bytes (first_word p.traffic_class p.flow_label) ++ (two_bytes (length p.payload) ++ (p.next_header ∷ p.hop_limit ∷ (address_bytes p.source ++ address_bytes p.destination)))

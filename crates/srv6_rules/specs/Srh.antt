@@ -2,7 +2,7 @@
 use Rattle.std.specs.Prelude.{◌≡◌, ℕ, ◌+◌, ◌*◌, ◌/◌, ◌^◌, ◌<◌, List, ◌∷◌, ◌++◌, length, take, drop, slice_index, All}
 use Rattle.srv6_rules.specs.Packet.{two_bytes, two_number, address_number}
 
--- extension_len counts 8-byte units behind the first 8 bytes, of which the body has as many bytes as they have
+-- extension_len counts the 8-byte units behind the first 8 bytes; they are the body
 pub record Srh : Type 0 where
   pub next_header : ℕ
   pub extension_len : ℕ
@@ -52,6 +52,6 @@ entries_of s = s.extension_len / 2
 abbrev pub entry_of : Srh → ℕ → ℕ
 entry_of s i = address_number (drop (16 * i) s.body)
 
--- the bytes between the last entry and the header's end
+-- the bytes between the entry at Last Entry and the header's end; none where that entry isn't there
 abbrev pub tlv_bytes : Srh → List ℕ
 tlv_bytes s = drop (16 * (s.last_entry + 1)) s.body

@@ -43,7 +43,7 @@ pub enum Reason {
     BadChain,
     /// Segments Left or Last Entry is out of range.
     BadSegments,
-    /// A routing header with segments left, at the node's own address.
+    /// A segment routing header with segments left, at the node's own address.
     UnknownRouting,
     /// An upper layer that the node does not allow at a SID.
     UpperLayer,

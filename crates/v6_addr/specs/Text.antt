@@ -1,4 +1,5 @@
--- The texts of addresses and prefixes: what is read (RFC 4291 sections 2.2 and 2.3) and what is written (RFC 5952 section 4).
+-- The texts of addresses and prefixes: what is read (RFC 4291 sections 2.2 and 2.3, without a dotted IPv4 tail, leading zeros
+-- of a length or bits set behind it, own rules) and what is written (RFC 5952 section 4).
 -- A text is a list of bytes: 58 is the colon, 47 the slash
 use Rattle.std.specs.Prelude.{ℕ, suc, ◌+◌, ◌-◌, ◌*◌, ◌/◌, ◌%◌, ◌^◌, ◌==◌, ◌&&◌, not, nat_lt, nat_le, if◌then◌else◌, List, [], ◌∷◌, ◌++◌, length, take, drop, replicate, map, fold, Option, Some, None, option_map, option_and_then, slice_index}
 use Rattle.std.specs.Char.{is_digit, digit_char}

@@ -3,8 +3,8 @@ ghost use Rattle.v6_addr.specs.Address.{PrefixValue, IsPrefix, Holds, holds_addr
 ghost use Rattle.v6_addr.specs.Text.{address_of_text, prefix_of_text, address_text, prefix_text, longest_run};
 ghost use Rattle.v6_addr.specs.Grammar.{IsAddressText, IsPrefixText, IsLongestRun};
 
-/// A law: an address's text is read exactly where the grammar of RFC 4291 section 2.2 has it, and so as one address
-/// at most.
+/// A law: an address's text is read exactly where the grammar of RFC 4291 section 2.2 without a dotted IPv4 tail has
+/// it, and so as one address at most.
 pub fn address_grammar()
     ensures { (text : List ℕ) (a : ℕ) → (address_of_text text ≡ Some a) ↔ IsAddressText text a }
 {}
@@ -21,8 +21,8 @@ pub fn address_reads_back()
     ensures len { (a : ℕ) → length (address_text a) ≤ 39 }
 {}
 
-/// A law: a prefix's text is read exactly where the grammar of RFC 4291 section 2.3 has it, and so as one prefix at
-/// most.
+/// A law: a prefix's text is read exactly where the grammar of RFC 4291 section 2.3 has it with no bit set behind its
+/// length and no leading zeros (own rules), and so as one prefix at most.
 pub fn prefix_grammar()
     ensures { (text : List ℕ) (p : PrefixValue) → (prefix_of_text text ≡ Some p) ↔ IsPrefixText text p }
 {}
