@@ -12,8 +12,9 @@ use Rattle.net_model.specs.declared.net.Hit.{Hit}
 use Rattle.net_model.specs.declared.net.Hit.TheVariants as hits
 use Rattle.net_model.specs.Network.{Network}
 use Rattle.net_model.specs.Best.{lookup_of}
-use Rattle.net_model.specs.Keeps.{Keeps}
+use Rattle.net_model.specs.Keeps.{Keeps, IsLinkSet}
 use Rattle.net_model.specs.Rules.{is_link_set}
+use Rattle.net_model.proofs.KeepsLemmas.{link_set_from}
 use Rattle.walk_rules.specs.declared.place.How.{How}
 use Rattle.walk_rules.specs.declared.place.How.TheVariants.{Arrived, Submitted, Through}
 use Rattle.walk_rules.specs.declared.place.Place.{Place}
@@ -123,4 +124,16 @@ step_opens net node step ts h = by_end (first_end net step) h
             × ((if s && t then Some to else None) ≡ Some at)
         by_test true true e h = (to, e, h, refl)
         by_test true false e h = absurd (false≢true h)
+        by_test false t e h = absurd (false≢true h)
+
+-- the links of a step that starts at a node are a set of its links
+pub step_links : (net : Network) (node : ℕ) (step : Step) (set : List ℕ) → is_some (node_after net node step) ≡ true → step ≡ Links set → IsLinkSet net.links node set
+step_links net node step set h e = by_end (first_end net set) (subst (λ (s : Step). is_some (node_after net node s) ≡ true) e h)
+  where
+    by_end : (o : Option ℕ) → is_some (far_node net node set o) ≡ true → IsLinkSet net.links node set
+    by_end None h = absurd (false≢true h)
+    by_end (Some to) h = by_test (is_link_set net.links node set) (list_all (ends_at net to) set) refl h
+      where
+        by_test : (s t : Bool) → is_link_set net.links node set ≡ s → is_some (if s && t then Some to else None) ≡ true → IsLinkSet net.links node set
+        by_test true t e h = link_set_from net.links node set e
         by_test false t e h = absurd (false≢true h)
