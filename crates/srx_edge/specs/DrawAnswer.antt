@@ -1,5 +1,5 @@
 -- What `draw` answers, by cases.
-use Rattle.std.specs.Prelude.{◌≡◌, ℕ, ◌<◌, ◌≤◌, List, length, ⊤, Option, Result, Ok, Err}
+use Rattle.std.specs.Prelude.{◌≡◌, ℕ, ◌+◌, ◌≤◌, List, length, ⊤, Option, Result, Ok, Err}
 use Rattle.srx_edge.specs.Edge.{prepend_to}
 use Rattle.srx_edge.specs.declared.input.DrawFault.{DrawFault}
 use Rattle.srx_edge.specs.declared.input.DrawFault.TheVariants.{Failed, TooBig, NoMemory}
@@ -25,11 +25,11 @@ IfDrawTooBig (Err Failed) P = ⊤
 IfDrawTooBig (Err (TooBig limit)) P = P limit
 IfDrawTooBig (Err NoMemory) P = ⊤
 
--- so many bytes were taken: more than the limit where the answer is TooBig, else at most the limit
+-- so many bytes were taken: one more than the limit where the answer is TooBig, else at most the limit
 abbrev pub FitsLimit : {T : Type 0} → Result T DrawFault → ℕ → ℕ → Type 0
 FitsLimit (Ok bytes) limit count = count ≤ limit
 FitsLimit (Err Failed) limit count = count ≤ limit
-FitsLimit (Err (TooBig most)) limit count = limit < count
+FitsLimit (Err (TooBig most)) limit count = count ≡ limit + 1
 FitsLimit (Err NoMemory) limit count = count ≤ limit
 
 -- the bytes that a call took: they and what is left make up what was left

@@ -1,5 +1,5 @@
 -- What a write to a sink answers, by cases.
-use Rattle.std.specs.Prelude.{⊤, Result, Ok, Err}
+use Rattle.std.specs.Prelude.{◌==◌, ℕ, Bool, true, ⊤, Result, Ok, Err, if◌then◌else◌}
 use Rattle.srx_edge.specs.declared.output.SinkFault.{SinkFault}
 use Rattle.srx_edge.specs.declared.output.SinkFault.TheVariants.{Failed, NoMemory}
 
@@ -14,3 +14,10 @@ abbrev pub OnWriteNoMemory : {T : Type 0} → Result T SinkFault → Type 0 → 
 OnWriteNoMemory (Ok value) P = ⊤
 OnWriteNoMemory (Err Failed) P = ⊤
 OnWriteNoMemory (Err NoMemory) P = P
+
+-- whether the sink is stopped after a write of a piece of so many bytes: a fault stops it, and so does
+-- a write that takes none of them; an empty piece and want of memory leave it as it was
+abbrev pub stopped_after : Result ℕ SinkFault → ℕ → Bool → Bool
+stopped_after (Ok count) size stopped = if size == 0 then stopped else count == 0
+stopped_after (Err Failed) size stopped = true
+stopped_after (Err NoMemory) size stopped = stopped

@@ -1,5 +1,5 @@
 -- What a write to a sink in memory does.
-use Rattle.std.specs.Prelude.{◌≡◌, ◌==◌, ℕ, ◌<◌, ◌++◌, List, length, Contains, Result, Ok, Err, if◌then◌else◌}
+use Rattle.std.specs.Prelude.{◌≡◌, ◌==◌, ℕ, true, false, ◌<◌, ◌++◌, List, length, Contains, Result, Ok, Err, if◌then◌else◌}
 use Rattle.srx_edge.specs.Edge.{next_count}
 use Rattle.srx_edge.specs.Fakes.{SinkState}
 use Rattle.srx_edge.specs.declared.output.SinkFault.{SinkFault}
@@ -11,11 +11,11 @@ FailsNext sink = Contains sink.fails (next_count sink.calls)
 
 -- the sink after a write of all of the piece; one of an empty piece isn't counted
 abbrev pub after_write : List ℕ → SinkState → SinkState
-after_write piece sink = if length piece == 0 then sink else record sink { held = sink.held ++ piece; calls = next_count sink.calls }
+after_write piece sink = if length piece == 0 then sink else record sink { held = sink.held ++ piece; calls = next_count sink.calls; stopped = false }
 
 -- the sink after a write that failed
 abbrev pub after_fault : SinkState → SinkState
-after_fault sink = record sink { calls = next_count sink.calls; faults = next_count sink.faults }
+after_fault sink = record sink { calls = next_count sink.calls; faults = next_count sink.faults; stopped = true }
 
 -- a write takes the whole piece, unless it is one of those that fail, or memory is wanting
 abbrev pub Writes : List ℕ → Result ℕ SinkFault → SinkState → SinkState → Type 0

@@ -1,6 +1,6 @@
 //! Files that are read whole, by name.
 ghost use Rattle.std.specs.Prelude.{◌≡◌, ◌≤◌, ◌<◌, ℕ, Bool, false, List, Option, None, Some, IfOk, IfSome, IsTrue, IsSomeAnd, length, vec_len};
-ghost use Rattle.srx_edge.specs.Edge.{Rose, file_named};
+ghost use Rattle.srx_edge.specs.Edge.{Rose, next_count, file_named};
 ghost use Rattle.srx_edge.specs.FileAnswer.{OnFileFailed, UnlessFileFailed, IfFileTooBig, asked_after};
 
 use std::alloc::Global;
@@ -31,8 +31,8 @@ pub trait Files {
     ghost sure: { Self → Bool } = { λ _. false };
 
     /// The bytes of the file of this name, at most `limit` of them. TooBig comes exactly where the
-    /// file has more and the answer isn't another fault, Failed only where the count of faults rose.
-    /// A call that answers NoMemory isn't counted among those that asked.
+    /// file has more and the answer isn't another fault, Failed only where the count of faults rose,
+    /// by one. A call that answers NoMemory isn't counted among those that asked.
     fn read(&mut self, alloc: Global, name: &str, limit: usize) -> Result<Vec<u8>, FileFault>
         ensures within { IfOk result (λ bytes. vec_len bytes ≤ limit) }
         ensures content { IfOk result (λ bytes. IfSome (told self.old) (λ files.
@@ -43,6 +43,7 @@ pub trait Files {
             IsSomeAnd (file_named files name.now) (λ bytes. limit < length bytes))) }
 
         ensures failed { OnFileFailed result (Rose (faults self.old) (faults self.new)) }
+        ensures once { OnFileFailed result (faults self.new ≡ next_count (faults self.old)) }
         ensures no_fault { UnlessFileFailed result (faults self.new ≡ faults self.old) }
         ensures never_falls { faults self.old ≤ faults self.new }
         ensures surely { OnFileFailed result (IsTrue (sure self.old) → IfSome (told self.old) (λ files.

@@ -1,7 +1,8 @@
 //! What gives bytes, in pieces.
-ghost use Rattle.std.specs.Prelude.{◌≡◌, ◌≤◌, ◌<◌, ℕ, List, Option, Ok, IfOk, IfSome, OnOk, OnErr, take, drop, length, vec_len};
+ghost use Rattle.std.specs.Prelude.{◌≡◌, ◌≤◌, ◌<◌, ℕ, Bool, List, Option, Ok, IfOk, IfSome, IsTrue, OnOk, OnErr, take, drop, length, vec_len};
 ghost use Rattle.std.specs.Io.KnownBytes.{IsAtEnd};
-ghost use Rattle.srx_edge.specs.Edge.{Rose, prepend_to, emptied};
+ghost use Rattle.srx_edge.specs.Edge.{Rose, next_count, prepend_to, emptied};
+ghost use Rattle.srx_edge.specs.SourceAnswer.{stopped_after};
 ghost use Rattle.srx_edge.specs.DrawAnswer.{OnDrawFailed, UnlessDrawFailed, IfDrawTooBig, Taken};
 
 use std::alloc::Global;
@@ -18,9 +19,13 @@ pub trait Source {
     /// How many reads have failed. It stands still at 2^64 - 1.
     ghost faults: { Self → ℕ };
 
+    /// Whether the last read into a slice that isn't empty failed.
+    ghost stopped: { Self → Bool };
+
     /// Takes the first bytes of what is left, puts them at the front of the slice, and says how
     /// many they are. The rest of the slice stays. 0 is the end, unless the slice is empty: then
-    /// nothing changes. A read that fails takes and gives nothing, and the count of faults rose.
+    /// nothing changes. A read that fails takes and gives nothing, and is one fault, after which the
+    /// source is stopped until a read passes.
     fn read(&mut self, into: &mut [u8]) -> Result<usize, Failed>
         ensures within { IfOk result (λ count. count ≤ length into.old) }
         ensures taken { IfOk result (λ count.
@@ -31,9 +36,10 @@ pub trait Source {
 
         ensures left { OnErr result (left self.new ≡ left self.old) }
         ensures slice { OnErr result (into.new ≡ into.old) }
-        ensures failed { OnErr result (Rose (faults self.old) (faults self.new)) }
+        ensures failed { OnErr result (faults self.new ≡ next_count (faults self.old)) }
         ensures no_fault { OnOk result (faults self.new ≡ faults self.old) }
-        ensures never_falls { faults self.old ≤ faults self.new };
+        ensures never_falls { faults self.old ≤ faults self.new }
+        ensures stopped { stopped self.new ≡ stopped_after result (length into.old) (stopped self.old) };
 }
 
 /// Why a source was not drawn to its end. (own rule)
@@ -49,8 +55,9 @@ pub enum DrawFault {
 
 const PIECE: usize = 4096;
 
-/// Takes all that is left, at most `limit` bytes. TooBig comes exactly where more than `limit`
-/// bytes were taken, Failed only where the source's count of faults rose. After a refusal the
+/// Takes all that is left, at most `limit` bytes. TooBig comes exactly where one byte more than
+/// `limit` was taken, Failed only where the source's count of faults rose. No fault is followed by
+/// another read: after Failed the source has one fault more and is stopped. After a refusal the
 /// bytes that were taken stay taken. (own rule)
 pub fn draw<S: Source>(alloc: Global, source: &mut S, limit: usize) -> Result<Vec<u8>, DrawFault>
     ensures all { IfOk result (λ bytes. IfSome (S.left source.old) (λ input. bytes.items ≡ input)) }
@@ -63,6 +70,8 @@ pub fn draw<S: Source>(alloc: Global, source: &mut S, limit: usize) -> Result<Ve
         limit < length input)) }
 
     ensures failed { OnDrawFailed result (Rose (S.faults source.old) (S.faults source.new)) }
+    ensures stops { OnDrawFailed result ((S.faults source.new ≡ next_count (S.faults source.old))
+        × IsTrue (S.stopped source.new)) }
     ensures no_fault { UnlessDrawFailed result (S.faults source.new ≡ S.faults source.old) }
     ensures never_falls { S.faults source.old ≤ S.faults source.new }
 {

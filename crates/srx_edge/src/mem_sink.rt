@@ -1,5 +1,5 @@
 //! A sink in memory whose writes fail where they are told to.
-ghost use Rattle.std.specs.Prelude.{◌≡◌, ◌≤◌, ◌<◌, [], Some, Ok, IfOk, OnErr, take, length};
+ghost use Rattle.std.specs.Prelude.{◌≡◌, ◌≤◌, ◌<◌, false, [], Some, Ok, IfOk, OnErr, take, length};
 ghost use Rattle.srx_edge.specs.Edge.{Rose, append_to};
 ghost use Rattle.srx_edge.specs.SinkAnswer.{OnWriteFailed, OnWriteNoMemory};
 ghost use Rattle.srx_edge.specs.SinkFake.{Writes};
@@ -16,6 +16,7 @@ use std::marker::Model;
 pub struct MemSink {
     bytes: Vec<u8>,
     plan: Plan,
+    stopped: bool,
 }
 
 impl Model for MemSink {
@@ -23,17 +24,19 @@ impl Model for MemSink {
 
     ghost Value = { SinkState };
 
-    ghost view = { λ s. record { held = s.bytes.items; fails = s.plan.fails.items; calls = s.plan.calls; faults = s.plan.faults } };
+    ghost view = { λ s. record { held = s.bytes.items; fails = s.plan.fails.items; calls = s.plan.calls; faults = s.plan.faults; stopped = s.stopped } };
 }
 
 impl MemSink {
     /// An empty sink. `fails` has the numbers of the writes that fail, counted from 1.
     pub fn new(alloc: Global, fails: &[u64]) -> Result<MemSink, NoMemory>
-        ensures { IfOk result (λ sink. sink ≡ record { held = []; fails = fails.now; calls = 0; faults = 0 }) }
+        ensures { IfOk result (λ sink. sink
+            ≡ record { held = []; fails = fails.now; calls = 0; faults = 0; stopped = false }) }
     {
         Ok(MemSink {
             bytes: Vec::new(alloc),
             plan: Plan::new(alloc, fails)?,
+            stopped: false,
         })
     }
 
@@ -50,6 +53,8 @@ impl Sink for MemSink {
 
     ghost faults = { λ s. s.faults };
 
+    ghost stopped = { λ s. s.stopped };
+
     fn write(&mut self, piece: &[u8]) -> Result<usize, SinkFault>
         ensures { Writes piece.now result self.old self.new }
     {
@@ -58,12 +63,14 @@ impl Sink for MemSink {
         }
         if self.plan.fails_next() {
             self.plan.fail();
+            self.stopped = true;
             return Err(SinkFault::Failed);
         }
         if self.bytes.extend_from_slice(piece).is_err() {
             return Err(SinkFault::NoMemory);
         }
         self.plan.pass();
+        self.stopped = false;
         Ok(piece.len())
     }
 }

@@ -1,5 +1,5 @@
 //! A source in memory whose reads fail where they are told to.
-ghost use Rattle.std.specs.Prelude.{◌≡◌, Some, IfOk};
+ghost use Rattle.std.specs.Prelude.{◌≡◌, false, Some, IfOk};
 ghost use Rattle.srx_edge.specs.SourceFake.{Reads};
 
 use crate::input::{Failed, Source};
@@ -15,6 +15,7 @@ use std::marker::Model;
 pub struct MemSource {
     rest: Rest,
     plan: Plan,
+    stopped: bool,
 }
 
 impl Model for MemSource {
@@ -22,7 +23,7 @@ impl Model for MemSource {
 
     ghost Value = { SourceState };
 
-    ghost view = { λ s. record { left = s.rest; fails = s.plan.fails.items; calls = s.plan.calls; faults = s.plan.faults } };
+    ghost view = { λ s. record { left = s.rest; fails = s.plan.fails.items; calls = s.plan.calls; faults = s.plan.faults; stopped = s.stopped } };
 }
 
 impl MemSource {
@@ -30,11 +31,12 @@ impl MemSource {
     /// from 1.
     pub fn new(alloc: Global, bytes: &[u8], fails: &[u64]) -> Result<MemSource, NoMemory>
         ensures { IfOk result (λ source. source
-            ≡ record { left = bytes.now; fails = fails.now; calls = 0; faults = 0 }) }
+            ≡ record { left = bytes.now; fails = fails.now; calls = 0; faults = 0; stopped = false }) }
     {
         Ok(MemSource {
             rest: Rest::new(alloc, bytes)?,
             plan: Plan::new(alloc, fails)?,
+            stopped: false,
         })
     }
 }
@@ -44,6 +46,8 @@ impl Source for MemSource {
 
     ghost faults = { λ s. s.faults };
 
+    ghost stopped = { λ s. s.stopped };
+
     fn read(&mut self, into: &mut [u8]) -> Result<usize, Failed>
         ensures { Reads result into.old into.new self.old self.new }
     {
@@ -52,9 +56,11 @@ impl Source for MemSource {
         }
         if self.plan.fails_next() {
             self.plan.fail();
+            self.stopped = true;
             return Err(Failed);
         }
         self.plan.pass();
+        self.stopped = false;
         Ok(self.rest.take_into(into))
     }
 }

@@ -1,5 +1,5 @@
 //! A sink in memory that never fails.
-ghost use Rattle.std.specs.Prelude.{◌≡◌, ◌++◌, ℕ, [], Some, IfOk, length};
+ghost use Rattle.std.specs.Prelude.{◌≡◌, ◌++◌, ℕ, false, [], Some, IfOk, length};
 ghost use Rattle.srx_edge.specs.SinkFake.{SurelyWrites};
 
 use crate::no_memory::NoMemory;
@@ -7,8 +7,8 @@ use crate::output::{Sink, SinkFault};
 use std::alloc::Global;
 use std::marker::Model;
 
-/// A sink in memory that never answers Failed; its count of faults is 0. A write may answer
-/// NoMemory. (own rule)
+/// A sink in memory that never answers Failed; its count of faults is 0, and it is never
+/// stopped. A write may answer NoMemory. (own rule)
 #[derive(Drop)]
 pub struct SureSink {
     bytes: Vec<u8>,
@@ -44,6 +44,8 @@ impl Sink for SureSink {
     ghost held = { λ s. Some s };
 
     ghost faults = { λ _. 0 };
+
+    ghost stopped = { λ _. false };
 
     fn write(&mut self, piece: &[u8]) -> Result<usize, SinkFault>
         ensures { SurelyWrites piece.now result self.old self.new }

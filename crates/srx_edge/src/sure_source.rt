@@ -1,5 +1,5 @@
 //! A source in memory that never fails.
-ghost use Rattle.std.specs.Prelude.{◌≡◌, ◌++◌, Some, Ok, IfOk, IsOkAnd, length, min, take, drop};
+ghost use Rattle.std.specs.Prelude.{◌≡◌, ◌++◌, false, Some, Ok, IfOk, IsOkAnd, length, min, take, drop};
 
 use crate::input::{Failed, Source};
 use crate::no_memory::NoMemory;
@@ -7,7 +7,8 @@ use crate::rest::Rest;
 use std::alloc::Global;
 use std::marker::Model;
 
-/// A source in memory that never fails; its count of faults is 0. (own rule)
+/// A source in memory that never fails; its count of faults is 0, and it is never
+/// stopped. (own rule)
 #[derive(Drop)]
 pub struct SureSource {
     rest: Rest,
@@ -36,6 +37,8 @@ impl Source for SureSource {
     ghost left = { λ s. Some s };
 
     ghost faults = { λ _. 0 };
+
+    ghost stopped = { λ _. false };
 
     fn read(&mut self, into: &mut [u8]) -> Result<usize, Failed>
         ensures count { result ≡ Ok (min (length into.old) (length self.old)) }
