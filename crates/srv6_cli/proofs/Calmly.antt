@@ -1,12 +1,12 @@
--- No count rises with a status that is not a fault's.
+-- No count rises with a status other than OutsideFault, and nothing is told where one rose.
 use Rattle.std.proofs.Common.{◌≡◌, ℕ, Result, Ok, Err, Vec, Global}
 use Rattle.srv6_cli.specs.declared.answer.Answer.{Answer}
 use Rattle.srv6_cli.specs.declared.halt.Halt.{Halt}
 use Rattle.srv6_cli.specs.declared.halt.Halt.TheVariants as halts
 use Rattle.srv6_cli.specs.declared.status.Status.{Status}
 use Rattle.srv6_cli.specs.declared.status.Status.TheVariants as statuses
-use Rattle.srv6_cli.specs.Halted.{UnlessFault, Calm}
-use Rattle.srv6_cli.specs.Served.{UnlessOutsideFault}
+use Rattle.srv6_cli.specs.Halted.{UnlessFault, OnFault, Calm}
+use Rattle.srv6_cli.specs.Served.{OnOutsideFault, UnlessOutsideFault}
 
 calmly-map : (status : Status) (P Q : Type 0) → (P → Q) → UnlessOutsideFault status P → UnlessOutsideFault status Q
 calmly-map statuses.Done P Q f p = f p
@@ -44,3 +44,40 @@ answer_calmly status A B C D a b p = calmly-map status (C × D) (A × B × C × 
 -- of words that are no command
 pub usage_calmly : (status : Status) (A B C D : Type 0) → A → B → C → UnlessOutsideFault status D → UnlessOutsideFault status (A × B × C × D)
 usage_calmly status A B C D a b c p = calmly-map status D (A × B × C × D) (λ d. (a, b, c, d)) p
+
+-- a count changed, so the answer is a fault
+
+fault-of : {X : Type 0} (answer : Result X Halt) (Same Silent : Type 0) → UnlessFault answer Same → OnFault answer Silent → ¬ Same → Silent
+fault-of (Ok x) Same Silent same silent changed = absurd (changed same)
+fault-of (Err (halts.Refused refusal)) Same Silent same silent changed = absurd (changed same)
+fault-of (Err halts.Fault) Same Silent same silent changed = silent
+fault-of (Err halts.NoMemory) Same Silent same silent changed = absurd (changed same)
+
+pub file_silent : (answer : Result (Vec ℕ Global) Halt) (A B C Silent : Type 0) → UnlessFault answer (A × B × C) → OnFault answer Silent → ¬ A → Silent
+file_silent answer A B C Silent same silent changed = fault-of answer (A × B × C) Silent same silent (λ all. changed all.0)
+
+pub input_silent : (answer : Result (Vec ℕ Global) Halt) (A B C Silent : Type 0) → UnlessFault answer (A × B × C) → OnFault answer Silent → ¬ B → Silent
+input_silent answer A B C Silent same silent changed = fault-of answer (A × B × C) Silent same silent (λ all. changed all.1)
+
+pub out_silent : (answer : Result (Vec ℕ Global) Halt) (A B C Silent : Type 0) → UnlessFault answer (A × B × C) → OnFault answer Silent → ¬ C → Silent
+out_silent answer A B C Silent same silent changed = fault-of answer (A × B × C) Silent same silent (λ all. changed all.2)
+
+pub halt_silent : (halt : Halt) (Same Silent : Type 0) → UnlessFault {X = Answer} (Err halt) Same → OnFault {X = Vec ℕ Global} (Err halt) Silent → ¬ Same → Silent
+halt_silent (halts.Refused refusal) Same Silent same silent changed = absurd (changed same)
+halt_silent halts.Fault Same Silent same silent changed = silent
+halt_silent halts.NoMemory Same Silent same silent changed = absurd (changed same)
+
+pub three_more : {A B C D : Type 0} → A × B × C → D → A × B × C × D
+three_more p d = (p.0, p.1, p.2, d)
+
+pub two_more : {A B D : Type 0} → A × B → D → A × B × D
+two_more p d = (p.0, p.1, d)
+
+-- a fault of `out` or `err` is one of the four
+pub answer_fault : (status : Status) (A B C D : Type 0) → OnOutsideFault status (¬ C → ¬ D → ⊥) → OnOutsideFault status (¬ A → ¬ B → ¬ C → ¬ D → ⊥)
+answer_fault statuses.Done A B C D f = tt
+answer_fault statuses.Refused A B C D f = tt
+answer_fault statuses.Usage A B C D f = tt
+answer_fault statuses.NoAnswer A B C D f = tt
+answer_fault statuses.OutsideFault A B C D f = λ a b c d. f c d
+answer_fault statuses.NoMemory A B C D f = tt

@@ -7,7 +7,7 @@ use Rattle.srv6_cli.specs.declared.status.Status.{Status}
 use Rattle.srv6_cli.specs.declared.status.Status.TheVariants as statuses
 use Rattle.srv6_cli.specs.Lines.{refusal_line, usage_line}
 use Rattle.srv6_cli.specs.Output.{Output, refused, usage_output, with_file, run_output}
-use Rattle.srv6_cli.specs.Wants.{Wants, ServedAs}
+use Rattle.srv6_cli.specs.Wants.{Wants, ServedAs, ServedWhere}
 use Rattle.srv6_cli.specs.Answers.{output_of_answer, CompileAnswered}
 use Rattle.srv6_cli.specs.declared.answer.Answer.{Answer}
 use Rattle.srx_edge.specs.Edge.{file_named}
@@ -110,41 +110,32 @@ pub run_served : (told : Option (List (List ℕ × List ℕ))) (left : Option (L
     → Run file name ≡ command
     → IfSome told (λ held. IfSome left (λ bytes. Commanded answer (with_file (file_named held file) (λ text. run_output text name bytes)) a b))
     → ((w : Output) (x y : Option (List ℕ)) → Commanded answer w x y → Served w status x y c d)
-    → IfSome told (λ held. IfSome left (λ bytes. ServedAs command held bytes status a b c d))
+    → ServedWhere command told left status a b c d
 run_served told left command file name answer status a b c d is commanded served =
-    subst (λ (k : Command). IfSome told (λ held. IfSome left (λ bytes. ServedAs k held bytes status a b c d))) is
+    subst (λ (k : Command). ServedWhere k told left status a b c d) is
     (both told left (λ held bytes. Commanded answer (with_file (file_named held file) (λ text. run_output text name bytes)) a b) (λ held bytes. ServedAs (Run file name) held bytes status a b c d)
     (λ held bytes h. served_as (Run file name) held bytes (with_file (file_named held file) (λ text. run_output text name bytes)) status a b c d refl (served (with_file (file_named held file) (λ text. run_output text name bytes)) a b h))
     commanded)
 
-every : (told : Option (List (List ℕ × List ℕ))) (left : Option (List ℕ)) (Q : List (List ℕ × List ℕ) → List ℕ → Type 0) → ((held : List (List ℕ × List ℕ)) (bytes : List ℕ) → Q held bytes)
-    → IfSome told (λ held. IfSome left (Q held))
-every None left Q f = tt
-every (Some held) None Q f = tt
-every (Some held) (Some bytes) Q f = f held bytes
-
 pub usage_served : (told : Option (List (List ℕ × List ℕ))) (left : Option (List ℕ)) (command : Command) (status : Status) (a c d : Option (List ℕ)) → Unknown ≡ command
-    → Told statuses.Usage usage_line status c d → IfSome told (λ held. IfSome left (λ bytes. ServedAs command held bytes status a a c d))
+    → Told statuses.Usage usage_line status c d → ServedWhere command told left status a a c d
 usage_served told left command status a c d is h =
-    subst (λ (k : Command). IfSome told (λ held. IfSome left (λ bytes. ServedAs k held bytes status a a c d))) is
-    (every told left (λ held bytes. ServedAs Unknown held bytes status a a c d) (λ held bytes. served_as Unknown held bytes usage_output status a a c d refl (usage-whole status a c d h)))
+    subst (λ (k : Command). ServedWhere k told left status a a c d) is (served_as Unknown [] [] usage_output status a a c d refl (usage-whole status a c d h))
 
 -- of files alone
-with_input : (told : Option (List (List ℕ × List ℕ))) (left : Option (List ℕ)) (P : List (List ℕ × List ℕ) → Type 0) (Q : List (List ℕ × List ℕ) → List ℕ → Type 0)
-    → ((held : List (List ℕ × List ℕ)) (bytes : List ℕ) → P held → Q held bytes) → IfSome told P → IfSome told (λ held. IfSome left (Q held))
-with_input None left P Q f h = tt
-with_input (Some held) None P Q f h = tt
-with_input (Some held) (Some bytes) P Q f h = f held bytes h
+each-told : (told : Option (List (List ℕ × List ℕ))) (P Q : List (List ℕ × List ℕ) → Type 0) → ((held : List (List ℕ × List ℕ)) → P held → Q held) → IfSome told P → IfSome told Q
+each-told None P Q f h = tt
+each-told (Some held) P Q f h = f held h
 
 pub compile_served : (told : Option (List (List ℕ × List ℕ))) (left : Option (List ℕ)) (command : Command) (file intent : List ℕ) (answer : Answer) (status : Status) (a b c d : Option (List ℕ))
     → Compile file intent ≡ command
     → IfSome told (λ held. CompileAnswered (Ok answer) (file_named held file) (file_named held intent))
     → Served (output_of_answer answer) status a b c d
-    → IfSome told (λ held. IfSome left (λ bytes. ServedAs command held bytes status a b c d))
+    → ServedWhere command told left status a b c d
 compile_served told left command file intent answer status a b c d is answered served =
-    subst (λ (k : Command). IfSome told (λ held. IfSome left (λ bytes. ServedAs k held bytes status a b c d))) is
-    (with_input told left (λ held. CompileAnswered (Ok answer) (file_named held file) (file_named held intent)) (λ held bytes. ServedAs (Compile file intent) held bytes status a b c d)
-    (λ held bytes h. served_as (Compile file intent) held bytes (output_of_answer answer) status a b c d h.0 served) answered)
+    subst (λ (k : Command). ServedWhere k told left status a b c d) is
+    (each-told told (λ held. CompileAnswered (Ok answer) (file_named held file) (file_named held intent)) (λ held. ServedAs (Compile file intent) held [] status a b c d)
+    (λ held h. served_as (Compile file intent) held [] (output_of_answer answer) status a b c d h.0 served) answered)
 
 halted-as : (halt : Halt) (file intent : List ℕ) (held : List (List ℕ × List ℕ)) (bytes : List ℕ) (status : Status) (a c d : Option (List ℕ))
     → ((w : Output) (x y : Option (List ℕ)) → Commanded (Err halt) w x y → Served w status x y c d)
@@ -160,8 +151,8 @@ pub halt_served : (told : Option (List (List ℕ × List ℕ))) (left : Option (
     → Compile file intent ≡ command
     → IfSome told (λ held. CompileAnswered (Err halt) (file_named held file) (file_named held intent))
     → ((w : Output) (x y : Option (List ℕ)) → Commanded (Err halt) w x y → Served w status x y c d)
-    → IfSome told (λ held. IfSome left (λ bytes. ServedAs command held bytes status a a c d))
+    → ServedWhere command told left status a a c d
 halt_served told left command file intent halt status a c d is answered served =
-    subst (λ (k : Command). IfSome told (λ held. IfSome left (λ bytes. ServedAs k held bytes status a a c d))) is
-    (with_input told left (λ held. CompileAnswered (Err halt) (file_named held file) (file_named held intent)) (λ held bytes. ServedAs (Compile file intent) held bytes status a a c d)
-    (λ held bytes h. halted-as halt file intent held bytes status a c d served h) answered)
+    subst (λ (k : Command). ServedWhere k told left status a a c d) is
+    (each-told told (λ held. CompileAnswered (Err halt) (file_named held file) (file_named held intent)) (λ held. ServedAs (Compile file intent) held [] status a a c d)
+    (λ held h. halted-as halt file intent held [] status a c d served h) answered)

@@ -7,6 +7,7 @@ pub mod Early
 pub mod Compiling
 pub mod Answers
 pub mod Served
+pub mod Faults
 pub mod Wants
 pub mod Halted
 pub mod Sent

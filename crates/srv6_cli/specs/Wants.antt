@@ -1,5 +1,5 @@
 -- Which output is wanted of a command, the files and the input.
-use Rattle.std.specs.Prelude.{◌≡◌, ◌⊎◌, ℕ, List, [], ◌∷◌, Option}
+use Rattle.std.specs.Prelude.{◌≡◌, ◌⊎◌, ℕ, List, [], ◌∷◌, Option, IfSome}
 use Rattle.srx_edge.specs.Edge.{file_named, emptied}
 use Rattle.srv6_cli.specs.declared.status.Status.{Status}
 use Rattle.srv6_cli.specs.declared.status.Status.TheVariants as statuses
@@ -34,6 +34,12 @@ ServedAs command files input statuses.Usage a b c d = IsWholeOfSome command file
 ServedAs command files input statuses.NoAnswer a b c d = IsWholeOfSome command files input statuses.NoAnswer a b c d
 ServedAs command files input statuses.OutsideFault a b c d = IsFrontOfSome command files input a b c d
 ServedAs command files input statuses.NoMemory a b c d = IsFrontOfSome command files input a b c d
+
+-- where the files and the input that the command reads are told, what is wanted of them is served; what it doesn't read is none
+abbrev pub ServedWhere : Command → Option (List (List ℕ × List ℕ)) → Option (List ℕ) → Status → Option (List ℕ) → Option (List ℕ) → Option (List ℕ) → Option (List ℕ) → Type 0
+ServedWhere (Run file name) told left status a b c d = IfSome told (λ files. IfSome left (λ input. ServedAs (Run file name) files input status a b c d))
+ServedWhere (Compile file intent) told left status a b c d = IfSome told (λ files. ServedAs (Compile file intent) files [] status a b c d)
+ServedWhere Unknown told left status a b c d = ServedAs Unknown [] [] status a b c d
 
 -- the names asked for: of `run` the description, unless memory wants; of `compile` the description, and then the intent where
 -- the description is held and gives a network, and with OutsideFault and NoMemory a front of these

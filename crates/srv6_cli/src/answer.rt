@@ -1,7 +1,7 @@
 //! The command `compile`.
 
-ghost use Rattle.std.specs.Prelude.{◌≡◌, [], ◌∷◌, IfSome, IfOk};
-ghost use Rattle.srx_edge.specs.Edge.{Rose, append_name, file_named};
+ghost use Rattle.std.specs.Prelude.{◌≡◌, ◌≢◌, [], ◌∷◌, IfSome, IfOk};
+ghost use Rattle.srx_edge.specs.Edge.{Rose, next_count, append_name, file_named};
 
 use crate::halt::Halt;
 use crate::judge::{read_intent_file, read_network};
@@ -122,6 +122,7 @@ impl Answer {
         ensures asked { IfSome (F.told files.old) (λ held. AsksAtMost (names_of_compile held file.now intent.now) (F.asked files.old) (F.asked files.new)
             × OnJudged result (F.asked files.new ≡ append_names (names_of_compile held file.now intent.now) (F.asked files.old))) }
         ensures no_fault { UnlessFault result (F.faults files.new ≡ F.faults files.old) }
+        ensures once { F.faults files.new ≢ F.faults files.old → F.faults files.new ≡ next_count (F.faults files.old) }
         ensures failed { OnFault result (Rose (F.faults files.old) (F.faults files.new)) }
     {
         let net = match read_network(alloc, files, file) {

@@ -1,10 +1,11 @@
 //! The judgements of a command: its file, its node's name and the input.
 
-ghost use Rattle.std.specs.Prelude.{◌≡◌, ◌≤◌, ◌<◌, IfSome, IfOk, OnOk, MatchResult, length, [], ◌∷◌};
-ghost use Rattle.srx_edge.specs.Edge.{Rose, append_name, file_named, emptied};
+ghost use Rattle.std.specs.Prelude.{◌≡◌, ◌≢◌, ◌≤◌, ◌<◌, IfSome, IfOk, OnOk, MatchResult, length, [], ◌∷◌};
+ghost use Rattle.srx_edge.specs.Edge.{Rose, next_count, append_name, file_named, emptied};
 ghost use Rattle.intent_reader.specs.Rules.{IsIntent};
 ghost use Rattle.srv6_cli.specs.Compiling.{intent_in};
 ghost use Rattle.srv6_cli.specs.Early.{AsksAtMost};
+ghost use Rattle.srv6_cli.specs.Faults.{Stopped};
 ghost use Rattle.srv6_cli.specs.Halted.{Judged, JudgedIf, OnFault, UnlessFault, UnlessMemory};
 ghost use Rattle.srv6_cli.specs.Output.{network_in, node_in, content_in, is_bare, input_limit};
 
@@ -32,6 +33,7 @@ pub fn read_network<F: Files>(alloc: Global, files: &mut F, name: &str) -> Resul
     ensures asked { UnlessMemory result (F.asked files.new ≡ append_name name.now (F.asked files.old)) }
     ensures failed { OnFault result (Rose (F.faults files.old) (F.faults files.new)) }
     ensures no_fault { UnlessFault result (F.faults files.new ≡ F.faults files.old) }
+    ensures once { F.faults files.new ≢ F.faults files.old → F.faults files.new ≡ next_count (F.faults files.old) }
     ensures never_falls { F.faults files.old ≤ F.faults files.new }
 {
     let text = match files.read(alloc, name, FILE_LIMIT) {
@@ -63,6 +65,7 @@ pub fn read_intent_file<F: Files>(
     ensures asked { UnlessMemory result (F.asked files.new ≡ append_name name.now (F.asked files.old)) }
     ensures failed { OnFault result (Rose (F.faults files.old) (F.faults files.new)) }
     ensures no_fault { UnlessFault result (F.faults files.new ≡ F.faults files.old) }
+    ensures once { F.faults files.new ≢ F.faults files.old → F.faults files.new ≡ next_count (F.faults files.old) }
     ensures never_falls { F.faults files.old ≤ F.faults files.new }
 {
     let text = match files.read(alloc, name, FILE_LIMIT) {
@@ -119,6 +122,7 @@ pub fn read_content<S: Source>(alloc: Global, input: &mut S) -> Result<Content, 
     ensures emptied { OnOk result (S.left input.new ≡ emptied (S.left input.old)) }
     ensures failed { OnFault result (Rose (S.faults input.old) (S.faults input.new)) }
     ensures no_fault { UnlessFault result (S.faults input.new ≡ S.faults input.old) }
+    ensures stops { S.faults input.new ≢ S.faults input.old → Stopped (S.stopped input.new) (S.faults input.old) (S.faults input.new) }
     ensures never_falls { S.faults input.old ≤ S.faults input.new }
 {
     let bytes = match draw(alloc, input, INPUT_LIMIT) {

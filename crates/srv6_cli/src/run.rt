@@ -1,9 +1,10 @@
 //! The command `run`.
 
 ghost use Rattle.std.specs.Prelude.{◌≡◌, ◌≢◌, [], ◌∷◌, ◌≤◌, ◌++◌, IfSome, OnOk, IfOk, length, ◌<◌};
-ghost use Rattle.srx_edge.specs.Edge.{Rose, append_to, append_name, file_named, emptied};
+ghost use Rattle.srx_edge.specs.Edge.{Rose, next_count, append_to, append_name, file_named, emptied};
 ghost use Rattle.srv6_cli.specs.Capture.{capture_head, frames_of};
 ghost use Rattle.srv6_cli.specs.Early.{AsksAtMost, EndsEarly};
+ghost use Rattle.srv6_cli.specs.Faults.{Stopped, Untouched};
 ghost use Rattle.srv6_cli.specs.Halted.{Commanded, Poured, OnFault, UnlessFault, UnlessMemory};
 ghost use Rattle.srv6_cli.specs.Lines.{packet_line};
 ghost use Rattle.srv6_cli.specs.Output.{run_output, with_file, walk_from, no_choices};
@@ -27,6 +28,7 @@ fn write_head<O: Sink>(out: &mut O) -> Result<(), Halt>
     ensures poured { Poured result capture_head (O.held out.old) (O.held out.new) }
     ensures failed { OnFault result (Rose (O.faults out.old) (O.faults out.new)) }
     ensures no_fault { UnlessFault result (O.faults out.new ≡ O.faults out.old) }
+    ensures stops { O.faults out.new ≢ O.faults out.old → Stopped (O.stopped out.new) (O.faults out.old) (O.faults out.new) }
     ensures never_falls { O.faults out.old ≤ O.faults out.new }
 {
     write_all(out, &HEAD)
@@ -45,6 +47,7 @@ fn walk_packet<O: Sink>(
     ensures poured { Poured result (capture_head ++ frames_of 1 (walk_from net.now node no_choices content)) (O.held out.old) (O.held out.new) }
     ensures failed { OnFault result (Rose (O.faults out.old) (O.faults out.new)) }
     ensures no_fault { UnlessFault result (O.faults out.new ≡ O.faults out.old) }
+    ensures stops { O.faults out.new ≢ O.faults out.old → Stopped (O.stopped out.new) (O.faults out.old) (O.faults out.new) }
     ensures never_falls { O.faults out.old ≤ O.faults out.new }
 {
     match write_head(out) {
@@ -84,8 +87,12 @@ pub fn run<F: Files, S: Source, O: Sink>(
     ensures no_fault { UnlessFault result ((F.faults files.new ≡ F.faults files.old) × (S.faults input.new ≡ S.faults input.old) × (O.faults out.new ≡ O.faults out.old)) }
     ensures unread { IfSome (F.told files.old) (λ held. EndsEarly (file_named held file.now) node.now →
         (S.left input.new ≡ S.left input.old) × (S.faults input.new ≡ S.faults input.old)) }
-    ensures unread_after_fault { F.faults files.new ≢ F.faults files.old →
-        (S.left input.new ≡ S.left input.old) × (S.faults input.new ≡ S.faults input.old) }
+    ensures after_file_fault { F.faults files.new ≢ F.faults files.old → (F.faults files.new ≡ next_count (F.faults files.old))
+        × Untouched (S.left input.old) (S.left input.new) (S.faults input.old) (S.faults input.new)
+        × Untouched (O.held out.old) (O.held out.new) (O.faults out.old) (O.faults out.new) }
+    ensures after_input_fault { S.faults input.new ≢ S.faults input.old → Stopped (S.stopped input.new) (S.faults input.old) (S.faults input.new)
+        × Untouched (O.held out.old) (O.held out.new) (O.faults out.old) (O.faults out.new) }
+    ensures after_out_fault { O.faults out.new ≢ O.faults out.old → Stopped (O.stopped out.new) (O.faults out.old) (O.faults out.new) }
     ensures emptied { OnOk result (S.left input.new ≡ emptied (S.left input.old)) }
 {
     let start = match Start::read(alloc, file, node, files, input) {

@@ -1,7 +1,7 @@
 //! The start of a run.
 
 ghost use Rattle.std.specs.Prelude.{◌≡◌, ◌≢◌, [], ◌∷◌, ◌≤◌, ◌<◌, IfSome, OnOk, IfOk, length};
-ghost use Rattle.srx_edge.specs.Edge.{Rose, append_name, file_named, emptied};
+ghost use Rattle.srx_edge.specs.Edge.{Rose, next_count, append_name, file_named, emptied};
 
 use crate::halt::Halt;
 use crate::judge::{find_node, read_content, read_network};
@@ -23,6 +23,7 @@ pub struct Start {
 
 impl Start {
     ghost use Rattle.srv6_cli.specs.Early.{AsksAtMost, EndsEarly};
+    ghost use Rattle.srv6_cli.specs.Faults.{Stopped, Untouched};
     ghost use Rattle.srv6_cli.specs.Halted.{Started, OnFault, UnlessFault, UnlessMemory};
 
     /// Judges the file, then the node's name, then the input, each before the next is read.
@@ -42,8 +43,9 @@ impl Start {
         ensures no_fault { UnlessFault result ((F.faults files.new ≡ F.faults files.old) × (S.faults input.new ≡ S.faults input.old)) }
         ensures unread { IfSome (F.told files.old) (λ held. EndsEarly (file_named held file.now) node.now →
             (S.left input.new ≡ S.left input.old) × (S.faults input.new ≡ S.faults input.old)) }
-        ensures unread_after_fault { F.faults files.new ≢ F.faults files.old →
-            (S.left input.new ≡ S.left input.old) × (S.faults input.new ≡ S.faults input.old) }
+        ensures after_file_fault { F.faults files.new ≢ F.faults files.old → (F.faults files.new ≡ next_count (F.faults files.old))
+            × Untouched (S.left input.old) (S.left input.new) (S.faults input.old) (S.faults input.new) }
+        ensures after_input_fault { S.faults input.new ≢ S.faults input.old → Stopped (S.stopped input.new) (S.faults input.old) (S.faults input.new) }
         ensures emptied { OnOk result (S.left input.new ≡ emptied (S.left input.old)) }
     {
         let net = match read_network(alloc, files, file) {

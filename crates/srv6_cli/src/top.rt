@@ -1,14 +1,15 @@
 //! The top call.
 
 ghost use Rattle.std.specs.Prelude.{◌≡◌, ◌≢◌, [], IfSome, IsOk, List, ℕ, Option};
-ghost use Rattle.srx_edge.specs.Edge.{Rose, emptied};
+ghost use Rattle.srx_edge.specs.Edge.{Rose, next_count};
 ghost use Rattle.srv6_cli.specs.Command.{Compile, Unknown, command_of, words_of, files_of};
 ghost use Rattle.srv6_cli.specs.Early.{AsksAtMost, LeavesInput};
-ghost use Rattle.srv6_cli.specs.Halted.{Commanded, FaultIn, Calm, HadMemory};
+ghost use Rattle.srv6_cli.specs.Faults.{Stopped, Untouched};
+ghost use Rattle.srv6_cli.specs.Halted.{Commanded, OnFault, FaultIn, Calm, HadMemory};
 ghost use Rattle.srv6_cli.specs.Lines.{usage_line};
 ghost use Rattle.srv6_cli.specs.Output.{Output};
 ghost use Rattle.srv6_cli.specs.Answers.{output_of_answer, IsAnswerStatus};
-ghost use Rattle.srv6_cli.specs.Wants.{ServedAs, AskedAs, ReadAs};
+ghost use Rattle.srv6_cli.specs.Wants.{ServedWhere, AskedAs, ReadAs};
 ghost use Rattle.srv6_cli.specs.Served.{Served, Told, OnOutsideFault, UnlessOutsideFault, UnlessNoMemory, OnDone, UsageAsAsked};
 
 use crate::answer::Answer;
@@ -25,6 +26,7 @@ use std::alloc::Global;
 fn tell<E: Sink>(err: &mut E, line: &[u8], status: Status) -> Status
     ensures told { Told status line.now result (E.held err.old) (E.held err.new) }
     ensures no_fault { UnlessOutsideFault result (E.faults err.new ≡ E.faults err.old) }
+    ensures stops { E.faults err.new ≢ E.faults err.old → Stopped (E.stopped err.new) (E.faults err.old) (E.faults err.new) }
     ensures failed { OnOutsideFault result (status ≢ Status.OutsideFault → Rose (E.faults err.old) (E.faults err.new)) }
 {
     match write_all(err, line) {
@@ -39,6 +41,7 @@ fn tell<E: Sink>(err: &mut E, line: &[u8], status: Status) -> Status
 fn tell_usage<E: Sink>(err: &mut E) -> Status
     ensures told { Told Status.Usage usage_line result (E.held err.old) (E.held err.new) }
     ensures no_fault { UnlessOutsideFault result (E.faults err.new ≡ E.faults err.old) }
+    ensures stops { E.faults err.new ≢ E.faults err.old → Stopped (E.stopped err.new) (E.faults err.old) (E.faults err.new) }
     ensures failed { OnOutsideFault result (Rose (E.faults err.old) (E.faults err.new)) }
     ensures command { UsageAsAsked Unknown result }
 {
@@ -48,6 +51,8 @@ fn tell_usage<E: Sink>(err: &mut E) -> Status
 /// Ends a command: its line on `err`, or nothing more where it met a fault.
 fn conclude<E: Sink>(alloc: Global, answer: Result<Vec<u8>, Halt>, err: &mut E) -> Status
     ensures no_fault { UnlessOutsideFault result (Calm answer (E.faults err.old) (E.faults err.new)) }
+    ensures stops { E.faults err.new ≢ E.faults err.old → Stopped (E.stopped err.new) (E.faults err.old) (E.faults err.new) }
+    ensures silent { OnFault answer (Untouched (E.held err.old) (E.held err.new) (E.faults err.old) (E.faults err.new)) }
     ensures failed { OnOutsideFault result (FaultIn answer (E.faults err.old) (E.faults err.new)) }
     ensures done { OnDone result (IsOk answer) }
     ensures memory { UnlessNoMemory result (HadMemory answer) }
@@ -73,6 +78,9 @@ fn write_answer<O: Sink, E: Sink>(answer: Answer, out: &mut O, err: &mut E) -> S
     ensures command { UsageAsAsked (Compile [] []) result }
     ensures refused { result ≢ Status.Refused }
     ensures no_fault { UnlessOutsideFault result ((O.faults out.new ≡ O.faults out.old) × (E.faults err.new ≡ E.faults err.old)) }
+    ensures after_out_fault { O.faults out.new ≢ O.faults out.old → Stopped (O.stopped out.new) (O.faults out.old) (O.faults out.new)
+        × Untouched (E.held err.old) (E.held err.new) (E.faults err.old) (E.faults err.new) }
+    ensures after_err_fault { E.faults err.new ≢ E.faults err.old → Stopped (E.stopped err.new) (E.faults err.old) (E.faults err.new) }
     ensures failed { OnOutsideFault result (¬ Rose (O.faults out.old) (O.faults out.new) → ¬ Rose (E.faults err.old) (E.faults err.new) → ⊥) }
 {
     match write_all(out, answer.written.as_slice()) {
@@ -95,8 +103,8 @@ pub fn serve<F: Files, S: Source, O: Sink, E: Sink>(
     // With every status but OutsideFault and NoMemory the output and the status are those that are
     // wanted of what the files and the input tell; with these two each sink has received a front, and
     // `err` something only where `out` has received all.
-    ensures served { IfSome (F.told files.old) (λ held. IfSome (S.left input.old) (λ bytes.
-        ServedAs (command_of (words_of words.now)) held bytes result (O.held out.old) (O.held out.new) (E.held err.old) (E.held err.new))) }
+    ensures served { ServedWhere (command_of (words_of words.now)) (F.told files.old) (S.left input.old) result
+        (O.held out.old) (O.held out.new) (E.held err.old) (E.held err.new) }
     ensures usage { UsageAsAsked (command_of (words_of words.now)) result }
 
     // A fault comes only where a count of faults rose, and with every other status none changed.
@@ -104,6 +112,19 @@ pub fn serve<F: Files, S: Source, O: Sink, E: Sink>(
         ¬ Rose (O.faults out.old) (O.faults out.new) → ¬ Rose (E.faults err.old) (E.faults err.new) → ⊥) }
     ensures no_fault { UnlessOutsideFault result ((F.faults files.new ≡ F.faults files.old) × (S.faults input.new ≡ S.faults input.old) ×
         (O.faults out.new ≡ O.faults out.old) × (E.faults err.new ≡ E.faults err.old)) }
+
+    // A fault is one, and nothing comes after it: what failed isn't called again, and of what follows it in the
+    // order files, input, `out`, `err` nothing is read or written.
+    ensures after_file_fault { F.faults files.new ≢ F.faults files.old → (F.faults files.new ≡ next_count (F.faults files.old))
+        × Untouched (S.left input.old) (S.left input.new) (S.faults input.old) (S.faults input.new)
+        × Untouched (O.held out.old) (O.held out.new) (O.faults out.old) (O.faults out.new)
+        × Untouched (E.held err.old) (E.held err.new) (E.faults err.old) (E.faults err.new) }
+    ensures after_input_fault { S.faults input.new ≢ S.faults input.old → Stopped (S.stopped input.new) (S.faults input.old) (S.faults input.new)
+        × Untouched (O.held out.old) (O.held out.new) (O.faults out.old) (O.faults out.new)
+        × Untouched (E.held err.old) (E.held err.new) (E.faults err.old) (E.faults err.new) }
+    ensures after_out_fault { O.faults out.new ≢ O.faults out.old → Stopped (O.stopped out.new) (O.faults out.old) (O.faults out.new)
+        × Untouched (E.held err.old) (E.held err.new) (E.faults err.old) (E.faults err.new) }
+    ensures after_err_fault { E.faults err.new ≢ E.faults err.old → Stopped (E.stopped err.new) (E.faults err.old) (E.faults err.new) }
 
     // The files that the command names are asked for, in order, each once, and no others; of `compile`
     // the intent's only where the description is held and gives a network.
@@ -114,8 +135,6 @@ pub fn serve<F: Files, S: Source, O: Sink, E: Sink>(
     // to its end where a command that reads it is done.
     ensures unread { IfSome (F.told files.old) (λ held. LeavesInput (command_of (words_of words.now)) held →
         (S.left input.new ≡ S.left input.old) × (S.faults input.new ≡ S.faults input.old)) }
-    ensures unread_after_fault { F.faults files.new ≢ F.faults files.old →
-        (S.left input.new ≡ S.left input.old) × (S.faults input.new ≡ S.faults input.old) }
     ensures read_to_end { ReadAs (command_of (words_of words.now)) result (S.left input.old) (S.left input.new) }
 {
     match command(words) {

@@ -1,6 +1,6 @@
 //! A packet's walk, written as it goes.
 
-ghost use Rattle.std.specs.Prelude.{◌≡◌, ◌≤◌, ◌<◌, ◌++◌, IfOk, IfSome, Some, length, ◌+◌};
+ghost use Rattle.std.specs.Prelude.{◌≡◌, ◌≢◌, ◌≤◌, ◌<◌, ◌++◌, IfOk, IfSome, Some, length, ◌+◌};
 ghost use Rattle.srx_edge.specs.Edge.{Rose, append_to};
 ghost use Rattle.srv6_rules.specs.Packet.{bytes_of, most_len};
 ghost use Rattle.srv6_cli.specs.Sent.{IsEnd, IsWritable};
@@ -9,6 +9,7 @@ ghost use Rattle.srv6_cli.specs.Output.{most_stages};
 ghost use Rattle.walk_rules.specs.Relation.{IsPlace};
 ghost use Rattle.walk_rules.specs.Treatment.{step_of};
 ghost use Rattle.walk_rules.specs.Walk.{next_place as place_after, decisions, walk_of, choice_at, end_by, end_of};
+ghost use Rattle.srv6_cli.specs.Faults.{Stopped};
 ghost use Rattle.srv6_cli.specs.Halted.{Poured, OnFault, UnlessFault};
 
 use crate::capture::head_of_frame;
@@ -26,6 +27,7 @@ pub fn write_all<O: Sink>(out: &mut O, bytes: &[u8]) -> Result<(), Halt>
     ensures poured { Poured result bytes.now (O.held out.old) (O.held out.new) }
     ensures failed { OnFault result (Rose (O.faults out.old) (O.faults out.new)) }
     ensures no_fault { UnlessFault result (O.faults out.new ≡ O.faults out.old) }
+    ensures stops { O.faults out.new ≢ O.faults out.old → Stopped (O.stopped out.new) (O.faults out.old) (O.faults out.new) }
     ensures never_falls { O.faults out.old ≤ O.faults out.new }
 {
     match pour(out, bytes) {
@@ -47,6 +49,7 @@ pub fn write_frame<O: Sink>(
     ensures poured { Poured result (frame_of 1 link (bytes_of content.now)) (O.held out.old) (O.held out.new) }
     ensures failed { OnFault result (Rose (O.faults out.old) (O.faults out.new)) }
     ensures no_fault { UnlessFault result (O.faults out.new ≡ O.faults out.old) }
+    ensures stops { O.faults out.new ≢ O.faults out.old → Stopped (O.stopped out.new) (O.faults out.old) (O.faults out.new) }
     ensures never_falls { O.faults out.old ≤ O.faults out.new }
 {
     frame.clear();
@@ -71,6 +74,7 @@ fn write_outcome<O: Sink>(
     ensures poured { Poured result (frame_by 1 outcome.now content.now) (O.held out.old) (O.held out.new) }
     ensures failed { OnFault result (Rose (O.faults out.old) (O.faults out.new)) }
     ensures no_fault { UnlessFault result (O.faults out.new ≡ O.faults out.old) }
+    ensures stops { O.faults out.new ≢ O.faults out.old → Stopped (O.stopped out.new) (O.faults out.old) (O.faults out.new) }
     ensures never_falls { O.faults out.old ≤ O.faults out.new }
 {
     match outcome {
@@ -120,6 +124,7 @@ pub fn write_walk<O: Sink>(
     ensures poured { Poured result (frames_of 1 (walk_of most_stages net.now (Some start) content (choice_at choices.now) 0)) (O.held out.old) (O.held out.new) }
     ensures failed { OnFault result (Rose (O.faults out.old) (O.faults out.new)) }
     ensures no_fault { UnlessFault result (O.faults out.new ≡ O.faults out.old) }
+    ensures stops { O.faults out.new ≢ O.faults out.old → Stopped (O.stopped out.new) (O.faults out.old) (O.faults out.new) }
     ensures never_falls { O.faults out.old ≤ O.faults out.new }
 {
     let mut content = content;

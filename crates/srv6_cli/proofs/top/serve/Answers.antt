@@ -3,7 +3,8 @@ use Rattle.srx_edge.specs.Edge.{Rose}
 use Rattle.srv6_cli.specs.Command.{command_of, words_of}
 use Rattle.srv6_cli.proofs.Serving.{fault_from, run_served, usage_served, compile_served, halt_served}
 use Rattle.srv6_cli.proofs.Asked.{compile_asked, whole_always, whole_judged}
-use Rattle.srv6_cli.proofs.Calmly.{run_calmly, halt_calmly, answer_calmly, usage_calmly}
+use Rattle.srv6_cli.specs.Faults.{Untouched}
+use Rattle.srv6_cli.proofs.Calmly.{run_calmly, halt_calmly, answer_calmly, usage_calmly, file_silent, input_silent, out_silent, halt_silent, three_more, two_more, answer_fault}
 use Rattle.srv6_cli.proofs.top.serve.Goals as goal
 
 pub returns-in-Run-clause-fault : goal.returns-in-Run-clause-fault
@@ -66,3 +67,39 @@ returns-in-Err-clause-asked g c =
     (g.F.Files.asked c.args.files.now) (g.F.Files.asked c.read.new.files) c.in-Compile.ensures
     (λ P. whole_judged c.in-Err.halt c.conclude-in-Err.result P (g.E.Sink.faults c.args.err.now) (g.E.Sink.faults c.conclude-in-Err.new.err) c.conclude-in-Err.ensures.no_fault c.conclude-in-Err.ensures.memory)
     c.in-Err.ensures.asked
+
+pub returns-in-Run-clause-after_file_fault : goal.returns-in-Run-clause-after_file_fault
+returns-in-Run-clause-after_file_fault g c = λ changed.
+    three_more (c.run-answer.ensures.after_file_fault changed)
+    (file_silent c.run-answer.result (g.F.Files.faults c.run-answer.new.files ≡ g.F.Files.faults c.args.files.now)
+    (g.S.Source.faults c.run-answer.new.input ≡ g.S.Source.faults c.args.input.now) (g.O.Sink.faults c.run-answer.new.out ≡ g.O.Sink.faults c.args.out.now)
+    (Untouched (g.E.Sink.held c.args.err.now) (g.E.Sink.held c.conclude.new.err) (g.E.Sink.faults c.args.err.now) (g.E.Sink.faults c.conclude.new.err))
+    c.run-answer.ensures.no_fault c.conclude.ensures.silent changed)
+
+pub returns-in-Run-clause-after_input_fault : goal.returns-in-Run-clause-after_input_fault
+returns-in-Run-clause-after_input_fault g c = λ changed.
+    two_more (c.run-answer.ensures.after_input_fault changed)
+    (input_silent c.run-answer.result (g.F.Files.faults c.run-answer.new.files ≡ g.F.Files.faults c.args.files.now)
+    (g.S.Source.faults c.run-answer.new.input ≡ g.S.Source.faults c.args.input.now) (g.O.Sink.faults c.run-answer.new.out ≡ g.O.Sink.faults c.args.out.now)
+    (Untouched (g.E.Sink.held c.args.err.now) (g.E.Sink.held c.conclude.new.err) (g.E.Sink.faults c.args.err.now) (g.E.Sink.faults c.conclude.new.err))
+    c.run-answer.ensures.no_fault c.conclude.ensures.silent changed)
+
+pub returns-in-Run-clause-after_out_fault : goal.returns-in-Run-clause-after_out_fault
+returns-in-Run-clause-after_out_fault g c = λ changed.
+    (c.run-answer.ensures.after_out_fault changed,
+    out_silent c.run-answer.result (g.F.Files.faults c.run-answer.new.files ≡ g.F.Files.faults c.args.files.now)
+    (g.S.Source.faults c.run-answer.new.input ≡ g.S.Source.faults c.args.input.now) (g.O.Sink.faults c.run-answer.new.out ≡ g.O.Sink.faults c.args.out.now)
+    (Untouched (g.E.Sink.held c.args.err.now) (g.E.Sink.held c.conclude.new.err) (g.E.Sink.faults c.args.err.now) (g.E.Sink.faults c.conclude.new.err))
+    c.run-answer.ensures.no_fault c.conclude.ensures.silent changed)
+
+pub returns-in-Err-clause-after_file_fault : goal.returns-in-Err-clause-after_file_fault
+returns-in-Err-clause-after_file_fault g c = λ changed.
+    (c.in-Err.ensures.once changed, (refl, refl), (refl, refl),
+    halt_silent c.in-Err.halt (g.F.Files.faults c.read.new.files ≡ g.F.Files.faults c.args.files.now)
+    (Untouched (g.E.Sink.held c.args.err.now) (g.E.Sink.held c.conclude-in-Err.new.err) (g.E.Sink.faults c.args.err.now) (g.E.Sink.faults c.conclude-in-Err.new.err))
+    c.in-Err.ensures.no_fault c.conclude-in-Err.ensures.silent changed)
+
+pub returns-in-Ok-clause-fault : goal.returns-in-Ok-clause-fault
+returns-in-Ok-clause-fault g c =
+    answer_fault c.write_answer.result (Rose (g.F.Files.faults c.args.files.now) (g.F.Files.faults c.read.new.files)) (Rose (g.S.Source.faults c.args.input.now) (g.S.Source.faults c.args.input.now))
+    (Rose (g.O.Sink.faults c.args.out.now) (g.O.Sink.faults c.write_answer.new.out)) (Rose (g.E.Sink.faults c.args.err.now) (g.E.Sink.faults c.write_answer.new.err)) c.write_answer.ensures.failed
