@@ -1,5 +1,5 @@
--- A count that rose in a part of a call rose in the whole, since it never falls; one that took its next value rose.
-use Rattle.std.proofs.Common.{◌≡◌, ℕ, ◌≤◌, arith}
+-- A count that rose in a part of a call rose in the whole, since it never falls.
+use Rattle.std.proofs.Common.{ℕ, ◌≤◌, arith}
 use Rattle.srx_edge.specs.Edge.{Rose, next_count}
 
 pub rose_first : (old now new : ℕ) → old ≤ now → Rose old now → now ≤ new → Rose old new
@@ -11,7 +11,4 @@ rose_then old now new falls rose = grind arith
 pub Rose-next_count : (count : ℕ) → Rose count (next_count count)
 Rose-next_count count = grind arith
 
-pub rose_once : (old new : ℕ) → new ≡ next_count old → Rose old new
-rose_once old new once = rw once (Rose-next_count old)
-
-pub ruleset counts = (rose_first, rose_then, Rose-next_count, rose_once)
+pub ruleset counts = (rose_first, rose_then, Rose-next_count)

@@ -106,6 +106,12 @@ fn drawn_to_the_end(rt: HostRuntime) -> Result<(), Fail> {
     let mut source = MemSource::new(rt.alloc(), &input, &[])?;
     let refused = draw(rt.alloc(), &mut source, 4999);
     assert_eq!(rt; refused.err(), Some(DrawFault::TooBig { limit: 4999 }));
+    // One byte too many is taken, and no more.
+    let mut source = MemSource::new(rt.alloc(), &input, &[])?;
+    let refused = draw(rt.alloc(), &mut source, 10);
+    assert_eq!(rt; refused.err(), Some(DrawFault::TooBig { limit: 10 }));
+    let rest = draw(rt.alloc(), &mut source, 5000)?;
+    assert_eq!(rt; rest.len(), 4989);
     let mut source = MemSource::new(rt.alloc(), &input, &[2])?;
     let refused = draw(rt.alloc(), &mut source, 5000);
     assert_eq!(rt; refused.err(), Some(DrawFault::Failed));
