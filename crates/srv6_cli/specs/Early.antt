@@ -28,6 +28,12 @@ LeavesInput (Run file name) files = EndsEarly (file_named files file) name
 LeavesInput (Compile file intent) files = ⊤
 LeavesInput Unknown files = ⊤
 
+-- the command reads no input
+abbrev pub ReadsNone : Command → Type 0
+ReadsNone (Run file name) = ⊥
+ReadsNone (Compile file intent) = ⊤
+ReadsNone Unknown = ⊤
+
 -- the names asked for, oldest first, with more
 abbrev pub append_names : List (List ℕ) → Option (List (List ℕ)) → Option (List (List ℕ))
 append_names [] asked = asked

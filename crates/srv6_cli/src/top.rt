@@ -3,7 +3,7 @@
 ghost use Rattle.std.specs.Prelude.{◌≡◌, ◌≢◌, [], IfSome, IsOk, List, ℕ, Option};
 ghost use Rattle.srx_edge.specs.Edge.{Rose, next_count};
 ghost use Rattle.srv6_cli.specs.Command.{Compile, Unknown, command_of, words_of, files_of};
-ghost use Rattle.srv6_cli.specs.Early.{AsksAtMost, LeavesInput};
+ghost use Rattle.srv6_cli.specs.Early.{AsksAtMost, LeavesInput, ReadsNone};
 ghost use Rattle.srv6_cli.specs.Faults.{Stopped, Untouched};
 ghost use Rattle.srv6_cli.specs.Halted.{Commanded, OnFault, FaultIn, Calm, HadMemory};
 ghost use Rattle.srv6_cli.specs.Lines.{usage_line};
@@ -135,6 +135,8 @@ pub fn serve<F: Files, S: Source, O: Sink, E: Sink>(
     // to its end where a command that reads it is done.
     ensures unread { IfSome (F.told files.old) (λ held. LeavesInput (command_of (words_of words.now)) held →
         (S.left input.new ≡ S.left input.old) × (S.faults input.new ≡ S.faults input.old)) }
+    ensures reads_none { ReadsNone (command_of (words_of words.now)) →
+        (S.left input.new ≡ S.left input.old) × (S.faults input.new ≡ S.faults input.old) }
     ensures read_to_end { ReadAs (command_of (words_of words.now)) result (S.left input.old) (S.left input.new) }
 {
     match command(words) {

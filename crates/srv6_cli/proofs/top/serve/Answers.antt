@@ -85,19 +85,23 @@ returns-in-Run-clause-after_input_fault g c = λ changed.
     c.run-answer.ensures.no_fault c.conclude.ensures.silent changed)
 
 pub returns-in-Run-clause-after_out_fault : goal.returns-in-Run-clause-after_out_fault
-returns-in-Run-clause-after_out_fault g c = λ changed.
-    (c.run-answer.ensures.after_out_fault changed,
-    out_silent c.run-answer.result (g.F.Files.faults c.run-answer.new.files ≡ g.F.Files.faults c.args.files.now)
-    (g.S.Source.faults c.run-answer.new.input ≡ g.S.Source.faults c.args.input.now) (g.O.Sink.faults c.run-answer.new.out ≡ g.O.Sink.faults c.args.out.now)
-    (Untouched (g.E.Sink.held c.args.err.now) (g.E.Sink.held c.conclude.new.err) (g.E.Sink.faults c.args.err.now) (g.E.Sink.faults c.conclude.new.err))
-    c.run-answer.ensures.no_fault c.conclude.ensures.silent changed)
+returns-in-Run-clause-after_out_fault g c = λ changed. (
+  c.run-answer.ensures.after_out_fault changed,
+  out_silent c.run-answer.result (g.F.Files.faults c.run-answer.new.files ≡ g.F.Files.faults c.args.files.now)
+      (g.S.Source.faults c.run-answer.new.input ≡ g.S.Source.faults c.args.input.now) (g.O.Sink.faults c.run-answer.new.out ≡ g.O.Sink.faults c.args.out.now)
+      (Untouched (g.E.Sink.held c.args.err.now) (g.E.Sink.held c.conclude.new.err) (g.E.Sink.faults c.args.err.now) (g.E.Sink.faults c.conclude.new.err))
+      c.run-answer.ensures.no_fault c.conclude.ensures.silent changed,
+)
 
 pub returns-in-Err-clause-after_file_fault : goal.returns-in-Err-clause-after_file_fault
-returns-in-Err-clause-after_file_fault g c = λ changed.
-    (c.in-Err.ensures.once changed, (refl, refl), (refl, refl),
-    halt_silent c.in-Err.halt (g.F.Files.faults c.read.new.files ≡ g.F.Files.faults c.args.files.now)
-    (Untouched (g.E.Sink.held c.args.err.now) (g.E.Sink.held c.conclude-in-Err.new.err) (g.E.Sink.faults c.args.err.now) (g.E.Sink.faults c.conclude-in-Err.new.err))
-    c.in-Err.ensures.no_fault c.conclude-in-Err.ensures.silent changed)
+returns-in-Err-clause-after_file_fault g c = λ changed. (
+  c.in-Err.ensures.once changed,
+  (refl, refl),
+  (refl, refl),
+  halt_silent c.in-Err.halt (g.F.Files.faults c.read.new.files ≡ g.F.Files.faults c.args.files.now)
+      (Untouched (g.E.Sink.held c.args.err.now) (g.E.Sink.held c.conclude-in-Err.new.err) (g.E.Sink.faults c.args.err.now) (g.E.Sink.faults c.conclude-in-Err.new.err))
+      c.in-Err.ensures.no_fault c.conclude-in-Err.ensures.silent changed,
+)
 
 pub returns-in-Ok-clause-fault : goal.returns-in-Ok-clause-fault
 returns-in-Ok-clause-fault g c =
