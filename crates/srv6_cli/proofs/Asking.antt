@@ -12,11 +12,6 @@ asks_one name old new h = record { some = name ∷ []; rest = []; whole = refl; 
 pub asks_nothing : (old new : Option (List (List ℕ))) → new ≡ old → AsksAtMost [] old new
 asks_nothing old new h = record { some = []; rest = []; whole = refl; asked = h }
 
--- a further file may not be asked for
-pub asks_more : (file intent : List ℕ) (old new : Option (List (List ℕ))) → AsksAtMost (file ∷ []) old new → AsksAtMost (file ∷ intent ∷ []) old new
-asks_more file intent old new h =
-    record { some = h.some; rest = h.rest ++ intent ∷ []; whole = sym (append_assoc h.some h.rest (intent ∷ [])) ∙ ap (λ (names : List (List ℕ)). names ++ intent ∷ []) h.whole; asked = h.asked }
-
 -- one file, and behind it whatever may be asked for
 pub asks_front : (file : List ℕ) (rest : List (List ℕ)) (old new : Option (List (List ℕ))) → AsksAtMost (file ∷ []) old new → AsksAtMost (file ∷ rest) old new
 asks_front file rest old new h =

@@ -1,12 +1,12 @@
-use Rattle.std.proofs.Common.{◌≡◌, Err}
+use Rattle.std.proofs.Common.{◌≡◌, Err, [], ◌∷◌}
 use Rattle.srx_edge.specs.Edge.{append_name}
-use Rattle.srv6_cli.proofs.Asking.{asks_more, asks_both}
+use Rattle.srv6_cli.proofs.Asking.{asks_front, asks_both}
 use Rattle.srv6_cli.proofs.Asked.{asked_one, asked_two, judged_always, judged_halt}
 use Rattle.srv6_cli.proofs.Compiling.{halt_answered, gives_answered}
 use Rattle.srv6_cli.proofs.answer.Answer.read.Goals as goal
 
 pub returns-in-Err-clause-asks : goal.returns-in-Err-clause-asks
-returns-in-Err-clause-asks g c = asks_more c.args.file.now c.args.intent.now (g.F.Files.asked c.args.files.now) (g.F.Files.asked c.read_network.new.files) c.in-Err.ensures.asks
+returns-in-Err-clause-asks g c = asks_front c.args.file.now (c.args.intent.now ∷ []) (g.F.Files.asked c.args.files.now) (g.F.Files.asked c.read_network.new.files) c.in-Err.ensures.asks
 
 pub returns-in-Err-read_intent_file-clause-asks : goal.returns-in-Err-read_intent_file-clause-asks
 returns-in-Err-read_intent_file-clause-asks g c =
