@@ -11,4 +11,4 @@ pub mod encapsulation;
 pub mod laws;
 mod sid;
 
-pub use sid::{Behaviour, Family, LinkSet, Reason, SidEntry};
+pub use sid::{Behaviour, Csid, Family, LinkSet, Reason, SidEntry};

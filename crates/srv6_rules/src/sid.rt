@@ -12,6 +12,17 @@ pub enum Family {
     V6,
 }
 
+/// How a SID's part of a segment list is compressed (RFC 9800 sections 4.1 and 4.2).
+#[derive(Clone, Copy, Debug, PartialEq, Eq)]
+pub enum Csid {
+    /// Not at all: the SID is a whole segment.
+    Plain,
+    /// NEXT-CSID: the segments behind it stand in the argument of its address.
+    Next,
+    /// REPLACE-CSID: the segments behind it stand packed in an entry of the segment list.
+    Replace,
+}
+
 /// What a SID does with a packet (RFC 8986 section 4).
 #[derive(Clone, Copy, Debug, PartialEq, Eq)]
 pub enum Behaviour {
