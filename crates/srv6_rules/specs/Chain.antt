@@ -1,5 +1,5 @@
 -- The chain of extension headers behind an IPv6 header (RFC 8200 section 4).
-use Rattle.std.specs.Prelude.{◌≡◌, ℕ, zero, suc, ◌+◌, ◌*◌, ◌≤◌, Bool, true, false, ◌==◌, ◌&&◌, ◌||◌, nat_le, if◌then◌else◌, List, [], ◌∷◌, ◌++◌, length, take, drop, slice_index, All}
+use Rattle.std.specs.Prelude.{◌≡◌, ℕ, zero, suc, ◌+◌, ◌*◌, ◌≤◌, Bool, true, ◌==◌, ◌&&◌, ◌||◌, nat_le, if◌then◌else◌, List, [], ◌∷◌, length, take, drop, slice_index}
 use Rattle.srv6_rules.specs.Packet.{Packet}
 use Rattle.srv6_rules.specs.Srh.{segment_routing}
 
@@ -80,35 +80,3 @@ chain_of p = chain_at p.payload p.next_header 0
 -- a segment routing header
 abbrev pub is_segment_routing : Header → Bool
 is_segment_routing h = (h.kind == routing) && (slice_index h.bytes 2 == segment_routing)
-
--- a segment routing header with no segments left is passed over
-abbrev pub is_passed : Header → Bool
-is_passed h = is_segment_routing h && (slice_index h.bytes 3 == 0)
-
--- what is processed of a chain: the first header that is not passed over, else the end
-pub data Processed : Type 0 where
-  AtHeader : Header → Processed
-  AtUpper : ℕ → ℕ → Processed
-  AtCut : Processed
-
-abbrev pub at_end : ChainEnd → Processed
-at_end (Upper kind at) = AtUpper kind at
-at_end Cut = AtCut
-
-abbrev pub first_processed : List Header → ChainEnd → Processed
-first_processed [] end = at_end end
-first_processed (h ∷ hs) end = if is_passed h then first_processed hs end else AtHeader h
-
-abbrev pub processed_in : Chain → Processed
-processed_in c = first_processed c.headers c.end
-
-abbrev pub processed_of : Packet → Processed
-processed_of p = processed_in (chain_of p)
-
--- a header is the first of a chain that is not passed over
-pub record FirstNotPassed (headers : List Header) (h : Header) : Type 0 where
-  pub before : List Header
-  pub after : List Header
-  pub split : headers ≡ before ++ h ∷ after
-  pub passed : All (λ x. is_passed x ≡ true) before
-  pub stays : is_passed h ≡ false

@@ -1,6 +1,8 @@
 -- IPv6 packets as values, their one spelling, and how bytes are read (RFC 8200 section 3).
 use Rattle.std.specs.Prelude.{◌≡◌, ℕ, ◌+◌, ◌*◌, ◌/◌, ◌%◌, ◌^◌, ◌<◌, ◌==◌, nat_lt, if◌then◌else◌, List, ◌∷◌, ◌++◌, length, take, drop, slice_index, All}
 use Rattle.byteorder.specs.Endian.{big_number, big_bytes}
+use Rattle.srv6_rules.specs.declared.sid.Family.{Family}
+use Rattle.srv6_rules.specs.declared.sid.Family.TheVariants as families
 use Rattle.srv6_rules.specs.declared.sid.Reason.{Reason}
 use Rattle.srv6_rules.specs.declared.sid.Reason.TheVariants.{Truncated, BadVersion}
 
@@ -93,7 +95,7 @@ packet_at bytes =
       payload = take (stated_len bytes) (drop 40 bytes);
     }
 
--- how bytes read as IPv6: the version is judged before the lengths where there is a byte
+-- how bytes read as IPv6: the version is judged before the lengths where there is a byte (RFC 8200 section 3)
 abbrev pub content_of : List ℕ → Content
 content_of bytes =
     if length bytes == 0 then Unreadable bytes Truncated
@@ -102,6 +104,10 @@ content_of bytes =
     else if nat_lt (length bytes) (40 + stated_len bytes) then Unreadable bytes Truncated
     else V6 (packet_at bytes))
     else Unreadable bytes BadVersion
+
+-- how bytes read as a packet of a family
+abbrev pub read_as : Family → List ℕ → Content
+read_as families.V6 bytes = content_of bytes
 
 -- what enters a node: of bytes that do not read at most a longest packet's length is kept (own rule)
 abbrev pub entered : List ℕ → Content

@@ -16,6 +16,13 @@ pub record Srh : Type 0 where
 abbrev pub segment_routing : ℕ
 segment_routing = 4
 
+-- the places in the header, in bytes from its first, of the routing type and of Segments Left (RFC 8754 section 2)
+abbrev pub routing_type_at : ℕ
+routing_type_at = 2
+
+abbrev pub segments_left_at : ℕ
+segments_left_at = 3
+
 -- the one spelling of a header
 abbrev pub srh_spelling : Srh → List ℕ
 srh_spelling s = s.next_header ∷ s.extension_len ∷ segment_routing ∷ s.segments_left ∷ s.last_entry ∷ s.flags ∷ (two_bytes s.tag ++ s.body)
