@@ -1,13 +1,14 @@
 -- SIDs by what they do: only here, and where it is said how a packet goes on, are behaviours told apart (RFC 8986
 -- section 4).
 use Rattle.std.specs.Prelude.{ℕ, Bool, true, false, ◌==◌}
+use Rattle.srv6_rules.specs.declared.numbers.TheConstants.{IPV6_INSIDE}
 use Rattle.srv6_rules.specs.declared.sid.Behaviour.{Behaviour}
 use Rattle.srv6_rules.specs.declared.sid.Behaviour.TheVariants.{End, EndX, Dt6}
 use Rattle.srv6_rules.specs.declared.sid.SidEntry.{SidEntry}
 
 -- the upper layer of an IPv6 packet inside a packet
 abbrev pub ipv6_inside : ℕ
-ipv6_inside = 41
+ipv6_inside = IPV6_INSIDE
 
 -- the behaviours that make the next segment the destination: End and End.X (RFC 8986 sections 4.1 and 4.2)
 abbrev pub behaviour_goes_on : Behaviour → Bool

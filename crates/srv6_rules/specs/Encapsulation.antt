@@ -1,6 +1,6 @@
 -- Encapsulation of a packet behind an outer IPv6 header and a segment list: H.Encaps and its reduced form (RFC 8986
 -- sections 5.1 and 5.2, RFC 8754 sections 2, 4.1 and 4.1.1).
-use Rattle.std.specs.Prelude.{ℕ, ◌+◌, ◌-◌, ◌*◌, ◌^◌, ◌<◌, ◌≤◌, Bool, true, false, not, ◌||◌, nat_lt, if◌then◌else◌, List, ◌++◌, length, drop, reverse, slice_index, flat_map, All}
+use Rattle.std.specs.Prelude.{ℕ, ◌+◌, ◌-◌, ◌*◌, ◌^◌, ◌<◌, ◌≤◌, Bool, not, ◌||◌, nat_lt, if◌then◌else◌, List, ◌++◌, length, drop, reverse, slice_index, flat_map, All}
 use Rattle.srv6_rules.specs.Packet.{Packet, spelling, address_bytes}
 use Rattle.srv6_rules.specs.Srh.{Srh, srh_spelling}
 use Rattle.srv6_rules.specs.Chain.{routing}

@@ -1,6 +1,6 @@
 -- What a node does with a packet that came to one of its SIDs or to its own address: RFC 8986 sections 4.1, 4.2
 -- and 4.6 with the processing of RFC 8754 section 4.3.1.1, and RFC 8200 section 4.4 at an address.
-use Rattle.std.specs.Prelude.{◌≡◌, ◌≢◌, ◌⊎◌, ℕ, ◌+◌, ◌-◌, ◌<◌, ◌≤◌, Bool, true, false, ◌==◌, ◌&&◌, ◌||◌, nat_lt, nat_le, if◌then◌else◌, List, [], ◌∷◌, ◌++◌, length, drop, slice_index, slice_set, All}
+use Rattle.std.specs.Prelude.{◌≡◌, ◌≢◌, ◌⊎◌, ℕ, ◌+◌, ◌-◌, ◌<◌, ◌≤◌, Bool, true, ◌==◌, ◌||◌, nat_lt, nat_le, if◌then◌else◌, List, [], ◌∷◌, ◌++◌, length, drop, slice_index, slice_set, All}
 use Rattle.std.specs.List.{list_any}
 use Rattle.srv6_rules.specs.declared.sid.Family.{Family}
 use Rattle.srv6_rules.specs.declared.sid.Family.TheVariants as families
@@ -10,7 +10,7 @@ use Rattle.srv6_rules.specs.declared.sid.SidEntry.{SidEntry}
 use Rattle.srv6_rules.specs.Behaviours.{goes_on, exposes, ipv6_inside}
 use Rattle.srv6_rules.specs.Packet.{Packet, header_len}
 use Rattle.srv6_rules.specs.Srh.{Srh, srh_of, entries_of, entry_of, tlv_bytes, segments_left_at, routing_type_at}
-use Rattle.srv6_rules.specs.Chain.{Header, ChainEnd, Upper, Cut, Chain, LiesIn, is_segment_routing, chain_of}
+use Rattle.srv6_rules.specs.Chain.{Header, ChainEnd, Upper, Cut, LiesIn, is_segment_routing, chain_of}
 
 -- what came of a packet at a SID or an address: it goes on with another destination; the packet inside it, of a family
 -- and with the bytes from there on, is exposed; it is handed to the upper layer here; or it is dropped, for a fault at a
@@ -111,6 +111,11 @@ pub record IsReached (headers : List Header) (h : Header) : Type 0 where
   pub after : List Header
   pub split : headers ≡ before ++ h ∷ after
   pub passed : All IsPassed before
+
+-- the first header of a chain that is not passed over
+pub record FirstNotPassed (headers : List Header) (h : Header) : Type 0 where
+  pub reached : IsReached headers h
+  pub stays : IsPassed h → ⊥
 
 -- a packet that goes on after the step over a segment routing header behind headers that are passed over: the hop
 -- limit is one lower, Segments Left is one lower, the destination is that entry, and all else is as it was

@@ -4,3 +4,4 @@ pub mod Behaviours
 pub mod Chain
 pub mod Endpoint
 pub mod Encapsulation
+pub mod Reasons
