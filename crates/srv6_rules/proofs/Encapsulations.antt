@@ -1,7 +1,7 @@
 -- A packet in an outer header with a segment list: its chain, and what SIDs do with it.
 use Rattle.std.proofs.Common.{◌≡◌, ℕ, ◌+◌, ◌-◌, ◌*◌, ◌/◌, ◌^◌, ◌<◌, ◌≤◌, Bool, true, false, not, ◌==◌, ◌||◌, nat_lt, nat_le, if◌then◌else◌, List, [], ◌∷◌, ◌++◌, length, take, drop, reverse, slice_index, slice_set, All, flat_map, refl, sym, ap, subst, ◌∙◌, arith, inl, inr, length-append, length-drop}
 use Rattle.std.proofs.Math.Bool.{or-true}
-use Rattle.std.proofs.lemmas.Bool.{cases_Bool, cases_lt, or_from, lt-ltb, ltb-true, ltb-false, le-ltb, le-leb, lt-leb, eq-eqb, ne_eqb}
+use Rattle.std.proofs.lemmas.Bool.{cases_Bool, cases_lt, or_from, lt-ltb, ltb-true, ltb-false, le-ltb, le-leb, lt-leb, eq-eqb}
 use Rattle.std.proofs.lemmas.List.{append-nil, drop_all, drop_at, take_at, get_or-drop, get_or_past, get_or-reverse, length-reverse}
 use Rattle.std.proofs.lemmas.List.Elements.{All-nil, All-append, All-drop}
 use Rattle.srv6_rules.specs.declared.sid.Family.TheVariants as families
@@ -10,9 +10,9 @@ use Rattle.srv6_rules.specs.declared.sid.SidEntry.{SidEntry}
 use Rattle.srv6_rules.specs.Behaviours.{goes_on, exposes, ipv6_inside}
 use Rattle.srv6_rules.specs.Packet.{Packet, IsSpellable, most_len, spelling, two_bytes, two_number, address_bytes, address_number}
 use Rattle.srv6_rules.specs.Srh.{Srh, IsSrhSpellable, srh_of, srh_spelling, entry_of, tlv_bytes}
-use Rattle.srv6_rules.specs.Chain.{Header, Chain, Upper, routing, is_extension, behind, chain_at, chain_of, is_segment_routing}
-use Rattle.srv6_rules.specs.Endpoint.{Endpoint, Onward, Exposed, Refused, upper_layer, has_bad_segments, advanced, next_segment, in_packet, over_headers, at_header, at_upper, at_end, at_sid}
-use Rattle.srv6_rules.specs.Encapsulation.{Encapsulation, segment_list, has_segment_routing, segment_routing_of, outer, at_segment, header_bytes, IsSpellableEncapsulation, inner_lowered, encapsulated}
+use Rattle.srv6_rules.specs.Chain.{Header, Chain, Upper, routing, is_extension, behind, chain_at, chain_of}
+use Rattle.srv6_rules.specs.Endpoint.{Endpoint, Onward, Exposed, Refused, upper_layer, has_bad_segments, advanced, next_segment, over_headers, at_header, at_upper, at_end, at_sid}
+use Rattle.srv6_rules.specs.Encapsulation.{Encapsulation, segment_list, has_segment_routing, segment_routing_of, header_of, outer, at_segment, header_bytes, IsSpellableEncapsulation, inner_lowered, encapsulated}
 use Rattle.srv6_rules.proofs.Bytes.{all-address_bytes, length-two_bytes, two_number-bytes}
 use Rattle.srv6_rules.proofs.Packets.{length-spelling, all-spelling}
 use Rattle.srv6_rules.proofs.Edits.{edit-hop_limit}
@@ -34,7 +34,10 @@ srh_of-spelled s tag body =
 -- the chain of a segment routing header and the upper layer behind it
 pub spelled-chain : (s : Srh) (inner : List ℕ) → length s.body ≡ 8 * s.extension_len → is_extension s.next_header ≡ false
     → chain_at (srh_spelling s ++ inner) routing 0
-    ≡ record { headers = record { kind = routing; at = 0; bytes = srh_spelling s } ∷ []; end = Upper s.next_header (length (srh_spelling s)) }
+    ≡ record {
+      headers = record { kind = routing; at = 0; bytes = srh_spelling s } ∷ [];
+      end = Upper s.next_header (length (srh_spelling s));
+    }
 spelled-chain s inner body upper =
     let h : Header = record { kind = routing; at = 0; bytes = srh_spelling s } in
     let place : 0 + length (srh_spelling s) ≡ length (srh_spelling s) = omega arith in
@@ -60,7 +63,8 @@ step-hop_limit p at s hop =
 listed : Bool → List ℕ → List ℕ
 listed reduced segments = reverse (if reduced then drop 1 segments else segments)
 
-length-listed : (reduced : Bool) (segments : List ℕ) → length (listed reduced segments) ≡ (if reduced then length segments - 1 else length segments)
+length-listed : (reduced : Bool) (segments : List ℕ)
+    → length (listed reduced segments) ≡ (if reduced then length segments - 1 else length segments)
 unfolding listed
 length-listed true segments = length-reverse (drop 1 segments) ∙ length-drop 1 segments
 length-listed false segments = length-reverse segments
@@ -75,7 +79,8 @@ listed-no_more true segments = let len = length-listed true segments in omega ar
 listed-no_more false segments = let len = length-listed false segments in omega arith
 
 -- the entry at a place is the segment at that place from the end, but for the first segment
-listed-at : (reduced : Bool) (segments : List ℕ) (k : ℕ) → k + 1 < length segments → slice_index (listed reduced segments) k ≡ slice_index segments (length segments - 1 - k)
+listed-at : (reduced : Bool) (segments : List ℕ) (k : ℕ) → k + 1 < length segments
+    → slice_index (listed reduced segments) k ≡ slice_index segments (length segments - 1 - k)
 unfolding listed
 listed-at true segments k below =
     let len = length-drop 1 segments in
@@ -189,7 +194,8 @@ framed e next payload hop destination =
     }
 
 module _ (e : Encapsulation) (inner : List ℕ) (left hop destination : ℕ) where
-  pub outer-routed : has_segment_routing e ≡ true → outer e inner left hop destination ≡ framed e routing (srh_spelling (segment_routing_of e left) ++ inner) hop destination
+  pub outer-routed : has_segment_routing e ≡ true
+      → outer e inner left hop destination ≡ framed e routing (srh_spelling (segment_routing_of e left) ++ inner) hop destination
   outer-routed has = rw has refl
 
   pub outer-bare : has_segment_routing e ≡ false → outer e inner left hop destination ≡ framed e ipv6_inside inner hop destination
@@ -197,7 +203,7 @@ module _ (e : Encapsulation) (inner : List ℕ) (left hop destination : ℕ) whe
 
   routed-chain : chain_of (framed e routing (srh_spelling (segment_routing_of e left) ++ inner) hop destination)
       ≡ record {
-        headers = record { kind = routing; at = 0; bytes = srh_spelling (segment_routing_of e left) } ∷ [];
+        headers = header_of e left ∷ [];
         end = Upper ipv6_inside (length (srh_spelling (segment_routing_of e left)));
       }
   routed-chain = spelled-chain (segment_routing_of e left) inner (length-body e left) refl
@@ -208,7 +214,8 @@ module _ (e : Encapsulation) (inner : List ℕ) (left hop destination : ℕ) whe
 -- ---- the length, and the place of the packet inside
 
 module _ (e : Encapsulation) where
-  header-size : (left : ℕ) → has_segment_routing e ≡ true → 40 + length (srh_spelling (segment_routing_of e left)) ≡ header_bytes e.reduced (length e.segments)
+  header-size : (left : ℕ) → has_segment_routing e ≡ true
+      → 40 + length (srh_spelling (segment_routing_of e left)) ≡ header_bytes e.reduced (length e.segments)
   unfolding listed
   header-size left has =
       let len = length-header e left in
@@ -250,18 +257,16 @@ outer-inner e inner left hop destination = elim (cases_Bool (has_segment_routing
 
 -- ---- the chain
 
--- the segment routing header, which stands first where there is one
-abbrev outer_header : Encapsulation → ℕ → Header
-outer_header e left = record { kind = routing; at = 0; bytes = srh_spelling (segment_routing_of e left) }
-
+-- the segment routing header where there is one
 abbrev outer_headers : Encapsulation → ℕ → Bool → List Header
-outer_headers e left has = if has then outer_header e left ∷ [] else []
+outer_headers e left has = if has then header_of e left ∷ [] else []
 
 -- the segment routing header where the form has one, and the packet inside behind the header bytes
 pub outer-chain : (e : Encapsulation) (inner : List ℕ) (left hop destination : ℕ)
     → chain_of (outer e inner left hop destination)
     ≡ record {
-      headers = if has_segment_routing e then record { kind = routing; at = 0; bytes = srh_spelling (segment_routing_of e left) } ∷ [] else [];
+      headers = if has_segment_routing e then header_of e left ∷ []
+          else [];
       end = Upper ipv6_inside (header_bytes e.reduced (length e.segments) - 40);
     }
 outer-chain e inner left hop destination = elim (cases_Bool (has_segment_routing e)) [
@@ -271,14 +276,16 @@ outer-chain e inner left hop destination = elim (cases_Bool (has_segment_routing
       ap (λ (p : Packet). chain_of p) (outer-routed e inner left hop destination has)
       ∙ routed-chain e inner left hop destination
       ∙ ap (λ n. record { headers = outer_headers e left true; end = Upper ipv6_inside n }) place
-      ∙ ap (λ b. record { headers = outer_headers e left b; end = Upper ipv6_inside (header_bytes e.reduced (length e.segments) - 40) }) (sym has)
+      ∙ ap (λ b. record { headers = outer_headers e left b; end = Upper ipv6_inside (header_bytes e.reduced (length e.segments) - 40) })
+      (sym has)
   | inr not ↦
       let size = bare-size e not in
       let place : 0 ≡ header_bytes e.reduced (length e.segments) - 40 = omega arith in
       ap (λ (p : Packet). chain_of p) (outer-bare e inner left hop destination not)
       ∙ bare-chain e inner left hop destination
       ∙ ap (λ n. record { headers = outer_headers e left false; end = Upper ipv6_inside n }) place
-      ∙ ap (λ b. record { headers = outer_headers e left b; end = Upper ipv6_inside (header_bytes e.reduced (length e.segments) - 40) }) (sym not)
+      ∙ ap (λ b. record { headers = outer_headers e left b; end = Upper ipv6_inside (header_bytes e.reduced (length e.segments) - 40) })
+      (sym not)
 ]
 
 -- ---- at a SID
@@ -303,18 +310,20 @@ module _ (s : SidEntry) (allow : List ℕ) (e : Encapsulation) (inner : List ℕ
       let p : Packet = outer e inner left hop destination in
       let end : Endpoint = at_upper s allow p ipv6_inside (header_bytes e.reduced (length e.segments) - 40) in
       outer-at_sid
-      ∙ over-one (at_header s p) (has_segment_routing e) (outer_header e left) end (at_header-passed s p (outer_header e left) end (refl, none))
+      ∙ over-one (at_header s p) (has_segment_routing e) (header_of e left) end
+      (at_header-passed s p (header_of e left) end (refl, none))
 
   pub outer-upper_layer : left ≡ 0 → exposes s ipv6_inside ≡ false → at_sid s allow (outer e inner left hop destination)
       ≡ upper_layer allow (outer e inner left hop destination) ipv6_inside (header_bytes e.reduced (length e.segments) - 40)
   outer-upper_layer none keeps = outer-at_upper none ∙ rw keeps refl
 
-  pub outer-exposed : left ≡ 0 → exposes s ipv6_inside ≡ true → at_sid s allow (outer e inner left hop destination) ≡ Exposed families.V6 inner
+  pub outer-exposed : left ≡ 0 → exposes s ipv6_inside ≡ true
+      → at_sid s allow (outer e inner left hop destination) ≡ Exposed families.V6 inner
   outer-exposed none shows = outer-at_upper none ∙ rw shows (ap (Exposed families.V6) (outer-inner e inner left hop destination))
 
   -- with segments left
   outer-at_header : has_segment_routing e ≡ true → at_sid s allow (outer e inner left hop destination)
-      ≡ at_header s (outer e inner left hop destination) (outer_header e left)
+      ≡ at_header s (outer e inner left hop destination) (header_of e left)
       (at_upper s allow (outer e inner left hop destination) ipv6_inside (header_bytes e.reduced (length e.segments) - 40))
   outer-at_header has =
       let p : Packet = outer e inner left hop destination in
@@ -327,7 +336,7 @@ module _ (s : SidEntry) (allow : List ℕ) (e : Encapsulation) (inner : List ℕ
   outer-bad_segments has some stays =
       let p : Packet = outer e inner left hop destination in
       let end : Endpoint = at_upper s allow p ipv6_inside (header_bytes e.reduced (length e.segments) - 40) in
-      outer-at_header has ∙ at_header-refuses s p (outer_header e left) end refl some stays
+      outer-at_header has ∙ at_header-refuses s p (header_of e left) end refl some stays
 
   step-at_sid : has_segment_routing e ≡ true → 0 < left → goes_on s ≡ true → at_sid s allow (outer e inner left hop destination)
       ≡ next_segment (framed e routing (srh_spelling (segment_routing_of e left) ++ inner) hop destination) 0 (segment_routing_of e left)
@@ -335,7 +344,7 @@ module _ (s : SidEntry) (allow : List ℕ) (e : Encapsulation) (inner : List ℕ
       let p : Packet = outer e inner left hop destination in
       let end : Endpoint = at_upper s allow p ipv6_inside (header_bytes e.reduced (length e.segments) - 40) in
       outer-at_header has
-      ∙ at_header-steps s p (outer_header e left) end refl some goes
+      ∙ at_header-steps s p (header_of e left) end refl some goes
       ∙ ap (next_segment p 0) (read_back e left)
       ∙ ap (λ (x : Packet). next_segment x 0 (segment_routing_of e left)) (outer-routed e inner left hop destination has)
 
@@ -343,10 +352,12 @@ module _ (s : SidEntry) (allow : List ℕ) (e : Encapsulation) (inner : List ℕ
       → at_sid s allow (outer e inner left hop destination) ≡ Refused reasons.HopLimit 0
   outer-hop_limit has some goes low =
       step-at_sid has some goes
-      ∙ step-hop_limit (framed e routing (srh_spelling (segment_routing_of e left) ++ inner) hop destination) 0 (segment_routing_of e left) low
+      ∙ step-hop_limit (framed e routing (srh_spelling (segment_routing_of e left) ++ inner) hop destination) 0
+      (segment_routing_of e left) low
 
   -- a SID that goes on makes the next segment the active one
-  pub outer-onward : has_segment_routing e ≡ true → 0 < left → goes_on s ≡ true → left < length e.segments → All (λ a. a < 2 ^ 128) e.segments → 1 < hop
+  pub outer-onward : has_segment_routing e ≡ true → 0 < left → goes_on s ≡ true → left < length e.segments
+      → All (λ a. a < 2 ^ 128) e.segments → 1 < hop
       → at_sid s allow (outer e inner left hop destination)
       ≡ Onward (outer e inner (left - 1) (hop - 1) (slice_index e.segments (length e.segments - left)))
   outer-onward has some goes below all high =
@@ -357,7 +368,8 @@ module _ (s : SidEntry) (allow : List ℕ) (e : Encapsulation) (inner : List ℕ
       step-at_sid has some goes
       ∙ step-onward p 0 header high (good_segments e left (omega arith) (omega arith)) (no_tlv_bytes e left (omega arith))
       ∙ ap (λ a. Onward (framed e routing (srh_spelling (segment_routing_of e (left - 1)) ++ inner) (hop - 1) a)) entry
-      ∙ ap (λ (x : Packet). Onward x) (sym (outer-routed e inner (left - 1) (hop - 1) (slice_index e.segments (length e.segments - left)) has))
+      ∙ ap (λ (x : Packet). Onward x)
+      (sym (outer-routed e inner (left - 1) (hop - 1) (slice_index e.segments (length e.segments - left)) has))
 
 -- ---- while a segment is the active one
 
@@ -368,26 +380,30 @@ module _ (s : SidEntry) (allow : List ℕ) (e : Encapsulation) (inner : List ℕ
       let n : ℕ = length e.segments in
       let left : n - 1 - i - 1 ≡ n - 1 - (i + 1) = omega arith in
       let next : n - (n - 1 - i) ≡ i + 1 = omega arith in
-      outer-onward s allow e inner (n - 1 - i) hop (slice_index e.segments i) (more-routing e (omega arith)) (omega arith) goes (omega arith) all high
+      outer-onward s allow e inner (n - 1 - i) hop (slice_index e.segments i) (more-routing e (omega arith)) (omega arith) goes
+      (omega arith) all high
       ∙ ap (λ k. Onward (outer e inner k (hop - 1) (slice_index e.segments (n - (n - 1 - i))))) left
       ∙ ap (λ k. Onward (outer e inner (n - 1 - (i + 1)) (hop - 1) (slice_index e.segments k))) next
 
   pub at_segment-hop_limit : goes_on s ≡ true → i + 1 < length e.segments → hop ≤ 1
       → at_sid s allow (at_segment e inner i hop) ≡ Refused reasons.HopLimit 0
   at_segment-hop_limit goes below low =
-      outer-hop_limit s allow e inner (length e.segments - 1 - i) hop (slice_index e.segments i) (more-routing e (omega arith)) (omega arith) goes low
+      outer-hop_limit s allow e inner (length e.segments - 1 - i) hop (slice_index e.segments i) (more-routing e (omega arith))
+      (omega arith) goes low
 
   pub at_segment-bad_segments : goes_on s ≡ false → i + 1 < length e.segments
       → at_sid s allow (at_segment e inner i hop) ≡ Refused reasons.BadSegments 43
   at_segment-bad_segments stays below =
-      outer-bad_segments s allow e inner (length e.segments - 1 - i) hop (slice_index e.segments i) (more-routing e (omega arith)) (omega arith) stays
+      outer-bad_segments s allow e inner (length e.segments - 1 - i) hop (slice_index e.segments i) (more-routing e (omega arith))
+      (omega arith) stays
 
   pub at_segment-upper_layer : exposes s ipv6_inside ≡ false → i + 1 ≡ length e.segments → at_sid s allow (at_segment e inner i hop)
       ≡ upper_layer allow (at_segment e inner i hop) ipv6_inside (header_bytes e.reduced (length e.segments) - 40)
   at_segment-upper_layer keeps last =
       outer-upper_layer s allow e inner (length e.segments - 1 - i) hop (slice_index e.segments i) (omega arith) keeps
 
-  pub at_segment-exposed : exposes s ipv6_inside ≡ true → i + 1 ≡ length e.segments → at_sid s allow (at_segment e inner i hop) ≡ Exposed families.V6 inner
+  pub at_segment-exposed : exposes s ipv6_inside ≡ true → i + 1 ≡ length e.segments
+      → at_sid s allow (at_segment e inner i hop) ≡ Exposed families.V6 inner
   at_segment-exposed shows last =
       outer-exposed s allow e inner (length e.segments - 1 - i) hop (slice_index e.segments i) (omega arith) shows
 
@@ -395,7 +411,8 @@ module _ (s : SidEntry) (allow : List ℕ) (e : Encapsulation) (inner : List ℕ
 
 all-entries : (list : List ℕ) → All (λ b. b < 2 ^ 8) (flat_map address_bytes list)
 all-entries [] = All-nil (λ b. b < 2 ^ 8)
-all-entries (a ∷ list) = All-append (λ b. b < 2 ^ 8) (address_bytes a) (flat_map address_bytes list) (all-address_bytes a) (all-entries list)
+all-entries (a ∷ list) = All-append (λ b. b < 2 ^ 8) (address_bytes a) (flat_map address_bytes list) (all-address_bytes a)
+    (all-entries list)
 
 header-spellable : (e : Encapsulation) (left : ℕ) → IsSpellableEncapsulation e → left < 2 ^ 8 → IsSrhSpellable (segment_routing_of e left)
 header-spellable e left ok below =
@@ -419,7 +436,8 @@ address-below segments i all = elim (cases_lt i (length segments)) [
   | inr past ↦ rw (get_or_past segments i 0 past) (omega arith)
 ]
 
-outer-payload_bytes : (e : Encapsulation) (inner : List ℕ) (left hop destination : ℕ) → IsSpellableEncapsulation e → left < 2 ^ 8 → All (λ b. b < 2 ^ 8) inner
+outer-payload_bytes : (e : Encapsulation) (inner : List ℕ) (left hop destination : ℕ) → IsSpellableEncapsulation e → left < 2 ^ 8
+    → All (λ b. b < 2 ^ 8) inner
     → All (λ b. b < 2 ^ 8) (outer e inner left hop destination).payload
 outer-payload_bytes e inner left hop destination ok below all =
     let Q : Packet → Type 0 = λ p. All (λ b. b < 2 ^ 8) p.payload in
@@ -434,7 +452,8 @@ outer-next_header : (has : Bool) → (if has then routing else ipv6_inside) < 2 
 outer-next_header true = omega arith
 outer-next_header false = omega arith
 
-pub at_segment-spellable : (e : Encapsulation) (inner : List ℕ) (i hop : ℕ) → IsSpellableEncapsulation e → hop < 2 ^ 8 → All (λ b. b < 2 ^ 8) inner
+pub at_segment-spellable : (e : Encapsulation) (inner : List ℕ) (i hop : ℕ) → IsSpellableEncapsulation e → hop < 2 ^ 8
+    → All (λ b. b < 2 ^ 8) inner
     → header_bytes e.reduced (length e.segments) + length inner ≤ most_len → IsSpellable (at_segment e inner i hop)
 at_segment-spellable e inner i hop ok low all short =
     let left : ℕ = length e.segments - 1 - i in
@@ -478,7 +497,8 @@ encapsulated-spellable e p hop ok inner low short =
     let one = length-spelling p in
     let two = length-spelling (inner_lowered p) in
     let same : length (spelling (inner_lowered p)) ≡ length (spelling p) = two ∙ sym one in
-    at_segment-spellable e (spelling (inner_lowered p)) 0 hop ok low (all-spelling (inner_lowered p) (lowered-spellable p inner)) (omega arith)
+    at_segment-spellable e (spelling (inner_lowered p)) 0 hop ok low (all-spelling (inner_lowered p) (lowered-spellable p inner))
+    (omega arith)
 
 -- the header bytes of at least one segment grow with their number
 pub header_bytes-more : (reduced : Bool) (m n : ℕ) → 0 < m → m < n → header_bytes reduced m < header_bytes reduced n
@@ -493,23 +513,27 @@ header_bytes-more false m n some more = omega arith
 -- ---- the forms
 
 pub list-full : (e : Encapsulation) (left : ℕ) → e.reduced ≡ false
-    → (has_segment_routing e ≡ true) × (segment_list e ≡ reverse e.segments) × ((segment_routing_of e left).last_entry ≡ length e.segments - 1)
+    → (has_segment_routing e ≡ true) × (segment_list e ≡ reverse e.segments)
+    × ((segment_routing_of e left).last_entry ≡ length e.segments - 1)
 list-full e left full =
     let list : segment_list e ≡ reverse e.segments = rw full refl in
     (rw full refl, list, ap (λ xs. length xs - 1) list ∙ ap (λ n. n - 1) (length-reverse e.segments))
 
 pub list-reduced : (e : Encapsulation) (left : ℕ) → e.reduced ≡ true → 1 < length e.segments
-    → (has_segment_routing e ≡ true) × (segment_list e ≡ reverse (drop 1 e.segments)) × ((segment_routing_of e left).last_entry ≡ length e.segments - 2)
+    → (has_segment_routing e ≡ true) × (segment_list e ≡ reverse (drop 1 e.segments))
+    × ((segment_routing_of e left).last_entry ≡ length e.segments - 2)
 list-reduced e left reduced more =
     let list : segment_list e ≡ reverse (drop 1 e.segments) = rw reduced refl in
-    let len : length (reverse (drop 1 e.segments)) ≡ length e.segments - 1 = length-reverse (drop 1 e.segments) ∙ length-drop 1 e.segments in
+    let len : length (reverse (drop 1 e.segments)) ≡ length e.segments - 1 = length-reverse (drop 1 e.segments)
+    ∙ length-drop 1 e.segments in
     (more-routing e more, list, ap (λ xs. length xs - 1) list ∙ omega arith)
 
 pub list-one : (e : Encapsulation) → e.reduced ≡ true → length e.segments ≡ 1 → has_segment_routing e ≡ false
 list-one e reduced one = rw (reduced, one) refl
 
 pub outer-with_header : (e : Encapsulation) (inner : List ℕ) (left hop destination : ℕ) → has_segment_routing e ≡ true
-    → ((outer e inner left hop destination).next_header ≡ routing) × ((outer e inner left hop destination).payload ≡ srh_spelling (segment_routing_of e left) ++ inner)
+    → ((outer e inner left hop destination).next_header ≡ routing)
+    × ((outer e inner left hop destination).payload ≡ srh_spelling (segment_routing_of e left) ++ inner)
 outer-with_header e inner left hop destination has =
     let is = outer-routed e inner left hop destination has in
     (ap (λ (p : Packet). p.next_header) is, ap (λ (p : Packet). p.payload) is)
@@ -528,11 +552,13 @@ header-bytes e left = refl
 
 -- ---- lengths of spellings
 
-pub length-at_segment : (e : Encapsulation) (inner : List ℕ) (i hop : ℕ) → length (spelling (at_segment e inner i hop)) ≡ header_bytes e.reduced (length e.segments) + length inner
+pub length-at_segment : (e : Encapsulation) (inner : List ℕ) (i hop : ℕ)
+    → length (spelling (at_segment e inner i hop)) ≡ header_bytes e.reduced (length e.segments) + length inner
 length-at_segment e inner i hop =
     length-spelling (at_segment e inner i hop) ∙ length-outer e inner (length e.segments - 1 - i) hop (slice_index e.segments i)
 
-pub length-encapsulated : (e : Encapsulation) (p : Packet) (hop : ℕ) → length (spelling (encapsulated e p hop)) ≡ header_bytes e.reduced (length e.segments) + length (spelling p)
+pub length-encapsulated : (e : Encapsulation) (p : Packet) (hop : ℕ)
+    → length (spelling (encapsulated e p hop)) ≡ header_bytes e.reduced (length e.segments) + length (spelling p)
 length-encapsulated e p hop =
     length-at_segment e (spelling (inner_lowered p)) 0 hop
     ∙ ap (λ n. header_bytes e.reduced (length e.segments) + n) (length-spelling (inner_lowered p) ∙ sym (length-spelling p))

@@ -111,7 +111,8 @@ module _ (s : SidEntry) (p : Packet) where
   header-by h reached lies rest more true false true false false true er en el =
       steps h reached lies er (eqb-false (srh_of h.bytes).segments_left 0 en) (leb-false p.hop_limit 1 el)
 
-  at_header-is : (h : Header) → IsReached (chain_of p).headers h → (rest : Endpoint) → (IsPassed h → AtSid s p rest) → AtSid s p (at_header s p h rest)
+  at_header-is : (h : Header) → IsReached (chain_of p).headers h → (rest : Endpoint) → (IsPassed h → AtSid s p rest)
+      → AtSid s p (at_header s p h rest)
   at_header-is h reached rest more =
       header-by h reached (reached-lies p.payload p.next_header 0 h reached) rest more
       (is_segment_routing h) ((srh_of h.bytes).segments_left == 0) (goes_on s) (nat_le p.hop_limit 1)
@@ -135,7 +136,8 @@ module _ (s : SidEntry) (p : Packet) where
   upper-by kind at upper passed within false true e = refl
   upper-by kind at upper passed within false false e = omega arith
 
-  at_end-is : (allow : List ℕ) (end : ChainEnd) → (chain_of p).end ≡ end → All IsPassed (chain_of p).headers → AtSid s p (at_end s allow p end)
+  at_end-is : (allow : List ℕ) (end : ChainEnd) → (chain_of p).end ≡ end → All IsPassed (chain_of p).headers
+      → AtSid s p (at_end s allow p end)
   at_end-is allow (Upper kind at) upper passed =
       upper-by kind at upper passed (chain_at-upper_stands p.payload p.next_header 0 kind at (omega arith) upper).2
       (exposes s kind) (is_allowed allow kind) refl
@@ -157,7 +159,8 @@ entry_of-below : (h : Header) (i : ℕ) → All (λ b. b < 2 ^ 8) h.bytes → en
 entry_of-below h i all =
     let P : ℕ → Type 0 = λ b. b < 2 ^ 8 in
     let n : ℕ = 8 * slice_index h.bytes 1 in
-    address_number-below (drop (16 * i) (take n (drop 8 h.bytes))) (All-drop P (16 * i) (take n (drop 8 h.bytes)) (All-take P n (drop 8 h.bytes) (All-drop P 8 h.bytes all)))
+    address_number-below (drop (16 * i) (take n (drop 8 h.bytes)))
+    (All-drop P (16 * i) (take n (drop 8 h.bytes)) (All-take P n (drop 8 h.bytes) (All-drop P 8 h.bytes all)))
 
 -- the step keeps a packet spellable
 pub steps-spellable : (p q : Packet) → IsSpellable p → StepsTo p q → IsSpellable q
@@ -192,7 +195,8 @@ at_sid-spellable s allow p q ok e = steps-spellable p q ok (at_sid-steps s allow
 
 -- ---- the bytes before and after the step
 
-payload-same : (p q : Packet) (s : StepsTo p q) (k : ℕ) → k ≢ 40 + (s.header.at + 3) → 40 ≤ k → slice_index q.payload (k - 40) ≡ slice_index p.payload (k - 40)
+payload-same : (p q : Packet) (s : StepsTo p q) (k : ℕ) → k ≢ 40 + (s.header.at + 3) → 40 ≤ k
+    → slice_index q.payload (k - 40) ≡ slice_index p.payload (k - 40)
 payload-same p q s k other far =
     let apart : k - 40 ≡ s.header.at + 3 → ⊥ = λ e. other (omega arith) in
     ap (λ xs. slice_index xs (k - 40)) s.payload ∙ get_or-set_other p.payload (s.header.at + 3) (k - 40) s.left 0 apart
@@ -221,8 +225,10 @@ steps-bytes p q s =
       within = omega arith;
       same_length = after ∙ ap (λ n. 40 + n) len ∙ sym before;
       hop_limit = spelling-hop_limit p ∙ s.hop_limit ∙ ap (λ n. n + 1) (sym (spelling-hop_limit q));
-      segments_left = spelling-payload p (s.header.at + 3) ∙ payload-stepped p q s ∙ ap (λ n. n + 1) (sym (spelling-payload q (s.header.at + 3)));
-      same = λ k not_seven not_there side. spelling-agrees p q class label next source len k not_seven side (payload-same p q s k not_there);
+      segments_left = spelling-payload p (s.header.at + 3) ∙ payload-stepped p q s
+          ∙ ap (λ n. n + 1) (sym (spelling-payload q (s.header.at + 3)));
+      same = λ k not_seven not_there side. spelling-agrees p q class label next source len k not_seven side
+          (payload-same p q s k not_there);
     }
 
 -- but for the hop limit, Segments Left and the destination all bytes are as they were
@@ -249,7 +255,8 @@ pub read_as-is_content : (family : Family) (bytes : List ℕ) → All (λ b. b <
 read_as-is_content families.V6 bytes all = content_of-is_content bytes all
 
 -- and its bytes read as it again
-pub read_as-bytes_of : (family : Family) (bytes : List ℕ) → All (λ b. b < 2 ^ 8) bytes → read_as family (bytes_of (read_as family bytes)) ≡ read_as family bytes
+pub read_as-bytes_of : (family : Family) (bytes : List ℕ) → All (λ b. b < 2 ^ 8) bytes
+    → read_as family (bytes_of (read_as family bytes)) ≡ read_as family bytes
 read_as-bytes_of families.V6 bytes all = content_of-bytes_of bytes all
 
 -- bytes that read as a packet begin with its spelling
@@ -267,7 +274,8 @@ at_sid-content s allow p family bytes ok e = read_as-is_content family bytes (at
 
 pub at_sid-exposed_packet : (s : SidEntry) (allow : List ℕ) (p q : Packet) (family : Family) (bytes : List ℕ) → IsSpellable p
     → at_sid s allow p ≡ Exposed family bytes → read_as family bytes ≡ V6 q → bytes ≡ spelling q ++ drop (length (spelling q)) bytes
-at_sid-exposed_packet s allow p q family bytes ok e reads = read_as-spelled family bytes q (at_sid-exposed_bytes s allow p family bytes ok e) reads
+at_sid-exposed_packet s allow p q family bytes ok e reads =
+    read_as-spelled family bytes q (at_sid-exposed_bytes s allow p family bytes ok e) reads
 
 pub at_sid-exposed_back : (s : SidEntry) (allow : List ℕ) (p : Packet) (family : Family) (bytes : List ℕ) → IsSpellable p
     → at_sid s allow p ≡ Exposed family bytes → read_as family (bytes_of (read_as family bytes)) ≡ read_as family bytes
@@ -280,7 +288,8 @@ pub at_sid-delivered : (s : SidEntry) (allow : List ℕ) (p q : Packet) → at_s
 at_sid-delivered s allow p q e = let P : Endpoint → Type 0 = λ x. AtSid s p x in subst P e (at_sid-is s p allow)
 
 -- the place of a fault lies in the packet or at its end
-pub at_sid-place : (s : SidEntry) (allow : List ℕ) (p : Packet) (reason : Reason) (at : ℕ) → at_sid s allow p ≡ Refused reason at → at ≤ 40 + length p.payload
+pub at_sid-place : (s : SidEntry) (allow : List ℕ) (p : Packet) (reason : Reason) (at : ℕ) → at_sid s allow p ≡ Refused reason at
+    → at ≤ 40 + length p.payload
 at_sid-place s allow p reason at e = let P : Endpoint → Type 0 = λ x. AtSid s p x in subst P e (at_sid-is s p allow)
 
 -- ---- what is so of each outcome at an address
@@ -294,7 +303,8 @@ AtAddress p (Refused reason at) = at ≤ 40 + length p.payload
 module _ (p : Packet) where
   address_header-by : (h : Header) → LiesIn p.payload h → (rest : Endpoint) → (IsPassed h → AtAddress p rest) → (routing none : Bool)
       → is_segment_routing h ≡ routing → ((srh_of h.bytes).segments_left == 0) ≡ none
-      → AtAddress p (if routing then (if none then rest else Refused reasons.UnknownRouting (in_packet (h.at + 2))) else Refused reasons.NotBuilt 0)
+      → AtAddress p (if routing then (if none then rest else Refused reasons.UnknownRouting (in_packet (h.at + 2)))
+      else Refused reasons.NotBuilt 0)
   address_header-by h lies rest more false none er en = omega arith
   address_header-by h lies rest more true true er en = more (er, eqb-true (srh_of h.bytes).segments_left 0 en)
   address_header-by h lies rest more true false er en =

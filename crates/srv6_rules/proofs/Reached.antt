@@ -1,5 +1,5 @@
 -- Headers one by one: what comes of them is decided by the first that is not passed over, or by the chain's end.
-use Rattle.std.proofs.Common.{◌≡◌, ℕ, ◌+◌, ◌<◌, Bool, true, false, ◌==◌, if◌then◌else◌, List, [], ◌∷◌, ◌++◌, drop, slice_index, All, Contains, refl, sym, ap, subst, ◌∙◌, ◌⊎◌, arith, inl, inr}
+use Rattle.std.proofs.Common.{◌≡◌, ℕ, ◌+◌, ◌<◌, Bool, true, false, ◌==◌, if◌then◌else◌, List, [], ◌∷◌, ◌++◌, drop, All, Contains, refl, sym, ap, subst, ◌∙◌, ◌⊎◌, arith, inl, inr}
 use Rattle.std.proofs.lemmas.Bool.{true≢false, cases_Bool, cases_eq, eq-eqb, ne_eqb}
 use Rattle.std.proofs.lemmas.List.{append-nil}
 use Rattle.std.proofs.lemmas.List.Elements.{All-nil, All-cons, All-head, All-tail, All-contains, Contains-get_or, Contains-append_right}
@@ -8,8 +8,8 @@ use Rattle.srv6_rules.specs.declared.sid.SidEntry.{SidEntry}
 use Rattle.srv6_rules.specs.Behaviours.{goes_on}
 use Rattle.srv6_rules.specs.Packet.{Packet}
 use Rattle.srv6_rules.specs.Srh.{srh_of}
-use Rattle.srv6_rules.specs.Chain.{Header, ChainEnd, Upper, Cut, Chain, LiesIn, is_extension, is_whole, extension_bytes, behind, chain_at, header_at, is_segment_routing}
-use Rattle.srv6_rules.specs.Endpoint.{Endpoint, Refused, in_packet, next_segment, over_headers, at_header, at_address_header, IsPassed, IsReached, FirstNotPassed}
+use Rattle.srv6_rules.specs.Chain.{Header, ChainEnd, Upper, Cut, Chain, LiesIn, is_extension, is_whole, behind, chain_at, chain_behind, header_at, is_segment_routing}
+use Rattle.srv6_rules.specs.Endpoint.{Endpoint, Refused, in_packet, next_segment, over_headers, over_chain, at_header, at_address_header, IsPassed, IsReached, FirstNotPassed}
 use Rattle.srv6_rules.proofs.Chains.{chain_at-goes_on, chain_at-lies}
 
 -- ---- headers that are reached
@@ -91,27 +91,27 @@ pub over-all_passed : (treat : Header → Endpoint → Endpoint) (headers : List
 over-all_passed treat headers end pass all =
     ap (λ hs. over_headers treat hs end) (sym (append-nil headers)) ∙ over-passed treat headers [] end pass all
 
-over-went_on : (treat : Header → Endpoint → Endpoint) (end : ChainEnd → Endpoint) (ext whole : Bool) (h : Header) (kind at : ℕ) (tail : Chain)
-    → (let c = if ext then (if whole then behind h tail else record { headers = []; end = Cut }) else record { headers = []; end = Upper kind at }
-    in over_headers treat c.headers (end c.end))
-    ≡ (if ext then (if whole then treat h (over_headers treat tail.headers (end tail.end)) else end Cut) else end (Upper kind at))
+over-went_on : (treat : Header → Endpoint → Endpoint) (end : ChainEnd → Endpoint) (ext whole : Bool) (h : Header) (kind at : ℕ)
+    (tail : Chain)
+    → over_chain treat end
+    (if ext then (if whole then behind h tail else record { headers = []; end = Cut }) else record { headers = []; end = Upper kind at })
+    ≡ (if ext then (if whole then treat h (over_chain treat end tail) else end Cut) else end (Upper kind at))
 over-went_on treat end true true h kind at tail = refl
 over-went_on treat end true false h kind at tail = refl
 over-went_on treat end false whole h kind at tail = refl
 
 -- how the outcome goes on from each place of a payload
 pub over-goes_on : (treat : Header → Endpoint → Endpoint) (end : ChainEnd → Endpoint) (payload : List ℕ) (kind at : ℕ)
-    → over_headers treat (chain_at payload kind at).headers (end (chain_at payload kind at).end)
+    → over_chain treat end (chain_at payload kind at)
     ≡ (if is_extension kind
     then (if is_whole kind (drop at payload)
-    then (let tail = chain_at payload (slice_index (drop at payload) 0) (at + extension_bytes kind (drop at payload)) in
-    treat (header_at payload kind at) (over_headers treat tail.headers (end tail.end)))
+    then treat (header_at payload kind at) (over_chain treat end (chain_behind payload kind at))
     else end Cut)
     else end (Upper kind at))
 over-goes_on treat end payload kind at =
-    ap (λ c. over_headers treat c.headers (end c.end)) (chain_at-goes_on payload kind at)
+    ap (λ c. over_chain treat end c) (chain_at-goes_on payload kind at)
     ∙ over-went_on treat end (is_extension kind) (is_whole kind (drop at payload)) (header_at payload kind at) kind at
-    (chain_at payload (slice_index (drop at payload) 0) (at + extension_bytes kind (drop at payload)))
+    (chain_behind payload kind at)
 
 -- ---- at a SID and at an address
 
@@ -127,7 +127,8 @@ at_address_header-passed h rest is =
     rw (is.0, none) refl
 
 -- what comes of a header that is not passed over does not depend on those behind it
-pub at_header-stays : (s : SidEntry) (p : Packet) (h : Header) (one two : Endpoint) → (IsPassed h → ⊥) → at_header s p h one ≡ at_header s p h two
+pub at_header-stays : (s : SidEntry) (p : Packet) (h : Header) (one two : Endpoint) → (IsPassed h → ⊥)
+    → at_header s p h one ≡ at_header s p h two
 at_header-stays s p h one two stays = elim (cases_Bool (is_segment_routing h)) [
   | inl is ↦
       let some : ((srh_of h.bytes).segments_left == 0) ≡ false = ne_eqb (srh_of h.bytes).segments_left 0 (λ none. stays (is, none)) in
@@ -144,13 +145,15 @@ at_address_header-stays h one two stays = elim (cases_Bool (is_segment_routing h
 ]
 
 -- a segment routing header with segments left at a SID that goes on, and at one that does not
-pub at_header-steps : (s : SidEntry) (p : Packet) (h : Header) (rest : Endpoint) → is_segment_routing h ≡ true → 0 < (srh_of h.bytes).segments_left
+pub at_header-steps : (s : SidEntry) (p : Packet) (h : Header) (rest : Endpoint) → is_segment_routing h ≡ true
+    → 0 < (srh_of h.bytes).segments_left
     → goes_on s ≡ true → at_header s p h rest ≡ next_segment p h.at (srh_of h.bytes)
 at_header-steps s p h rest is left goes =
     let some : ((srh_of h.bytes).segments_left == 0) ≡ false = ne_eqb (srh_of h.bytes).segments_left 0 (omega arith) in
     rw (is, some, goes) refl
 
-pub at_header-refuses : (s : SidEntry) (p : Packet) (h : Header) (rest : Endpoint) → is_segment_routing h ≡ true → 0 < (srh_of h.bytes).segments_left
+pub at_header-refuses : (s : SidEntry) (p : Packet) (h : Header) (rest : Endpoint) → is_segment_routing h ≡ true
+    → 0 < (srh_of h.bytes).segments_left
     → goes_on s ≡ false → at_header s p h rest ≡ Refused reasons.BadSegments (in_packet (h.at + 3))
 at_header-refuses s p h rest is left stays =
     let some : ((srh_of h.bytes).segments_left == 0) ≡ false = ne_eqb (srh_of h.bytes).segments_left 0 (omega arith) in
@@ -168,5 +171,6 @@ pub at_header-not_built : (s : SidEntry) (p : Packet) (h : Header) (rest : Endpo
     → at_header s p h rest ≡ Refused reasons.NotBuilt 0
 at_header-not_built s p h rest other = rw other refl
 
-pub at_address_header-not_built : (h : Header) (rest : Endpoint) → is_segment_routing h ≡ false → at_address_header h rest ≡ Refused reasons.NotBuilt 0
+pub at_address_header-not_built : (h : Header) (rest : Endpoint) → is_segment_routing h ≡ false
+    → at_address_header h rest ≡ Refused reasons.NotBuilt 0
 at_address_header-not_built h rest other = rw other refl

@@ -66,6 +66,10 @@ chain_at payload kind at = chain_within (length (drop at payload)) kind at (drop
 abbrev pub header_at : List ℕ → ℕ → ℕ → Header
 header_at payload kind at = record { kind = kind; at = at; bytes = take (extension_bytes kind (drop at payload)) (drop at payload) }
 
+-- the chain behind the header at a place of a payload
+abbrev pub chain_behind : List ℕ → ℕ → ℕ → Chain
+chain_behind payload kind at = let bytes = drop at payload in chain_at payload (slice_index bytes 0) (at + extension_bytes kind bytes)
+
 -- a header lies whole in a payload, with the length that it states
 pub record LiesIn (payload : List ℕ) (h : Header) : Type 0 where
   pub extension : is_extension h.kind ≡ true

@@ -3,7 +3,7 @@
 use Rattle.std.specs.Prelude.{ℕ, ◌+◌, ◌-◌, ◌*◌, ◌^◌, ◌<◌, ◌≤◌, Bool, not, ◌||◌, nat_lt, if◌then◌else◌, List, ◌++◌, length, drop, reverse, slice_index, flat_map, All}
 use Rattle.srv6_rules.specs.Packet.{Packet, spelling, address_bytes}
 use Rattle.srv6_rules.specs.Srh.{Srh, srh_spelling}
-use Rattle.srv6_rules.specs.Chain.{routing}
+use Rattle.srv6_rules.specs.Chain.{Header, routing}
 use Rattle.srv6_rules.specs.Behaviours.{ipv6_inside}
 
 -- what a packet is encapsulated with, but for the hop limit: the outer header's fields; the segments, at least one, in
@@ -36,6 +36,10 @@ segment_routing_of e left =
       tag = 0;
       body = flat_map address_bytes (segment_list e);
     }
+
+-- that header as the first of the outer packet's chain
+abbrev pub header_of : Encapsulation → ℕ → Header
+header_of e left = record { kind = routing; at = 0; bytes = srh_spelling (segment_routing_of e left) }
 
 -- the packet round the bytes of the inner one, with these Segments Left, hop limit and destination
 abbrev pub outer : Encapsulation → List ℕ → ℕ → ℕ → ℕ → Packet

@@ -10,7 +10,7 @@ use Rattle.srv6_rules.specs.declared.sid.SidEntry.{SidEntry}
 use Rattle.srv6_rules.specs.Behaviours.{goes_on, exposes, ipv6_inside}
 use Rattle.srv6_rules.specs.Packet.{Packet, header_len}
 use Rattle.srv6_rules.specs.Srh.{Srh, srh_of, entries_of, entry_of, tlv_bytes, segments_left_at, routing_type_at}
-use Rattle.srv6_rules.specs.Chain.{Header, ChainEnd, Upper, Cut, LiesIn, is_segment_routing, chain_of}
+use Rattle.srv6_rules.specs.Chain.{Header, ChainEnd, Upper, Cut, Chain, LiesIn, is_segment_routing, chain_of}
 
 -- what came of a packet at a SID or an address: it goes on with another destination; the packet inside it, of a family
 -- and with the bytes from there on, is exposed; it is handed to the upper layer here; or it is dropped, for a fault at a
@@ -29,6 +29,10 @@ in_packet at = header_len + at
 abbrev pub over_headers : (Header → Endpoint → Endpoint) → List Header → Endpoint → Endpoint
 over_headers treat [] end = end
 over_headers treat (h ∷ hs) end = treat h (over_headers treat hs end)
+
+-- a chain: its headers one by one, the last of them given what came of the chain's end
+abbrev pub over_chain : (Header → Endpoint → Endpoint) → (ChainEnd → Endpoint) → Chain → Endpoint
+over_chain treat end c = over_headers treat c.headers (end c.end)
 
 -- the upper layers that a node takes at its SIDs
 abbrev pub is_allowed : List ℕ → ℕ → Bool
@@ -82,7 +86,7 @@ at_end s allow p Cut = Refused reasons.BadChain 0
 
 -- a packet at a SID of a node that takes some upper layers there
 abbrev pub at_sid : SidEntry → List ℕ → Packet → Endpoint
-at_sid s allow p = let c = chain_of p in over_headers (at_header s p) c.headers (at_end s allow p c.end)
+at_sid s allow p = over_chain (at_header s p) (at_end s allow p) (chain_of p)
 
 -- a header at the node's own address: a segment routing header with segments left is unknown, with none it is passed
 -- over; other headers are not built
@@ -99,7 +103,7 @@ at_address_end p Cut = Refused reasons.BadChain 0
 
 -- a packet at the node's own address
 abbrev pub at_address : Packet → Endpoint
-at_address p = let c = chain_of p in over_headers at_address_header c.headers (at_address_end p c.end)
+at_address p = over_chain at_address_header (at_address_end p) (chain_of p)
 
 -- headers of a chain that are passed over: segment routing headers with no segments left
 abbrev pub IsPassed : Header → Type 0

@@ -57,7 +57,8 @@ first_word traffic_class flow_label = IPV6_VERSION * 2 ^ 28 + traffic_class * 2 
 -- the bytes of a packet's header; its payload length is the payload's (RFC 8200 section 3)
 unfoldable pub header_spelling : Packet → List ℕ
 header_spelling p =
-    four_bytes (first_word p.traffic_class p.flow_label) ++ (two_bytes (length p.payload) ++ (p.next_header ∷ p.hop_limit ∷ (address_bytes p.source ++ address_bytes p.destination)))
+    four_bytes (first_word p.traffic_class p.flow_label) ++
+    (two_bytes (length p.payload) ++ (p.next_header ∷ p.hop_limit ∷ (address_bytes p.source ++ address_bytes p.destination)))
 
 -- the one spelling of a packet
 abbrev pub spelling : Packet → List ℕ

@@ -1,10 +1,11 @@
-//! The numbers of headers. Lengths and places are in bytes, and a place is counted from its header's first byte.
+//! The numbers of headers. Lengths and places are in bytes, and a place is counted from its
+//! header's first byte.
 
 /// The length of an IPv6 header: 40 (RFC 8200 section 3).
 pub const IPV6_HEADER_LEN: usize = 40;
 
-/// The longest IPv6 packet: a header and a payload of 65,535 bytes, the greatest that its payload length can state
-/// (RFC 8200 section 3).
+/// The longest IPv6 packet: a header and a payload of 65,535 bytes, the greatest that its payload
+/// length can state (RFC 8200 section 3).
 pub const MOST_LEN: usize = 65575;
 
 /// The version in the first half byte of an IPv6 header: 6 (RFC 8200 section 3).
@@ -40,10 +41,12 @@ pub const FRAGMENT: u8 = 44;
 /// The next header that names Destination Options: 60 (RFC 8200 section 4.6).
 pub const DESTINATION_OPTIONS: u8 = 60;
 
-/// The unit in which an extension header states its length, and the least length of one: 8 (RFC 8200 section 4).
+/// The unit in which an extension header states its length, and the least length of one: 8 (RFC
+/// 8200 section 4).
 pub const EXTENSION_UNIT: usize = 8;
 
-/// The place of the length of an extension header, in 8-byte units behind the first 8 bytes: 1 (RFC 8200 section 4).
+/// The place of the length of an extension header, in 8-byte units behind the first 8 bytes: 1 (RFC
+/// 8200 section 4).
 pub const EXTENSION_LEN_AT: usize = 1;
 
 /// The routing type of a segment routing header: 4 (RFC 8754 section 2).

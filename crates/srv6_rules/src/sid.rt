@@ -116,7 +116,8 @@ impl Behaviour {
         }
     }
 
-    /// It exposes the packet inside, an upper layer of this kind: End.DT6 of IPv6 (RFC 8986 section 4.6).
+    /// It exposes the packet inside, an upper layer of this kind: End.DT6 of IPv6 (RFC 8986 section
+    /// 4.6).
     pub fn exposes(&self, kind: u8) -> bool
         ensures { result ≡ behaviour_exposes self.now kind }
     {
