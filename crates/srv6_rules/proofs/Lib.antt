@@ -6,4 +6,4 @@ pub mod Chains
 pub mod Reached
 pub mod Endpoints
 pub mod Encapsulations
-pub mod Lemmas
+pub mod PublicLaws
