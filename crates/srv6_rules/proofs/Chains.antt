@@ -1,11 +1,11 @@
 -- The chain of extension headers: how it goes on from each place, and where its headers lie.
-use Rattle.std.proofs.Common.{◌≡◌, ℕ, zero, suc, ◌+◌, ◌*◌, ◌^◌, ◌<◌, ◌≤◌, Bool, true, false, ◌==◌, nat_le, if◌then◌else◌, List, [], ◌∷◌, ◌++◌, length, take, drop, slice_index, All, Contains, refl, sym, ap, subst, ◌∙◌, arith, inl, inr, length-drop}
+use Rattle.std.proofs.Common.{◌≡◌, ℕ, zero, suc, ◌+◌, ◌*◌, ◌^◌, ◌<◌, ◌≤◌, Bool, true, false, ◌==◌, nat_le, if◌then◌else◌, List, [], ◌++◌, length, take, drop, slice_index, All, refl, sym, ap, subst, ◌∙◌, arith, inl, inr, length-drop}
 use Rattle.std.proofs.lemmas.List.{drop-drop, get_or-drop, get_or-take, length-append, length-take-le, take_at}
-use Rattle.std.proofs.lemmas.List.Elements.{All-nil, All-cons, All-contains, Contains-get_or, Contains-append_right, All-take, All-drop}
+use Rattle.std.proofs.lemmas.List.Elements.{All-nil, All-cons, All-take, All-drop}
 use Rattle.std.proofs.lemmas.Bool.{cases_Bool, and_parts, and_from, leb-true, lt-leb, le-leb}
 use Rattle.srv6_rules.specs.Srh.{Srh, srh_spelling}
 use Rattle.srv6_rules.proofs.Headers.{length-srh_spelling}
-use Rattle.srv6_rules.specs.Chain.{Header, Chain, ChainEnd, Upper, Cut, LiesIn, fragment, routing, is_extension, extension_bytes, is_whole, behind, chain_within, chain_at, header_at, is_passed, first_processed, processed_in, at_end, FirstNotPassed, AtHeader, AtUpper, AtCut}
+use Rattle.srv6_rules.specs.Chain.{Header, Chain, Upper, Cut, LiesIn, fragment, routing, is_extension, extension_bytes, is_whole, behind, chain_within, chain_at, header_at}
 
 -- ---- one header and what follows
 
@@ -130,14 +130,6 @@ pub chain_at-header : (payload : List ℕ) (kind at : ℕ) → is_extension kind
     ≡ behind (header_at payload kind at) (chain_at payload (slice_index (drop at payload) 0) (at + extension_bytes kind (drop at payload)))
 chain_at-header payload kind at e w = chain_at-goes_on payload kind at ∙ rw (e, w) refl
 
-processed-went_on : (ext whole : Bool) (h : Header) (kind at : ℕ) (tail : Chain)
-    → processed_in (went_on ext whole h kind at tail)
-    ≡ (if ext then (if whole then (if is_passed h then processed_in tail else AtHeader h) else AtCut) else AtUpper kind at)
-unfolding went_on
-processed-went_on true true h kind at tail = refl
-processed-went_on true false h kind at tail = refl
-processed-went_on false whole h kind at tail = refl
-
 -- ---- where headers lie
 
 went_on-all : (P : Header → Type 0) (ext whole : Bool) (h : Header) (kind at : ℕ) (tail : Chain)
@@ -258,103 +250,6 @@ pub chain_at-upper_stands : (payload : List ℕ) (kind at k a : ℕ) → at ≤ 
     → (is_extension k ≡ false) × (at ≤ a) × (a ≤ length payload)
 unfolding chain_at StandsFrom
 chain_at-upper_stands payload kind at k a start is = within-upper (length (drop at payload)) kind at k a payload start is
-
--- ---- what is processed
-
-processed-not_end : (end : ChainEnd) (h : Header) → at_end end ≡ AtHeader h → ⊥
-processed-not_end (Upper kind at) h e = cc
-processed-not_end Cut h e = cc
-
-first-header-by : (x : Header) (hs : List Header) (end : ChainEnd) (h : Header) (passed : Bool) → is_passed x ≡ passed
-    → (if passed then first_processed hs end else AtHeader x) ≡ AtHeader h → (first_processed hs end ≡ AtHeader h → FirstNotPassed hs h) → FirstNotPassed (x ∷ hs) h
-first-header-by x hs end h true is e more =
-    let m = more e in
-    record {
-      before = x ∷ m.before;
-      after = m.after;
-      split = ap (λ xs. x ∷ xs) m.split;
-      passed = All-cons (λ y. is_passed y ≡ true) x m.before is m.passed;
-      stays = m.stays;
-    }
-first-header-by x hs end h false is e more =
-    let same : x ≡ h = cc in
-    record {
-      before = [];
-      after = hs;
-      split = ap (λ y. y ∷ hs) same;
-      passed = All-nil (λ y. is_passed y ≡ true);
-      stays = ap (λ y. is_passed y) (sym same) ∙ is;
-    }
-
--- the header that is processed is the first that is not passed over
-pub first-header : (hs : List Header) (end : ChainEnd) (h : Header) → first_processed hs end ≡ AtHeader h → FirstNotPassed hs h
-first-header [] end h e = absurd (processed-not_end end h e)
-first-header (x ∷ hs) end h e = first-header-by x hs end h (is_passed x) refl e (first-header hs end h)
-
-first-upper-by : (x : Header) (hs : List Header) (end : ChainEnd) (k a : ℕ) (passed : Bool) → is_passed x ≡ passed
-    → (if passed then first_processed hs end else AtHeader x) ≡ AtUpper k a
-    → (first_processed hs end ≡ AtUpper k a → All (λ y. is_passed y ≡ true) hs × (end ≡ Upper k a)) → All (λ y. is_passed y ≡ true) (x ∷ hs) × (end ≡ Upper k a)
-first-upper-by x hs end k a true is e more = let m = more e in (All-cons (λ y. is_passed y ≡ true) x hs is m.0, m.1)
-first-upper-by x hs end k a false is e more = cc
-
-first-upper-end : (end : ChainEnd) (k a : ℕ) → at_end end ≡ AtUpper k a → end ≡ Upper k a
-first-upper-end (Upper kind at) k a e = cc
-first-upper-end Cut k a e = cc
-
--- an upper layer is processed where each header is passed over
-pub first-upper : (hs : List Header) (end : ChainEnd) (k a : ℕ) → first_processed hs end ≡ AtUpper k a → All (λ y. is_passed y ≡ true) hs × (end ≡ Upper k a)
-first-upper [] end k a e = (All-nil (λ y. is_passed y ≡ true), first-upper-end end k a e)
-first-upper (x ∷ hs) end k a e = first-upper-by x hs end k a (is_passed x) refl e (first-upper hs end k a)
-
-first-cut-by : (x : Header) (hs : List Header) (end : ChainEnd) (passed : Bool) → is_passed x ≡ passed
-    → (if passed then first_processed hs end else AtHeader x) ≡ AtCut
-    → (first_processed hs end ≡ AtCut → All (λ y. is_passed y ≡ true) hs × (end ≡ Cut)) → All (λ y. is_passed y ≡ true) (x ∷ hs) × (end ≡ Cut)
-first-cut-by x hs end true is e more = let m = more e in (All-cons (λ y. is_passed y ≡ true) x hs is m.0, m.1)
-first-cut-by x hs end false is e more = cc
-
-first-cut-end : (end : ChainEnd) → at_end end ≡ AtCut → end ≡ Cut
-first-cut-end (Upper kind at) e = cc
-first-cut-end Cut e = refl
-
-pub first-cut : (hs : List Header) (end : ChainEnd) → first_processed hs end ≡ AtCut → All (λ y. is_passed y ≡ true) hs × (end ≡ Cut)
-first-cut [] end e = (All-nil (λ y. is_passed y ≡ true), first-cut-end end e)
-first-cut (x ∷ hs) end e = first-cut-by x hs end (is_passed x) refl e (first-cut hs end)
-
--- what is processed of a chain, from each place on
-pub processed-goes_on : (payload : List ℕ) (kind at : ℕ)
-    → processed_in (chain_at payload kind at)
-    ≡ (if is_extension kind
-    then (if is_whole kind (drop at payload)
-    then (if is_passed (header_at payload kind at)
-    then processed_in (chain_at payload (slice_index (drop at payload) 0) (at + extension_bytes kind (drop at payload)))
-    else AtHeader (header_at payload kind at))
-    else AtCut)
-    else AtUpper kind at)
-processed-goes_on payload kind at =
-    ap (λ c. processed_in c) (chain_at-went_on payload kind at)
-    ∙ processed-went_on (is_extension kind) (is_whole kind (drop at payload)) (header_at payload kind at) kind at
-    (chain_at payload (slice_index (drop at payload) 0) (at + extension_bytes kind (drop at payload)))
-
--- the first that is not passed over is one of the headers
-pub first-contained : (hs : List Header) (h : Header) → FirstNotPassed hs h → Contains hs h
-first-contained hs h f =
-    let here : Contains (h ∷ f.after) h = Contains-get_or (h ∷ f.after) 0 h (omega arith) in
-    let Q : List Header → Type 0 = λ xs. Contains xs h in
-    subst Q (sym f.split) (Contains-append_right f.before (h ∷ f.after) h here)
-
--- the header that is processed lies in the payload, and is not passed over
-pub processed-lies : (payload : List ℕ) (kind at : ℕ) (h : Header) → processed_in (chain_at payload kind at) ≡ AtHeader h → LiesIn payload h × (is_passed h ≡ false)
-processed-lies payload kind at h e =
-    let c : Chain = chain_at payload kind at in
-    let f = first-header c.headers c.end h e in
-    (All-contains (LiesIn payload) c.headers h (chain_at-lies payload kind at) (first-contained c.headers h f), f.stays)
-
--- the upper layer that is processed stands in the payload or at its end
-pub processed-upper_stands : (payload : List ℕ) (kind at k a : ℕ) → at ≤ length payload → processed_in (chain_at payload kind at) ≡ AtUpper k a
-    → (is_extension k ≡ false) × (at ≤ a) × (a ≤ length payload)
-processed-upper_stands payload kind at k a start e =
-    let c : Chain = chain_at payload kind at in
-    chain_at-upper_stands payload kind at k a start (first-upper c.headers c.end k a e).1
 
 -- ---- a header that was spelled
 
