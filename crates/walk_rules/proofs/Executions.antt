@@ -1,13 +1,11 @@
 -- Where a stage executes a SID: the SID is there and stands at the node, and the hop limit falls by one before a packet
 -- goes on.
-use Rattle.std.proofs.Common.{◌≡◌, ℕ, ◌+◌, ◌<◌, List, Option, Some, None, slice_get, refl, sym, ◌∙◌, subst, ap}
-use Rattle.srv6_rules.specs.declared.sid.Behaviour.{Behaviour}
+use Rattle.std.proofs.Common.{◌≡◌, ℕ, ◌+◌, ◌<◌, List, Some, slice_get, refl, sym, ◌∙◌, subst, ap}
 use Rattle.srv6_rules.specs.declared.sid.Family.{Family}
-use Rattle.srv6_rules.specs.declared.sid.Reason.{Reason}
 use Rattle.srv6_rules.specs.declared.sid.SidEntry.{SidEntry}
 use Rattle.srv6_rules.specs.Packet.{Packet, Content, V6, Unreadable}
 use Rattle.srv6_rules.specs.Endpoint.{Endpoint, Onward, Exposed, Delivered, Refused, at_sid, at_address}
-use Rattle.srv6_rules.proofs.Endpoints.{at_sid-steps}
+use Rattle.srv6_rules.proofs.Lemmas.{at_sid-steps}
 use Rattle.net_model.specs.Network.{Network}
 use Rattle.walk_rules.specs.declared.place.How.{How}
 use Rattle.walk_rules.specs.declared.place.Place.{Place}
@@ -30,10 +28,12 @@ ExecutesBy net place content gave (outcomes.Drop reason error) = Unit {0}
 abbrev IfExecutes : Network → Place → Content → Gave → Type 0
 IfExecutes net place content gave = ExecutesBy net place content gave gave.outcome
 
-address-executes : (net : Network) (place : Place) (content : Content) (p : Packet) (refused : Option Reason)
-    → IfExecutes net place content (treated_at_address net place.node p refused)
-address-executes net place content p None = tt
-address-executes net place content p (Some reason) = tt
+address-executes : (net : Network) (place : Place) (content : Content) (p : Packet) (e : Endpoint)
+    → IfExecutes net place content (treated_at_address net place.node p e)
+address-executes net place content p (Onward q) = tt
+address-executes net place content p (Exposed family bytes) = tt
+address-executes net place content p (Delivered q) = tt
+address-executes net place content p (Refused reason at) = tt
 
 endpoint-executes : (net : Network) (place : Place) (p : Packet) (n : ℕ) (s : SidEntry) (e : Endpoint)
     → way_of net place p.destination ≡ Into n → slice_get net.sids n ≡ Some s → s.node ≡ place.node
@@ -41,10 +41,10 @@ endpoint-executes : (net : Network) (place : Place) (p : Packet) (n : ℕ) (s : 
     → IfExecutes net place (V6 p) (treated_at_sid net place.node n s.behaviour p e)
 endpoint-executes net place p n s (Onward q) way there stands same =
     record { packet = p; is_packet = refl; way = way; sid = s; is_there = there; stands = stands; goes_on = refl; gives = same }
-endpoint-executes net place p n s (Exposed content) way there stands same =
+endpoint-executes net place p n s (Exposed family bytes) way there stands same =
     record { packet = p; is_packet = refl; way = way; sid = s; is_there = there; stands = stands; goes_on = refl; gives = same }
-endpoint-executes net place p n s Delivered way there stands same = tt
-endpoint-executes net place p n s (Refused reason) way there stands same = tt
+endpoint-executes net place p n s (Delivered q) way there stands same = tt
+endpoint-executes net place p n s (Refused reason at) way there stands same = tt
 
 -- the SID that is there is the one that stands at the node
 stands-there : (net : Network) (node n : ℕ) (s : SidEntry) → slice_get net.sids n ≡ Some s → StandsAt net node n → s.node ≡ node
@@ -61,7 +61,7 @@ step-executes net place (V6 p) choice =
       send = λ set lower e. tt;
       own = address-executes net place (V6 p) p (at_address p);
       sid = λ n s into there.
-          endpoint-executes net place p n s (at_sid s.behaviour (allow_of (slice_get net.nodes place.node)) p) into there
+          endpoint-executes net place p n s (at_sid s (allow_of (slice_get net.nodes place.node)) p) into there
           (stands-there net place.node n s there
           (subst (IntoStands net place.node) into (way-stands net place p.destination))) refl;
     })
@@ -84,8 +84,8 @@ step-hand net place content choice n how family e =
 abbrev IsOneLess : Packet → Packet → Type 0
 IsOneLess p q = (1 < p.hop_limit) × (q.hop_limit + 1 ≡ p.hop_limit)
 
-sid-less : (b : Behaviour) (allow : List ℕ) (p q : Packet) → at_sid b allow p ≡ Onward q → IsOneLess p q
-sid-less b allow p q e = let step = at_sid-steps b allow p q e in (step.above_one, sym step.hop_limit)
+sid-less : (s : SidEntry) (allow : List ℕ) (p q : Packet) → at_sid s allow p ≡ Onward q → IsOneLess p q
+sid-less s allow p q e = let step = at_sid-steps s allow p q e in (step.above_one, sym step.hop_limit)
 
 -- of an execution after which the packet stays at the node
 abbrev AgainLess : Packet → Outcome → Content → Type 0
@@ -98,18 +98,18 @@ AgainLess p (outcomes.Drop reason error) after = Unit {0}
 abbrev IfAgainLess : Packet → Gave → Type 0
 IfAgainLess p gave = AgainLess p gave.outcome gave.after
 
-endpoint-less : (net : Network) (node n : ℕ) (b : Behaviour) (p : Packet) (allow : List ℕ) (e : Endpoint) → at_sid b allow p ≡ e
-    → IfAgainLess p (treated_at_sid net node n b p e)
-endpoint-less net node n b p allow (Onward q) same = sid-less b allow p q same
-endpoint-less net node n b p allow (Exposed content) same = tt
-endpoint-less net node n b p allow Delivered same = tt
-endpoint-less net node n b p allow (Refused reason) same = tt
+endpoint-less : (net : Network) (node n : ℕ) (s : SidEntry) (allow : List ℕ) (p : Packet) (e : Endpoint) → at_sid s allow p ≡ e
+    → IfAgainLess p (treated_at_sid net node n s.behaviour p e)
+endpoint-less net node n s allow p (Onward q) same = sid-less s allow p q same
+endpoint-less net node n s allow p (Exposed family bytes) same = tt
+endpoint-less net node n s allow p (Delivered q) same = tt
+endpoint-less net node n s allow p (Refused reason at) same = tt
 
 executes-less : (net : Network) (place : Place) (content : Content) (gave : Gave) (n : ℕ) (how : How)
     → Executes net place content gave n how → gave.outcome ≡ outcomes.Again n how → IsLoweredByOne content gave.after
 executes-less net place content gave n how x e =
     let allow : List ℕ = allow_of (slice_get net.nodes place.node) in
-    let less = endpoint-less net place.node n x.sid.behaviour x.packet allow (at_sid x.sid.behaviour allow x.packet) refl in
+    let less = endpoint-less net place.node n x.sid allow x.packet (at_sid x.sid allow x.packet) refl in
     let here : IfAgainLess x.packet gave = subst (IfAgainLess x.packet) (sym x.gives) less in
     let again : IsLoweredByOne (V6 x.packet) gave.after = subst (λ (o : Outcome). AgainLess x.packet o gave.after) e here in
     subst (λ (c : Content). IsLoweredByOne c gave.after) (sym x.is_packet) again

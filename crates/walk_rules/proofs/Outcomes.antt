@@ -6,6 +6,7 @@ use Rattle.srv6_rules.specs.declared.sid.Reason.TheVariants as reasons
 use Rattle.srv6_rules.specs.declared.sid.SidEntry.{SidEntry}
 use Rattle.srv6_rules.specs.Packet.{Packet, Content, V6, Unreadable}
 use Rattle.srv6_rules.specs.Endpoint.{Endpoint, Onward, Exposed, Delivered, Refused, at_sid, at_address}
+use Rattle.srv6_rules.proofs.Lemmas.{at_sid-delivered, at_address-delivered}
 use Rattle.net_model.specs.Network.{Network}
 use Rattle.walk_rules.specs.declared.place.Place.{Place}
 use Rattle.walk_rules.specs.declared.place.Outcome.{Outcome}
@@ -18,7 +19,7 @@ use Rattle.walk_rules.proofs.Choices.{sent-either}
 
 -- what is given at SID n of a node, whose entry is this one
 abbrev pub at_entry : Network → ℕ → ℕ → SidEntry → Packet → Gave
-at_entry net node n s p = treated_at_sid net node n s.behaviour p (at_sid s.behaviour (allow_of (slice_get net.nodes node)) p)
+at_entry net node n s p = treated_at_sid net node n s.behaviour p (at_sid s (allow_of (slice_get net.nodes node)) p)
 
 -- what is to be shown of each thing that a node may do with a packet, so that it holds of what the node does
 pub record EachWay (P : Gave → Type 0) (net : Network) (node : ℕ) (w : Way) (p : Packet) (choice : ℕ) : Type 0 where
@@ -53,17 +54,19 @@ Leaves content (outcomes.Drop reason error) after = after ≡ content
 abbrev GaveLeaves : Content → Gave → Type 0
 GaveLeaves content gave = Leaves content gave.outcome gave.after
 
-address-leaves : (net : Network) (node : ℕ) (p : Packet) (refused : Option Reason)
-    → GaveLeaves (V6 p) (treated_at_address net node p refused)
-address-leaves net node p None = refl
-address-leaves net node p (Some reason) = refl
+address-leaves : (net : Network) (node : ℕ) (p : Packet) (e : Endpoint) → at_address p ≡ e
+    → GaveLeaves (V6 p) (treated_at_address net node p e)
+address-leaves net node p (Onward q) same = refl
+address-leaves net node p (Exposed family bytes) same = refl
+address-leaves net node p (Delivered q) same = ap V6 (at_address-delivered p q same)
+address-leaves net node p (Refused reason at) same = refl
 
-endpoint-leaves : (net : Network) (node n : ℕ) (b : Behaviour) (p : Packet) (e : Endpoint)
-    → GaveLeaves (V6 p) (treated_at_sid net node n b p e)
-endpoint-leaves net node n b p (Onward q) = tt
-endpoint-leaves net node n b p (Exposed content) = tt
-endpoint-leaves net node n b p Delivered = refl
-endpoint-leaves net node n b p (Refused reason) = refl
+endpoint-leaves : (net : Network) (node n : ℕ) (s : SidEntry) (allow : List ℕ) (p : Packet) (e : Endpoint) → at_sid s allow p ≡ e
+    → GaveLeaves (V6 p) (treated_at_sid net node n s.behaviour p e)
+endpoint-leaves net node n s allow p (Onward q) same = tt
+endpoint-leaves net node n s allow p (Exposed family bytes) same = tt
+endpoint-leaves net node n s allow p (Delivered q) same = ap V6 (at_sid-delivered s allow p q same)
+endpoint-leaves net node n s allow p (Refused reason at) same = refl
 
 step-leaves : (net : Network) (place : Place) (content : Content) (choice : ℕ) → GaveLeaves content (step_of net place content choice)
 step-leaves net place (Unreadable bytes reason) choice = refl
@@ -72,8 +75,10 @@ step-leaves net place (V6 p) choice =
     (record {
       drop = λ reason at. refl;
       send = λ set lower e. tt;
-      own = address-leaves net place.node p (at_address p);
-      sid = λ n s e there. endpoint-leaves net place.node n s.behaviour p (at_sid s.behaviour (allow_of (slice_get net.nodes place.node)) p);
+      own = address-leaves net place.node p (at_address p) refl;
+      sid = λ n s into there.
+          let allow = allow_of (slice_get net.nodes place.node) in
+          endpoint-leaves net place.node n s allow p (at_sid s allow p) refl;
     })
 
 pub step-drop : (net : Network) (place : Place) (content : Content) (choice : ℕ) (reason : Reason) (error : Bool)
@@ -90,15 +95,17 @@ step-local net place content choice e =
 abbrev GaveTells : Gave → Type 0
 GaveTells gave = TellsOfError gave.outcome gave.error
 
-address-tells : (net : Network) (node : ℕ) (p : Packet) (refused : Option Reason) → GaveTells (treated_at_address net node p refused)
-address-tells net node p None = refl
-address-tells net node p (Some reason) = refl
+address-tells : (net : Network) (node : ℕ) (p : Packet) (e : Endpoint) → GaveTells (treated_at_address net node p e)
+address-tells net node p (Onward q) = refl
+address-tells net node p (Exposed family bytes) = refl
+address-tells net node p (Delivered q) = refl
+address-tells net node p (Refused reason at) = refl
 
 endpoint-tells : (net : Network) (node n : ℕ) (b : Behaviour) (p : Packet) (e : Endpoint) → GaveTells (treated_at_sid net node n b p e)
 endpoint-tells net node n b p (Onward q) = refl
-endpoint-tells net node n b p (Exposed content) = refl
-endpoint-tells net node n b p Delivered = refl
-endpoint-tells net node n b p (Refused reason) = refl
+endpoint-tells net node n b p (Exposed family bytes) = refl
+endpoint-tells net node n b p (Delivered q) = refl
+endpoint-tells net node n b p (Refused reason at) = refl
 
 pub step-tells : (net : Network) (place : Place) (content : Content) (choice : ℕ) → GaveTells (step_of net place content choice)
 step-tells net place (Unreadable bytes reason) choice = refl
@@ -108,7 +115,7 @@ step-tells net place (V6 p) choice =
       drop = λ reason at. refl;
       send = λ set lower e. refl;
       own = address-tells net place.node p (at_address p);
-      sid = λ n s e there. endpoint-tells net place.node n s.behaviour p (at_sid s.behaviour (allow_of (slice_get net.nodes place.node)) p);
+      sid = λ n s e there. endpoint-tells net place.node n s.behaviour p (at_sid s (allow_of (slice_get net.nodes place.node)) p);
     })
 
 -- a choice sends on the member that it names, and else nothing is sent
@@ -116,23 +123,25 @@ abbrev Names : List ℕ → ℕ → Gave → Type 0
 Names set choice gave = (link : ℕ) → outcomes.Send link ≡ gave.outcome → link ≡ member_of set choice
 
 -- a SID or an address sends nothing
-address-quiet : (net : Network) (node : ℕ) (p : Packet) (refused : Option Reason) (link : ℕ)
-    → outcomes.Send link ≡ (treated_at_address net node p refused).outcome → ⊥
-address-quiet net node p None link e = cc
-address-quiet net node p (Some reason) link e = cc
+address-quiet : (net : Network) (node : ℕ) (p : Packet) (x : Endpoint) (link : ℕ)
+    → outcomes.Send link ≡ (treated_at_address net node p x).outcome → ⊥
+address-quiet net node p (Onward q) link e = cc
+address-quiet net node p (Exposed family bytes) link e = cc
+address-quiet net node p (Delivered q) link e = cc
+address-quiet net node p (Refused reason at) link e = cc
 
 endpoint-quiet : (net : Network) (node n : ℕ) (b : Behaviour) (p : Packet) (x : Endpoint) (link : ℕ)
     → outcomes.Send link ≡ (treated_at_sid net node n b p x).outcome → ⊥
 endpoint-quiet net node n b p (Onward q) link e = cc
-endpoint-quiet net node n b p (Exposed content) link e = cc
-endpoint-quiet net node n b p Delivered link e = cc
-endpoint-quiet net node n b p (Refused reason) link e = cc
+endpoint-quiet net node n b p (Exposed family bytes) link e = cc
+endpoint-quiet net node n b p (Delivered q) link e = cc
+endpoint-quiet net node n b p (Refused reason at) link e = cc
 
 sid-quiet : (net : Network) (node n : ℕ) (o : Option SidEntry) (p : Packet) (link : ℕ)
     → outcomes.Send link ≡ (treated_in net node n o p).outcome → ⊥
 sid-quiet net node n None p link e = cc
 sid-quiet net node n (Some s) p link e =
-    endpoint-quiet net node n s.behaviour p (at_sid s.behaviour (allow_of (slice_get net.nodes node)) p) link e
+    endpoint-quiet net node n s.behaviour p (at_sid s (allow_of (slice_get net.nodes node)) p) link e
 
 drop-quiet : (reason : Reason) (error : Bool) (link : ℕ) → outcomes.Send link ≡ outcomes.Drop reason error → ⊥
 drop-quiet reason error link e = cc

@@ -1,5 +1,6 @@
 -- What the laws about stages and walks say, in words.
 use Rattle.std.specs.Prelude.{◌≡◌, ◌≢◌, ℕ, ◌+◌, ◌<◌, List, [], ◌∷◌, slice_get, Option, Some, None, is_some, Contains}
+use Rattle.srv6_rules.specs.declared.sid.Family.{Family}
 use Rattle.srv6_rules.specs.declared.sid.SidEntry.{SidEntry}
 use Rattle.srv6_rules.specs.Packet.{Packet, Content, V6, Unreadable}
 use Rattle.srv6_rules.specs.Endpoint.{at_sid}
@@ -35,6 +36,14 @@ pub record SendsApart (set : List ℕ) (one other : Outcome) : Type 0 where
   pub other_member : Contains set other_link
   pub apart : one_link ≢ other_link
 
+-- the family of what stands there after an outcome: the exposed packet's, else as before
+abbrev pub family_after : Place → Outcome → Family
+family_after place (outcomes.Again n how) = place.family
+family_after place (outcomes.Hand n how family) = family
+family_after place (outcomes.Send link) = place.family
+family_after place outcomes.Local = place.family
+family_after place (outcomes.Drop reason error) = place.family
+
 -- a packet whose hop limit was above 1, and is one less
 abbrev pub IsLoweredByOne : Content → Content → Type 0
 IsLoweredByOne (V6 p) (V6 q) = (1 < p.hop_limit) × (q.hop_limit + 1 ≡ p.hop_limit)
@@ -52,7 +61,7 @@ pub record Executes (net : Network) (place : Place) (content : Content) (gave : 
   pub stands : sid.node ≡ place.node
   pub goes_on : how ≡ on_from n sid.behaviour
   pub gives : gave
-      ≡ treated_at_sid net place.node n sid.behaviour packet (at_sid sid.behaviour (allow_of (slice_get net.nodes place.node)) packet)
+      ≡ treated_at_sid net place.node n sid.behaviour packet (at_sid sid (allow_of (slice_get net.nodes place.node)) packet)
 
 -- two answers that differ at most in the link on which they send
 pub record DifferAtMostInLink (one other : Gave) : Type 0 where

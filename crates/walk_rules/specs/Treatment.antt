@@ -2,11 +2,10 @@
 use Rattle.std.specs.Prelude.{ℕ, ◌-◌, ◌%◌, Bool, true, false, ◌&&◌, nat_le, if◌then◌else◌, List, [], length, slice_index, slice_get, Option, Some, None, is_some}
 use Rattle.srv6_rules.specs.declared.sid.Behaviour.{Behaviour}
 use Rattle.srv6_rules.specs.declared.sid.Behaviour.TheVariants as behaviours
-use Rattle.srv6_rules.specs.declared.sid.Family.TheVariants as families
 use Rattle.srv6_rules.specs.declared.sid.Reason.{Reason}
 use Rattle.srv6_rules.specs.declared.sid.Reason.TheVariants as reasons
 use Rattle.srv6_rules.specs.declared.sid.SidEntry.{SidEntry}
-use Rattle.srv6_rules.specs.Packet.{Packet, Content, V6, Unreadable}
+use Rattle.srv6_rules.specs.Packet.{Packet, Content, V6, Unreadable, read_as}
 use Rattle.srv6_rules.specs.Endpoint.{Endpoint, Onward, Exposed, Delivered, Refused, at_sid, at_address}
 use Rattle.net_model.specs.declared.parts.Node.{Node}
 use Rattle.net_model.specs.Network.{Network}
@@ -55,9 +54,13 @@ sent net node set lower p choice =
     if lower && nat_le p.hop_limit 1 then dropped net node reasons.HopLimit 0 (V6 p)
     else goes (outcomes.Send (member_of set choice)) (V6 (lowered lower p))
 
-abbrev pub treated_at_address : Network → ℕ → Packet → Option Reason → Gave
-treated_at_address net node p None = goes outcomes.Local (V6 p)
-treated_at_address net node p (Some reason) = dropped net node reason 0 (V6 p)
+-- what comes of a packet at the node's own address; none goes on from there and none is exposed, and the two cases of the
+-- data that cannot come are as where a packet has no way
+abbrev pub treated_at_address : Network → ℕ → Packet → Endpoint → Gave
+treated_at_address net node p (Onward q) = dropped net node reasons.NoRoute 0 (V6 p)
+treated_at_address net node p (Exposed family bytes) = dropped net node reasons.NoRoute 0 (V6 p)
+treated_at_address net node p (Delivered q) = goes outcomes.Local (V6 q)
+treated_at_address net node p (Refused reason at) = dropped net node reason at (V6 p)
 
 -- how a packet goes on from SID n: after End by table 0, after End.X over the SID's links, after End.DT6 by its table
 abbrev pub on_from : ℕ → Behaviour → How
@@ -65,17 +68,17 @@ on_from n behaviours.End = Submitted 0
 on_from n behaviours.EndX = Through n false
 on_from n (behaviours.Dt6 table) = Arrived table
 
--- what comes of a packet at SID n
+-- what comes of a packet at SID n; what is exposed is read as a packet of its family
 abbrev pub treated_at_sid : Network → ℕ → ℕ → Behaviour → Packet → Endpoint → Gave
 treated_at_sid net node n b p (Onward q) = goes (outcomes.Again n (on_from n b)) (V6 q)
-treated_at_sid net node n b p (Exposed content) = goes (outcomes.Hand n (on_from n b) families.V6) content
-treated_at_sid net node n b p Delivered = goes outcomes.Local (V6 p)
-treated_at_sid net node n b p (Refused reason) = dropped net node reason 0 (V6 p)
+treated_at_sid net node n b p (Exposed family bytes) = goes (outcomes.Hand n (on_from n b) family) (read_as family bytes)
+treated_at_sid net node n b p (Delivered q) = goes outcomes.Local (V6 q)
+treated_at_sid net node n b p (Refused reason at) = dropped net node reason at (V6 p)
 
 -- a look-up gives no SID that is not there
 abbrev pub treated_in : Network → ℕ → ℕ → Option SidEntry → Packet → Gave
 treated_in net node n None p = dropped net node reasons.NoRoute 0 (V6 p)
-treated_in net node n (Some s) p = treated_at_sid net node n s.behaviour p (at_sid s.behaviour (allow_of (slice_get net.nodes node)) p)
+treated_in net node n (Some s) p = treated_at_sid net node n s.behaviour p (at_sid s (allow_of (slice_get net.nodes node)) p)
 
 abbrev pub treated : Network → ℕ → Way → Packet → ℕ → Gave
 treated net node (Away reason) p choice = dropped net node reason 0 (V6 p)

@@ -4,10 +4,10 @@ ghost use Rattle.std.specs.Prelude.{◌≡◌, ◌≢◌, ℕ, ◌+◌, ◌<◌,
 ghost use Rattle.net_model.specs.Best.{lookup_of};
 ghost use Rattle.net_model.specs.Keeps.{Keeps, StartsAt};
 ghost use Rattle.net_model.specs.Network.{Network};
-ghost use Rattle.srv6_rules.specs.Packet.{Content, IsContent, Packet, V6, bytes_of, content_of};
+ghost use Rattle.srv6_rules.specs.Packet.{Content, IsContent, Packet, V6, bytes_of, read_as};
 ghost use Rattle.srv6_rules.specs.declared.sid.Family.{Family};
 ghost use Rattle.srv6_rules.specs.declared.sid.Reason.{Reason};
-ghost use Rattle.walk_rules.specs.Laws.{AreStages, DifferAtMostInLink, Executes, IsLoweredByOne, SendsApart, TellsOfError, hops_at};
+ghost use Rattle.walk_rules.specs.Laws.{AreStages, DifferAtMostInLink, Executes, IsLoweredByOne, SendsApart, TellsOfError, family_after, hops_at};
 ghost use Rattle.walk_rules.specs.Relation.{IsPlace, Stage};
 ghost use Rattle.walk_rules.specs.Treatment.{dropped, goes, lowered, member_of, sent, step_of};
 ghost use Rattle.walk_rules.specs.Walk.{IsWalk, Step, choice_at, content_after, decisions, end_of, next_place, place_after, stage_of, taken_after, walk_of, walk_on};
@@ -163,15 +163,17 @@ pub fn a_place_leads_to_a_place()
         IsPlace net next }
 {}
 
-/// What bytes can spell stays so in a stage, and what reads as itself from its bytes does so after
-/// it.
+/// What bytes can spell stays so in a stage, and what reads as itself from its bytes, as a packet of
+/// the place's family, does so after it; the next place has the family of what stands there then.
 pub fn a_stage_keeps_a_content()
     ensures content { (net : Network) (place : Place) (content : Content) (choice : ℕ) →
         IsContent content → IsContent (step_of net place content choice).after }
     ensures back { (net : Network) (place : Place) (content : Content) (choice : ℕ) →
-        IsContent content →
-        let after = (step_of net place content choice).after in
-        content_of (bytes_of content) ≡ content → content_of (bytes_of after) ≡ after }
+        IsContent content → read_as place.family (bytes_of content) ≡ content →
+        let gave = step_of net place content choice in
+        read_as (family_after place gave.outcome) (bytes_of gave.after) ≡ gave.after }
+    ensures family { (net : Network) (place next : Place) (outcome : Outcome) →
+        next_place net place outcome ≡ Some next → next.family ≡ family_after place outcome }
 {}
 
 /// The stages of a walk begin at its place and follow one another, and are fewer than they may be
