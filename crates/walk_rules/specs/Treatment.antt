@@ -34,7 +34,8 @@ error_of net node reason at content = None
 -- what stands at a node is dropped as it is, for a reason, with the fault's place, 0 where the reason has none
 abbrev pub dropped : Network → ℕ → Reason → ℕ → Content → Gave
 dropped net node reason at content =
-    let error = error_of net node reason at content in record { outcome = outcomes.Drop reason (is_some error); after = content; error = error }
+    let error = error_of net node reason at content in
+    record { outcome = outcomes.Drop reason (is_some error); after = content; error = error }
 
 -- an outcome, and the packet after it, about which no error is sent
 abbrev pub goes : Outcome → Content → Gave

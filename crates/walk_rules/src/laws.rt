@@ -22,7 +22,8 @@ ghost use Rattle.walk_rules.specs.declared.place.Place.{Place};
 pub fn a_way_leads_from_its_place()
     ensures hit { (net : Network) (node table destination : ℕ) →
         IsThere net node (lookup_of net node table destination) }
-    ensures way { (net : Network) (place : Place) (destination : ℕ) → Keeps net → IsPlace net place →
+    ensures way { (net : Network) (place : Place) (destination : ℕ) →
+        Keeps net → IsPlace net place →
         IsWayFrom net place.node (way_of net place destination) }
 {}
 
@@ -142,8 +143,8 @@ pub fn a_drop_tells_of_its_error()
         TellsOfError gave.outcome gave.error }
 {}
 
-/// Where a SID was executed, the outcome names it: the way leads into it, it stands at the node, and
-/// the packet goes on in its way.
+/// Where a SID was executed, the outcome names it: the way leads into it, it stands at the node,
+/// and the packet goes on in its way.
 pub fn an_execution_names_its_sid()
     ensures again { (net : Network) (place : Place) (content : Content) (choice : ℕ) →
         (n : ℕ) (how : How) →
@@ -163,8 +164,9 @@ pub fn a_place_leads_to_a_place()
         IsPlace net next }
 {}
 
-/// What bytes can spell stays so in a stage, and what reads as itself from its bytes, as a packet of
-/// the place's family, does so after it; the next place has the family of what stands there then.
+/// What bytes can spell stays so in a stage, and what reads as itself from its bytes, as a
+/// packet of the place's family, does so after it; the next place has the family of what stands
+/// there then.
 pub fn a_stage_keeps_a_content()
     ensures content { (net : Network) (place : Place) (content : Content) (choice : ℕ) →
         IsContent content → IsContent (step_of net place content choice).after }
@@ -234,15 +236,16 @@ pub fn a_run_has_few_stages()
         fuel ≤ 10000 → length (walk_of fuel net place content pick taken) ≤ 10000 }
 {}
 
-/// Each stage of a walk from a place of a network is at a place, and gives an outcome that there is.
+/// Each stage of a walk from a place of a network is at a place, and gives an outcome that there
+/// is.
 pub fn a_walk_stays_at_places()
     ensures { (fuel : ℕ) (net : Network) (place : Place) (content : Content) →
         (pick : ℕ → ℕ) (taken : ℕ) → Keeps net → IsPlace net place →
         AreStages net (walk_of fuel net (Some place) content pick taken) }
 {}
 
-/// Where the packet could go on after the last stage the stages were used, and only there; a walk of
-/// fewer stages than it may have has another end.
+/// Where the packet could go on after the last stage the stages were used, and only there; a walk
+/// of fewer stages than it may have has another end.
 pub fn a_walk_that_could_go_on_used_its_stages()
     ensures goes_on { (net : Network) (place : Option Place) (s : Step) (more : List Step) →
         (end_of net (s ∷ more) ≡ Ended.Stages) ↔ IsSome (place_after net place (s ∷ more)) }

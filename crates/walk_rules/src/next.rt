@@ -33,8 +33,8 @@ pub fn far_end(net: &Net, link: u32) -> Option<u32>
     }
 }
 
-/// Where a packet that comes over a link to a node stands: it has arrived, and is looked up in table
-/// 0 (own rule).
+/// Where a packet that comes over a link to a node stands: it has arrived, and is looked up in
+/// table 0 (own rule).
 pub fn arrival(node: u32, family: Family) -> Place
     ensures { result ≡ record { node = node; how = How.Arrived 0; family = family } }
 {

@@ -72,8 +72,8 @@ fn way_by_table(net: &Net, node: u32, table: u32, lower: bool, destination: Addr
     way_by_hit(net, lower, net.lookup(node, table, destination))
 }
 
-/// The way by how a packet came to be treated: one that has arrived has its hop limit lowered over a
-/// route's links, one that the node has made or updated has not.
+/// The way by how a packet came to be treated: one that has arrived has its hop limit lowered over
+/// a route's links, one that the node has made or updated has not.
 fn way_by<'a>(net: &'a Net, node: u32, how: &How, destination: Addr) -> Way<'a>
     requires node { node < length net.now.nodes }
     requires how { IsHow net.now node how.now }
