@@ -5,7 +5,7 @@ use Rattle.srv6_rules.specs.declared.sid.Family.TheVariants as families
 use Rattle.srv6_rules.specs.declared.sid.SidEntry.{SidEntry}
 use Rattle.srv6_rules.specs.Packet.{Packet, Content, V6, Unreadable, IsSpellable, IsContent, read_as, bytes_of}
 use Rattle.srv6_rules.specs.Endpoint.{Endpoint, Onward, Exposed, Delivered, Refused, at_sid, at_address}
-use Rattle.srv6_rules.proofs.Lemmas.{content_of-spelling_alone, at_sid-spellable, at_sid-content, at_sid-exposed_back, at_sid-delivered, at_address-delivered}
+use Rattle.srv6_rules.proofs.PublicLaws.{content_of-spelling_alone, at_sid-spellable, at_sid-content, at_sid-exposed_back, at_sid-delivered, at_address-delivered}
 use Rattle.net_model.specs.Network.{Network}
 use Rattle.walk_rules.specs.declared.place.How.TheVariants.{Arrived}
 use Rattle.walk_rules.specs.declared.place.Place.{Place}
