@@ -38,7 +38,7 @@ pub hops-start : (net : Network) (place : Place) (content : Content) (n : ℕ) �
     → Contains (hops_at net place content) n → StartsAt net.links place.node n
 hops-start net place (Unreadable bytes reason) n keeps is there = absurd (omega (arith, there.1))
 hops-start net place (V6 p) n keeps is there =
-    set-starts net place.node (way_of net place p.destination) (way-from net place p.destination keeps is) n there
+    set-starts net place.node (way_of net place p.destination) (way-from net place p.destination keeps is.1) n there
 
 -- at a place the function gives an outcome of the relation
 pub stage-step : (net : Network) (place : Place) (content : Content) (choice : ℕ) → Keeps net → IsPlace net place
@@ -46,7 +46,7 @@ pub stage-step : (net : Network) (place : Place) (content : Content) (choice : �
 stage-step net place (Unreadable bytes reason) choice keeps is = (refl, refl, refl)
 stage-step net place (V6 p) choice keeps is =
     let w = way_of net place p.destination in
-    treated-treats net place.node w p choice (has-links net place.node w (way-from net place p.destination keeps is))
+    treated-treats net place.node w p choice (has-links net place.node w (way-from net place p.destination keeps is.1))
 
 end_x-some : (links : List Link) (node : ℕ) (b : Behaviour) (set : List ℕ) → b ≡ EndX → SuitsBehaviour links node b set → 0 < length set
 end_x-some links node EndX set is suits = suits.some

@@ -1,6 +1,6 @@
 -- The lemmas that crates above may cite: each proves a law that a public function has for its contract.
 pub use Rattle.walk_rules.proofs.Lookups.{lookup-there}
-pub use Rattle.walk_rules.proofs.Routing.{way-from}
+pub use Rattle.walk_rules.proofs.Routing.{way-from, way-into}
 pub use Rattle.walk_rules.proofs.Stages.{sent-low, sent-high, stage-choice}
 pub use Rattle.walk_rules.proofs.Choices.{stage-unique, step-same, decisions-one, decisions-zero}
 pub use Rattle.walk_rules.proofs.Outcomes.{stage-member, stage-each, step-member, step-drop, step-local, step-tells}
