@@ -15,7 +15,7 @@ use Rattle.net_model.specs.Keeps.{Keeps, IsLinkSet, SuitsBehaviour, EndsElsewher
 use Rattle.walk_rules.specs.declared.place.How.{How}
 use Rattle.walk_rules.specs.declared.place.How.TheVariants as hows
 use Rattle.walk_rules.specs.declared.place.Place.{Place}
-use Rattle.walk_rules.specs.Treatment.{Way, Away, Over, Own, Into, way_of, way_by, way_by_hit, route_links, sid_links}
+use Rattle.walk_rules.specs.Way.{Way, Away, Over, Own, Into, way_of, way_by, way_by_hit, route_links, sid_links}
 use Rattle.walk_rules.specs.Relation.{IsPlace, IsHow, IsThrough}
 use Rattle.walk_rules.proofs.Lookups.{IsThere, RouteStandsAt}
 use Rattle.intent_reader.specs.declared.intent.Step.{Step}

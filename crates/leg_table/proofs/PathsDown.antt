@@ -20,7 +20,8 @@ use Rattle.net_model.proofs.KeepsLemmas.{keeps_from_network}
 use Rattle.walk_rules.specs.declared.place.Place.{Place}
 use Rattle.walk_rules.specs.declared.place.Outcome.{Outcome}
 use Rattle.walk_rules.specs.declared.place.Outcome.TheVariants as outcomes
-use Rattle.walk_rules.specs.Treatment.{Into, way_of, Gave, dropped, step_of, on_from, treated_at_sid, allow_of}
+use Rattle.walk_rules.specs.Way.{Into, way_of}
+use Rattle.walk_rules.specs.Treatment.{Gave, dropped, step_of, on_from, treated_at_sid, allow_of}
 use Rattle.walk_rules.specs.Walk as walks
 use Rattle.walk_rules.specs.Walk.{walk_of, next_place, decisions}
 use Rattle.intent_reader.specs.Rules.{IsIntent}
@@ -92,7 +93,7 @@ module _ (net : Network) where
   ends-from place ts pick gave (outcomes.Hand n how family) e f = refl
   ends-from place ts pick gave outcomes.Local e f =
       let h = subst (λ (o : Outcome). (later : Option Handed) → handed_first net gave o later ≡ Some f.1 → ⊥) (sym e) (λ later k. absurd (cc)) in h _ f.2
-  ends-from place ts pick gave (outcomes.Drop reason) e f =
+  ends-from place ts pick gave (outcomes.Drop reason error) e f =
       let h = subst (λ (o : Outcome). (later : Option Handed) → handed_first net gave o later ≡ Some f.1 → ⊥) (sym e) (λ later k. absurd (cc)) in h _ f.2
 
   next-hands : (ts : List Step) (o : Option Place) (after : Content) (choice : ℕ)
@@ -141,7 +142,7 @@ module _ (net : Network) where
   goes-from place t ts choice gave outcomes.Local e all ih =
       let f = all (λ _. choice) refl in
       let h = subst (λ (o : Outcome). (later : Option Handed) → handed_first net gave o later ≡ Some f.1 → ⊥) (sym e) (λ later k. absurd (cc)) in h _ f.2
-  goes-from place t ts choice gave (outcomes.Drop reason) e all ih =
+  goes-from place t ts choice gave (outcomes.Drop reason error) e all ih =
       let f = all (λ _. choice) refl in
       let h = subst (λ (o : Outcome). (later : Option Handed) → handed_first net gave o later ≡ Some f.1 → ⊥) (sym e) (λ later k. absurd (cc)) in h _ f.2
 

@@ -127,25 +127,25 @@ is_left left None = false
 is_left left (Some m) = m == left
 
 -- the stage executes SID n, with so many steps left then and this hop limit behind it
-abbrev pub executes : Network → ℕ → ℕ → ℕ → List Step → walks.Step → Bool
-executes net n left limit ts s = is_again n s.gave.outcome && (is_left left (left_after net n ts) && has_limit limit s.gave.after)
+abbrev pub stage_executes : Network → ℕ → ℕ → ℕ → List Step → walks.Step → Bool
+stage_executes net n left limit ts s = is_again n s.gave.outcome && (is_left left (left_after net n ts) && has_limit limit s.gave.after)
 
 -- the stage exposes the packet inside at SID n, with so many steps left then and this hop limit before it
-abbrev pub exposes : Network → ℕ → ℕ → ℕ → List Step → walks.Step → Bool
-exposes net n left limit ts s = is_hand n s.gave.outcome && (is_left left (left_after net n ts) && has_limit limit s.before)
+abbrev pub stage_exposes : Network → ℕ → ℕ → ℕ → List Step → walks.Step → Bool
+stage_exposes net n left limit ts s = is_hand n s.gave.outcome && (is_left left (left_after net n ts) && has_limit limit s.before)
 
 -- a packet to the SID's address that has a next segment there is taken from a place along the first steps to SID n and executed
 -- there, for all choices, with so many steps left; that is so exactly above so many hops, by which its hop limit falls
 abbrev pub IsTaken : Network → List Step → ℕ → ℕ → ℕ → Place → Type 0
 IsTaken net ts n left hops place =
     (p : Packet) → p.destination ≡ sid_address net n → IsTrue (has_next_segment net n p) → 0 < p.hop_limit →
-    (hops < p.hop_limit) ↔ ForAllChoices net (executes net n left (p.hop_limit - hops)) ts place (V6 p)
+    (hops < p.hop_limit) ↔ ForAllChoices net (stage_executes net n left (p.hop_limit - hops)) ts place (V6 p)
 
 -- the same of a packet with a packet inside that SID n exposes
 abbrev pub IsHanded : Network → List Step → ℕ → ℕ → ℕ → Place → Type 0
 IsHanded net ts n left lowered place =
     (p : Packet) → p.destination ≡ sid_address net n → IsTrue (has_packet_inside net n p) → 0 < p.hop_limit →
-    (lowered < p.hop_limit) ↔ ForAllChoices net (exposes net n left (p.hop_limit - lowered)) ts place (V6 p)
+    (lowered < p.hop_limit) ↔ ForAllChoices net (stage_exposes net n left (p.hop_limit - lowered)) ts place (V6 p)
 
 abbrev pub FromPlace : Option Place → (Place → Type 0) → Type 0
 FromPlace None P = ⊥

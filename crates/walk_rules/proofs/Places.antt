@@ -54,12 +54,15 @@ end_x-some links node End set is suits = cc
 end_x-some links node (Dt6 table) set is suits = cc
 
 -- how a packet goes on from a SID that is there and stands at the node
-pub on_from-how : (net : Network) (node n : ℕ) (s : SidEntry) (b : Behaviour) → Keeps net → slice_get net.sids n ≡ Some s
+on_from-how : (net : Network) (node n : ℕ) (s : SidEntry) (b : Behaviour) → Keeps net → slice_get net.sids n ≡ Some s
     → s.node ≡ node → s.behaviour ≡ b → IsHow net node (on_from n b)
 on_from-how net node n s End keeps there stands is = tt
 on_from-how net node n s EndX keeps there stands is =
     rw there (stands, end_x-some net.links s.node s.behaviour s.links is (keeps.sid n s there).links)
 on_from-how net node n s (Dt6 table) keeps there stands is = tt
+
+pub sid-how : (net : Network) (n : ℕ) (s : SidEntry) → Keeps net → slice_get net.sids n ≡ Some s → IsHow net s.node (on_from n s.behaviour)
+sid-how net n s keeps there = on_from-how net s.node n s s.behaviour keeps there refl refl
 
 executes-how : (net : Network) (place : Place) (content : Content) (gave : Gave) (n : ℕ) (how : How) → Keeps net
     → Executes net place content gave n how → IsHow net place.node how
