@@ -8,7 +8,7 @@ use Rattle.net_model.specs.declared.parts.Link.{Link}
 use Rattle.net_model.specs.Network.{Network}
 use Rattle.net_model.specs.Keeps.{Keeps, IsLinkSet}
 use Rattle.net_model.specs.Rules.{is_link_set}
-use Rattle.net_model.proofs.KeepsLemmas.{link_set_from}
+use Rattle.net_model.proofs.PublicLaws.{link_set_from}
 use Rattle.walk_rules.specs.Treatment.{member_of}
 use Rattle.walk_rules.specs.Walk.{far_end}
 use Rattle.intent_reader.specs.Rules.{end_of_link, ends_at, is_at, far_node, first_end, stand_after, node_after}

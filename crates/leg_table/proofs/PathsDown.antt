@@ -15,7 +15,7 @@ use Rattle.net_model.specs.Network.{Network}
 use Rattle.net_model.specs.Rules.{IsNetwork}
 use Rattle.net_model.specs.Flat.{IsFlat}
 use Rattle.net_model.specs.Keeps.{Keeps}
-use Rattle.net_model.proofs.KeepsLemmas.{keeps_from_network}
+use Rattle.net_model.proofs.PublicLaws.{keeps_from_network}
 use Rattle.walk_rules.specs.declared.place.How.{How}
 use Rattle.walk_rules.specs.declared.place.Place.{Place}
 use Rattle.walk_rules.specs.declared.place.Outcome.{Outcome}
@@ -380,14 +380,21 @@ module _ (net : Network) (network : IsNetwork net) (flat : IsFlat net) (intent :
           absurd (no-more net c.ride.place (V6 p) c.ride.left _ gives (λ later. refl) c.hands)
 
   -- a leg in front of a path
-  leg-path : (position : ℕ) (via : Option ℕ) (i hop : ℕ) (place : Place) (segments : List ℕ) → is_start net intent position via ≡ true
-      → place_from net intent via ≡ Some place
-      → (c : Comes position via i hop place) → Goes-on i hop c.ride c.sid
-      → ((to : ℕ) → is_start net intent to (Some c.ride.sid) ≡ true → Hands net (place_behind c.ride.sid c.sid)
-      (V6 (at_segment e bytes (suc i) (hop - c.ride.lowered - 1))) (drop to intent.steps)
-      → PathFrom net intent to (Some c.ride.sid) segments (hop - c.ride.lowered - 1))
-      → PathFrom net intent position via (slice_index e.segments i ∷ segments) hop
-  leg-path position via i hop place segments start from c g later =
+  -- the packet behind the execution at a segment
+  abbrev behind_it : ℕ → ℕ → Ride → Content
+  behind_it i hop ride = V6 (at_segment e bytes (suc i) (hop - ride.lowered - 1))
+
+  -- the execution stands at a position where it may have been the last one, with the steps left that the path goes on with
+  record StandsAt (position : ℕ) (via : Option ℕ) (i hop : ℕ) (place : Place) (c : Comes position via i hop place) : Type 0 where
+    next : NextRide net intent position via c.ride.sid
+    same_ride : next.ride ≡ c.ride
+    starts : is_start net intent (length intent.steps - next.left) (Some c.ride.sid) ≡ true
+    hands : Hands net (place_behind c.ride.sid c.sid) (behind_it i hop c.ride) (drop (length intent.steps - next.left) intent.steps)
+
+  stands-at : (position : ℕ) (via : Option ℕ) (i hop : ℕ) (place : Place) → is_start net intent position via ≡ true
+      → place_from net intent via ≡ Some place → (c : Comes position via i hop place) → Goes-on i hop c.ride c.sid
+      → StandsAt position via i hop place c
+  stands-at position via i hop place start from c g =
       let n = c.ride.sid in
       let left = length g.rest in
       let to = length intent.steps - left in
@@ -402,30 +409,40 @@ module _ (net : Network) (network : IsNetwork net) (flat : IsFlat net) (intent :
         left = left;
         left_is = g.behind.left;
       } in
-      let middle : is_middle net n ≡ true = ap sid_goes_on c.there ∙ g.middle in
-      let leg = leg-from net intent position via n nr middle in
       let s = start-facts net keeps intent is_intent position via place start from in
       let f = ride-facts net keeps (sid_address net n) (drop position intent.steps) place c.ride s.how s.rest c.is_ride in
       let at = at-end net keeps intent is_intent position n left (arrives net keeps intent is_intent position via n nr) in
       let is_at : is_sid_at net intent to n ≡ true = subst (λ (j : ℕ). is_sid_at net intent j n ≡ true) (sym at.1) at.4 in
-      let starts : is_start net intent to (Some n) ≡ true
-      = and_from (nat_le to (length intent.steps)) (is_sid_at net intent to n && is_middle net n)
-      (le-leb to (length intent.steps) (omega arith))
-      (and_from (is_sid_at net intent to n) (is_middle net n) is_at middle) in
       let rest = rest-is intent.steps c.ride.left g.rest position f.count left f.left g.behind.rest refl f.within s.within g.behind.few in
-      let tail = later to starts (subst
-      (λ (us : List Step). Hands net (place_behind n c.sid) (V6 (at_segment e bytes (suc i) (hop - c.ride.lowered - 1))) us) rest g.hands)
-      in
+      record {
+        next = nr;
+        same_ride = refl;
+        starts =
+            and_from (nat_le to (length intent.steps)) (is_sid_at net intent to n && is_middle net n)
+            (le-leb to (length intent.steps) (omega arith))
+            (and_from (is_sid_at net intent to n) (is_middle net n) is_at (ap sid_goes_on c.there ∙ g.middle));
+        hands = subst (λ (us : List Step). Hands net (place_behind n c.sid) (behind_it i hop c.ride) us) rest g.hands;
+      }
+
+  leg-path : (position : ℕ) (via : Option ℕ) (i hop : ℕ) (place : Place) (segments : List ℕ) (c : Comes position via i hop place)
+      → Goes-on i hop c.ride c.sid → (at : StandsAt position via i hop place c)
+      → PathFrom net intent (length intent.steps - at.next.left) (Some c.ride.sid) segments (hop - c.ride.lowered - 1)
+      → PathFrom net intent position via (slice_index e.segments i ∷ segments) hop
+  leg-path position via i hop place segments c g at tail =
+      let n = c.ride.sid in
+      let leg = leg-from net intent position via n at.next (ap sid_goes_on c.there ∙ g.middle) in
+      let lowered : at.next.ride.lowered ≡ c.ride.lowered = ap (λ (r : Ride). r.lowered) at.same_ride in
       record {
         first = n;
         more = tail.first ∷ tail.more;
-        need = c.ride.lowered + 1 + tail.need;
-        names = ap (λ (a : ℕ). a ∷ map (sid_address net) (tail.first ∷ tail.more)) c.address
+        need = at.next.ride.lowered + 1 + tail.need;
+        names =
+            ap (λ (a : ℕ). a ∷ map (sid_address net) (tail.first ∷ tail.more)) c.address
             ∙ ap (λ (xs : List ℕ). slice_index e.segments i ∷ xs) tail.names;
         is_path =
             ap (λ o. with_leg o (λ to. path_need net intent to (Some n) (tail.first ∷ tail.more))) leg
-            ∙ ap (option_map (λ (k : ℕ). c.ride.lowered + 1 + k)) tail.is_path;
-        below = omega (arith, g.high, tail.below);
+            ∙ ap (option_map (λ (k : ℕ). at.next.ride.lowered + 1 + k)) tail.is_path;
+        below = omega (arith, lowered, g.high, tail.below);
       }
 
   pub path-from : (more : List ℕ) (a position : ℕ) (via : Option ℕ) (i hop : ℕ) (place : Place) → is_start net intent position via ≡ true
@@ -444,7 +461,9 @@ module _ (net : Network) (network : IsNetwork net) (flat : IsFlat net) (intent :
       let l = length-drop i e.segments in
       let c = comes position via i hop place start from first.2 positive hands in
       let g = mid-goes position via i hop place (omega (arith, first.2)) c in
+      let at = stands-at position via i hop place start from c g in
+      let behind = ap (option_map (place_behind c.ride.sid)) c.there in
       subst (λ (x : ℕ). PathFrom net intent position via (x ∷ b ∷ more) hop) first.0
-      (leg-path position via i hop place (b ∷ more) start from c g
-      (λ to starts hands. path-from more b to (Some c.ride.sid) (suc i) (hop - c.ride.lowered - 1) (place_behind c.ride.sid c.sid) starts
-      (ap (option_map (place_behind c.ride.sid)) c.there) first.1 (omega (arith, g.high)) hands))
+      (leg-path position via i hop place (b ∷ more) c g at
+      (path-from more b (length intent.steps - at.next.left) (Some c.ride.sid) (suc i) (hop - c.ride.lowered - 1)
+      (place_behind c.ride.sid c.sid) at.starts behind first.1 (omega (arith, g.high)) at.hands))

@@ -9,9 +9,7 @@ use Rattle.std.proofs.Math.Seq.{take-add}
 use Rattle.v6_addr.specs.Address.{PrefixValue}
 use Rattle.srv6_rules.specs.declared.sid.SidEntry.{SidEntry}
 use Rattle.net_model.specs.Network.{Network}
-use Rattle.net_model.specs.Rules.{IsNetwork}
 use Rattle.net_model.specs.Keeps.{Keeps}
-use Rattle.net_model.proofs.KeepsLemmas.{keeps_from_network}
 use Rattle.walk_rules.specs.declared.place.Place.{Place}
 use Rattle.walk_rules.specs.Way.{Into, way_of}
 use Rattle.walk_rules.proofs.PublicLaws.{way-into}
@@ -291,5 +289,5 @@ module _ (net : Network) (keeps : Keeps net) (intent : Intent) (is_intent : IsIn
       }
 
 -- the legs of an intent that keeps the rules, in a network that keeps the rules
-pub strict-laws : (net : Network) (intent : Intent) → IsNetwork net → IsIntent net intent → KeepsLaws (legs_value net intent)
-strict-laws net intent network is_intent = laws net (keeps_from_network net network) intent is_intent
+pub strict-laws : (net : Network) (intent : Intent) → Keeps net → IsIntent net intent → KeepsLaws (legs_value net intent)
+strict-laws net intent keeps is_intent = laws net keeps intent is_intent
