@@ -9,7 +9,7 @@ use Rattle.std.proofs.Math.Nat.{le_refl}
 use Rattle.std.proofs.lemmas.List.Sums.{sum_by-set, count_by-le-length}
 use Rattle.std.proofs.lemmas.Grind.{get_or_default_zero}
 use Rattle.std.proofs.lemmas.Option.{slice_get-get_or, slice_get_within}
-use Rattle.leg_table.specs.declared.no_memory.NoMemory.{NoMemory}
+use Rattle.base.specs.declared.no_memory.NoMemory.{NoMemory}
 use Rattle.leg_table.specs.declared.types.Leg.{Leg}
 use Rattle.leg_table.specs.Value.{LegsValue, KeepsLaws, IsSid, legs_value}
 use Rattle.net_model.specs.Network.{Network}
@@ -29,8 +29,7 @@ set-cases (x ∷ xs) zero zero e = inr refl
 set-cases (x ∷ xs) zero (suc j) e = inl e
 set-cases (x ∷ xs) (suc k) zero e = inl e
 set-cases (x ∷ xs) (suc k) (suc j) e =
-    elim (set-cases xs k j e) as (λ w. (slice_get xs j ≡ Some true) ⊎ (suc j ≡ suc k))
-    [ inl here ↦ inl here | inr same ↦ inr (ap suc same) ]
+    elim (set-cases xs k j e) as (λ w. (slice_get xs j ≡ Some true) ⊎ (suc j ≡ suc k)) [ inl here ↦ inl here | inr same ↦ inr (ap suc same) ]
 
 pub set-grows : (xs : List Bool) (k : ℕ) → Grows xs (set xs k true)
 set-grows [] k j e = e
@@ -47,8 +46,7 @@ set-marks (x ∷ xs) (suc k) h = set-marks xs k (omega arith)
 -- a mark that is set leaves one fewer to set
 pub set-fewer : (xs : List Bool) (k : ℕ) → k < length xs → get_or xs k false ≡ false → unmarked (set xs k true) + 1 ≡ unmarked xs
 set-fewer xs k h e =
-    let sums : unmarked (set xs k true) + cond {A = ℕ} (not (get_or xs k false)) 1 0 ≡ unmarked xs + 0
-    = sum_by-set (λ (b : Bool). cond {A = ℕ} (not b) 1 0) xs k true false h in
+    let sums : unmarked (set xs k true) + cond {A = ℕ} (not (get_or xs k false)) 1 0 ≡ unmarked xs + 0 = sum_by-set (λ (b : Bool). cond {A = ℕ} (not b) 1 0) xs k true false h in
     let one : cond {A = ℕ} (not (get_or xs k false)) 1 0 ≡ 1 = ap (λ (b : Bool). cond {A = ℕ} (not b) 1 0) e in
     omega arith
 
@@ -57,22 +55,18 @@ pub closed-grows : (v : LegsValue) (cells : List Cell) (before after : List Bool
 closed-grows v cells before after position via grows closed =
     record { no_finish = closed.no_finish; legs = λ n leg e k at. grows k (closed.legs n leg e k at) }
 
-pub trying-begin : (v : LegsValue) (cells : List Cell) (marks : List Bool) (position : ℕ) (via : Option ℕ)
-    → ((n : ℕ) → v.finish position via n ≡ None)
+pub trying-begin : (v : LegsValue) (cells : List Cell) (marks : List Bool) (position : ℕ) (via : Option ℕ) → ((n : ℕ) → v.finish position via n ≡ None)
     → IsTrying v cells marks marks position via 0
 trying-begin v cells marks position via none =
-    record { no_finish = none; legs = λ k n leg h e at. absurd (omega arith); grows = λ k e. e; is_new = λ k cell at e. inl e;
-    fewer = omega arith }
+    record { no_finish = none; legs = λ k n leg h e at. absurd (omega arith); grows = λ k e. e; is_new = λ k cell at e. inl e; fewer = omega arith }
 
 -- a leg into a cell is one of those that are tried
 no-leg : (v : LegsValue) (position : ℕ) (via : Option ℕ) (cell : Cell) (n : ℕ) (leg : Leg) → hops_into v position via cell ≡ None
     → v.leg position via n ≡ Some leg → cell ≡ cell_at leg.to n → ⊥
 no-leg v position via cell n leg none e at =
     let here : hops_into v position via (cell_at leg.to n) ≡ None = subst (λ (c : Cell). hops_into v position via c ≡ None) at none in
-    let there : option_and_then (hops_to leg.to) (Some leg) ≡ None
-    = subst (λ (o : Option Leg). option_and_then (hops_to leg.to) o ≡ None) e here in
-    let same : (if true then Some leg.hops else None) ≡ None
-    = subst (λ (b : Bool). (if b then Some leg.hops else None) ≡ None) (eq-eqb leg.to leg.to refl) there in
+    let there : option_and_then (hops_to leg.to) (Some leg) ≡ None = subst (λ (o : Option Leg). option_and_then (hops_to leg.to) o ≡ None) e here in
+    let same : (if true then Some leg.hops else None) ≡ None = subst (λ (b : Bool). (if b then Some leg.hops else None) ≡ None) (eq-eqb leg.to leg.to refl) there in
     let P : Some leg.hops ≡ None = same in
     cc
 
@@ -93,8 +87,7 @@ trying-skip v cells before after position via count cell at trying either =
                 elim either as (λ w. slice_get after k ≡ Some true) [
                   | inl marked ↦ subst (λ (j : ℕ). slice_get after j ≡ Some true) (sym same) marked
                   | inr none ↦
-                      let it : Some cell ≡ Some (cell_at leg.to n)
-                      = sym at ∙ subst (λ (j : ℕ). slice_get cells j ≡ Some (cell_at leg.to n)) same here in
+                      let it : Some cell ≡ Some (cell_at leg.to n) = sym at ∙ subst (λ (j : ℕ). slice_get cells j ≡ Some (cell_at leg.to n)) same here in
                       let c : cell ≡ cell_at leg.to n = cc in
                       absurd (no-leg v position via cell n leg none e c)
                 ]
@@ -104,10 +97,8 @@ trying-skip v cells before after position via count cell at trying either =
       fewer = trying.fewer;
     }
 
-pub trying-more : (v : LegsValue) (cells : List Cell) (before marks after : List Bool) (position : ℕ) (via : Option ℕ) (count : ℕ)
-(cell : Cell)
-    → slice_get cells count ≡ Some cell → count < length marks → get_or marks count false ≡ false
-    → IsTrying v cells before marks position via count
+pub trying-more : (v : LegsValue) (cells : List Cell) (before marks after : List Bool) (position : ℕ) (via : Option ℕ) (count : ℕ) (cell : Cell)
+    → slice_get cells count ≡ Some cell → count < length marks → get_or marks count false ≡ false → IsTrying v cells before marks position via count
     → IsTried v cells (set marks count true) after cell.position (Some cell.sid) → IsTrying v cells before after position via (count + 1)
 trying-more v cells before marks after position via count cell at within none trying tried =
     let grows : Grows marks after = λ k e. tried.grows k (set-grows marks count k e) in
@@ -124,11 +115,9 @@ trying-more v cells before marks after position via count cell at within none tr
       is_new = λ k c is e.
           elim (tried.is_new k c is e) as (λ w. (slice_get before k ≡ Some true) ⊎ IsClosed v cells after c.position (Some c.sid)) [
             | inl set_ ↦
-                elim (set-cases marks count k set_) as
-                (λ w. (slice_get before k ≡ Some true) ⊎ IsClosed v cells after c.position (Some c.sid)) [
+                elim (set-cases marks count k set_) as (λ w. (slice_get before k ≡ Some true) ⊎ IsClosed v cells after c.position (Some c.sid)) [
                   | inl marked ↦
-                      elim (trying.is_new k c is marked) as
-                      (λ w. (slice_get before k ≡ Some true) ⊎ IsClosed v cells after c.position (Some c.sid)) [
+                      elim (trying.is_new k c is marked) as (λ w. (slice_get before k ≡ Some true) ⊎ IsClosed v cells after c.position (Some c.sid)) [
                         | inl old ↦ inl old
                         | inr closed ↦ inr (closed-grows v cells marks after c.position (Some c.sid) grows closed)
                       ]
@@ -142,8 +131,7 @@ trying-more v cells before marks after position via count cell at within none tr
       fewer = omega (arith, one, tried.fewer, trying.fewer);
     }
 
-pub trying-end : (v : LegsValue) (cells : List Cell) (before after : List Bool) (position : ℕ) (via : Option ℕ) (count : ℕ)
-    → length cells ≤ count
+pub trying-end : (v : LegsValue) (cells : List Cell) (before after : List Bool) (position : ℕ) (via : Option ℕ) (count : ℕ) → length cells ≤ count
     → IsTrying v cells before after position via count → IsTried v cells before after position via
 trying-end v cells before after position via count h trying =
     record {
@@ -158,8 +146,7 @@ trying-end v cells before after position via count h trying =
     }
 
 -- from a closed state, where all that is marked is closed, no path leads to the end
-leg-none : (v : LegsValue) (position : ℕ) (via : Option ℕ) (n : ℕ) (later : ℕ → Option ℕ)
-    → ((leg : Leg) → v.leg position via n ≡ Some leg → later leg.to ≡ None)
+leg-none : (v : LegsValue) (position : ℕ) (via : Option ℕ) (n : ℕ) (later : ℕ → Option ℕ) → ((leg : Leg) → v.leg position via n ≡ Some leg → later leg.to ≡ None)
     → with_leg (v.leg position via n) later ≡ None
 leg-none v position via n later h =
     let by : (o : Option Leg) → v.leg position via n ≡ o → with_leg o later ≡ None =
@@ -170,8 +157,7 @@ leg-none v position via n later h =
     by (v.leg position via n) refl
 
 pub closed-none : (v : LegsValue) → KeepsLaws v → (cells : List Cell) (marks : List Bool) → AreCells v cells
-    → ((k : ℕ) (cell : Cell) → slice_get cells k ≡ Some cell → slice_get marks k ≡ Some true → IsClosed v cells marks cell.position
-    (Some cell.sid))
+    → ((k : ℕ) (cell : Cell) → slice_get cells k ≡ Some cell → slice_get marks k ≡ Some true → IsClosed v cells marks cell.position (Some cell.sid))
     → (position : ℕ) (via : Option ℕ) (sids : List ℕ) → IsClosed v cells marks position via → need_through v position via sids ≡ None
 closed-none v laws cells marks are all position via [] closed = refl
 closed-none v laws cells marks are all position via (n ∷ []) closed = closed.no_finish n
@@ -199,8 +185,7 @@ some-hops v position via cell hops e =
     ] in
     by (v.leg position via cell.sid) refl e
 
-through-leg : (v : LegsValue) (position : ℕ) (via : Option ℕ) (n : ℕ) (leg : Leg) (sids : List ℕ) (need : ℕ)
-    → v.leg position via n ≡ Some leg
+through-leg : (v : LegsValue) (position : ℕ) (via : Option ℕ) (n : ℕ) (leg : Leg) (sids : List ℕ) (need : ℕ) → v.leg position via n ≡ Some leg
     → need_through v leg.to (Some n) sids ≡ Some need → need_through v position via (n ∷ sids) ≡ Some (leg.hops + need)
 through-leg v position via n leg [] need e f = absurd (cc)
 through-leg v position via n leg (m ∷ more) need e f =
@@ -247,31 +232,25 @@ cell-at cells k h = slice_get-get_or cells k (cell_at 0 0) h
 no-way : (v : LegsValue) (marks : List Bool) (k : ℕ) (position : ℕ) (via : Option ℕ) (cell : Cell) → k < length marks
     → way_into v (get_or marks k false) position via cell ≡ None → (slice_get marks k ≡ Some true) ⊎ (hops_into v position via cell ≡ None)
 no-way v marks k position via cell h none =
-    let by : (b : Bool) → get_or marks k false ≡ b → way_into v b position via cell
-    ≡ None → (slice_get marks k ≡ Some true) ⊎ (hops_into v position via cell ≡ None) =
-    λ b. elim b as (λ b. get_or marks k false ≡ b → way_into v b position via cell ≡ None → (slice_get marks k ≡ Some true) ⊎
-    (hops_into v position via cell ≡ None)) [
+    let by : (b : Bool) → get_or marks k false ≡ b → way_into v b position via cell ≡ None → (slice_get marks k ≡ Some true) ⊎ (hops_into v position via cell ≡ None) =
+    λ b. elim b as (λ b. get_or marks k false ≡ b → way_into v b position via cell ≡ None → (slice_get marks k ≡ Some true) ⊎ (hops_into v position via cell ≡ None)) [
       | true ↦ λ e f. inl (slice_get-get_or marks k false h ∙ ap Some e)
       | false ↦ λ e f. inr f
     ] in
     by (get_or marks k false) refl none
 
 pub some-way : (v : LegsValue) (marks : List Bool) (k : ℕ) (position : ℕ) (via : Option ℕ) (cell : Cell) (hops : ℕ)
-    → way_into v (get_or marks k false) position via cell ≡ Some hops
-    → (get_or marks k false ≡ false) × (hops_into v position via cell ≡ Some hops)
+    → way_into v (get_or marks k false) position via cell ≡ Some hops → (get_or marks k false ≡ false) × (hops_into v position via cell ≡ Some hops)
 some-way v marks k position via cell hops some =
-    let by : (b : Bool) → get_or marks k false ≡ b → way_into v b position via cell
-    ≡ Some hops → (get_or marks k false ≡ false) × (hops_into v position via cell ≡ Some hops) =
-    λ b. elim b as (λ b. get_or marks k false ≡ b → way_into v b position via cell ≡ Some hops → (get_or marks k false ≡ false) ×
-    (hops_into v position via cell ≡ Some hops)) [
+    let by : (b : Bool) → get_or marks k false ≡ b → way_into v b position via cell ≡ Some hops → (get_or marks k false ≡ false) × (hops_into v position via cell ≡ Some hops) =
+    λ b. elim b as (λ b. get_or marks k false ≡ b → way_into v b position via cell ≡ Some hops → (get_or marks k false ≡ false) × (hops_into v position via cell ≡ Some hops)) [
       | true ↦ λ e f. absurd (cc)
       | false ↦ λ e f. (e, f)
     ] in
     by (get_or marks k false) refl some
 
 -- a turn of the search over the cells
-pub turn-skip : (v : LegsValue) (cells : List Cell) (before marks after : List Bool) (position : ℕ) (via : Option ℕ) (k : ℕ)
-    → k < length cells
+pub turn-skip : (v : LegsValue) (cells : List Cell) (before marks after : List Bool) (position : ℕ) (via : Option ℕ) (k : ℕ) → k < length cells
     → length marks ≡ length cells → after ≡ marks → way_into v (get_or marks k false) position via (get_or cells k (cell_at 0 0)) ≡ None
     → IsTrying v cells before marks position via k → IsTrying v cells before after position via (k + 1)
 turn-skip v cells before marks after position via k h long same none trying =
@@ -279,47 +258,37 @@ turn-skip v cells before marks after position via k h long same none trying =
     (trying-skip v cells before marks position via k (get_or cells k (cell_at 0 0)) (cell-at cells k h) trying
     (no-way v marks k position via (get_or cells k (cell_at 0 0)) (omega arith) none))
 
-pub turn-more : (v : LegsValue) (cells : List Cell) (before marks after : List Bool) (position : ℕ) (via : Option ℕ) (k hops : ℕ)
-(found : Option Found)
-    → k < length cells → length marks ≡ length cells
-    → way_into v (get_or marks k false) position via (get_or cells k (cell_at 0 0)) ≡ Some hops
+pub turn-more : (v : LegsValue) (cells : List Cell) (before marks after : List Bool) (position : ℕ) (via : Option ℕ) (k hops : ℕ) (found : Option Found)
+    → k < length cells → length marks ≡ length cells → way_into v (get_or marks k false) position via (get_or cells k (cell_at 0 0)) ≡ Some hops
     → IsTrying v cells before marks position via k → found ≡ None
     → Searched v cells (set marks k true) after (get_or cells k (cell_at 0 0)).position (Some (get_or cells k (cell_at 0 0)).sid) (Ok found)
     → IsTrying v cells before after position via (k + 1)
 turn-more v cells before marks after position via k hops found h long some trying none searched =
     let way = some-way v marks k position via (get_or cells k (cell_at 0 0)) hops some in
     let tried : IsTried v cells (set marks k true) after (get_or cells k (cell_at 0 0)).position (Some (get_or cells k (cell_at 0 0)).sid) =
-    subst (λ (o : Option Found). Searched v cells (set marks k true) after (get_or cells k (cell_at 0 0)).position
-    (Some (get_or cells k (cell_at 0 0)).sid) (Ok o))
+    subst (λ (o : Option Found). Searched v cells (set marks k true) after (get_or cells k (cell_at 0 0)).position (Some (get_or cells k (cell_at 0 0)).sid) (Ok o))
     none searched in
-    trying-more v cells before marks after position via k (get_or cells k (cell_at 0 0)) (cell-at cells k h) (omega arith) way.0 trying
-    tried
+    trying-more v cells before marks after position via k (get_or cells k (cell_at 0 0)) (cell-at cells k h) (omega arith) way.0 trying tried
 
 -- a path found behind a leg
-pub turn-found : (v : LegsValue) (cells : List Cell) (before marks after : List Bool) (position : ℕ) (via : Option ℕ) (k hops : ℕ)
-(found longer : Found)
-    → k < length cells → length marks ≡ length cells
-    → way_into v (get_or marks k false) position via (get_or cells k (cell_at 0 0)) ≡ Some hops → hops ≤ 1000
+pub turn-found : (v : LegsValue) (cells : List Cell) (before marks after : List Bool) (position : ℕ) (via : Option ℕ) (k hops : ℕ) (found longer : Found)
+    → k < length cells → length marks ≡ length cells → way_into v (get_or marks k false) position via (get_or cells k (cell_at 0 0)) ≡ Some hops → hops ≤ 1000
     → IsTrying v cells before marks position via k
-    → Searched v cells (set marks k true) after (get_or cells k (cell_at 0 0)).position (Some (get_or cells k (cell_at 0 0)).sid)
-    (Ok (Some found))
+    → Searched v cells (set marks k true) after (get_or cells k (cell_at 0 0)).position (Some (get_or cells k (cell_at 0 0)).sid) (Ok (Some found))
     → longer.sids.items ≡ (get_or cells k (cell_at 0 0)).sid ∷ found.sids.items → longer.need ≡ hops + found.need
     → IsPath v position via longer (1 + unmarked before)
 turn-found v cells before marks after position via k hops found longer h long some small trying path sids need =
     let way = some-way v marks k position via (get_or cells k (cell_at 0 0)) hops some in
     let one = set-fewer marks k (omega arith) way.0 in
     let few : 1 + unmarked (set marks k true) + 1 ≤ 1 + unmarked before = omega (arith, trying.fewer) in
-    path-more v position via (get_or cells k (cell_at 0 0)) hops (1 + unmarked (set marks k true)) (1 + unmarked before) found longer way.1
-    small few sids need path
+    path-more v position via (get_or cells k (cell_at 0 0)) hops (1 + unmarked (set marks k true)) (1 + unmarked before) found longer way.1 small few sids need path
 
 -- the whole search: where it ends without a path, there is none
 pub all-tried : (v : LegsValue) → KeepsLaws v → (cells : List Cell) (before after : List Bool) → AreCells v cells
-    → ((k : ℕ) → slice_get before k ≡ Some true → ⊥) → IsTried v cells before after 0 None → (sids : List ℕ)
-    → need_through v 0 None sids ≡ None
+    → ((k : ℕ) → slice_get before k ≡ Some true → ⊥) → IsTried v cells before after 0 None → (sids : List ℕ) → need_through v 0 None sids ≡ None
 all-tried v laws cells before after are none tried sids =
     closed-none v laws cells after are
-    (λ k cell at e. elim (tried.is_new k cell at e) as (λ w. IsClosed v cells after cell.position (Some cell.sid))
-    [ inl old ↦ absurd (none k old) | inr closed ↦ closed ]) 0 None sids
+    (λ k cell at e. elim (tried.is_new k cell at e) as (λ w. IsClosed v cells after cell.position (Some cell.sid)) [ inl old ↦ absurd (none k old) | inr closed ↦ closed ]) 0 None sids
     tried.closed
 
 pub no-mark : (n k : ℕ) → slice_get (replicate n false) k ≡ Some true → ⊥
@@ -327,14 +296,12 @@ no-mark zero k e = cc
 no-mark (suc n) zero e = cc
 no-mark (suc n) (suc k) e = no-mark n k e
 
-pub path-few : (v : LegsValue) (found : Found) (marks : List Bool) → length marks ≤ 6272 → IsPath v 0 None found (1 + unmarked marks)
-    → IsPath v 0 None found 6273
+pub path-few : (v : LegsValue) (found : Found) (marks : List Bool) → length marks ≤ 6272 → IsPath v 0 None found (1 + unmarked marks) → IsPath v 0 None found 6273
 path-few v found marks h path =
     let few = unmarked-few marks in
     record { is_path = path.is_path; need = omega (arith, path.need); count = omega (arith, path.count) }
 
-pub found-all : (v : LegsValue) → KeepsLaws v
-    → (cells : List Cell) (before after : List Bool) (n : ℕ) (result : Result (Option Found) NoMemory) → AreCells v cells
+pub found-all : (v : LegsValue) → KeepsLaws v → (cells : List Cell) (before after : List Bool) (n : ℕ) (result : Result (Option Found) NoMemory) → AreCells v cells
     → before ≡ replicate n false → n ≡ length cells → Searched v cells before after 0 None result → Finds v result
 found-all v laws cells before after n (Ok None) are none long searched =
     all-tried v laws cells before after are (λ k e. no-mark n k (subst (λ (xs : List Bool). slice_get xs k ≡ Some true) none e)) searched
@@ -344,8 +311,7 @@ found-all v laws cells before after n (Ok (Some found)) are none long searched =
 found-all v laws cells before after n (Err why) are none long searched = tt
 
 -- the SIDs of a path are SIDs of positions
-pub sids-are : (v : LegsValue) → KeepsLaws v → (position : ℕ) (via : Option ℕ) (sids : List ℕ) (need : ℕ)
-    → need_through v position via sids ≡ Some need
+pub sids-are : (v : LegsValue) → KeepsLaws v → (position : ℕ) (via : Option ℕ) (sids : List ℕ) (need : ℕ) → need_through v position via sids ≡ Some need
     → All (IsSid v) sids
 sids-are v laws position via [] need e = absurd (cc)
 sids-are v laws position via (n ∷ []) need e =
@@ -357,12 +323,10 @@ sids-are v laws position via (n ∷ m ∷ more) need e =
       | None ↦ λ is f. absurd (cc)
       | Some leg ↦ λ is f.
           let at = laws.leg position via n leg is in
-          let later : (q : Option ℕ) → need_through v leg.to (Some n) (m ∷ more) ≡ q → option_map (λ (k : ℕ). leg.hops + k) q
-          ≡ Some need → T =
+          let later : (q : Option ℕ) → need_through v leg.to (Some n) (m ∷ more) ≡ q → option_map (λ (k : ℕ). leg.hops + k) q ≡ Some need → T =
           λ q. elim q as (λ q. need_through v leg.to (Some n) (m ∷ more) ≡ q → option_map (λ (k : ℕ). leg.hops + k) q ≡ Some need → T) [
             | None ↦ λ g h. absurd (cc)
-            | Some rest ↦ λ g h. All-cons (IsSid v) n (m ∷ more) (leg.to, at.within, at.is_next)
-            (sids-are v laws leg.to (Some n) (m ∷ more) rest g)
+            | Some rest ↦ λ g h. All-cons (IsSid v) n (m ∷ more) (leg.to, at.within, at.is_next) (sids-are v laws leg.to (Some n) (m ∷ more) rest g)
           ] in
           later (need_through v leg.to (Some n) (m ∷ more)) refl f
     ] in
@@ -374,10 +338,8 @@ pub need-is : (net : Network) (intent : Intent) (position : ℕ) (via : Option �
 need-is net intent position via [] = refl
 need-is net intent position via (n ∷ []) = refl
 need-is net intent position via (n ∷ m ∷ more) =
-    let by : (o : Option Leg) → with_leg o (λ to. need_through (legs_value net intent) to (Some n) (m ∷ more))
-    ≡ with_leg o (λ to. path_need net intent to (Some n) (m ∷ more)) =
-    λ o. elim o as (λ o. with_leg o (λ to. need_through (legs_value net intent) to (Some n) (m ∷ more)) ≡ with_leg o
-    (λ to. path_need net intent to (Some n) (m ∷ more))) [
+    let by : (o : Option Leg) → with_leg o (λ to. need_through (legs_value net intent) to (Some n) (m ∷ more)) ≡ with_leg o (λ to. path_need net intent to (Some n) (m ∷ more)) =
+    λ o. elim o as (λ o. with_leg o (λ to. need_through (legs_value net intent) to (Some n) (m ∷ more)) ≡ with_leg o (λ to. path_need net intent to (Some n) (m ∷ more))) [
       | None ↦ refl
       | Some leg ↦ ap (option_map (λ (k : ℕ). leg.hops + k)) (need-is net intent leg.to (Some n) (m ∷ more))
     ] in

@@ -3,7 +3,7 @@ use Rattle.std.specs.Prelude.{◌≡◌, ℕ, ◌+◌, ◌*◌, ◌<◌, ◌≤�
 use Rattle.std.specs.Option.{option_and_then}
 use Rattle.leg_table.specs.Value.{LegsValue}
 use Rattle.leg_table.specs.declared.types.Leg.{Leg}
-use Rattle.leg_table.specs.declared.no_memory.NoMemory.{NoMemory}
+use Rattle.base.specs.declared.no_memory.NoMemory.{NoMemory}
 use Rattle.path_compiler.specs.declared.cells.Cell.{Cell}
 use Rattle.path_compiler.specs.declared.find.Found.{Found}
 use Rattle.path_compiler.specs.Paths.{need_through}
@@ -18,8 +18,7 @@ pub record AreCells (v : LegsValue) (cells : List Cell) : Type 0 where
 
 -- the same of the last positions alone
 pub record AreLastCells (v : LegsValue) (count : ℕ) (cells : List Cell) : Type 0 where
-  pub each : (position n : ℕ) → position ≤ v.steps → v.steps < position + count → Contains (v.sids_at position) n
-      → Contains cells (cell_at position n)
+  pub each : (position n : ℕ) → position ≤ v.steps → v.steps < position + count → Contains (v.sids_at position) n → Contains cells (cell_at position n)
   pub few : length cells ≤ 128 * count
 
 -- each cell of the position and the SID is marked
@@ -50,11 +49,9 @@ pub record IsTried (v : LegsValue) (cells : List Cell) (before after : List Bool
   pub fewer : unmarked after ≤ unmarked before
 
 -- so far: the legs to the first cells were tried
-pub record IsTrying (v : LegsValue) (cells : List Cell) (before after : List Bool) (position : ℕ) (via : Option ℕ) (count : ℕ) : Type 0
-where
+pub record IsTrying (v : LegsValue) (cells : List Cell) (before after : List Bool) (position : ℕ) (via : Option ℕ) (count : ℕ) : Type 0 where
   pub no_finish : (n : ℕ) → v.finish position via n ≡ None
-  pub legs : (k n : ℕ) (leg : Leg) → k < count → v.leg position via n ≡ Some leg → slice_get cells k ≡ Some (cell_at leg.to n)
-      → slice_get after k ≡ Some true
+  pub legs : (k n : ℕ) (leg : Leg) → k < count → v.leg position via n ≡ Some leg → slice_get cells k ≡ Some (cell_at leg.to n) → slice_get after k ≡ Some true
   pub grows : Grows before after
   pub is_new : NewIsClosed v cells before after
   pub fewer : unmarked after ≤ unmarked before
