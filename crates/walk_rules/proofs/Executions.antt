@@ -15,7 +15,7 @@ use Rattle.walk_rules.specs.Way.{Into, way_of, StandsAt}
 use Rattle.walk_rules.specs.Treatment.{Gave, treated_at_address, treated_at_sid, step_of, allow_of}
 use Rattle.walk_rules.specs.Laws.{IsLoweredByOne, Executes}
 use Rattle.walk_rules.proofs.Outcomes.{at_entry, treated-each}
-use Rattle.walk_rules.proofs.Routing.{IntoStands, way-stands}
+use Rattle.walk_rules.proofs.Routing.{way-into}
 
 -- what a stage gave is an execution where its outcome says so
 abbrev ExecutesBy : Network → Place → Content → Gave → Outcome → Type 0
@@ -62,8 +62,7 @@ step-executes net place (V6 p) choice =
       own = address-executes net place (V6 p) p (at_address p);
       sid = λ n s into there.
           endpoint-executes net place p n s (at_sid s (allow_of (slice_get net.nodes place.node)) p) into there
-          (stands-there net place.node n s there
-          (subst (IntoStands net place.node) into (way-stands net place p.destination))) refl;
+          (stands-there net place.node n s there (way-into net place p.destination n into)) refl;
     })
 
 -- Again names the SID that was executed

@@ -38,7 +38,7 @@ pub hops-start : (net : Network) (place : Place) (content : Content) (n : ℕ) �
     → Contains (hops_at net place content) n → StartsAt net.links place.node n
 hops-start net place (Unreadable bytes reason) n keeps is there = absurd (omega (arith, there.1))
 hops-start net place (V6 p) n keeps is there =
-    set-starts net place.node (way_of net place p.destination) (way-from net place p.destination keeps is) n there
+    set-starts net place.node (way_of net place p.destination) (way-from net place p.destination keeps is.1) n there
 
 -- at a place the function gives an outcome of the relation
 pub stage-step : (net : Network) (place : Place) (content : Content) (choice : ℕ) → Keeps net → IsPlace net place
@@ -46,7 +46,7 @@ pub stage-step : (net : Network) (place : Place) (content : Content) (choice : �
 stage-step net place (Unreadable bytes reason) choice keeps is = (refl, refl, refl)
 stage-step net place (V6 p) choice keeps is =
     let w = way_of net place p.destination in
-    treated-treats net place.node w p choice (has-links net place.node w (way-from net place p.destination keeps is))
+    treated-treats net place.node w p choice (has-links net place.node w (way-from net place p.destination keeps is.1))
 
 end_x-some : (links : List Link) (node : ℕ) (b : Behaviour) (set : List ℕ) → b ≡ EndX → SuitsBehaviour links node b set → 0 < length set
 end_x-some links node EndX set is suits = suits.some
@@ -54,12 +54,15 @@ end_x-some links node End set is suits = cc
 end_x-some links node (Dt6 table) set is suits = cc
 
 -- how a packet goes on from a SID that is there and stands at the node
-pub on_from-how : (net : Network) (node n : ℕ) (s : SidEntry) (b : Behaviour) → Keeps net → slice_get net.sids n ≡ Some s
+on_from-how : (net : Network) (node n : ℕ) (s : SidEntry) (b : Behaviour) → Keeps net → slice_get net.sids n ≡ Some s
     → s.node ≡ node → s.behaviour ≡ b → IsHow net node (on_from n b)
 on_from-how net node n s End keeps there stands is = tt
 on_from-how net node n s EndX keeps there stands is =
     rw there (stands, end_x-some net.links s.node s.behaviour s.links is (keeps.sid n s there).links)
 on_from-how net node n s (Dt6 table) keeps there stands is = tt
+
+pub sid-how : (net : Network) (n : ℕ) (s : SidEntry) → Keeps net → slice_get net.sids n ≡ Some s → IsHow net s.node (on_from n s.behaviour)
+sid-how net n s keeps there = on_from-how net s.node n s s.behaviour keeps there refl refl
 
 executes-how : (net : Network) (place : Place) (content : Content) (gave : Gave) (n : ℕ) (how : How) → Keeps net
     → Executes net place content gave n how → IsHow net place.node how

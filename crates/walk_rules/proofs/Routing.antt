@@ -14,7 +14,7 @@ use Rattle.walk_rules.specs.declared.place.How.{How}
 use Rattle.walk_rules.specs.declared.place.How.TheVariants.{Arrived, Submitted, Through}
 use Rattle.walk_rules.specs.declared.place.Place.{Place}
 use Rattle.walk_rules.specs.Way.{Way, Away, Over, Own, Into, is_multicast, route_links, sid_links, way_by_hit, way_by_table, way_by, way_of, StandsAt, IsRouteOf, IsThere, IsWayFrom}
-use Rattle.walk_rules.specs.Relation.{IsThrough, IsHow, IsPlace}
+use Rattle.walk_rules.specs.Relation.{IsThrough, IsHow}
 use Rattle.walk_rules.proofs.Lookups.{lookup-there}
 
 -- the SID that a way leads into stands at the node, whether the network keeps the rules or not
@@ -94,12 +94,15 @@ how-from net node (Submitted table) a keeps is = table-from net node table false
 how-from net node (Through sid lower) a keeps is = through-set net node sid keeps (slice_get net.sids sid) refl is
 
 -- from a place the links of a way are a set of the node's, and its SID stands at the node
-pub way-from : (net : Network) (place : Place) (a : ℕ) → Keeps net → IsPlace net place
+pub way-from : (net : Network) (place : Place) (a : ℕ) → Keeps net → IsHow net place.node place.how
     → IsWayFrom net place.node (way_of net place a)
 unfolding way_of
-way-from net place a keeps is = how-from net place.node place.how a keeps is.1
+way-from net place a keeps is = how-from net place.node place.how a keeps is
+
+pub way-into : (net : Network) (place : Place) (a n : ℕ) → way_of net place a ≡ Into n → StandsAt net place.node n
+way-into net place a n e = subst (IntoStands net place.node) e (way-stands net place a)
 
 -- the same of a way that was found to be this one
-pub found-from : (net : Network) (place : Place) (a : ℕ) (w : Way) → Keeps net → IsPlace net place → w ≡ way_of net place a
-    → IsWayFrom net place.node w
+pub found-from : (net : Network) (place : Place) (a : ℕ) (w : Way) → Keeps net → IsHow net place.node place.how
+    → w ≡ way_of net place a → IsWayFrom net place.node w
 found-from net place a w keeps is e = subst (IsWayFrom net place.node) (sym e) (way-from net place a keeps is)

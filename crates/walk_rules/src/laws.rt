@@ -1,29 +1,32 @@
 //! Laws about the definitions, each the contract of a function that does nothing.
 
-ghost use Rattle.std.specs.Prelude.{◌≡◌, ◌≢◌, ℕ, ◌+◌, ◌<◌, ◌≤◌, ◌⊎◌, ◌↔◌, Bool, true, is_some, List, [], Option, ◌∷◌, ◌++◌, length, take, Contains, IsSome};
+ghost use Rattle.std.specs.Prelude.{◌≡◌, ◌≢◌, ℕ, ◌+◌, ◌<◌, ◌≤◌, ◌⊎◌, ◌↔◌, Bool, true, is_some, List, [], Option, ◌∷◌, ◌++◌, length, slice_get, take, Contains, IsSome};
 ghost use Rattle.net_model.specs.Best.{lookup_of};
 ghost use Rattle.net_model.specs.Keeps.{Keeps, StartsAt};
 ghost use Rattle.net_model.specs.Network.{Network};
 ghost use Rattle.srv6_rules.specs.Packet.{Content, IsContent, Packet, V6, bytes_of, read_as};
 ghost use Rattle.srv6_rules.specs.declared.sid.Family.{Family};
 ghost use Rattle.srv6_rules.specs.declared.sid.Reason.{Reason};
+ghost use Rattle.srv6_rules.specs.declared.sid.SidEntry.{SidEntry};
 ghost use Rattle.walk_rules.specs.Laws.{AreStages, DifferAtMostInLink, Executes, IsLoweredByOne, SendsApart, TellsOfError, family_after, hops_at};
-ghost use Rattle.walk_rules.specs.Relation.{IsPlace, Stage};
-ghost use Rattle.walk_rules.specs.Treatment.{dropped, goes, lowered, member_of, sent, step_of};
+ghost use Rattle.walk_rules.specs.Relation.{IsHow, IsPlace, Stage};
+ghost use Rattle.walk_rules.specs.Treatment.{dropped, goes, lowered, member_of, on_from, sent, step_of};
 ghost use Rattle.walk_rules.specs.Walk.{IsWalk, Step, choice_at, content_after, decisions, end_of, next_place, place_after, stage_of, taken_after, walk_of, walk_on};
-ghost use Rattle.walk_rules.specs.Way.{IsThere, IsWayFrom, way_of};
+ghost use Rattle.walk_rules.specs.Way.{Into, IsThere, IsWayFrom, StandsAt, way_of};
 ghost use Rattle.walk_rules.specs.declared.place.Ended.{Ended};
 ghost use Rattle.walk_rules.specs.declared.place.How.{How};
 ghost use Rattle.walk_rules.specs.declared.place.Outcome.{Outcome};
 ghost use Rattle.walk_rules.specs.declared.place.Place.{Place};
 
-/// What a look-up finds is there, and the node's; from a place the links that a way goes over are a
-/// set of the node's, and the SID that it leads into stands at the node.
+/// What a look-up finds is there, and the node's; the SID that a way leads into stands at the node,
+/// and from a place of a network the links that it goes over are a set of the node's.
 pub fn a_way_leads_from_its_place()
     ensures hit { (net : Network) (node table destination : ℕ) →
         IsThere net node (lookup_of net node table destination) }
+    ensures into { (net : Network) (place : Place) (destination n : ℕ) →
+        way_of net place destination ≡ Into n → StandsAt net place.node n }
     ensures way { (net : Network) (place : Place) (destination : ℕ) →
-        Keeps net → IsPlace net place →
+        Keeps net → IsHow net place.node place.how →
         IsWayFrom net place.node (way_of net place destination) }
 {}
 
@@ -156,12 +159,15 @@ pub fn an_execution_names_its_sid()
         gave.outcome ≡ Outcome.Hand n how family → Executes net place content gave n how }
 {}
 
-/// From a place a packet goes on to a place.
+/// From a place a packet goes on to a place, and from a SID it goes on in a way that there is at the
+/// SID's node.
 pub fn a_place_leads_to_a_place()
-    ensures { (net : Network) (place : Place) (content : Content) (choice : ℕ) (next : Place) →
+    ensures next { (net : Network) (place : Place) (content : Content) (choice : ℕ) (next : Place) →
         Keeps net → IsPlace net place →
         next_place net place (step_of net place content choice).outcome ≡ Some next →
         IsPlace net next }
+    ensures sid { (net : Network) (n : ℕ) (s : SidEntry) → Keeps net →
+        slice_get net.sids n ≡ Some s → IsHow net s.node (on_from n s.behaviour) }
 {}
 
 /// What bytes can spell stays so in a stage, and what reads as itself from its bytes, as a
