@@ -6,7 +6,7 @@ use Rattle.std.proofs.lemmas.Bool.{and_from, le-leb}
 use Rattle.srv6_rules.specs.declared.sid.SidEntry.{SidEntry}
 use Rattle.srv6_rules.specs.Packet.{Packet, V6, IsSpellable, spelling}
 use Rattle.srv6_rules.specs.Encapsulation.{at_segment, inner_lowered}
-use Rattle.srv6_rules.proofs.Lemmas.{content_of-spelling_alone, lowered-spellable}
+use Rattle.srv6_rules.proofs.PublicLaws.{content_of-spelling_alone, lowered-spellable}
 use Rattle.net_model.specs.Network.{Network}
 use Rattle.net_model.specs.Rules.{IsNetwork}
 use Rattle.net_model.specs.Flat.{IsFlat}

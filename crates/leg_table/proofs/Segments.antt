@@ -13,7 +13,7 @@ use Rattle.srv6_rules.specs.Packet.{V6, content_of}
 use Rattle.srv6_rules.specs.Endpoint.{Endpoint, at_sid, upper_layer, in_packet}
 use Rattle.srv6_rules.specs.Srh.{segments_left_at}
 use Rattle.srv6_rules.specs.Encapsulation.{Encapsulation, at_segment, header_bytes}
-use Rattle.srv6_rules.proofs.Lemmas.{at_segment-onward, at_segment-hop_limit, at_segment-bad_segments, at_segment-upper_layer, at_segment-exposed}
+use Rattle.srv6_rules.proofs.PublicLaws.{at_segment-onward, at_segment-hop_limit, at_segment-bad_segments, at_segment-upper_layer, at_segment-exposed}
 use Rattle.net_model.specs.declared.net.Hit.{Hit}
 use Rattle.net_model.specs.declared.net.Hit.TheVariants as hits
 use Rattle.net_model.specs.Network.{Network}

@@ -72,11 +72,8 @@ fn is_finished(payload: &[u8], at: usize) -> bool
 /// a fault in Segments Left (RFC 8754 section 4.3.1.1, RFC 8986 section 4.6).
 fn bad_segments(packet: &Packet, at: usize) -> Fault
     requires { at + SEGMENTS_LEFT_AT ≤ length packet.now.payload }
-    ensures { result ≡ record {
-      reason = Reason.BadSegments;
-      at =
-          in_packet (at + SEGMENTS_LEFT_AT);
-    } }
+    ensures { result
+        ≡ record { reason = Reason.BadSegments; at = in_packet (at + SEGMENTS_LEFT_AT) } }
 {
     prove!(at < packet.payload().len());
     Fault {
