@@ -6,7 +6,7 @@ use Rattle.std.specs.Option.{option_and_then}
 use Rattle.std.proofs.lemmas.Bool.{and_parts, and_from, false≢true}
 use Rattle.net_model.specs.declared.parts.Link.{Link}
 use Rattle.net_model.specs.Network.{Network}
-use Rattle.net_model.specs.Keeps.{Keeps, IsLinkSet}
+use Rattle.net_model.specs.Keeps.{IsLinkSet}
 use Rattle.net_model.specs.Rules.{is_link_set}
 use Rattle.net_model.proofs.PublicLaws.{link_set_from}
 use Rattle.walk_rules.specs.Treatment.{member_of}

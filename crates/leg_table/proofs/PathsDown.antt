@@ -1,5 +1,5 @@
 -- A list of segments that hands over for all choices is a path of legs and a finish.
-use Rattle.std.proofs.Common.{◌≡◌, ℕ, zero, suc, ◌+◌, ◌-◌, ◌^◌, ◌<◌, ◌≤◌, ◌⊎◌, inl, inr, Bool, true, false, ◌&&◌, if◌then◌else◌, List, [], ◌∷◌, ◌++◌, length, drop, map, Option, Some, None, IsTrue, slice_get, slice_index, refl, sym, ◌∙◌, ap, subst, arith, append-nil, not}
+use Rattle.std.proofs.Common.{◌≡◌, ℕ, zero, suc, ◌+◌, ◌-◌, ◌^◌, ◌<◌, ◌≤◌, ◌⊎◌, inl, inr, Bool, true, false, ◌&&◌, if◌then◌else◌, List, [], ◌∷◌, ◌++◌, length, drop, map, Option, Some, None, IsTrue, slice_get, slice_index, refl, sym, ◌∙◌, ap, subst, arith, append-nil}
 use Rattle.std.specs.Prelude.{nat_le}
 use Rattle.std.specs.List.{All}
 use Rattle.std.specs.Option.{option_map}
@@ -32,7 +32,7 @@ use Rattle.leg_table.specs.Trace.{Crossed, executed, Handed, after_events, hande
 use Rattle.leg_table.specs.Tasks.{meets, matches, left_after}
 use Rattle.leg_table.specs.Choices.{Crosses, Goes, Ends, AtNext, EveryWay}
 use Rattle.leg_table.specs.Ride.{Ride, ride_of, with_hop_limit, RideEnds}
-use Rattle.leg_table.specs.Sids.{is_sid_at, is_middle, sid_goes_on, is_last, sid_exposes, sid_address}
+use Rattle.leg_table.specs.Sids.{is_sid_at, is_middle, sid_goes_on, sid_exposes, sid_address}
 use Rattle.leg_table.specs.Leg.{place_behind, place_from, is_start}
 use Rattle.leg_table.specs.Realizes.{AreSidAddresses, with_leg, path_need}
 use Rattle.leg_table.proofs.Options.{map-some, some-same}

@@ -8,11 +8,10 @@ use Rattle.std.proofs.lemmas.List.{take-append-drop}
 use Rattle.srv6_rules.specs.declared.sid.Family.TheVariants as families
 use Rattle.srv6_rules.specs.declared.sid.SidEntry.{SidEntry}
 use Rattle.net_model.specs.Network.{Network}
-use Rattle.net_model.specs.Keeps.{Keeps, SuitsBehaviour}
+use Rattle.net_model.specs.Keeps.{Keeps}
 use Rattle.walk_rules.specs.declared.place.Place.{Place}
 use Rattle.walk_rules.specs.Way.{Way, Away, Over, Own, Into, way_of, IsWayFrom}
-use Rattle.walk_rules.specs.Treatment.{on_from}
-use Rattle.walk_rules.specs.Relation.{IsHow, IsThrough}
+use Rattle.walk_rules.specs.Relation.{IsHow}
 use Rattle.walk_rules.specs.Walk.{arrival}
 use Rattle.walk_rules.proofs.PublicLaws.{sid-how, way-from}
 use Rattle.intent_reader.specs.Rules.{stand_after, first_end, node_after, is_at, IsIntent, is_intent, ends_in_function}

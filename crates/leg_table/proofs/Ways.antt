@@ -6,11 +6,11 @@ use Rattle.std.proofs.lemmas.Bool.{false≢true, eq-eqb, or_cases, or_left, or_r
 use Rattle.std.proofs.lemmas.List.{length-drop}
 use Rattle.srv6_rules.specs.declared.sid.SidEntry.{SidEntry}
 use Rattle.net_model.specs.Network.{Network}
-use Rattle.net_model.specs.Keeps.{Keeps, SuitsBehaviour}
+use Rattle.net_model.specs.Keeps.{Keeps}
 use Rattle.walk_rules.specs.declared.place.Place.{Place}
 use Rattle.walk_rules.specs.Way.{Way, Away, Over, Own, Into, way_of}
 use Rattle.walk_rules.specs.Treatment.{on_from}
-use Rattle.walk_rules.specs.Relation.{IsHow, IsThrough}
+use Rattle.walk_rules.specs.Relation.{IsHow}
 use Rattle.walk_rules.specs.Walk.{arrival}
 use Rattle.walk_rules.proofs.PublicLaws.{sid-how}
 use Rattle.intent_reader.specs.Rules.{first_end}
