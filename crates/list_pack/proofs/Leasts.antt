@@ -47,7 +47,7 @@ unlisted-none v p s moves laws good is_s e =
     none-only (cost_of v s moves) (subst (λ (o : Option Cost). Under o (cost_of v s moves)) e (bounds v p laws good moves s is_s))
 
 -- behind an edge, what a path attains is attained with the edge in front
-attained : (v : LegsValue) (s : State) (m : Move) (e : Edge) (moves : List Move) (d : Cost) → edge_of v s m ≡ Some e → cost_of v e.to moves ≡ Some d
+pub attained : (v : LegsValue) (s : State) (m : Move) (e : Edge) (moves : List Move) (d : Cost) → edge_of v s m ≡ Some e → cost_of v e.to moves ≡ Some d
     → cost_of v s (m ∷ moves) ≡ Some (plus e.cost d)
 attained v s m e [] d h k = absurd (none-some d k)
 attained v s m e (n ∷ more) d h k =
