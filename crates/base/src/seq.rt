@@ -4,7 +4,8 @@ ghost use Rattle.std.specs.Prelude.{◌≡◌};
 
 use std::marker::Model;
 
-/// A list that contracts see as one. Made from a `Vec` and given back without taking memory. (own rule)
+/// A list that contracts see as one. Made from a `Vec` and given back without taking memory. (own
+/// rule)
 #[derive(Debug, Drop)]
 pub struct Seq<T> {
     items: Vec<T>,

@@ -1,0 +1,312 @@
+-- The cells of all positions stand in the order of states.
+use Rattle.std.proofs.Common.{◌≡◌, ℕ, zero, suc, ◌+◌, ◌-◌, ◌*◌, ◌<◌, ◌≤◌, ◌⊎◌, inl, inr, Bool, true, false, ◌&&◌, List, [], ◌∷◌, ◌++◌, map, length, Option, Some, None, slice_get, Contains, refl, sym, ◌∙◌, ap, subst, arith, length-append, get_or}
+use Rattle.std.specs.Option.{option_map}
+use Rattle.std.proofs.lemmas.Bool.{false≢true, and_parts, cases_lt}
+use Rattle.std.proofs.lemmas.List.{length-map}
+use Rattle.std.proofs.lemmas.List.Elements.{Contains-append_left, Contains-append_right}
+use Rattle.std.proofs.lemmas.Option.{none-some, slice_get-get_or, slice_get-map, slice_get_within, slice_get_past, get_or_from_slice_get}
+use Rattle.list_pack.specs.declared.types.State.{State}
+use Rattle.list_pack.specs.Order.{lex_before}
+use Rattle.list_pack.specs.Value.{LegsValue, KeepsLaws, sid_before, sid_key, ascends}
+use Rattle.list_pack.specs.Least.{IsBefore, state_key_by}
+use Rattle.list_encoder.specs.declared.cells.Cell.{Cell}
+use Rattle.list_pack.specs.Rooms.{top_room}
+use Rattle.list_encoder.specs.Cells.{cell_at, start_cell, state_at, IsCell, IsCellBy, AreCells, IsFirst, top_at, top_at_by}
+use Rattle.list_encoder.proofs.Rooms.{top-seven}
+use Rattle.list_encoder.proofs.Orders.{head-cases, head-less, head-same, lex-trans, lex-longer}
+
+-- between an element and its place
+pub place_of : {X : Type 0} (xs : List X) (x : X) → Contains xs x → (k : ℕ) × (slice_get xs k ≡ Some x)
+place_of xs x c = (c.0, slice_get-get_or xs c.0 x c.1 ∙ ap Some c.2)
+
+pub contains_at : {X : Type 0} (xs : List X) (x : X) (k : ℕ) → slice_get xs k ≡ Some x → Contains xs x
+contains_at xs x k e = (k, slice_get_within xs k x e, get_or_from_slice_get xs k x x e)
+
+pub some-same : {X : Type 0} (x y : X) → Some x ≡ Some y → x ≡ y
+some-same x y h = cc
+
+-- places of a list and of one put behind it
+pub append-left : {X : Type 0} (xs ys : List X) (k : ℕ) → k < length xs → slice_get (xs ++ ys) k ≡ slice_get xs k
+append-left [] ys k h = absurd (omega arith)
+append-left (x ∷ xs) ys zero h = refl
+append-left (x ∷ xs) ys (suc k) h = append-left xs ys k (omega arith)
+
+pub append-right : {X : Type 0} (xs ys : List X) (k : ℕ) → slice_get (xs ++ ys) (length xs + k) ≡ slice_get ys k
+append-right [] ys k = let e : 0 + k ≡ k = omega arith in ap (slice_get ys) e
+append-right (x ∷ xs) ys k =
+    let e : suc (length xs) + k ≡ suc (length xs + k) = omega arith in
+    ap (slice_get (x ∷ (xs ++ ys))) e ∙ append-right xs ys k
+
+-- an element of the whole is one of the first list or of the second
+pub append-cases : {X : Type 0} (xs ys : List X) (k : ℕ) (x : X) → slice_get (xs ++ ys) k ≡ Some x
+    → ((k < length xs) × (slice_get xs k ≡ Some x)) ⊎ ((length xs ≤ k) × (slice_get ys (k - length xs) ≡ Some x))
+append-cases {X} xs ys k x h =
+    elim (cases_lt k (length xs)) as (λ w. ((k < length xs) × (slice_get xs k ≡ Some x)) ⊎ ((length xs ≤ k) × (slice_get ys (k - length xs) ≡ Some x))) [
+      | inl less ↦ inl (less, sym (append-left xs ys k less) ∙ h)
+      | inr more ↦
+          let e : length xs + (k - length xs) ≡ k = omega arith in
+          inr (more, sym (append-right xs ys (k - length xs)) ∙ ap (slice_get (xs ++ ys)) e ∙ h)
+    ]
+
+-- the SIDs of a position are in order, any two of them
+rises : (v : LegsValue) (n : ℕ) (xs : List ℕ) (j m : ℕ) → ascends v (n ∷ xs) ≡ true → slice_get xs j ≡ Some m → sid_before v n m ≡ true
+rises v n [] j m h e = absurd (none-some m e)
+rises v n (x ∷ xs) zero m h e =
+    let same : x ≡ m = cc in
+    subst (λ (y : ℕ). sid_before v n y ≡ true) same (and_parts (sid_before v n x) (ascends v (x ∷ xs)) h).0
+rises v n (x ∷ xs) (suc j) m h e =
+    let parts = and_parts (sid_before v n x) (ascends v (x ∷ xs)) h in
+    lex-trans (sid_key v n) (sid_key v x) (sid_key v m) parts.0 (rises v x xs j m parts.1 e)
+
+pub sids-rise : (v : LegsValue) (xs : List ℕ) (i j n m : ℕ) → ascends v xs ≡ true → i < j → slice_get xs i ≡ Some n → slice_get xs j ≡ Some m
+    → sid_before v n m ≡ true
+sids-rise v [] i j n m h l e f = absurd (none-some n e)
+sids-rise v (x ∷ xs) zero zero n m h l e f = absurd (omega arith)
+sids-rise v (x ∷ xs) zero (suc j) n m h l e f =
+    let same : x ≡ n = cc in
+    subst (λ (y : ℕ). sid_before v y m ≡ true) same (rises v x xs j m h f)
+sids-rise v (x ∷ xs) (suc i) zero n m h l e f = absurd (omega arith)
+sids-rise v (x ∷ []) (suc i) (suc j) n m h l e f = absurd (none-some n e)
+sids-rise v (x ∷ y ∷ ys) (suc i) (suc j) n m h l e f =
+    sids-rise v (y ∷ ys) i j n m (and_parts (sid_before v x y) (ascends v (y ∷ ys)) h).1 (omega arith) e f
+
+-- the cells of the positions before one
+pub record AreCellsBefore (v : LegsValue) (position : ℕ) (cells : List Cell) : Type 0 where
+  pub begins : slice_get cells 0 ≡ Some start_cell
+  pub each : (p n : ℕ) → p < position → Contains (v.sids_at p) n → Contains cells (cell_at p n)
+  pub real : (k : ℕ) (cell : Cell) → slice_get cells k ≡ Some cell → IsCell v cell
+  pub earlier : (k n : ℕ) (cell : Cell) → slice_get cells k ≡ Some cell → cell.via ≡ Some n → cell.position < position
+  pub order : (i j : ℕ) (a b : Cell) (p q : ℕ) → i < j → slice_get cells i ≡ Some a → slice_get cells j ≡ Some b
+      → IsBefore v (state_at a p) (state_at b q)
+  pub few : length cells ≤ 1 + 128 * position
+
+pub cells-none : (v : LegsValue) → AreCellsBefore v 0 (start_cell ∷ [])
+cells-none v =
+    record {
+      begins = refl;
+      each = λ p n h c. absurd (omega (arith, h));
+      real = λ k cell e. real k cell e;
+      earlier = λ k n cell e f. earlier k n cell e f;
+      order = λ i j a b p q h e f. absurd (alone j b f (omega arith));
+      few = omega arith;
+    }
+  where
+    alone : (j : ℕ) (b : Cell) → slice_get (start_cell ∷ []) j ≡ Some b → 0 < j → ⊥
+    alone zero b f h = absurd (omega arith)
+    alone (suc j) b f h = none-some b f
+
+    real : (k : ℕ) (cell : Cell) → slice_get (start_cell ∷ []) k ≡ Some cell → IsCell v cell
+    real zero cell e = subst (λ (c : Cell). IsCell v c) (some-same start_cell cell e) refl
+    real (suc k) cell e = absurd (none-some cell e)
+
+    earlier : (k n : ℕ) (cell : Cell) → slice_get (start_cell ∷ []) k ≡ Some cell → cell.via ≡ Some n → cell.position < 0
+    earlier zero n cell e f = absurd (none-some n (ap (λ (c : Cell). c.via) (some-same start_cell cell e) ∙ f))
+    earlier (suc k) n cell e f = absurd (none-some cell e)
+
+-- a cell of one more position
+mapped-at : (v : LegsValue) (position k : ℕ) (cell : Cell) → slice_get (map (cell_at position) (v.sids_at position)) k ≡ Some cell
+    → (n : ℕ) × (slice_get (v.sids_at position) k ≡ Some n) × (cell_at position n ≡ cell)
+mapped-at v position k cell h = by (slice_get (v.sids_at position) k) refl (sym (slice_get-map (cell_at position) (v.sids_at position) k) ∙ h)
+  where
+    by : (o : Option ℕ) → slice_get (v.sids_at position) k ≡ o → option_map (cell_at position) o ≡ Some cell
+        → (n : ℕ) × (slice_get (v.sids_at position) k ≡ Some n) × (cell_at position n ≡ cell)
+    by None e f = absurd (none-some cell f)
+    by (Some n) e f = (n, e, some-same (cell_at position n) cell f)
+
+-- the cell of an earlier position, or the start's, comes before one of a later position
+before-later : (v : LegsValue) (a : Cell) (position n p q : ℕ) (via : Option ℕ) → ((m : ℕ) → via ≡ Some m → a.position < position)
+    → lex_before (state_key_by v a.position via p) (state_key_by v position (Some n) q) ≡ true
+before-later v a position n p q None h = refl
+before-later v a position n p q (Some m) h =
+    head-less a.position position ((v.shape m).prefix.value ∷ (v.shape m).prefix.len ∷ v.node m ∷ p ∷ [])
+    ((v.shape n).prefix.value ∷ (v.shape n).prefix.len ∷ v.node n ∷ q ∷ []) (h m refl)
+
+-- the cell of an earlier SID of a position comes before that of a later one
+before-within : (v : LegsValue) (position n m p q : ℕ) → sid_before v n m ≡ true
+    → IsBefore v (state_at (cell_at position n) p) (state_at (cell_at position m) q)
+before-within v position n m p q h =
+    head-same position position ((v.shape n).prefix.value ∷ (v.shape n).prefix.len ∷ v.node n ∷ p ∷ [])
+    ((v.shape m).prefix.value ∷ (v.shape m).prefix.len ∷ v.node m ∷ q ∷ []) refl (lex-longer (sid_key v n) (sid_key v m) (p ∷ []) (q ∷ []) refl h)
+
+more-cells : LegsValue → ℕ → List Cell
+more-cells v position = map (cell_at position) (v.sids_at position)
+
+module _ (v : LegsValue) (laws : KeepsLaws v) (position : ℕ) (cells : List Cell) (within : position ≤ v.steps) (are : AreCellsBefore v position cells) where
+  more-each : (p n : ℕ) → p < position + 1 → Contains (v.sids_at p) n → Contains (cells ++ map (cell_at position) (v.sids_at position)) (cell_at p n)
+  more-each p n h c =
+      elim (cases_lt p position) as (λ w. Contains (cells ++ map (cell_at position) (v.sids_at position)) (cell_at p n)) [
+        | inl less ↦ Contains-append_left cells (map (cell_at position) (v.sids_at position)) (cell_at p n) (are.each p n less c)
+        | inr above ↦
+            let e : p ≡ position = omega (arith, h, above) in
+            Contains-append_right cells (map (cell_at position) (v.sids_at position)) (cell_at p n)
+            (subst (λ (q : ℕ). Contains (map (cell_at q) (v.sids_at q)) (cell_at p n)) e (mapped p n c))
+      ]
+    where
+      mapped : (p n : ℕ) → Contains (v.sids_at p) n → Contains (map (cell_at p) (v.sids_at p)) (cell_at p n)
+      mapped p n c =
+          let at = place_of (v.sids_at p) n c in
+          contains_at (map (cell_at p) (v.sids_at p)) (cell_at p n) at.0
+          (slice_get-map (cell_at p) (v.sids_at p) at.0 ∙ ap (λ (o : Option ℕ). option_map (cell_at p) o) at.1)
+
+  more-real : (k : ℕ) (cell : Cell) → slice_get (cells ++ map (cell_at position) (v.sids_at position)) k ≡ Some cell → IsCell v cell
+  more-real k cell h =
+      elim (append-cases cells (map (cell_at position) (v.sids_at position)) k cell h) as (λ w. IsCell v cell) [
+        | inl old ↦ are.real k cell old.1
+        | inr new ↦
+            let it = mapped-at v position (k - length cells) cell new.1 in
+            let is : IsCell v (cell_at position it.0) = (within, contains_at (v.sids_at position) it.0 (k - length cells) it.1) in
+            subst (λ (c : Cell). IsCell v c) it.2 is
+      ]
+
+  more-earlier : (k n : ℕ) (cell : Cell) → slice_get (cells ++ map (cell_at position) (v.sids_at position)) k ≡ Some cell → cell.via ≡ Some n
+      → cell.position < position + 1
+  more-earlier k n cell h e =
+      elim (append-cases cells (map (cell_at position) (v.sids_at position)) k cell h) as (λ w. cell.position < position + 1) [
+        | inl old ↦ let less = are.earlier k n cell old.1 e in omega (arith, less)
+        | inr new ↦
+            let it = mapped-at v position (k - length cells) cell new.1 in
+            let same : position ≡ cell.position = ap (λ (c : Cell). c.position) it.2 in
+            omega (arith, same)
+      ]
+
+  order-new : (i j : ℕ) (a b : Cell) (p q : ℕ) → i < j → slice_get (map (cell_at position) (v.sids_at position)) i ≡ Some a
+      → slice_get (map (cell_at position) (v.sids_at position)) j ≡ Some b → IsBefore v (state_at a p) (state_at b q)
+  order-new i j a b p q h e f =
+      let it = mapped-at v position i a e in
+      let that = mapped-at v position j b f in
+      let rise = sids-rise v (v.sids_at position) i j it.0 that.0 (laws.sids_order position within) h it.1 that.1 in
+      subst (λ (c : Cell). IsBefore v (state_at c p) (state_at b q)) it.2
+      (subst (λ (c : Cell). IsBefore v (state_at (cell_at position it.0) p) (state_at c q)) that.2 (before-within v position it.0 that.0 p q rise))
+
+  order-over : (i j : ℕ) (a b : Cell) (p q : ℕ) → slice_get cells i ≡ Some a
+      → slice_get (map (cell_at position) (v.sids_at position)) j ≡ Some b → IsBefore v (state_at a p) (state_at b q)
+  order-over i j a b p q e f =
+      let that = mapped-at v position j b f in
+      subst (λ (c : Cell). IsBefore v (state_at a p) (state_at c q)) that.2
+      (before-later v a position that.0 p q a.via (λ m via. are.earlier i m a e via))
+
+  more-order : (i j : ℕ) (a b : Cell) (p q : ℕ) → i < j → slice_get (cells ++ map (cell_at position) (v.sids_at position)) i ≡ Some a
+      → slice_get (cells ++ map (cell_at position) (v.sids_at position)) j ≡ Some b → IsBefore v (state_at a p) (state_at b q)
+  more-order i j a b p q h e f =
+      elim (append-cases cells (map (cell_at position) (v.sids_at position)) i a e) as (λ w. IsBefore v (state_at a p) (state_at b q)) [
+        | inl old ↦
+            elim (append-cases cells (map (cell_at position) (v.sids_at position)) j b f) as (λ w. IsBefore v (state_at a p) (state_at b q)) [
+              | inl also ↦ are.order i j a b p q h old.1 also.1
+              | inr new ↦ order-over i (j - length cells) a b p q old.1 new.1
+            ]
+        | inr new ↦
+            elim (append-cases cells (map (cell_at position) (v.sids_at position)) j b f) as (λ w. IsBefore v (state_at a p) (state_at b q)) [
+              | inl old ↦ absurd (omega (arith, h, new.0, old.0))
+              | inr also ↦ order-new (i - length cells) (j - length cells) a b p q (omega (arith, h, new.0, also.0)) new.1 also.1
+            ]
+      ]
+
+  pub cells-more : AreCellsBefore v (position + 1) (cells ++ map (cell_at position) (v.sids_at position))
+  cells-more =
+      let some : 0 < length cells = slice_get_within cells 0 start_cell are.begins in
+      let long = length-append cells (map (cell_at position) (v.sids_at position)) in
+      let as_many = length-map (v.sids_at position) (cell_at position) in
+      let few = laws.sids_count position within in
+      record {
+        begins = append-left cells (map (cell_at position) (v.sids_at position)) 0 some ∙ are.begins;
+        each = more-each;
+        real = more-real;
+        earlier = more-earlier;
+        order = more-order;
+        few = omega (arith, long, as_many, few, are.few);
+      }
+
+pub cells-turn : (v : LegsValue) → KeepsLaws v → (position steps : ℕ) (sids : List ℕ) (cells after : List Cell) → steps ≡ v.steps → position < steps + 1
+    → sids ≡ v.sids_at position → after ≡ cells ++ map (cell_at position) sids → AreCellsBefore v position cells → AreCellsBefore v (position + 1) after
+cells-turn v laws position steps sids cells after e h s a are =
+    subst (λ (xs : List Cell). AreCellsBefore v (position + 1) xs)
+    (ap (λ (ys : List ℕ). cells ++ map (cell_at position) ys) (sym s) ∙ sym a) (cells-more v laws position cells (omega (arith, e, h)) are)
+
+pub cells-all : (v : LegsValue) → KeepsLaws v → (position steps : ℕ) (cells : List Cell) → steps ≡ v.steps → steps + 1 ≤ position
+    → AreCellsBefore v position cells → position ≤ steps + 1 → AreCells v cells
+cells-all v laws position steps cells e h are l =
+    let steps_few = laws.steps in
+    record {
+      begins = are.begins;
+      each = λ p n w c. are.each p n (omega (arith, e, h, w)) c;
+      real = are.real;
+      order = are.order;
+      few = omega (arith, are.few, steps_few, e, l);
+    }
+
+-- positions never fall along the cells
+positions-by : (v : LegsValue) (a b : Cell) (p q : ℕ) (via then : Option ℕ) → IsCellBy v a.position via → lex_before (state_key_by v a.position via p)
+    (state_key_by v b.position then q) ≡ true → a.position ≤ b.position
+positions-by v a b p q None then is h = omega (arith, is)
+positions-by v a b p q (Some n) None is h = absurd (false≢true h)
+positions-by v a b p q (Some n) (Some m) is h =
+    elim (head-cases a.position b.position ((v.shape n).prefix.value ∷ (v.shape n).prefix.len ∷ v.node n ∷ p ∷ [])
+    ((v.shape m).prefix.value ∷ (v.shape m).prefix.len ∷ v.node m ∷ q ∷ []) h) as (λ w. a.position ≤ b.position) [
+      | inl less ↦ omega (arith, less)
+      | inr same ↦ omega (arith, same.0)
+    ]
+
+pub positions-rise : (v : LegsValue) (cells : List Cell) → AreCells v cells → (i j : ℕ) (a b : Cell) → i ≤ j → slice_get cells i ≡ Some a
+    → slice_get cells j ≡ Some b → a.position ≤ b.position
+positions-rise v cells are i j a b h e f =
+    elim (cases_lt i j) as (λ w. a.position ≤ b.position) [
+      | inl less ↦ positions-by v a b 0 0 a.via b.via (are.real i a e) (are.order i j a b 0 0 less e f)
+      | inr more ↦
+          let same : i ≡ j = omega (arith, h, more) in
+          let cell : a ≡ b = some-same a b (sym e ∙ ap (slice_get cells) same ∙ f) in
+          let p : a.position ≡ b.position = ap (λ (c : Cell). c.position) cell in
+          omega (arith, p)
+    ]
+
+-- the first cell that is not of an earlier position
+pub first-found : (v : LegsValue) (cells : List Cell) → AreCells v cells → (position k : ℕ) (cell : Cell) → slice_get cells k ≡ Some cell
+    → position ≤ cell.position → ((j : ℕ) (other : Cell) → j < k → slice_get cells j ≡ Some other → other.position < position) → IsFirst cells position k
+first-found v cells are position k cell here above below =
+    let w = slice_get_within cells k cell here in
+    record {
+      within = omega (arith, w);
+      earlier = below;
+      later = λ j other h e. let rise = positions-rise v cells are k j cell other h here e in omega (arith, rise, above);
+    }
+
+pub first-none : (cells : List Cell) (position k : ℕ) → k ≡ length cells
+    → ((j : ℕ) (other : Cell) → j < k → slice_get cells j ≡ Some other → other.position < position) → IsFirst cells position k
+first-none cells position k e below =
+    record {
+      within = omega (arith, e);
+      earlier = below;
+      later = λ j other h f. let w = slice_get_within cells j other f in absurd (omega (arith, e, h, w));
+    }
+
+pub cell-read : (cells : List Cell) (k : ℕ) → k < length cells → slice_get cells k ≡ Some (get_or cells k (record { position = 0; via = None }))
+cell-read cells k h = slice_get-get_or cells k (record { position = 0; via = None }) h
+
+pub first-more : (cells : List Cell) (position k : ℕ) (cell : Cell) → slice_get cells k ≡ Some cell → cell.position < position
+    → ((j : ℕ) (other : Cell) → j < k → slice_get cells j ≡ Some other → other.position < position)
+    → (j : ℕ) (other : Cell) → j < k + 1 → slice_get cells j ≡ Some other → other.position < position
+first-more cells position k cell here below before j other h e =
+    elim (cases_lt j k) as (λ w. other.position < position) [
+      | inl less ↦ before j other less e
+      | inr more ↦
+          let same : j ≡ k = omega (arith, h, more) in
+          let it : cell ≡ other = some-same cell other (sym here ∙ ap (slice_get cells) (sym same) ∙ e) in
+          subst (λ (c : Cell). c.position < position) it below
+    ]
+
+pub first-end : {j k n : ℕ} → n ≤ k → j < n → j < k
+first-end h l = omega (arith, h, l)
+
+top-few : (v : LegsValue) → KeepsLaws v → (position : ℕ) (via : Option ℕ) → IsCellBy v position via → top_at_by v via ≤ 7
+top-few v laws position None is = omega arith
+top-few v laws position (Some n) is = top-seven (v.shape n) (laws.shapes n (position, is.0, is.1)) (v.shape n).csid refl
+
+pub top-at-few : (v : LegsValue) → KeepsLaws v → (cell : Cell) → IsCell v cell → top_at v cell ≤ 7
+top-at-few v laws cell is = top-few v laws cell.position cell.via is
+
+pub top-few-by : (v : LegsValue) → KeepsLaws v → (cell : Cell) (n top : ℕ) → IsCell v cell → cell.via ≡ Some n → top ≡ top_room (v.shape n) → top ≤ 7
+top-few-by v laws cell n top is e h =
+    let few : top_at_by v (Some n) ≤ 7 = subst (λ (o : Option ℕ). top_at_by v o ≤ 7) e (top-few v laws cell.position cell.via is) in
+    omega (arith, h, few)
+
+pub sid-read : (sids : List ℕ) (k : ℕ) → k < length sids → slice_get sids k ≡ Some (get_or sids k 0)
+sid-read sids k h = slice_get-get_or sids k 0 h

@@ -1,0 +1,12 @@
+pub mod Orders
+pub mod Celling
+pub mod Rooms
+pub mod Tables
+pub mod Relaxing
+pub mod Settling
+pub mod Leasting
+pub mod Picking
+pub mod Heading
+pub mod Pathing
+pub mod Walking
+pub mod Listings

@@ -1,0 +1,247 @@
+-- A first tight move, and then the first least path, is the first least path.
+use Rattle.std.proofs.Common.{◌≡◌, ℕ, zero, suc, ◌+◌, ◌*◌, ◌<◌, ◌≤◌, ◌⊎◌, inl, inr, Bool, true, false, List, [], ◌∷◌, ◌++◌, map, length, Option, Some, None, slice_get, Contains, refl, sym, ◌∙◌, ap, subst, arith, cond}
+use Rattle.std.specs.Prelude.{is_some, ◌||◌, IsTrue}
+use Rattle.std.specs.Option.{option_map}
+use Rattle.std.proofs.lemmas.Bool.{false≢true, true≢false, or_left, or_right, cases_Bool}
+use Rattle.std.proofs.lemmas.Option.{none-some}
+use Rattle.v6_addr.specs.Address.{PrefixValue}
+use Rattle.list_pack.specs.declared.types.Cost.{Cost}
+use Rattle.list_pack.specs.declared.types.Leg.{Leg}
+use Rattle.list_pack.specs.declared.types.State.{State}
+use Rattle.list_pack.specs.declared.types.PathStep.{PathStep}
+use Rattle.list_pack.specs.Order.{lex_before}
+use Rattle.list_pack.specs.Value.{LegsValue, KeepsLaws, comes_to}
+use Rattle.list_pack.specs.Rooms.{room_behind}
+use Rattle.list_pack.specs.Costs.{Move, Edge, plus, nothing, move_cost, edge_of, edge_by, last_of, cost_of, Under}
+use Rattle.list_pack.specs.Least.{IsFirstLeast, step_of, path_key, path_before}
+use Rattle.list_pack.proofs.Costing.{edge-made, last-made}
+use Rattle.list_pack.proofs.Leasts.{attained}
+use Rattle.list_encoder.specs.declared.cells.Cell.{Cell}
+use Rattle.list_encoder.specs.declared.table.Link.{Link}
+use Rattle.list_encoder.specs.declared.picks.Pick.{Pick}
+use Rattle.list_encoder.specs.declared.picks.Spot.{Spot}
+use Rattle.list_encoder.specs.Cells.{cell_at, state_at, AreCells}
+use Rattle.list_encoder.specs.Table.{Costs, entry, rest_at, LeadsTo, IsLink, AreLeast}
+use Rattle.list_encoder.specs.Picks.{IsSpot, IsTight, IsPick, Covers, link_step, PicksFirst}
+use Rattle.list_encoder.proofs.Orders.{lex-itself, lex-not-both, lex-same, lex-longer, lex-after}
+use Rattle.list_encoder.proofs.Celling.{some-same}
+use Rattle.list_encoder.proofs.Tables.{plus-nothing}
+use Rattle.list_encoder.proofs.Heading.{Behind, Head, head-of}
+
+-- the first three numbers of a path's key
+step_key : PathStep → List ℕ
+step_key p = p.prefix.value ∷ p.prefix.len ∷ cond p.stays 0 1 ∷ []
+
+turn-same : (a b : Bool) → cond {A = ℕ} a 0 1 ≡ cond b 0 1 → a ≡ b
+turn-same true true e = refl
+turn-same true false e = absurd (omega (arith, e))
+turn-same false true e = absurd (omega (arith, e))
+turn-same false false e = refl
+
+-- two steps of one key are one
+key-parts : (p q : PathStep) → path_key (p ∷ []) ≡ path_key (q ∷ []) → (p.prefix ≡ q.prefix) × (p.stays ≡ q.stays)
+key-parts p q e =
+    let value : p.prefix.value ≡ q.prefix.value = cc in
+    let len : p.prefix.len ≡ q.prefix.len = cc in
+    let turn : cond {A = ℕ} p.stays 0 1 ≡ cond q.stays 0 1 = cc in
+    let step : (x : ℕ) → PrefixValue = λ x. record { value = x; len = p.prefix.len } in
+    (ap step value ∙ ap (λ (y : ℕ). record { value = q.prefix.value; len = y }) len, turn-same p.stays q.stays turn)
+
+-- a path is not before one whose first step is not behind its own, unless the steps are one and the rest is before
+pub not-before : (p q : PathStep) (ps qs : List PathStep) → path_before (p ∷ []) (q ∷ []) ≡ false
+    → (p.prefix ≡ q.prefix → p.stays ≡ q.stays → path_before ps qs ≡ false) → path_before (p ∷ ps) (q ∷ qs) ≡ false
+not-before p q ps qs h rest =
+    elim (cases_Bool (path_before (q ∷ []) (p ∷ []))) as (λ w. path_before (p ∷ ps) (q ∷ qs) ≡ false) [
+      | inl less ↦
+          lex-not-both (path_key (q ∷ qs)) (path_key (p ∷ ps)) (lex-longer (path_key (q ∷ [])) (path_key (p ∷ [])) (path_key qs) (path_key ps) refl less)
+      | inr also ↦
+          let e = lex-same (path_key (p ∷ [])) (path_key (q ∷ [])) h also in
+          let parts = key-parts p q e in
+          lex-after (path_key (p ∷ [])) (path_key (q ∷ [])) (path_key ps) (path_key qs) e (rest parts.0 parts.1)
+    ]
+
+-- links from one cell
+same-cell : (v : LegsValue) (cells : List Cell) (a b : Link) (is_a : IsLink v cells a) (is_b : IsLink v cells b) → a.from ≡ b.from → is_a.cell ≡ is_b.cell
+same-cell v cells a b is_a is_b e = some-same is_a.cell is_b.cell (sym is_a.from ∙ ap (slice_get cells) e ∙ is_b.from)
+
+comes-by : (v : LegsValue) (cells : List Cell) (cell : Cell) (sid hops : ℕ) (to : Option ℕ) → LeadsTo v cells cell sid hops to
+    → comes_to v cell.position cell.via sid ≡ true
+comes-by v cells cell sid hops None h =
+    or_right (is_some (v.leg cell.position cell.via sid)) (is_some (v.finish cell.position cell.via sid)) (ap is_some h)
+comes-by v cells cell sid hops (Some to) h =
+    or_left (is_some (v.leg cell.position cell.via sid)) (is_some (v.finish cell.position cell.via sid)) (ap is_some h.2)
+
+pub sids-same : (v : LegsValue) → KeepsLaws v → (cells : List Cell) (a b : Link) → IsLink v cells a → IsLink v cells b → a.from ≡ b.from
+    → (v.shape a.sid).prefix ≡ (v.shape b.sid).prefix → a.sid ≡ b.sid
+sids-same v laws cells a b is_a is_b from e =
+    let cell = same-cell v cells a b is_a is_b from in
+    let one = comes-by v cells is_a.cell a.sid a.hops a.to is_a.leads in
+    let two = comes-by v cells is_b.cell b.sid b.hops b.to is_b.leads in
+    laws.one_of_prefix is_a.cell.position is_a.cell.via a.sid b.sid one
+    (subst (λ (c : Cell). comes_to v c.position c.via b.sid ≡ true) (sym cell) two) e
+
+-- a finish and a leg of one SID are not both tight
+not-both-tight : (v : LegsValue) (cells : List Cell) → KeepsLaws v → (cell : Cell) (sid a b to : ℕ) (stays : Bool) (rest c : Cost)
+    → v.finish cell.position cell.via sid ≡ Some a → LeadsTo v cells cell sid b (Some to) → plus (move_cost stays a) nothing ≡ c
+    → plus (move_cost stays b) rest ≡ c → ⊥
+not-both-tight v cells laws cell sid a b to stays rest c finish leg e f =
+    let above : a < b = laws.above_finish cell.position cell.via sid (record { to = leg.0; hops = b }) a leg.2 finish in
+    let one : a + 0 ≡ c.hops = ap (λ (x : Cost). x.hops) e in
+    let two : b + rest.hops ≡ c.hops = ap (λ (x : Cost). x.hops) f in
+    absurd (omega (arith, above, one, two))
+
+-- the move that a pick stands for
+abbrev pub pick_move : (pick : Pick) (sid : ℕ) → Move
+pick_move pick sid = record { stays = pick.step.stays; sid = sid }
+
+-- what is behind a pick: nothing, or the first least path from there
+abbrev pub FirstBehind : LegsValue → List Cell → Pick → List Move → Option ℕ → Type 0
+FirstBehind v cells pick rest None = rest ≡ []
+FirstBehind v cells pick rest (Some j) = (cell : Cell) × (slice_get cells j ≡ Some cell) × IsFirstLeast v (state_at cell pick.room) pick.rest rest
+
+module _ (v : LegsValue) (laws : KeepsLaws v) (cells : List Cell) (are : AreCells v cells) (t : Costs) (least : AreLeast v cells t) (spot : Spot)
+    (is : IsSpot cells t spot) (pick : Pick) (picked : IsPick v cells t spot pick) (covers : (link : Link) → link.from ≡ spot.place → IsLink v cells link
+    → (stays : Bool) (left : ℕ) (rest : Cost) → IsTight v t spot link stays left rest → Covers (Some pick) (link_step v link stays)) where
+  pick-step : pick.step ≡ link_step v picked.link pick.step.stays
+  pick-step = ap (λ (x : PrefixValue). let s : PathStep = record { stays = pick.step.stays; prefix = x } in s) picked.prefix_is
+
+  -- what a link leads to, from the picked link's cell
+  leads-here : (link : Link) (to : Option ℕ) (is_link : IsLink v cells link) → link.from ≡ spot.place → link.to ≡ to
+      → LeadsTo v cells picked.is_link.cell link.sid link.hops to
+  leads-here link to is_link from e =
+      subst (λ (c : Cell). LeadsTo v cells c link.sid link.hops to)
+      (same-cell v cells link picked.link is_link picked.is_link (from ∙ sym picked.from))
+      (subst (λ (o : Option ℕ). LeadsTo v cells is_link.cell link.sid link.hops o) e is_link.leads)
+
+  -- two tight moves of one SID leave the same room
+  lefts-same : (a : Link) (stays : Bool) (left : ℕ) (d : Cost) → a.sid ≡ picked.link.sid → stays ≡ pick.step.stays → IsTight v t spot a stays left d
+      → left ≡ pick.room
+  lefts-same a stays left d sid same tight =
+      some-same left pick.room (sym tight.room_is
+      ∙ ap (λ (n : ℕ). room_behind stays (option_map v.shape spot.cell.via) spot.room (v.shape n)) sid
+      ∙ ap (λ (b : Bool). room_behind b (option_map v.shape spot.cell.via) spot.room (v.shape picked.link.sid)) same ∙ picked.tight.room_is)
+
+  end-nothing : (a : Link) (stays : Bool) (left : ℕ) (d : Cost) → a.to ≡ None → IsTight v t spot a stays left d
+      → plus (move_cost stays a.hops) nothing ≡ spot.cost
+  end-nothing a stays left d e tight =
+      let same : nothing ≡ d = some-same nothing d (sym (ap (λ (o : Option ℕ). rest_at t o left) e) ∙ tight.rest_is) in
+      ap (plus (move_cost stays a.hops)) same ∙ tight.cost_is
+
+  picked-cost : (stays : Bool) → stays ≡ pick.step.stays → plus (move_cost stays picked.link.hops) pick.rest ≡ spot.cost
+  picked-cost stays same = ap (λ (b : Bool). plus (move_cost b picked.link.hops) pick.rest) same ∙ picked.tight.cost_is
+
+  -- two legs of one SID from one cell
+  legs-same : (link : Link) (i j : ℕ) (a b : Cell) (is_link : IsLink v cells link) → link.from ≡ spot.place → link.to ≡ Some i → picked.link.to ≡ Some j
+      → link.sid ≡ picked.link.sid → slice_get cells i ≡ Some a → slice_get cells j ≡ Some b → (a ≡ b) × (link.hops ≡ picked.link.hops)
+  legs-same link i j a b is_link from e f sid at_a at_b =
+      let leads = leads-here link (Some i) is_link from e in
+      let also = leads-here picked.link (Some j) picked.is_link picked.from f in
+      let first : Leg = record { to = leads.0; hops = link.hops } in
+      let second : Leg = record { to = also.0; hops = picked.link.hops } in
+      let leg : first ≡ second =
+      some-same first second (sym leads.2
+      ∙ ap (λ (n : ℕ). v.leg picked.is_link.cell.position picked.is_link.cell.via n) sid ∙ also.2) in
+      let is_a : a ≡ cell_at leads.0 link.sid = some-same a (cell_at leads.0 link.sid) (sym at_a ∙ leads.1) in
+      let is_b : cell_at also.0 picked.link.sid ≡ b = some-same (cell_at also.0 picked.link.sid) b (sym also.1 ∙ at_b) in
+      let places : cell_at leads.0 link.sid ≡ cell_at also.0 picked.link.sid =
+      ap (λ (l : Leg). cell_at l.to link.sid) leg ∙ ap (cell_at also.0) sid in
+      (is_a ∙ places ∙ is_b, ap (λ (l : Leg). l.hops) leg)
+
+  compare-legs : (link : Link) (stays : Bool) (left : ℕ) (d : Cost) (more rest : List Move) (i j : ℕ) → link.to ≡ Some i → picked.link.to ≡ Some j
+      → link.from ≡ spot.place → IsLink v cells link → link.sid ≡ picked.link.sid → stays ≡ pick.step.stays → IsTight v t spot link stays left d
+      → Behind v cells left more d (Some i) → FirstBehind v cells pick rest (Some j)
+      → path_before (map (step_of v) more) (map (step_of v) rest) ≡ false
+  compare-legs link stays left d more rest i j e f from is_link sid same tight behind first =
+      let both = legs-same link i j behind.0 first.0 is_link from e f sid behind.1 first.1 in
+      let room = lefts-same link stays left d sid same tight in
+      let cost : plus (move_cost stays link.hops) d ≡ plus (move_cost stays picked.link.hops) pick.rest = tight.cost_is ∙ sym (picked-cost stays same) in
+      let containers = ap (λ (x : Cost). x.containers) cost in
+      let hops = ap (λ (x : Cost). x.hops) cost in
+      let c : d.containers ≡ pick.rest.containers = omega (arith, containers) in
+      let h : d.hops ≡ pick.rest.hops = omega (arith, hops, both.1) in
+      let step : (x : ℕ) → Cost = λ x. record { containers = x; hops = d.hops } in
+      let is_rest : d ≡ pick.rest = ap step c ∙ ap (λ (y : ℕ). record { containers = pick.rest.containers; hops = y }) h in
+      let its : cost_of v (state_at first.0 pick.room) more ≡ Some pick.rest =
+      ap (λ (r : ℕ). cost_of v (state_at first.0 r) more) (sym room) ∙ ap (λ (x : Cell). cost_of v (state_at x left) more) (sym both.0) ∙ behind.2
+      ∙ ap (λ (x : Cost). Some x) is_rest in
+      first.2.first more its
+
+  compare : (link : Link) (stays : Bool) (left : ℕ) (d : Cost) (more rest : List Move) (to into : Option ℕ) → link.to ≡ to → picked.link.to ≡ into
+      → link.from ≡ spot.place → IsLink v cells link → link.sid ≡ picked.link.sid → stays ≡ pick.step.stays → IsTight v t spot link stays left d
+      → Behind v cells left more d to → FirstBehind v cells pick rest into → path_before (map (step_of v) more) (map (step_of v) rest) ≡ false
+  compare link stays left d more rest None None e f from is_link sid same tight behind first =
+      let none : more ≡ rest = behind ∙ sym first in
+      ap (λ (ms : List Move). path_before (map (step_of v) ms) (map (step_of v) rest)) none ∙ lex-itself (path_key (map (step_of v) rest))
+  compare link stays left d more rest None (Some j) e f from is_link sid same tight behind first =
+      let finish = leads-here link None is_link from e in
+      let leg = subst (λ (n : ℕ). LeadsTo v cells picked.is_link.cell n picked.link.hops (Some j)) (sym sid)
+      (leads-here picked.link (Some j) picked.is_link picked.from f) in
+      absurd (not-both-tight v cells laws picked.is_link.cell link.sid link.hops picked.link.hops j stays pick.rest spot.cost finish leg
+      (end-nothing link stays left d e tight) (picked-cost stays same))
+  compare link stays left d more rest (Some i) None e f from is_link sid same tight behind first =
+      let finish = leads-here picked.link None picked.is_link picked.from f in
+      let leg = subst (λ (n : ℕ). LeadsTo v cells picked.is_link.cell n link.hops (Some i)) sid (leads-here link (Some i) is_link from e) in
+      let nothing_left = end-nothing picked.link pick.step.stays pick.room pick.rest f picked.tight in
+      absurd (not-both-tight v cells laws picked.is_link.cell picked.link.sid picked.link.hops link.hops i pick.step.stays d spot.cost finish leg
+      nothing_left (ap (λ (b : Bool). plus (move_cost b link.hops) d) (sym same) ∙ tight.cost_is))
+  compare link stays left d more rest (Some i) (Some j) e f from is_link sid same tight behind first =
+      compare-legs link stays left d more rest i j e f from is_link sid same tight behind first
+
+  -- no path of the least cost comes before
+  first-of-all : (rest other : List Move) → FirstBehind v cells pick rest picked.link.to → cost_of v (state_at spot.cell spot.room) other ≡ Some spot.cost
+      → path_before (map (step_of v) other) (pick.step ∷ map (step_of v) rest) ≡ false
+  first-of-all rest [] first h = absurd (none-some spot.cost h)
+  first-of-all rest (n ∷ more) first h =
+      let head = head-of v laws cells are t least spot n more is h in
+      let its : step_of v n ≡ link_step v head.link n.stays =
+      ap (λ (m : ℕ). let s : PathStep = record { stays = n.stays; prefix = (v.shape m).prefix } in s) (sym head.sid) in
+      let after : path_before (step_of v n ∷ []) (pick.step ∷ []) ≡ false =
+      ap (λ (s : PathStep). path_before (s ∷ []) (pick.step ∷ [])) its
+      ∙ covers head.link head.from head.is_link n.stays head.left head.rest head.tight in
+      not-before (step_of v n) pick.step (map (step_of v) more) (map (step_of v) rest) after (λ prefix stays.
+      let e : (v.shape head.link.sid).prefix ≡ (v.shape picked.link.sid).prefix =
+      ap (λ (s : PathStep). s.prefix) (sym its) ∙ prefix ∙ picked.prefix_is in
+      let sid = sids-same v laws cells head.link picked.link head.is_link picked.is_link (head.from ∙ sym picked.from) e in
+      compare head.link n.stays head.left head.rest more rest head.link.to picked.link.to refl refl head.from head.is_link sid stays head.tight
+      head.behind first)
+
+  cost-behind : (rest : List Move) (to : Option ℕ) → picked.link.to ≡ to → FirstBehind v cells pick rest to
+      → cost_of v (state_at spot.cell spot.room) (pick_move pick picked.link.sid ∷ rest) ≡ Some spot.cost
+  cost-behind rest None e first =
+      let m : Move = pick_move pick picked.link.sid in
+      let finish : v.finish picked.is_link.cell.position picked.is_link.cell.via picked.link.sid ≡ Some picked.link.hops =
+      leads-here picked.link None picked.is_link picked.from e in
+      let here : picked.is_link.cell ≡ spot.cell =
+      some-same picked.is_link.cell spot.cell (sym picked.is_link.from ∙ ap (slice_get cells) picked.from ∙ is.here) in
+      let its : v.finish spot.cell.position spot.cell.via picked.link.sid ≡ Some picked.link.hops =
+      subst (λ (c : Cell). v.finish c.position c.via picked.link.sid ≡ Some picked.link.hops) here finish in
+      let last : last_of v (state_at spot.cell spot.room) m ≡ Some (move_cost pick.step.stays picked.link.hops) =
+      last-made v (state_at spot.cell spot.room) m pick.room picked.link.hops picked.tight.room_is its in
+      ap (λ (ms : List Move). cost_of v (state_at spot.cell spot.room) (m ∷ ms)) first ∙ last
+      ∙ ap (λ (c : Cost). Some c) (sym (plus-nothing (move_cost pick.step.stays picked.link.hops))
+      ∙ end-nothing picked.link pick.step.stays pick.room pick.rest e picked.tight)
+  cost-behind rest (Some j) e first =
+      let m : Move = pick_move pick picked.link.sid in
+      let leads = leads-here picked.link (Some j) picked.is_link picked.from e in
+      let here : picked.is_link.cell ≡ spot.cell =
+      some-same picked.is_link.cell spot.cell (sym picked.is_link.from ∙ ap (slice_get cells) picked.from ∙ is.here) in
+      let leg : Leg = record { to = leads.0; hops = picked.link.hops } in
+      let its : v.leg spot.cell.position spot.cell.via picked.link.sid ≡ Some leg =
+      subst (λ (c : Cell). v.leg c.position c.via picked.link.sid ≡ Some leg) here leads.2 in
+      let edge = edge-made v (state_at spot.cell spot.room) m pick.room leg picked.tight.room_is its in
+      let there : cell_at leads.0 picked.link.sid ≡ first.0 = some-same (cell_at leads.0 picked.link.sid) first.0 (sym leads.1 ∙ first.1) in
+      let behind : cost_of v (state_at (cell_at leads.0 picked.link.sid) pick.room) rest ≡ Some pick.rest =
+      ap (λ (c : Cell). cost_of v (state_at c pick.room) rest) there ∙ first.2.cost in
+      attained v (state_at spot.cell spot.room) m (edge_by m pick.room leg) rest pick.rest edge behind ∙ ap (λ (c : Cost). Some c) picked.tight.cost_is
+
+  pub first-least : (rest : List Move) → FirstBehind v cells pick rest picked.link.to
+      → IsFirstLeast v (state_at spot.cell spot.room) spot.cost (pick_move pick picked.link.sid ∷ rest)
+  first-least rest first =
+      record {
+        cost = cost-behind rest picked.link.to refl first;
+        least = λ other.
+            subst (λ (o : Option Cost). Under o (cost_of v (state_at spot.cell spot.room) other)) is.is
+            ((least spot.place spot.room spot.cell is.here is.few).least other);
+        first = λ other h.
+            subst (λ (s : PathStep). path_before (map (step_of v) other) (s ∷ map (step_of v) rest) ≡ false) pick-step (first-of-all rest other first h);
+      }

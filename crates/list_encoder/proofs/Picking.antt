@@ -1,0 +1,273 @@
+-- The better of two picks covers what either covers.
+use Rattle.std.proofs.Common.{◌≡◌, ℕ, zero, suc, ◌+◌, ◌*◌, ◌<◌, ◌≤◌, ◌⊎◌, inl, inr, Bool, true, false, ◌&&◌, ◌==◌, List, [], ◌∷◌, length, get_or, Option, Some, None, slice_get, Contains, refl, sym, ◌∙◌, ap, subst, arith, eqb-true}
+use Rattle.std.specs.Prelude.{cond}
+use Rattle.std.specs.Option.{option_map}
+use Rattle.std.proofs.lemmas.Bool.{false≢true, true≢false, cases_lt, cases_Bool, and_parts, and_from, eq-eqb, false_from_ne_true}
+use Rattle.std.proofs.lemmas.Option.{none-some, slice_get_within}
+use Rattle.list_pack.specs.declared.types.Cost.{Cost}
+use Rattle.list_pack.specs.declared.types.Shape.{Shape}
+use Rattle.list_pack.specs.declared.types.PathStep.{PathStep}
+use Rattle.list_pack.specs.Value.{LegsValue, KeepsLaws}
+use Rattle.list_pack.specs.Order.{lex_before}
+use Rattle.list_pack.specs.Rooms.{room_behind}
+use Rattle.list_pack.specs.Costs.{plus, move_cost}
+use Rattle.list_pack.specs.Least.{path_before, path_key}
+use Rattle.list_encoder.specs.declared.cells.Cell.{Cell}
+use Rattle.list_encoder.specs.declared.table.Link.{Link}
+use Rattle.list_encoder.specs.declared.picks.Pick.{Pick}
+use Rattle.list_encoder.specs.declared.picks.Spot.{Spot}
+use Rattle.list_encoder.specs.Cells.{AreCells, cell_at}
+use Rattle.list_encoder.specs.Table.{Costs, rest_at, LeadsTo, IsLink, IsLinkInto, AreInRange}
+use Rattle.list_encoder.specs.Picks.{better_of, is_sum, IsSpot, IsTight, IsPick, IsPickOrNone, Covers, link_step, CoversMoves, CoversLink, PicksMoves, PicksLink, PicksEnds, PicksLegs, PicksFirst}
+use Rattle.list_encoder.proofs.Orders.{lex-weak, lex-not-both, lex-itself}
+use Rattle.list_encoder.proofs.Celling.{some-same, place_of}
+use Rattle.list_encoder.proofs.Rooms.{behind-few}
+use Rattle.list_encoder.proofs.Tables.{to-range, link-shape}
+use Rattle.list_encoder.proofs.Relaxing.{end-one, leg-one, leg-parts, no-end, end-place}
+
+-- of two picks the first in order
+better-by : (p q : Pick) (s : PathStep) (b : Bool) → path_before (q.step ∷ []) (p.step ∷ []) ≡ b → path_before (s ∷ []) (p.step ∷ []) ≡ false
+    → Covers (cond b (Some q) (Some p)) s
+better-by p q s false e h = h
+better-by p q s true e h = lex-not-both (path_key (q.step ∷ [])) (path_key (s ∷ [])) (lex-weak (path_key (q.step ∷ [])) (path_key (p.step ∷ [])) (path_key (s ∷ [])) e h)
+
+better-also : (p q : Pick) (s : PathStep) (b : Bool) → path_before (q.step ∷ []) (p.step ∷ []) ≡ b → path_before (s ∷ []) (q.step ∷ []) ≡ false
+    → Covers (cond b (Some q) (Some p)) s
+better-also p q s true e h = h
+better-also p q s false e h =
+    false_from_ne_true (path_before (s ∷ []) (p.step ∷ [])) (λ k.
+    false≢true (sym h ∙ lex-weak (path_key (s ∷ [])) (path_key (p.step ∷ [])) (path_key (q.step ∷ [])) k e))
+
+pub covers-left : (a b : Option Pick) (s : PathStep) → Covers a s → Covers (better_of a b) s
+covers-left None b s h = absurd h
+covers-left (Some p) None s h = h
+covers-left (Some p) (Some q) s h = better-by p q s (path_before (q.step ∷ []) (p.step ∷ [])) refl h
+
+pub covers-right : (a b : Option Pick) (s : PathStep) → Covers b s → Covers (better_of a b) s
+covers-right None b s h = h
+covers-right (Some p) None s h = absurd h
+covers-right (Some p) (Some q) s h = better-also p q s (path_before (q.step ∷ []) (p.step ∷ [])) refl h
+
+either-pick : (v : LegsValue) (cells : List Cell) (t : Costs) (spot : Spot) (p q : Pick) (b : Bool) → IsPick v cells t spot p → IsPick v cells t spot q
+    → IsPickOrNone v cells t spot (cond b (Some q) (Some p))
+either-pick v cells t spot p q true h k = k
+either-pick v cells t spot p q false h k = h
+
+pub found-both : (v : LegsValue) (cells : List Cell) (t : Costs) (spot : Spot) (a b : Option Pick) → IsPickOrNone v cells t spot a
+    → IsPickOrNone v cells t spot b → IsPickOrNone v cells t spot (better_of a b)
+found-both v cells t spot None b h k = k
+found-both v cells t spot (Some p) None h k = h
+found-both v cells t spot (Some p) (Some q) h k = either-pick v cells t spot p q (path_before (q.step ∷ []) (p.step ∷ [])) h k
+
+-- sums of costs
+pub sum-is : (a b c : Cost) → is_sum a b c ≡ true → plus a b ≡ c
+sum-is a b c h =
+    let parts = and_parts (a.containers + b.containers == c.containers) (a.hops + b.hops == c.hops) h in
+    let e : a.containers + b.containers ≡ c.containers = eqb-true (a.containers + b.containers) c.containers parts.0 in
+    let f : a.hops + b.hops ≡ c.hops = eqb-true (a.hops + b.hops) c.hops parts.1 in
+    let step : (x : ℕ) → Cost = λ x. record { containers = x; hops = a.hops + b.hops } in
+    ap step e ∙ ap (λ (y : ℕ). record { containers = c.containers; hops = y }) f
+
+pub is-sum : (a b c : Cost) → plus a b ≡ c → is_sum a b c ≡ true
+is-sum a b c e =
+    and_from (a.containers + b.containers == c.containers) (a.hops + b.hops == c.hops)
+    (eq-eqb (a.containers + b.containers) c.containers (ap (λ (x : Cost). x.containers) e))
+    (eq-eqb (a.hops + b.hops) c.hops (ap (λ (x : Cost). x.hops) e))
+
+-- one move
+module _ (v : LegsValue) (laws : KeepsLaws v) (cells : List Cell) (t : Costs) (spot : Spot) (link : Link) (stays : Bool) (is : IsLink v cells link)
+    (from : link.from ≡ spot.place) where
+  pub no-room : (o : Option ℕ) → o ≡ None → o ≡ room_behind stays (option_map v.shape spot.cell.via) spot.room (v.shape link.sid)
+      → PicksMoves v cells t spot link stays None
+  no-room o e f =
+      record { found = tt; covers = λ left rest tight. none-some left (sym e ∙ f ∙ tight.room_is) }
+
+  pub no-rest : (left : ℕ) → room_behind stays (option_map v.shape spot.cell.via) spot.room (v.shape link.sid) ≡ Some left → rest_at t link.to left ≡ None
+      → PicksMoves v cells t spot link stays None
+  no-rest left e f =
+      record {
+        found = tt;
+        covers = λ other rest tight.
+            let same : left ≡ other = some-same left other (sym e ∙ tight.room_is) in
+            none-some rest (sym f ∙ ap (λ (n : ℕ). rest_at t link.to n) same ∙ tight.rest_is);
+      }
+
+  pub no-sum : (left : ℕ) (rest : Cost) → room_behind stays (option_map v.shape spot.cell.via) spot.room (v.shape link.sid) ≡ Some left
+      → rest_at t link.to left ≡ Some rest → is_sum (move_cost stays link.hops) rest spot.cost ≡ false → PicksMoves v cells t spot link stays None
+  no-sum left rest e f h =
+      record {
+        found = tt;
+        covers = λ other more tight.
+            let same : left ≡ other = some-same left other (sym e ∙ tight.room_is) in
+            let also : rest ≡ more = some-same rest more (sym f ∙ ap (λ (n : ℕ). rest_at t link.to n) same ∙ tight.rest_is) in
+            let sum : plus (move_cost stays link.hops) rest ≡ spot.cost = ap (plus (move_cost stays link.hops)) also ∙ tight.cost_is in
+            false≢true (sym h ∙ is-sum (move_cost stays link.hops) rest spot.cost sum);
+      }
+
+  pub one-pick : (pick : Pick) → pick.step ≡ link_step v link stays → pick.to ≡ link.to
+      → room_behind stays (option_map v.shape spot.cell.via) spot.room (v.shape link.sid) ≡ Some pick.room → rest_at t link.to pick.room ≡ Some pick.rest
+      → is_sum (move_cost stays link.hops) pick.rest spot.cost ≡ true → PicksMoves v cells t spot link stays (Some pick)
+  one-pick pick step to e f h =
+      let tight : IsTight v t spot link stays pick.room pick.rest =
+      record { room_is = e; rest_is = f; cost_is = sum-is (move_cost stays link.hops) pick.rest spot.cost h } in
+      let stay : stays ≡ pick.step.stays = sym (ap (λ (s : PathStep). s.stays) step) in
+      record {
+        found =
+            record {
+              link = link;
+              from = from;
+              is_link = is;
+              tight = subst (λ (b : Bool). IsTight v t spot link b pick.room pick.rest) stay tight;
+              prefix_is = ap (λ (s : PathStep). s.prefix) step;
+              to_is = to;
+            };
+        covers = λ other more its.
+            subst (λ (s : PathStep). path_before (link_step v link stays ∷ []) (s ∷ []) ≡ false) (sym step)
+            (lex-itself (path_key (link_step v link stays ∷ [])));
+      }
+
+pub pick-range : (v : LegsValue) → KeepsLaws v → (cells : List Cell) (t : Costs) (spot : Spot) (link : Link) (stays : Bool) (left : ℕ) → IsLink v cells link
+    → length t ≡ 8 * length cells → spot.room < 8 → room_behind stays (option_map v.shape spot.cell.via) spot.room (v.shape link.sid) ≡ Some left
+    → AreInRange t link.to left
+pick-range v laws cells t spot link stays left is long few e =
+    to-range v laws cells t is.cell link.sid link.hops left link.to long is.leads
+    (behind-few stays (option_map v.shape spot.cell.via) (v.shape link.sid) spot.room left (link-shape v laws cells link is) few e)
+
+pub both-moves : (v : LegsValue) (cells : List Cell) (t : Costs) (spot : Spot) (link : Link) (a b : Option Pick) → PicksMoves v cells t spot link true a
+    → PicksMoves v cells t spot link false b → PicksLink v cells t spot link (better_of a b)
+both-moves v cells t spot link a b h k =
+    record { found = found-both v cells t spot a b h.found k.found; covers = covers }
+  where
+    covers : (stays : Bool) → CoversMoves v t spot (better_of a b) link stays
+    covers true left rest tight = covers-left a b (link_step v link true) (h.covers left rest tight)
+    covers false left rest tight = covers-right a b (link_step v link false) (k.covers left rest tight)
+
+pub link-kept : (v : LegsValue) (t : Costs) (spot : Spot) (a b : Option Pick) (link : Link) → CoversLink v t spot a link
+    → CoversLink v t spot (better_of a b) link
+link-kept v t spot a b link h stays left rest tight = covers-left a b (link_step v link stays) (h stays left rest tight)
+
+pub link-added : (v : LegsValue) (t : Costs) (spot : Spot) (a b : Option Pick) (link : Link) → CoversLink v t spot b link
+    → CoversLink v t spot (better_of a b) link
+link-added v t spot a b link h stays left rest tight = covers-right a b (link_step v link stays) (h stays left rest tight)
+
+pub picks-first : (v : LegsValue) (cells : List Cell) (t : Costs) (spot : Spot) (a b : Option Pick) → PicksEnds v cells t spot a → PicksLegs v cells t spot b
+    → PicksFirst v cells t spot (better_of a b)
+picks-first v cells t spot a b h k =
+    record { found = found-both v cells t spot a b h.found k.found; covers = λ link from is. by link from is link.to refl }
+  where
+    by : (link : Link) → link.from ≡ spot.place → IsLink v cells link → (to : Option ℕ) → link.to ≡ to → CoversLink v t spot (better_of a b) link
+    by link from is None e = link-kept v t spot a b link (h.covers link from e is)
+    by link from is (Some to) e = link-added v t spot a b link (k.covers link to from e is)
+
+-- the first finishes from a cell
+pub record EndsPicked (v : LegsValue) (cells : List Cell) (t : Costs) (spot : Spot) (sids : List ℕ) (count : ℕ) (best : Option Pick) : Type 0 where
+  pub found : IsPickOrNone v cells t spot best
+  pub covers : (link : Link) (i : ℕ) → link.from ≡ spot.place → link.to ≡ None → IsLink v cells link → i < count → slice_get sids i ≡ Some link.sid
+      → CoversLink v t spot best link
+
+pub ends-begin : (v : LegsValue) (cells : List Cell) (t : Costs) (spot : Spot) (sids : List ℕ) → EndsPicked v cells t spot sids 0 None
+ends-begin v cells t spot sids = record { found = tt; covers = λ link i from to is h e. absurd (omega (arith, h)) }
+
+pub ends-pass : (v : LegsValue) (cells : List Cell) (t : Costs) (spot : Spot) (sids : List ℕ) (count sid : ℕ) (best : Option Pick) → IsSpot cells t spot
+    → slice_get sids count ≡ Some sid → v.finish spot.cell.position spot.cell.via sid ≡ None → EndsPicked v cells t spot sids count best
+    → EndsPicked v cells t spot sids (count + 1) best
+ends-pass v cells t spot sids count sid best is_spot here none so =
+    record {
+      found = so.found;
+      covers = λ link i from to is h e.
+          elim (cases_lt i count) as (λ w. CoversLink v t spot best link) [
+            | inl less ↦ so.covers link i from to is less e
+            | inr more ↦
+                let same : i ≡ count = omega (arith, h, more) in
+                let is_sid : sid ≡ link.sid = some-same sid link.sid (sym here ∙ ap (slice_get sids) (sym same) ∙ e) in
+                absurd (no-end v cells link spot.place spot.cell is_spot.here from to is
+                (subst (λ (n : ℕ). v.finish spot.cell.position spot.cell.via n ≡ None) is_sid none))
+          ];
+    }
+
+pub ends-add : (v : LegsValue) (cells : List Cell) (t : Costs) (spot : Spot) (sids : List ℕ) (count : ℕ) (best other : Option Pick) (taken : Link)
+    → IsSpot cells t spot → slice_get sids count ≡ Some taken.sid → taken.from ≡ spot.place → taken.to ≡ None
+    → v.finish spot.cell.position spot.cell.via taken.sid ≡ Some taken.hops → EndsPicked v cells t spot sids count best
+    → PicksLink v cells t spot taken other → EndsPicked v cells t spot sids (count + 1) (better_of best other)
+ends-add v cells t spot sids count best other taken is_spot here at none finish so picks =
+    record {
+      found = found-both v cells t spot best other so.found picks.found;
+      covers = λ link i from to is h e.
+          elim (cases_lt i count) as (λ w. CoversLink v t spot (better_of best other) link) [
+            | inl less ↦ link-kept v t spot best other link (so.covers link i from to is less e)
+            | inr more ↦
+                let same : i ≡ count = omega (arith, h, more) in
+                let is_sid : link.sid ≡ taken.sid = some-same link.sid taken.sid (sym e ∙ ap (slice_get sids) same ∙ here) in
+                let it : taken ≡ link =
+                end-one v cells taken link spot.cell (ap (slice_get cells) at ∙ is_spot.here) finish none (from ∙ sym at) to is_sid is in
+                link-added v t spot best other link (subst (λ (l : Link). CoversLink v t spot other l) it picks.covers)
+          ];
+    }
+
+pub ends-picked : (v : LegsValue) → KeepsLaws v → (cells : List Cell) (t : Costs) (spot : Spot) (sids : List ℕ) (steps count : ℕ) (best : Option Pick)
+    → steps ≡ v.steps → sids ≡ v.sids_at steps → length sids ≤ count → EndsPicked v cells t spot sids count best → PicksEnds v cells t spot best
+ends-picked v laws cells t spot sids steps count best e is h so =
+    record {
+      found = so.found;
+      covers = λ link from to is_link.
+          let place = end-place v laws cells link sids steps e is to is_link in
+          let w = slice_get_within sids place.0 link.sid place.1 in
+          so.covers link place.0 from to is_link (omega (arith, h, w)) place.1;
+    }
+
+-- the legs from a cell into the first cells
+pub record LegsPicked (v : LegsValue) (cells : List Cell) (t : Costs) (spot : Spot) (count : ℕ) (best : Option Pick) : Type 0 where
+  pub found : IsPickOrNone v cells t spot best
+  pub covers : (link : Link) (to : ℕ) → link.from ≡ spot.place → link.to ≡ Some to → IsLink v cells link → to < count → CoversLink v t spot best link
+
+pub legs-begin : (v : LegsValue) (cells : List Cell) (t : Costs) (spot : Spot) → LegsPicked v cells t spot 0 None
+legs-begin v cells t spot = record { found = tt; covers = λ link to from e is h. absurd (omega (arith, h)) }
+
+pub legs-pass : (v : LegsValue) (cells : List Cell) (t : Costs) (spot : Spot) (count : ℕ) (best : Option Pick)
+    → ((link : Link) → link.from ≡ spot.place → link.to ≡ Some count → ¬ IsLink v cells link) → LegsPicked v cells t spot count best
+    → LegsPicked v cells t spot (count + 1) best
+legs-pass v cells t spot count best none so =
+    record {
+      found = so.found;
+      covers = λ link to from e is h.
+          elim (cases_lt to count) as (λ w. CoversLink v t spot best link) [
+            | inl less ↦ so.covers link to from e is less
+            | inr more ↦
+                let same : to ≡ count = omega (arith, h, more) in
+                absurd (none link from (e ∙ ap (λ (n : ℕ). Some n) same) is)
+          ];
+    }
+
+pub legs-add : (v : LegsValue) (cells : List Cell) (t : Costs) (spot : Spot) (count : ℕ) (best other : Option Pick) (taken : Link) → IsLink v cells taken
+    → taken.from ≡ spot.place → taken.to ≡ Some count → LegsPicked v cells t spot count best → PicksLink v cells t spot taken other
+    → LegsPicked v cells t spot (count + 1) (better_of best other)
+legs-add v cells t spot count best other taken is_taken at into so picks =
+    record {
+      found = found-both v cells t spot best other so.found picks.found;
+      covers = λ link to from e is h.
+          elim (cases_lt to count) as (λ w. CoversLink v t spot (better_of best other) link) [
+            | inl less ↦ link-kept v t spot best other link (so.covers link to from e is less)
+            | inr more ↦
+                let same : count ≡ to = omega (arith, h, more) in
+                let it : taken ≡ link = leg-one v cells taken link to (into ∙ ap (λ (n : ℕ). Some n) same) (from ∙ sym at) e is_taken is in
+                link-added v t spot best other link (subst (λ (l : Link). CoversLink v t spot other l) it picks.covers)
+          ];
+    }
+
+pub legs-picked : (v : LegsValue) (cells : List Cell) (t : Costs) (spot : Spot) (count : ℕ) (best : Option Pick) → length cells ≤ count
+    → LegsPicked v cells t spot count best → PicksLegs v cells t spot best
+legs-picked v cells t spot count best h so =
+    record {
+      found = so.found;
+      covers = λ link to from e is.
+          let leads = leg-parts v cells link to e is in
+          let w = slice_get_within cells to (cell_at leads.0 link.sid) leads.1 in
+          so.covers link to from e is (omega (arith, h, w));
+    }
+
+-- the room behind a move, as it was asked for
+pub room-at : (v : LegsValue) (stays : Bool) (from : Option Shape) (next : Shape) (via : Option ℕ) (sid room : ℕ) (o p : Option ℕ)
+    → from ≡ option_map v.shape via → next ≡ v.shape sid → o ≡ room_behind stays from room next → o ≡ p
+    → room_behind stays (option_map v.shape via) room (v.shape sid) ≡ p
+room-at v stays from next via sid room o p e f h k =
+    sym (h ∙ ap (λ (s : Option Shape). room_behind stays s room next) e ∙ ap (λ (s : Shape). room_behind stays (option_map v.shape via) room s) f) ∙ k

@@ -1,0 +1,352 @@
+-- Costs of a table lowered one at a time: what stays so, and what falls.
+use Rattle.std.proofs.Common.{◌≡◌, ℕ, zero, suc, ◌+◌, ◌-◌, ◌*◌, ◌^◌, ◌<◌, ◌≤◌, ◌⊎◌, inl, inr, Bool, true, false, ◌||◌, if◌then◌else◌, List, [], ◌∷◌, length, get_or, set, Option, Some, None, slice_get, Contains, refl, sym, ◌∙◌, ap, subst, arith, get_or-set_same, get_or-set_other}
+use Rattle.std.specs.Prelude.{cond, is_some}
+use Rattle.std.specs.Option.{option_map}
+use Rattle.std.proofs.lemmas.Bool.{false≢true, true≢false, cases_eq, cases_lt}
+use Rattle.std.proofs.lemmas.List.{length-set}
+use Rattle.std.proofs.lemmas.List.Sums.{sum_by-set, count_by-le-length}
+use Rattle.std.proofs.lemmas.Option.{none-some, slice_get_within}
+use Rattle.list_pack.specs.declared.types.Cost.{Cost}
+use Rattle.list_pack.specs.declared.types.State.{State}
+use Rattle.list_pack.specs.declared.types.Leg.{Leg}
+use Rattle.list_pack.specs.Value.{LegsValue, KeepsLaws, IsShape, IsSid}
+use Rattle.list_pack.specs.Rooms.{room_behind}
+use Rattle.list_pack.specs.Costs.{Move, Edge, AtMost, Below, plus, nothing, move_cost, Under, edge_of, edge_by, last_of, cost_of}
+use Rattle.list_pack.specs.Least.{Attains}
+use Rattle.list_pack.proofs.Costing.{under-none, under-itself, under-trans, under-plus, edge-made, last-made}
+use Rattle.list_pack.proofs.Leasts.{attained}
+use Rattle.list_encoder.specs.declared.cells.Cell.{Cell}
+use Rattle.list_encoder.specs.declared.table.Link.{Link}
+use Rattle.list_encoder.specs.Cells.{cell_at, state_at, AreCells}
+use Rattle.list_encoder.specs.Table.{Costs, at, entry, rest_at, offer, LeadsTo, IsLink, filled, IsBounded, IsSound, Improves, IsLowered, IsKept, Lowers, rank, total, Passed, LinkHolds, RoomHolds, RoomRelaxed, Relaxed, LeavesRoom, AreInRange}
+use Rattle.list_encoder.proofs.Rooms.{stay-less, open-few, behind-few}
+
+-- a cost that is below another, or of few containers and hops
+pub rank-less : (o : Option Cost) (c : Cost) → Improves o c → c.containers < 1000000 → c.hops < 1000000000 → rank (Some c) < rank o
+rank-less None c h few low = omega (arith, few, low)
+rank-less (Some d) c h few low =
+    elim (cases_lt c.containers d.containers) as (λ w. rank (Some c) < rank (Some d)) [
+      | inl less ↦ omega (arith, less, low)
+      | inr more ↦
+          let e : c.containers ≡ d.containers = omega (arith, more, h.containers) in
+          omega (arith, e, h.hops e)
+    ]
+
+improves-under : (o : Option Cost) (c : Cost) → Improves o c → Under (Some c) o
+improves-under None c h = tt
+improves-under (Some d) c h = record { containers = h.containers; hops = λ e. omega (arith, h.hops e) }
+
+at-other : (t : Costs) (i j : ℕ) (o : Option Cost) → (j ≡ i → ⊥) → at (set t i o) j ≡ at t j
+at-other t i j o ne = get_or-set_other t i j o None ne
+
+at-same : (t : Costs) (i : ℕ) (o : Option Cost) → i < length t → at (set t i o) i ≡ o
+at-same t i o h = get_or-set_same t i o None h
+
+-- one entry lowered
+module _ (t : Costs) (i : ℕ) (c : Cost) (within : i < length t) (improves : Improves (at t i) c) where
+  set-falls : (j : ℕ) → Under (at (set t i (Some c)) j) (at t j)
+  set-falls j =
+      elim (cases_eq j i) as (λ w. Under (at (set t i (Some c)) j) (at t j)) [
+        | inl same ↦
+            subst (λ (k : ℕ). Under (at (set t i (Some c)) k) (at t k)) (sym same)
+            (subst (λ (o : Option Cost). Under o (at t i)) (sym (at-same t i (Some c) within)) (improves-under (at t i) c improves))
+        | inr other ↦ subst (λ (o : Option Cost). Under o (at t j)) (sym (at-other t i j (Some c) other)) (under-itself (at t j))
+      ]
+
+  set-smaller : c.containers < 1000000 → c.hops < 1000000000 → total (set t i (Some c)) < total t
+  set-smaller few low =
+      let sums : total (set t i (Some c)) + rank (at t i) ≡ total t + rank (Some c) = sum_by-set rank t i (Some c) None within in
+      let less : rank (Some c) < rank (at t i) = rank-less (at t i) c improves few low in
+      less-by (total (set t i (Some c))) (rank (at t i)) (total t) (rank (Some c)) sums less
+    where
+      less-by : (a b d e : ℕ) → a + b ≡ d + e → e < b → a < d
+      less-by a b d e h k = omega arith
+
+  set-passed : (cell : ℕ) → i < 8 * cell → c.containers < 1000000 → c.hops < 1000000000 → Passed cell t (set t i (Some c)) true
+  set-passed cell low few small =
+      record {
+        falls = set-falls;
+        later = λ j h. at-other t i j (Some c) (λ e. absurd (omega (arith, e, h, low)));
+        same = λ e. absurd (true≢false e);
+        smaller = λ e. set-smaller few small;
+      }
+
+  -- the number of costs grows where there was none
+  set-filled : filled t ≤ filled (set t i (Some c))
+  set-filled =
+      let sums : filled (set t i (Some c)) + cond {A = ℕ} (is_some (at t i)) 1 0 ≡ filled t + 1 =
+      sum_by-set (λ (o : Option Cost). cond {A = ℕ} (is_some o) 1 0) t i (Some c) None within in
+      let few : cond {A = ℕ} (is_some (at t i)) 1 0 ≤ 1 = at-most-one (is_some (at t i)) in
+      fewer (filled (set t i (Some c))) (cond {A = ℕ} (is_some (at t i)) 1 0) (filled t) sums few
+    where
+      at-most-one : (b : Bool) → cond {A = ℕ} b 1 0 ≤ 1
+      at-most-one true = omega arith
+      at-most-one false = omega arith
+
+      fewer : (a b d : ℕ) → a + b ≡ d + 1 → b ≤ 1 → d ≤ a
+      fewer a b d h k = omega arith
+
+  set-grows : at t i ≡ None → filled t + 1 ≤ filled (set t i (Some c))
+  set-grows e =
+      let sums : filled (set t i (Some c)) + cond {A = ℕ} (is_some (at t i)) 1 0 ≡ filled t + 1 =
+      sum_by-set (λ (o : Option Cost). cond {A = ℕ} (is_some o) 1 0) t i (Some c) None within in
+      let none : cond {A = ℕ} (is_some (at t i)) 1 0 ≡ 0 = ap (λ (o : Option Cost). cond {A = ℕ} (is_some o) 1 0) e in
+      fewer (filled (set t i (Some c))) (cond {A = ℕ} (is_some (at t i)) 1 0) (filled t) sums none
+    where
+      fewer : (a b d : ℕ) → a + b ≡ d + 1 → b ≡ 0 → d + 1 ≤ a
+      fewer a b d h k = omega arith
+
+pub kept-passed : (cell : ℕ) (t : Costs) → Passed cell t t false
+kept-passed cell t =
+    record { falls = λ i. under-itself (at t i); later = λ i h. refl; same = λ e. refl; smaller = λ e. absurd (false≢true e) }
+
+-- one after the other
+pub passed-then : (cell : ℕ) (a b c : Costs) (x y : Bool) → Passed cell a b x → Passed cell b c y → Passed cell a c (x || y)
+passed-then cell a b c x y h k =
+    record {
+      falls = λ i. under-trans (at c i) (at b i) (at a i) (k.falls i) (h.falls i);
+      later = λ i l. k.later i l ∙ h.later i l;
+      same = both-same x y h.same k.same;
+      smaller = either-smaller x y h.same k.same h.smaller k.smaller;
+    }
+  where
+    both-same : (x y : Bool) → (x ≡ false → b ≡ a) → (y ≡ false → c ≡ b) → (x || y) ≡ false → c ≡ a
+    both-same true y f g e = absurd (true≢false e)
+    both-same false y f g e = g e ∙ f refl
+
+    either-smaller : (x y : Bool) → (x ≡ false → b ≡ a) → (y ≡ false → c ≡ b) → (x ≡ true → total b < total a) → (y ≡ true → total c < total b)
+        → (x || y) ≡ true → total c < total a
+    either-smaller false y f g l m e = subst (λ (s : Costs). total c < total s) (f refl) (m e)
+    either-smaller true false f g l m e = subst (λ (s : Costs). total s < total a) (sym (g refl)) (l refl)
+    either-smaller true true f g l m e = let p = l refl in let q = m refl in omega (arith, p, q)
+
+pub passed-wider : (cell more : ℕ) (a b : Costs) (x : Bool) → cell ≤ more → Passed cell a b x → Passed more a b x
+passed-wider cell more a b x h p =
+    record { falls = p.falls; later = λ i l. p.later i (omega (arith, h, l)); same = p.same; smaller = p.smaller }
+
+-- places of a table
+same-place : (j k r s : ℕ) → r < 8 → s < 8 → 8 * j + r ≡ 8 * k + s → (j ≡ k) × (r ≡ s)
+same-place j k r s h l e = (omega (arith, h, l, e), omega (arith, h, l, e))
+
+place-within : (k r n : ℕ) → k < n → r < 8 → 8 * k + r < 8 * n
+place-within k r n h l = omega (arith, h, l)
+
+-- a sum that stays within its bounds
+bounded-stays : (n left room hops : ℕ) (d : Cost) → IsBounded n left d → left < room → hops ≤ 1000 → IsBounded (n + 1) room (plus (move_cost true hops) d)
+bounded-stays n left room hops d h less few = record { containers = omega (arith, h.containers); hops = omega (arith, h.hops, less, few) }
+
+bounded-opens : (n left room hops : ℕ) (d : Cost) → IsBounded n left d → left ≤ 7 → hops ≤ 1000 → IsBounded (n + 1) room (plus (move_cost false hops) d)
+bounded-opens n left room hops d h less few = record { containers = omega (arith, h.containers); hops = omega (arith, h.hops, less, few) }
+
+bounded-nothing : (n left : ℕ) → IsBounded n left nothing
+bounded-nothing n left = record { containers = omega arith; hops = omega arith }
+
+pub plus-nothing : (c : Cost) → plus c nothing ≡ c
+plus-nothing c =
+    let e : c.containers + 0 ≡ c.containers = omega arith in
+    let f : c.hops + 0 ≡ c.hops = omega arith in
+    let step : (x : ℕ) → Cost = λ x. record { containers = x; hops = c.hops + 0 } in
+    ap step e ∙ ap (λ (y : ℕ). record { containers = c.containers; hops = y }) f
+
+module _ (v : LegsValue) (laws : KeepsLaws v) (cells : List Cell) where
+  leads-sid : (cell : Cell) (sid hops : ℕ) (to : Option ℕ) → LeadsTo v cells cell sid hops to → IsSid v sid × (hops ≤ 1000)
+  leads-sid cell sid hops None h =
+      let is = laws.finish cell.position cell.via sid hops h in
+      ((v.steps, omega arith, is.is_next), is.hops)
+  leads-sid cell sid hops (Some to) h =
+      let is = laws.leg cell.position cell.via sid (record { to = h.0; hops = hops }) h.2 in
+      ((h.0, is.within, is.is_next), is.hops)
+
+  pub link-shape : (link : Link) → IsLink v cells link → IsShape (v.shape link.sid)
+  link-shape link is = laws.shapes link.sid (leads-sid is.cell link.sid link.hops link.to is.leads).0
+
+  pub link-sid : (link : Link) → IsLink v cells link → IsSid v link.sid
+  link-sid link is = (leads-sid is.cell link.sid link.hops link.to is.leads).0
+
+  pub link-hops : (link : Link) → IsLink v cells link → link.hops ≤ 1000
+  link-hops link is = (leads-sid is.cell link.sid link.hops link.to is.leads).1
+
+  pub to-range : (t : Costs) (cell : Cell) (sid hops left : ℕ) (to : Option ℕ) → length t ≡ 8 * length cells → LeadsTo v cells cell sid hops to → left < 8
+      → AreInRange t to left
+  to-range t cell sid hops left None long h l = tt
+  to-range t cell sid hops left (Some to) long h l =
+      let w : to < length cells = slice_get_within cells to (cell_at h.0 sid) h.1 in
+      let p : 8 * to + left < 8 * length cells = place-within to left (length cells) w l in
+      omega (arith, p, long)
+
+  pub link-range : (t : Costs) (link : Link) (left : ℕ) → IsSound v cells t → IsLink v cells link → left < 8 → AreInRange t link.to left
+  link-range t link left sound is h = to-range t is.cell link.sid link.hops left link.to sound.long is.leads h
+
+  rest-bounded : (t : Costs) (to : Option ℕ) (left : ℕ) (d : Cost) → IsSound v cells t → left < 8 → rest_at t to left ≡ Some d
+      → IsBounded (filled t) left d
+  rest-bounded t None left d sound h e =
+      let same : nothing ≡ d = cc in
+      subst (λ (x : Cost). IsBounded (filled t) left x) same (bounded-nothing (filled t) left)
+  rest-bounded t (Some to) left d sound h e = sound.bounded to left d h e
+
+  bounded-behind : (n left room hops : ℕ) (stays : Bool) (d : Cost) (o : Option ℕ) (link : Link) → IsLink v cells link → link.hops ≡ hops → room < 8
+      → room_behind stays (option_map v.shape o) room (v.shape link.sid) ≡ Some left → IsBounded n left d
+      → IsBounded (n + 1) room (plus (move_cost stays hops) d)
+  bounded-behind n left room hops true d o link is e h r b =
+      bounded-stays n left room hops d b (stay-less (option_map v.shape o) (v.shape link.sid) room left (link-shape link is) r)
+      (subst (λ (x : ℕ). x ≤ 1000) e (link-hops link is))
+  bounded-behind n left room hops false d o link is e h r b =
+      bounded-opens n left room hops d b (open-few (option_map v.shape o) (v.shape link.sid) room left (link-shape link is) r)
+      (subst (λ (x : ℕ). x ≤ 1000) e (link-hops link is))
+
+  -- behind a link, what is left is that of a path, and so it is in front
+  link-attains : (t : Costs) (cell : Cell) (sid hops : ℕ) (to : Option ℕ) (stays : Bool) (room left : ℕ) (d : Cost) → IsSound v cells t
+      → LeadsTo v cells cell sid hops to → left < 8 → room_behind stays (option_map v.shape cell.via) room (v.shape sid) ≡ Some left
+      → rest_at t to left ≡ Some d → Attains v (state_at cell room) (Some (plus (move_cost stays hops) d))
+  link-attains t cell sid hops None stays room left d sound leads h r e =
+      let m : Move = record { stays = stays; sid = sid } in
+      let last : last_of v (state_at cell room) m ≡ Some (move_cost stays hops) = last-made v (state_at cell room) m left hops r leads in
+      let same : nothing ≡ d = cc in
+      let sum : move_cost stays hops ≡ plus (move_cost stays hops) d =
+      sym (plus-nothing (move_cost stays hops)) ∙ ap (plus (move_cost stays hops)) same in
+      (m ∷ [], last ∙ ap Some sum)
+  link-attains t cell sid hops (Some to) stays room left d sound leads h r e =
+      let m : Move = record { stays = stays; sid = sid } in
+      let leg : Leg = record { to = leads.0; hops = hops } in
+      let rest = sound.attained to left (cell_at leads.0 sid) d leads.1 h e in
+      let edge = edge-made v (state_at cell room) m left leg r leads.2 in
+      (m ∷ rest.0, attained v (state_at cell room) m (edge_by m left leg) rest.0 d edge rest.1)
+
+  -- one entry lowered to the cost of a path
+  module _ (t : Costs) (k room : ℕ) (cell : Cell) (c : Cost) (sound : IsSound v cells t) (here : slice_get cells k ≡ Some cell) (low : room < 8)
+      (improves : Improves (entry t k room) c) (attains : Attains v (state_at cell room) (Some c)) (bounded : IsBounded (filled t + 1) room c) where
+    set-within : 8 * k + room < length t
+    set-within =
+        let w : k < length cells = slice_get_within cells k cell here in
+        let p : 8 * k + room < 8 * length cells = place-within k room (length cells) w low in
+        omega (arith, p, sound.long)
+
+    few-costs : c.containers ≤ filled (set t (8 * k + room) (Some c))
+    few-costs =
+        by (entry t k room) refl improves
+      where
+        by : (o : Option Cost) → entry t k room ≡ o → Improves o c → c.containers ≤ filled (set t (8 * k + room) (Some c))
+        by None e i =
+            let more = set-grows t (8 * k + room) c set-within improves e in
+            let few = bounded.containers in
+            omega (arith, more, few)
+        by (Some d) e i =
+            let more = set-filled t (8 * k + room) c set-within improves in
+            let few = (sound.bounded k room d low e).containers in
+            let less = i.containers in
+            omega (arith, more, few, less)
+
+    attained-at : (j r : ℕ) (other : Cell) (d : Cost) → slice_get cells j ≡ Some other → r < 8
+        → entry (set t (8 * k + room) (Some c)) j r ≡ Some d → Attains v (state_at other r) (Some d)
+    attained-at j r other d there l e =
+        elim (cases_eq (8 * j + r) (8 * k + room)) as (λ w. Attains v (state_at other r) (Some d)) [
+          | inl same ↦
+              let places = same-place j k r room l low same in
+              let new : at (set t (8 * k + room) (Some c)) (8 * j + r) ≡ Some c =
+              ap (at (set t (8 * k + room) (Some c))) same ∙ at-same t (8 * k + room) (Some c) set-within in
+              let is_c : c ≡ d = cc in
+              let is_cell : cell ≡ other = some-same (sym here ∙ ap (slice_get cells) (sym places.0) ∙ there) in
+              subst (λ (x : Cost). Attains v (state_at other r) (Some x)) is_c
+              (subst (λ (x : Cell). Attains v (state_at x r) (Some c)) is_cell
+              (subst (λ (x : ℕ). Attains v (state_at cell x) (Some c)) (sym places.1) attains))
+          | inr differ ↦
+              sound.attained j r other d there l (sym (at-other t (8 * k + room) (8 * j + r) (Some c) differ) ∙ e)
+        ]
+      where
+        some-same : {X : Type 0} {x y : X} → Some x ≡ Some y → x ≡ y
+        some-same h = cc
+
+    bounded-at : (j r : ℕ) (d : Cost) → r < 8 → entry (set t (8 * k + room) (Some c)) j r ≡ Some d
+        → IsBounded (filled (set t (8 * k + room) (Some c))) r d
+    bounded-at j r d l e =
+        elim (cases_eq (8 * j + r) (8 * k + room)) as (λ w. IsBounded (filled (set t (8 * k + room) (Some c))) r d) [
+          | inl same ↦
+              let places = same-place j k r room l low same in
+              let new : at (set t (8 * k + room) (Some c)) (8 * j + r) ≡ Some c =
+              ap (at (set t (8 * k + room) (Some c))) same ∙ at-same t (8 * k + room) (Some c) set-within in
+              let is_c : c ≡ d = cc in
+              let is : IsBounded (filled (set t (8 * k + room) (Some c))) room c = record { containers = few-costs; hops = bounded.hops } in
+              subst (λ (x : Cost). IsBounded (filled (set t (8 * k + room) (Some c))) r x) is_c
+              (subst (λ (x : ℕ). IsBounded (filled (set t (8 * k + room) (Some c))) x c) (sym places.1) is)
+          | inr differ ↦
+              let old = sound.bounded j r d l (sym (at-other t (8 * k + room) (8 * j + r) (Some c) differ) ∙ e) in
+              let more = set-filled t (8 * k + room) c set-within improves in
+              let few = old.containers in
+              record { containers = omega (arith, few, more); hops = old.hops }
+        ]
+
+    sound-set : IsSound v cells (set t (8 * k + room) (Some c))
+    sound-set =
+        record { long = length-set t (8 * k + room) (Some c) ∙ sound.long; attained = attained-at; bounded = bounded-at }
+
+  costs-few : (t : Costs) (room : ℕ) (c : Cost) → IsSound v cells t → length cells ≤ 6273 → room < 8 → IsBounded (filled t + 1) room c
+      → (c.containers < 1000000) × (c.hops < 1000000000)
+  costs-few t room c sound few low bounded =
+      let many : filled t ≤ length t = count_by-le-length is_some t in
+      let long = sound.long in
+      let containers : c.containers ≤ 50185 = omega (arith, many, long, few, bounded.containers) in
+      let hops : c.hops < 1000000000 = omega (arith, bounded.hops, containers, low) in
+      (omega (arith, containers), hops)
+
+  -- lowering a room of a link's first cell by what is left behind the link
+  module _ (are : AreCells v cells) (t : Costs) (link : Link) (stays : Bool) (room : ℕ) (o : Option ℕ) (left : ℕ) (is : IsLink v cells link)
+      (sound : IsSound v cells t) (low : room < 8) (leaves : LeavesRoom v cells link stays room o) (some : o ≡ Some left) where
+    pub room-is : room_behind stays (option_map v.shape is.cell.via) room (v.shape link.sid) ≡ Some left
+    room-is = sym (leaves is.cell is.from) ∙ some
+
+    pub left-few : left < 8
+    left-few = behind-few stays (option_map v.shape is.cell.via) (v.shape link.sid) room left (link-shape link is) low room-is
+
+    pub left-range : AreInRange t link.to left
+    left-range = link-range t link left sound is left-few
+
+    pub from-within : 8 * link.from + room < length t
+    from-within =
+        let w : link.from < length cells = slice_get_within cells link.from is.cell is.from in
+        let p : 8 * link.from + room < 8 * length cells = place-within link.from room (length cells) w low in
+        omega (arith, p, sound.long)
+
+    pub from-few : 8 * link.from + room < 2 ^ 64
+    from-few =
+        let w = from-within in
+        omega (arith, w, sound.long, are.few)
+
+    sum-bounded : (rest : Cost) → rest_at t link.to left ≡ Some rest → IsBounded (filled t + 1) room (plus (move_cost stays link.hops) rest)
+    sum-bounded rest e =
+        bounded-behind (filled t) left room link.hops stays rest is.cell.via link is refl low room-is (rest-bounded t link.to left rest sound left-few e)
+
+    pub sum-few : (rest : Cost) → rest_at t link.to left ≡ Some rest
+        → ((plus (move_cost stays link.hops) rest).containers < 1000000) × ((plus (move_cost stays link.hops) rest).hops < 1000000000)
+    sum-few rest e = costs-few t room (plus (move_cost stays link.hops) rest) sound are.few low (sum-bounded rest e)
+
+    holds-some : (after : Costs) (rest : Cost) → rest_at t link.to left ≡ Some rest
+        → Under (entry after link.from room) (Some (plus (move_cost stays link.hops) rest)) → RoomHolds (entry after link.from room) stays link t o
+    holds-some after rest e h =
+        subst (λ (p : Option ℕ). RoomHolds (entry after link.from room) stays link t p) (sym some)
+        (subst (λ (q : Option Cost). Under (entry after link.from room) (offer stays link.hops q)) (sym e) h)
+
+    lowered : (after : Costs) (rest : Cost) → rest_at t link.to left ≡ Some rest
+        → IsLowered t after (8 * link.from + room) (plus (move_cost stays link.hops) rest) → RoomRelaxed v cells link t after stays room o true
+    lowered after rest e h =
+        let c : Cost = plus (move_cost stays link.hops) rest in
+        let i : ℕ = 8 * link.from + room in
+        let few = sum-few rest e in
+        let attains = link-attains t is.cell link.sid link.hops link.to stays room left rest sound is.leads left-few room-is e in
+        let is_sound = sound-set t link.from room is.cell c sound is.from low h.improves attains (sum-bounded rest e) in
+        let before : i < 8 * (link.from + 1) = omega (arith, low) in
+        let passed = set-passed t i c from-within h.improves (link.from + 1) before few.0 few.1 in
+        let here : at (set t i (Some c)) i ≡ Some c = at-same t i (Some c) from-within in
+        let under : Under (at (set t i (Some c)) i) (Some c) = subst (λ (q : Option Cost). Under q (Some c)) (sym here) (under-itself (Some c)) in
+        subst (λ (x : Costs). RoomRelaxed v cells link t x stays room o true) (sym h.is)
+        (record { sound = is_sound; passed = passed; holds = holds-some (set t i (Some c)) rest e under })
+
+    kept : (after : Costs) (rest : Cost) → rest_at t link.to left ≡ Some rest
+        → IsKept t after (8 * link.from + room) (plus (move_cost stays link.hops) rest) → RoomRelaxed v cells link t after stays room o false
+    kept after rest e h =
+        subst (λ (x : Costs). RoomRelaxed v cells link t x stays room o false) (sym h.is)
+        (record { sound = sound; passed = kept-passed (link.from + 1) t; holds = holds-some t rest e h.under })
+
+    pub room-relaxed : (after : Costs) (rest : Cost) (changed : Bool) → rest_at t link.to left ≡ Some rest
+        → Lowers t after (8 * link.from + room) (plus (move_cost stays link.hops) rest) changed → RoomRelaxed v cells link t after stays room o changed
+    room-relaxed after rest true e h = lowered after rest e h
+    room-relaxed after rest false e h = kept after rest e h

@@ -1,0 +1,4 @@
+pub mod Cells
+pub mod Table
+pub mod Picks
+pub mod Listing

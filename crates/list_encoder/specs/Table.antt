@@ -1,0 +1,198 @@
+-- A table of costs, eight rooms to a cell, and what is done to it.
+use Rattle.std.specs.Prelude.{◌≡◌, ℕ, ◌+◌, ◌*◌, ◌<◌, ◌≤◌, Bool, true, false, List, length, slice_get, slice_index_or, slice_set, nat_lt, sum_by, count_by, Option, Some, None, is_some, Contains, MatchBool}
+use Rattle.std.specs.Option.{option_map}
+use Rattle.list_pack.specs.declared.types.Cost.{Cost}
+use Rattle.list_pack.specs.declared.types.Leg.{Leg}
+use Rattle.list_pack.specs.declared.types.Shape.{Shape}
+use Rattle.list_pack.specs.Value.{LegsValue}
+use Rattle.list_pack.specs.Rooms.{room_behind}
+use Rattle.list_pack.specs.Costs.{Below, plus, nothing, move_cost, Under}
+use Rattle.list_pack.specs.Least.{Attains, IsLeast}
+use Rattle.list_encoder.specs.declared.cells.Cell.{Cell}
+use Rattle.list_encoder.specs.declared.table.Link.{Link}
+use Rattle.list_encoder.specs.Cells.{cell_at, state_at}
+
+abbrev pub Costs : Type 0
+Costs = List (Option Cost)
+
+abbrev pub at : Costs → ℕ → Option Cost
+at t i = slice_index_or t i None
+
+abbrev pub entry : Costs → ℕ → ℕ → Option Cost
+entry t cell room = at t (8 * cell + room)
+
+-- what is left to the end behind a link: nothing at the end itself
+abbrev pub rest_at : Costs → Option ℕ → ℕ → Option Cost
+rest_at t None room = Some nothing
+rest_at t (Some cell) room = entry t cell room
+
+abbrev pub offer : Bool → ℕ → Option Cost → Option Cost
+offer stays hops rest = option_map (plus (move_cost stays hops)) rest
+
+-- a finish, or a leg into a cell
+abbrev pub LeadsTo : LegsValue → List Cell → Cell → ℕ → ℕ → Option ℕ → Type 0
+LeadsTo v cells cell sid hops None = v.finish cell.position cell.via sid ≡ Some hops
+LeadsTo v cells cell sid hops (Some to) =
+    (position : ℕ) × (slice_get cells to ≡ Some (cell_at position sid))
+    × (v.leg cell.position cell.via sid ≡ Some (record { to = position; hops = hops }))
+
+pub record IsLink (v : LegsValue) (cells : List Cell) (link : Link) : Type 0 where
+  pub cell : Cell
+  pub from : slice_get cells link.from ≡ Some cell
+  pub leads : LeadsTo v cells cell link.sid link.hops link.to
+
+-- how many entries have a cost
+abbrev pub filled : Costs → ℕ
+filled t = count_by is_some t
+
+pub record IsBounded (n room : ℕ) (c : Cost) : Type 0 where
+  pub containers : c.containers ≤ n
+  pub hops : c.hops ≤ 1000 * (1 + room + 9 * c.containers)
+
+-- each cost in the table is that of a path
+pub record IsSound (v : LegsValue) (cells : List Cell) (t : Costs) : Type 0 where
+  pub long : length t ≡ 8 * length cells
+  pub attained : (k room : ℕ) (cell : Cell) (c : Cost) → slice_get cells k ≡ Some cell → room < 8 → entry t k room ≡ Some c
+      → Attains v (state_at cell room) (Some c)
+  pub bounded : (k room : ℕ) (c : Cost) → room < 8 → entry t k room ≡ Some c → IsBounded (filled t) room c
+
+-- a cost in place of one above it, or of none
+abbrev pub Improves : Option Cost → Cost → Type 0
+Improves None c = Unit {0}
+Improves (Some d) c = Below c d
+
+pub record IsLowered (before after : Costs) (i : ℕ) (c : Cost) : Type 0 where
+  pub is : after ≡ slice_set before i (Some c)
+  pub improves : Improves (at before i) c
+
+pub record IsKept (before after : Costs) (i : ℕ) (c : Cost) : Type 0 where
+  pub is : after ≡ before
+  pub under : Under (at before i) (Some c)
+
+-- the entry is lowered to the cost where that is below it
+abbrev pub Lowers : Costs → Costs → ℕ → Cost → Bool → Type 0
+Lowers before after i c changed = MatchBool changed (IsLowered before after i c) (IsKept before after i c)
+
+-- none is above every cost that there may be
+abbrev pub rank : Option Cost → ℕ
+rank None = 1000000000 * 1000000
+rank (Some c) = 1000000000 * c.containers + c.hops
+
+abbrev pub total : Costs → ℕ
+total t = sum_by rank t
+
+-- costs were lowered, none of them in the cells from one on
+pub record Passed (cell : ℕ) (before after : Costs) (changed : Bool) : Type 0 where
+  pub falls : (i : ℕ) → Under (at after i) (at before i)
+  pub later : (i : ℕ) → 8 * cell ≤ i → at after i ≡ at before i
+  pub same : changed ≡ false → after ≡ before
+  pub smaller : changed ≡ true → total after < total before
+
+-- the cost of a link, with what is left behind it in one table, bounds what is left in front of it in another
+abbrev pub LinkHolds : LegsValue → List Cell → Link → Costs → Costs → Type 0
+LinkHolds v cells link before after =
+    (cell : Cell) (stays : Bool) (room left : ℕ) → slice_get cells link.from ≡ Some cell → room < 8
+    → room_behind stays (option_map v.shape cell.via) room (v.shape link.sid) ≡ Some left
+    → Under (entry after link.from room) (offer stays link.hops (rest_at before link.to left))
+
+abbrev pub Holds : LegsValue → List Cell → Costs → Link → Type 0
+Holds v cells t link = LinkHolds v cells link t t
+
+-- one room of a link
+abbrev pub RoomHolds : Option Cost → Bool → Link → Costs → Option ℕ → Type 0
+RoomHolds o stays link before None = Unit {0}
+RoomHolds o stays link before (Some left) = Under o (offer stays link.hops (rest_at before link.to left))
+
+-- what lowering a table by a link gives
+pub record Relaxed (v : LegsValue) (cells : List Cell) (link : Link) (before after : Costs) (changed : Bool) : Type 0 where
+  pub sound : IsSound v cells after
+  pub passed : Passed (link.from + 1) before after changed
+  pub holds : LinkHolds v cells link before after
+
+pub record RoomRelaxed (v : LegsValue) (cells : List Cell) (link : Link) (before after : Costs) (stays : Bool) (room : ℕ) (left : Option ℕ)
+    (changed : Bool) : Type 0 where
+  pub sound : IsSound v cells after
+  pub passed : Passed (link.from + 1) before after changed
+  pub holds : RoomHolds (entry after link.from room) stays link before left
+
+-- all links from a cell on hold
+abbrev pub HoldFrom : LegsValue → List Cell → Costs → ℕ → Type 0
+HoldFrom v cells t cell = (link : Link) → cell ≤ link.from → IsLink v cells link → Holds v cells t link
+
+-- links within a position, each from a cell before a given one
+abbrev pub AreLinks : LegsValue → List Cell → ℕ → List Link → Type 0
+AreLinks v cells cell links = (link : Link) → Contains links link → IsLink v cells link × (link.from < cell)
+
+-- each entry is the least cost of a path from its state
+abbrev pub AreLeast : LegsValue → List Cell → Costs → Type 0
+AreLeast v cells t = (k room : ℕ) (cell : Cell) → slice_get cells k ≡ Some cell → room < 8 → IsLeast v (state_at cell room) (entry t k room)
+
+-- the places of a cell's costs are within the table
+abbrev pub AreInRange : Costs → Option ℕ → ℕ → Type 0
+AreInRange t None room = Unit {0}
+AreInRange t (Some cell) room = 8 * cell + room < length t
+
+-- the room behind a link's SID, from a room behind its first cell's
+abbrev pub LeavesRoom : LegsValue → List Cell → Link → Bool → ℕ → Option ℕ → Type 0
+LeavesRoom v cells link stays room left =
+    (cell : Cell) → slice_get cells link.from ≡ Some cell → left ≡ room_behind stays (option_map v.shape cell.via) room (v.shape link.sid)
+
+-- the shape of a cell's SID
+abbrev pub IsShapeOf : LegsValue → List Cell → ℕ → Option Shape → Type 0
+IsShapeOf v cells k shape = (cell : Cell) → slice_get cells k ≡ Some cell → shape ≡ option_map v.shape cell.via
+
+-- the finishes from a cell
+abbrev pub EndsHold : LegsValue → List Cell → ℕ → Costs → Type 0
+EndsHold v cells k t = (link : Link) → link.from ≡ k → link.to ≡ None → IsLink v cells link → Holds v cells t link
+
+pub record EndsRelaxed (v : LegsValue) (cells : List Cell) (k : ℕ) (before after : Costs) (changed : Bool) : Type 0 where
+  pub sound : IsSound v cells after
+  pub passed : Passed (k + 1) before after changed
+  pub holds : EndsHold v cells k after
+
+-- the leg from a cell into another, where there is one
+abbrev pub IsLinkInto : LegsValue → List Cell → ℕ → ℕ → Option Link → Type 0
+IsLinkInto v cells from to (Some link) = IsLink v cells link × (link.from ≡ from) × (link.to ≡ Some to)
+IsLinkInto v cells from to None = (link : Link) → link.from ≡ from → link.to ≡ Some to → ¬ IsLink v cells link
+
+-- the legs from a cell into the cells from one on and before another: those to later positions hold, the others are listed
+abbrev pub LegsHold : LegsValue → List Cell → ℕ → ℕ → ℕ → ℕ → Costs → List Link → Type 0
+LegsHold v cells k first later end t links =
+    (link : Link) (to : ℕ) → link.from ≡ k → link.to ≡ Some to → first ≤ to → to < end → IsLink v cells link
+    → MatchBool (nat_lt to later) (Contains links link) (Holds v cells t link)
+
+abbrev pub Keeps : List Link → List Link → Type 0
+Keeps before after = (link : Link) → Contains before link → Contains after link
+
+pub record LegsRelaxed (v : LegsValue) (cells : List Cell) (k first later : ℕ) (before after : Costs) (listed links : List Link) (changed : Bool)
+    : Type 0 where
+  pub sound : IsSound v cells after
+  pub passed : Passed (k + 1) before after changed
+  pub holds : LegsHold v cells k first later (length cells) after links
+  pub keeps : Keeps listed links
+  pub are : AreLinks v cells later links
+
+-- the cells from one on and before another
+pub record Gathers (v : LegsValue) (cells : List Cell) (first later : ℕ) (before after : Costs) (links : List Link) : Type 0 where
+  pub sound : IsSound v cells after
+  pub falls : (i : ℕ) → Under (at after i) (at before i)
+  pub above : (i : ℕ) → 8 * later ≤ i → at after i ≡ at before i
+  pub ends : (k : ℕ) → first ≤ k → k < later → EndsHold v cells k after
+  pub legs : (k : ℕ) → first ≤ k → k < later → LegsHold v cells k first later (length cells) after links
+  pub are : AreLinks v cells later links
+
+-- where nothing changed, all links hold
+pub record Rounded (v : LegsValue) (cells : List Cell) (later : ℕ) (links : List Link) (before after : Costs) (changed : Bool) : Type 0 where
+  pub sound : IsSound v cells after
+  pub passed : Passed later before after changed
+  pub hold : changed ≡ false → (link : Link) → Contains links link → Holds v cells after link
+
+-- a link to the end, or to a cell from one on
+abbrev pub IsOnward : ℕ → Option ℕ → Type 0
+IsOnward cell None = Unit {0}
+IsOnward cell (Some to) = cell ≤ to
+
+pub record Settled (v : LegsValue) (cells : List Cell) (first later : ℕ) (before after : Costs) : Type 0 where
+  pub sound : IsSound v cells after
+  pub above : (i : ℕ) → 8 * later ≤ i → at after i ≡ at before i
+  pub holds : (link : Link) → first ≤ link.from → link.from < later → IsLink v cells link → IsOnward first link.to → Holds v cells after link

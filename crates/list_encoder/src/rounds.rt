@@ -1,0 +1,256 @@
+//! The costs of a position, lowered until no link lowers them.
+
+ghost use Rattle.std.specs.Prelude.{◌≡◌, ℕ, ◌+◌, ◌*◌, ◌^◌, ◌≤◌, ◌<◌, true, false, slice_get, length, replicate, Some, None, IfSome, OnOk, IfOk, Contains};
+ghost use Rattle.std.specs.Option.{option_map};
+ghost use Rattle.list_encoder.specs.Cells.{AreCells, IsFirst, IsCell};
+ghost use Rattle.list_encoder.specs.Table as tables;
+
+use crate::cells::{Cell, first_of, shape_of};
+use crate::table::{Link, either, lower, rest_at};
+use base::NoMemory;
+use list_pack::{Cost, Legs, Shape, move_cost, plus, room_behind};
+use std::alloc::Global;
+
+// one room of a link's first cell is lowered by the link, where a room is left behind it
+fn relax_room<L: Legs>(
+    legs: &L,
+    cells: &[Cell],
+    table: &mut [Option<Cost>],
+    link: Link,
+    stays: bool,
+    room: u8,
+    left: Option<u8>,
+) -> bool
+    requires cells { AreCells (L.seen legs.now) cells.now }
+    requires link { tables.IsLink (L.seen legs.now) cells.now link }
+    requires sound { tables.IsSound (L.seen legs.now) cells.now table.old }
+    requires room { room < 8 }
+    requires left { tables.LeavesRoom (L.seen legs.now) cells.now link stays room left }
+    ensures { tables.RoomRelaxed (L.seen legs.now) cells.now link table.old table.new stays room left result }
+{
+    legs.steps();
+    let Some(behind) = left else {
+        return false;
+    };
+    let Some(rest) = rest_at(table, link.to, behind) else {
+        return false;
+    };
+    let cost = plus(move_cost(stays, link.hops), rest);
+    lower(table, 8 * link.from + room as usize, cost)
+}
+
+// the rooms of a link's first cell, whose SID's shape is given, are lowered by the link
+fn relax<L: Legs>(
+    legs: &L,
+    cells: &[Cell],
+    table: &mut [Option<Cost>],
+    from: &Option<Shape>,
+    link: Link,
+) -> bool
+    requires cells { AreCells (L.seen legs.now) cells.now }
+    requires link { tables.IsLink (L.seen legs.now) cells.now link }
+    requires from { tables.IsShapeOf (L.seen legs.now) cells.now link.from from.now }
+    requires sound { tables.IsSound (L.seen legs.now) cells.now table.old }
+    ensures { tables.Relaxed (L.seen legs.now) cells.now link table.old table.new result }
+{
+    legs.steps();
+    let next = legs.shape(link.sid);
+    let mut changed = false;
+    for room in 0..8 {
+        let left = room_behind(true, from, room, &next);
+        let stays = relax_room(legs, cells, table, link, true, room, left);
+        let full = room_behind(false, from, room, &next);
+        let opens = relax_room(legs, cells, table, link, false, room, full);
+        changed = either(changed, either(stays, opens));
+    }
+    changed
+}
+
+// the costs of a cell are lowered by the finishes from it
+fn relax_ends<L: Legs>(
+    legs: &L,
+    cells: &[Cell],
+    table: &mut [Option<Cost>],
+    from: &Option<Shape>,
+    k: usize,
+) -> bool
+    requires cells { AreCells (L.seen legs.now) cells.now }
+    requires within { k < length cells.now }
+    requires from { tables.IsShapeOf (L.seen legs.now) cells.now k from.now }
+    requires sound { tables.IsSound (L.seen legs.now) cells.now table.old }
+    ensures { tables.EndsRelaxed (L.seen legs.now) cells.now k table.old table.new result }
+{
+    let cell = cells[k];
+    let mut changed = false;
+    for sid in legs.sids_at(legs.steps()) {
+        if let Some(hops) = legs.finish(cell.position, cell.via, *sid) {
+            let link = Link {
+                from: k,
+                to: None,
+                sid: *sid,
+                hops,
+            };
+            let lowered = relax(legs, cells, table, from, link);
+            changed = either(changed, lowered);
+        }
+    }
+    changed
+}
+
+/// The leg from a cell into another, where there is one
+pub fn link_into<L: Legs>(legs: &L, cells: &[Cell], from: usize, to: usize) -> Option<Link>
+    requires from { from < length cells.now }
+    requires to { to < length cells.now }
+    ensures { tables.IsLinkInto (L.seen legs.now) cells.now from to result }
+{
+    let cell = cells[from];
+    let other = cells[to];
+    let sid = other.via?;
+    let leg = legs.leg(cell.position, cell.via, sid)?;
+    if leg.to != other.position {
+        return None;
+    }
+    Some(Link {
+        from,
+        to: Some(to),
+        sid,
+        hops: leg.hops,
+    })
+}
+
+// the costs of a cell are lowered by the legs from it to later positions; those within its position
+// are put behind the others in the list
+fn relax_legs<L: Legs>(
+    legs: &L,
+    cells: &[Cell],
+    table: &mut [Option<Cost>],
+    from: &Option<Shape>,
+    k: usize,
+    first: usize,
+    later: usize,
+    links: &mut Vec<Link>,
+) -> Result<bool, NoMemory>
+    requires cells { AreCells (L.seen legs.now) cells.now }
+    requires within { k < later }
+    requires later { later ≤ length cells.now }
+    requires from { tables.IsShapeOf (L.seen legs.now) cells.now k from.now }
+    requires sound { tables.IsSound (L.seen legs.now) cells.now table.old }
+    requires links { tables.AreLinks (L.seen legs.now) cells.now later links.old.items }
+    ensures { IfOk result (λ changed. tables.LegsRelaxed (L.seen legs.now) cells.now k first later table.old table.new links.old.items links.new.items changed) }
+{
+    let mut changed = false;
+    for to in first..cells.len() {
+        if let Some(link) = link_into(legs, cells, k, to) {
+            if to < later {
+                links.push(link)?;
+            } else {
+                let lowered = relax(legs, cells, table, from, link);
+                changed = either(changed, lowered);
+            }
+        }
+    }
+    Ok(changed)
+}
+
+// the costs of the cells of a position are lowered by the finishes and the legs to later positions;
+// gives the legs within the position
+fn gather<L: Legs>(
+    alloc: Global,
+    legs: &L,
+    cells: &[Cell],
+    table: &mut [Option<Cost>],
+    first: usize,
+    later: usize,
+) -> Result<Vec<Link>, NoMemory>
+    requires cells { AreCells (L.seen legs.now) cells.now }
+    requires first { first ≤ later }
+    requires later { later ≤ length cells.now }
+    requires sound { tables.IsSound (L.seen legs.now) cells.now table.old }
+    ensures { IfOk result (λ links. tables.Gathers (L.seen legs.now) cells.now first later table.old table.new links.items) }
+{
+    let mut links = Vec::new(alloc);
+    for k in first..later {
+        let from = shape_of(legs, cells[k]);
+        relax_ends(legs, cells, table, &from, k);
+        relax_legs(legs, cells, table, &from, k, first, later, &mut links)?;
+    }
+    Ok(links)
+}
+
+// the costs of the cells of a position are lowered by each leg within it, once
+fn round<L: Legs>(
+    legs: &L,
+    cells: &[Cell],
+    table: &mut [Option<Cost>],
+    links: &[Link],
+    later: usize,
+) -> bool
+    requires cells { AreCells (L.seen legs.now) cells.now }
+    requires links { tables.AreLinks (L.seen legs.now) cells.now later links.now }
+    requires sound { tables.IsSound (L.seen legs.now) cells.now table.old }
+    ensures { tables.Rounded (L.seen legs.now) cells.now later links.now table.old table.new result }
+{
+    let mut changed = false;
+    for link in links {
+        let from = shape_of(legs, cells[link.from]);
+        let lowered = relax(legs, cells, table, &from, *link);
+        changed = either(changed, lowered);
+    }
+    changed
+}
+
+// the costs of the cells of a position become the least ones
+fn settle<L: Legs>(
+    alloc: Global,
+    legs: &L,
+    cells: &[Cell],
+    table: &mut [Option<Cost>],
+    first: usize,
+    later: usize,
+) -> Result<(), NoMemory>
+    requires cells { AreCells (L.seen legs.now) cells.now }
+    requires first { first ≤ later }
+    requires later { later ≤ length cells.now }
+    requires sound { tables.IsSound (L.seen legs.now) cells.now table.old }
+    ensures { OnOk result (tables.Settled (L.seen legs.now) cells.now first later table.old table.new) }
+{
+    let links = gather(alloc, legs, cells, table, first, later)?;
+    while round(legs, cells, table, links.as_slice(), later) {}
+    Ok(())
+}
+
+// the costs of all positions become the least ones, from the last position to the first
+fn settle_all<L: Legs>(
+    alloc: Global,
+    legs: &L,
+    cells: &[Cell],
+    table: &mut [Option<Cost>],
+) -> Result<(), NoMemory>
+    requires cells { AreCells (L.seen legs.now) cells.now }
+    requires empty { table.old ≡ replicate (8 * length cells.now) None }
+    ensures { OnOk result (tables.AreLeast (L.seen legs.now) cells.now table.new) }
+{
+    let steps = legs.steps();
+    let mut later = cells.len();
+    for done in 0..steps + 1 {
+        let first = first_of(legs, cells, steps - done);
+        settle(alloc, legs, cells, table, first, later)?;
+        later = first;
+    }
+    Ok(())
+}
+
+/// The least cost of a path to the end from each state of each cell, eight rooms to a cell.
+pub fn table_of<L: Legs>(
+    alloc: Global,
+    legs: &L,
+    cells: &[Cell],
+) -> Result<Vec<Option<Cost>>, NoMemory>
+    requires { AreCells (L.seen legs.now) cells.now }
+    ensures long { IfOk result (λ table. length table.items ≡ 8 * length cells.now) }
+    ensures least { IfOk result (λ table. tables.AreLeast (L.seen legs.now) cells.now table.items) }
+{
+    let mut table = vec![in alloc; None; 8 * cells.len()]?;
+    settle_all(alloc, legs, cells, table.as_mut_slice())?;
+    Ok(table)
+}

@@ -1,0 +1,28 @@
+//! The search.
+
+ghost use Rattle.std.specs.Prelude.{IfOk};
+ghost use Rattle.list_pack.specs.Least.{IsSolution};
+
+use crate::cells::cells_of;
+use crate::listing::listing_of;
+use crate::path::path_of;
+use crate::rounds::table_of;
+use base::{NoMemory, Seq};
+use list_pack::{Legs, Solution};
+use std::alloc::Global;
+
+/// What a search over legs finds: the states from which a path leads to the end, each once and in
+/// order, with the least cost of a path; and of all least paths from the start the first, empty
+/// exactly where there is none. Only want of memory is an error. (own rule)
+pub fn solve<L: Legs>(alloc: Global, legs: &L) -> Result<Solution, NoMemory>
+    ensures { IfOk result (IsSolution (L.seen legs.now)) }
+{
+    let cells = cells_of(alloc, legs)?;
+    let table = table_of(alloc, legs, cells.as_slice())?;
+    let potentials = listing_of(alloc, legs, cells.as_slice(), table.as_slice())?;
+    let path = path_of(alloc, legs, cells.as_slice(), table.as_slice())?;
+    Ok(Solution {
+        potentials: Seq::new(potentials),
+        path: Seq::new(path),
+    })
+}

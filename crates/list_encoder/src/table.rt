@@ -1,0 +1,69 @@
+//! A table of costs, eight rooms to a cell, and what lowers it.
+
+ghost use Rattle.std.specs.Prelude.{◌≡◌, ℕ, ◌+◌, ◌*◌, ◌^◌, ◌≤◌, ◌<◌, ◌||◌, length, slice_get, Some, IfSome};
+ghost use Rattle.std.specs.Option.{option_map};
+ghost use Rattle.list_pack.specs.Costs.{plus, move_cost};
+ghost use Rattle.list_pack.specs.Rooms.{room_behind};
+ghost use Rattle.list_pack.specs.Value.{IsShape};
+ghost use Rattle.list_encoder.specs.Cells.{AreCells};
+ghost use Rattle.list_encoder.specs.Table.{entry, rest_at, at, Lowers, IsLink, IsSound, Relaxed, RoomRelaxed, AreInRange};
+
+use crate::cells::{Cell, shape_of};
+use list_pack::{Cost, Legs, Shape, is_below, move_cost, plus, room_behind};
+
+/// A way from the states of a cell to the end, by a finish, or to those of another cell, by a leg.
+#[derive(Clone, Copy, Debug, PartialEq, Eq)]
+pub struct Link {
+    /// The place of the cell that it starts from.
+    pub from: usize,
+    /// The place of the cell that it leads to; none at the end.
+    pub to: Option<usize>,
+    /// The SID that is executed.
+    pub sid: u32,
+    /// How often the hop limit is lowered.
+    pub hops: u32,
+}
+
+/// What is left to the end from a cell with so much room, below 8.
+pub fn entry(table: &[Option<Cost>], cell: usize, room: u8) -> Option<Cost>
+    requires { 8 * cell + room < length table.now }
+    ensures { result ≡ entry table.now cell room }
+{
+    table[8 * cell + room as usize]
+}
+
+/// What is left to the end behind a link, with so much room.
+pub fn rest_at(table: &[Option<Cost>], to: Option<usize>, room: u8) -> Option<Cost>
+    requires { AreInRange table.now to room }
+    ensures { result ≡ rest_at table.now to room }
+{
+    match to {
+        None => Some(Cost {
+            containers: 0,
+            hops: 0,
+        }),
+        Some(cell) => entry(table, cell, room),
+    }
+}
+
+/// An entry is lowered to a cost where that is below it
+pub fn lower(table: &mut [Option<Cost>], i: usize, cost: Cost) -> bool
+    requires { i < length table.old }
+    ensures { Lowers table.old table.new i cost result }
+{
+    let lowers = match table[i] {
+        None => true,
+        Some(old) => is_below(cost, old),
+    };
+    if lowers {
+        table[i] = Some(cost);
+    }
+    lowers
+}
+
+/// Whether one of two holds.
+pub fn either(a: bool, b: bool) -> bool
+    ensures { result ≡ (a || b) }
+{
+    a || b
+}

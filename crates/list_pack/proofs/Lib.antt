@@ -1,0 +1,3 @@
+pub mod Rooming
+pub mod Costing
+pub mod Leasts
