@@ -1,7 +1,7 @@
 //! The worked rows of the program `srv6`: what it must write for words, files and an input.
 //!
-//! `data/rows` lists the rows, a folder of `data/` a line, in the order in which they are run. A row
-//! has the files `args` (one word a line), `stdin`, and what must come: `stdout`, `stderr` and
+//! `data/rows` lists the rows, a folder of `data/` a line, in the order in which they are run. A
+//! row has the files `args` (one word a line), `stdin`, and what must come: `stdout`, `stderr` and
 //! `status`, a decimal number. Beside them lie the files that its words name; a word that names no
 //! file there is of a file that is missing, or of none. Each row is run by `serve` over files, an
 //! input and outputs in memory.
