@@ -59,11 +59,14 @@ leg-facts : (steps position : ℕ) (via : Option ℕ) (next : ℕ) (leg : Leg) �
     → LegFacts steps position via next leg
 leg-facts steps position via next leg h =
     let its : Leg = record { to = next / 3; hops = 1 + next / 3 - position } in
-    let both = cond_some (is_grid_via steps position via next && grid_middle next && nat_le position (next / 3) && nat_le (next / 3) (position + 1)
+    let both = cond_some (is_grid_via steps position via next && grid_middle next && nat_le position (next / 3) && nat_le (next / 3)
+    (position + 1)
     && nat_le (next / 3) steps) its leg h in
-    let within = and_parts (is_grid_via steps position via next && grid_middle next && nat_le position (next / 3) && nat_le (next / 3) (position + 1))
+    let within = and_parts (is_grid_via steps position via next && grid_middle next && nat_le position (next / 3) && nat_le (next / 3)
+    (position + 1))
     (nat_le (next / 3) steps) both.0 in
-    let near = and_parts (is_grid_via steps position via next && grid_middle next && nat_le position (next / 3)) (nat_le (next / 3) (position + 1)) within.0 in
+    let near = and_parts (is_grid_via steps position via next && grid_middle next && nat_le position (next / 3))
+    (nat_le (next / 3) (position + 1)) within.0 in
     let forward = and_parts (is_grid_via steps position via next && grid_middle next) (nat_le position (next / 3)) near.0 in
     let middle = and_parts (is_grid_via steps position via next) (grid_middle next) forward.0 in
     record {
@@ -83,7 +86,8 @@ record EndFacts (steps position : ℕ) (via : Option ℕ) (next lowered : ℕ) :
   end : next ≡ 3 * steps
   one : 1 ≡ lowered
 
-end-of : (open_end : Bool) (steps position : ℕ) (via : Option ℕ) (next lowered : ℕ) → grid_finish open_end steps position via next ≡ Some lowered
+end-of : (open_end : Bool) (steps position : ℕ) (via : Option ℕ) (next lowered : ℕ)
+    → grid_finish open_end steps position via next ≡ Some lowered
     → EndFacts steps position via next lowered
 end-of open_end steps position via next lowered h =
     let both = cond_some (open_end && is_grid_end steps position via && (position == steps) && (next == 3 * steps)) 1 lowered h in

@@ -42,7 +42,17 @@ listed-further v cells t n m ps h none so =
           ];
       only = λ q c.
           let of = so.only q c in
-          record { k = of.k; room = of.room; cell = of.cell; at = of.at; top = of.top; before = omega (arith, h, of.before); cost = of.cost; state = of.state };
+          record {
+            k = of.k;
+            room = of.room;
+            cell = of.cell;
+            at = of.at;
+            top = of.top;
+            before = omega (arith, h, of.before);
+            cost =
+                of.cost;
+            state = of.state;
+          };
       order = so.order;
     }
 
@@ -86,7 +96,11 @@ module _ (v : LegsValue) (laws : KeepsLaws v) (cells : List Cell) (are : AreCell
               | inr more ↦
                   let few = top-at-few v laws cell (are.real k cell here) in
                   let rare = top-at-few v laws other (are.real j other at) in
-                  let places : (j ≡ k) × (r ≡ room) = (omega (arith, h, more, few, rare, top, below), omega (arith, h, more, few, rare, top, below)) in
+                  let places : (j ≡ k) × (r ≡ room) = (
+                    omega (arith, h, more, few, rare, top, below),
+                    omega
+                        (arith, h, more, few, rare, top, below),
+                  ) in
                   let cells_same : cell ≡ other = some-same cell other (sym here ∙ ap (slice_get cells) (sym places.0) ∙ at) in
                   let costs : c ≡ d =
                   some-same c d (sym e ∙ ap (λ (x : ℕ). entry t x room) (sym places.0) ∙ ap (entry t j) (sym places.1) ∙ f) in
@@ -124,7 +138,8 @@ module _ (v : LegsValue) (laws : KeepsLaws v) (cells : List Cell) (are : AreCell
       same-read xs i d h = get_or_from_slice_get xs i (get_or xs i d) (get_or xs i d) (slice_get-get_or xs i d h)
 
   -- a cell without more costs
-  pub listed-cell : (k room top : ℕ) (ps : List Potential) → k < length cells → IsTop v cells k top → top + 1 ≤ room → IsListed v cells t (8 * k + room) ps
+  pub listed-cell : (k room top : ℕ) (ps : List Potential) → k < length cells → IsTop v cells k top → top + 1 ≤ room
+      → IsListed v cells t (8 * k + room) ps
       → room ≤ 8 → IsListed v cells t (8 * k + 8) ps
   listed-cell k room top ps within is_top h so l =
       listed-further v cells t (8 * k + room) (8 * k + 8) ps (omega (arith, l)) (λ j r cell c at below from to e.
@@ -167,7 +182,8 @@ module _ (v : LegsValue) (laws : KeepsLaws v) (cells : List Cell) (are : AreCell
     exact n q of =
         let few = top-at-few v laws of.cell (are.real of.k of.cell of.at) in
         let low : of.room < 8 = omega (arith, few, of.top) in
-        let is = subst (λ (o : Option Cost). leasts.IsLeast v (state_at of.cell of.room) o) of.cost (least of.k of.room of.cell of.at low) in
+        let is = subst (λ (o : Option Cost). leasts.IsLeast v (state_at of.cell of.room) o) of.cost (least of.k of.room of.cell of.at low)
+        in
         let path = is.attains in
         let state : IsState v (state_at of.cell of.room) =
         state-by of.cell.position of.cell.via of.room q.cost path.0 (are.real of.k of.cell of.at) of.top path.1 in
@@ -190,7 +206,8 @@ module _ (v : LegsValue) (laws : KeepsLaws v) (cells : List Cell) (are : AreCell
     among ps s k moves c None at top h e is so = absurd (subst (λ (q : Option Cost). Under None q) h (is.least moves))
     among ps s k moves c (Some d) at top h e is so =
         let w = slice_get_within cells k (record { position = s.position; via = s.via }) at in
-        let few = top-at-few v laws (record { position = s.position; via = s.via }) (are.real k (record { position = s.position; via = s.via }) at) in
+        let few = top-at-few v laws (record { position = s.position; via = s.via })
+        (are.real k (record { position = s.position; via = s.via }) at) in
         (d, so.all k s.room (record { position = s.position; via = s.via }) d at top (omega (arith, w, few, top)) e)
 
     pub listing : (n : ℕ) (ps : List Potential) → 8 * length cells ≤ n → IsListed v cells t n ps → leasts.IsListing v ps

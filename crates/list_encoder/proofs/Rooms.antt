@@ -75,7 +75,8 @@ pub open-few : (from : Option Shape) (next : Shape) (room q : ℕ) → IsShape n
 open-few None next room q is_n r = some-few next q is_n r
 open-few (Some s) next room q is_n r = opens-few s next room q is_n s.csid r
 
-pub behind-few : (stays : Bool) (from : Option Shape) (next : Shape) (room q : ℕ) → IsShape next → room < 8 → room_behind stays from room next ≡ Some q
+pub behind-few : (stays : Bool) (from : Option Shape) (next : Shape) (room q : ℕ) → IsShape next → room < 8
+    → room_behind stays from room next ≡ Some q
     → q < 8
 behind-few true from next room q is_n h r = let less = stay-less from next room q is_n r in omega arith
 behind-few false from next room q is_n h r = let few = open-few from next room q is_n r in omega arith

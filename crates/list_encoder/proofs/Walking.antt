@@ -33,7 +33,8 @@ pub record Walked (v : LegsValue) (cells : List Cell) (t : Costs) (begin : Spot)
 pub walked-none : (v : LegsValue) (cells : List Cell) (t : Costs) (spot : Spot) → IsSpot cells t spot → Walked v cells t spot [] spot
 walked-none v cells t spot is = record { is_spot = is; moves = []; are = refl; leads = λ rest h. h }
 
-module _ (v : LegsValue) (laws : KeepsLaws v) (cells : List Cell) (are : AreCells v cells) (t : Costs) (least : AreLeast v cells t) (spot : Spot)
+module _ (v : LegsValue) (laws : KeepsLaws v) (cells : List Cell) (are : AreCells v cells) (t : Costs) (least : AreLeast v cells t)
+    (spot : Spot)
     (is : IsSpot cells t spot) where
   -- from a state with a path there is a tight move
   pub walked-never : PicksFirst v cells t spot None → ⊥
@@ -67,7 +68,8 @@ module _ (v : LegsValue) (laws : KeepsLaws v) (cells : List Cell) (are : AreCell
         ∙ sym (map-append (step_of v) walked.moves (pick_move pick picks.found.link.sid ∷ []))
 
     -- the last move
-    pub walked-end : (begin : Spot) (steps : List PathStep) → Walked v cells t begin steps spot → pick.to ≡ None → begin.cell ≡ start_cell → begin.room ≡ 0
+    pub walked-end : (begin : Spot) (steps : List PathStep) → Walked v cells t begin steps spot → pick.to ≡ None → begin.cell ≡ start_cell
+        → begin.room ≡ 0
         → IsPath v (steps ++ pick.step ∷ [])
     walked-end begin steps walked to cell room =
         let none : picks.found.link.to ≡ None = sym picks.found.to_is ∙ to in
@@ -77,8 +79,10 @@ module _ (v : LegsValue) (laws : KeepsLaws v) (cells : List Cell) (are : AreCell
           moves = walked.moves ++ pick_move pick picks.found.link.sid ∷ [];
           cost = begin.cost;
           first =
-              subst (λ (r : ℕ). IsFirstLeast v (state_at start_cell r) begin.cost (walked.moves ++ pick_move pick picks.found.link.sid ∷ [])) room
-              (subst (λ (c : Cell). IsFirstLeast v (state_at c begin.room) begin.cost (walked.moves ++ pick_move pick picks.found.link.sid ∷ [])) cell whole);
+              subst (λ (r : ℕ). IsFirstLeast v (state_at start_cell r) begin.cost
+              (walked.moves ++ pick_move pick picks.found.link.sid ∷ [])) room
+              (subst (λ (c : Cell). IsFirstLeast v (state_at c begin.room) begin.cost
+              (walked.moves ++ pick_move pick picks.found.link.sid ∷ [])) cell whole);
           is_path = steps-are begin steps walked;
         }
       where
@@ -102,7 +106,8 @@ module _ (v : LegsValue) (laws : KeepsLaws v) (cells : List Cell) (are : AreCell
         let leads = leg-parts v cells picks.found.link place (sym picks.found.to_is ∙ to) picks.found.is_link in
         slice_get_within cells place (cell_at leads.0 picks.found.link.sid) leads.1
 
-    pub walked-more : (begin : Spot) (steps : List PathStep) (place : ℕ) (cell : Cell) → Walked v cells t begin steps spot → pick.to ≡ Some place
+    pub walked-more : (begin : Spot) (steps : List PathStep) (place : ℕ) (cell : Cell) → Walked v cells t begin steps spot
+        → pick.to ≡ Some place
         → slice_get cells place ≡ Some cell
         → Walked v cells t begin (steps ++ pick.step ∷ []) (record { place = place; cell = cell; room = pick.room; cost = pick.rest })
     walked-more begin steps place cell walked to here =
@@ -115,7 +120,8 @@ module _ (v : LegsValue) (laws : KeepsLaws v) (cells : List Cell) (are : AreCell
           leads = λ rest first.
               let behind : FirstBehind v cells pick rest picks.found.link.to =
               subst (λ (o : Option ℕ). FirstBehind v cells pick rest o) (sym there) (cell, here, first) in
-              let whole = walked.leads (m ∷ rest) (first-least v laws cells are t least spot is pick picks.found picks.covers rest behind) in
+              let whole = walked.leads (m ∷ rest) (first-least v laws cells are t least spot is pick picks.found picks.covers rest behind)
+              in
               subst (λ (ms : List Move). IsFirstLeast v (state_at begin.cell begin.room) begin.cost ms)
               (sym (append_assoc walked.moves (m ∷ []) rest)) whole;
         }
@@ -141,10 +147,12 @@ module _ (v : LegsValue) (laws : KeepsLaws v) (cells : List Cell) (are : AreCell
         → Walked v cells t begin steps spot → pick.to ≡ Some place → slice_get cells place ≡ Some cell
         → Walked v cells t begin after (record { place = place; cell = cell; room = pick.room; cost = pick.rest })
     walked-pushed begin steps after place cell e walked to here =
-        subst (λ (xs : List PathStep). Walked v cells t begin xs (record { place = place; cell = cell; room = pick.room; cost = pick.rest })) (sym e)
+        subst (λ (xs : List PathStep). Walked v cells t begin xs
+        (record { place = place; cell = cell; room = pick.room; cost = pick.rest })) (sym e)
         (walked-more begin steps place cell walked to here)
 
-    pub walked-ended : (begin : Spot) (steps after : List PathStep) → after ≡ steps ++ pick.step ∷ [] → Walked v cells t begin steps spot → pick.to ≡ None
+    pub walked-ended : (begin : Spot) (steps after : List PathStep) → after ≡ steps ++ pick.step ∷ [] → Walked v cells t begin steps spot
+        → pick.to ≡ None
         → begin.cell ≡ start_cell → begin.room ≡ 0 → IsPath v after
     walked-ended begin steps after e walked to cell room =
         subst (λ (xs : List PathStep). IsPath v xs) (sym e) (walked-end begin steps walked to cell room)

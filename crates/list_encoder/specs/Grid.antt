@@ -27,7 +27,13 @@ grid_middle n = not (n % 3 == 0)
 
 abbrev pub grid_shape : Csid → ℕ → Shape
 grid_shape csid n =
-    record { prefix = record { value = n * 2 ^ 80; len = grid_len csid }; block = grid_block csid; lbl = grid_lbl csid; csid = csid; middle = grid_middle n }
+    record {
+      prefix = record { value = n * 2 ^ 80; len = grid_len csid };
+      block = grid_block csid;
+      lbl = grid_lbl csid;
+      csid = csid;
+      middle = grid_middle n;
+    }
 
 abbrev pub grid_sids : ℕ → List ℕ
 grid_sids position = (3 * position) ∷ (3 * position + 1) ∷ (3 * position + 2) ∷ []
