@@ -1,11 +1,10 @@
 -- The cells of all positions stand in the order of states.
-use Rattle.std.proofs.Common.{◌≡◌, ℕ, zero, suc, ◌+◌, ◌-◌, ◌*◌, ◌<◌, ◌≤◌, ◌⊎◌, inl, inr, Bool, true, false, ◌&&◌, List, [], ◌∷◌, ◌++◌, map, length, Option, Some, None, slice_get, Contains, refl, sym, ◌∙◌, ap, subst, arith, length-append, get_or}
+use Rattle.std.proofs.Common.{◌≡◌, ℕ, zero, suc, ◌+◌, ◌-◌, ◌*◌, ◌<◌, ◌≤◌, ◌⊎◌, inl, inr, true, List, [], ◌∷◌, ◌++◌, map, length, Option, Some, None, slice_get, Contains, refl, sym, ◌∙◌, ap, subst, arith, length-append, get_or}
 use Rattle.std.specs.Option.{option_map}
 use Rattle.std.proofs.lemmas.Bool.{false≢true, and_parts, cases_lt}
 use Rattle.std.proofs.lemmas.List.{length-map}
 use Rattle.std.proofs.lemmas.List.Elements.{Contains-append_left, Contains-append_right}
-use Rattle.std.proofs.lemmas.Option.{none-some, slice_get-get_or, slice_get-map, slice_get_within, slice_get_past, get_or_from_slice_get}
-use Rattle.list_pack.specs.declared.types.State.{State}
+use Rattle.std.proofs.lemmas.Option.{none-some, slice_get-get_or, slice_get-map, slice_get_within, get_or_from_slice_get}
 use Rattle.list_pack.specs.Order.{lex_before}
 use Rattle.list_pack.specs.Value.{LegsValue, KeepsLaws, sid_before, sid_key, ascends}
 use Rattle.list_pack.specs.Least.{IsBefore, state_key_by}
@@ -41,7 +40,8 @@ append-right (x ∷ xs) ys k =
 pub append-cases : {X : Type 0} (xs ys : List X) (k : ℕ) (x : X) → slice_get (xs ++ ys) k ≡ Some x
     → ((k < length xs) × (slice_get xs k ≡ Some x)) ⊎ ((length xs ≤ k) × (slice_get ys (k - length xs) ≡ Some x))
 append-cases {X} xs ys k x h =
-    elim (cases_lt k (length xs)) as (λ w. ((k < length xs) × (slice_get xs k ≡ Some x)) ⊎ ((length xs ≤ k) × (slice_get ys (k - length xs) ≡ Some x))) [
+    elim (cases_lt k (length xs)) as (λ w. ((k < length xs) × (slice_get xs k ≡ Some x)) ⊎
+    ((length xs ≤ k) × (slice_get ys (k - length xs) ≡ Some x))) [
       | inl less ↦ inl (less, sym (append-left xs ys k less) ∙ h)
       | inr more ↦
           let e : length xs + (k - length xs) ≡ k = omega arith in
@@ -58,7 +58,8 @@ rises v n (x ∷ xs) (suc j) m h e =
     let parts = and_parts (sid_before v n x) (ascends v (x ∷ xs)) h in
     lex-trans (sid_key v n) (sid_key v x) (sid_key v m) parts.0 (rises v x xs j m parts.1 e)
 
-pub sids-rise : (v : LegsValue) (xs : List ℕ) (i j n m : ℕ) → ascends v xs ≡ true → i < j → slice_get xs i ≡ Some n → slice_get xs j ≡ Some m
+pub sids-rise : (v : LegsValue) (xs : List ℕ) (i j n m : ℕ) → ascends v xs ≡ true → i < j → slice_get xs i ≡ Some n
+    → slice_get xs j ≡ Some m
     → sid_before v n m ≡ true
 sids-rise v [] i j n m h l e f = absurd (none-some n e)
 sids-rise v (x ∷ xs) zero zero n m h l e f = absurd (omega arith)
@@ -106,7 +107,8 @@ cells-none v =
 -- a cell of one more position
 mapped-at : (v : LegsValue) (position k : ℕ) (cell : Cell) → slice_get (map (cell_at position) (v.sids_at position)) k ≡ Some cell
     → (n : ℕ) × (slice_get (v.sids_at position) k ≡ Some n) × (cell_at position n ≡ cell)
-mapped-at v position k cell h = by (slice_get (v.sids_at position) k) refl (sym (slice_get-map (cell_at position) (v.sids_at position) k) ∙ h)
+mapped-at v position k cell h = by (slice_get (v.sids_at position) k) refl
+    (sym (slice_get-map (cell_at position) (v.sids_at position) k) ∙ h)
   where
     by : (o : Option ℕ) → slice_get (v.sids_at position) k ≡ o → option_map (cell_at position) o ≡ Some cell
         → (n : ℕ) × (slice_get (v.sids_at position) k ≡ Some n) × (cell_at position n ≡ cell)
@@ -126,13 +128,16 @@ before-within : (v : LegsValue) (position n m p q : ℕ) → sid_before v n m �
     → IsBefore v (state_at (cell_at position n) p) (state_at (cell_at position m) q)
 before-within v position n m p q h =
     head-same position position ((v.shape n).prefix.value ∷ (v.shape n).prefix.len ∷ v.node n ∷ p ∷ [])
-    ((v.shape m).prefix.value ∷ (v.shape m).prefix.len ∷ v.node m ∷ q ∷ []) refl (lex-longer (sid_key v n) (sid_key v m) (p ∷ []) (q ∷ []) refl h)
+    ((v.shape m).prefix.value ∷ (v.shape m).prefix.len ∷ v.node m ∷ q ∷ []) refl
+    (lex-longer (sid_key v n) (sid_key v m) (p ∷ []) (q ∷ []) refl h)
 
 more-cells : LegsValue → ℕ → List Cell
 more-cells v position = map (cell_at position) (v.sids_at position)
 
-module _ (v : LegsValue) (laws : KeepsLaws v) (position : ℕ) (cells : List Cell) (within : position ≤ v.steps) (are : AreCellsBefore v position cells) where
-  more-each : (p n : ℕ) → p < position + 1 → Contains (v.sids_at p) n → Contains (cells ++ map (cell_at position) (v.sids_at position)) (cell_at p n)
+module _ (v : LegsValue) (laws : KeepsLaws v) (position : ℕ) (cells : List Cell) (within : position ≤ v.steps)
+    (are : AreCellsBefore v position cells) where
+  more-each : (p n : ℕ) → p < position + 1 → Contains (v.sids_at p) n
+      → Contains (cells ++ map (cell_at position) (v.sids_at position)) (cell_at p n)
   more-each p n h c =
       elim (cases_lt p position) as (λ w. Contains (cells ++ map (cell_at position) (v.sids_at position)) (cell_at p n)) [
         | inl less ↦ Contains-append_left cells (map (cell_at position) (v.sids_at position)) (cell_at p n) (are.each p n less c)
@@ -158,7 +163,8 @@ module _ (v : LegsValue) (laws : KeepsLaws v) (position : ℕ) (cells : List Cel
             subst (λ (c : Cell). IsCell v c) it.2 is
       ]
 
-  more-earlier : (k n : ℕ) (cell : Cell) → slice_get (cells ++ map (cell_at position) (v.sids_at position)) k ≡ Some cell → cell.via ≡ Some n
+  more-earlier : (k n : ℕ) (cell : Cell) → slice_get (cells ++ map (cell_at position) (v.sids_at position)) k ≡ Some cell
+      → cell.via ≡ Some n
       → cell.position < position + 1
   more-earlier k n cell h e =
       elim (append-cases cells (map (cell_at position) (v.sids_at position)) k cell h) as (λ w. cell.position < position + 1) [
@@ -176,7 +182,8 @@ module _ (v : LegsValue) (laws : KeepsLaws v) (position : ℕ) (cells : List Cel
       let that = mapped-at v position j b f in
       let rise = sids-rise v (v.sids_at position) i j it.0 that.0 (laws.sids_order position within) h it.1 that.1 in
       subst (λ (c : Cell). IsBefore v (state_at c p) (state_at b q)) it.2
-      (subst (λ (c : Cell). IsBefore v (state_at (cell_at position it.0) p) (state_at c q)) that.2 (before-within v position it.0 that.0 p q rise))
+      (subst (λ (c : Cell). IsBefore v (state_at (cell_at position it.0) p) (state_at c q)) that.2
+      (before-within v position it.0 that.0 p q rise))
 
   order-over : (i j : ℕ) (a b : Cell) (p q : ℕ) → slice_get cells i ≡ Some a
       → slice_get (map (cell_at position) (v.sids_at position)) j ≡ Some b → IsBefore v (state_at a p) (state_at b q)
@@ -190,12 +197,14 @@ module _ (v : LegsValue) (laws : KeepsLaws v) (position : ℕ) (cells : List Cel
   more-order i j a b p q h e f =
       elim (append-cases cells (map (cell_at position) (v.sids_at position)) i a e) as (λ w. IsBefore v (state_at a p) (state_at b q)) [
         | inl old ↦
-            elim (append-cases cells (map (cell_at position) (v.sids_at position)) j b f) as (λ w. IsBefore v (state_at a p) (state_at b q)) [
+            elim (append-cases cells (map (cell_at position) (v.sids_at position)) j b f) as
+            (λ w. IsBefore v (state_at a p) (state_at b q)) [
               | inl also ↦ are.order i j a b p q h old.1 also.1
               | inr new ↦ order-over i (j - length cells) a b p q old.1 new.1
             ]
         | inr new ↦
-            elim (append-cases cells (map (cell_at position) (v.sids_at position)) j b f) as (λ w. IsBefore v (state_at a p) (state_at b q)) [
+            elim (append-cases cells (map (cell_at position) (v.sids_at position)) j b f) as
+            (λ w. IsBefore v (state_at a p) (state_at b q)) [
               | inl old ↦ absurd (omega (arith, h, new.0, old.0))
               | inr also ↦ order-new (i - length cells) (j - length cells) a b p q (omega (arith, h, new.0, also.0)) new.1 also.1
             ]
@@ -216,8 +225,10 @@ module _ (v : LegsValue) (laws : KeepsLaws v) (position : ℕ) (cells : List Cel
         few = omega (arith, long, as_many, few, are.few);
       }
 
-pub cells-turn : (v : LegsValue) → KeepsLaws v → (position steps : ℕ) (sids : List ℕ) (cells after : List Cell) → steps ≡ v.steps → position < steps + 1
-    → sids ≡ v.sids_at position → after ≡ cells ++ map (cell_at position) sids → AreCellsBefore v position cells → AreCellsBefore v (position + 1) after
+pub cells-turn : (v : LegsValue) → KeepsLaws v → (position steps : ℕ) (sids : List ℕ) (cells after : List Cell) → steps ≡ v.steps
+    → position < steps + 1
+    → sids ≡ v.sids_at position → after ≡ cells ++ map (cell_at position) sids → AreCellsBefore v position cells
+    → AreCellsBefore v (position + 1) after
 cells-turn v laws position steps sids cells after e h s a are =
     subst (λ (xs : List Cell). AreCellsBefore v (position + 1) xs)
     (ap (λ (ys : List ℕ). cells ++ map (cell_at position) ys) (sym s) ∙ sym a) (cells-more v laws position cells (omega (arith, e, h)) are)
@@ -235,7 +246,8 @@ cells-all v laws position steps cells e h are l =
     }
 
 -- positions never fall along the cells
-positions-by : (v : LegsValue) (a b : Cell) (p q : ℕ) (via then : Option ℕ) → IsCellBy v a.position via → lex_before (state_key_by v a.position via p)
+positions-by : (v : LegsValue) (a b : Cell) (p q : ℕ) (via then : Option ℕ) → IsCellBy v a.position via
+    → lex_before (state_key_by v a.position via p)
     (state_key_by v b.position then q) ≡ true → a.position ≤ b.position
 positions-by v a b p q None then is h = omega (arith, is)
 positions-by v a b p q (Some n) None is h = absurd (false≢true h)
@@ -260,7 +272,8 @@ positions-rise v cells are i j a b h e f =
 
 -- the first cell that is not of an earlier position
 pub first-found : (v : LegsValue) (cells : List Cell) → AreCells v cells → (position k : ℕ) (cell : Cell) → slice_get cells k ≡ Some cell
-    → position ≤ cell.position → ((j : ℕ) (other : Cell) → j < k → slice_get cells j ≡ Some other → other.position < position) → IsFirst cells position k
+    → position ≤ cell.position → ((j : ℕ) (other : Cell) → j < k → slice_get cells j ≡ Some other → other.position < position)
+    → IsFirst cells position k
 first-found v cells are position k cell here above below =
     let w = slice_get_within cells k cell here in
     record {
@@ -278,7 +291,8 @@ first-none cells position k e below =
       later = λ j other h f. let w = slice_get_within cells j other f in absurd (omega (arith, e, h, w));
     }
 
-pub cell-read : (cells : List Cell) (k : ℕ) → k < length cells → slice_get cells k ≡ Some (get_or cells k (record { position = 0; via = None }))
+pub cell-read : (cells : List Cell) (k : ℕ) → k < length cells
+    → slice_get cells k ≡ Some (get_or cells k (record { position = 0; via = None }))
 cell-read cells k h = slice_get-get_or cells k (record { position = 0; via = None }) h
 
 pub first-more : (cells : List Cell) (position k : ℕ) (cell : Cell) → slice_get cells k ≡ Some cell → cell.position < position
@@ -303,7 +317,8 @@ top-few v laws position (Some n) is = top-seven (v.shape n) (laws.shapes n (posi
 pub top-at-few : (v : LegsValue) → KeepsLaws v → (cell : Cell) → IsCell v cell → top_at v cell ≤ 7
 top-at-few v laws cell is = top-few v laws cell.position cell.via is
 
-pub top-few-by : (v : LegsValue) → KeepsLaws v → (cell : Cell) (n top : ℕ) → IsCell v cell → cell.via ≡ Some n → top ≡ top_room (v.shape n) → top ≤ 7
+pub top-few-by : (v : LegsValue) → KeepsLaws v → (cell : Cell) (n top : ℕ) → IsCell v cell → cell.via ≡ Some n
+    → top ≡ top_room (v.shape n) → top ≤ 7
 top-few-by v laws cell n top is e h =
     let few : top_at_by v (Some n) ≤ 7 = subst (λ (o : Option ℕ). top_at_by v o ≤ 7) e (top-few v laws cell.position cell.via is) in
     omega (arith, h, few)

@@ -1,19 +1,19 @@
 -- A least path begins with a tight move.
-use Rattle.std.proofs.Common.{◌≡◌, ℕ, zero, suc, ◌+◌, ◌*◌, ◌<◌, ◌≤◌, ◌⊎◌, inl, inr, Bool, true, false, List, [], ◌∷◌, map, length, Option, Some, None, slice_get, Contains, refl, sym, ◌∙◌, ap, subst, arith}
+use Rattle.std.proofs.Common.{◌≡◌, ℕ, ◌+◌, List, [], ◌∷◌, Option, Some, None, slice_get, refl, sym, ◌∙◌, ap, subst, arith}
 use Rattle.std.specs.Option.{option_map}
 use Rattle.std.proofs.lemmas.Option.{none-some}
 use Rattle.list_pack.specs.declared.types.Cost.{Cost}
 use Rattle.list_pack.specs.declared.types.State.{State}
 use Rattle.list_pack.specs.Value.{LegsValue, KeepsLaws}
-use Rattle.list_pack.specs.Costs.{Move, Edge, AtMost, plus, nothing, move_cost, edge_of, edge_by, last_of, behind, cost_of, Under}
-use Rattle.list_pack.specs.Least.{Attains, IsLeast}
-use Rattle.list_pack.proofs.Costing.{at_most-both, edge-parts, last-parts, EdgeParts, LastParts}
+use Rattle.list_pack.specs.Costs.{Move, Edge, AtMost, plus, nothing, move_cost, edge_of, last_of, behind, cost_of, Under}
+use Rattle.list_pack.specs.Least.{IsLeast}
+use Rattle.list_pack.proofs.Costing.{at_most-both, edge-parts, last-parts}
 use Rattle.list_pack.proofs.Leasts.{attained}
 use Rattle.list_encoder.specs.declared.cells.Cell.{Cell}
 use Rattle.list_encoder.specs.declared.table.Link.{Link}
 use Rattle.list_encoder.specs.declared.picks.Spot.{Spot}
 use Rattle.list_encoder.specs.Cells.{cell_at, state_at, AreCells}
-use Rattle.list_encoder.specs.Table.{Costs, entry, rest_at, LeadsTo, IsLink, AreLeast}
+use Rattle.list_encoder.specs.Table.{Costs, entry, IsLink, AreLeast}
 use Rattle.list_encoder.specs.Picks.{IsSpot, IsTight}
 use Rattle.list_encoder.proofs.Celling.{some-same}
 use Rattle.list_encoder.proofs.Rooms.{behind-few}
@@ -58,7 +58,8 @@ edge-some v s c (Some e) later h = (e, refl, h)
 module _ (v : LegsValue) (laws : KeepsLaws v) (cells : List Cell) (are : AreCells v cells) (t : Costs) (least : AreLeast v cells t) where
   -- what is left behind a tight edge is the least that there is behind it
   rest-least : (spot : Spot) (n : Move) (e : Edge) (more : List Move) (d : Cost) (o : Option Cost) → IsSpot cells t spot
-      → edge_of v (state_at spot.cell spot.room) n ≡ Some e → cost_of v e.to more ≡ Some d → plus e.cost d ≡ spot.cost → IsLeast v e.to o → o ≡ Some d
+      → edge_of v (state_at spot.cell spot.room) n ≡ Some e → cost_of v e.to more ≡ Some d → plus e.cost d ≡ spot.cost → IsLeast v e.to o
+      → o ≡ Some d
   rest-least spot n e more d None is edge cost sum is_least =
       absurd (subst (λ (q : Option Cost). Under None q) cost (is_least.least more))
   rest-least spot n e more d (Some b) is edge cost sum is_least =
@@ -73,7 +74,8 @@ module _ (v : LegsValue) (laws : KeepsLaws v) (cells : List Cell) (are : AreCell
       let above : AtMost (plus e.cost d) (plus e.cost b) = subst (λ (c : Cost). AtMost c (plus e.cost b)) (sym sum) bound in
       ap (λ (c : Cost). Some c) (at_most-both b d below (at_most-cancel e.cost d b above))
 
-  head-last : (spot : Spot) (n : Move) → IsSpot cells t spot → last_of v (state_at spot.cell spot.room) n ≡ Some spot.cost → Head v cells t spot n []
+  head-last : (spot : Spot) (n : Move) → IsSpot cells t spot → last_of v (state_at spot.cell spot.room) n ≡ Some spot.cost
+      → Head v cells t spot n []
   head-last spot n is h =
       let parts = last-parts v (state_at spot.cell spot.room) n spot.cost h in
       let link : Link = record { from = spot.place; to = None; sid = n.sid; hops = parts.hops } in
@@ -89,14 +91,16 @@ module _ (v : LegsValue) (laws : KeepsLaws v) (cells : List Cell) (are : AreCell
       }
 
   head-edge : (spot : Spot) (n : Move) (e : Edge) (more : List Move) (d : Cost) → IsSpot cells t spot
-      → edge_of v (state_at spot.cell spot.room) n ≡ Some e → cost_of v e.to more ≡ Some d → plus e.cost d ≡ spot.cost → Head v cells t spot n more
+      → edge_of v (state_at spot.cell spot.room) n ≡ Some e → cost_of v e.to more ≡ Some d → plus e.cost d ≡ spot.cost
+      → Head v cells t spot n more
   head-edge spot n e more d is h cost sum =
       let parts = edge-parts v (state_at spot.cell spot.room) n e h in
       let there = edge-link v laws cells are spot.place spot.room spot.cell n e is.here parts in
       let link : Link = record { from = spot.place; to = Some there.0; sid = n.sid; hops = parts.leg.hops } in
       let is_link : IsLink v cells link = record { cell = spot.cell; from = is.here; leads = (parts.leg.to, there.1, parts.leg_is) } in
       let to : State = state_at (cell_at parts.leg.to n.sid) parts.room in
-      let few = behind-few n.stays (option_map v.shape spot.cell.via) (v.shape n.sid) spot.room parts.room (link-shape v laws cells link is_link) is.few
+      let few = behind-few n.stays (option_map v.shape spot.cell.via) (v.shape n.sid) spot.room parts.room
+      (link-shape v laws cells link is_link) is.few
       parts.room_is in
       let is_to : to ≡ e.to = ap (λ (x : Edge). x.to) parts.is in
       let is_cost : move_cost n.stays parts.leg.hops ≡ e.cost = ap (λ (x : Edge). x.cost) parts.is in
@@ -115,7 +119,8 @@ module _ (v : LegsValue) (laws : KeepsLaws v) (cells : List Cell) (are : AreCell
         behind = (cell_at parts.leg.to n.sid, there.1, ap (λ (x : State). cost_of v x more) is_to ∙ cost);
       }
 
-  pub head-of : (spot : Spot) (n : Move) (more : List Move) → IsSpot cells t spot → cost_of v (state_at spot.cell spot.room) (n ∷ more) ≡ Some spot.cost
+  pub head-of : (spot : Spot) (n : Move) (more : List Move) → IsSpot cells t spot
+      → cost_of v (state_at spot.cell spot.room) (n ∷ more) ≡ Some spot.cost
       → Head v cells t spot n more
   head-of spot n [] is h = head-last spot n is h
   head-of spot n (m ∷ more) is h =

@@ -1,17 +1,17 @@
 -- Where all links hold, each cost is the least of a path.
-use Rattle.std.proofs.Common.{◌≡◌, ℕ, ◌+◌, ◌*◌, ◌<◌, ◌≤◌, Bool, List, [], ◌∷◌, Option, Some, None, slice_get, Contains, refl, sym, ◌∙◌, ap, subst, arith}
+use Rattle.std.proofs.Common.{◌≡◌, ℕ, ◌<◌, List, [], ◌∷◌, Option, Some, None, slice_get, refl, ◌∙◌, subst, arith}
 use Rattle.std.specs.Option.{option_map}
 use Rattle.list_pack.specs.declared.types.Cost.{Cost}
 use Rattle.list_pack.specs.declared.types.State.{State}
 use Rattle.list_pack.specs.Value.{LegsValue, KeepsLaws}
-use Rattle.list_pack.specs.Costs.{Move, Edge, plus, nothing, move_cost, edge_of, edge_by, last_of, behind, cost_of, Under}
-use Rattle.list_pack.specs.Least.{Attains, IsLeast}
+use Rattle.list_pack.specs.Costs.{Move, Edge, plus, nothing, move_cost, edge_of, last_of, cost_of, Under}
+use Rattle.list_pack.specs.Least.{Attains}
 use Rattle.list_pack.proofs.Costing.{under-none, under-trans, under-plus, edge-parts, last-parts, EdgeParts, LastParts}
 use Rattle.list_pack.proofs.Leasts.{under-behind, under-last}
 use Rattle.list_encoder.specs.declared.cells.Cell.{Cell}
 use Rattle.list_encoder.specs.declared.table.Link.{Link}
 use Rattle.list_encoder.specs.Cells.{cell_at, state_at, AreCells}
-use Rattle.list_encoder.specs.Table.{Costs, entry, offer, IsLink, IsSound, Holds, HoldFrom, AreLeast}
+use Rattle.list_encoder.specs.Table.{Costs, entry, offer, IsLink, IsSound, HoldFrom, AreLeast}
 use Rattle.list_encoder.proofs.Celling.{place_of}
 use Rattle.list_encoder.proofs.Rooms.{behind-few}
 use Rattle.list_encoder.proofs.Tables.{link-shape, plus-nothing}
@@ -26,14 +26,16 @@ module _ (v : LegsValue) (laws : KeepsLaws v) (cells : List Cell) (are : AreCell
       (link, record { cell = cell; from = here; leads = parts.finish_is }, refl, refl, refl, parts.is)
 
   -- an edge is a link to the cell of the state that it leads to
-  pub edge-link : (k room : ℕ) (cell : Cell) (m : Move) (e : Edge) → slice_get cells k ≡ Some cell → (parts : EdgeParts v (state_at cell room) m e)
+  pub edge-link : (k room : ℕ) (cell : Cell) (m : Move) (e : Edge) → slice_get cells k ≡ Some cell
+      → (parts : EdgeParts v (state_at cell room) m e)
       → (j : ℕ) × (slice_get cells j ≡ Some (cell_at parts.leg.to m.sid))
   edge-link k room cell m e here parts =
       let leg = laws.leg cell.position cell.via m.sid parts.leg parts.leg_is in
       place_of cells (cell_at parts.leg.to m.sid) (are.each parts.leg.to m.sid leg.within leg.is_next)
 
   module _ (t : Costs) (hold : HoldFrom v cells t 0) where
-    under-end : (k room : ℕ) (cell : Cell) (m : Move) (c : Cost) → slice_get cells k ≡ Some cell → room < 8 → last_of v (state_at cell room) m ≡ Some c
+    under-end : (k room : ℕ) (cell : Cell) (m : Move) (c : Cost) → slice_get cells k ≡ Some cell → room < 8
+        → last_of v (state_at cell room) m ≡ Some c
         → Under (entry t k room) (Some c)
     under-end k room cell m c here l h =
         let parts = last-parts v (state_at cell room) m c h in
@@ -54,7 +56,8 @@ module _ (v : LegsValue) (laws : KeepsLaws v) (cells : List Cell) (are : AreCell
         let there = edge-link k room cell m e here parts in
         let link : Link = record { from = k; to = Some there.0; sid = m.sid; hops = parts.leg.hops } in
         let is : IsLink v cells link = record { cell = cell; from = here; leads = (parts.leg.to, there.1, parts.leg_is) } in
-        let few = behind-few m.stays (option_map v.shape cell.via) (v.shape m.sid) room parts.room (link-shape v laws cells link is) l parts.room_is in
+        let few = behind-few m.stays (option_map v.shape cell.via) (v.shape m.sid) room parts.room (link-shape v laws cells link is) l
+        parts.room_is in
         let first = hold link (omega arith) is cell m.stays room parts.room here l parts.room_is in
         let rest = bounds (n ∷ more) there.0 parts.room (cell_at parts.leg.to m.sid) there.1 few in
         subst (λ (x : Edge). Under (entry t k room) (option_map (plus x.cost) (cost_of v x.to (n ∷ more)))) parts.is

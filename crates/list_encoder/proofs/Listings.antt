@@ -1,8 +1,6 @@
 -- The listing of a table of least costs is one of all states.
-use Rattle.std.proofs.Common.{◌≡◌, ℕ, zero, suc, ◌+◌, ◌*◌, ◌<◌, ◌≤◌, ◌⊎◌, inl, inr, Bool, true, false, List, [], ◌∷◌, ◌++◌, length, get_or, Option, Some, None, slice_get, Contains, refl, sym, ◌∙◌, ap, subst, arith}
-use Rattle.std.specs.Prelude.{AllPairs}
-use Rattle.std.specs.Option.{option_map}
-use Rattle.std.proofs.lemmas.Bool.{cases_lt, cases_order}
+use Rattle.std.proofs.Common.{◌≡◌, ℕ, ◌+◌, ◌*◌, ◌<◌, ◌≤◌, inl, inr, true, List, [], ◌∷◌, ◌++◌, length, get_or, Option, Some, None, slice_get, Contains, refl, sym, ◌∙◌, ap, subst, arith}
+use Rattle.std.proofs.lemmas.Bool.{cases_lt}
 use Rattle.std.proofs.lemmas.Option.{none-some, slice_get_within, get_or_from_slice_get, slice_get-get_or}
 use Rattle.std.proofs.lemmas.List.Elements.{Contains-append_left, Contains-push, Contains-push_cases}
 use Rattle.std.proofs.lemmas.List.Quantifiers.{all_pairs_push}
@@ -11,16 +9,15 @@ use Rattle.list_pack.specs.declared.types.State.{State}
 use Rattle.list_pack.specs.declared.types.Potential.{Potential}
 use Rattle.list_pack.specs.Order.{lex_before}
 use Rattle.list_pack.specs.Value.{LegsValue, KeepsLaws, IsVia}
-use Rattle.list_pack.specs.Rooms.{top_room}
-use Rattle.list_pack.specs.Costs.{Move, edge_of, last_of, cost_of, Under, IsState, IsStateBy, start}
+use Rattle.list_pack.specs.Costs.{Move, edge_of, cost_of, Under, IsState, IsStateBy}
 use Rattle.list_pack.specs.Least as leasts
 use Rattle.list_pack.proofs.Costing.{edge-parts, last-parts}
 use Rattle.list_encoder.specs.declared.cells.Cell.{Cell}
-use Rattle.list_encoder.specs.Cells.{cell_at, start_cell, state_at, IsCell, IsCellBy, AreCells, top_at, top_at_by}
+use Rattle.list_encoder.specs.Cells.{cell_at, start_cell, state_at, IsCellBy, AreCells, top_at, top_at_by}
 use Rattle.list_encoder.specs.Table.{Costs, entry, AreLeast}
 use Rattle.list_encoder.specs.Listing.{IsOfPlace, IsListed, IsTop}
 use Rattle.list_encoder.proofs.Orders.{head-same, head-less}
-use Rattle.list_encoder.proofs.Celling.{some-same, place_of, contains_at, top-at-few}
+use Rattle.list_encoder.proofs.Celling.{some-same, place_of, top-at-few}
 use Rattle.list_encoder.proofs.Heading.{edge-some}
 
 pub listed-none : (v : LegsValue) (cells : List Cell) (t : Costs) → IsListed v cells t 0 []
@@ -45,7 +42,17 @@ listed-further v cells t n m ps h none so =
           ];
       only = λ q c.
           let of = so.only q c in
-          record { k = of.k; room = of.room; cell = of.cell; at = of.at; top = of.top; before = omega (arith, h, of.before); cost = of.cost; state = of.state };
+          record {
+            k = of.k;
+            room = of.room;
+            cell = of.cell;
+            at = of.at;
+            top = of.top;
+            before = omega (arith, h, of.before);
+            cost =
+                of.cost;
+            state = of.state;
+          };
       order = so.order;
     }
 
@@ -89,7 +96,11 @@ module _ (v : LegsValue) (laws : KeepsLaws v) (cells : List Cell) (are : AreCell
               | inr more ↦
                   let few = top-at-few v laws cell (are.real k cell here) in
                   let rare = top-at-few v laws other (are.real j other at) in
-                  let places : (j ≡ k) × (r ≡ room) = (omega (arith, h, more, few, rare, top, below), omega (arith, h, more, few, rare, top, below)) in
+                  let places : (j ≡ k) × (r ≡ room) = (
+                    omega (arith, h, more, few, rare, top, below),
+                    omega
+                        (arith, h, more, few, rare, top, below),
+                  ) in
                   let cells_same : cell ≡ other = some-same cell other (sym here ∙ ap (slice_get cells) (sym places.0) ∙ at) in
                   let costs : c ≡ d =
                   some-same c d (sym e ∙ ap (λ (x : ℕ). entry t x room) (sym places.0) ∙ ap (entry t j) (sym places.1) ∙ f) in
@@ -127,7 +138,8 @@ module _ (v : LegsValue) (laws : KeepsLaws v) (cells : List Cell) (are : AreCell
       same-read xs i d h = get_or_from_slice_get xs i (get_or xs i d) (get_or xs i d) (slice_get-get_or xs i d h)
 
   -- a cell without more costs
-  pub listed-cell : (k room top : ℕ) (ps : List Potential) → k < length cells → IsTop v cells k top → top + 1 ≤ room → IsListed v cells t (8 * k + room) ps
+  pub listed-cell : (k room top : ℕ) (ps : List Potential) → k < length cells → IsTop v cells k top → top + 1 ≤ room
+      → IsListed v cells t (8 * k + room) ps
       → room ≤ 8 → IsListed v cells t (8 * k + 8) ps
   listed-cell k room top ps within is_top h so l =
       listed-further v cells t (8 * k + room) (8 * k + 8) ps (omega (arith, l)) (λ j r cell c at below from to e.
@@ -170,7 +182,8 @@ module _ (v : LegsValue) (laws : KeepsLaws v) (cells : List Cell) (are : AreCell
     exact n q of =
         let few = top-at-few v laws of.cell (are.real of.k of.cell of.at) in
         let low : of.room < 8 = omega (arith, few, of.top) in
-        let is = subst (λ (o : Option Cost). leasts.IsLeast v (state_at of.cell of.room) o) of.cost (least of.k of.room of.cell of.at low) in
+        let is = subst (λ (o : Option Cost). leasts.IsLeast v (state_at of.cell of.room) o) of.cost (least of.k of.room of.cell of.at low)
+        in
         let path = is.attains in
         let state : IsState v (state_at of.cell of.room) =
         state-by of.cell.position of.cell.via of.room q.cost path.0 (are.real of.k of.cell of.at) of.top path.1 in
@@ -193,7 +206,8 @@ module _ (v : LegsValue) (laws : KeepsLaws v) (cells : List Cell) (are : AreCell
     among ps s k moves c None at top h e is so = absurd (subst (λ (q : Option Cost). Under None q) h (is.least moves))
     among ps s k moves c (Some d) at top h e is so =
         let w = slice_get_within cells k (record { position = s.position; via = s.via }) at in
-        let few = top-at-few v laws (record { position = s.position; via = s.via }) (are.real k (record { position = s.position; via = s.via }) at) in
+        let few = top-at-few v laws (record { position = s.position; via = s.via })
+        (are.real k (record { position = s.position; via = s.via }) at) in
         (d, so.all k s.room (record { position = s.position; via = s.via }) d at top (omega (arith, w, few, top)) e)
 
     pub listing : (n : ℕ) (ps : List Potential) → 8 * length cells ≤ n → IsListed v cells t n ps → leasts.IsListing v ps

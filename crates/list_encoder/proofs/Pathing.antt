@@ -1,18 +1,16 @@
 -- A first tight move, and then the first least path, is the first least path.
-use Rattle.std.proofs.Common.{◌≡◌, ℕ, zero, suc, ◌+◌, ◌*◌, ◌<◌, ◌≤◌, ◌⊎◌, inl, inr, Bool, true, false, List, [], ◌∷◌, ◌++◌, map, length, Option, Some, None, slice_get, Contains, refl, sym, ◌∙◌, ap, subst, arith, cond}
-use Rattle.std.specs.Prelude.{is_some, ◌||◌, IsTrue}
+use Rattle.std.proofs.Common.{◌≡◌, ℕ, ◌+◌, ◌<◌, inl, inr, Bool, true, false, List, [], ◌∷◌, map, Option, Some, None, slice_get, refl, sym, ◌∙◌, ap, subst, arith, cond}
+use Rattle.std.specs.Prelude.{is_some}
 use Rattle.std.specs.Option.{option_map}
-use Rattle.std.proofs.lemmas.Bool.{false≢true, true≢false, or_left, or_right, cases_Bool}
+use Rattle.std.proofs.lemmas.Bool.{or_left, or_right, cases_Bool}
 use Rattle.std.proofs.lemmas.Option.{none-some}
 use Rattle.v6_addr.specs.Address.{PrefixValue}
 use Rattle.list_pack.specs.declared.types.Cost.{Cost}
 use Rattle.list_pack.specs.declared.types.Leg.{Leg}
-use Rattle.list_pack.specs.declared.types.State.{State}
 use Rattle.list_pack.specs.declared.types.PathStep.{PathStep}
-use Rattle.list_pack.specs.Order.{lex_before}
 use Rattle.list_pack.specs.Value.{LegsValue, KeepsLaws, comes_to}
 use Rattle.list_pack.specs.Rooms.{room_behind}
-use Rattle.list_pack.specs.Costs.{Move, Edge, plus, nothing, move_cost, edge_of, edge_by, last_of, cost_of, Under}
+use Rattle.list_pack.specs.Costs.{Move, plus, nothing, move_cost, edge_by, last_of, cost_of, Under}
 use Rattle.list_pack.specs.Least.{IsFirstLeast, step_of, path_key, path_before}
 use Rattle.list_pack.proofs.Costing.{edge-made, last-made}
 use Rattle.list_pack.proofs.Leasts.{attained}
@@ -21,12 +19,12 @@ use Rattle.list_encoder.specs.declared.table.Link.{Link}
 use Rattle.list_encoder.specs.declared.picks.Pick.{Pick}
 use Rattle.list_encoder.specs.declared.picks.Spot.{Spot}
 use Rattle.list_encoder.specs.Cells.{cell_at, state_at, AreCells}
-use Rattle.list_encoder.specs.Table.{Costs, entry, rest_at, LeadsTo, IsLink, AreLeast}
-use Rattle.list_encoder.specs.Picks.{IsSpot, IsTight, IsPick, Covers, link_step, PicksFirst}
+use Rattle.list_encoder.specs.Table.{Costs, rest_at, LeadsTo, IsLink, AreLeast}
+use Rattle.list_encoder.specs.Picks.{IsSpot, IsTight, IsPick, Covers, link_step}
 use Rattle.list_encoder.proofs.Orders.{lex-itself, lex-not-both, lex-same, lex-longer, lex-after}
 use Rattle.list_encoder.proofs.Celling.{some-same}
 use Rattle.list_encoder.proofs.Tables.{plus-nothing}
-use Rattle.list_encoder.proofs.Heading.{Behind, Head, head-of}
+use Rattle.list_encoder.proofs.Heading.{Behind, head-of}
 
 -- the first three numbers of a path's key
 step_key : PathStep → List ℕ
@@ -53,7 +51,8 @@ pub not-before : (p q : PathStep) (ps qs : List PathStep) → path_before (p ∷
 not-before p q ps qs h rest =
     elim (cases_Bool (path_before (q ∷ []) (p ∷ []))) as (λ w. path_before (p ∷ ps) (q ∷ qs) ≡ false) [
       | inl less ↦
-          lex-not-both (path_key (q ∷ qs)) (path_key (p ∷ ps)) (lex-longer (path_key (q ∷ [])) (path_key (p ∷ [])) (path_key qs) (path_key ps) refl less)
+          lex-not-both (path_key (q ∷ qs)) (path_key (p ∷ ps))
+          (lex-longer (path_key (q ∷ [])) (path_key (p ∷ [])) (path_key qs) (path_key ps) refl less)
       | inr also ↦
           let e = lex-same (path_key (p ∷ [])) (path_key (q ∷ [])) h also in
           let parts = key-parts p q e in
@@ -61,7 +60,8 @@ not-before p q ps qs h rest =
     ]
 
 -- links from one cell
-same-cell : (v : LegsValue) (cells : List Cell) (a b : Link) (is_a : IsLink v cells a) (is_b : IsLink v cells b) → a.from ≡ b.from → is_a.cell ≡ is_b.cell
+same-cell : (v : LegsValue) (cells : List Cell) (a b : Link) (is_a : IsLink v cells a) (is_b : IsLink v cells b) → a.from ≡ b.from
+    → is_a.cell ≡ is_b.cell
 same-cell v cells a b is_a is_b e = some-same is_a.cell is_b.cell (sym is_a.from ∙ ap (slice_get cells) e ∙ is_b.from)
 
 comes-by : (v : LegsValue) (cells : List Cell) (cell : Cell) (sid hops : ℕ) (to : Option ℕ) → LeadsTo v cells cell sid hops to
@@ -97,10 +97,13 @@ pick_move pick sid = record { stays = pick.step.stays; sid = sid }
 -- what is behind a pick: nothing, or the first least path from there
 abbrev pub FirstBehind : LegsValue → List Cell → Pick → List Move → Option ℕ → Type 0
 FirstBehind v cells pick rest None = rest ≡ []
-FirstBehind v cells pick rest (Some j) = (cell : Cell) × (slice_get cells j ≡ Some cell) × IsFirstLeast v (state_at cell pick.room) pick.rest rest
+FirstBehind v cells pick rest (Some j) = (cell : Cell) × (slice_get cells j ≡ Some cell) × IsFirstLeast v (state_at cell pick.room)
+    pick.rest rest
 
-module _ (v : LegsValue) (laws : KeepsLaws v) (cells : List Cell) (are : AreCells v cells) (t : Costs) (least : AreLeast v cells t) (spot : Spot)
-    (is : IsSpot cells t spot) (pick : Pick) (picked : IsPick v cells t spot pick) (covers : (link : Link) → link.from ≡ spot.place → IsLink v cells link
+module _ (v : LegsValue) (laws : KeepsLaws v) (cells : List Cell) (are : AreCells v cells) (t : Costs) (least : AreLeast v cells t)
+    (spot : Spot)
+    (is : IsSpot cells t spot) (pick : Pick) (picked : IsPick v cells t spot pick)
+    (covers : (link : Link) → link.from ≡ spot.place → IsLink v cells link
     → (stays : Bool) (left : ℕ) (rest : Cost) → IsTight v t spot link stays left rest → Covers (Some pick) (link_step v link stays)) where
   pick-step : pick.step ≡ link_step v picked.link pick.step.stays
   pick-step = ap (λ (x : PrefixValue). let s : PathStep = record { stays = pick.step.stays; prefix = x } in s) picked.prefix_is
@@ -114,7 +117,8 @@ module _ (v : LegsValue) (laws : KeepsLaws v) (cells : List Cell) (are : AreCell
       (subst (λ (o : Option ℕ). LeadsTo v cells is_link.cell link.sid link.hops o) e is_link.leads)
 
   -- two tight moves of one SID leave the same room
-  lefts-same : (a : Link) (stays : Bool) (left : ℕ) (d : Cost) → a.sid ≡ picked.link.sid → stays ≡ pick.step.stays → IsTight v t spot a stays left d
+  lefts-same : (a : Link) (stays : Bool) (left : ℕ) (d : Cost) → a.sid ≡ picked.link.sid → stays ≡ pick.step.stays
+      → IsTight v t spot a stays left d
       → left ≡ pick.room
   lefts-same a stays left d sid same tight =
       some-same left pick.room (sym tight.room_is
@@ -131,7 +135,8 @@ module _ (v : LegsValue) (laws : KeepsLaws v) (cells : List Cell) (are : AreCell
   picked-cost stays same = ap (λ (b : Bool). plus (move_cost b picked.link.hops) pick.rest) same ∙ picked.tight.cost_is
 
   -- two legs of one SID from one cell
-  legs-same : (link : Link) (i j : ℕ) (a b : Cell) (is_link : IsLink v cells link) → link.from ≡ spot.place → link.to ≡ Some i → picked.link.to ≡ Some j
+  legs-same : (link : Link) (i j : ℕ) (a b : Cell) (is_link : IsLink v cells link) → link.from ≡ spot.place → link.to ≡ Some i
+      → picked.link.to ≡ Some j
       → link.sid ≡ picked.link.sid → slice_get cells i ≡ Some a → slice_get cells j ≡ Some b → (a ≡ b) × (link.hops ≡ picked.link.hops)
   legs-same link i j a b is_link from e f sid at_a at_b =
       let leads = leads-here link (Some i) is_link from e in
@@ -147,14 +152,17 @@ module _ (v : LegsValue) (laws : KeepsLaws v) (cells : List Cell) (are : AreCell
       ap (λ (l : Leg). cell_at l.to link.sid) leg ∙ ap (cell_at also.0) sid in
       (is_a ∙ places ∙ is_b, ap (λ (l : Leg). l.hops) leg)
 
-  compare-legs : (link : Link) (stays : Bool) (left : ℕ) (d : Cost) (more rest : List Move) (i j : ℕ) → link.to ≡ Some i → picked.link.to ≡ Some j
-      → link.from ≡ spot.place → IsLink v cells link → link.sid ≡ picked.link.sid → stays ≡ pick.step.stays → IsTight v t spot link stays left d
+  compare-legs : (link : Link) (stays : Bool) (left : ℕ) (d : Cost) (more rest : List Move) (i j : ℕ) → link.to ≡ Some i
+      → picked.link.to ≡ Some j
+      → link.from ≡ spot.place → IsLink v cells link → link.sid ≡ picked.link.sid → stays ≡ pick.step.stays
+      → IsTight v t spot link stays left d
       → Behind v cells left more d (Some i) → FirstBehind v cells pick rest (Some j)
       → path_before (map (step_of v) more) (map (step_of v) rest) ≡ false
   compare-legs link stays left d more rest i j e f from is_link sid same tight behind first =
       let both = legs-same link i j behind.0 first.0 is_link from e f sid behind.1 first.1 in
       let room = lefts-same link stays left d sid same tight in
-      let cost : plus (move_cost stays link.hops) d ≡ plus (move_cost stays picked.link.hops) pick.rest = tight.cost_is ∙ sym (picked-cost stays same) in
+      let cost : plus (move_cost stays link.hops) d ≡ plus (move_cost stays picked.link.hops) pick.rest = tight.cost_is
+      ∙ sym (picked-cost stays same) in
       let containers = ap (λ (x : Cost). x.containers) cost in
       let hops = ap (λ (x : Cost). x.hops) cost in
       let c : d.containers ≡ pick.rest.containers = omega (arith, containers) in
@@ -162,13 +170,17 @@ module _ (v : LegsValue) (laws : KeepsLaws v) (cells : List Cell) (are : AreCell
       let step : (x : ℕ) → Cost = λ x. record { containers = x; hops = d.hops } in
       let is_rest : d ≡ pick.rest = ap step c ∙ ap (λ (y : ℕ). record { containers = pick.rest.containers; hops = y }) h in
       let its : cost_of v (state_at first.0 pick.room) more ≡ Some pick.rest =
-      ap (λ (r : ℕ). cost_of v (state_at first.0 r) more) (sym room) ∙ ap (λ (x : Cell). cost_of v (state_at x left) more) (sym both.0) ∙ behind.2
+      ap (λ (r : ℕ). cost_of v (state_at first.0 r) more) (sym room) ∙ ap (λ (x : Cell). cost_of v (state_at x left) more) (sym both.0)
+      ∙ behind.2
       ∙ ap (λ (x : Cost). Some x) is_rest in
       first.2.first more its
 
-  compare : (link : Link) (stays : Bool) (left : ℕ) (d : Cost) (more rest : List Move) (to into : Option ℕ) → link.to ≡ to → picked.link.to ≡ into
-      → link.from ≡ spot.place → IsLink v cells link → link.sid ≡ picked.link.sid → stays ≡ pick.step.stays → IsTight v t spot link stays left d
-      → Behind v cells left more d to → FirstBehind v cells pick rest into → path_before (map (step_of v) more) (map (step_of v) rest) ≡ false
+  compare : (link : Link) (stays : Bool) (left : ℕ) (d : Cost) (more rest : List Move) (to into : Option ℕ) → link.to ≡ to
+      → picked.link.to ≡ into
+      → link.from ≡ spot.place → IsLink v cells link → link.sid ≡ picked.link.sid → stays ≡ pick.step.stays
+      → IsTight v t spot link stays left d
+      → Behind v cells left more d to → FirstBehind v cells pick rest into
+      → path_before (map (step_of v) more) (map (step_of v) rest) ≡ false
   compare link stays left d more rest None None e f from is_link sid same tight behind first =
       let none : more ≡ rest = behind ∙ sym first in
       ap (λ (ms : List Move). path_before (map (step_of v) ms) (map (step_of v) rest)) none ∙ lex-itself (path_key (map (step_of v) rest))
@@ -182,13 +194,15 @@ module _ (v : LegsValue) (laws : KeepsLaws v) (cells : List Cell) (are : AreCell
       let finish = leads-here picked.link None picked.is_link picked.from f in
       let leg = subst (λ (n : ℕ). LeadsTo v cells picked.is_link.cell n link.hops (Some i)) sid (leads-here link (Some i) is_link from e) in
       let nothing_left = end-nothing picked.link pick.step.stays pick.room pick.rest f picked.tight in
-      absurd (not-both-tight v cells laws picked.is_link.cell picked.link.sid picked.link.hops link.hops i pick.step.stays d spot.cost finish leg
+      absurd (not-both-tight v cells laws picked.is_link.cell picked.link.sid picked.link.hops link.hops i pick.step.stays d spot.cost
+      finish leg
       nothing_left (ap (λ (b : Bool). plus (move_cost b link.hops) d) (sym same) ∙ tight.cost_is))
   compare link stays left d more rest (Some i) (Some j) e f from is_link sid same tight behind first =
       compare-legs link stays left d more rest i j e f from is_link sid same tight behind first
 
   -- no path of the least cost comes before
-  first-of-all : (rest other : List Move) → FirstBehind v cells pick rest picked.link.to → cost_of v (state_at spot.cell spot.room) other ≡ Some spot.cost
+  first-of-all : (rest other : List Move) → FirstBehind v cells pick rest picked.link.to
+      → cost_of v (state_at spot.cell spot.room) other ≡ Some spot.cost
       → path_before (map (step_of v) other) (pick.step ∷ map (step_of v) rest) ≡ false
   first-of-all rest [] first h = absurd (none-some spot.cost h)
   first-of-all rest (n ∷ more) first h =
@@ -202,7 +216,8 @@ module _ (v : LegsValue) (laws : KeepsLaws v) (cells : List Cell) (are : AreCell
       let e : (v.shape head.link.sid).prefix ≡ (v.shape picked.link.sid).prefix =
       ap (λ (s : PathStep). s.prefix) (sym its) ∙ prefix ∙ picked.prefix_is in
       let sid = sids-same v laws cells head.link picked.link head.is_link picked.is_link (head.from ∙ sym picked.from) e in
-      compare head.link n.stays head.left head.rest more rest head.link.to picked.link.to refl refl head.from head.is_link sid stays head.tight
+      compare head.link n.stays head.left head.rest more rest head.link.to picked.link.to refl refl head.from head.is_link sid stays
+      head.tight
       head.behind first)
 
   cost-behind : (rest : List Move) (to : Option ℕ) → picked.link.to ≡ to → FirstBehind v cells pick rest to
@@ -232,7 +247,8 @@ module _ (v : LegsValue) (laws : KeepsLaws v) (cells : List Cell) (are : AreCell
       let there : cell_at leads.0 picked.link.sid ≡ first.0 = some-same (cell_at leads.0 picked.link.sid) first.0 (sym leads.1 ∙ first.1) in
       let behind : cost_of v (state_at (cell_at leads.0 picked.link.sid) pick.room) rest ≡ Some pick.rest =
       ap (λ (c : Cell). cost_of v (state_at c pick.room) rest) there ∙ first.2.cost in
-      attained v (state_at spot.cell spot.room) m (edge_by m pick.room leg) rest pick.rest edge behind ∙ ap (λ (c : Cost). Some c) picked.tight.cost_is
+      attained v (state_at spot.cell spot.room) m (edge_by m pick.room leg) rest pick.rest edge behind
+      ∙ ap (λ (c : Cost). Some c) picked.tight.cost_is
 
   pub first-least : (rest : List Move) → FirstBehind v cells pick rest picked.link.to
       → IsFirstLeast v (state_at spot.cell spot.room) spot.cost (pick_move pick picked.link.sid ∷ rest)
@@ -243,5 +259,6 @@ module _ (v : LegsValue) (laws : KeepsLaws v) (cells : List Cell) (are : AreCell
             subst (λ (o : Option Cost). Under o (cost_of v (state_at spot.cell spot.room) other)) is.is
             ((least spot.place spot.room spot.cell is.here is.few).least other);
         first = λ other h.
-            subst (λ (s : PathStep). path_before (map (step_of v) other) (s ∷ map (step_of v) rest) ≡ false) pick-step (first-of-all rest other first h);
+            subst (λ (s : PathStep). path_before (map (step_of v) other) (s ∷ map (step_of v) rest) ≡ false) pick-step
+            (first-of-all rest other first h);
       }

@@ -1,14 +1,13 @@
 -- The better of two picks covers what either covers.
-use Rattle.std.proofs.Common.{◌≡◌, ℕ, zero, suc, ◌+◌, ◌*◌, ◌<◌, ◌≤◌, ◌⊎◌, inl, inr, Bool, true, false, ◌&&◌, ◌==◌, List, [], ◌∷◌, length, get_or, Option, Some, None, slice_get, Contains, refl, sym, ◌∙◌, ap, subst, arith, eqb-true}
+use Rattle.std.proofs.Common.{◌≡◌, ℕ, ◌+◌, ◌*◌, ◌<◌, ◌≤◌, inl, inr, Bool, true, false, ◌==◌, List, [], ◌∷◌, length, Option, Some, None, slice_get, refl, sym, ◌∙◌, ap, subst, arith, eqb-true}
 use Rattle.std.specs.Prelude.{cond}
 use Rattle.std.specs.Option.{option_map}
-use Rattle.std.proofs.lemmas.Bool.{false≢true, true≢false, cases_lt, cases_Bool, and_parts, and_from, eq-eqb, false_from_ne_true}
+use Rattle.std.proofs.lemmas.Bool.{false≢true, cases_lt, and_parts, and_from, eq-eqb, false_from_ne_true}
 use Rattle.std.proofs.lemmas.Option.{none-some, slice_get_within}
 use Rattle.list_pack.specs.declared.types.Cost.{Cost}
 use Rattle.list_pack.specs.declared.types.Shape.{Shape}
 use Rattle.list_pack.specs.declared.types.PathStep.{PathStep}
 use Rattle.list_pack.specs.Value.{LegsValue, KeepsLaws}
-use Rattle.list_pack.specs.Order.{lex_before}
 use Rattle.list_pack.specs.Rooms.{room_behind}
 use Rattle.list_pack.specs.Costs.{plus, move_cost}
 use Rattle.list_pack.specs.Least.{path_before, path_key}
@@ -16,22 +15,25 @@ use Rattle.list_encoder.specs.declared.cells.Cell.{Cell}
 use Rattle.list_encoder.specs.declared.table.Link.{Link}
 use Rattle.list_encoder.specs.declared.picks.Pick.{Pick}
 use Rattle.list_encoder.specs.declared.picks.Spot.{Spot}
-use Rattle.list_encoder.specs.Cells.{AreCells, cell_at}
-use Rattle.list_encoder.specs.Table.{Costs, rest_at, LeadsTo, IsLink, IsLinkInto, AreInRange}
+use Rattle.list_encoder.specs.Cells.{cell_at}
+use Rattle.list_encoder.specs.Table.{Costs, rest_at, IsLink, AreInRange}
 use Rattle.list_encoder.specs.Picks.{better_of, is_sum, IsSpot, IsTight, IsPick, IsPickOrNone, Covers, link_step, CoversMoves, CoversLink, PicksMoves, PicksLink, PicksEnds, PicksLegs, PicksFirst}
 use Rattle.list_encoder.proofs.Orders.{lex-weak, lex-not-both, lex-itself}
-use Rattle.list_encoder.proofs.Celling.{some-same, place_of}
+use Rattle.list_encoder.proofs.Celling.{some-same}
 use Rattle.list_encoder.proofs.Rooms.{behind-few}
 use Rattle.list_encoder.proofs.Tables.{to-range, link-shape}
 use Rattle.list_encoder.proofs.Relaxing.{end-one, leg-one, leg-parts, no-end, end-place}
 
 -- of two picks the first in order
-better-by : (p q : Pick) (s : PathStep) (b : Bool) → path_before (q.step ∷ []) (p.step ∷ []) ≡ b → path_before (s ∷ []) (p.step ∷ []) ≡ false
+better-by : (p q : Pick) (s : PathStep) (b : Bool) → path_before (q.step ∷ []) (p.step ∷ []) ≡ b
+    → path_before (s ∷ []) (p.step ∷ []) ≡ false
     → Covers (cond b (Some q) (Some p)) s
 better-by p q s false e h = h
-better-by p q s true e h = lex-not-both (path_key (q.step ∷ [])) (path_key (s ∷ [])) (lex-weak (path_key (q.step ∷ [])) (path_key (p.step ∷ [])) (path_key (s ∷ [])) e h)
+better-by p q s true e h = lex-not-both (path_key (q.step ∷ [])) (path_key (s ∷ []))
+    (lex-weak (path_key (q.step ∷ [])) (path_key (p.step ∷ [])) (path_key (s ∷ [])) e h)
 
-better-also : (p q : Pick) (s : PathStep) (b : Bool) → path_before (q.step ∷ []) (p.step ∷ []) ≡ b → path_before (s ∷ []) (q.step ∷ []) ≡ false
+better-also : (p q : Pick) (s : PathStep) (b : Bool) → path_before (q.step ∷ []) (p.step ∷ []) ≡ b
+    → path_before (s ∷ []) (q.step ∷ []) ≡ false
     → Covers (cond b (Some q) (Some p)) s
 better-also p q s true e h = h
 better-also p q s false e h =
@@ -48,7 +50,8 @@ covers-right None b s h = h
 covers-right (Some p) None s h = absurd h
 covers-right (Some p) (Some q) s h = better-also p q s (path_before (q.step ∷ []) (p.step ∷ [])) refl h
 
-either-pick : (v : LegsValue) (cells : List Cell) (t : Costs) (spot : Spot) (p q : Pick) (b : Bool) → IsPick v cells t spot p → IsPick v cells t spot q
+either-pick : (v : LegsValue) (cells : List Cell) (t : Costs) (spot : Spot) (p q : Pick) (b : Bool) → IsPick v cells t spot p
+    → IsPick v cells t spot q
     → IsPickOrNone v cells t spot (cond b (Some q) (Some p))
 either-pick v cells t spot p q true h k = k
 either-pick v cells t spot p q false h k = h
@@ -75,14 +78,16 @@ is-sum a b c e =
     (eq-eqb (a.hops + b.hops) c.hops (ap (λ (x : Cost). x.hops) e))
 
 -- one move
-module _ (v : LegsValue) (laws : KeepsLaws v) (cells : List Cell) (t : Costs) (spot : Spot) (link : Link) (stays : Bool) (is : IsLink v cells link)
+module _ (v : LegsValue) (laws : KeepsLaws v) (cells : List Cell) (t : Costs) (spot : Spot) (link : Link) (stays : Bool)
+    (is : IsLink v cells link)
     (from : link.from ≡ spot.place) where
   pub no-room : (o : Option ℕ) → o ≡ None → o ≡ room_behind stays (option_map v.shape spot.cell.via) spot.room (v.shape link.sid)
       → PicksMoves v cells t spot link stays None
   no-room o e f =
       record { found = tt; covers = λ left rest tight. none-some left (sym e ∙ f ∙ tight.room_is) }
 
-  pub no-rest : (left : ℕ) → room_behind stays (option_map v.shape spot.cell.via) spot.room (v.shape link.sid) ≡ Some left → rest_at t link.to left ≡ None
+  pub no-rest : (left : ℕ) → room_behind stays (option_map v.shape spot.cell.via) spot.room (v.shape link.sid) ≡ Some left
+      → rest_at t link.to left ≡ None
       → PicksMoves v cells t spot link stays None
   no-rest left e f =
       record {
@@ -93,7 +98,8 @@ module _ (v : LegsValue) (laws : KeepsLaws v) (cells : List Cell) (t : Costs) (s
       }
 
   pub no-sum : (left : ℕ) (rest : Cost) → room_behind stays (option_map v.shape spot.cell.via) spot.room (v.shape link.sid) ≡ Some left
-      → rest_at t link.to left ≡ Some rest → is_sum (move_cost stays link.hops) rest spot.cost ≡ false → PicksMoves v cells t spot link stays None
+      → rest_at t link.to left ≡ Some rest → is_sum (move_cost stays link.hops) rest spot.cost ≡ false
+      → PicksMoves v cells t spot link stays None
   no-sum left rest e f h =
       record {
         found = tt;
@@ -105,7 +111,8 @@ module _ (v : LegsValue) (laws : KeepsLaws v) (cells : List Cell) (t : Costs) (s
       }
 
   pub one-pick : (pick : Pick) → pick.step ≡ link_step v link stays → pick.to ≡ link.to
-      → room_behind stays (option_map v.shape spot.cell.via) spot.room (v.shape link.sid) ≡ Some pick.room → rest_at t link.to pick.room ≡ Some pick.rest
+      → room_behind stays (option_map v.shape spot.cell.via) spot.room (v.shape link.sid) ≡ Some pick.room
+      → rest_at t link.to pick.room ≡ Some pick.rest
       → is_sum (move_cost stays link.hops) pick.rest spot.cost ≡ true → PicksMoves v cells t spot link stays (Some pick)
   one-pick pick step to e f h =
       let tight : IsTight v t spot link stays pick.room pick.rest =
@@ -126,14 +133,17 @@ module _ (v : LegsValue) (laws : KeepsLaws v) (cells : List Cell) (t : Costs) (s
             (lex-itself (path_key (link_step v link stays ∷ [])));
       }
 
-pub pick-range : (v : LegsValue) → KeepsLaws v → (cells : List Cell) (t : Costs) (spot : Spot) (link : Link) (stays : Bool) (left : ℕ) → IsLink v cells link
-    → length t ≡ 8 * length cells → spot.room < 8 → room_behind stays (option_map v.shape spot.cell.via) spot.room (v.shape link.sid) ≡ Some left
+pub pick-range : (v : LegsValue) → KeepsLaws v → (cells : List Cell) (t : Costs) (spot : Spot) (link : Link) (stays : Bool) (left : ℕ)
+    → IsLink v cells link
+    → length t ≡ 8 * length cells → spot.room < 8
+    → room_behind stays (option_map v.shape spot.cell.via) spot.room (v.shape link.sid) ≡ Some left
     → AreInRange t link.to left
 pick-range v laws cells t spot link stays left is long few e =
     to-range v laws cells t is.cell link.sid link.hops left link.to long is.leads
     (behind-few stays (option_map v.shape spot.cell.via) (v.shape link.sid) spot.room left (link-shape v laws cells link is) few e)
 
-pub both-moves : (v : LegsValue) (cells : List Cell) (t : Costs) (spot : Spot) (link : Link) (a b : Option Pick) → PicksMoves v cells t spot link true a
+pub both-moves : (v : LegsValue) (cells : List Cell) (t : Costs) (spot : Spot) (link : Link) (a b : Option Pick)
+    → PicksMoves v cells t spot link true a
     → PicksMoves v cells t spot link false b → PicksLink v cells t spot link (better_of a b)
 both-moves v cells t spot link a b h k =
     record { found = found-both v cells t spot a b h.found k.found; covers = covers }
@@ -150,25 +160,30 @@ pub link-added : (v : LegsValue) (t : Costs) (spot : Spot) (a b : Option Pick) (
     → CoversLink v t spot (better_of a b) link
 link-added v t spot a b link h stays left rest tight = covers-right a b (link_step v link stays) (h stays left rest tight)
 
-pub picks-first : (v : LegsValue) (cells : List Cell) (t : Costs) (spot : Spot) (a b : Option Pick) → PicksEnds v cells t spot a → PicksLegs v cells t spot b
+pub picks-first : (v : LegsValue) (cells : List Cell) (t : Costs) (spot : Spot) (a b : Option Pick) → PicksEnds v cells t spot a
+    → PicksLegs v cells t spot b
     → PicksFirst v cells t spot (better_of a b)
 picks-first v cells t spot a b h k =
     record { found = found-both v cells t spot a b h.found k.found; covers = λ link from is. by link from is link.to refl }
   where
-    by : (link : Link) → link.from ≡ spot.place → IsLink v cells link → (to : Option ℕ) → link.to ≡ to → CoversLink v t spot (better_of a b) link
+    by : (link : Link) → link.from ≡ spot.place → IsLink v cells link → (to : Option ℕ) → link.to ≡ to
+        → CoversLink v t spot (better_of a b) link
     by link from is None e = link-kept v t spot a b link (h.covers link from e is)
     by link from is (Some to) e = link-added v t spot a b link (k.covers link to from e is)
 
 -- the first finishes from a cell
-pub record EndsPicked (v : LegsValue) (cells : List Cell) (t : Costs) (spot : Spot) (sids : List ℕ) (count : ℕ) (best : Option Pick) : Type 0 where
+pub record EndsPicked (v : LegsValue) (cells : List Cell) (t : Costs) (spot : Spot) (sids : List ℕ) (count : ℕ) (best : Option Pick) :
+    Type 0 where
   pub found : IsPickOrNone v cells t spot best
-  pub covers : (link : Link) (i : ℕ) → link.from ≡ spot.place → link.to ≡ None → IsLink v cells link → i < count → slice_get sids i ≡ Some link.sid
+  pub covers : (link : Link) (i : ℕ) → link.from ≡ spot.place → link.to ≡ None → IsLink v cells link → i < count
+      → slice_get sids i ≡ Some link.sid
       → CoversLink v t spot best link
 
 pub ends-begin : (v : LegsValue) (cells : List Cell) (t : Costs) (spot : Spot) (sids : List ℕ) → EndsPicked v cells t spot sids 0 None
 ends-begin v cells t spot sids = record { found = tt; covers = λ link i from to is h e. absurd (omega (arith, h)) }
 
-pub ends-pass : (v : LegsValue) (cells : List Cell) (t : Costs) (spot : Spot) (sids : List ℕ) (count sid : ℕ) (best : Option Pick) → IsSpot cells t spot
+pub ends-pass : (v : LegsValue) (cells : List Cell) (t : Costs) (spot : Spot) (sids : List ℕ) (count sid : ℕ) (best : Option Pick)
+    → IsSpot cells t spot
     → slice_get sids count ≡ Some sid → v.finish spot.cell.position spot.cell.via sid ≡ None → EndsPicked v cells t spot sids count best
     → EndsPicked v cells t spot sids (count + 1) best
 ends-pass v cells t spot sids count sid best is_spot here none so =
@@ -185,7 +200,8 @@ ends-pass v cells t spot sids count sid best is_spot here none so =
           ];
     }
 
-pub ends-add : (v : LegsValue) (cells : List Cell) (t : Costs) (spot : Spot) (sids : List ℕ) (count : ℕ) (best other : Option Pick) (taken : Link)
+pub ends-add : (v : LegsValue) (cells : List Cell) (t : Costs) (spot : Spot) (sids : List ℕ) (count : ℕ) (best other : Option Pick)
+    (taken : Link)
     → IsSpot cells t spot → slice_get sids count ≡ Some taken.sid → taken.from ≡ spot.place → taken.to ≡ None
     → v.finish spot.cell.position spot.cell.via taken.sid ≡ Some taken.hops → EndsPicked v cells t spot sids count best
     → PicksLink v cells t spot taken other → EndsPicked v cells t spot sids (count + 1) (better_of best other)
@@ -204,8 +220,10 @@ ends-add v cells t spot sids count best other taken is_spot here at none finish 
           ];
     }
 
-pub ends-picked : (v : LegsValue) → KeepsLaws v → (cells : List Cell) (t : Costs) (spot : Spot) (sids : List ℕ) (steps count : ℕ) (best : Option Pick)
-    → steps ≡ v.steps → sids ≡ v.sids_at steps → length sids ≤ count → EndsPicked v cells t spot sids count best → PicksEnds v cells t spot best
+pub ends-picked : (v : LegsValue) → KeepsLaws v
+    → (cells : List Cell) (t : Costs) (spot : Spot) (sids : List ℕ) (steps count : ℕ) (best : Option Pick)
+    → steps ≡ v.steps → sids ≡ v.sids_at steps → length sids ≤ count → EndsPicked v cells t spot sids count best
+    → PicksEnds v cells t spot best
 ends-picked v laws cells t spot sids steps count best e is h so =
     record {
       found = so.found;
@@ -218,7 +236,8 @@ ends-picked v laws cells t spot sids steps count best e is h so =
 -- the legs from a cell into the first cells
 pub record LegsPicked (v : LegsValue) (cells : List Cell) (t : Costs) (spot : Spot) (count : ℕ) (best : Option Pick) : Type 0 where
   pub found : IsPickOrNone v cells t spot best
-  pub covers : (link : Link) (to : ℕ) → link.from ≡ spot.place → link.to ≡ Some to → IsLink v cells link → to < count → CoversLink v t spot best link
+  pub covers : (link : Link) (to : ℕ) → link.from ≡ spot.place → link.to ≡ Some to → IsLink v cells link → to < count
+      → CoversLink v t spot best link
 
 pub legs-begin : (v : LegsValue) (cells : List Cell) (t : Costs) (spot : Spot) → LegsPicked v cells t spot 0 None
 legs-begin v cells t spot = record { found = tt; covers = λ link to from e is h. absurd (omega (arith, h)) }
@@ -238,7 +257,8 @@ legs-pass v cells t spot count best none so =
           ];
     }
 
-pub legs-add : (v : LegsValue) (cells : List Cell) (t : Costs) (spot : Spot) (count : ℕ) (best other : Option Pick) (taken : Link) → IsLink v cells taken
+pub legs-add : (v : LegsValue) (cells : List Cell) (t : Costs) (spot : Spot) (count : ℕ) (best other : Option Pick) (taken : Link)
+    → IsLink v cells taken
     → taken.from ≡ spot.place → taken.to ≡ Some count → LegsPicked v cells t spot count best → PicksLink v cells t spot taken other
     → LegsPicked v cells t spot (count + 1) (better_of best other)
 legs-add v cells t spot count best other taken is_taken at into so picks =
@@ -270,4 +290,5 @@ pub room-at : (v : LegsValue) (stays : Bool) (from : Option Shape) (next : Shape
     → from ≡ option_map v.shape via → next ≡ v.shape sid → o ≡ room_behind stays from room next → o ≡ p
     → room_behind stays (option_map v.shape via) room (v.shape sid) ≡ p
 room-at v stays from next via sid room o p e f h k =
-    sym (h ∙ ap (λ (s : Option Shape). room_behind stays s room next) e ∙ ap (λ (s : Shape). room_behind stays (option_map v.shape via) room s) f) ∙ k
+    sym (h ∙ ap (λ (s : Option Shape). room_behind stays s room next) e
+    ∙ ap (λ (s : Shape). room_behind stays (option_map v.shape via) room s) f) ∙ k

@@ -1,8 +1,8 @@
 -- Lowering by a link room by room, by the finishes and by the legs of a cell, and by all links within a position.
-use Rattle.std.proofs.Common.{◌≡◌, ℕ, zero, suc, ◌+◌, ◌-◌, ◌*◌, ◌<◌, ◌≤◌, ◌⊎◌, inl, inr, Bool, true, false, ◌||◌, List, [], ◌∷◌, ◌++◌, take, length, get_or, Option, Some, None, slice_get, Contains, refl, sym, ◌∙◌, ap, subst, arith}
+use Rattle.std.proofs.Common.{◌≡◌, ℕ, ◌+◌, ◌*◌, ◌<◌, ◌≤◌, inl, inr, Bool, true, false, ◌||◌, List, [], ◌∷◌, ◌++◌, length, Option, Some, None, slice_get, Contains, refl, sym, ◌∙◌, ap, subst, arith}
 use Rattle.std.specs.Prelude.{nat_lt, MatchBool}
 use Rattle.std.specs.Option.{option_map}
-use Rattle.std.proofs.lemmas.Bool.{false≢true, true≢false, cases_lt, lt-ltb, le-ltb, or_parts}
+use Rattle.std.proofs.lemmas.Bool.{cases_lt, lt-ltb, le-ltb}
 use Rattle.std.proofs.lemmas.List.Elements.{Contains-append_left, Contains-push, Contains-push_cases}
 use Rattle.std.proofs.lemmas.Option.{none-some, slice_get_within}
 use Rattle.list_pack.specs.declared.types.Cost.{Cost}
@@ -10,14 +10,14 @@ use Rattle.list_pack.specs.declared.types.Leg.{Leg}
 use Rattle.list_pack.specs.declared.types.Shape.{Shape}
 use Rattle.list_pack.specs.Value.{LegsValue, KeepsLaws}
 use Rattle.list_pack.specs.Rooms.{room_behind}
-use Rattle.list_pack.specs.Costs.{plus, nothing, move_cost, Under}
-use Rattle.list_pack.proofs.Costing.{under-none, under-itself, under-trans, under-plus}
+use Rattle.list_pack.specs.Costs.{nothing, move_cost, Under}
+use Rattle.list_pack.proofs.Costing.{under-itself, under-trans, under-plus}
 use Rattle.list_encoder.specs.declared.cells.Cell.{Cell}
 use Rattle.list_encoder.specs.declared.table.Link.{Link}
-use Rattle.list_encoder.specs.Cells.{cell_at, state_at, IsCell, AreCells}
-use Rattle.list_encoder.specs.Table.{Costs, at, entry, rest_at, offer, LeadsTo, IsLink, IsSound, total, Passed, LinkHolds, Holds, RoomHolds, RoomRelaxed, Relaxed, LeavesRoom, IsShapeOf, EndsHold, EndsRelaxed, IsLinkInto, LegsHold, Keeps, LegsRelaxed, AreLinks, Gathers, Rounded, Settled, IsOnward}
+use Rattle.list_encoder.specs.Cells.{cell_at}
+use Rattle.list_encoder.specs.Table.{Costs, at, entry, rest_at, offer, LeadsTo, IsLink, IsSound, Passed, LinkHolds, Holds, RoomHolds, RoomRelaxed, Relaxed, LeavesRoom, IsShapeOf, EndsHold, EndsRelaxed, LegsHold, Keeps, LegsRelaxed, AreLinks, Gathers}
 use Rattle.list_encoder.proofs.Celling.{some-same, place_of}
-use Rattle.list_encoder.proofs.Tables.{kept-passed, passed-then, passed-wider}
+use Rattle.list_encoder.proofs.Tables.{kept-passed, passed-then}
 
 -- what is left behind a link falls where the table does
 pub rest-falls : (before after : Costs) (to : Option ℕ) (left : ℕ) → ((i : ℕ) → Under (at after i) (at before i))
@@ -41,7 +41,8 @@ relaxing-none v cells link t sound =
     record { sound = sound; passed = kept-passed (link.from + 1) t; holds = λ cell stays r left e h f. absurd (omega (arith, h)) }
 
 -- what holds of a room holds where its room is known
-room-holds : (o : Option Cost) (stays : Bool) (link : Link) (t : Costs) (p : Option ℕ) (left : ℕ) → p ≡ Some left → RoomHolds o stays link t p
+room-holds : (o : Option Cost) (stays : Bool) (link : Link) (t : Costs) (p : Option ℕ) (left : ℕ) → p ≡ Some left
+    → RoomHolds o stays link t p
     → Under o (offer stays link.hops (rest_at t link.to left))
 room-holds o stays link t p left e h = subst (λ (q : Option ℕ). RoomHolds o stays link t q) e h
 
@@ -57,13 +58,16 @@ module _ (v : LegsValue) (cells : List Cell) (link : Link) (t0 t t1 t2 : Costs) 
       → Under (entry t2 link.from room) (offer stays link.hops (rest_at t0 link.to left))
   here-holds cell true left e h =
       let now = room-holds (entry t1 link.from room) true link t p left (is_p cell e ∙ h) stayed.holds in
-      under-trans (entry t2 link.from room) (entry t1 link.from room) (offer true link.hops (rest_at t0 link.to left)) (opened.passed.falls _)
-      (under-trans (entry t1 link.from room) (offer true link.hops (rest_at t link.to left)) (offer true link.hops (rest_at t0 link.to left)) now
+      under-trans (entry t2 link.from room) (entry t1 link.from room) (offer true link.hops (rest_at t0 link.to left))
+      (opened.passed.falls _)
+      (under-trans (entry t1 link.from room) (offer true link.hops (rest_at t link.to left))
+      (offer true link.hops (rest_at t0 link.to left)) now
       (offer-falls true link.hops (rest_at t link.to left) (rest_at t0 link.to left) (rest-falls t0 t link.to left begun.passed.falls)))
   here-holds cell false left e h =
       let now = room-holds (entry t2 link.from room) false link t1 q left (is_q cell e ∙ h) opened.holds in
       let first = passed-then (link.from + 1) t0 t t1 changed x begun.passed stayed.passed in
-      under-trans (entry t2 link.from room) (offer false link.hops (rest_at t1 link.to left)) (offer false link.hops (rest_at t0 link.to left)) now
+      under-trans (entry t2 link.from room) (offer false link.hops (rest_at t1 link.to left))
+      (offer false link.hops (rest_at t0 link.to left)) now
       (offer-falls false link.hops (rest_at t1 link.to left) (rest_at t0 link.to left) (rest-falls t0 t1 link.to left first.falls))
 
   pub relaxing-more : Relaxing v cells link t0 t2 (room + 1) (changed || (x || y))
@@ -74,7 +78,8 @@ module _ (v : LegsValue) (cells : List Cell) (link : Link) (t0 t t1 t2 : Costs) 
         holds = λ cell stays r left e h f.
             elim (cases_lt r room) as (λ w. Under (entry t2 link.from r) (offer stays link.hops (rest_at t0 link.to left))) [
               | inl less ↦
-                  under-trans (entry t2 link.from r) (entry t link.from r) (offer stays link.hops (rest_at t0 link.to left)) (both-passed.falls _)
+                  under-trans (entry t2 link.from r) (entry t link.from r) (offer stays link.hops (rest_at t0 link.to left))
+                  (both-passed.falls _)
                   (begun.holds cell stays r left e less f)
               | inr more ↦
                   let same : r ≡ room = omega (arith, h, more) in
@@ -86,7 +91,8 @@ module _ (v : LegsValue) (cells : List Cell) (link : Link) (t0 t t1 t2 : Costs) 
       }
 
 pub leaves : (v : LegsValue) (cells : List Cell) (link : Link) (stays : Bool) (room : ℕ) (from : Option Shape) (next : Shape) (p : Option ℕ)
-    → IsShapeOf v cells link.from from → next ≡ v.shape link.sid → p ≡ room_behind stays from room next → LeavesRoom v cells link stays room p
+    → IsShapeOf v cells link.from from → next ≡ v.shape link.sid → p ≡ room_behind stays from room next
+    → LeavesRoom v cells link stays room p
 leaves v cells link stays room from next p is_from is_next e cell here =
     e ∙ ap (λ (s : Option Shape). room_behind stays s room next) (is_from cell here)
     ∙ ap (λ (s : Shape). room_behind stays (option_map v.shape cell.via) room s) is_next
@@ -101,16 +107,19 @@ relaxed-all v cells link before after room changed h r =
     }
 
 -- what holds of a link between two tables holds in a later one that leaves what is behind the link as it was
-pub holds-later : (v : LegsValue) (cells : List Cell) (link : Link) (a b c : Costs) → LinkHolds v cells link a b → ((i : ℕ) → Under (at c i) (at b i))
+pub holds-later : (v : LegsValue) (cells : List Cell) (link : Link) (a b c : Costs) → LinkHolds v cells link a b
+    → ((i : ℕ) → Under (at c i) (at b i))
     → ((left : ℕ) → rest_at c link.to left ≡ rest_at a link.to left) → Holds v cells c link
 holds-later v cells link a b c h falls same cell stays room left e l r =
-    under-trans (entry c link.from room) (entry b link.from room) (offer stays link.hops (rest_at c link.to left)) (falls (8 * link.from + room))
+    under-trans (entry c link.from room) (entry b link.from room) (offer stays link.hops (rest_at c link.to left))
+    (falls (8 * link.from + room))
     (subst (λ (o : Option Cost). Under (entry b link.from room) (offer stays link.hops o)) (sym (same left)) (h cell stays room left e l r))
 
 pub rest-end : (a b : Costs) (to : Option ℕ) (left : ℕ) → to ≡ None → rest_at b to left ≡ rest_at a to left
 rest-end a b to left e = ap (λ (o : Option ℕ). rest_at b o left) e ∙ sym (ap (λ (o : Option ℕ). rest_at a o left) e)
 
-pub rest-far : (later : ℕ) (a b : Costs) (to : Option ℕ) (j left : ℕ) → ((i : ℕ) → 8 * later ≤ i → at b i ≡ at a i) → to ≡ Some j → later ≤ j
+pub rest-far : (later : ℕ) (a b : Costs) (to : Option ℕ) (j left : ℕ) → ((i : ℕ) → 8 * later ≤ i → at b i ≡ at a i) → to ≡ Some j
+    → later ≤ j
     → rest_at b to left ≡ rest_at a to left
 rest-far later a b to j left above e h =
     ap (λ (o : Option ℕ). rest_at b o left) e ∙ above (8 * j + left) (omega (arith, h)) ∙ sym (ap (λ (o : Option ℕ). rest_at a o left) e)
@@ -123,7 +132,8 @@ link-same a b e f g h =
     ∙ ap (λ (x : ℕ). let l : Link = record { from = b.from; to = b.to; sid = b.sid; hops = x } in l) h
 
 -- a finish is one, and so is a leg into a cell
-pub end-one : (v : LegsValue) (cells : List Cell) (a b : Link) (cell : Cell) → slice_get cells a.from ≡ Some cell → v.finish cell.position cell.via a.sid ≡ Some a.hops
+pub end-one : (v : LegsValue) (cells : List Cell) (a b : Link) (cell : Cell) → slice_get cells a.from ≡ Some cell
+    → v.finish cell.position cell.via a.sid ≡ Some a.hops
     → a.to ≡ None → b.from ≡ a.from → b.to ≡ None → b.sid ≡ a.sid → IsLink v cells b → a ≡ b
 end-one v cells a b cell here is to from to_b sid is_b =
     let same : is_b.cell ≡ cell = some-same is_b.cell cell (sym is_b.from ∙ ap (slice_get cells) from ∙ here) in
@@ -135,16 +145,19 @@ end-one v cells a b cell here is to from to_b sid is_b =
     let hops : a.hops ≡ b.hops = some-same a.hops b.hops (sym is ∙ there) in
     link-same a b (sym from) (to ∙ sym to_b) (sym sid) hops
 
-pub leg-parts : (v : LegsValue) (cells : List Cell) (b : Link) (to : ℕ) → b.to ≡ Some to → (is : IsLink v cells b) → LeadsTo v cells is.cell b.sid b.hops (Some to)
+pub leg-parts : (v : LegsValue) (cells : List Cell) (b : Link) (to : ℕ) → b.to ≡ Some to → (is : IsLink v cells b)
+    → LeadsTo v cells is.cell b.sid b.hops (Some to)
 leg-parts v cells b to e is = subst (λ (o : Option ℕ). LeadsTo v cells is.cell b.sid b.hops o) e is.leads
 
-pub leg-one : (v : LegsValue) (cells : List Cell) (a b : Link) (to : ℕ) → a.to ≡ Some to → b.from ≡ a.from → b.to ≡ Some to → IsLink v cells a → IsLink v cells b
+pub leg-one : (v : LegsValue) (cells : List Cell) (a b : Link) (to : ℕ) → a.to ≡ Some to → b.from ≡ a.from → b.to ≡ Some to
+    → IsLink v cells a → IsLink v cells b
     → a ≡ b
 leg-one v cells a b to to_a from to_b is_a is_b =
     let leads = leg-parts v cells a to to_a is_a in
     let also = leg-parts v cells b to to_b is_b in
     let cell : is_a.cell ≡ is_b.cell = some-same is_a.cell is_b.cell (sym is_a.from ∙ ap (slice_get cells) (sym from) ∙ is_b.from) in
-    let at : cell_at leads.0 a.sid ≡ cell_at also.0 b.sid = some-same (cell_at leads.0 a.sid) (cell_at also.0 b.sid) (sym leads.1 ∙ also.1) in
+    let at : cell_at leads.0 a.sid ≡ cell_at also.0 b.sid = some-same (cell_at leads.0 a.sid) (cell_at also.0 b.sid)
+    (sym leads.1 ∙ also.1) in
     let sid : a.sid ≡ b.sid = some-same a.sid b.sid (ap (λ (c : Cell). c.via) at) in
     let first : Leg = record { to = leads.0; hops = a.hops } in
     let second : Leg = record { to = also.0; hops = b.hops } in
@@ -154,7 +167,8 @@ leg-one v cells a b to to_a from to_b is_a is_b =
     link-same a b (sym from) (to_a ∙ sym to_b) sid hops
 
 -- without a finish there is no link to the end
-pub no-end : (v : LegsValue) (cells : List Cell) (link : Link) (k : ℕ) (cell : Cell) → slice_get cells k ≡ Some cell → link.from ≡ k → link.to ≡ None
+pub no-end : (v : LegsValue) (cells : List Cell) (link : Link) (k : ℕ) (cell : Cell) → slice_get cells k ≡ Some cell → link.from ≡ k
+    → link.to ≡ None
     → IsLink v cells link → v.finish cell.position cell.via link.sid ≡ None → ⊥
 no-end v cells link k cell here f to is none =
     let is_cell : is.cell ≡ cell = some-same is.cell cell (sym is.from ∙ ap (slice_get cells) f ∙ here) in
@@ -163,7 +177,8 @@ no-end v cells link k cell here f to is none =
     none-some link.hops (sym none ∙ ap (λ (c : Cell). v.finish c.position c.via link.sid) (sym is_cell) ∙ leads)
 
 -- each finish is to a SID of the last position
-pub end-place : (v : LegsValue) → KeepsLaws v → (cells : List Cell) (link : Link) (sids : List ℕ) (steps : ℕ) → steps ≡ v.steps → sids ≡ v.sids_at steps
+pub end-place : (v : LegsValue) → KeepsLaws v → (cells : List Cell) (link : Link) (sids : List ℕ) (steps : ℕ) → steps ≡ v.steps
+    → sids ≡ v.sids_at steps
     → link.to ≡ None → IsLink v cells link → (i : ℕ) × (slice_get sids i ≡ Some link.sid)
 end-place v laws cells link sids steps e is to is_link =
     let leads : v.finish is_link.cell.position is_link.cell.via link.sid ≡ Some link.hops =
@@ -172,13 +187,15 @@ end-place v laws cells link sids steps e is to is_link =
     place_of sids link.sid (subst (λ (xs : List ℕ). Contains xs link.sid) (sym (is ∙ ap v.sids_at e)) last)
 
 -- the first finishes from a cell
-pub record EndsSoFar (v : LegsValue) (cells : List Cell) (k : ℕ) (before after : Costs) (sids : List ℕ) (count : ℕ) (changed : Bool) : Type 0 where
+pub record EndsSoFar (v : LegsValue) (cells : List Cell) (k : ℕ) (before after : Costs) (sids : List ℕ) (count : ℕ) (changed : Bool) :
+    Type 0 where
   pub sound : IsSound v cells after
   pub passed : Passed (k + 1) before after changed
   pub holds : (link : Link) (i : ℕ) → link.from ≡ k → link.to ≡ None → IsLink v cells link → i < count → slice_get sids i ≡ Some link.sid
       → Holds v cells after link
 
-pub ends-none : (v : LegsValue) (cells : List Cell) (k : ℕ) (t : Costs) (sids : List ℕ) → IsSound v cells t → EndsSoFar v cells k t t sids 0 false
+pub ends-none : (v : LegsValue) (cells : List Cell) (k : ℕ) (t : Costs) (sids : List ℕ) → IsSound v cells t
+    → EndsSoFar v cells k t t sids 0 false
 ends-none v cells k t sids sound =
     record { sound = sound; passed = kept-passed (k + 1) t; holds = λ link i f to is h e. absurd (omega (arith, h)) }
 
@@ -199,9 +216,11 @@ ends-skip v cells k t0 t sids count sid changed cell here at none so =
           ];
     }
 
-pub ends-more : (v : LegsValue) (cells : List Cell) (k : ℕ) (t0 t t1 : Costs) (sids : List ℕ) (count : ℕ) (changed x : Bool) (cell : Cell) (taken : Link)
+pub ends-more : (v : LegsValue) (cells : List Cell) (k : ℕ) (t0 t t1 : Costs) (sids : List ℕ) (count : ℕ) (changed x : Bool) (cell : Cell)
+    (taken : Link)
     → slice_get cells k ≡ Some cell → slice_get sids count ≡ Some taken.sid → taken.from ≡ k → taken.to ≡ None
-    → v.finish cell.position cell.via taken.sid ≡ Some taken.hops → EndsSoFar v cells k t0 t sids count changed → Relaxed v cells taken t t1 x
+    → v.finish cell.position cell.via taken.sid ≡ Some taken.hops → EndsSoFar v cells k t0 t sids count changed
+    → Relaxed v cells taken t t1 x
     → EndsSoFar v cells k t0 t1 sids (count + 1) (changed || x)
 ends-more v cells k t0 t t1 sids count changed x cell taken here there from none finish so relaxed =
     let passed : Passed (k + 1) t t1 x = subst (λ (n : ℕ). Passed (n + 1) t t1 x) from relaxed.passed in
@@ -210,19 +229,22 @@ ends-more v cells k t0 t t1 sids count changed x cell taken here there from none
       passed = passed-then (k + 1) t0 t t1 changed x so.passed passed;
       holds = λ link i f to is h e.
           elim (cases_lt i count) as (λ w. Holds v cells t1 link) [
-            | inl less ↦ holds-later v cells link t t t1 (so.holds link i f to is less e) passed.falls (λ left. rest-end t t1 link.to left to)
+            | inl less ↦ holds-later v cells link t t t1 (so.holds link i f to is less e) passed.falls
+                (λ left. rest-end t t1 link.to left to)
             | inr more ↦
                 let same : i ≡ count = omega (arith, h, more) in
                 let is_sid : link.sid ≡ taken.sid = some-same link.sid taken.sid (sym e ∙ ap (slice_get sids) same ∙ there) in
                 let it : taken ≡ link =
                 end-one v cells taken link cell (ap (slice_get cells) from ∙ here) finish none (f ∙ sym from) to is_sid is in
-                holds-later v cells link t t1 t1 (subst (λ (l : Link). LinkHolds v cells l t t1) it relaxed.holds) (λ j. under-itself (at t1 j))
+                holds-later v cells link t t1 t1 (subst (λ (l : Link). LinkHolds v cells l t t1) it relaxed.holds)
+                (λ j. under-itself (at t1 j))
                 (λ left. rest-end t t1 link.to left to)
           ];
     }
 
 -- the legs from a cell into the first cells
-pub record LegsSoFar (v : LegsValue) (cells : List Cell) (k first later end : ℕ) (before after : Costs) (listed links : List Link) (changed : Bool)
+pub record LegsSoFar (v : LegsValue) (cells : List Cell) (k first later end : ℕ) (before after : Costs) (listed links : List Link)
+    (changed : Bool)
     : Type 0 where
   pub sound : IsSound v cells after
   pub passed : Passed (k + 1) before after changed
@@ -230,7 +252,8 @@ pub record LegsSoFar (v : LegsValue) (cells : List Cell) (k first later end : �
   pub keeps : Keeps listed links
   pub are : AreLinks v cells later links
 
-pub legs-none : (v : LegsValue) (cells : List Cell) (k first later : ℕ) (t : Costs) (links : List Link) → IsSound v cells t → AreLinks v cells later links
+pub legs-none : (v : LegsValue) (cells : List Cell) (k first later : ℕ) (t : Costs) (links : List Link) → IsSound v cells t
+    → AreLinks v cells later links
     → LegsSoFar v cells k first later first t t links links false
 legs-none v cells k first later t links sound are =
     record {
@@ -256,7 +279,8 @@ at-far P Q to later h m = subst (λ (b : Bool). MatchBool b P Q) (le-ltb to late
 -- what is known of a leg stays so in a later table, with more links listed
 pub leg-stays : (v : LegsValue) (cells : List Cell) (k later to : ℕ) (t t1 : Costs) (links more : List Link) (link : Link) → k < later
     → ((i : ℕ) → Under (at t1 i) (at t i)) → ((i : ℕ) → 8 * later ≤ i → at t1 i ≡ at t i) → Keeps links more → link.to ≡ Some to
-    → MatchBool (nat_lt to later) (Contains links link) (Holds v cells t link) → MatchBool (nat_lt to later) (Contains more link) (Holds v cells t1 link)
+    → MatchBool (nat_lt to later) (Contains links link) (Holds v cells t link)
+    → MatchBool (nat_lt to later) (Contains more link) (Holds v cells t1 link)
 leg-stays v cells k later to t t1 links more link within falls above keeps e m =
     elim (cases_lt to later) as (λ w. MatchBool (nat_lt to later) (Contains more link) (Holds v cells t1 link)) [
       | inl near ↦
@@ -268,7 +292,8 @@ leg-stays v cells k later to t t1 links more link within falls above keeps e m =
           (λ left. rest-far later t t1 link.to to left above e far))
     ]
 
-module _ (v : LegsValue) (cells : List Cell) (k first later end : ℕ) (t0 t : Costs) (listed links : List Link) (changed : Bool) (within : k < later)
+module _ (v : LegsValue) (cells : List Cell) (k first later end : ℕ) (t0 t : Costs) (listed links : List Link) (changed : Bool)
+    (within : k < later)
     (so : LegsSoFar v cells k first later end t0 t listed links changed) where
   pub legs-skip : ((link : Link) → link.from ≡ k → link.to ≡ Some end → ¬ IsLink v cells link)
       → LegsSoFar v cells k first later (end + 1) t0 t listed links changed
@@ -299,7 +324,8 @@ module _ (v : LegsValue) (cells : List Cell) (k first later end : ℕ) (t0 t : C
         holds = λ link j f e h l is.
             elim (cases_lt j end) as (λ w. MatchBool (nat_lt j later) (Contains more link) (Holds v cells t link)) [
               | inl less ↦
-                  leg-stays v cells k later j t t links more link within (λ i. under-itself (at t i)) (λ i x. refl) keeps e (so.holds link j f e h less is)
+                  leg-stays v cells k later j t t links more link within (λ i. under-itself (at t i)) (λ i x. refl) keeps e
+                  (so.holds link j f e h less is)
               | inr above ↦
                   let same : end ≡ j = omega (arith, l, above) in
                   let it : taken ≡ link =
@@ -334,14 +360,16 @@ module _ (v : LegsValue) (cells : List Cell) (k first later end : ℕ) (t0 t : C
                   leg-one v cells taken link j (to ∙ ap (λ (n : ℕ). Some n) same) (f ∙ sym from) e is_taken is in
                   let beyond : later ≤ j = omega (arith, far, same) in
                   far-at (Contains links link) (Holds v cells t1 link) j later beyond
-                  (holds-later v cells link t t1 t1 (subst (λ (y : Link). LinkHolds v cells y t t1) it relaxed.holds) (λ i. under-itself (at t1 i))
+                  (holds-later v cells link t t1 t1 (subst (λ (y : Link). LinkHolds v cells y t t1) it relaxed.holds)
+                  (λ i. under-itself (at t1 i))
                   (λ left. rest-far later t t1 link.to j left above e beyond))
             ];
         keeps = so.keeps;
         are = so.are;
       }
 
-pub legs-all : (v : LegsValue) (cells : List Cell) (k first later end : ℕ) (t0 t : Costs) (listed links : List Link) (changed : Bool) → length cells ≤ end
+pub legs-all : (v : LegsValue) (cells : List Cell) (k first later end : ℕ) (t0 t : Costs) (listed links : List Link) (changed : Bool)
+    → length cells ≤ end
     → LegsSoFar v cells k first later end t0 t listed links changed → LegsRelaxed v cells k first later t0 t listed links changed
 legs-all v cells k first later end t0 t listed links changed h so =
     record {
@@ -361,7 +389,8 @@ pub record GatheredSoFar (v : LegsValue) (cells : List Cell) (first later k : �
   pub legs : (j : ℕ) → first ≤ j → j < k → LegsHold v cells j first later (length cells) after links
   pub are : AreLinks v cells later links
 
-pub gathered-none : (v : LegsValue) (cells : List Cell) (first later : ℕ) (t : Costs) → IsSound v cells t → GatheredSoFar v cells first later first t t []
+pub gathered-none : (v : LegsValue) (cells : List Cell) (first later : ℕ) (t : Costs) → IsSound v cells t
+    → GatheredSoFar v cells first later first t t []
 gathered-none v cells first later t sound =
     record {
       sound = sound;
@@ -372,8 +401,10 @@ gathered-none v cells first later t sound =
       are = λ link c. absurd (omega (arith, c.1));
     }
 
-module _ (v : LegsValue) (cells : List Cell) (first later k : ℕ) (t0 t t1 t2 : Costs) (links more : List Link) (x y : Bool) (within : k < later)
-    (so : GatheredSoFar v cells first later k t0 t links) (ended : EndsRelaxed v cells k t t1 x) (led : LegsRelaxed v cells k first later t1 t2 links more y) where
+module _ (v : LegsValue) (cells : List Cell) (first later k : ℕ) (t0 t t1 t2 : Costs) (links more : List Link) (x y : Bool)
+    (within : k < later)
+    (so : GatheredSoFar v cells first later k t0 t links) (ended : EndsRelaxed v cells k t t1 x)
+    (led : LegsRelaxed v cells k first later t1 t2 links more y) where
   pub gathered-more : GatheredSoFar v cells first later (k + 1) t0 t2 more
   gathered-more =
       let passed = passed-then (k + 1) t t1 t2 x y ended.passed led.passed in
@@ -384,15 +415,18 @@ module _ (v : LegsValue) (cells : List Cell) (first later k : ℕ) (t0 t t1 t2 :
         above = λ i h. above i h ∙ so.above i h;
         ends = λ j h l link f e is.
             elim (cases_lt j k) as (λ w. Holds v cells t2 link) [
-              | inl less ↦ holds-later v cells link t t t2 (so.ends j h less link f e is) passed.falls (λ left. rest-end t t2 link.to left e)
+              | inl less ↦ holds-later v cells link t t t2 (so.ends j h less link f e is) passed.falls
+                  (λ left. rest-end t t2 link.to left e)
               | inr over ↦
                   let same : j ≡ k = omega (arith, l, over) in
-                  holds-later v cells link t1 t1 t2 (ended.holds link (f ∙ same) e is) led.passed.falls (λ left. rest-end t1 t2 link.to left e)
+                  holds-later v cells link t1 t1 t2 (ended.holds link (f ∙ same) e is) led.passed.falls
+                  (λ left. rest-end t1 t2 link.to left e)
             ];
         legs = λ j h l link to f e g m is.
             elim (cases_lt j k) as (λ w. MatchBool (nat_lt to later) (Contains more link) (Holds v cells t2 link)) [
               | inl less ↦
-                  leg-stays v cells k later to t t2 links more link within passed.falls above led.keeps e (so.legs j h less link to f e g m is)
+                  leg-stays v cells k later to t t2 links more link within passed.falls above led.keeps e
+                  (so.legs j h less link to f e g m is)
               | inr over ↦
                   let same : j ≡ k = omega (arith, l, over) in
                   led.holds link to (f ∙ same) e g m is
@@ -412,7 +446,8 @@ gathered-all v cells first later k t0 t links h so =
       are = so.are;
     }
 
-pub ends-all : (v : LegsValue) → KeepsLaws v → (cells : List Cell) (k : ℕ) (t0 t : Costs) (sids : List ℕ) (steps count : ℕ) (changed : Bool) → steps ≡ v.steps
+pub ends-all : (v : LegsValue) → KeepsLaws v
+    → (cells : List Cell) (k : ℕ) (t0 t : Costs) (sids : List ℕ) (steps count : ℕ) (changed : Bool) → steps ≡ v.steps
     → sids ≡ v.sids_at steps → length sids ≤ count → EndsSoFar v cells k t0 t sids count changed → EndsRelaxed v cells k t0 t changed
 ends-all v laws cells k t0 t sids steps count changed e is h so =
     record {

@@ -1,25 +1,25 @@
 -- Rounds until nothing changes, and positions from the last to the first.
-use Rattle.std.proofs.Common.{◌≡◌, ℕ, zero, suc, ◌+◌, ◌-◌, ◌*◌, ◌<◌, ◌≤◌, ◌⊎◌, inl, inr, Bool, true, false, ◌||◌, List, [], ◌∷◌, ◌++◌, take, length, get_or, replicate, Option, Some, None, slice_get, Contains, refl, sym, ◌∙◌, ap, subst, arith}
-use Rattle.std.specs.Prelude.{nat_lt, MatchBool}
+use Rattle.std.proofs.Common.{◌≡◌, ℕ, zero, suc, ◌+◌, ◌*◌, ◌<◌, ◌≤◌, inl, inr, Bool, false, ◌||◌, List, length, get_or, replicate, Option, Some, None, slice_get, Contains, refl, sym, ◌∙◌, ap, subst, arith}
 use Rattle.std.specs.Option.{option_map}
-use Rattle.std.proofs.lemmas.Bool.{false≢true, true≢false, cases_lt, or_parts}
+use Rattle.std.proofs.lemmas.Bool.{cases_lt, or_parts}
 use Rattle.std.proofs.lemmas.Option.{none-some, slice_get-get_or, slice_get_within}
 use Rattle.std.proofs.lemmas.List.{length-replicate}
 use Rattle.list_pack.specs.declared.types.Cost.{Cost}
 use Rattle.list_pack.specs.declared.types.Shape.{Shape}
 use Rattle.list_pack.specs.Value.{LegsValue, KeepsLaws}
 use Rattle.list_pack.specs.Costs.{Under}
-use Rattle.list_pack.proofs.Costing.{under-itself, under-trans}
+use Rattle.list_pack.proofs.Costing.{under-trans}
 use Rattle.list_encoder.specs.declared.cells.Cell.{Cell}
 use Rattle.list_encoder.specs.declared.table.Link.{Link}
-use Rattle.list_encoder.specs.Cells.{cell_at, IsCell, IsCellBy, AreCells, IsFirst}
-use Rattle.list_encoder.specs.Table.{Costs, at, entry, rest_at, offer, LeadsTo, IsLink, IsSound, total, Passed, LinkHolds, Holds, Relaxed, EndsHold, LegsHold, Keeps, AreLinks, Gathers, Rounded, Settled, IsOnward, HoldFrom, IsShapeOf}
+use Rattle.list_encoder.specs.Cells.{cell_at, IsCellBy, AreCells, IsFirst}
+use Rattle.list_encoder.specs.Table.{Costs, at, entry, rest_at, offer, LeadsTo, IsLink, IsSound, Passed, LinkHolds, Holds, Relaxed, AreLinks, Gathers, Rounded, Settled, IsOnward, HoldFrom, IsShapeOf}
 use Rattle.list_encoder.proofs.Celling.{some-same, place_of, contains_at, cell-read}
 use Rattle.list_encoder.proofs.Tables.{kept-passed, passed-then, passed-wider}
-use Rattle.list_encoder.proofs.Relaxing.{holds-later, rest-end, rest-far, leg-stays, at-near, at-far}
+use Rattle.list_encoder.proofs.Relaxing.{holds-later, rest-end, leg-stays, at-near, at-far}
 
 -- the first links of a list
-pub record RoundSoFar (v : LegsValue) (cells : List Cell) (later : ℕ) (links : List Link) (count : ℕ) (before after : Costs) (changed : Bool) : Type 0 where
+pub record RoundSoFar (v : LegsValue) (cells : List Cell) (later : ℕ) (links : List Link) (count : ℕ) (before after : Costs)
+    (changed : Bool) : Type 0 where
   pub sound : IsSound v cells after
   pub passed : Passed later before after changed
   pub hold : changed ≡ false → (link : Link) (i : ℕ) → i < count → slice_get links i ≡ Some link → Holds v cells after link
@@ -29,8 +29,10 @@ pub round-none : (v : LegsValue) (cells : List Cell) (later : ℕ) (links : List
 round-none v cells later links t sound =
     record { sound = sound; passed = kept-passed later t; hold = λ e link i h f. absurd (omega (arith, h)) }
 
-pub round-more : (v : LegsValue) (cells : List Cell) (later : ℕ) (links : List Link) (count : ℕ) (t0 t t1 : Costs) (changed x : Bool) (taken : Link)
-    → slice_get links count ≡ Some taken → taken.from < later → RoundSoFar v cells later links count t0 t changed → Relaxed v cells taken t t1 x
+pub round-more : (v : LegsValue) (cells : List Cell) (later : ℕ) (links : List Link) (count : ℕ) (t0 t t1 : Costs) (changed x : Bool)
+    (taken : Link)
+    → slice_get links count ≡ Some taken → taken.from < later → RoundSoFar v cells later links count t0 t changed
+    → Relaxed v cells taken t t1 x
     → RoundSoFar v cells later links (count + 1) t0 t1 (changed || x)
 round-more v cells later links count t0 t t1 changed x taken here from so relaxed =
     let passed = passed-wider (taken.from + 1) later t t1 x (omega (arith, from)) relaxed.passed in
@@ -45,11 +47,13 @@ round-more v cells later links count t0 t t1 changed x taken here from so relaxe
             | inr more ↦
                 let found : i ≡ count = omega (arith, h, more) in
                 let it : taken ≡ link = some-same taken link (sym here ∙ ap (slice_get links) (sym found) ∙ f) in
-                subst (λ (s : Costs). LinkHolds v cells link s t1) (sym same) (subst (λ (l : Link). LinkHolds v cells l t t1) it relaxed.holds)
+                subst (λ (s : Costs). LinkHolds v cells link s t1) (sym same)
+                (subst (λ (l : Link). LinkHolds v cells l t t1) it relaxed.holds)
           ];
     }
 
-pub round-all : (v : LegsValue) (cells : List Cell) (later : ℕ) (links : List Link) (count : ℕ) (t0 t : Costs) (changed : Bool) → length links ≤ count
+pub round-all : (v : LegsValue) (cells : List Cell) (later : ℕ) (links : List Link) (count : ℕ) (t0 t : Costs) (changed : Bool)
+    → length links ≤ count
     → RoundSoFar v cells later links count t0 t changed → Rounded v cells later links t0 t changed
 round-all v cells later links count t0 t changed h so =
     record {
@@ -69,14 +73,16 @@ gathers-round v cells first later t0 t t1 links x g r =
       sound = r.sound;
       falls = λ i. under-trans (at t1 i) (at t i) (at t0 i) (r.passed.falls i) (g.falls i);
       above = λ i h. r.passed.later i h ∙ g.above i h;
-      ends = λ k h l link f e is. holds-later v cells link t t t1 (g.ends k h l link f e is) r.passed.falls (λ left. rest-end t t1 link.to left e);
+      ends = λ k h l link f e is. holds-later v cells link t t t1 (g.ends k h l link f e is) r.passed.falls
+          (λ left. rest-end t t1 link.to left e);
       legs = λ k h l link to f e m n is.
           leg-stays v cells k later to t t1 links links link l r.passed.falls r.passed.later (λ y c. c) e (g.legs k h l link to f e m n is);
       are = g.are;
     }
 
 -- where a round changed nothing, the links of a position hold
-link-settles : (v : LegsValue) (cells : List Cell) (first later : ℕ) (t0 t t1 : Costs) (links : List Link) → Gathers v cells first later t0 t1 links
+link-settles : (v : LegsValue) (cells : List Cell) (first later : ℕ) (t0 t t1 : Costs) (links : List Link)
+    → Gathers v cells first later t0 t1 links
     → Rounded v cells later links t t1 false → (link : Link) → first ≤ link.from → link.from < later → IsLink v cells link
     → (to : Option ℕ) → link.to ≡ to → IsOnward first to → Holds v cells t1 link
 link-settles v cells first later t0 t t1 links g r link h l is None e on = g.ends link.from h l link refl e is
@@ -89,7 +95,8 @@ link-settles v cells first later t0 t t1 links g r link h l is (Some to) e on =
       | inr far ↦ at-far (Contains links link) (Holds v cells t1 link) to later far known
     ]
 
-pub settles : (v : LegsValue) (cells : List Cell) (first later : ℕ) (t0 t t1 : Costs) (links : List Link) → Gathers v cells first later t0 t links
+pub settles : (v : LegsValue) (cells : List Cell) (first later : ℕ) (t0 t t1 : Costs) (links : List Link)
+    → Gathers v cells first later t0 t links
     → Rounded v cells later links t t1 false → Settled v cells first later t0 t1
 settles v cells first later t0 t t1 links g r =
     let done = gathers-round v cells first later t0 t t1 links false g r in
@@ -100,7 +107,8 @@ settles v cells first later t0 t t1 links g r =
     }
 
 -- links lead to their own position or a later one
-onward-by : (v : LegsValue) → KeepsLaws v → (cells : List Cell) (position first : ℕ) → IsFirst cells position first → (cell : Cell) → position ≤ cell.position
+onward-by : (v : LegsValue) → KeepsLaws v → (cells : List Cell) (position first : ℕ) → IsFirst cells position first → (cell : Cell)
+    → position ≤ cell.position
     → (sid hops : ℕ) (to : Option ℕ) → LeadsTo v cells cell sid hops to → IsOnward first to
 onward-by v laws cells position first is cell h sid hops None leads = tt
 onward-by v laws cells position first is cell h sid hops (Some to) leads =
@@ -112,10 +120,12 @@ onward-by v laws cells position first is cell h sid hops (Some to) leads =
       | inr more ↦ more
     ]
 
-pub onward : (v : LegsValue) → KeepsLaws v → (cells : List Cell) (position first : ℕ) → IsFirst cells position first → (link : Link) → first ≤ link.from
+pub onward : (v : LegsValue) → KeepsLaws v → (cells : List Cell) (position first : ℕ) → IsFirst cells position first → (link : Link)
+    → first ≤ link.from
     → IsLink v cells link → IsOnward first link.to
 onward v laws cells position first is link h is_link =
-    onward-by v laws cells position first is is_link.cell (is.later link.from is_link.cell h is_link.from) link.sid link.hops link.to is_link.leads
+    onward-by v laws cells position first is is_link.cell (is.later link.from is_link.cell h is_link.from) link.sid link.hops link.to
+    is_link.leads
 
 -- the costs of the positions from one on are settled
 pub record Tabled (v : LegsValue) (cells : List Cell) (position later : ℕ) (t : Costs) : Type 0 where
@@ -195,11 +205,13 @@ pub link-read : (links : List Link) (k : ℕ) → k < length links
     → slice_get links k ≡ Some (get_or links k (record { from = 0; to = None; sid = 0; hops = 0 }))
 link-read links k h = slice_get-get_or links k (record { from = 0; to = None; sid = 0; hops = 0 }) h
 
-pub link-among : (links : List Link) (k : ℕ) → k < length links → Contains links (get_or links k (record { from = 0; to = None; sid = 0; hops = 0 }))
+pub link-among : (links : List Link) (k : ℕ) → k < length links
+    → Contains links (get_or links k (record { from = 0; to = None; sid = 0; hops = 0 }))
 link-among links k h = contains_at links (get_or links k (record { from = 0; to = None; sid = 0; hops = 0 })) k (link-read links k h)
 
 -- the cell that a listed link starts from
-pub from-read : (v : LegsValue) (cells : List Cell) (later : ℕ) (links : List Link) (k : ℕ) → AreLinks v cells later links → k < length links
+pub from-read : (v : LegsValue) (cells : List Cell) (later : ℕ) (links : List Link) (k : ℕ) → AreLinks v cells later links
+    → k < length links
     → (get_or links k (record { from = 0; to = None; sid = 0; hops = 0 })).from < length cells
 from-read v cells later links k are h =
     let is = (are (get_or links k (record { from = 0; to = None; sid = 0; hops = 0 })) (link-among links k h)).0 in

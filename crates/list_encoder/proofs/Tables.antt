@@ -1,24 +1,23 @@
 -- Costs of a table lowered one at a time: what stays so, and what falls.
-use Rattle.std.proofs.Common.{◌≡◌, ℕ, zero, suc, ◌+◌, ◌-◌, ◌*◌, ◌^◌, ◌<◌, ◌≤◌, ◌⊎◌, inl, inr, Bool, true, false, ◌||◌, if◌then◌else◌, List, [], ◌∷◌, length, get_or, set, Option, Some, None, slice_get, Contains, refl, sym, ◌∙◌, ap, subst, arith, get_or-set_same, get_or-set_other}
+use Rattle.std.proofs.Common.{◌≡◌, ℕ, ◌+◌, ◌*◌, ◌^◌, ◌<◌, ◌≤◌, inl, inr, Bool, true, false, ◌||◌, List, [], ◌∷◌, length, set, Option, Some, None, slice_get, refl, sym, ◌∙◌, ap, subst, arith, get_or-set_same, get_or-set_other}
 use Rattle.std.specs.Prelude.{cond, is_some}
 use Rattle.std.specs.Option.{option_map}
 use Rattle.std.proofs.lemmas.Bool.{false≢true, true≢false, cases_eq, cases_lt}
 use Rattle.std.proofs.lemmas.List.{length-set}
 use Rattle.std.proofs.lemmas.List.Sums.{sum_by-set, count_by-le-length}
-use Rattle.std.proofs.lemmas.Option.{none-some, slice_get_within}
+use Rattle.std.proofs.lemmas.Option.{slice_get_within}
 use Rattle.list_pack.specs.declared.types.Cost.{Cost}
-use Rattle.list_pack.specs.declared.types.State.{State}
 use Rattle.list_pack.specs.declared.types.Leg.{Leg}
 use Rattle.list_pack.specs.Value.{LegsValue, KeepsLaws, IsShape, IsSid}
 use Rattle.list_pack.specs.Rooms.{room_behind}
-use Rattle.list_pack.specs.Costs.{Move, Edge, AtMost, Below, plus, nothing, move_cost, Under, edge_of, edge_by, last_of, cost_of}
+use Rattle.list_pack.specs.Costs.{Move, plus, nothing, move_cost, Under, edge_by, last_of}
 use Rattle.list_pack.specs.Least.{Attains}
-use Rattle.list_pack.proofs.Costing.{under-none, under-itself, under-trans, under-plus, edge-made, last-made}
+use Rattle.list_pack.proofs.Costing.{under-itself, under-trans, edge-made, last-made}
 use Rattle.list_pack.proofs.Leasts.{attained}
 use Rattle.list_encoder.specs.declared.cells.Cell.{Cell}
 use Rattle.list_encoder.specs.declared.table.Link.{Link}
 use Rattle.list_encoder.specs.Cells.{cell_at, state_at, AreCells}
-use Rattle.list_encoder.specs.Table.{Costs, at, entry, rest_at, offer, LeadsTo, IsLink, filled, IsBounded, IsSound, Improves, IsLowered, IsKept, Lowers, rank, total, Passed, LinkHolds, RoomHolds, RoomRelaxed, Relaxed, LeavesRoom, AreInRange}
+use Rattle.list_encoder.specs.Table.{Costs, at, entry, rest_at, offer, LeadsTo, IsLink, filled, IsBounded, IsSound, Improves, IsLowered, IsKept, Lowers, rank, total, Passed, RoomHolds, RoomRelaxed, LeavesRoom, AreInRange}
 use Rattle.list_encoder.proofs.Rooms.{stay-less, open-few, behind-few}
 
 -- a cost that is below another, or of few containers and hops
@@ -114,7 +113,8 @@ passed-then cell a b c x y h k =
     both-same true y f g e = absurd (true≢false e)
     both-same false y f g e = g e ∙ f refl
 
-    either-smaller : (x y : Bool) → (x ≡ false → b ≡ a) → (y ≡ false → c ≡ b) → (x ≡ true → total b < total a) → (y ≡ true → total c < total b)
+    either-smaller : (x y : Bool) → (x ≡ false → b ≡ a) → (y ≡ false → c ≡ b) → (x ≡ true → total b < total a)
+        → (y ≡ true → total c < total b)
         → (x || y) ≡ true → total c < total a
     either-smaller false y f g l m e = subst (λ (s : Costs). total c < total s) (f refl) (m e)
     either-smaller true false f g l m e = subst (λ (s : Costs). total s < total a) (sym (g refl)) (l refl)
@@ -132,10 +132,12 @@ place-within : (k r n : ℕ) → k < n → r < 8 → 8 * k + r < 8 * n
 place-within k r n h l = omega (arith, h, l)
 
 -- a sum that stays within its bounds
-bounded-stays : (n left room hops : ℕ) (d : Cost) → IsBounded n left d → left < room → hops ≤ 1000 → IsBounded (n + 1) room (plus (move_cost true hops) d)
+bounded-stays : (n left room hops : ℕ) (d : Cost) → IsBounded n left d → left < room → hops ≤ 1000
+    → IsBounded (n + 1) room (plus (move_cost true hops) d)
 bounded-stays n left room hops d h less few = record { containers = omega (arith, h.containers); hops = omega (arith, h.hops, less, few) }
 
-bounded-opens : (n left room hops : ℕ) (d : Cost) → IsBounded n left d → left ≤ 7 → hops ≤ 1000 → IsBounded (n + 1) room (plus (move_cost false hops) d)
+bounded-opens : (n left room hops : ℕ) (d : Cost) → IsBounded n left d → left ≤ 7 → hops ≤ 1000
+    → IsBounded (n + 1) room (plus (move_cost false hops) d)
 bounded-opens n left room hops d h less few = record { containers = omega (arith, h.containers); hops = omega (arith, h.hops, less, few) }
 
 bounded-nothing : (n left : ℕ) → IsBounded n left nothing
@@ -166,7 +168,8 @@ module _ (v : LegsValue) (laws : KeepsLaws v) (cells : List Cell) where
   pub link-hops : (link : Link) → IsLink v cells link → link.hops ≤ 1000
   link-hops link is = (leads-sid is.cell link.sid link.hops link.to is.leads).1
 
-  pub to-range : (t : Costs) (cell : Cell) (sid hops left : ℕ) (to : Option ℕ) → length t ≡ 8 * length cells → LeadsTo v cells cell sid hops to → left < 8
+  pub to-range : (t : Costs) (cell : Cell) (sid hops left : ℕ) (to : Option ℕ) → length t ≡ 8 * length cells
+      → LeadsTo v cells cell sid hops to → left < 8
       → AreInRange t to left
   to-range t cell sid hops left None long h l = tt
   to-range t cell sid hops left (Some to) long h l =
@@ -184,7 +187,8 @@ module _ (v : LegsValue) (laws : KeepsLaws v) (cells : List Cell) where
       subst (λ (x : Cost). IsBounded (filled t) left x) same (bounded-nothing (filled t) left)
   rest-bounded t (Some to) left d sound h e = sound.bounded to left d h e
 
-  bounded-behind : (n left room hops : ℕ) (stays : Bool) (d : Cost) (o : Option ℕ) (link : Link) → IsLink v cells link → link.hops ≡ hops → room < 8
+  bounded-behind : (n left room hops : ℕ) (stays : Bool) (d : Cost) (o : Option ℕ) (link : Link) → IsLink v cells link → link.hops ≡ hops
+      → room < 8
       → room_behind stays (option_map v.shape o) room (v.shape link.sid) ≡ Some left → IsBounded n left d
       → IsBounded (n + 1) room (plus (move_cost stays hops) d)
   bounded-behind n left room hops true d o link is e h r b =
@@ -213,8 +217,10 @@ module _ (v : LegsValue) (laws : KeepsLaws v) (cells : List Cell) where
       (m ∷ rest.0, attained v (state_at cell room) m (edge_by m left leg) rest.0 d edge rest.1)
 
   -- one entry lowered to the cost of a path
-  module _ (t : Costs) (k room : ℕ) (cell : Cell) (c : Cost) (sound : IsSound v cells t) (here : slice_get cells k ≡ Some cell) (low : room < 8)
-      (improves : Improves (entry t k room) c) (attains : Attains v (state_at cell room) (Some c)) (bounded : IsBounded (filled t + 1) room c) where
+  module _ (t : Costs) (k room : ℕ) (cell : Cell) (c : Cost) (sound : IsSound v cells t) (here : slice_get cells k ≡ Some cell)
+      (low : room < 8)
+      (improves : Improves (entry t k room) c) (attains : Attains v (state_at cell room) (Some c))
+      (bounded : IsBounded (filled t + 1) room c) where
     set-within : 8 * k + room < length t
     set-within =
         let w : k < length cells = slice_get_within cells k cell here in
@@ -313,20 +319,23 @@ module _ (v : LegsValue) (laws : KeepsLaws v) (cells : List Cell) where
 
     sum-bounded : (rest : Cost) → rest_at t link.to left ≡ Some rest → IsBounded (filled t + 1) room (plus (move_cost stays link.hops) rest)
     sum-bounded rest e =
-        bounded-behind (filled t) left room link.hops stays rest is.cell.via link is refl low room-is (rest-bounded t link.to left rest sound left-few e)
+        bounded-behind (filled t) left room link.hops stays rest is.cell.via link is refl low room-is
+        (rest-bounded t link.to left rest sound left-few e)
 
     pub sum-few : (rest : Cost) → rest_at t link.to left ≡ Some rest
         → ((plus (move_cost stays link.hops) rest).containers < 1000000) × ((plus (move_cost stays link.hops) rest).hops < 1000000000)
     sum-few rest e = costs-few t room (plus (move_cost stays link.hops) rest) sound are.few low (sum-bounded rest e)
 
     holds-some : (after : Costs) (rest : Cost) → rest_at t link.to left ≡ Some rest
-        → Under (entry after link.from room) (Some (plus (move_cost stays link.hops) rest)) → RoomHolds (entry after link.from room) stays link t o
+        → Under (entry after link.from room) (Some (plus (move_cost stays link.hops) rest))
+        → RoomHolds (entry after link.from room) stays link t o
     holds-some after rest e h =
         subst (λ (p : Option ℕ). RoomHolds (entry after link.from room) stays link t p) (sym some)
         (subst (λ (q : Option Cost). Under (entry after link.from room) (offer stays link.hops q)) (sym e) h)
 
     lowered : (after : Costs) (rest : Cost) → rest_at t link.to left ≡ Some rest
-        → IsLowered t after (8 * link.from + room) (plus (move_cost stays link.hops) rest) → RoomRelaxed v cells link t after stays room o true
+        → IsLowered t after (8 * link.from + room) (plus (move_cost stays link.hops) rest)
+        → RoomRelaxed v cells link t after stays room o true
     lowered after rest e h =
         let c : Cost = plus (move_cost stays link.hops) rest in
         let i : ℕ = 8 * link.from + room in
@@ -336,17 +345,20 @@ module _ (v : LegsValue) (laws : KeepsLaws v) (cells : List Cell) where
         let before : i < 8 * (link.from + 1) = omega (arith, low) in
         let passed = set-passed t i c from-within h.improves (link.from + 1) before few.0 few.1 in
         let here : at (set t i (Some c)) i ≡ Some c = at-same t i (Some c) from-within in
-        let under : Under (at (set t i (Some c)) i) (Some c) = subst (λ (q : Option Cost). Under q (Some c)) (sym here) (under-itself (Some c)) in
+        let under : Under (at (set t i (Some c)) i) (Some c) = subst (λ (q : Option Cost). Under q (Some c)) (sym here)
+        (under-itself (Some c)) in
         subst (λ (x : Costs). RoomRelaxed v cells link t x stays room o true) (sym h.is)
         (record { sound = is_sound; passed = passed; holds = holds-some (set t i (Some c)) rest e under })
 
     kept : (after : Costs) (rest : Cost) → rest_at t link.to left ≡ Some rest
-        → IsKept t after (8 * link.from + room) (plus (move_cost stays link.hops) rest) → RoomRelaxed v cells link t after stays room o false
+        → IsKept t after (8 * link.from + room) (plus (move_cost stays link.hops) rest)
+        → RoomRelaxed v cells link t after stays room o false
     kept after rest e h =
         subst (λ (x : Costs). RoomRelaxed v cells link t x stays room o false) (sym h.is)
         (record { sound = sound; passed = kept-passed (link.from + 1) t; holds = holds-some t rest e h.under })
 
     pub room-relaxed : (after : Costs) (rest : Cost) (changed : Bool) → rest_at t link.to left ≡ Some rest
-        → Lowers t after (8 * link.from + room) (plus (move_cost stays link.hops) rest) changed → RoomRelaxed v cells link t after stays room o changed
+        → Lowers t after (8 * link.from + room) (plus (move_cost stays link.hops) rest) changed
+        → RoomRelaxed v cells link t after stays room o changed
     room-relaxed after rest true e h = lowered after rest e h
     room-relaxed after rest false e h = kept after rest e h

@@ -1,5 +1,5 @@
 -- The first least path, move by move.
-use Rattle.std.proofs.Common.{◌≡◌, ℕ, zero, suc, ◌+◌, ◌*◌, ◌<◌, ◌≤◌, Bool, true, false, List, [], ◌∷◌, ◌++◌, map, length, get_or, Option, Some, None, slice_get, refl, sym, ◌∙◌, ap, subst, arith, append_assoc}
+use Rattle.std.proofs.Common.{◌≡◌, ℕ, ◌+◌, ◌*◌, ◌<◌, Bool, true, false, List, [], ◌∷◌, ◌++◌, map, length, Option, Some, None, slice_get, refl, sym, ◌∙◌, ap, subst, arith, append_assoc}
 use Rattle.std.specs.Option.{option_map}
 use Rattle.std.proofs.lemmas.Option.{none-some, slice_get_within}
 use Rattle.std.proofs.lemmas.List.{map-append}
@@ -8,16 +8,14 @@ use Rattle.list_pack.specs.declared.types.Cost.{Cost}
 use Rattle.list_pack.specs.declared.types.PathStep.{PathStep}
 use Rattle.list_pack.specs.Value.{LegsValue, KeepsLaws}
 use Rattle.list_pack.specs.Rooms.{room_behind}
-use Rattle.list_pack.specs.Costs.{Move, plus, nothing, move_cost, cost_of, Under, start}
-use Rattle.list_pack.specs.Least.{Attains, IsFirstLeast, IsPath, IsPathOrNone, step_of}
+use Rattle.list_pack.specs.Costs.{Move, move_cost, cost_of}
+use Rattle.list_pack.specs.Least.{Attains, IsFirstLeast, IsPath, step_of}
 use Rattle.list_encoder.specs.declared.cells.Cell.{Cell}
-use Rattle.list_encoder.specs.declared.table.Link.{Link}
 use Rattle.list_encoder.specs.declared.picks.Pick.{Pick}
 use Rattle.list_encoder.specs.declared.picks.Spot.{Spot}
 use Rattle.list_encoder.specs.Cells.{cell_at, start_cell, state_at, AreCells}
-use Rattle.list_encoder.specs.Table.{Costs, entry, rest_at, LeadsTo, IsLink, AreLeast}
-use Rattle.list_encoder.specs.Picks.{IsSpot, IsTight, IsPick, PicksFirst}
-use Rattle.list_encoder.proofs.Celling.{some-same, cell-read}
+use Rattle.list_encoder.specs.Table.{Costs, rest_at, AreLeast}
+use Rattle.list_encoder.specs.Picks.{IsSpot, PicksFirst}
 use Rattle.list_encoder.proofs.Rooms.{behind-few, stay-less, open-few}
 use Rattle.list_encoder.proofs.Tables.{link-shape}
 use Rattle.list_encoder.proofs.Relaxing.{leg-parts}
@@ -35,7 +33,8 @@ pub record Walked (v : LegsValue) (cells : List Cell) (t : Costs) (begin : Spot)
 pub walked-none : (v : LegsValue) (cells : List Cell) (t : Costs) (spot : Spot) → IsSpot cells t spot → Walked v cells t spot [] spot
 walked-none v cells t spot is = record { is_spot = is; moves = []; are = refl; leads = λ rest h. h }
 
-module _ (v : LegsValue) (laws : KeepsLaws v) (cells : List Cell) (are : AreCells v cells) (t : Costs) (least : AreLeast v cells t) (spot : Spot)
+module _ (v : LegsValue) (laws : KeepsLaws v) (cells : List Cell) (are : AreCells v cells) (t : Costs) (least : AreLeast v cells t)
+    (spot : Spot)
     (is : IsSpot cells t spot) where
   -- from a state with a path there is a tight move
   pub walked-never : PicksFirst v cells t spot None → ⊥
@@ -69,7 +68,8 @@ module _ (v : LegsValue) (laws : KeepsLaws v) (cells : List Cell) (are : AreCell
         ∙ sym (map-append (step_of v) walked.moves (pick_move pick picks.found.link.sid ∷ []))
 
     -- the last move
-    pub walked-end : (begin : Spot) (steps : List PathStep) → Walked v cells t begin steps spot → pick.to ≡ None → begin.cell ≡ start_cell → begin.room ≡ 0
+    pub walked-end : (begin : Spot) (steps : List PathStep) → Walked v cells t begin steps spot → pick.to ≡ None → begin.cell ≡ start_cell
+        → begin.room ≡ 0
         → IsPath v (steps ++ pick.step ∷ [])
     walked-end begin steps walked to cell room =
         let none : picks.found.link.to ≡ None = sym picks.found.to_is ∙ to in
@@ -79,8 +79,10 @@ module _ (v : LegsValue) (laws : KeepsLaws v) (cells : List Cell) (are : AreCell
           moves = walked.moves ++ pick_move pick picks.found.link.sid ∷ [];
           cost = begin.cost;
           first =
-              subst (λ (r : ℕ). IsFirstLeast v (state_at start_cell r) begin.cost (walked.moves ++ pick_move pick picks.found.link.sid ∷ [])) room
-              (subst (λ (c : Cell). IsFirstLeast v (state_at c begin.room) begin.cost (walked.moves ++ pick_move pick picks.found.link.sid ∷ [])) cell whole);
+              subst (λ (r : ℕ). IsFirstLeast v (state_at start_cell r) begin.cost
+              (walked.moves ++ pick_move pick picks.found.link.sid ∷ [])) room
+              (subst (λ (c : Cell). IsFirstLeast v (state_at c begin.room) begin.cost
+              (walked.moves ++ pick_move pick picks.found.link.sid ∷ [])) cell whole);
           is_path = steps-are begin steps walked;
         }
       where
@@ -104,7 +106,8 @@ module _ (v : LegsValue) (laws : KeepsLaws v) (cells : List Cell) (are : AreCell
         let leads = leg-parts v cells picks.found.link place (sym picks.found.to_is ∙ to) picks.found.is_link in
         slice_get_within cells place (cell_at leads.0 picks.found.link.sid) leads.1
 
-    pub walked-more : (begin : Spot) (steps : List PathStep) (place : ℕ) (cell : Cell) → Walked v cells t begin steps spot → pick.to ≡ Some place
+    pub walked-more : (begin : Spot) (steps : List PathStep) (place : ℕ) (cell : Cell) → Walked v cells t begin steps spot
+        → pick.to ≡ Some place
         → slice_get cells place ≡ Some cell
         → Walked v cells t begin (steps ++ pick.step ∷ []) (record { place = place; cell = cell; room = pick.room; cost = pick.rest })
     walked-more begin steps place cell walked to here =
@@ -117,7 +120,8 @@ module _ (v : LegsValue) (laws : KeepsLaws v) (cells : List Cell) (are : AreCell
           leads = λ rest first.
               let behind : FirstBehind v cells pick rest picks.found.link.to =
               subst (λ (o : Option ℕ). FirstBehind v cells pick rest o) (sym there) (cell, here, first) in
-              let whole = walked.leads (m ∷ rest) (first-least v laws cells are t least spot is pick picks.found picks.covers rest behind) in
+              let whole = walked.leads (m ∷ rest) (first-least v laws cells are t least spot is pick picks.found picks.covers rest behind)
+              in
               subst (λ (ms : List Move). IsFirstLeast v (state_at begin.cell begin.room) begin.cost ms)
               (sym (append_assoc walked.moves (m ∷ []) rest)) whole;
         }
@@ -143,10 +147,12 @@ module _ (v : LegsValue) (laws : KeepsLaws v) (cells : List Cell) (are : AreCell
         → Walked v cells t begin steps spot → pick.to ≡ Some place → slice_get cells place ≡ Some cell
         → Walked v cells t begin after (record { place = place; cell = cell; room = pick.room; cost = pick.rest })
     walked-pushed begin steps after place cell e walked to here =
-        subst (λ (xs : List PathStep). Walked v cells t begin xs (record { place = place; cell = cell; room = pick.room; cost = pick.rest })) (sym e)
+        subst (λ (xs : List PathStep). Walked v cells t begin xs
+        (record { place = place; cell = cell; room = pick.room; cost = pick.rest })) (sym e)
         (walked-more begin steps place cell walked to here)
 
-    pub walked-ended : (begin : Spot) (steps after : List PathStep) → after ≡ steps ++ pick.step ∷ [] → Walked v cells t begin steps spot → pick.to ≡ None
+    pub walked-ended : (begin : Spot) (steps after : List PathStep) → after ≡ steps ++ pick.step ∷ [] → Walked v cells t begin steps spot
+        → pick.to ≡ None
         → begin.cell ≡ start_cell → begin.room ≡ 0 → IsPath v after
     walked-ended begin steps after e walked to cell room =
         subst (λ (xs : List PathStep). IsPath v xs) (sym e) (walked-end begin steps walked to cell room)

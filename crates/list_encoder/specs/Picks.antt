@@ -63,7 +63,8 @@ CoversMoves v t spot best link stays =
 abbrev pub CoversLink : LegsValue → Costs → Spot → Option Pick → Link → Type 0
 CoversLink v t spot best link = (stays : Bool) → CoversMoves v t spot best link stays
 
-pub record PicksMoves (v : LegsValue) (cells : List Cell) (t : Costs) (spot : Spot) (link : Link) (stays : Bool) (best : Option Pick) : Type 0 where
+pub record PicksMoves (v : LegsValue) (cells : List Cell) (t : Costs) (spot : Spot) (link : Link) (stays : Bool) (best : Option Pick) :
+    Type 0 where
   pub found : IsPickOrNone v cells t spot best
   pub covers : CoversMoves v t spot best link stays
 

@@ -2,7 +2,6 @@
 use Rattle.std.specs.Prelude.{◌≡◌, ℕ, ◌+◌, ◌*◌, ◌<◌, ◌≤◌, Bool, true, false, List, length, slice_get, slice_index_or, slice_set, nat_lt, sum_by, count_by, Option, Some, None, is_some, Contains, MatchBool}
 use Rattle.std.specs.Option.{option_map}
 use Rattle.list_pack.specs.declared.types.Cost.{Cost}
-use Rattle.list_pack.specs.declared.types.Leg.{Leg}
 use Rattle.list_pack.specs.declared.types.Shape.{Shape}
 use Rattle.list_pack.specs.Value.{LegsValue}
 use Rattle.list_pack.specs.Rooms.{room_behind}
@@ -164,7 +163,8 @@ LegsHold v cells k first later end t links =
 abbrev pub Keeps : List Link → List Link → Type 0
 Keeps before after = (link : Link) → Contains before link → Contains after link
 
-pub record LegsRelaxed (v : LegsValue) (cells : List Cell) (k first later : ℕ) (before after : Costs) (listed links : List Link) (changed : Bool)
+pub record LegsRelaxed (v : LegsValue) (cells : List Cell) (k first later : ℕ) (before after : Costs) (listed links : List Link)
+    (changed : Bool)
     : Type 0 where
   pub sound : IsSound v cells after
   pub passed : Passed (k + 1) before after changed
@@ -182,10 +182,11 @@ pub record Gathers (v : LegsValue) (cells : List Cell) (first later : ℕ) (befo
   pub are : AreLinks v cells later links
 
 -- where nothing changed, all links hold
-pub record Rounded (v : LegsValue) (cells : List Cell) (later : ℕ) (links : List Link) (before after : Costs) (changed : Bool) : Type 0 where
-  pub sound : IsSound v cells after
-  pub passed : Passed later before after changed
-  pub hold : changed ≡ false → (link : Link) → Contains links link → Holds v cells after link
+pub record Rounded (v : LegsValue) (cells : List Cell) (later : ℕ) (links : List Link) (before after : Costs) (changed : Bool) : Type 0
+  where
+    pub sound : IsSound v cells after
+    pub passed : Passed later before after changed
+    pub hold : changed ≡ false → (link : Link) → Contains links link → Holds v cells after link
 
 -- a link to the end, or to a cell from one on
 abbrev pub IsOnward : ℕ → Option ℕ → Type 0
@@ -195,4 +196,5 @@ IsOnward cell (Some to) = cell ≤ to
 pub record Settled (v : LegsValue) (cells : List Cell) (first later : ℕ) (before after : Costs) : Type 0 where
   pub sound : IsSound v cells after
   pub above : (i : ℕ) → 8 * later ≤ i → at after i ≡ at before i
-  pub holds : (link : Link) → first ≤ link.from → link.from < later → IsLink v cells link → IsOnward first link.to → Holds v cells after link
+  pub holds : (link : Link) → first ≤ link.from → link.from < later → IsLink v cells link → IsOnward first link.to
+      → Holds v cells after link

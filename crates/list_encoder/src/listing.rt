@@ -26,8 +26,10 @@ fn list_cell<L: Legs>(
     requires within { k < length cells.now }
     requires top { listings.IsTop (L.seen legs.now) cells.now k top }
     requires few { top ≤ 7 }
-    requires listed { listings.IsListed (L.seen legs.now) cells.now table.now (8 * k) potentials.old.items }
-    ensures { OnOk result (listings.IsListed (L.seen legs.now) cells.now table.now (8 * k + 8) potentials.new.items) }
+    requires listed { listings.IsListed (L.seen legs.now) cells.now table.now (8 * k)
+        potentials.old.items }
+    ensures { OnOk result (listings.IsListed (L.seen legs.now) cells.now table.now (8 * k + 8)
+        potentials.new.items) }
 {
     legs.steps();
     let cell = cells[k];

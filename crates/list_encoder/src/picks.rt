@@ -1,5 +1,5 @@
-//! The first tight move from a state: one whose cost, with what is left behind it, is what is left in
-//! front of it.
+//! The first tight move from a state: one whose cost, with what is left behind it, is what is left
+//! in front of it.
 
 ghost use Rattle.std.specs.Prelude.{◌≡◌, ◌*◌, length};
 ghost use Rattle.std.specs.Option.{option_map};

@@ -26,7 +26,8 @@ fn relax_room<L: Legs>(
     requires sound { tables.IsSound (L.seen legs.now) cells.now table.old }
     requires room { room < 8 }
     requires left { tables.LeavesRoom (L.seen legs.now) cells.now link stays room left }
-    ensures { tables.RoomRelaxed (L.seen legs.now) cells.now link table.old table.new stays room left result }
+    ensures { tables.RoomRelaxed (L.seen legs.now) cells.now link table.old table.new stays room
+        left result }
 {
     legs.steps();
     let Some(behind) = left else {
@@ -136,7 +137,8 @@ fn relax_legs<L: Legs>(
     requires from { tables.IsShapeOf (L.seen legs.now) cells.now k from.now }
     requires sound { tables.IsSound (L.seen legs.now) cells.now table.old }
     requires links { tables.AreLinks (L.seen legs.now) cells.now later links.old.items }
-    ensures { IfOk result (λ changed. tables.LegsRelaxed (L.seen legs.now) cells.now k first later table.old table.new links.old.items links.new.items changed) }
+    ensures { IfOk result (λ changed. tables.LegsRelaxed (L.seen legs.now) cells.now k first later
+        table.old table.new links.old.items links.new.items changed) }
 {
     let mut changed = false;
     for to in first..cells.len() {
@@ -166,7 +168,8 @@ fn gather<L: Legs>(
     requires first { first ≤ later }
     requires later { later ≤ length cells.now }
     requires sound { tables.IsSound (L.seen legs.now) cells.now table.old }
-    ensures { IfOk result (λ links. tables.Gathers (L.seen legs.now) cells.now first later table.old table.new links.items) }
+    ensures { IfOk result (λ links. tables.Gathers (L.seen legs.now) cells.now first later
+        table.old table.new links.items) }
 {
     let mut links = Vec::new(alloc);
     for k in first..later {
@@ -188,7 +191,8 @@ fn round<L: Legs>(
     requires cells { AreCells (L.seen legs.now) cells.now }
     requires links { tables.AreLinks (L.seen legs.now) cells.now later links.now }
     requires sound { tables.IsSound (L.seen legs.now) cells.now table.old }
-    ensures { tables.Rounded (L.seen legs.now) cells.now later links.now table.old table.new result }
+    ensures { tables.Rounded (L.seen legs.now) cells.now later links.now table.old table.new
+        result }
 {
     let mut changed = false;
     for link in links {
@@ -212,7 +216,8 @@ fn settle<L: Legs>(
     requires first { first ≤ later }
     requires later { later ≤ length cells.now }
     requires sound { tables.IsSound (L.seen legs.now) cells.now table.old }
-    ensures { OnOk result (tables.Settled (L.seen legs.now) cells.now first later table.old table.new) }
+    ensures { OnOk result (tables.Settled (L.seen legs.now) cells.now first later table.old
+        table.new) }
 {
     let links = gather(alloc, legs, cells, table, first, later)?;
     while round(legs, cells, table, links.as_slice(), later) {}

@@ -54,7 +54,8 @@ pub record EdgeParts (v : LegsValue) (s : State) (m : Move) (e : Edge) : Type 0 
   pub leg_is : v.leg s.position s.via m.sid ≡ Some leg
   pub is : edge_by m room leg ≡ e
 
-edge-in : (v : LegsValue) (s : State) (m : Move) (e : Edge) (o : Option ℕ) (l : Option Leg) → room_of v s m ≡ o → v.leg s.position s.via m.sid ≡ l
+edge-in : (v : LegsValue) (s : State) (m : Move) (e : Edge) (o : Option ℕ) (l : Option Leg) → room_of v s m ≡ o
+    → v.leg s.position s.via m.sid ≡ l
     → option_and_then (λ (room : ℕ). option_map (edge_by m room) l) o ≡ Some e → EdgeParts v s m e
 edge-in v s m e None l x y h = absurd (none-some e h)
 edge-in v s m e (Some room) None x y h = absurd (none-some e h)
@@ -79,7 +80,8 @@ pub record LastParts (v : LegsValue) (s : State) (m : Move) (c : Cost) : Type 0 
   pub finish_is : v.finish s.position s.via m.sid ≡ Some hops
   pub is : move_cost m.stays hops ≡ c
 
-last-in : (v : LegsValue) (s : State) (m : Move) (c : Cost) (o : Option ℕ) (l : Option ℕ) → room_of v s m ≡ o → v.finish s.position s.via m.sid ≡ l
+last-in : (v : LegsValue) (s : State) (m : Move) (c : Cost) (o : Option ℕ) (l : Option ℕ) → room_of v s m ≡ o
+    → v.finish s.position s.via m.sid ≡ l
     → option_and_then (λ (room : ℕ). option_map (move_cost m.stays) l) o ≡ Some c → LastParts v s m c
 last-in v s m c None l x y h = absurd (none-some c h)
 last-in v s m c (Some room) None x y h = absurd (none-some c h)
@@ -98,7 +100,8 @@ last-made v s m room hops x y =
 
 -- an edge leads from a state to a state
 room-top : (v : LegsValue) (laws : KeepsLaws v) (position : ℕ) (via : Option ℕ) (room : ℕ) (stays : Bool) (n q : ℕ) → position ≤ v.steps
-    → IsStateBy v position via room → IsSid v n → room_behind stays (option_map v.shape via) room (v.shape n) ≡ Some q → q ≤ top_room (v.shape n)
+    → IsStateBy v position via room → IsSid v n → room_behind stays (option_map v.shape via) room (v.shape n) ≡ Some q
+    → q ≤ top_room (v.shape n)
 room-top v laws position None room stays n q h is_s is_n r = begin-top stays (v.shape n) room q r
 room-top v laws position (Some k) room stays n q h is_s is_n r =
     let is_k : IsSid v k = (position, h, is_s.1) in
@@ -108,6 +111,7 @@ pub edge-state : (v : LegsValue) → KeepsLaws v → (s : State) (m : Move) (e :
 edge-state v laws s m e is_s h =
     let parts = edge-parts v s m e h in
     let leg = laws.leg s.position s.via m.sid parts.leg parts.leg_is in
-    let top = room-top v laws s.position s.via s.room m.stays m.sid parts.room leg.start is_s (parts.leg.to, leg.within, leg.is_next) parts.room_is in
+    let top = room-top v laws s.position s.via s.room m.stays m.sid parts.room leg.start is_s (parts.leg.to, leg.within, leg.is_next)
+    parts.room_is in
     let is_to : IsState v (edge_by m parts.room parts.leg).to = (leg.within, leg.is_next, leg.middle, top) in
     subst (λ (x : Edge). IsState v x.to) parts.is is_to

@@ -19,7 +19,8 @@ pub under-last : (o last : Option Cost) → ((c : Cost) → last ≡ Some c → 
 under-last o None h = under-none o
 under-last o (Some c) h = h c refl
 
-pub bounds : (v : LegsValue) (p : State → Option Cost) → KeepsLaws v → ((t : State) → IsState v t → IsGoodAt v p t) → (moves : List Move) (s : State)
+pub bounds : (v : LegsValue) (p : State → Option Cost) → KeepsLaws v → ((t : State) → IsState v t → IsGoodAt v p t)
+    → (moves : List Move) (s : State)
     → IsState v s → Under (p s) (cost_of v s moves)
 bounds v p laws good [] s is_s = under-none (p s)
 bounds v p laws good (m ∷ []) s is_s = under-last (p s) (last_of v s m) ((good s is_s).lasts m)
@@ -47,19 +48,22 @@ unlisted-none v p s moves laws good is_s e =
     none-only (cost_of v s moves) (subst (λ (o : Option Cost). Under o (cost_of v s moves)) e (bounds v p laws good moves s is_s))
 
 -- behind an edge, what a path attains is attained with the edge in front
-pub attained : (v : LegsValue) (s : State) (m : Move) (e : Edge) (moves : List Move) (d : Cost) → edge_of v s m ≡ Some e → cost_of v e.to moves ≡ Some d
+pub attained : (v : LegsValue) (s : State) (m : Move) (e : Edge) (moves : List Move) (d : Cost) → edge_of v s m ≡ Some e
+    → cost_of v e.to moves ≡ Some d
     → cost_of v s (m ∷ moves) ≡ Some (plus e.cost d)
 attained v s m e [] d h k = absurd (none-some d k)
 attained v s m e (n ∷ more) d h k =
     ap (λ (o : Option Edge). behind o (λ (t : State). cost_of v t (n ∷ more))) h ∙ ap (λ (o : Option Cost). option_map (plus e.cost) o) k
 
-pub edge-under : (v : LegsValue) (s : State) (o q : Option Cost) (m : Move) (e : Edge) → IsLeast v s o → edge_of v s m ≡ Some e → Attains v e.to q
+pub edge-under : (v : LegsValue) (s : State) (o q : Option Cost) (m : Move) (e : Edge) → IsLeast v s o → edge_of v s m ≡ Some e
+    → Attains v e.to q
     → Under o (option_map (plus e.cost) q)
 edge-under v s o None m e least h is = under-none o
 edge-under v s o (Some d) m e least h is =
     subst (λ (x : Option Cost). Under o x) (attained v s m e is.0 d h is.1) (least.least (m ∷ is.0))
 
-pub least-good : (v : LegsValue) (p : State → Option Cost) (s : State) → KeepsLaws v → ((t : State) → IsState v t → IsLeast v t (p t)) → IsState v s
+pub least-good : (v : LegsValue) (p : State → Option Cost) (s : State) → KeepsLaws v → ((t : State) → IsState v t → IsLeast v t (p t))
+    → IsState v s
     → IsGoodAt v p s
 least-good v p s laws least is_s =
     record {

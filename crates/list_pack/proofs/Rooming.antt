@@ -45,7 +45,8 @@ next-fits lbl a b la lb room e f one h k = omega arith
 abbrev IsKind : Shape → Csid → Type 0
 IsKind s c = s.csid ≡ c
 
-stay-next : (s next : Shape) (room : ℕ) → IsShape s → IsShape next → (same_block s.block next.block ≡ true → ShareBlock s next) → s.csid ≡ Next
+stay-next : (s next : Shape) (room : ℕ) → IsShape s → IsShape next → (same_block s.block next.block ≡ true → ShareBlock s next)
+    → s.csid ≡ Next
     → room ≤ top_room_by Next s → same_block s.block next.block ≡ true → units_of next ≤ room → (c : Csid) → next.csid ≡ c
     → kept_room c (room - units_of next) ≤ top_room_by c next
 stay-next s next room is_s is_n share e h b u Plain k = omega arith
@@ -104,7 +105,8 @@ opens-top s next zero q Replace r =
 opens-top s next (suc room) q Replace r = some-full next q r
 
 -- behind a next SID there is at most the most room that there may be behind it
-pub behind-top : (stays : Bool) (s next : Shape) (room q : ℕ) → IsShape s → IsShape next → (same_block s.block next.block ≡ true → ShareBlock s next)
+pub behind-top : (stays : Bool) (s next : Shape) (room q : ℕ) → IsShape s → IsShape next
+    → (same_block s.block next.block ≡ true → ShareBlock s next)
     → room ≤ top_room s → room_behind stays (Some s) room next ≡ Some q → q ≤ top_room next
 behind-top true s next room q is_s is_n share h r = stays-top s next room q is_s is_n share s.csid refl h r
 behind-top false s next room q is_s is_n share h r = opens-top s next room q s.csid r

@@ -36,8 +36,8 @@ pub fn move_cost(stays: bool, hops: u32) -> Cost
     }
 }
 
-/// Whether a step comes before another in the order of paths: the lower prefix value first, then the
-/// lower length, then staying in the container before a new one. (own rule)
+/// Whether a step comes before another in the order of paths: the lower prefix value first, then
+/// the lower length, then staying in the container before a new one. (own rule)
 pub fn step_before(a: &PathStep, b: &PathStep) -> bool
     ensures { result ≡ path_before (a.now ∷ []) (b.now ∷ []) }
 {

@@ -26,3 +26,6 @@ pub use laws::{
 pub use legs::Legs;
 pub use rooms::{full_room, room_behind, top_room};
 pub use types::{Cost, Leg, PathStep, Potential, Shape, Solution, State};
+
+#[cfg(test)]
+mod tests;

@@ -37,8 +37,8 @@ pub fn full_room(shape: &Shape) -> u8
     }
 }
 
-// the room behind a SID that opens a REPLACE container (RFC 9800 section 4.2): the CSIDs that follow
-// its own
+// the room behind a SID that opens a REPLACE container (RFC 9800 section 4.2): the CSIDs that
+// follow its own
 fn packed_room(shape: &Shape) -> u8
     requires { IsShape shape.now }
     ensures { result ≡ packed_room shape.now }
@@ -108,10 +108,10 @@ fn new_room(from: &Shape, room: u8, next: &Shape) -> Option<u8>
 
 /// The room behind the next SID, which stays in the container of the SID before it or opens a new
 /// one; none where it can't stand so. Behind a NEXT SID the next one stays where it is of the same
-/// block and its 16-bit units are within the room, behind a REPLACE SID where it is of the same block
-/// and room is left. A new container is a REPLACE container behind a REPLACE SID without room, and
-/// the next SID is then of the same block; else it is a full one, also from the start, where no SID
-/// was executed (RFC 9800 section 4, and own rule).
+/// block and its 16-bit units are within the room, behind a REPLACE SID where it is of the same
+/// block and room is left. A new container is a REPLACE container behind a REPLACE SID without room,
+/// and the next SID is then of the same block; else it is a full one, also from the start, where no
+/// SID was executed (RFC 9800 section 4, and own rule).
 pub fn room_behind(stays: bool, from: &Option<Shape>, room: u8, next: &Shape) -> Option<u8>
     requires { IsShape next.now }
     ensures { result ≡ room_behind stays from.now room next.now }

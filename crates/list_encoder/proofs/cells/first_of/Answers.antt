@@ -9,7 +9,8 @@ returns-then-cell-position g c =
 
 pub loop-k-preserved : goal.loop-k-preserved
 loop-k-preserved g c =
-    first-more c.args.cells.now c.args.position c.loop-k.k _ (cell-read c.args.cells.now c.loop-k.k c.loop-k-test.true) c.if-cell-position.false
+    first-more c.args.cells.now c.args.position c.loop-k.k _ (cell-read c.args.cells.now c.loop-k.k c.loop-k-test.true)
+    c.if-cell-position.false
     c.loop-k.invariant
 
 pub returns : goal.returns

@@ -25,12 +25,14 @@ loop-room-preserved g c =
       | in_default w ↦
           subst (λ (xs : List Potential). IsListed v c.args.cells.now c.args.table.now (8 * c.args.k + c.loop-room.room + 1) xs)
           (sym (ap (λ (l : Vec Potential Global). l.items) w.potentials-is))
-          (listed-room v c.steps.ensures.laws c.args.cells.now c.requires.cells c.args.table.now c.args.k c.loop-room.room c.loop-room.potentials.items
+          (listed-room v c.steps.ensures.laws c.args.cells.now c.requires.cells c.args.table.now c.args.k c.loop-room.room
+          c.loop-room.potentials.items
           (omega (arith, c.requires.few, c.loop-room-test.true)) (sym c.entry.ensures ∙ w.in_default.is) c.loop-room.invariant)
     ])
 
 pub returns : goal.returns
 returns g c =
-    listed-cell (g.L.Legs.seen c.args.legs.now) c.steps.ensures.laws c.args.cells.now c.requires.cells c.args.table.now c.args.k c.loop-room.room
+    listed-cell (g.L.Legs.seen c.args.legs.now) c.steps.ensures.laws c.args.cells.now c.requires.cells c.args.table.now c.args.k
+    c.loop-room.room
     c.args.top c.loop-room.potentials.items c.requires.within c.requires.top c.loop-room-test.false c.loop-room.invariant
     (omega (arith, c.requires.few, c.loop-room.auto.room-end))

@@ -6,6 +6,7 @@ use Rattle.list_encoder.proofs.picks.first_tight.Goals as goal
 
 pub returns : goal.returns
 returns g c =
-    subst (λ (o : Option Pick). PicksFirst (g.L.Legs.seen c.args.legs.now) c.args.cells.now c.args.table.now c.args.spot o) (sym c.better.ensures)
+    subst (λ (o : Option Pick). PicksFirst (g.L.Legs.seen c.args.legs.now) c.args.cells.now c.args.table.now c.args.spot o)
+    (sym c.better.ensures)
     (picks-first (g.L.Legs.seen c.args.legs.now) c.args.cells.now c.args.table.now c.args.spot c.pick_end-end.result c.pick_leg-leg.result
     c.pick_end-end.ensures c.pick_leg-leg.ensures)

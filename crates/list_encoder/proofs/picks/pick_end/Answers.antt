@@ -24,5 +24,7 @@ loop-sid-preserved g c =
 
 pub returns : goal.returns
 returns g c =
-    ends-picked (g.L.Legs.seen c.args.legs.now) c.steps.ensures.laws c.args.cells.now c.args.table.now c.args.spot c.sids_at-sid-items.result.now
-    c.steps.result c.loop-sid.sid-index c.loop-sid.best c.steps.ensures.value c.sids_at-sid-items.ensures c.loop-sid-test.false c.loop-sid.invariant
+    ends-picked (g.L.Legs.seen c.args.legs.now) c.steps.ensures.laws c.args.cells.now c.args.table.now c.args.spot
+    c.sids_at-sid-items.result.now
+    c.steps.result c.loop-sid.sid-index c.loop-sid.best c.steps.ensures.value c.sids_at-sid-items.ensures c.loop-sid-test.false
+    c.loop-sid.invariant

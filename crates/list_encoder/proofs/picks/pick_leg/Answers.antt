@@ -1,4 +1,4 @@
-use Rattle.std.proofs.Common.{◌≡◌, ◌+◌, ℕ, Option, Some, None, subst, sym, ◌∙◌}
+use Rattle.std.proofs.Common.{◌≡◌, ◌+◌, Option, Some, None, subst, sym, ◌∙◌}
 use Rattle.list_encoder.specs.declared.picks.Pick.{Pick}
 use Rattle.list_encoder.specs.declared.table.Link.{Link}
 use Rattle.list_encoder.specs.Table.{IsLink, IsLinkInto}
@@ -10,12 +10,14 @@ pub loop-to-preserved : goal.loop-to-preserved
 loop-to-preserved g c =
     let v = g.L.Legs.seen c.args.legs.now in
     let Is : Option Pick → Type 0 = λ o. LegsPicked v c.args.cells.now c.args.table.now c.args.spot (c.loop-to.to + 1) o in
-    let none : c.link_into.result ≡ None → (link : Link) → link.from ≡ c.args.spot.place → link.to ≡ Some c.loop-to.to → ¬ IsLink v c.args.cells.now link =
+    let none : c.link_into.result ≡ None → (link : Link) → link.from ≡ c.args.spot.place → link.to ≡ Some c.loop-to.to
+    → ¬ IsLink v c.args.cells.now link =
     λ e. subst (λ (o : Option Link). IsLinkInto v c.args.cells.now c.args.spot.place c.loop-to.to o) e c.link_into.ensures in
     elim c.match-link_into.branch [
       | in-Some w ↦
           subst Is (sym (w.best-is ∙ w.better-best.ensures))
-          (legs-add v c.args.cells.now c.args.table.now c.args.spot c.loop-to.to c.loop-to.best w.pick_link.result w.in-Some.link w.in-Some.ensures.0
+          (legs-add v c.args.cells.now c.args.table.now c.args.spot c.loop-to.to c.loop-to.best w.pick_link.result w.in-Some.link
+          w.in-Some.ensures.0
           w.in-Some.ensures.1 w.in-Some.ensures.2 c.loop-to.invariant w.pick_link.ensures)
       | in_default w ↦
           subst Is (sym w.best-is)
@@ -24,5 +26,6 @@ loop-to-preserved g c =
 
 pub returns : goal.returns
 returns g c =
-    legs-picked (g.L.Legs.seen c.args.legs.now) c.args.cells.now c.args.table.now c.args.spot c.loop-to.to c.loop-to.best c.loop-to-test.false
+    legs-picked (g.L.Legs.seen c.args.legs.now) c.args.cells.now c.args.table.now c.args.spot c.loop-to.to c.loop-to.best
+    c.loop-to-test.false
     c.loop-to.invariant

@@ -7,11 +7,16 @@ loop-room-preserved g c =
     let v = g.L.Legs.seen c.args.legs.now in
     let changed : (c.loop-room.changed || (c.relax_room-stays.result || c.relax_room-opens.result)) ≡ c.either-changed.result =
     sym (c.either-changed.ensures ∙ ap (λ (b : Bool). c.loop-room.changed || b) c.either.ensures) in
-    subst (λ (b : Bool). Relaxing v c.args.cells.now c.args.link c.args.table.now c.relax_room-opens.new.table (c.loop-room.room + 1) b) changed
-    (relaxing-more v c.args.cells.now c.args.link c.args.table.now c.loop-room.table c.relax_room-stays.new.table c.relax_room-opens.new.table
-    c.loop-room.room c.loop-room.changed c.relax_room-stays.result c.relax_room-opens.result c.room_behind-left.result c.room_behind-full.result
+    subst (λ (b : Bool). Relaxing v c.args.cells.now c.args.link c.args.table.now c.relax_room-opens.new.table (c.loop-room.room + 1) b)
+    changed
+    (relaxing-more v c.args.cells.now c.args.link c.args.table.now c.loop-room.table c.relax_room-stays.new.table
+    c.relax_room-opens.new.table
+    c.loop-room.room c.loop-room.changed c.relax_room-stays.result c.relax_room-opens.result c.room_behind-left.result
+    c.room_behind-full.result
     c.loop-room.invariant c.relax_room-stays.ensures c.relax_room-opens.ensures
-    (leaves v c.args.cells.now c.args.link true c.loop-room.room c.args.from.now c.shape-next.result c.room_behind-left.result c.requires.from
+    (leaves v c.args.cells.now c.args.link true c.loop-room.room c.args.from.now c.shape-next.result c.room_behind-left.result
+    c.requires.from
     c.shape-next.ensures c.room_behind-left.ensures)
-    (leaves v c.args.cells.now c.args.link false c.loop-room.room c.args.from.now c.shape-next.result c.room_behind-full.result c.requires.from
+    (leaves v c.args.cells.now c.args.link false c.loop-room.room c.args.from.now c.shape-next.result c.room_behind-full.result
+    c.requires.from
     c.shape-next.ensures c.room_behind-full.ensures))

@@ -1,4 +1,4 @@
-use Rattle.std.proofs.Common.{◌+◌, ◌||◌, Bool, None, sym, ◌∙◌, refl, subst}
+use Rattle.std.proofs.Common.{◌+◌, ◌||◌, Bool, sym, ◌∙◌, refl, subst}
 use Rattle.list_encoder.specs.Table.{Costs}
 use Rattle.list_encoder.proofs.Celling.{cell-read, sid-read}
 use Rattle.list_encoder.proofs.Relaxing.{EndsSoFar, ends-skip, ends-more, ends-all}
@@ -13,7 +13,8 @@ loop-sid-preserved g c =
     let count = c.loop-sid.sid-index + 1 in
     elim c.match-finish.branch [
       | in-Some w ↦
-          subst (λ (b : Bool). EndsSoFar v c.args.cells.now c.args.k c.args.table.now c.match-finish.table c.sids_at-sid-items.result.now count b)
+          subst (λ (b : Bool). EndsSoFar v c.args.cells.now c.args.k c.args.table.now c.match-finish.table c.sids_at-sid-items.result.now
+          count b)
           (sym (w.changed-is ∙ w.either-changed.ensures))
           (subst (λ (t : Costs). EndsSoFar v c.args.cells.now c.args.k c.args.table.now t c.sids_at-sid-items.result.now count
           (c.loop-sid.changed || w.relax-lowered.result)) (sym w.table-is)
@@ -21,9 +22,11 @@ loop-sid-preserved g c =
           c.loop-sid.sid-index c.loop-sid.changed w.relax-lowered.result _ _ here sid refl refl (sym c.finish.ensures ∙ w.in-Some.is)
           c.loop-sid.invariant w.relax-lowered.ensures))
       | in_default w ↦
-          subst (λ (b : Bool). EndsSoFar v c.args.cells.now c.args.k c.args.table.now c.match-finish.table c.sids_at-sid-items.result.now count b)
+          subst (λ (b : Bool). EndsSoFar v c.args.cells.now c.args.k c.args.table.now c.match-finish.table c.sids_at-sid-items.result.now
+          count b)
           (sym w.changed-is)
-          (subst (λ (t : Costs). EndsSoFar v c.args.cells.now c.args.k c.args.table.now t c.sids_at-sid-items.result.now count c.loop-sid.changed)
+          (subst (λ (t : Costs). EndsSoFar v c.args.cells.now c.args.k c.args.table.now t c.sids_at-sid-items.result.now count
+          c.loop-sid.changed)
           (sym w.table-is)
           (ends-skip v c.args.cells.now c.args.k c.args.table.now c.loop-sid.table c.sids_at-sid-items.result.now c.loop-sid.sid-index _
           c.loop-sid.changed _ here sid (sym c.finish.ensures ∙ w.in_default.is) c.loop-sid.invariant))

@@ -1,4 +1,4 @@
-use Rattle.std.proofs.Common.{◌+◌, ◌||◌, ◌<◌, ◌≡◌, ℕ, Bool, Some, slice_get, length, sym, ◌∙◌, refl, subst, arith}
+use Rattle.std.proofs.Common.{◌+◌, Bool, sym, subst, arith}
 use Rattle.list_encoder.proofs.Celling.{cell-read}
 use Rattle.list_encoder.proofs.Settling.{RoundSoFar, round-more, round-all, link-read, link-among, from-read, shape-read}
 use Rattle.list_encoder.proofs.rounds.round.Goals as goal
@@ -33,10 +33,12 @@ loop-link-preserved g c =
     let among = c.requires.links _ (link-among c.args.links.now c.loop-link.link-index c.loop-link-test.true) in
     subst (λ (b : Bool). RoundSoFar v c.args.cells.now c.args.later c.args.links.now (c.loop-link.link-index + 1) c.args.table.now
     c.relax-lowered.new.table b) (sym c.either-changed.ensures)
-    (round-more v c.args.cells.now c.args.later c.args.links.now c.loop-link.link-index c.args.table.now c.loop-link.table c.relax-lowered.new.table
+    (round-more v c.args.cells.now c.args.later c.args.links.now c.loop-link.link-index c.args.table.now c.loop-link.table
+    c.relax-lowered.new.table
     c.loop-link.changed c.relax-lowered.result _ here among.1 c.loop-link.invariant c.relax-lowered.ensures)
 
 pub returns : goal.returns
 returns g c =
-    round-all (g.L.Legs.seen c.args.legs.now) c.args.cells.now c.args.later c.args.links.now c.loop-link.link-index c.args.table.now c.loop-link.table
+    round-all (g.L.Legs.seen c.args.legs.now) c.args.cells.now c.args.later c.args.links.now c.loop-link.link-index c.args.table.now
+    c.loop-link.table
     c.loop-link.changed c.loop-link-test.false c.loop-link.invariant

@@ -13,14 +13,17 @@ pub loop-preserved : goal.loop-preserved
 loop-preserved g c =
     gathers-round (g.L.Legs.seen c.args.legs.now) c.args.cells.now c.args.first c.args.later c.args.table.now c.loop.table c.round.new.table
     c.in_ok-links.links.items c.round.result c.loop.invariant
-    (subst (λ (xs : List Link). Rounded (g.L.Legs.seen c.args.legs.now) c.args.cells.now c.args.later xs c.loop.table c.round.new.table c.round.result)
+    (subst (λ (xs : List Link). Rounded (g.L.Legs.seen c.args.legs.now) c.args.cells.now c.args.later xs c.loop.table c.round.new.table
+    c.round.result)
     c.as_slice.ensures.value c.round.ensures)
 
 pub returns : goal.returns
 returns g c =
     settles (g.L.Legs.seen c.args.legs.now) c.args.cells.now c.args.first c.args.later c.args.table.now c.loop.table c.round.new.table
     c.in_ok-links.links.items c.loop.invariant
-    (subst (λ (b : Bool). Rounded (g.L.Legs.seen c.args.legs.now) c.args.cells.now c.args.later c.in_ok-links.links.items c.loop.table c.round.new.table b)
+    (subst (λ (b : Bool). Rounded (g.L.Legs.seen c.args.legs.now) c.args.cells.now c.args.later c.in_ok-links.links.items c.loop.table
+    c.round.new.table b)
     c.loop-test.false
-    (subst (λ (xs : List Link). Rounded (g.L.Legs.seen c.args.legs.now) c.args.cells.now c.args.later xs c.loop.table c.round.new.table c.round.result)
+    (subst (λ (xs : List Link). Rounded (g.L.Legs.seen c.args.legs.now) c.args.cells.now c.args.later xs c.loop.table c.round.new.table
+    c.round.result)
     c.as_slice.ensures.value c.round.ensures))

@@ -1,16 +1,18 @@
-use Rattle.std.proofs.Common.{◌+◌, ◌-◌, ◌≡◌, ℕ, refl, subst, arith, ap}
+use Rattle.std.proofs.Common.{◌+◌, ◌-◌, ◌≡◌, ℕ, refl, subst, arith}
 use Rattle.list_encoder.proofs.Settling.{Tabled, tabled-none, tabled-more, first-order}
 use Rattle.list_encoder.proofs.Leasting.{are-least}
 use Rattle.list_encoder.proofs.rounds.settle_all.Goals as goal
 
 pub loop-done-init : goal.loop-done-init
 loop-done-init g c =
-    tabled-none (g.L.Legs.seen c.args.legs.now) c.args.cells.now _ _ c.args.table.now c.requires.cells (omega (arith, c.steps-steps.ensures.value)) refl
+    tabled-none (g.L.Legs.seen c.args.legs.now) c.args.cells.now _ _ c.args.table.now c.requires.cells
+    (omega (arith, c.steps-steps.ensures.value)) refl
     c.requires.empty
 
 pub settle-requires-clause-first : goal.settle-requires-clause-first
 settle-requires-clause-first g c =
-    first-order c.args.cells.now (c.steps-steps.result - c.loop-done.done) (c.steps-steps.result + 1 - c.loop-done.done) c.first_of-first.result
+    first-order c.args.cells.now (c.steps-steps.result - c.loop-done.done) (c.steps-steps.result + 1 - c.loop-done.done)
+    c.first_of-first.result
     c.loop-done.later (omega arith) c.first_of-first.ensures c.loop-done.invariant.first
 
 pub loop-done-preserved : goal.loop-done-preserved
@@ -18,7 +20,8 @@ loop-done-preserved g c =
     let same : c.steps-steps.result - c.loop-done.done ≡ c.steps-steps.result + 1 - (c.loop-done.done + 1) = omega arith in
     subst (λ (p : ℕ). Tabled (g.L.Legs.seen c.args.legs.now) c.args.cells.now p c.first_of-first.result c.settle.new.table) same
     (tabled-more (g.L.Legs.seen c.args.legs.now) c.steps-steps.ensures.laws c.args.cells.now (c.steps-steps.result + 1 - c.loop-done.done)
-    (c.steps-steps.result - c.loop-done.done) c.first_of-first.result c.loop-done.later c.loop-done.table c.settle.new.table c.first_of-first.ensures
+    (c.steps-steps.result - c.loop-done.done) c.first_of-first.result c.loop-done.later c.loop-done.table c.settle.new.table
+    c.first_of-first.ensures
     c.loop-done.invariant c.in_ok-settle.ensures)
 
 pub returns : goal.returns
