@@ -1,19 +1,19 @@
 -- A least path begins with a tight move.
-use Rattle.std.proofs.Common.{◌≡◌, ℕ, zero, suc, ◌+◌, ◌*◌, ◌<◌, ◌≤◌, ◌⊎◌, inl, inr, Bool, true, false, List, [], ◌∷◌, map, length, Option, Some, None, slice_get, Contains, refl, sym, ◌∙◌, ap, subst, arith}
+use Rattle.std.proofs.Common.{◌≡◌, ℕ, ◌+◌, List, [], ◌∷◌, Option, Some, None, slice_get, refl, sym, ◌∙◌, ap, subst, arith}
 use Rattle.std.specs.Option.{option_map}
 use Rattle.std.proofs.lemmas.Option.{none-some}
 use Rattle.list_pack.specs.declared.types.Cost.{Cost}
 use Rattle.list_pack.specs.declared.types.State.{State}
 use Rattle.list_pack.specs.Value.{LegsValue, KeepsLaws}
-use Rattle.list_pack.specs.Costs.{Move, Edge, AtMost, plus, nothing, move_cost, edge_of, edge_by, last_of, behind, cost_of, Under}
-use Rattle.list_pack.specs.Least.{Attains, IsLeast}
-use Rattle.list_pack.proofs.Costing.{at_most-both, edge-parts, last-parts, EdgeParts, LastParts}
+use Rattle.list_pack.specs.Costs.{Move, Edge, AtMost, plus, nothing, move_cost, edge_of, last_of, behind, cost_of, Under}
+use Rattle.list_pack.specs.Least.{IsLeast}
+use Rattle.list_pack.proofs.Costing.{at_most-both, edge-parts, last-parts}
 use Rattle.list_pack.proofs.Leasts.{attained}
 use Rattle.list_encoder.specs.declared.cells.Cell.{Cell}
 use Rattle.list_encoder.specs.declared.table.Link.{Link}
 use Rattle.list_encoder.specs.declared.picks.Spot.{Spot}
 use Rattle.list_encoder.specs.Cells.{cell_at, state_at, AreCells}
-use Rattle.list_encoder.specs.Table.{Costs, entry, rest_at, LeadsTo, IsLink, AreLeast}
+use Rattle.list_encoder.specs.Table.{Costs, entry, IsLink, AreLeast}
 use Rattle.list_encoder.specs.Picks.{IsSpot, IsTight}
 use Rattle.list_encoder.proofs.Celling.{some-same}
 use Rattle.list_encoder.proofs.Rooms.{behind-few}

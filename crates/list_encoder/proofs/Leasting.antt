@@ -1,17 +1,17 @@
 -- Where all links hold, each cost is the least of a path.
-use Rattle.std.proofs.Common.{◌≡◌, ℕ, ◌+◌, ◌*◌, ◌<◌, ◌≤◌, Bool, List, [], ◌∷◌, Option, Some, None, slice_get, Contains, refl, sym, ◌∙◌, ap, subst, arith}
+use Rattle.std.proofs.Common.{◌≡◌, ℕ, ◌<◌, List, [], ◌∷◌, Option, Some, None, slice_get, refl, ◌∙◌, subst, arith}
 use Rattle.std.specs.Option.{option_map}
 use Rattle.list_pack.specs.declared.types.Cost.{Cost}
 use Rattle.list_pack.specs.declared.types.State.{State}
 use Rattle.list_pack.specs.Value.{LegsValue, KeepsLaws}
-use Rattle.list_pack.specs.Costs.{Move, Edge, plus, nothing, move_cost, edge_of, edge_by, last_of, behind, cost_of, Under}
-use Rattle.list_pack.specs.Least.{Attains, IsLeast}
+use Rattle.list_pack.specs.Costs.{Move, Edge, plus, nothing, move_cost, edge_of, last_of, cost_of, Under}
+use Rattle.list_pack.specs.Least.{Attains}
 use Rattle.list_pack.proofs.Costing.{under-none, under-trans, under-plus, edge-parts, last-parts, EdgeParts, LastParts}
 use Rattle.list_pack.proofs.Leasts.{under-behind, under-last}
 use Rattle.list_encoder.specs.declared.cells.Cell.{Cell}
 use Rattle.list_encoder.specs.declared.table.Link.{Link}
 use Rattle.list_encoder.specs.Cells.{cell_at, state_at, AreCells}
-use Rattle.list_encoder.specs.Table.{Costs, entry, offer, IsLink, IsSound, Holds, HoldFrom, AreLeast}
+use Rattle.list_encoder.specs.Table.{Costs, entry, offer, IsLink, IsSound, HoldFrom, AreLeast}
 use Rattle.list_encoder.proofs.Celling.{place_of}
 use Rattle.list_encoder.proofs.Rooms.{behind-few}
 use Rattle.list_encoder.proofs.Tables.{link-shape, plus-nothing}

@@ -10,3 +10,4 @@ pub mod Heading
 pub mod Pathing
 pub mod Walking
 pub mod Listings
+pub mod GridLaws

@@ -1,8 +1,6 @@
 -- The listing of a table of least costs is one of all states.
-use Rattle.std.proofs.Common.{◌≡◌, ℕ, zero, suc, ◌+◌, ◌*◌, ◌<◌, ◌≤◌, ◌⊎◌, inl, inr, Bool, true, false, List, [], ◌∷◌, ◌++◌, length, get_or, Option, Some, None, slice_get, Contains, refl, sym, ◌∙◌, ap, subst, arith}
-use Rattle.std.specs.Prelude.{AllPairs}
-use Rattle.std.specs.Option.{option_map}
-use Rattle.std.proofs.lemmas.Bool.{cases_lt, cases_order}
+use Rattle.std.proofs.Common.{◌≡◌, ℕ, ◌+◌, ◌*◌, ◌<◌, ◌≤◌, inl, inr, true, List, [], ◌∷◌, ◌++◌, length, get_or, Option, Some, None, slice_get, Contains, refl, sym, ◌∙◌, ap, subst, arith}
+use Rattle.std.proofs.lemmas.Bool.{cases_lt}
 use Rattle.std.proofs.lemmas.Option.{none-some, slice_get_within, get_or_from_slice_get, slice_get-get_or}
 use Rattle.std.proofs.lemmas.List.Elements.{Contains-append_left, Contains-push, Contains-push_cases}
 use Rattle.std.proofs.lemmas.List.Quantifiers.{all_pairs_push}
@@ -11,16 +9,15 @@ use Rattle.list_pack.specs.declared.types.State.{State}
 use Rattle.list_pack.specs.declared.types.Potential.{Potential}
 use Rattle.list_pack.specs.Order.{lex_before}
 use Rattle.list_pack.specs.Value.{LegsValue, KeepsLaws, IsVia}
-use Rattle.list_pack.specs.Rooms.{top_room}
-use Rattle.list_pack.specs.Costs.{Move, edge_of, last_of, cost_of, Under, IsState, IsStateBy, start}
+use Rattle.list_pack.specs.Costs.{Move, edge_of, cost_of, Under, IsState, IsStateBy}
 use Rattle.list_pack.specs.Least as leasts
 use Rattle.list_pack.proofs.Costing.{edge-parts, last-parts}
 use Rattle.list_encoder.specs.declared.cells.Cell.{Cell}
-use Rattle.list_encoder.specs.Cells.{cell_at, start_cell, state_at, IsCell, IsCellBy, AreCells, top_at, top_at_by}
+use Rattle.list_encoder.specs.Cells.{cell_at, start_cell, state_at, IsCellBy, AreCells, top_at, top_at_by}
 use Rattle.list_encoder.specs.Table.{Costs, entry, AreLeast}
 use Rattle.list_encoder.specs.Listing.{IsOfPlace, IsListed, IsTop}
 use Rattle.list_encoder.proofs.Orders.{head-same, head-less}
-use Rattle.list_encoder.proofs.Celling.{some-same, place_of, contains_at, top-at-few}
+use Rattle.list_encoder.proofs.Celling.{some-same, place_of, top-at-few}
 use Rattle.list_encoder.proofs.Heading.{edge-some}
 
 pub listed-none : (v : LegsValue) (cells : List Cell) (t : Costs) → IsListed v cells t 0 []

@@ -1,18 +1,16 @@
 -- A first tight move, and then the first least path, is the first least path.
-use Rattle.std.proofs.Common.{◌≡◌, ℕ, zero, suc, ◌+◌, ◌*◌, ◌<◌, ◌≤◌, ◌⊎◌, inl, inr, Bool, true, false, List, [], ◌∷◌, ◌++◌, map, length, Option, Some, None, slice_get, Contains, refl, sym, ◌∙◌, ap, subst, arith, cond}
-use Rattle.std.specs.Prelude.{is_some, ◌||◌, IsTrue}
+use Rattle.std.proofs.Common.{◌≡◌, ℕ, ◌+◌, ◌<◌, inl, inr, Bool, true, false, List, [], ◌∷◌, map, Option, Some, None, slice_get, refl, sym, ◌∙◌, ap, subst, arith, cond}
+use Rattle.std.specs.Prelude.{is_some}
 use Rattle.std.specs.Option.{option_map}
-use Rattle.std.proofs.lemmas.Bool.{false≢true, true≢false, or_left, or_right, cases_Bool}
+use Rattle.std.proofs.lemmas.Bool.{or_left, or_right, cases_Bool}
 use Rattle.std.proofs.lemmas.Option.{none-some}
 use Rattle.v6_addr.specs.Address.{PrefixValue}
 use Rattle.list_pack.specs.declared.types.Cost.{Cost}
 use Rattle.list_pack.specs.declared.types.Leg.{Leg}
-use Rattle.list_pack.specs.declared.types.State.{State}
 use Rattle.list_pack.specs.declared.types.PathStep.{PathStep}
-use Rattle.list_pack.specs.Order.{lex_before}
 use Rattle.list_pack.specs.Value.{LegsValue, KeepsLaws, comes_to}
 use Rattle.list_pack.specs.Rooms.{room_behind}
-use Rattle.list_pack.specs.Costs.{Move, Edge, plus, nothing, move_cost, edge_of, edge_by, last_of, cost_of, Under}
+use Rattle.list_pack.specs.Costs.{Move, plus, nothing, move_cost, edge_by, last_of, cost_of, Under}
 use Rattle.list_pack.specs.Least.{IsFirstLeast, step_of, path_key, path_before}
 use Rattle.list_pack.proofs.Costing.{edge-made, last-made}
 use Rattle.list_pack.proofs.Leasts.{attained}
@@ -21,12 +19,12 @@ use Rattle.list_encoder.specs.declared.table.Link.{Link}
 use Rattle.list_encoder.specs.declared.picks.Pick.{Pick}
 use Rattle.list_encoder.specs.declared.picks.Spot.{Spot}
 use Rattle.list_encoder.specs.Cells.{cell_at, state_at, AreCells}
-use Rattle.list_encoder.specs.Table.{Costs, entry, rest_at, LeadsTo, IsLink, AreLeast}
-use Rattle.list_encoder.specs.Picks.{IsSpot, IsTight, IsPick, Covers, link_step, PicksFirst}
+use Rattle.list_encoder.specs.Table.{Costs, rest_at, LeadsTo, IsLink, AreLeast}
+use Rattle.list_encoder.specs.Picks.{IsSpot, IsTight, IsPick, Covers, link_step}
 use Rattle.list_encoder.proofs.Orders.{lex-itself, lex-not-both, lex-same, lex-longer, lex-after}
 use Rattle.list_encoder.proofs.Celling.{some-same}
 use Rattle.list_encoder.proofs.Tables.{plus-nothing}
-use Rattle.list_encoder.proofs.Heading.{Behind, Head, head-of}
+use Rattle.list_encoder.proofs.Heading.{Behind, head-of}
 
 -- the first three numbers of a path's key
 step_key : PathStep → List ℕ

@@ -1,14 +1,13 @@
 -- The better of two picks covers what either covers.
-use Rattle.std.proofs.Common.{◌≡◌, ℕ, zero, suc, ◌+◌, ◌*◌, ◌<◌, ◌≤◌, ◌⊎◌, inl, inr, Bool, true, false, ◌&&◌, ◌==◌, List, [], ◌∷◌, length, get_or, Option, Some, None, slice_get, Contains, refl, sym, ◌∙◌, ap, subst, arith, eqb-true}
+use Rattle.std.proofs.Common.{◌≡◌, ℕ, ◌+◌, ◌*◌, ◌<◌, ◌≤◌, inl, inr, Bool, true, false, ◌==◌, List, [], ◌∷◌, length, Option, Some, None, slice_get, refl, sym, ◌∙◌, ap, subst, arith, eqb-true}
 use Rattle.std.specs.Prelude.{cond}
 use Rattle.std.specs.Option.{option_map}
-use Rattle.std.proofs.lemmas.Bool.{false≢true, true≢false, cases_lt, cases_Bool, and_parts, and_from, eq-eqb, false_from_ne_true}
+use Rattle.std.proofs.lemmas.Bool.{false≢true, cases_lt, and_parts, and_from, eq-eqb, false_from_ne_true}
 use Rattle.std.proofs.lemmas.Option.{none-some, slice_get_within}
 use Rattle.list_pack.specs.declared.types.Cost.{Cost}
 use Rattle.list_pack.specs.declared.types.Shape.{Shape}
 use Rattle.list_pack.specs.declared.types.PathStep.{PathStep}
 use Rattle.list_pack.specs.Value.{LegsValue, KeepsLaws}
-use Rattle.list_pack.specs.Order.{lex_before}
 use Rattle.list_pack.specs.Rooms.{room_behind}
 use Rattle.list_pack.specs.Costs.{plus, move_cost}
 use Rattle.list_pack.specs.Least.{path_before, path_key}
@@ -16,11 +15,11 @@ use Rattle.list_encoder.specs.declared.cells.Cell.{Cell}
 use Rattle.list_encoder.specs.declared.table.Link.{Link}
 use Rattle.list_encoder.specs.declared.picks.Pick.{Pick}
 use Rattle.list_encoder.specs.declared.picks.Spot.{Spot}
-use Rattle.list_encoder.specs.Cells.{AreCells, cell_at}
-use Rattle.list_encoder.specs.Table.{Costs, rest_at, LeadsTo, IsLink, IsLinkInto, AreInRange}
+use Rattle.list_encoder.specs.Cells.{cell_at}
+use Rattle.list_encoder.specs.Table.{Costs, rest_at, IsLink, AreInRange}
 use Rattle.list_encoder.specs.Picks.{better_of, is_sum, IsSpot, IsTight, IsPick, IsPickOrNone, Covers, link_step, CoversMoves, CoversLink, PicksMoves, PicksLink, PicksEnds, PicksLegs, PicksFirst}
 use Rattle.list_encoder.proofs.Orders.{lex-weak, lex-not-both, lex-itself}
-use Rattle.list_encoder.proofs.Celling.{some-same, place_of}
+use Rattle.list_encoder.proofs.Celling.{some-same}
 use Rattle.list_encoder.proofs.Rooms.{behind-few}
 use Rattle.list_encoder.proofs.Tables.{to-range, link-shape}
 use Rattle.list_encoder.proofs.Relaxing.{end-one, leg-one, leg-parts, no-end, end-place}

@@ -1,8 +1,8 @@
 -- Lowering by a link room by room, by the finishes and by the legs of a cell, and by all links within a position.
-use Rattle.std.proofs.Common.{◌≡◌, ℕ, zero, suc, ◌+◌, ◌-◌, ◌*◌, ◌<◌, ◌≤◌, ◌⊎◌, inl, inr, Bool, true, false, ◌||◌, List, [], ◌∷◌, ◌++◌, take, length, get_or, Option, Some, None, slice_get, Contains, refl, sym, ◌∙◌, ap, subst, arith}
+use Rattle.std.proofs.Common.{◌≡◌, ℕ, ◌+◌, ◌*◌, ◌<◌, ◌≤◌, inl, inr, Bool, true, false, ◌||◌, List, [], ◌∷◌, ◌++◌, length, Option, Some, None, slice_get, Contains, refl, sym, ◌∙◌, ap, subst, arith}
 use Rattle.std.specs.Prelude.{nat_lt, MatchBool}
 use Rattle.std.specs.Option.{option_map}
-use Rattle.std.proofs.lemmas.Bool.{false≢true, true≢false, cases_lt, lt-ltb, le-ltb, or_parts}
+use Rattle.std.proofs.lemmas.Bool.{cases_lt, lt-ltb, le-ltb}
 use Rattle.std.proofs.lemmas.List.Elements.{Contains-append_left, Contains-push, Contains-push_cases}
 use Rattle.std.proofs.lemmas.Option.{none-some, slice_get_within}
 use Rattle.list_pack.specs.declared.types.Cost.{Cost}
@@ -10,14 +10,14 @@ use Rattle.list_pack.specs.declared.types.Leg.{Leg}
 use Rattle.list_pack.specs.declared.types.Shape.{Shape}
 use Rattle.list_pack.specs.Value.{LegsValue, KeepsLaws}
 use Rattle.list_pack.specs.Rooms.{room_behind}
-use Rattle.list_pack.specs.Costs.{plus, nothing, move_cost, Under}
-use Rattle.list_pack.proofs.Costing.{under-none, under-itself, under-trans, under-plus}
+use Rattle.list_pack.specs.Costs.{nothing, move_cost, Under}
+use Rattle.list_pack.proofs.Costing.{under-itself, under-trans, under-plus}
 use Rattle.list_encoder.specs.declared.cells.Cell.{Cell}
 use Rattle.list_encoder.specs.declared.table.Link.{Link}
-use Rattle.list_encoder.specs.Cells.{cell_at, state_at, IsCell, AreCells}
-use Rattle.list_encoder.specs.Table.{Costs, at, entry, rest_at, offer, LeadsTo, IsLink, IsSound, total, Passed, LinkHolds, Holds, RoomHolds, RoomRelaxed, Relaxed, LeavesRoom, IsShapeOf, EndsHold, EndsRelaxed, IsLinkInto, LegsHold, Keeps, LegsRelaxed, AreLinks, Gathers, Rounded, Settled, IsOnward}
+use Rattle.list_encoder.specs.Cells.{cell_at}
+use Rattle.list_encoder.specs.Table.{Costs, at, entry, rest_at, offer, LeadsTo, IsLink, IsSound, Passed, LinkHolds, Holds, RoomHolds, RoomRelaxed, Relaxed, LeavesRoom, IsShapeOf, EndsHold, EndsRelaxed, LegsHold, Keeps, LegsRelaxed, AreLinks, Gathers}
 use Rattle.list_encoder.proofs.Celling.{some-same, place_of}
-use Rattle.list_encoder.proofs.Tables.{kept-passed, passed-then, passed-wider}
+use Rattle.list_encoder.proofs.Tables.{kept-passed, passed-then}
 
 -- what is left behind a link falls where the table does
 pub rest-falls : (before after : Costs) (to : Option ℕ) (left : ℕ) → ((i : ℕ) → Under (at after i) (at before i))

@@ -1,14 +1,13 @@
 -- Behind a link there is less room than in front of it, or a container was opened; and never more than seven.
-use Rattle.std.proofs.Common.{◌≡◌, ℕ, zero, suc, ◌+◌, ◌-◌, ◌*◌, ◌/◌, ◌<◌, ◌≤◌, Bool, true, false, ◌&&◌, Option, Some, None, refl, sym, ◌∙◌, ap, subst, arith, nat_le}
-use Rattle.std.specs.Prelude.{IsTrue, IsSome, is_some}
-use Rattle.std.proofs.lemmas.Bool.{false≢true, and_parts, leb-true}
+use Rattle.std.proofs.Common.{◌≡◌, ℕ, zero, suc, ◌+◌, ◌-◌, ◌*◌, ◌/◌, ◌<◌, ◌≤◌, Bool, true, false, ◌&&◌, Option, Some, None, refl, ◌∙◌, ap, subst, arith, nat_le}
+use Rattle.std.proofs.lemmas.Bool.{and_parts, leb-true}
 use Rattle.std.proofs.lemmas.Option.{cond_some, none-some}
 use Rattle.std.proofs.lemmas.Grind.{common_steps}
 use Rattle.srv6_rules.specs.declared.sid.Csid.{Csid}
 use Rattle.srv6_rules.specs.declared.sid.Csid.TheVariants.{Plain, Next, Replace}
 use Rattle.list_pack.specs.declared.types.Shape.{Shape}
 use Rattle.list_pack.specs.Value.{units_of, same_block, is_compressed, IsShape, IsInBlock}
-use Rattle.list_pack.specs.Rooms.{csids_of, full_room_by, packed_room_by, kept_room, stay_room_by, new_room_by, room_behind, packed_room, full_room, top_room_by}
+use Rattle.list_pack.specs.Rooms.{full_room_by, packed_room_by, kept_room, stay_room_by, new_room_by, room_behind, packed_room, full_room, top_room_by}
 use Rattle.list_pack.proofs.Rooming.{both-blocks}
 
 next-few : (lbl len units : ℕ) → len ≡ lbl + 16 * units → 1 ≤ units → (128 - len) / 16 ≤ 7

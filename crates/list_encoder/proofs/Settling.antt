@@ -1,22 +1,21 @@
 -- Rounds until nothing changes, and positions from the last to the first.
-use Rattle.std.proofs.Common.{◌≡◌, ℕ, zero, suc, ◌+◌, ◌-◌, ◌*◌, ◌<◌, ◌≤◌, ◌⊎◌, inl, inr, Bool, true, false, ◌||◌, List, [], ◌∷◌, ◌++◌, take, length, get_or, replicate, Option, Some, None, slice_get, Contains, refl, sym, ◌∙◌, ap, subst, arith}
-use Rattle.std.specs.Prelude.{nat_lt, MatchBool}
+use Rattle.std.proofs.Common.{◌≡◌, ℕ, zero, suc, ◌+◌, ◌*◌, ◌<◌, ◌≤◌, inl, inr, Bool, false, ◌||◌, List, length, get_or, replicate, Option, Some, None, slice_get, Contains, refl, sym, ◌∙◌, ap, subst, arith}
 use Rattle.std.specs.Option.{option_map}
-use Rattle.std.proofs.lemmas.Bool.{false≢true, true≢false, cases_lt, or_parts}
+use Rattle.std.proofs.lemmas.Bool.{cases_lt, or_parts}
 use Rattle.std.proofs.lemmas.Option.{none-some, slice_get-get_or, slice_get_within}
 use Rattle.std.proofs.lemmas.List.{length-replicate}
 use Rattle.list_pack.specs.declared.types.Cost.{Cost}
 use Rattle.list_pack.specs.declared.types.Shape.{Shape}
 use Rattle.list_pack.specs.Value.{LegsValue, KeepsLaws}
 use Rattle.list_pack.specs.Costs.{Under}
-use Rattle.list_pack.proofs.Costing.{under-itself, under-trans}
+use Rattle.list_pack.proofs.Costing.{under-trans}
 use Rattle.list_encoder.specs.declared.cells.Cell.{Cell}
 use Rattle.list_encoder.specs.declared.table.Link.{Link}
-use Rattle.list_encoder.specs.Cells.{cell_at, IsCell, IsCellBy, AreCells, IsFirst}
-use Rattle.list_encoder.specs.Table.{Costs, at, entry, rest_at, offer, LeadsTo, IsLink, IsSound, total, Passed, LinkHolds, Holds, Relaxed, EndsHold, LegsHold, Keeps, AreLinks, Gathers, Rounded, Settled, IsOnward, HoldFrom, IsShapeOf}
+use Rattle.list_encoder.specs.Cells.{cell_at, IsCellBy, AreCells, IsFirst}
+use Rattle.list_encoder.specs.Table.{Costs, at, entry, rest_at, offer, LeadsTo, IsLink, IsSound, Passed, LinkHolds, Holds, Relaxed, AreLinks, Gathers, Rounded, Settled, IsOnward, HoldFrom, IsShapeOf}
 use Rattle.list_encoder.proofs.Celling.{some-same, place_of, contains_at, cell-read}
 use Rattle.list_encoder.proofs.Tables.{kept-passed, passed-then, passed-wider}
-use Rattle.list_encoder.proofs.Relaxing.{holds-later, rest-end, rest-far, leg-stays, at-near, at-far}
+use Rattle.list_encoder.proofs.Relaxing.{holds-later, rest-end, leg-stays, at-near, at-far}
 
 -- the first links of a list
 pub record RoundSoFar (v : LegsValue) (cells : List Cell) (later : ℕ) (links : List Link) (count : ℕ) (before after : Costs) (changed : Bool) : Type 0 where

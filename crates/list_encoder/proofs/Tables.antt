@@ -1,24 +1,23 @@
 -- Costs of a table lowered one at a time: what stays so, and what falls.
-use Rattle.std.proofs.Common.{◌≡◌, ℕ, zero, suc, ◌+◌, ◌-◌, ◌*◌, ◌^◌, ◌<◌, ◌≤◌, ◌⊎◌, inl, inr, Bool, true, false, ◌||◌, if◌then◌else◌, List, [], ◌∷◌, length, get_or, set, Option, Some, None, slice_get, Contains, refl, sym, ◌∙◌, ap, subst, arith, get_or-set_same, get_or-set_other}
+use Rattle.std.proofs.Common.{◌≡◌, ℕ, ◌+◌, ◌*◌, ◌^◌, ◌<◌, ◌≤◌, inl, inr, Bool, true, false, ◌||◌, List, [], ◌∷◌, length, set, Option, Some, None, slice_get, refl, sym, ◌∙◌, ap, subst, arith, get_or-set_same, get_or-set_other}
 use Rattle.std.specs.Prelude.{cond, is_some}
 use Rattle.std.specs.Option.{option_map}
 use Rattle.std.proofs.lemmas.Bool.{false≢true, true≢false, cases_eq, cases_lt}
 use Rattle.std.proofs.lemmas.List.{length-set}
 use Rattle.std.proofs.lemmas.List.Sums.{sum_by-set, count_by-le-length}
-use Rattle.std.proofs.lemmas.Option.{none-some, slice_get_within}
+use Rattle.std.proofs.lemmas.Option.{slice_get_within}
 use Rattle.list_pack.specs.declared.types.Cost.{Cost}
-use Rattle.list_pack.specs.declared.types.State.{State}
 use Rattle.list_pack.specs.declared.types.Leg.{Leg}
 use Rattle.list_pack.specs.Value.{LegsValue, KeepsLaws, IsShape, IsSid}
 use Rattle.list_pack.specs.Rooms.{room_behind}
-use Rattle.list_pack.specs.Costs.{Move, Edge, AtMost, Below, plus, nothing, move_cost, Under, edge_of, edge_by, last_of, cost_of}
+use Rattle.list_pack.specs.Costs.{Move, plus, nothing, move_cost, Under, edge_by, last_of}
 use Rattle.list_pack.specs.Least.{Attains}
-use Rattle.list_pack.proofs.Costing.{under-none, under-itself, under-trans, under-plus, edge-made, last-made}
+use Rattle.list_pack.proofs.Costing.{under-itself, under-trans, edge-made, last-made}
 use Rattle.list_pack.proofs.Leasts.{attained}
 use Rattle.list_encoder.specs.declared.cells.Cell.{Cell}
 use Rattle.list_encoder.specs.declared.table.Link.{Link}
 use Rattle.list_encoder.specs.Cells.{cell_at, state_at, AreCells}
-use Rattle.list_encoder.specs.Table.{Costs, at, entry, rest_at, offer, LeadsTo, IsLink, filled, IsBounded, IsSound, Improves, IsLowered, IsKept, Lowers, rank, total, Passed, LinkHolds, RoomHolds, RoomRelaxed, Relaxed, LeavesRoom, AreInRange}
+use Rattle.list_encoder.specs.Table.{Costs, at, entry, rest_at, offer, LeadsTo, IsLink, filled, IsBounded, IsSound, Improves, IsLowered, IsKept, Lowers, rank, total, Passed, RoomHolds, RoomRelaxed, LeavesRoom, AreInRange}
 use Rattle.list_encoder.proofs.Rooms.{stay-less, open-few, behind-few}
 
 -- a cost that is below another, or of few containers and hops

@@ -1,5 +1,5 @@
 -- The first least path, move by move.
-use Rattle.std.proofs.Common.{◌≡◌, ℕ, zero, suc, ◌+◌, ◌*◌, ◌<◌, ◌≤◌, Bool, true, false, List, [], ◌∷◌, ◌++◌, map, length, get_or, Option, Some, None, slice_get, refl, sym, ◌∙◌, ap, subst, arith, append_assoc}
+use Rattle.std.proofs.Common.{◌≡◌, ℕ, ◌+◌, ◌*◌, ◌<◌, Bool, true, false, List, [], ◌∷◌, ◌++◌, map, length, Option, Some, None, slice_get, refl, sym, ◌∙◌, ap, subst, arith, append_assoc}
 use Rattle.std.specs.Option.{option_map}
 use Rattle.std.proofs.lemmas.Option.{none-some, slice_get_within}
 use Rattle.std.proofs.lemmas.List.{map-append}
@@ -8,16 +8,14 @@ use Rattle.list_pack.specs.declared.types.Cost.{Cost}
 use Rattle.list_pack.specs.declared.types.PathStep.{PathStep}
 use Rattle.list_pack.specs.Value.{LegsValue, KeepsLaws}
 use Rattle.list_pack.specs.Rooms.{room_behind}
-use Rattle.list_pack.specs.Costs.{Move, plus, nothing, move_cost, cost_of, Under, start}
-use Rattle.list_pack.specs.Least.{Attains, IsFirstLeast, IsPath, IsPathOrNone, step_of}
+use Rattle.list_pack.specs.Costs.{Move, move_cost, cost_of}
+use Rattle.list_pack.specs.Least.{Attains, IsFirstLeast, IsPath, step_of}
 use Rattle.list_encoder.specs.declared.cells.Cell.{Cell}
-use Rattle.list_encoder.specs.declared.table.Link.{Link}
 use Rattle.list_encoder.specs.declared.picks.Pick.{Pick}
 use Rattle.list_encoder.specs.declared.picks.Spot.{Spot}
 use Rattle.list_encoder.specs.Cells.{cell_at, start_cell, state_at, AreCells}
-use Rattle.list_encoder.specs.Table.{Costs, entry, rest_at, LeadsTo, IsLink, AreLeast}
-use Rattle.list_encoder.specs.Picks.{IsSpot, IsTight, IsPick, PicksFirst}
-use Rattle.list_encoder.proofs.Celling.{some-same, cell-read}
+use Rattle.list_encoder.specs.Table.{Costs, rest_at, AreLeast}
+use Rattle.list_encoder.specs.Picks.{IsSpot, PicksFirst}
 use Rattle.list_encoder.proofs.Rooms.{behind-few, stay-less, open-few}
 use Rattle.list_encoder.proofs.Tables.{link-shape}
 use Rattle.list_encoder.proofs.Relaxing.{leg-parts}

@@ -1,5 +1,5 @@
 -- Cells: the start, and the SIDs of all positions.
-use Rattle.std.specs.Prelude.{◌≡◌, ℕ, ◌+◌, ◌<◌, ◌≤◌, List, [], ◌∷◌, length, slice_get, Option, Some, None, Contains}
+use Rattle.std.specs.Prelude.{◌≡◌, ℕ, ◌<◌, ◌≤◌, List, length, slice_get, Option, Some, None, Contains}
 use Rattle.list_encoder.specs.declared.cells.Cell.{Cell}
 use Rattle.list_pack.specs.declared.types.State.{State}
 use Rattle.list_pack.specs.Value.{LegsValue}

@@ -2,3 +2,4 @@ pub mod Cells
 pub mod Table
 pub mod Picks
 pub mod Listing
+pub mod Grid

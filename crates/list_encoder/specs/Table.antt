@@ -2,7 +2,6 @@
 use Rattle.std.specs.Prelude.{◌≡◌, ℕ, ◌+◌, ◌*◌, ◌<◌, ◌≤◌, Bool, true, false, List, length, slice_get, slice_index_or, slice_set, nat_lt, sum_by, count_by, Option, Some, None, is_some, Contains, MatchBool}
 use Rattle.std.specs.Option.{option_map}
 use Rattle.list_pack.specs.declared.types.Cost.{Cost}
-use Rattle.list_pack.specs.declared.types.Leg.{Leg}
 use Rattle.list_pack.specs.declared.types.Shape.{Shape}
 use Rattle.list_pack.specs.Value.{LegsValue}
 use Rattle.list_pack.specs.Rooms.{room_behind}

@@ -11,7 +11,10 @@ mod listing;
 mod path;
 mod picks;
 mod rounds;
-mod solve;
+mod solver;
 mod table;
 
-pub use solve::solve;
+pub use solver::solve;
+
+#[cfg(test)]
+mod tests;

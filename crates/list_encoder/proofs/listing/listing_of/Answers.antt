@@ -1,4 +1,4 @@
-use Rattle.std.proofs.Common.{◌*◌, ◌≤◌, arith, length}
+use Rattle.std.proofs.Common.{◌*◌, arith}
 use Rattle.list_encoder.proofs.Listings.{listing}
 use Rattle.list_encoder.proofs.listing.listing_of.Goals as goal
 

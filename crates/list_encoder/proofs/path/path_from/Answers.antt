@@ -1,6 +1,4 @@
-use Rattle.std.proofs.Common.{Option, List, subst, sym, get_or, None}
-use Rattle.list_pack.specs.declared.types.PathStep.{PathStep}
-use Rattle.list_pack.specs.Least.{IsPath}
+use Rattle.std.proofs.Common.{Option, subst, get_or, None}
 use Rattle.list_encoder.specs.declared.picks.Pick.{Pick}
 use Rattle.list_encoder.specs.Picks.{PicksFirst}
 use Rattle.list_encoder.proofs.Celling.{cell-read}

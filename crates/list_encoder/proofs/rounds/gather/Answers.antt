@@ -1,4 +1,4 @@
-use Rattle.list_encoder.proofs.Relaxing.{gathered-more, gathered-all}
+use Rattle.list_encoder.proofs.Relaxing.{gathered-more}
 use Rattle.list_encoder.proofs.rounds.gather.Goals as goal
 
 pub loop-k-preserved : goal.loop-k-preserved

@@ -1,4 +1,4 @@
-use Rattle.std.proofs.Common.{◌+◌, ◌||◌, Bool, None, sym, ◌∙◌, refl, subst}
+use Rattle.std.proofs.Common.{◌+◌, ◌||◌, Bool, sym, ◌∙◌, refl, subst}
 use Rattle.list_encoder.specs.Table.{Costs}
 use Rattle.list_encoder.proofs.Celling.{cell-read, sid-read}
 use Rattle.list_encoder.proofs.Relaxing.{EndsSoFar, ends-skip, ends-more, ends-all}

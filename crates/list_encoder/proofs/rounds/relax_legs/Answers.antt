@@ -1,4 +1,4 @@
-use Rattle.std.proofs.Common.{◌+◌, ◌||◌, ◌≡◌, ◌++◌, ◌∷◌, [], ℕ, Bool, List, Vec, Global, Some, None, Option, sym, ap, ◌∙◌, subst}
+use Rattle.std.proofs.Common.{◌+◌, ◌||◌, ◌≡◌, ◌++◌, ◌∷◌, [], Bool, List, Vec, Global, Some, None, Option, sym, ap, ◌∙◌, subst}
 use Rattle.list_encoder.specs.declared.table.Link.{Link}
 use Rattle.list_encoder.specs.Table.{Costs, IsLink, IsLinkInto}
 use Rattle.list_encoder.proofs.Relaxing.{LegsSoFar, legs-skip, legs-list, legs-more}

@@ -1,4 +1,4 @@
-use Rattle.std.proofs.Common.{◌+◌, ◌||◌, ◌<◌, ◌≡◌, ℕ, Bool, Some, slice_get, length, sym, ◌∙◌, refl, subst, arith}
+use Rattle.std.proofs.Common.{◌+◌, Bool, sym, subst, arith}
 use Rattle.list_encoder.proofs.Celling.{cell-read}
 use Rattle.list_encoder.proofs.Settling.{RoundSoFar, round-more, round-all, link-read, link-among, from-read, shape-read}
 use Rattle.list_encoder.proofs.rounds.round.Goals as goal

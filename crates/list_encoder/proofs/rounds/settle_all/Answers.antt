@@ -1,4 +1,4 @@
-use Rattle.std.proofs.Common.{◌+◌, ◌-◌, ◌≡◌, ℕ, refl, subst, arith, ap}
+use Rattle.std.proofs.Common.{◌+◌, ◌-◌, ◌≡◌, ℕ, refl, subst, arith}
 use Rattle.list_encoder.proofs.Settling.{Tabled, tabled-none, tabled-more, first-order}
 use Rattle.list_encoder.proofs.Leasting.{are-least}
 use Rattle.list_encoder.proofs.rounds.settle_all.Goals as goal
