@@ -63,8 +63,8 @@ before-shapes (Some s) (Some t) m n h = key-before s.prefix t.prefix m n h
 
 -- a plain SID lies in no block
 plain-shape : (o : Option SidEntry) → IsShape (shape_by o)
-plain-shape None = record { compressed = λ h. absurd (false≢true h); in_block = λ h. absurd h; replace = λ h. absurd (cc) }
-plain-shape (Some s) = record { compressed = λ h. absurd (false≢true h); in_block = λ h. absurd h; replace = λ h. absurd (cc) }
+plain-shape None = record { compressed = λ h. absurd (false≢true h); in_block = λ h. absurd (false≢true h); replace = λ h. absurd (cc) }
+plain-shape (Some s) = record { compressed = λ h. absurd (false≢true h); in_block = λ h. absurd (false≢true h); replace = λ h. absurd (cc) }
 
 plain-blocks : (o q : Option SidEntry) → same_block (shape_by o).block (shape_by q).block ≡ true → ShareBlock (shape_by o) (shape_by q)
 plain-blocks None None h = absurd (false≢true h)
