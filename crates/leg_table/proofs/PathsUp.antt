@@ -17,7 +17,7 @@ use Rattle.walk_rules.proofs.PublicLaws.{way-into}
 use Rattle.intent_reader.specs.Rules.{IsIntent}
 use Rattle.intent_reader.specs.declared.intent.Step.{Step}
 use Rattle.intent_reader.specs.declared.intent.Intent.{Intent}
-use Rattle.leg_table.specs.declared.types.Leg.{Leg}
+use Rattle.list_pack.specs.declared.types.Leg.{Leg}
 use Rattle.leg_table.specs.Trace.{executed, Handed, after_events, handed_over}
 use Rattle.leg_table.specs.Tasks.{matches}
 use Rattle.leg_table.specs.Ride.{ride_of}

@@ -1,5 +1,5 @@
 -- The legs of an intent in a network keep the laws of legs.
-use Rattle.std.proofs.Common.{◌≡◌, ℕ, zero, suc, ◌+◌, ◌-◌, ◌<◌, ◌≤◌, Bool, true, false, ◌==◌, ◌||◌, if◌then◌else◌, List, [], ◌∷◌, length, take, drop, Option, Some, None, slice_get, Contains, refl, sym, ◌∙◌, ap, subst, arith, eqb-true, add-one, nat_le}
+use Rattle.std.proofs.Common.{◌≡◌, ℕ, zero, suc, ◌+◌, ◌-◌, ◌<◌, ◌≤◌, Bool, true, false, ◌==◌, ◌&&◌, ◌||◌, nat_lt, if◌then◌else◌, List, [], ◌∷◌, length, take, drop, Option, Some, None, slice_get, Contains, refl, sym, ◌∙◌, ap, subst, arith, eqb-true, add-one, nat_le}
 use Rattle.std.specs.Prelude.{is_some}
 use Rattle.std.specs.Option.{option_and_then}
 use Rattle.std.proofs.lemmas.Bool.{false≢true, and_parts, and_from, eq-eqb, leb-true}
@@ -17,14 +17,16 @@ use Rattle.intent_reader.specs.Rules.{IsIntent, stand_after, node_after, functio
 use Rattle.intent_reader.specs.declared.intent.Step.{Step}
 use Rattle.intent_reader.specs.declared.intent.Step.TheVariants.{Links, Function}
 use Rattle.intent_reader.specs.declared.intent.Intent.{Intent}
-use Rattle.leg_table.specs.declared.types.Leg.{Leg}
+use Rattle.list_pack.specs.declared.types.Leg.{Leg}
 use Rattle.leg_table.specs.Trace.{has_title}
 use Rattle.leg_table.specs.Tasks.{left_after, left_after_function}
 use Rattle.leg_table.specs.Ride.{Ride, ride_of}
 use Rattle.leg_table.specs.Sids.{comes_before, sid_goes_on, is_middle, first_address, sid_address, sid_before, in_order, sids_of, is_sid_at, sid_suits, title_suits, step_before, is_function_of, node_at}
-use Rattle.leg_table.specs.Table.{shape_by, shape_of}
+use Rattle.leg_table.specs.Table.{shape_by, shape_of, node_of}
 use Rattle.leg_table.specs.Leg.{is_via, is_start, leg_of, finish_of}
-use Rattle.leg_table.specs.Value.{ascends, IsVia, comes_to, IsLegOf, IsFinishOf, KeepsLaws, legs_value}
+use Rattle.list_pack.specs.Order.{lex_before}
+use Rattle.list_pack.specs.Value.{IsVia, comes_to, ascends, same_block, IsShape, ShareBlock, IsLegOf, IsFinishOf, KeepsLaws}
+use Rattle.leg_table.specs.Value.{legs_value}
 use Rattle.leg_table.proofs.Options.{some-same, if-some}
 use Rattle.leg_table.proofs.RideFacts.{ride-facts, start-facts, intent-stands, stand_after-append}
 use Rattle.leg_table.proofs.LegLemmas.{NextRide, leg-ride, finish-ride}
@@ -39,17 +41,44 @@ shape-address : (o : Option SidEntry) → (shape_by o).prefix.value ≡ first_ad
 shape-address None = refl
 shape-address (Some s) = refl
 
-before-shapes : (o q : Option SidEntry) → sid_before o q ≡ true → comes_before (shape_by o).prefix (shape_by q).prefix ≡ true
-before-shapes None q h = absurd (false≢true h)
-before-shapes (Some s) None h = absurd (false≢true h)
-before-shapes (Some s) (Some t) h = h
+-- a lower prefix comes before, whatever the nodes are
+before-node : (a b c d : Bool) → (a || (b && c)) ≡ true → (a || (b && (c || d))) ≡ true
+before-node true b c d h = refl
+before-node false true true d h = refl
+before-node false true false d h = absurd (false≢true h)
+before-node false false c d h = absurd (false≢true h)
+
+key-before : (p q : PrefixValue) (m n : ℕ) → comes_before p q ≡ true
+    → lex_before (p.value ∷ p.len ∷ m ∷ []) (q.value ∷ q.len ∷ n ∷ []) ≡ true
+key-before p q m n h =
+    before-node (nat_lt p.value q.value) (p.value == q.value) (nat_lt p.len q.len)
+    ((p.len == q.len) && (nat_lt m n || ((m == n) && false))) h
+
+before-shapes : (o q : Option SidEntry) (m n : ℕ) → sid_before o q ≡ true
+    → lex_before ((shape_by o).prefix.value ∷ (shape_by o).prefix.len ∷ m ∷ []) ((shape_by q).prefix.value ∷ (shape_by q).prefix.len ∷ n ∷ [])
+    ≡ true
+before-shapes None q m n h = absurd (false≢true h)
+before-shapes (Some s) None m n h = absurd (false≢true h)
+before-shapes (Some s) (Some t) m n h = key-before s.prefix t.prefix m n h
+
+-- a plain SID lies in no block
+plain-shape : (o : Option SidEntry) → IsShape (shape_by o)
+plain-shape None = record { compressed = λ h. absurd (false≢true h); in_block = λ h. absurd (false≢true h); replace = λ h. absurd (cc) }
+plain-shape (Some s) = record { compressed = λ h. absurd (false≢true h); in_block = λ h. absurd (false≢true h); replace = λ h. absurd (cc) }
+
+plain-blocks : (o q : Option SidEntry) → same_block (shape_by o).block (shape_by q).block ≡ true → ShareBlock (shape_by o) (shape_by q)
+plain-blocks None None h = absurd (false≢true h)
+plain-blocks None (Some t) h = absurd (false≢true h)
+plain-blocks (Some s) None h = absurd (false≢true h)
+plain-blocks (Some s) (Some t) h = absurd (false≢true h)
 
 ascends-from : (net : Network) (intent : Intent) (xs : List ℕ) → in_order net xs ≡ true → ascends (legs_value net intent) xs ≡ true
 ascends-from net intent [] h = refl
 ascends-from net intent (n ∷ []) h = refl
 ascends-from net intent (n ∷ m ∷ ms) h =
     let parts = and_parts (sid_before (slice_get net.sids n) (slice_get net.sids m)) (in_order net (m ∷ ms)) h in
-    and_from _ (ascends (legs_value net intent) (m ∷ ms)) (before-shapes (slice_get net.sids n) (slice_get net.sids m) parts.0)
+    and_from _ (ascends (legs_value net intent) (m ∷ ms))
+    (before-shapes (slice_get net.sids n) (slice_get net.sids m) (node_of net n) (node_of net m) parts.0)
     (ascends-from net intent (m ∷ ms) parts.1)
 
 pub drop-drop : {X : Type 0} (n m : ℕ) (xs : List X) → drop m (drop n xs) ≡ drop (n + m) xs
@@ -282,6 +311,8 @@ module _ (net : Network) (keeps : Keeps net) (intent : Intent) (is_intent : IsIn
         steps = (intent-stands net intent is_intent).1;
         sids_count = λ position within. let few = sids-few net keeps intent position in omega arith;
         sids_order = λ position within. ascends-from net intent (sids_of net intent position) (are-sids net keeps intent position).order;
+        shapes = λ n is_sid. plain-shape (slice_get net.sids n);
+        blocks = λ n m is_sid is_other same. plain-blocks (slice_get net.sids n) (slice_get net.sids m) same;
         leg = law-leg;
         finish = law-finish;
         one_of_prefix = law-one;

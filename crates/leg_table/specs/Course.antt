@@ -4,7 +4,7 @@ use Rattle.std.specs.Option.{option_map, option_and_then}
 use Rattle.net_model.specs.Network.{Network}
 use Rattle.leg_table.specs.declared.ride.Reached.{Reached}
 use Rattle.leg_table.specs.declared.ride.Behind.{Behind}
-use Rattle.leg_table.specs.declared.types.Leg.{Leg}
+use Rattle.list_pack.specs.declared.types.Leg.{Leg}
 use Rattle.leg_table.specs.Ride.{Ride, ride_of}
 use Rattle.leg_table.specs.Leg.{left_behind, leg_with, if_none_left, start_of}
 use Rattle.leg_table.specs.Sids.{sid_address}

@@ -15,7 +15,7 @@ use Rattle.walk_rules.specs.Treatment.{on_from}
 use Rattle.walk_rules.specs.Walk as walks
 use Rattle.intent_reader.specs.declared.intent.Step.{Step}
 use Rattle.intent_reader.specs.declared.intent.Intent.{Intent}
-use Rattle.leg_table.specs.declared.types.Leg.{Leg}
+use Rattle.list_pack.specs.declared.types.Leg.{Leg}
 use Rattle.leg_table.specs.Tasks.{left_after}
 use Rattle.leg_table.specs.Choices.{ForAllChoices}
 use Rattle.leg_table.specs.Ride.{Ride, ride_of, with_hop_limit}

@@ -10,7 +10,7 @@ use Rattle.walk_rules.specs.declared.place.How.TheVariants.{Submitted}
 use Rattle.walk_rules.specs.declared.place.Place.{Place}
 use Rattle.walk_rules.specs.Walk.{walk_of, choice_at}
 use Rattle.intent_reader.specs.declared.intent.Intent.{Intent}
-use Rattle.leg_table.specs.declared.types.Leg.{Leg}
+use Rattle.list_pack.specs.declared.types.Leg.{Leg}
 use Rattle.leg_table.specs.Trace.{Handed, handed_over}
 use Rattle.leg_table.specs.Tasks.{matches}
 use Rattle.leg_table.specs.Sids.{sid_address}

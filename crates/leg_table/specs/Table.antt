@@ -1,12 +1,14 @@
 -- The table of an intent's legs.
-use Rattle.std.specs.Prelude.{◌≡◌, ℕ, ◌+◌, ◌≤◌, false, List, length, slice_get, Option, Some, None}
+use Rattle.std.specs.Prelude.{◌≡◌, ℕ, ◌+◌, ◌≤◌, Bool, false, List, length, slice_get, Option, Some, None}
+use Rattle.v6_addr.specs.Address.{PrefixValue}
+use Rattle.srv6_rules.specs.declared.sid.Csid.TheVariants.{Plain}
 use Rattle.srv6_rules.specs.declared.sid.SidEntry.{SidEntry}
 use Rattle.srv6_rules.specs.Behaviours.{goes_on}
 use Rattle.net_model.specs.Network.{Network}
 use Rattle.net_model.specs.Rules.{IsNetwork}
 use Rattle.intent_reader.specs.Rules.{IsIntent}
 use Rattle.intent_reader.specs.declared.intent.Intent.{Intent}
-use Rattle.leg_table.specs.declared.types.Shape.{Shape}
+use Rattle.list_pack.specs.declared.types.Shape.{Shape}
 use Rattle.leg_table.specs.Sids.{sids_of}
 
 -- a table is that of an intent in a network
@@ -25,10 +27,21 @@ pub record IsTable (net : Network) (intent : Intent) (rows : List (List ℕ)) : 
   pub is_intent : IsIntent net intent
   pub are_rows : AreRows net intent (length intent.steps) rows
 
--- what a SID is to the search
+-- what a plain SID is to the search: it lies in no block
+abbrev pub plain_shape : PrefixValue → Bool → Shape
+plain_shape prefix middle = record { prefix = prefix; block = None; lbl = 0; csid = Plain; middle = middle }
+
 abbrev pub shape_by : Option SidEntry → Shape
-shape_by None = record { prefix = record { value = 0; len = 0 }; middle = false }
-shape_by (Some s) = record { prefix = s.prefix; middle = goes_on s }
+shape_by None = plain_shape (record { value = 0; len = 0 }) false
+shape_by (Some s) = plain_shape s.prefix (goes_on s)
 
 abbrev pub shape_of : Network → ℕ → Shape
 shape_of net n = shape_by (slice_get net.sids n)
+
+-- the node of a SID
+abbrev pub node_by : Option SidEntry → ℕ
+node_by None = 0
+node_by (Some s) = s.node
+
+abbrev pub node_of : Network → ℕ → ℕ
+node_of net n = node_by (slice_get net.sids n)

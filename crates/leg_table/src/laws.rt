@@ -14,7 +14,7 @@ ghost use Rattle.leg_table.specs.Choices.{ForAllChoices, EveryWay};
 ghost use Rattle.leg_table.specs.Ride.{ride_of, RideEnds};
 ghost use Rattle.intent_reader.specs.Rules.{IsIntent};
 ghost use Rattle.intent_reader.specs.declared.intent.Intent.{Intent};
-ghost use Rattle.leg_table.specs.declared.types.Leg.{Leg};
+ghost use Rattle.list_pack.specs.declared.types.Leg.{Leg};
 ghost use Rattle.leg_table.specs.Leg.{leg_of, IsLeg, finish_of, IsFinish};
 ghost use Rattle.leg_table.specs.Sids.{sid_address, sids_of, AreSidsAt};
 ghost use Rattle.leg_table.specs.Trace.{Handed, handed_over, trace_of, through_hand};

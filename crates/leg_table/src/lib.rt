@@ -3,7 +3,6 @@
 #![tactic(auto)]
 
 mod laws;
-mod legs;
 mod ride;
 mod rows;
 mod strict_legs;
@@ -14,12 +13,8 @@ pub use laws::{
     a_path_realizes_the_intent, every_way_is_a_ride, every_way_is_for_all_choices,
     sids_of_a_position_are_in_order, what_is_handed_over_has_its_trace,
 };
-pub use legs::Legs;
 pub use strict_legs::StrictLegs;
-pub use types::{
-    Container, Cost, Leg, PathStep, PathSteps, Potential, Potentials, Prefixes, Shape, SidList,
-    Solution, State,
-};
+pub use types::{Container, Prefixes, SidList};
 
 #[cfg(test)]
 mod tests;

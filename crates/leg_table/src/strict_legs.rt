@@ -12,15 +12,14 @@ ghost use Rattle.leg_table.specs.Sids as sids;
 ghost use Rattle.leg_table.specs.Tasks as tasks;
 ghost use Rattle.leg_table.specs.Table.{LegTable, shape_of};
 
-use crate::legs::Legs;
 use crate::ride::{Behind, way_to};
 use crate::rows::{Row, rows_of};
-use crate::types::{Leg, Shape};
 use base::NoMemory;
 use intent_reader::Intent;
+use list_pack::{Leg, Legs, Shape};
 use net_model::Net;
-use srv6_rules::Family;
 use srv6_rules::numbers::IPV6_INSIDE;
+use srv6_rules::{Csid, Family};
 use std::alloc::Global;
 use std::marker::Model;
 use walk_rules::{How, Place, on_from};
@@ -148,6 +147,9 @@ impl<'a> Legs for StrictLegs<'a> {
         let sid = self.net.sid(sid);
         Shape {
             prefix: sid.prefix,
+            block: None,
+            lbl: 0,
+            csid: Csid::Plain,
             middle: sid.goes_on(),
         }
     }

@@ -1,5 +1,6 @@
-use crate::{Leg, Legs, StrictLegs};
+use crate::StrictLegs;
 use intent_reader::{Intent, read_intent};
+use list_pack::{Leg, Legs};
 use net_model::{Net, compilable};
 use net_reader::read_net;
 use std::process::Abort;
