@@ -1,7 +1,14 @@
+pub mod Beginnings
 pub mod Cases
 pub mod Fields
 pub mod GrammarLaws
 pub mod GroupSums
+pub mod LengthWalks
+pub mod Numbers
+pub mod PlaceTexts
+pub mod Places
+pub mod PrefixFaults
+pub mod PrefixFaults6
 pub mod PrefixGrammar
 pub mod Prefixes
 pub mod PublicLaws
@@ -9,4 +16,5 @@ pub mod Reading
 pub mod RoundTrip
 pub mod RunLaws
 pub mod Runs
+pub mod Walks
 pub mod Writing

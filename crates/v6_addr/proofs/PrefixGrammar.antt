@@ -87,7 +87,7 @@ joined_no_slash (t ∷ u ∷ us) (g ∷ gs) h =
 groups_no_slash : (text groups : List ℕ) → IsGroupsText text groups → NoSlash text
 groups_no_slash text groups h = subst NoSlash (sym h.joined) (joined_no_slash h.texts groups h.each)
 
-address_no_slash : (text : List ℕ) (a : ℕ) → IsAddressText text a → NoSlash text
+pub address_no_slash : (text : List ℕ) (a : ℕ) → IsAddressText text a → NoSlash text
 address_no_slash text a (inl full) = groups_no_slash text full.groups full.written
 address_no_slash text a (inr h) =
     let P : ℕ → Type 0 = λ c. eqb c 47 ≡ false in
@@ -97,7 +97,7 @@ address_no_slash text a (inr h) =
 
 -- ---- a length
 
-digit_back : (c : ℕ) → digit_value c < 10 → digit_char (digit_value c) ≡ c
+pub digit_back : (c : ℕ) → digit_value c < 10 → digit_char (digit_value c) ≡ c
 digit_back c digit =
     let sum = digit_value_digit c (digit_from_value c digit) in
     cond-true _ _ _ (lt-ltb (digit_value c) 10 digit) ∙ lemma (digit_value c) sum
@@ -177,7 +177,7 @@ digits_shape (c ∷ d ∷ e ∷ []) h some few lead =
     ∙ ap (λ x. c ∷ x ∷ digit_char (digit_value e) ∷ []) (digit_back d h.1.0) ∙ ap (λ x. c ∷ d ∷ x ∷ []) (digit_back e h.1.1.0))
 digits_shape (c ∷ d ∷ e ∷ f ∷ more) h some few lead = absurd (omega arith)
 
-length_is : (text : List ℕ) (n : ℕ) → length_of_text text ≡ Some n → (n ≤ 128) × (text ≡ length_text n)
+pub length_is : (text : List ℕ) (n : ℕ) → length_of_text text ≡ Some n → (n ≤ 128) × (text ≡ length_text n)
 unfolding length_of_text
 length_is text n e =
     let outer = some_cond _ _ n e in
@@ -198,7 +198,7 @@ same_from : (n : ℕ) (o : Option ℕ) → is_same n o ≡ true → o ≡ Some n
 same_from n None h = absurd (false≢true h)
 same_from n (Some m) h = ap Some (eqb-true m n h)
 
-length_reads : (n : ℕ) → n ≤ 128 → length_of_text (length_text n) ≡ Some n
+pub length_reads : (n : ℕ) → n ≤ 128 → length_of_text (length_text n) ≡ Some n
 unfolding length_of_text length_text number_of_text
 length_reads n short =
     same_from n (length_of_text (length_text n))

@@ -2,6 +2,8 @@
 #[derive(thiserror::Error, Debug, Clone, Copy, PartialEq, Eq)]
 #[error("not an IPv6 address or prefix")]
 pub struct BadAddr {
-    /// Always 0 for now (own rule): the place of the fault in the text comes with a later version.
+    /// The place of the fault (own rule): the length in bytes of the text's longest beginning that
+    /// some accepted text begins with. It is the whole text's length where the text is an address,
+    /// a slash and a good length, and only a bit of the address behind that length is wrong.
     pub at: usize,
 }

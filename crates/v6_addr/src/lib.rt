@@ -11,8 +11,10 @@ mod display;
 mod errors;
 mod groups;
 mod laws;
+mod length;
 mod parse;
 mod prefix;
+mod scan;
 mod text;
 mod write;
 

@@ -11,10 +11,6 @@ fn reads(rt: &impl Abort, text: &[u8], value: u128, written: &str) {
     assert_eq!(rt; out.as_str(), written);
 }
 
-fn refuses(rt: &impl Abort, text: &[u8]) {
-    assert_eq!(rt; parse_addr(text), Err(BadAddr { at: 0 }));
-}
-
 // The examples of RFC 5952 sections 1, 2 and 4: one address in many texts.
 #[test]
 fn one_address_in_many_texts(rt: HostRuntime) {
@@ -64,18 +60,25 @@ fn runs_of_zeros(rt: HostRuntime) {
     reads(&rt, b"::", 0, "::");
 }
 
+// Each text with the length of its longest beginning that some address's text begins with.
 #[test]
 fn other_texts(rt: HostRuntime) {
-    refuses(&rt, b"");
-    refuses(&rt, b"1:2:3:4:5:6:7");
-    refuses(&rt, b"1:2:3:4:5:6:7:8:9");
-    refuses(&rt, b"1:2:3:4::5:6:7:8");
-    refuses(&rt, b"1::2::3");
-    refuses(&rt, b":::");
-    refuses(&rt, b"1:2:3:4:5:6:7:");
-    refuses(&rt, b"12345::");
-    refuses(&rt, b"::g");
-    refuses(&rt, b"::1%1");
+    for (text, at) in [
+        (b"".as_slice(), 0),
+        (b"1:2:3:4:5:6:7", 13),
+        (b"1:2:3:4:5:6:7:8:9", 15),
+        (b"1:2:3:4::5:6:7:8", 14),
+        (b"1::2::3", 5),
+        (b":::", 2),
+        (b":1", 1),
+        (b"1:2:3:4:5:6:7:", 14),
+        (b"12345::", 4),
+        (b"::g", 2),
+        (b"::1%1", 3),
+        (b"1.2.3.4", 1),
+    ] {
+        assert_eq!(rt; parse_addr(text), Err(BadAddr { at }));
+    }
 }
 
 fn reads_prefix(rt: &impl Abort, text: &[u8], value: u128, len: u8, written: &str) {
@@ -110,18 +113,28 @@ fn prefix_texts(rt: HostRuntime) {
     );
     reads_prefix(&rt, b"::/0", 0, 0, "::/0");
     reads_prefix(&rt, b"::1/128", 1, 128, "::1/128");
-    for text in [
-        b"2001:0DB8:0:CD3/60".as_slice(),
-        b"2001:0DB8::CD30/60",
-        b"2001:0DB8::CD3/60",
-        b"::",
-        b"::/",
-        b"::/00",
-        b"::/129",
-        b"::/8/8",
-        b"/8",
+}
+
+// Each text with the place of its fault: the whole text where only a bit behind the length is set.
+#[test]
+fn other_prefix_texts(rt: HostRuntime) {
+    for (text, at) in [
+        (b"2001:0DB8:0:CD3/60".as_slice(), 15),
+        (b"2001:0DB8::CD30/60", 18),
+        (b"2001:0DB8::CD3/60", 17),
+        (b"2001:db8::/28", 13),
+        (b"::", 2),
+        (b"::/", 3),
+        (b"::/00", 4),
+        (b"1::/0", 5),
+        (b"1::/00", 4),
+        (b"::/129", 5),
+        (b"::1/13", 6),
+        (b"::1/13x", 5),
+        (b"::/8/8", 4),
+        (b"/8", 0),
     ] {
-        assert_eq!(rt; parse_prefix(text), Err(BadAddr { at: 0 }));
+        assert_eq!(rt; parse_prefix(text), Err(BadAddr { at }));
     }
 }
 
