@@ -1,3 +1,3 @@
-pub mod Rows
-pub mod Searching
+pub mod Plain
+pub mod Costs
 pub mod Answering

@@ -1,3 +1,1 @@
-pub mod Paths
-pub mod Search
 pub mod Compiled

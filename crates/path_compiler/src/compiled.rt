@@ -1,6 +1,7 @@
 //! Compiled lists, and when an intent is refused.
 
-use leg_table::{SidList, Solution};
+use leg_table::SidList;
+use list_pack::Solution;
 use net_model::NotFlat;
 
 /// A list of segments that an intent is compiled to.
@@ -12,10 +13,11 @@ pub struct Compiled {
     pub containers: u32,
     /// How many bytes stand in front of the inner packet: the outer header of 40 bytes, and the
     /// segment routing header, if there is one (RFC 8754 section 2, RFC 8986 sections 5.1 and 5.2).
-    pub header: u32,
+    pub header: u64,
     /// How often the outer hop limit is lowered on the way: the hop limit has to be above it.
     pub need: u32,
-    /// What the search found. Empty for now: no potentials and no path.
+    /// What the search found: the potentials of the states from which a path leads to the end, and
+    /// the first least path, which is that of the list.
     pub solution: Solution,
 }
 
@@ -27,17 +29,17 @@ pub enum CompileFault {
     NotFlat(NotFlat),
     /// No list of SIDs, one to a container, takes packets along the steps for all choices.
     NoList {
-        /// What the search found. Empty for now.
+        /// What the search found: potentials, and an empty path.
         solution: Solution,
     },
-    /// The list that was found has more containers than the intent allows.
+    /// The least list has more containers than the intent allows: each list has.
     TooLong {
-        /// The list.
+        /// The least list.
         found: Compiled,
     },
-    /// The need of the list that was found is not below the intent's hop limit.
+    /// The need of the least list is not below the intent's hop limit.
     HopLimit {
-        /// The list.
+        /// The least list.
         found: Compiled,
     },
     /// Want of memory.

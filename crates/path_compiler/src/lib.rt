@@ -1,14 +1,13 @@
-//! Path intents compiled to lists of segments.
+//! Path intents compiled to least lists of segments.
 //!
-//! `compile` looks for a path of legs and a finish through SIDs from the start of an intent to its
-//! end, over the table of its legs, and gives the list of these SIDs, one to a container, with the
-//! bytes of its header and the hop limit that it needs. The search goes over the states: how many
-//! steps are done, and which SID was executed last. Each is tried once.
+//! `compile` searches the legs of an intent for the least path of SIDs from the start to the end: of
+//! all lists of SIDs, one to a container, that take packets along exactly the steps whichever equal
+//! next hop is chosen, one of the fewest containers, then of the smallest need, and of equal ones
+//! the first in the order of paths. It gives that list with the bytes of its header, the hop limit
+//! that it needs, and what the search found.
 #![tactic(auto)]
 
-mod cells;
 mod compiled;
-mod find;
 mod lists;
 #[cfg(test)]
 mod tests;

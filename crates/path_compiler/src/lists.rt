@@ -1,36 +1,29 @@
-//! Path intents compiled to lists of segments.
+//! Path intents compiled to least lists of segments.
 
-ghost use Rattle.std.specs.Prelude.{◌≡◌, ◌≤◌, ◌++◌, All, IfOk, None, Ok};
+ghost use Rattle.std.specs.Prelude.{◌≡◌, ◌<◌, ◌++◌, length, map, slice_get, [], Some, IfOk, Ok};
+ghost use Rattle.std.specs.Option.{option_map};
 ghost use Rattle.srv6_rules.specs.Encapsulation as encapsulation;
 ghost use Rattle.net_model.specs.Flat.{IsFlat, flatness_of};
+ghost use Rattle.net_model.specs.Rules.{IsNetwork};
 ghost use Rattle.intent_reader.specs.Rules.{IsIntent};
-ghost use Rattle.leg_table.specs.Value.{IsSid};
-ghost use Rattle.path_compiler.specs.Search.{IsPath};
-ghost use Rattle.path_compiler.specs.Compiled.{CompileAnswers, IsEmptySolution, IsFound, IsListOf, ListOrNone, containers_of};
+ghost use Rattle.leg_table.specs.Value.{legs_value};
+ghost use Rattle.list_pack.specs.Least.{IsSolution};
+ghost use Rattle.path_compiler.specs.Compiled.{CompileAnswers, IsFound, IsListIn, container_in, cost_in};
 
 use crate::compiled::{CompileFault, Compiled};
-use crate::find::{Found, find};
 use base::NoMemory;
 use intent_reader::Intent;
-use leg_table::{Container, Legs, PathSteps, Potentials, Prefixes, SidList, Solution, StrictLegs};
+use leg_table::{Container, Prefixes, SidList, StrictLegs};
+use list_encoder::solve;
+use list_pack::{Cost, PathStep, Potential, Solution};
 use net_model::{Net, compilable};
 use std::alloc::Global;
 
-// a solution with nothing in it
-fn no_solution(alloc: Global) -> Solution
-    ensures { IsEmptySolution result }
-{
-    Solution {
-        potentials: Potentials::new(Vec::new(alloc)),
-        path: PathSteps::new(Vec::new(alloc)),
-    }
-}
-
 // the header bytes in front of the inner packet
-fn header_bytes(reduced: bool, containers: u32) -> u32
-    requires { containers ≤ 6273 }
+fn header_bytes(reduced: bool, containers: u32) -> u64
     ensures { result ≡ encapsulation.header_bytes reduced containers }
 {
+    let containers = u64::from(containers);
     if !reduced {
         48 + 16 * containers
     } else if containers > 1 {
@@ -40,54 +33,67 @@ fn header_bytes(reduced: bool, containers: u32) -> u32
     }
 }
 
-// the list of these SIDs, one to a container
-fn list_of<L: Legs>(alloc: Global, legs: &L, sids: &[u32]) -> Result<SidList, NoMemory>
-    requires { All (IsSid (L.seen legs.now)) sids.now }
-    ensures { IfOk result (λ list. list ≡ containers_of (L.seen legs.now).shape sids.now) }
+// the list of a path, one SID to a container
+fn list_of(alloc: Global, path: &[PathStep]) -> Result<SidList, NoMemory>
+    ensures { IfOk result (λ list. list ≡ map container_in path.now) }
 {
     let mut containers = Vec::new(alloc);
-    for n in sids {
+    for step in path {
         let mut prefixes = Vec::new(alloc);
-        prefixes.push(legs.shape(*n).prefix)?;
+        prefixes.push(step.prefix)?;
         containers.push(Container::Full(Prefixes::new(prefixes)))?;
     }
     Ok(SidList::new(containers))
 }
 
-// the list of a path, with its numbers
-fn compiled_of<L: Legs>(
-    alloc: Global,
-    legs: &L,
-    reduced: bool,
-    found: Found,
-) -> Result<Compiled, NoMemory>
-    requires { IsPath (L.seen legs.now) 0 None found 6273 }
-    ensures { IfOk result (IsListOf (L.seen legs.now).shape reduced found.sids.items found.need) }
+// the cost of the state that is listed first: the start, where a path leads from it to the end
+fn first_cost(potentials: &[Potential]) -> Cost
+    requires { 0 < length potentials.now }
+    ensures { option_map cost_in (slice_get potentials.now 0) ≡ Some result }
 {
-    legs.steps();
-    let list = list_of(alloc, legs, found.sids.as_slice())?;
-    let containers = found.sids.len() as u32;
+    potentials[0].cost
+}
+
+// the list of a solution's path, with its numbers
+fn compiled_of(alloc: Global, reduced: bool, solution: Solution) -> Result<Compiled, NoMemory>
+    requires { 0 < length solution.potentials }
+    ensures { IfOk result (IsListIn reduced solution) }
+{
+    let cost = first_cost(solution.potentials.as_slice());
+    let list = list_of(alloc, solution.path.as_slice())?;
     Ok(Compiled {
         list,
-        containers,
-        header: header_bytes(reduced, containers),
-        need: found.need,
-        solution: no_solution(alloc),
+        containers: cost.containers,
+        header: header_bytes(reduced, cost.containers),
+        need: cost.hops,
+        solution,
     })
 }
 
-// a list for the intent, where there is one
-fn list_for(alloc: Global, net: &Net, intent: &Intent) -> Result<Option<Compiled>, NoMemory>
+// what the search over the intent's legs finds
+fn solution_of(alloc: Global, net: &Net, intent: &Intent) -> Result<Solution, NoMemory>
+    requires { IsIntent net.now intent.now }
+    ensures { IfOk result (IsSolution (legs_value net.now intent.now)) }
+{
+    let legs = StrictLegs::build(alloc, net, intent)?;
+    solve(alloc, &legs)
+}
+
+// the least list, where there is a path
+fn found_of(
+    alloc: Global,
+    net: &Net,
+    intent: &Intent,
+    solution: Solution,
+) -> Result<Compiled, NoMemory>
     requires flat { IsFlat net.now }
     requires intent { IsIntent net.now intent.now }
-    ensures { IfOk result (ListOrNone net.now intent.now) }
+    requires solution { IsSolution (legs_value net.now intent.now) solution }
+    requires path { 0 < length solution.path }
+    ensures { IfOk result (IsFound net.now intent.now) }
 {
     net.keeps_rules();
-    let legs = StrictLegs::build(alloc, net, intent)?;
-    match find(alloc, &legs)? {
-        Some(found) => Ok(Some(compiled_of(alloc, &legs, intent.reduced, found)?)),
-        None => Ok(None),
-    }
+    compiled_of(alloc, intent.reduced, solution)
 }
 
 // a list that was found, judged by the intent's bounds
@@ -106,25 +112,31 @@ fn judged(net: &Net, intent: &Intent, found: Compiled) -> Result<Compiled, Compi
     Ok(found)
 }
 
-/// Compiles an intent that keeps the rules in the network to a list of SIDs, one to a container,
-/// that takes each packet of the intent along exactly its steps, whichever equal next hop is chosen
-/// (own rule; the header is that of RFC 8986 sections 5.1 and 5.2). `NotFlat` comes where the
-/// network is not flat; else `NoList` where there is no such list; else `TooLong` where the list
-/// that was found has more than `max_containers` containers; else `HopLimit` where its need is not
-/// below `hop_limit`.
+/// Compiles an intent that keeps the rules in the network to the least list of SIDs, one to a
+/// container, that takes each packet of the intent along exactly its steps, whichever equal next hop
+/// is chosen: no other such list has fewer containers, or as many and a smaller need, and of equal
+/// ones it is the first in the order of paths (own rule; the header is that of RFC 8986 sections 5.1
+/// and 5.2). `NotFlat` comes where the network is not flat; else `NoList` where there is no such
+/// list; else `TooLong` where the least list has more than `max_containers` containers; else
+/// `HopLimit` where its need is not below `hop_limit`.
 pub fn compile(alloc: Global, net: &Net, intent: &Intent) -> Result<Compiled, CompileFault>
     requires { IsIntent net.now intent.now }
     ensures { CompileAnswers net.now intent.now result }
 {
+    net.keeps_rules();
     match compilable(net) {
         Err(why) => return Err(CompileFault::NotFlat(why)),
         Ok(()) => {}
     }
-    match list_for(alloc, net, intent) {
-        Ok(Some(found)) => judged(net, intent, found),
-        Ok(None) => Err(CompileFault::NoList {
-            solution: no_solution(alloc),
-        }),
+    let solution = match solution_of(alloc, net, intent) {
+        Ok(solution) => solution,
+        Err(NoMemory) => return Err(CompileFault::NoMemory),
+    };
+    if solution.path.as_slice().is_empty() {
+        return Err(CompileFault::NoList { solution });
+    }
+    match found_of(alloc, net, intent, solution) {
+        Ok(found) => judged(net, intent, found),
         Err(NoMemory) => Err(CompileFault::NoMemory),
     }
 }

@@ -1,6 +1,7 @@
 use crate::{CompileFault, Compiled, compile};
 use intent_reader::read_intent;
 use leg_table::Container;
+use list_pack::Cost;
 use net_model::NotFlat;
 use net_reader::read_net;
 use std::process::Abort;
@@ -90,7 +91,7 @@ const VPN_D: u128 = 0xfcbb_bb00_f001_0000_0000_0000_0000_0000;
 const INSIDE_B: u128 = 0xfcbb_bb00_0002_e001_0000_0000_0000_0000;
 
 // each container holds one SID alone: B's End, B's End.X, D's End, D's End.DT6
-fn assert_row(rt: &impl Abort, compiled: &Compiled, header: u32) {
+fn assert_row(rt: &impl Abort, compiled: &Compiled, header: u64) {
     let want = [END_B, CROSS_B, END_D, VPN_D];
     assert_eq!(rt; compiled.list.as_slice().len(), want.len());
     for (container, value) in compiled.list.as_slice().iter().zip(want) {
@@ -105,8 +106,15 @@ fn assert_row(rt: &impl Abort, compiled: &Compiled, header: u32) {
     assert_eq!(rt; compiled.header, header);
     // ab, bc1 after no lowering at End.X, cd: 1 + 1 + 2 + 0
     assert_eq!(rt; compiled.need, 4);
-    assert!(rt; compiled.solution.potentials.as_slice().is_empty());
-    assert!(rt; compiled.solution.path.as_slice().is_empty());
+    let cost = Cost {
+        containers: 4,
+        hops: 4,
+    };
+    match compiled.solution.potentials.as_slice().first() {
+        Some(start) => assert_eq!(rt; start.cost, cost),
+        None => panic!(rt; "nothing is listed"),
+    }
+    assert_eq!(rt; compiled.solution.path.as_slice().len(), 4);
 }
 
 // the refusal of a network that is not flat
@@ -177,5 +185,61 @@ fn a_row_has_no_list(rt: HostRuntime) -> Result<(), Fail> {
     let inner = Prefix::new(Addr { value: INSIDE_B }, 64).expect(&rt, "a prefix");
     let answer = compile(alloc, &nested, &intent);
     assert!(&rt; not_flat(&answer) == Some(NotFlat::Nested { outer, inner }));
+    Ok(())
+}
+
+// the far SID is come to from B alone, whose link an End.X crosses: no route leads from B
+const PAIR: &str = r#"
+node = [
+    { name = "B", address = "2001:db8::b" },
+    { name = "C", address = "2001:db8::c" },
+]
+link = [
+    { name = "bc", from = "B", to = "C" },
+    { name = "ce", from = "C" },
+]
+route = [{ node = "C", table = 100, prefix = "::/0", via = ["ce"] }]
+
+[[sid]]
+node = "B"
+prefix = "fcbb:1::/48"
+behaviour = "End"
+
+[[sid]]
+node = "B"
+prefix = "fcbb:2::/48"
+behaviour = "End.X"
+links = ["bc"]
+
+[[sid]]
+node = "C"
+prefix = "fcbb:3::/48"
+behaviour = "End.DT6"
+title = "vpn"
+table = 100
+"#;
+
+const PAIR_INTENT: &str = r#"
+headend = "B"
+source = "2001:db8::b"
+inner = "ipv6"
+mode = "reduced"
+max_containers = 2
+step = [{ links = ["bc"] }, { function = "vpn" }]
+"#;
+
+// by B's End, its End.X and C's End.DT6 there is a list of three containers too
+#[test]
+fn the_least_list_is_taken(rt: HostRuntime) -> Result<(), Fail> {
+    let alloc = rt.alloc();
+    let net = read_net(alloc, PAIR.as_bytes())?;
+    let intent = read_intent(alloc, PAIR_INTENT.as_bytes(), &net)?;
+    match compile(alloc, &net, &intent) {
+        Ok(compiled) => {
+            assert_eq!(&rt; compiled.containers, 2);
+            assert_eq!(&rt; compiled.list.as_slice().len(), 2);
+        }
+        Err(_) => panic!(&rt; "not compiled"),
+    }
     Ok(())
 }
