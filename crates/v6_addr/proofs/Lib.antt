@@ -7,6 +7,7 @@ pub mod LengthWalks
 pub mod Numbers
 pub mod PlaceTexts
 pub mod Places
+pub mod Places4
 pub mod PrefixFaults
 pub mod PrefixFaults6
 pub mod PrefixGrammar
@@ -16,5 +17,6 @@ pub mod Reading
 pub mod RoundTrip
 pub mod RunLaws
 pub mod Runs
+pub mod Texts4
 pub mod Walks
 pub mod Writing

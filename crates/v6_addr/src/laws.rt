@@ -1,6 +1,7 @@
-ghost use Rattle.std.specs.Prelude.{◌≡◌, ℕ, ◌+◌, ◌-◌, ◌*◌, ◌^◌, ◌<◌, ◌≤◌, ◌↔◌, IsTrue, List, Some, length};
+ghost use Rattle.std.specs.Prelude.{◌≡◌, ℕ, ◌+◌, ◌-◌, ◌*◌, ◌%◌, ◌^◌, ◌<◌, ◌≤◌, ◌↔◌, IsTrue, List, Some, length};
 ghost use Rattle.v6_addr.specs.Address.{PrefixValue, IsPrefix, Holds, holds_address, IsInside, is_inside, field_of, with_field_of};
 ghost use Rattle.v6_addr.specs.Text.{address_of_text, prefix_of_text, address_text, prefix_text, longest_run};
+ghost use Rattle.v6_addr.specs.Text4.{IsAddress4Text, address4_text};
 ghost use Rattle.v6_addr.specs.Grammar.{IsAddressText, IsPrefixText, IsLongestRun};
 
 /// A law: an address's text is read exactly where the grammar of RFC 4291 section 2.2 without a
@@ -32,6 +33,18 @@ pub fn prefix_grammar()
 pub fn prefix_reads_back()
     ensures read_back { (p : PrefixValue) → IsPrefix p → prefix_of_text (prefix_text p) ≡ Some p }
     ensures len { (p : PrefixValue) → length (prefix_text p) ≤ 43 }
+{}
+
+/// A law: a text writes one IPv4 address at most.
+pub fn address4_grammar()
+    ensures { (text : List ℕ) (a b : ℕ) → IsAddress4Text text a → IsAddress4Text text b → a ≡ b }
+{}
+
+/// A law: the text of an IPv4 address has at most 15 bytes, and is read as that address.
+pub fn address4_reads_back()
+    ensures read_back { (a : ℕ) → a < 2 ^ 128 → a % 2 ^ 96 ≡ 0
+        → IsAddress4Text (address4_text a) a }
+    ensures len { (a : ℕ) → length (address4_text a) ≤ 15 }
 {}
 
 /// Laws on what prefixes hold: a prefix holds its own address, and one of 128 bits no other; what a

@@ -1,4 +1,7 @@
-use crate::{Addr, BadAddr, field, parse_addr, parse_prefix, with_field, write_addr, write_prefix};
+use crate::{
+    Addr, BadAddr, field, parse_addr, parse_addr4, parse_prefix, with_field, write_addr,
+    write_addr4, write_prefix,
+};
 use arrayvec::ArrayString;
 use std::process::Abort;
 use std::test::Fail;
@@ -78,6 +81,34 @@ fn other_texts(rt: HostRuntime) {
         (b"1.2.3.4", 1),
     ] {
         assert_eq!(rt; parse_addr(text), Err(BadAddr { at }));
+    }
+}
+
+#[test]
+fn ipv4_texts(rt: HostRuntime) {
+    for (text, top) in [
+        (b"192.0.2.1".as_slice(), 0xc000_0201_u128),
+        (b"0.0.0.0", 0),
+        (b"255.10.100.9", 0xff0a_6409),
+    ] {
+        let address = Addr { value: top << 96 };
+        assert_eq!(rt; parse_addr4(text), Ok(address));
+        let mut out = ArrayString::<15>::new();
+        write_addr4(&mut out, address);
+        assert_eq!(rt; out.as_bytes(), text);
+    }
+    for (text, at) in [
+        (b"".as_slice(), 0),
+        (b"256.0.0.1", 2),
+        (b"1.02.3.4", 3),
+        (b"1.2.3", 5),
+        (b"1.2.3.", 6),
+        (b"1.2.3.4.5", 7),
+        (b"1..2", 2),
+        (b"1.2.3.4/8", 7),
+        (b"::1", 0),
+    ] {
+        assert_eq!(rt; parse_addr4(text), Err(BadAddr { at }));
     }
 }
 
