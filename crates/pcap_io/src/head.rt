@@ -1,6 +1,6 @@
 //! The head of a capture.
 
-ghost use Rattle.std.specs.Prelude.{◌≡◌, ◌≤◌, length, Some};
+ghost use Rattle.std.specs.Prelude.{◌≡◌, ◌≤◌, length, Some, OnOk};
 ghost use Rattle.pcap_io.specs.Head.{magic_of, link_of, head_behind, head_of};
 
 use crate::fault::CaptureFault;
@@ -99,7 +99,8 @@ fn head_behind(magic: Magic, bytes: &[u8]) -> Result<CaptureHead, CaptureFault>
 /// there, `BadVersion`, and `BadLink` with the low 16 bits. (own rules)
 #[tactic(auto, unfolding(crate::specs::Head::head_of))]
 pub fn read_head(bytes: &[u8]) -> Result<CaptureHead, CaptureFault>
-    ensures { result ≡ head_of bytes.now }
+    ensures head { result ≡ head_of bytes.now }
+    ensures whole { OnOk result (HEAD_LEN ≤ length bytes.now) }
 {
     if bytes.len() < 4 {
         return Err(CaptureFault::CutHead);
