@@ -1,2 +1,4 @@
 pub mod Reading
 pub mod NumberLemmas
+pub mod FrameLemmas
+pub mod HeadLemmas

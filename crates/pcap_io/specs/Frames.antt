@@ -1,6 +1,7 @@
 -- The frames of a classic capture, one after the other behind its head: four numbers and the captured bytes (own rule
 -- for the format that is read).
-use Rattle.std.specs.Prelude.{◌≡◌, ℕ, zero, suc, ◌+◌, ◌/◌, ◌^◌, ◌<◌, ◌≤◌, ◌==◌, nat_lt, nat_le, if◌then◌else◌, Bool, true, false, List, [], ◌∷◌, ◌++◌, length, take, drop, slice_index}
+use Rattle.std.specs.Prelude.{◌≡◌, ℕ, zero, suc, ◌+◌, ◌/◌, ◌^◌, ◌<◌, ◌≤◌, ◌==◌, nat_lt, nat_le, if◌then◌else◌, Bool, true, false, List, [], ◌∷◌, ◌++◌, length, take, drop, slice_index, All}
+use Rattle.std.specs.List.{flat_map}
 use Rattle.pcap_io.specs.declared.frame.Body.{Body}
 use Rattle.pcap_io.specs.declared.frame.Body.TheVariants.{V6, V4, ShortFrame, NotIp}
 use Rattle.pcap_io.specs.declared.frame.Frame.{Frame}
@@ -106,3 +107,12 @@ frames_of head (suc most) n bytes =
           (frames_of head most (n + 1) (behind head.little bytes))
       | false ↦ record { frames = []; rest = bytes }
     ]
+
+-- The bytes are these frames one after the other, at most so many, and a rest that begins with no whole frame unless
+-- they are so many; `read` has what the frames hold, numbered from n on, and the rest.
+pub record Splits (head : CaptureHead) (most n : ℕ) (bytes : List ℕ) (frames : List Spelled) (read : Reading) : Type 0 where
+  pub fit : All Fits frames
+  pub within : length frames ≤ most
+  pub whole : bytes ≡ flat_map (frame_bytes head.little) frames ++ read.rest
+  pub held : read.frames ≡ numbered_from head.link n frames
+  pub partial : length frames < most → HoldsNoFrame head.little read.rest

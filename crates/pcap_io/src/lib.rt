@@ -9,7 +9,7 @@ mod capture;
 mod fault;
 mod frame;
 mod head;
-//LAWS mod laws;
+mod laws;
 mod numbers;
 mod read;
 mod reader;
@@ -19,10 +19,10 @@ pub use capture::Capture;
 pub use fault::{CaptureFault, CutFrame, ReadFault, TakeFault};
 pub use frame::{Body, Frame};
 pub use head::{CaptureHead, LinkType, read_head};
-//LAWS pub use laws::{
-//LAWS     frames_are_spelled, heads_are_spelled, no_frame_is_spelled_there, spelled_frames_are_read,
-//LAWS     spelled_heads_are_read, written_captures_are_read,
-//LAWS };
+pub use laws::{
+    frames_are_spelled, heads_are_spelled, no_frame_is_spelled_there, spelled_frames_are_read,
+    spelled_heads_are_read, written_captures_are_read,
+};
 pub use numbers::{HEAD_LEN, MAX_FRAMES, MAX_PACKET_LEN, SNAPLEN};
 pub use read::read_capture;
 pub use reader::FrameReader;

@@ -1,0 +1,2 @@
+-- The spelling of heads read back, and what is read as a head spelled.
+use Rattle.std.proofs.Common.{◌≡◌}
