@@ -1,5 +1,5 @@
-use Rattle.pcap_io.proofs.HeadLemmas.{head_of-parts}
+use Rattle.pcap_io.proofs.HeadLemmas.{head-read}
 use Rattle.pcap_io.proofs.laws.spelled_heads_are_read.Goals as goal
 
 pub returns : goal.returns
-returns c = ?
+returns c = head-read
