@@ -2,3 +2,4 @@ pub mod Reading
 pub mod NumberLemmas
 pub mod FrameLemmas
 pub mod HeadLemmas
+pub mod WrittenLemmas
