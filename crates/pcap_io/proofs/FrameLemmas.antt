@@ -50,24 +50,24 @@ module _ (little : Bool) (f : Spelled) (rest : List ℕ) (fits : Fits f) where
   unfolding spelled_from
   fraction_at =
       ap (number_of little 4) (drop4 (number_bytes little 4 f.seconds) (number_bytes little 4 f.fraction)
-        (number_bytes little 4 (length f.captured)) (number_bytes little 4 f.original) (f.captured ++ rest)
-        (number_bytes-length little 4 _) (number_bytes-length little 4 _) (number_bytes-length little 4 _) (number_bytes-length little 4 _))
+      (number_bytes little 4 (length f.captured)) (number_bytes little 4 f.original) (f.captured ++ rest)
+      (number_bytes-length little 4 _) (number_bytes-length little 4 _) (number_bytes-length little 4 _) (number_bytes-length little 4 _))
       ∙ number_of-bytes little 4 f.fraction _ fits.fraction
 
   captured_at : number_of little 4 (drop 8 (spelled_from little f rest)) ≡ length f.captured
   unfolding spelled_from
   captured_at =
       ap (number_of little 4) (drop8 (number_bytes little 4 f.seconds) (number_bytes little 4 f.fraction)
-        (number_bytes little 4 (length f.captured)) (number_bytes little 4 f.original) (f.captured ++ rest)
-        (number_bytes-length little 4 _) (number_bytes-length little 4 _) (number_bytes-length little 4 _) (number_bytes-length little 4 _))
+      (number_bytes little 4 (length f.captured)) (number_bytes little 4 f.original) (f.captured ++ rest)
+      (number_bytes-length little 4 _) (number_bytes-length little 4 _) (number_bytes-length little 4 _) (number_bytes-length little 4 _))
       ∙ number_of-bytes little 4 (length f.captured) _ fits.captured
 
   original_at : number_of little 4 (drop 12 (spelled_from little f rest)) ≡ f.original
   unfolding spelled_from
   original_at =
       ap (number_of little 4) (drop12 (number_bytes little 4 f.seconds) (number_bytes little 4 f.fraction)
-        (number_bytes little 4 (length f.captured)) (number_bytes little 4 f.original) (f.captured ++ rest)
-        (number_bytes-length little 4 _) (number_bytes-length little 4 _) (number_bytes-length little 4 _) (number_bytes-length little 4 _))
+      (number_bytes little 4 (length f.captured)) (number_bytes little 4 f.original) (f.captured ++ rest)
+      (number_bytes-length little 4 _) (number_bytes-length little 4 _) (number_bytes-length little 4 _) (number_bytes-length little 4 _))
       ∙ number_of-bytes little 4 f.original _ fits.original
 
   bytes_at : drop 16 (spelled_from little f rest) ≡ f.captured ++ rest
@@ -85,7 +85,7 @@ module _ (little : Bool) (f : Spelled) (rest : List ℕ) (fits : Fits f) where
   unfolding first_frame
   first_spelled =
       let cut : take (length f.captured) (drop 16 (spelled_from little f rest)) ≡ f.captured =
-        ap (take (length f.captured)) bytes_at ∙ take_at f.captured rest (length f.captured) refl in
+      ap (take (length f.captured)) bytes_at ∙ take_at f.captured rest (length f.captured) refl in
       rw (seconds_at, fraction_at, original_at, captured_at, cut) refl
 
   length_spelled : length (spelled_from little f rest) ≡ 16 + length f.captured + length rest
@@ -125,7 +125,7 @@ pub frames_of-frame_bytes : (head : CaptureHead) (most n : ℕ) (f : Spelled) (r
 frames_of-frame_bytes head most n f rest fits =
     frames_of-whole head most n (frame_bytes head.little f ++ rest) (whole_spelled head.little f rest fits)
     ∙ ap (λ g. with_front (numbered head.link n g ∷ []) (frames_of head most (n + 1) (behind head.little (frame_bytes head.little f ++ rest))))
-      (first-frame_bytes head.little f rest fits)
+    (first-frame_bytes head.little f rest fits)
     ∙ ap (λ bs. with_front (numbered head.link n f ∷ []) (frames_of head most (n + 1) bs)) (behind-frame_bytes head.little f rest fits)
 
 -- frames that are spelled one after the other are read
@@ -195,17 +195,17 @@ module _ (little : Bool) (bytes : List ℕ) (all : All (λ b. b < 2 ^ 8) bytes) 
     seconds = below_at 0;
     fraction = below_at 4;
     original = below_at 12;
-    captured = let e = cut_len in let h = below_at 8 in rw e h
+    captured = let e = cut_len in let h = below_at 8 in rw e h;
   }
 
   first_bytes : frame_bytes little (first_frame little bytes)
       ≡ numbers_of_frame little (number_of little 4 bytes) (number_of little 4 (drop 4 bytes)) (number_of little 4 (drop 8 bytes))
-        (number_of little 4 (drop 12 bytes))
+      (number_of little 4 (drop 12 bytes))
       ++ take (number_of little 4 (drop 8 bytes)) (drop 16 bytes)
   unfolding first_frame
   first_bytes =
       ap (λ k. numbers_of_frame little (number_of little 4 bytes) (number_of little 4 (drop 4 bytes)) k (number_of little 4 (drop 12 bytes))
-        ++ take (number_of little 4 (drop 8 bytes)) (drop 16 bytes)) cut_len
+      ++ take (number_of little 4 (drop 8 bytes)) (drop 16 bytes)) cut_len
 
   numbers_first : bytes ≡ numbers_of_frame little (number_of little 4 bytes) (number_of little 4 (drop 4 bytes))
       (number_of little 4 (drop 8 bytes)) (number_of little 4 (drop 12 bytes)) ++ drop 16 bytes
@@ -230,7 +230,7 @@ module _ (little : Bool) (bytes : List ℕ) (all : All (λ b. b < 2 ^ 8) bytes) 
   pub first-spelled : bytes ≡ frame_bytes little (first_frame little bytes) ++ behind little bytes
   first-spelled =
       let numbers = numbers_of_frame little (number_of little 4 bytes) (number_of little 4 (drop 4 bytes))
-        (number_of little 4 (drop 8 bytes)) (number_of little 4 (drop 12 bytes)) in
+      (number_of little 4 (drop 8 bytes)) (number_of little 4 (drop 12 bytes)) in
       let cut = number_of little 4 (drop 8 bytes) in
       numbers_first
       ∙ ap (λ r. numbers ++ r) (sym (take-append-drop cut (drop 16 bytes)))
@@ -252,7 +252,7 @@ splits-none head most n bytes read none is = rw is (record {
   within = omega arith;
   whole = refl;
   held = refl;
-  partial = none
+  partial = none;
 })
 
 -- a whole frame in front of frames
@@ -263,9 +263,9 @@ splits-first head most n bytes more f fs read all fits first s is = rw is (recor
   fit = All-cons Fits f fs fits s.fit;
   within = let h = s.within in omega arith;
   whole = first ∙ ap (λ r. frame_bytes head.little f ++ r) s.whole
-    ∙ sym (append_assoc (frame_bytes head.little f) (flat_map (frame_bytes head.little) fs) read.rest);
+      ∙ sym (append_assoc (frame_bytes head.little f) (flat_map (frame_bytes head.little) fs) read.rest);
   held = ap (λ held. numbered head.link n f ∷ held) s.held;
-  partial = λ below. s.partial (omega arith)
+  partial = λ below. s.partial (omega arith);
 })
 
 -- what is read is frames that stand in the bytes one after the other
@@ -274,13 +274,18 @@ pub frames-spelled : (head : CaptureHead) (most n : ℕ) (bytes : List ℕ) → 
 frames-spelled head zero n bytes all =
     ([], splits-none head zero n bytes (frames_of head zero n bytes) (λ some. absurd (omega arith)) (frames_of-zero head n bytes))
 frames-spelled head (suc most) n bytes all = elim (cases_lt (length bytes) (frame_len head.little bytes)) [
-  | inl none ↦ ([], splits-none head (suc most) n bytes (frames_of head (suc most) n bytes) (λ some. none)
-      (frames_of-none head (suc most) n bytes none))
+  | inl none ↦ (
+    [],
+    splits-none head (suc most) n bytes (frames_of head (suc most) n bytes) (λ some. none)
+        (frames_of-none head (suc most) n bytes none),
+  )
   | inr whole ↦
       let f = first_frame head.little bytes in
       let more = behind head.little bytes in
-      let later = frames-spelled head most (n + 1) more (All-drop (λ b. b < 2 ^ 8) (frame_len head.little bytes) bytes all) in
-      (f ∷ later.0, splits-first head most n bytes more f later.0 (frames_of head most (n + 1) more) (frames_of head (suc most) n bytes)
-        (first-fits head.little bytes all whole) (first-spelled head.little bytes all whole) later.1
-        (frames_of-whole head most n bytes whole))
+      let later = frames-spelled head most (n + 1) more (All-drop (λ b. b < 2 ^ 8) (frame_len head.little bytes) bytes all) in (
+        f ∷ later.0,
+        splits-first head most n bytes more f later.0 (frames_of head most (n + 1) more) (frames_of head (suc most) n bytes)
+            (first-fits head.little bytes all whole) (first-spelled head.little bytes all whole) later.1
+            (frames_of-whole head most n bytes whole),
+      )
 ]

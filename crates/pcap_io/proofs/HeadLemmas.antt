@@ -57,7 +57,7 @@ head_of-parts bytes little nanos link len other magic version kind =
     let some : nat_lt (length bytes) 4 ≡ false = le-ltb (length bytes) 4 (omega arith) in
     let enough : nat_lt (length bytes) 24 ≡ false = le-ltb (length bytes) 24 len in
     let behind : head_behind (Some (record { little = little; nanos = nanos })) bytes ≡ Ok (record { little = little; nanos = nanos; link = link }) =
-      rw (enough, version, kind) refl in
+    rw (enough, version, kind) refl in
     rw (some, other, magic, head_of) behind
 
 -- the number with the link type in its low half
@@ -136,9 +136,9 @@ module _ (head : CaptureHead) (u : Unread) (rest : List ℕ) where
   parts-version : is_version head.little (parts head u rest) ≡ true
   parts-version =
       let major : number_of head.little 2 (drop 4 (parts head u rest)) ≡ MAJOR =
-        ap (number_of head.little 2) parts4 ∙ number_of-bytes head.little 2 MAJOR (from6 head u rest) (omega arith) in
+      ap (number_of head.little 2) parts4 ∙ number_of-bytes head.little 2 MAJOR (from6 head u rest) (omega arith) in
       let minor : number_of head.little 2 (drop 6 (parts head u rest)) ≡ MINOR =
-        ap (number_of head.little 2) parts6 ∙ number_of-bytes head.little 2 MINOR (from8 head u rest) (omega arith) in
+      ap (number_of head.little 2) parts6 ∙ number_of-bytes head.little 2 MINOR (from8 head u rest) (omega arith) in
       rw (major, minor) refl
 
   parts-link : FitsHead u → link_of (link_type_at head.little (parts head u rest)) ≡ Ok head.link
@@ -146,9 +146,9 @@ module _ (head : CaptureHead) (u : Unread) (rest : List ℕ) where
       let below = link_number-below head.link in
       let high = fits.high in
       let last : number_of head.little 4 (drop 20 (parts head u rest)) ≡ last_number head u =
-        ap (number_of head.little 4) parts20 ∙ number_of-bytes head.little 4 (last_number head u) rest (omega arith) in
+      ap (number_of head.little 4) parts20 ∙ number_of-bytes head.little 4 (last_number head u) rest (omega arith) in
       let low : last_number head u % 65536 ≡ link_number head.link =
-        mul-add-mod_self_right u.high 65536 (link_number head.link) ∙ mod-eq_of_lt below in
+      mul-add-mod_self_right u.high 65536 (link_number head.link) ∙ mod-eq_of_lt below in
       ap (λ n. link_of (n % 65536)) last ∙ ap link_of low ∙ link-spelled head.link
 
 -- a head that is spelled is read
@@ -156,8 +156,8 @@ pub head-read : (head : CaptureHead) (u : Unread) (rest : List ℕ) → FitsHead
 head-read head u rest fits =
     ap head_of (head_bytes-parts head u rest)
     ∙ head_of-parts (parts head u rest) head.little head.nanos head.link (parts-length head u rest)
-      (other-spelled head.little head.nanos (from4 head u rest)) (magic-spelled head.little head.nanos (from4 head u rest))
-      (parts-version head u rest) (parts-link head u rest fits)
+    (other-spelled head.little head.nanos (from4 head u rest)) (magic-spelled head.little head.nanos (from4 head u rest))
+    (parts-version head u rest) (parts-link head u rest fits)
 
 -- what is behind a head that is spelled
 pub behind-head : (head : CaptureHead) (u : Unread) (rest : List ℕ) → drop HEAD_LEN (head_bytes head u ++ rest) ≡ rest
@@ -234,7 +234,7 @@ is_head bytes m link magic enough version kind =
       magic = magic-read bytes m magic;
       major = eqb-true (number_of m.little 2 (drop 4 bytes)) MAJOR both.0;
       minor = eqb-true (number_of m.little 2 (drop 6 bytes)) MINOR both.1;
-      link = link-read (link_type_at m.little bytes) link kind
+      link = link-read (link_type_at m.little bytes) link kind;
     }
 
 head_behind-ok : (bytes : List ℕ) (found : Option Magic) (head : CaptureHead) → magic_of bytes ≡ found → head_behind found bytes ≡ Ok head
@@ -263,7 +263,7 @@ module _ (bytes : List ℕ) (head : CaptureHead) (all : All (λ b. b < 2 ^ 8) by
     zone = number_of head.little 4 (drop 8 bytes);
     sigfigs = number_of head.little 4 (drop 12 bytes);
     snaplen = number_of head.little 4 (drop 16 bytes);
-    high = number_of head.little 4 (drop 20 bytes) / 65536
+    high = number_of head.little 4 (drop 20 bytes) / 65536;
   }
 
   unread-fits : FitsHead unread
@@ -271,7 +271,7 @@ module _ (bytes : List ℕ) (head : CaptureHead) (all : All (λ b. b < 2 ^ 8) by
     zone = below 8;
     sigfigs = below 12;
     snaplen = below 16;
-    high = omega (arith, high)
+    high = omega (arith, high);
   }
 
   last-read : number_of head.little 4 (drop 20 bytes) ≡ last_number head unread

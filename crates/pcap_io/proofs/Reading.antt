@@ -37,7 +37,7 @@ pub record Progress (start now : Reader) (frames : List Frame) : Type 0 where
   pub taken : now.taken ≡ length frames
   pub within : now.taken ≤ MAX_FRAMES
   pub left : (most : ℕ) → most + now.taken ≡ MAX_FRAMES
-    → frames_of start.head MAX_FRAMES 1 start.rest ≡ with_front frames (frames_of now.head most (now.taken + 1) now.rest)
+      → frames_of start.head MAX_FRAMES 1 start.rest ≡ with_front frames (frames_of now.head most (now.taken + 1) now.rest)
 
 left_at_start : (start : Reader) (limit most : ℕ) → start.taken ≡ 0 → most + start.taken ≡ limit
     → frames_of start.head limit 1 start.rest ≡ with_front [] (frames_of start.head most (start.taken + 1) start.rest)
@@ -51,7 +51,7 @@ progress-start start none = record {
   head = refl;
   taken = none;
   within = omega arith;
-  left = λ most all. left_at_start start MAX_FRAMES most none all
+  left = λ most all. left_at_start start MAX_FRAMES most none all;
 }
 
 left_behind : (limit : ℕ) (start now : Reader) (frames : List Frame) (most : ℕ)
@@ -70,7 +70,7 @@ progress-frame start now frames p has = record {
   head = p.head;
   taken = let e = length-append frames (next_frame now ∷ []) in let t = p.taken in omega arith;
   within = let h = has.0 in omega arith;
-  left = λ most all. left_behind MAX_FRAMES start now frames most (p.left (suc most) (omega arith)) has.1
+  left = λ most all. left_behind MAX_FRAMES start now frames most (p.left (suc most) (omega arith)) has.1;
 }
 
 nothing_left : (limit : ℕ) (start now : Reader) (frames : List Frame) (most n : ℕ)

@@ -50,7 +50,7 @@ first_frame little bytes =
       seconds = number_of little 4 bytes;
       fraction = number_of little 4 (drop 4 bytes);
       original = number_of little 4 (drop 12 bytes);
-      captured = take (number_of little 4 (drop 8 bytes)) (drop 16 bytes)
+      captured = take (number_of little 4 (drop 8 bytes)) (drop 16 bytes);
     }
 
 -- what is behind it

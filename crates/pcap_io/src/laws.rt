@@ -52,7 +52,7 @@ pub fn written_captures_are_read()
         → number < 2 ^ 32 → link < 2 ^ 32 → length packet ≤ MAX_PACKET_LEN
         → frames_of written_head (suc most) n (written_frame_bytes number link packet ++ rest)
         ≡ with_front (record { number = n; body = by_version packet } ∷ [])
-            (frames_of written_head most (n + 1) rest) }
+        (frames_of written_head most (n + 1) rest) }
     ensures whole { (frames : List Spelled) → All Fits frames → length frames ≤ MAX_FRAMES
         → capture_of (written_head_bytes ++ flat_map (frame_bytes written_head.little) frames)
         ≡ Ok (record { frames = numbered_from written_head.link 1 frames; cut = None }) }

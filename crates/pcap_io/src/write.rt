@@ -49,12 +49,7 @@ pub fn write_head(out: &mut Vec<u8>) -> Result<(), NoMemory>
 /// Writes the frame of a packet at the end: the packet's number as seconds, `link` as
 /// microseconds, the packet's length in bytes twice, and the packet. After want of memory nothing
 /// is written. (own rules)
-pub fn write_frame(
-    out: &mut Vec<u8>,
-    number: u32,
-    link: u32,
-    packet: &[u8],
-) -> Result<(), NoMemory>
+pub fn write_frame(out: &mut Vec<u8>, number: u32, link: u32, packet: &[u8]) -> Result<(), NoMemory>
     requires { length packet.now ≤ MAX_PACKET_LEN }
     ensures ok { OnOk result (out.new.items
         ≡ out.old.items ++ written_frame_bytes number link packet.now) }
