@@ -3,3 +3,4 @@ pub mod NumberLemmas
 pub mod FrameLemmas
 pub mod HeadLemmas
 pub mod WrittenLemmas
+pub mod PublicLaws
