@@ -1,5 +1,7 @@
 //! Captures whose bytes are laid out by hand, read and written.
 
+ghost use Rattle.std.specs.Prelude.{◌<◌};
+
 use crate::{
     Body, Capture, CaptureFault, CaptureHead, CutFrame, FrameReader, HEAD_LEN, LinkType, ReadFault,
     read_capture, read_head, write_frame, write_head,
