@@ -1,11 +1,11 @@
 -- The spelling of heads read back, and what is read as a head spelled.
-use Rattle.std.proofs.Common.{◌≡◌, ℕ, ◌+◌, ◌*◌, ◌/◌, ◌%◌, ◌^◌, ◌<◌, ◌≤◌, ◌==◌, ◌&&◌, ◌⊎◌, Bool, true, false, cond, nat_lt, List, ◌++◌, length, drop, Option, Some, None, Result, Ok, Err, All, refl, sym, ap, subst, ◌∙◌, arith, length-append, inl, inr}
+use Rattle.std.proofs.Common.{◌≡◌, ℕ, ◌+◌, ◌*◌, ◌/◌, ◌%◌, ◌^◌, ◌<◌, ◌≤◌, ◌==◌, ◌&&◌, Bool, true, false, cond, nat_lt, List, ◌++◌, length, drop, Option, Some, None, Result, Ok, Err, All, refl, sym, ap, subst, ◌∙◌, arith, length-append}
 use Rattle.std.proofs.Math.Nat.{div-add-mod', mod-eq_of_lt, mul-add-mod_self_right}
 use Rattle.std.proofs.lemmas.Bool.{eqb-true, le-ltb, ltb-false}
 use Rattle.std.proofs.lemmas.List.{append_assoc, drop_at, drop-drop}
 use Rattle.std.proofs.lemmas.List.Elements.{All-drop}
 use Rattle.pcap_io.specs.declared.fault.CaptureFault.{CaptureFault}
-use Rattle.pcap_io.specs.declared.fault.CaptureFault.TheVariants.{CutHead, PcapNg, BadMagic, BadVersion, BadLink}
+use Rattle.pcap_io.specs.declared.fault.CaptureFault.TheVariants.{CutHead, PcapNg, BadVersion}
 use Rattle.pcap_io.specs.declared.head.CaptureHead.{CaptureHead}
 use Rattle.pcap_io.specs.declared.head.LinkType.{LinkType}
 use Rattle.pcap_io.specs.declared.head.LinkType.TheVariants as links

@@ -1,16 +1,13 @@
 -- What is written reads back.
-use Rattle.std.proofs.Common.{◌≡◌, ℕ, zero, suc, ◌+◌, ◌^◌, ◌<◌, ◌≤◌, Bool, true, false, nat_lt, List, [], ◌∷◌, ◌++◌, length, drop, All, Option, None, Result, Ok, refl, sym, ap, ◌∙◌, arith}
+use Rattle.std.proofs.Common.{◌≡◌, ℕ, suc, ◌+◌, ◌^◌, ◌<◌, ◌≤◌, Bool, List, [], ◌∷◌, ◌++◌, length, drop, All, None, Ok, refl, sym, ap, ◌∙◌, arith}
 use Rattle.std.specs.List.{flat_map}
 use Rattle.std.proofs.lemmas.Bool.{le-ltb}
 use Rattle.std.proofs.lemmas.List.{append-nil}
-use Rattle.pcap_io.specs.declared.capture.Capture.{Capture}
-use Rattle.pcap_io.specs.declared.fault.CaptureFault.{CaptureFault}
-use Rattle.pcap_io.specs.declared.frame.Body.{Body}
 use Rattle.pcap_io.specs.declared.frame.Frame.{Frame}
 use Rattle.pcap_io.specs.declared.head.LinkType.TheVariants as links
 use Rattle.pcap_io.specs.declared.numbers.TheConstants.{HEAD_LEN, MAX_FRAMES, MAX_PACKET_LEN, SNAPLEN}
-use Rattle.pcap_io.specs.Head.{Unread, FitsHead, head_bytes, head_of}
-use Rattle.pcap_io.specs.Frames.{Spelled, Fits, Reading, HoldsNoFrame, frame_bytes, frame_len, by_version, packet_in, body_of, with_front, numbered_from, frames_of}
+use Rattle.pcap_io.specs.Head.{Unread, FitsHead, head_of}
+use Rattle.pcap_io.specs.Frames.{Spelled, Fits, HoldsNoFrame, frame_bytes, frame_len, by_version, packet_in, body_of, with_front, numbered_from, frames_of}
 use Rattle.pcap_io.specs.Capture.{capture_with, capture_behind, capture_of, written_head, written_head_bytes, written_frame, written_frame_bytes}
 use Rattle.pcap_io.proofs.FrameLemmas.{frames_of-frame_bytes, frames_of-spelled}
 use Rattle.pcap_io.proofs.HeadLemmas.{head-read, behind-head}

@@ -1,5 +1,5 @@
 -- A capture as a whole, what a reader has left of one, and what is written.
-use Rattle.std.specs.Prelude.{◌≡◌, ℕ, ◌+◌, ◌<◌, ◌≤◌, ◌==◌, if◌then◌else◌, Bool, true, false, List, ◌++◌, length, drop, Option, Some, None, Result, Ok, Err}
+use Rattle.std.specs.Prelude.{◌≡◌, ℕ, ◌+◌, ◌<◌, ◌≤◌, ◌==◌, if◌then◌else◌, true, false, List, length, drop, Option, Some, None, Result, Ok, Err}
 use Rattle.std.specs.Global.{Vec}
 use Rattle.pcap_io.specs.declared.capture.Capture.{Capture}
 use Rattle.pcap_io.specs.declared.fault.CaptureFault.{CaptureFault}
@@ -12,7 +12,7 @@ use Rattle.pcap_io.specs.declared.frame.Frame.{Frame}
 use Rattle.pcap_io.specs.declared.head.CaptureHead.{CaptureHead}
 use Rattle.pcap_io.specs.declared.head.LinkType.TheVariants as links
 use Rattle.pcap_io.specs.declared.numbers.TheConstants.{HEAD_LEN, MAX_FRAMES, SNAPLEN}
-use Rattle.pcap_io.specs.Head.{Unread, head_bytes, head_of}
+use Rattle.pcap_io.specs.Head.{head_bytes, head_of}
 use Rattle.pcap_io.specs.Frames.{Spelled, Reading, frame_bytes, frame_len, first_frame, behind, numbered, frames_of}
 
 -- a reader: the head, how many frames it took, and the bytes that no frame has taken

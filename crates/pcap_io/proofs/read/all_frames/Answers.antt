@@ -1,7 +1,5 @@
-use Rattle.std.proofs.Common.{◌≡◌, Ok, Err, subst, ap, rules}
 use Rattle.std.proofs.lemmas.Result.{err_from_is_err_and}
-use Rattle.pcap_io.specs.Capture.{Takes, ReadsAll}
-use Rattle.pcap_io.proofs.Reading.{Progress, progress-start, progress-kept, shorter, read-all, read-fault, taken-frame, taken-none}
+use Rattle.pcap_io.proofs.Reading.{progress-start, progress-kept, shorter, read-all, read-fault, taken-frame, taken-none}
 use Rattle.pcap_io.proofs.read.all_frames.Goals as goal
 
 pub loop-frames-init : goal.loop-frames-init
