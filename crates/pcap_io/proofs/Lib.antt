@@ -1,0 +1,6 @@
+pub mod Reading
+pub mod NumberLemmas
+pub mod FrameLemmas
+pub mod HeadLemmas
+pub mod WrittenLemmas
+pub mod PublicLaws

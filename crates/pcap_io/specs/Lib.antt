@@ -1,0 +1,5 @@
+pub mod Numbers
+pub mod Head
+pub mod Frames
+pub mod Capture
+pub mod Taking

@@ -1,0 +1,59 @@
+//! Laws about the definitions, each the contract of a function that does nothing.
+
+ghost use Rattle.std.specs.Prelude.{◌≡◌, ◌<◌, ◌≤◌, ◌+◌, ◌^◌, ℕ, suc, Bool, List, [], ◌∷◌, ◌++◌, length, drop, All, Ok, None};
+ghost use Rattle.std.specs.List.{flat_map};
+ghost use Rattle.pcap_io.specs.declared.head.CaptureHead.{CaptureHead};
+ghost use Rattle.pcap_io.specs.declared.numbers.TheConstants.{HEAD_LEN, MAX_FRAMES, MAX_PACKET_LEN};
+ghost use Rattle.pcap_io.specs.Head.{Unread, FitsHead, head_bytes, head_of};
+ghost use Rattle.pcap_io.specs.Frames.{Spelled, Fits, Reading, Splits, HoldsNoFrame, frame_bytes, frame_len, behind, by_version, with_front, numbered_from, frames_of};
+ghost use Rattle.pcap_io.specs.Capture.{written_head, written_head_bytes, written_frame_bytes, capture_of};
+
+/// A head that is spelled is read, whatever follows it.
+pub fn spelled_heads_are_read()
+    ensures { (head : CaptureHead) (u : Unread) (rest : List ℕ) → FitsHead u
+        → head_of (head_bytes head u ++ rest) ≡ Ok head }
+{}
+
+/// What is read as a head is spelled so, each byte of it.
+pub fn heads_are_spelled()
+    ensures { (bytes : List ℕ) (head : CaptureHead) → All (λ b. b < 2 ^ 8) bytes
+        → head_of bytes ≡ Ok head
+        → (u : Unread) × FitsHead u × (bytes ≡ head_bytes head u ++ drop HEAD_LEN bytes) }
+{}
+
+/// The frames that are read are those that stand in the bytes one after the other, up to a rest
+/// that begins with no whole frame, or up to the limit: no byte is lost or read twice.
+pub fn frames_are_spelled()
+    ensures { (head : CaptureHead) (most n : ℕ) (bytes : List ℕ) → All (λ b. b < 2 ^ 8) bytes
+        → (frames : List Spelled) × Splits head most n bytes frames (frames_of head most n bytes) }
+{}
+
+/// There is one way only to split bytes into frames, and reading gives it.
+pub fn spelled_frames_are_read()
+    ensures { (head : CaptureHead) (most n : ℕ) (bytes : List ℕ) (frames : List Spelled)
+        (read : Reading) → Splits head most n bytes frames read
+        → frames_of head most n bytes ≡ read }
+{}
+
+/// No frame is spelled at the front exactly where the bytes are fewer than its numbers say.
+pub fn no_frame_is_spelled_there()
+    ensures none { (little : Bool) (bytes more : List ℕ) (f : Spelled)
+        → HoldsNoFrame little bytes → Fits f → bytes ≡ frame_bytes little f ++ more → ⊥ }
+    ensures some { (little : Bool) (bytes : List ℕ) → All (λ b. b < 2 ^ 8) bytes
+        → frame_len little bytes ≤ length bytes
+        → (f : Spelled) × Fits f × (bytes ≡ frame_bytes little f ++ behind little bytes) }
+{}
+
+/// What is written reads back, whatever follows: the head, and each frame as its packet where the
+/// packet's first half byte is 6 or 4, else as none.
+pub fn written_captures_are_read()
+    ensures head { (rest : List ℕ) → head_of (written_head_bytes ++ rest) ≡ Ok written_head }
+    ensures frame { (number link most n : ℕ) (packet rest : List ℕ)
+        → number < 2 ^ 32 → link < 2 ^ 32 → length packet ≤ MAX_PACKET_LEN
+        → frames_of written_head (suc most) n (written_frame_bytes number link packet ++ rest)
+        ≡ with_front (record { number = n; body = by_version packet } ∷ [])
+        (frames_of written_head most (n + 1) rest) }
+    ensures whole { (frames : List Spelled) → All Fits frames → length frames ≤ MAX_FRAMES
+        → capture_of (written_head_bytes ++ flat_map (frame_bytes written_head.little) frames)
+        ≡ Ok (record { frames = numbered_from written_head.link 1 frames; cut = None }) }
+{}

@@ -1,0 +1,31 @@
+//! Classic captures in and out (the file format that libpcap calls savefile).
+//!
+//! `read_head` reads the 24 bytes of the head, `FrameReader` takes the frames behind it one by
+//! one, and `read_capture` reads all of a capture. `write_head` and `write_frame` write one. The
+//! laws about the definitions are the contracts of empty functions.
+#![tactic(auto)]
+
+mod capture;
+mod fault;
+mod frame;
+mod head;
+mod laws;
+mod numbers;
+mod read;
+mod reader;
+#[cfg(test)]
+mod tests;
+mod write;
+
+pub use capture::Capture;
+pub use fault::{CaptureFault, CutFrame, ReadFault, TakeFault};
+pub use frame::{Body, Frame};
+pub use head::{CaptureHead, LinkType, read_head};
+pub use laws::{
+    frames_are_spelled, heads_are_spelled, no_frame_is_spelled_there, spelled_frames_are_read,
+    spelled_heads_are_read, written_captures_are_read,
+};
+pub use numbers::{HEAD_LEN, MAX_FRAMES, MAX_PACKET_LEN, SNAPLEN};
+pub use read::read_capture;
+pub use reader::FrameReader;
+pub use write::{write_frame, write_head};
