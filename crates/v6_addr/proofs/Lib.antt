@@ -9,6 +9,7 @@ pub mod PlaceTexts
 pub mod Places
 pub mod Places4
 pub mod PrefixFaults
+pub mod PrefixFaults4
 pub mod PrefixFaults6
 pub mod PrefixGrammar
 pub mod Prefixes

@@ -114,18 +114,30 @@ slash_at IsText limit texts text at k longest above fits front back rest a e acc
         ]
 
 -- the same for a whole text
+slash_of_whole : (IsText : List ℕ → ℕ → Type 0) (limit : ℕ) → Texts IsText limit → (text : List ℕ) (at : ℕ)
+    → IsLongestBeginning (Begins IsText) text at → (front back : List ℕ) (a : ℕ) → text ≡ front ++ (47 ∷ back) → IsText front a
+    → SlashAt text at (length text) front back []
+slash_of_whole IsText limit texts text at longest front back a parts accepted =
+    let whole = take_all (length text) text (omega arith) in
+    elim (cases_lt at (length text)) [
+      | inl inside ↦ slash_at IsText limit texts text at (length text) longest inside (omega arith) front back [] a
+          (append-nil (take (length text) text) ∙ whole ∙ parts) accepted
+      | inr past ↦
+          absurd (slash_in IsText limit texts front back (subst (Begins IsText) (take_all at text past ∙ parts) longest.begins))
+    ]
+
 slash_of_text : (IsText : List ℕ → ℕ → Type 0) (limit : ℕ) → Texts IsText limit → (text : List ℕ) (at : ℕ)
     → IsLongestBeginning (Begins IsText) text at → (h : HasSetBits IsText limit text)
     → SlashAt text at (length text) h.address_part (length_text h.len) []
 slash_of_text IsText limit texts text at longest h =
-    let whole = take_all (length text) text (omega arith) in
-    elim (cases_lt at (length text)) [
-      | inl inside ↦ slash_at IsText limit texts text at (length text) longest inside (omega arith) h.address_part (length_text h.len) []
-          h.address (append-nil (take (length text) text) ∙ whole ∙ h.parts) h.accepted
-      | inr past ↦
-          absurd (slash_in IsText limit texts h.address_part (length_text h.len)
-          (subst (Begins IsText) (take_all at text past ∙ h.parts) longest.begins))
-    ]
+    slash_of_whole IsText limit texts text at longest h.address_part (length_text h.len) h.address h.parts h.accepted
+
+-- what stands behind the slash of a whole text
+back_of_whole : (text : List ℕ) (at : ℕ) (front back : List ℕ) → SlashAt text at (length text) front back []
+    → drop (suc at) text ≡ back
+back_of_whole text at front back s =
+    sym (s.is_back ∙ append-nil (take (length text - at - 1) (drop (suc at) text))
+    ∙ take_all (length text - at - 1) (drop (suc at) text) (omega (arith, length-drop (suc at) text)))
 
 -- ---- a fault before the length
 
@@ -168,7 +180,7 @@ fault_in_address IsText limit texts text at longest none =
 
 -- ---- a set bit
 
-text_round_slash : (text : List ℕ) (at : ℕ) → at < length text → get_or text at 0 ≡ 47 → text ≡ take at text ++ (47 ∷ drop (suc at) text)
+pub text_round_slash : (text : List ℕ) (at : ℕ) → at < length text → get_or text at 0 ≡ 47 → text ≡ take at text ++ (47 ∷ drop (suc at) text)
 text_round_slash text at inside slash =
     sym (take-append-drop at text) ∙ ap (λ t. take at text ++ t) (drop-cons text at 0 inside)
     ∙ ap (λ c. take at text ++ (c ∷ drop (suc at) text)) slash
@@ -248,6 +260,39 @@ fault_in_length IsText limit texts text at value j longest inside slash accepted
             });
       },
     )
+
+-- ---- no prefix
+
+pub no_prefix_in_address : (IsText : List ℕ → ℕ → Type 0) (limit : ℕ) → Texts IsText limit → (text : List ℕ) (at : ℕ)
+    → IsLongestBeginning (Begins IsText) text at
+    → ((a : ℕ) → at < length text → get_or text at 0 ≡ 47 → IsText (take at text) a → ⊥)
+    → (p : PrefixValue) → PrefixTextOf IsText limit text p → ⊥
+no_prefix_in_address IsText limit texts text at longest none p h =
+    let s = slash_of_whole IsText limit texts text at longest h.address_part (length_text p.len) p.value h.parts h.address in
+    let P : List ℕ → Type 0 = λ t. IsText t p.value in
+    none p.value s.inside s.slash (subst P s.is_front h.address)
+
+pub no_prefix_in_length : (IsText : List ℕ → ℕ → Type 0) (limit : ℕ) → Texts IsText limit → (text : List ℕ) (at : ℕ)
+    → IsLongestBeginning (Begins IsText) text at → ((len : ℕ) → len ≤ limit → drop (suc at) text ≡ length_text len → ⊥)
+    → (p : PrefixValue) → PrefixTextOf IsText limit text p → ⊥
+no_prefix_in_length IsText limit texts text at longest none p h =
+    none p.len h.short (back_of_whole text at h.address_part (length_text p.len)
+    (slash_of_whole IsText limit texts text at longest h.address_part (length_text p.len) p.value h.parts h.address))
+
+pub no_prefix_of_bits : (IsText : List ℕ → ℕ → Type 0) (limit : ℕ) → Texts IsText limit → (text : List ℕ) (at value len : ℕ)
+    → IsLongestBeginning (Begins IsText) text at → IsText (take at text) value → drop (suc at) text ≡ length_text len → len ≤ limit
+    → (value % 2 ^ (128 - len) ≡ 0 → ⊥)
+    → ((m n : ℕ) → m ≤ limit → n ≤ limit → length_text m ≡ length_text n → m ≡ n)
+    → (p : PrefixValue) → PrefixTextOf IsText limit text p → ⊥
+no_prefix_of_bits IsText limit texts text at value len longest accepted digits short set one_length p h =
+    let s = slash_of_whole IsText limit texts text at longest h.address_part (length_text p.len) p.value h.parts h.address in
+    let P : List ℕ → Type 0 = λ t. IsText t p.value in
+    let same_value = texts.one (take at text) p.value value (subst P s.is_front h.address) accepted in
+    let same_len = one_length p.len len h.short short
+    (sym (back_of_whole text at h.address_part (length_text p.len) s) ∙ digits) in
+    let Q : ℕ → Type 0 = λ v. v % 2 ^ (128 - p.len) ≡ 0 in
+    let R : ℕ → Type 0 = λ n. value % 2 ^ (128 - n) ≡ 0 in
+    set (subst R same_len (subst Q same_value h.clear))
 
 -- ---- the same for another way to say it
 

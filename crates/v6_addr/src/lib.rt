@@ -14,6 +14,7 @@ mod laws;
 mod length;
 mod parse;
 mod prefix;
+mod prefix4;
 mod scan;
 mod scan4;
 mod text;
@@ -28,6 +29,7 @@ pub use laws::{
     longest_run_rule, prefix_grammar, prefix_reads_back, prefix_tests, prefixes_nest,
 };
 pub use prefix::Prefix;
+pub use prefix4::parse_prefix4;
 pub use text::{parse_addr, parse_prefix};
 pub use text4::{parse_addr4, write_addr4};
 pub use write::{write_addr, write_prefix};

@@ -1,6 +1,6 @@
 use crate::{
-    Addr, BadAddr, field, parse_addr, parse_addr4, parse_prefix, with_field, write_addr,
-    write_addr4, write_prefix,
+    Addr, BadAddr, field, parse_addr, parse_addr4, parse_prefix, parse_prefix4, with_field,
+    write_addr, write_addr4, write_prefix,
 };
 use arrayvec::ArrayString;
 use std::process::Abort;
@@ -109,6 +109,26 @@ fn ipv4_texts(rt: HostRuntime) {
         (b"::1", 0),
     ] {
         assert_eq!(rt; parse_addr4(text), Err(BadAddr { at }));
+    }
+}
+
+#[test]
+fn ipv4_prefix_texts(rt: HostRuntime) {
+    let prefix = parse_prefix4(b"192.0.2.0/24");
+    assert!(rt; prefix.is_ok());
+    if let Ok(prefix) = prefix {
+        assert_eq!(rt; prefix.value().value, 0xc000_0200_u128 << 96);
+        assert_eq!(rt; prefix.len(), 24);
+    }
+    for (text, at) in [
+        (b"192.0.2.0/".as_slice(), 10),
+        (b"192.0.2/24", 7),
+        (b"192.0.2.0/22", 12),
+        (b"192.0.2.0/33", 11),
+        (b"192.0.2.0/024", 10),
+        (b"192.0.2.0/22x", 11),
+    ] {
+        assert_eq!(rt; parse_prefix4(text), Err(BadAddr { at }));
     }
 }
 
