@@ -122,8 +122,9 @@ pub frames_of-frame_bytes : (head : CaptureHead) (most n : ℕ) (f : Spelled) (r
     → frames_of head (suc most) n (frame_bytes head.little f ++ rest)
     ≡ with_front (numbered head.link n f ∷ []) (frames_of head most (n + 1) rest)
 frames_of-frame_bytes head most n f rest fits =
-    frames_of-whole head most n (frame_bytes head.little f ++ rest) (whole_spelled head.little f rest fits)
-    ∙ ap (λ g. with_front (numbered head.link n g ∷ []) (frames_of head most (n + 1) (behind head.little (frame_bytes head.little f ++ rest))))
+    let bytes = frame_bytes head.little f ++ rest in
+    frames_of-whole head most n bytes (whole_spelled head.little f rest fits)
+    ∙ ap (λ g. with_front (numbered head.link n g ∷ []) (frames_of head most (n + 1) (behind head.little bytes)))
     (first-frame_bytes head.little f rest fits)
     ∙ ap (λ bs. with_front (numbered head.link n f ∷ []) (frames_of head most (n + 1) bs)) (behind-frame_bytes head.little f rest fits)
 

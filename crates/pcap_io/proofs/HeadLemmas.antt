@@ -56,7 +56,8 @@ unfolding head_of
 head_of-parts bytes little nanos link len other magic version kind =
     let some : nat_lt (length bytes) 4 ≡ false = le-ltb (length bytes) 4 (omega arith) in
     let enough : nat_lt (length bytes) 24 ≡ false = le-ltb (length bytes) 24 len in
-    let behind : head_behind (Some (record { little = little; nanos = nanos })) bytes ≡ Ok (record { little = little; nanos = nanos; link = link }) =
+    let behind : head_behind (Some (record { little = little; nanos = nanos })) bytes
+    ≡ Ok (record { little = little; nanos = nanos; link = link }) =
     rw (enough, version, kind) refl in
     rw (some, other, magic, head_of) behind
 

@@ -39,7 +39,8 @@ written_frame-read number link most n packet rest fits_number fits_link fits_pac
     let len : length packet < 2 ^ 32 = omega arith in
     let fits : Fits f = record { seconds = fits_number; fraction = fits_link; original = len; captured = len } in
     frames_of-frame_bytes written_head most n f rest fits
-    ∙ ap (λ body. let frame : Frame = record { number = n; body = body } in with_front (frame ∷ []) (frames_of written_head most (n + 1) rest))
+    ∙ ap (λ body. let frame : Frame = record { number = n; body = body } in
+    with_front (frame ∷ []) (frames_of written_head most (n + 1) rest))
     (written_body number link packet)
 
 -- no frame stands in no bytes
