@@ -1,3 +1,3 @@
 pub mod Sends
 pub mod Takes
-pub mod Laws
+pub mod PublicLaws

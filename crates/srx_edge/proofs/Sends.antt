@@ -4,7 +4,7 @@ use Rattle.std.proofs.Math.Seq.{take-add}
 use Rattle.std.proofs.lemmas.List.{append-nil, take-append-drop, length-drop}
 use Rattle.srx_edge.specs.Edge.{append_to}
 use Rattle.srx_edge.specs.Sinks.{SinkSeen, sent, failed, wanting, is_stuck}
-use Rattle.srx_edge.specs.Steps.{Ending, Fault, Memory, Stop, Going, Failing, Wanting, ending_by, left_by, IsStopAt, Cut}
+use Rattle.srx_edge.specs.Steps.{Ending, Fault, Memory, How, Failing, Wanting, ending_of, stopped_by, left_by, IsStopAt, Cut}
 
 append_to-append_to : (more bytes : List ℕ) (held : Option (List ℕ)) → append_to more (append_to bytes held) ≡ append_to (bytes ++ more) held
 append_to-append_to more bytes None = refl
@@ -36,28 +36,24 @@ pour_next n count bytes old mid new first next some =
 
 -- a step that ended early
 
-stop-longer : (stop : Stop) (rest more : List ℕ) → IsStopAt stop rest → IsStopAt stop (rest ++ more)
-stop-longer Going rest more at = tt
-stop-longer Failing [] more at = absurd at
-stop-longer Failing (b ∷ rest) more at = tt
-stop-longer Wanting [] more at = absurd at
-stop-longer Wanting (b ∷ rest) more at = tt
+stop-longer : (how : Option How) (rest more : List ℕ) → IsStopAt how rest → IsStopAt how (rest ++ more)
+stop-longer None rest more at = tt
+stop-longer (Some how) [] more at = absurd at
+stop-longer (Some how) (b ∷ rest) more at = tt
 
-stop-some : (stop : Stop) (rest : List ℕ) → 0 < length rest → IsStopAt stop rest
-stop-some stop [] some = absurd (omega arith)
-stop-some Going (b ∷ rest) some = tt
-stop-some Failing (b ∷ rest) some = tt
-stop-some Wanting (b ∷ rest) some = tt
+stop-some : (how : How) (rest : List ℕ) → 0 < length rest → IsStopAt (Some how) rest
+stop-some how [] some = absurd (omega arith)
+stop-some how (b ∷ rest) some = tt
 
 -- a step that ended early with its first bytes ended early with all of them
 pub cut_longer : (ending : Ending) (bytes more : List ℕ) (old new : SinkSeen) → Cut ending bytes old new → Cut ending (bytes ++ more) old new
 cut_longer ending bytes more old new cut = record {
-  stop = cut.stop;
+  how = cut.how;
   ends = cut.ends;
   first = cut.first;
   rest = cut.rest ++ more;
   whole = sym (append_assoc cut.first cut.rest more) ∙ ap (λ (all : List ℕ). all ++ more) cut.whole;
-  at = stop-longer cut.stop cut.rest more cut.at;
+  at = stop-longer cut.how cut.rest more cut.at;
   seen = cut.seen;
 }
 
@@ -65,32 +61,32 @@ cut_longer ending bytes more old new cut = record {
 pub cut_after : (ending : Ending) (bytes more : List ℕ) (old mid new : SinkSeen) → mid ≡ sent bytes old → Cut ending more mid new
     → Cut ending (bytes ++ more) old new
 cut_after ending bytes more old mid new first cut = record {
-  stop = cut.stop;
+  how = cut.how;
   ends = cut.ends;
   first = bytes ++ cut.first;
   rest = cut.rest;
   whole = append_assoc bytes cut.first cut.rest ∙ ap (λ (all : List ℕ). bytes ++ all) cut.whole;
   at = cut.at;
-  seen = cut.seen ∙ ap (left_by cut.stop) (ap (sent cut.first) first ∙ sent-sent cut.first bytes old);
+  seen = cut.seen ∙ ap (left_by cut.how) (ap (sent cut.first) first ∙ sent-sent cut.first bytes old);
 }
 
 -- memory was wanting elsewhere once all of the bytes had gone out
 pub cut_whole : (bytes : List ℕ) (old new : SinkSeen) → new ≡ sent bytes old → Cut Memory bytes old new
-cut_whole bytes old new seen = record { stop = Going; ends = refl; first = bytes; rest = []; whole = append-nil bytes; at = tt; seen = seen }
+cut_whole bytes old new seen = record { how = None; ends = refl; first = bytes; rest = []; whole = append-nil bytes; at = tt; seen = seen }
 
 -- memory was wanting elsewhere before any had
 pub cut_none : (bytes : List ℕ) (sink : SinkSeen) → Cut Memory bytes sink sink
-cut_none bytes sink = record { stop = Going; ends = refl; first = []; rest = bytes; whole = refl; at = tt; seen = refl }
+cut_none bytes sink = record { how = None; ends = refl; first = []; rest = bytes; whole = refl; at = tt; seen = refl }
 
-cut-poured : (stop : Stop) (written : ℕ) (bytes : List ℕ) (old new : SinkSeen) → written < length bytes
-    → new ≡ left_by stop (sent (take written bytes) old) → Cut (ending_by stop) bytes old new
-cut-poured stop written bytes old new some seen = record {
-  stop = stop;
+cut-poured : (how : How) (written : ℕ) (bytes : List ℕ) (old new : SinkSeen) → written < length bytes
+    → new ≡ stopped_by how (sent (take written bytes) old) → Cut (ending_of how) bytes old new
+cut-poured how written bytes old new some seen = record {
+  how = Some how;
   ends = refl;
   first = take written bytes;
   rest = drop written bytes;
   whole = take-append-drop written bytes;
-  at = stop-some stop (drop written bytes) (omega (arith, length-drop written bytes));
+  at = stop-some how (drop written bytes) (omega (arith, length-drop written bytes));
   seen = seen;
 }
 
