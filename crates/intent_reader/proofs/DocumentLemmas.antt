@@ -15,7 +15,8 @@ use Rattle.intent_reader.specs.Document.{family_in, is_reduced_in, step_of, root
 record GivesKept (net : Network) (o : Option Intent) : Type 0 where
   kept : (i : Intent) → o ≡ Some i → IsIntent net i
 
-after_each : {X : Type 0} (net : Network) (o : Option X) (f : X → Option Intent) → ((x : X) → GivesKept net (f x)) → GivesKept net (◌>>=◌ o f)
+after_each : {X : Type 0} (net : Network) (o : Option X) (f : X → Option Intent) → ((x : X) → GivesKept net (f x))
+    → GivesKept net (◌>>=◌ o f)
 after_each net None f each = record { kept = λ i h. absurd (let no : None ≡ Some i = h in cc) }
 after_each net (Some x) f each = each x
 
@@ -26,7 +27,8 @@ when net false o kept = record { kept = λ i h. absurd (let no : None ≡ Some i
 kept_alone : (net : Network) (i : Intent) → GivesKept net (if_kept net i)
 kept_alone net i = record { kept = λ j h. let parts = cond_some _ i j h in subst (λ k. is_intent net k ≡ true) parts.1 parts.0 }
 
-with_numbers : (net : Network) (headend source : ℕ) (inner : Family) (reduced : Bool) (root : Members) → GivesKept net (intent_with net headend source inner reduced root)
+with_numbers : (net : Network) (headend source : ℕ) (inner : Family) (reduced : Bool) (root : Members)
+    → GivesKept net (intent_with net headend source inner reduced root)
 with_numbers net headend source inner reduced root =
     after_each net (optional (number_at_most 255) 64 (codes "hop_limit") root) _ (λ hops.
     after_each net (optional (number_at_most 127) 10 (codes "max_containers") root) _ (λ most.

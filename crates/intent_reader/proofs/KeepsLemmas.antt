@@ -53,15 +53,18 @@ end_within count from None end h e = cc
 end_within count from (Some to) end h e = subst (λ n. n < count) (same_Some to end e) h.0
 
 lead_within : (net : Network) (node next link : ℕ) → Keeps net → Leads net node next link → next < length net.nodes
-lead_within net node next link keeps lead = end_within (length net.nodes) lead.0.from lead.0.to next (keeps.link link lead.0 lead.1).to lead.3
+lead_within net node next link keeps lead = end_within (length net.nodes) lead.0.from lead.0.to next
+    (keeps.link link lead.0 lead.1).to lead.3
 
-step_within : (net : Network) (node : ℕ) (s : Step) (next : ℕ) → Keeps net → node < length net.nodes → Steps net node s next → next < length net.nodes
+step_within : (net : Network) (node : ℕ) (s : Step) (next : ℕ) → Keeps net → node < length net.nodes → Steps net node s next
+    → next < length net.nodes
 step_within net node (Links set) next keeps within step =
     let first = first_of set step.0.some in
     lead_within net node next first.0 keeps (step.1 first.0 first.1)
 step_within net node (Function sid) next keeps within step = subst (λ n. n < length net.nodes) (sym step.5) within
 
-pub stays_within : (net : Network) (node : ℕ) (steps : List Step) (end : ℕ) → Keeps net → node < length net.nodes → stand_after net node steps ≡ Some end → end < length net.nodes
+pub stays_within : (net : Network) (node : ℕ) (steps : List Step) (end : ℕ) → Keeps net → node < length net.nodes
+    → stand_after net node steps ≡ Some end → end < length net.nodes
 stays_within net node [] end keeps within h = subst (λ n. n < length net.nodes) (same_Some node end h) within
 stays_within net node (s ∷ steps) end keeps within h =
     let first = then_some (λ next. stand_after net next steps) (node_after net node s) end h in

@@ -12,10 +12,13 @@ pub record FailsBefore {X : Type 0} (p : X → Bool) (xs : List X) (n : ℕ) : T
 pub fails_start : {X : Type 0} (p : X → Bool) (xs : List X) → FailsBefore p xs 0
 fails_start p xs = record { each = λ k x h e. absurd (omega arith) }
 
-fails_at : {X : Type 0} (p : X → Bool) (xs : List X) (k n : ℕ) (x y : X) → k ≡ n → slice_get xs n ≡ Some x → slice_get xs k ≡ Some y → p x ≡ false → p y ≡ false
-fails_at p xs k n x y same is at fails = subst (λ z. p z ≡ false) (same_Some x y (sym is ∙ (ap (λ m. slice_get xs m) (sym same) ∙ at))) fails
+fails_at : {X : Type 0} (p : X → Bool) (xs : List X) (k n : ℕ) (x y : X) → k ≡ n → slice_get xs n ≡ Some x → slice_get xs k ≡ Some y
+    → p x ≡ false → p y ≡ false
+fails_at p xs k n x y same is at fails = subst (λ z. p z ≡ false)
+    (same_Some x y (sym is ∙ (ap (λ m. slice_get xs m) (sym same) ∙ at))) fails
 
-pub fails_more : {X : Type 0} (p : X → Bool) (xs : List X) (n : ℕ) (x : X) → FailsBefore p xs n → slice_get xs n ≡ Some x → p x ≡ false → FailsBefore p xs (n + 1)
+pub fails_more : {X : Type 0} (p : X → Bool) (xs : List X) (n : ℕ) (x : X) → FailsBefore p xs n → slice_get xs n ≡ Some x → p x ≡ false
+    → FailsBefore p xs (n + 1)
 fails_more p xs n x before is fails = record {
   each = λ k y h e. elim (cases_lt k n) [ inl less ↦ before.each k y less e | inr more ↦ fails_at p xs k n x y (omega arith) is e fails ];
 }
@@ -23,7 +26,8 @@ fails_more p xs n x before is fails = record {
 behind_first : {X : Type 0} (p : X → Bool) (y : X) (ys : List X) (n : ℕ) → FailsBefore p (y ∷ ys) (suc n) → FailsBefore p ys n
 behind_first p y ys n before = record { each = λ k x h e. before.each (suc k) x (omega arith) e }
 
-place_of : {X : Type 0} (p : X → Bool) (xs : List X) (n : ℕ) (x : X) → FailsBefore p xs n → slice_get xs n ≡ Some x → p x ≡ true → position_or_len p xs ≡ n
+place_of : {X : Type 0} (p : X → Bool) (xs : List X) (n : ℕ) (x : X) → FailsBefore p xs n → slice_get xs n ≡ Some x → p x ≡ true
+    → position_or_len p xs ≡ n
 place_of p [] n x before is passes = cc
 place_of p (y ∷ ys) zero x before is passes =
     let first : p y ≡ true = subst (λ z. p z ≡ true) (sym (same_Some y x is)) passes in
@@ -47,7 +51,8 @@ within_it n m h = grind (arith, nat_tests)
 past_it : (m : ℕ) → None ≡ cond (ltb m m) (Some m) None
 past_it m = grind (arith, nat_tests)
 
-pub found_first : {X : Type 0} (p : X → Bool) (xs : List X) (n : ℕ) (x : X) → FailsBefore p xs n → slice_get xs n ≡ Some x → p x ≡ true → Some n ≡ position p xs
+pub found_first : {X : Type 0} (p : X → Bool) (xs : List X) (n : ℕ) (x : X) → FailsBefore p xs n → slice_get xs n ≡ Some x → p x ≡ true
+    → Some n ≡ position p xs
 found_first p xs n x before is passes =
     let place : position_or_len p xs ≡ n = place_of p xs n x before is passes in
     rw place (within_it n (length xs) (slice_get_within xs n x is))

@@ -1,9 +1,7 @@
 //! The intent as a value.
 
-ghost use Rattle.std.specs.Prelude.{◌≡◌};
-
+use base::Seq;
 use srv6_rules::{Family, LinkSet};
-use std::marker::Model;
 use v6_addr::Addr;
 
 /// A step of an intent.
@@ -16,35 +14,7 @@ pub enum Step {
 }
 
 /// The steps of an intent, in order.
-#[derive(Debug, Drop)]
-pub struct Steps {
-    steps: Vec<Step>,
-}
-
-impl Model for Steps {
-    ghost use Rattle.std.specs.Prelude.{List};
-    ghost use Rattle.intent_reader.specs.declared.intent.Step.{Step};
-
-    ghost Value = { List Step };
-
-    ghost view = { λ s. s.steps.items };
-}
-
-impl Steps {
-    /// The steps in this order.
-    pub fn new(steps: Vec<Step>) -> Steps
-        ensures { result ≡ steps.items }
-    {
-        Steps { steps }
-    }
-
-    /// The steps, in order.
-    pub fn as_slice(&self) -> &[Step]
-        ensures { result.now ≡ self.now }
-    {
-        self.steps.as_slice()
-    }
-}
+pub type Steps = Seq<Step>;
 
 /// A path intent: where packets enter, how they are encapsulated, and what they cross.
 #[derive(Debug, Drop)]

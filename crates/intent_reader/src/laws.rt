@@ -12,23 +12,27 @@ ghost use Rattle.intent_reader.specs.Keeps.{Steps, KeepsIntent};
 
 /// An intent that a document gives in a network keeps the rules in that network.
 pub fn intents_that_are_read_keep_the_rules()
-    ensures { (net : Network) (root : Members) (i : Intent) → intent_of_document net root ≡ Some i → IsIntent net i }
+    ensures { (net : Network) (root : Members) (i : Intent) → intent_of_document net root ≡ Some i
+        → IsIntent net i }
 {}
 
-/// An intent that keeps the rules in a network has its headend there, its numbers in their ranges, and 1 to 48
-/// steps; the walk stands at a node before and after each of them, and the last is a function.
+/// An intent that keeps the rules in a network has its headend there, its numbers in their ranges,
+/// and 1 to 48 steps; the walk stands at a node before and after each of them, and the last is a
+/// function.
 pub fn intents_have_walks()
     ensures { (net : Network) (i : Intent) → IsIntent net i → KeepsIntent net i }
 {}
 
-/// A step that leads from a node to a node crosses links all of which lead from the one to the other, or is a
-/// function at the node, where the walk stays.
+/// A step that leads from a node to a node crosses links all of which lead from the one to the
+/// other, or is a function at the node, where the walk stays.
 pub fn steps_lead_on()
-    ensures { (net : Network) (node : ℕ) (s : Step) (next : ℕ) → node_after net node s ≡ Some next → Steps net node s next }
+    ensures { (net : Network) (node : ℕ) (s : Step) (next : ℕ) → node_after net node s ≡ Some next
+        → Steps net node s next }
 {}
 
 /// A walk over steps that begins at a node of a network that keeps the rules ends at a node of it.
 pub fn walks_stay_at_nodes()
-    ensures { (net : Network) (node : ℕ) (steps : List Step) (end : ℕ) → Keeps net → node < length net.nodes
+    ensures { (net : Network) (node : ℕ) (steps : List Step) (end : ℕ) → Keeps net
+        → node < length net.nodes
         → stand_after net node steps ≡ Some end → end < length net.nodes }
 {}

@@ -46,9 +46,10 @@ fn link_in(net: &Net, value: &Value) -> Option<u32>
 }
 
 /// The numbers of the links that items name.
-#[tactic(auto, using(net_reader::proofs::Items::reading))]
+#[tactic(auto, using(net_reader::proofs::PublicLaws::reading))]
 fn each_link_in(alloc: Global, net: &Net, items: &[Value]) -> Result<Option<Vec<u32>>, AllocError>
-    ensures { IfOk result (λ r. option_map (λ v. v.items) r ≡ each_of (link_in net.now.links) (items_view items.now)) }
+    ensures { IfOk result (λ r. option_map (λ v. v.items) r ≡ each_of (link_in net.now.links)
+        (items_view items.now)) }
 {
     let mut numbers = Vec::new(alloc);
     for item in items {

@@ -97,7 +97,8 @@ fn intent_with(
     reduced: bool,
     root: &Table,
 ) -> Result<Option<Intent>, AllocError>
-    ensures { IfOk result (λ r. r ≡ intent_with net.now headend source.value inner reduced (table_view root.now)) }
+    ensures { IfOk result (λ r. r ≡ intent_with net.now headend source.value inner reduced
+        (table_view root.now)) }
 {
     let Some(hop_limit) = number_at(root, "hop_limit", 255, 64) else {
         return Ok(None);
@@ -182,14 +183,11 @@ pub fn read_intent(alloc: Global, text: &[u8], net: &Net) -> Result<Intent, Inte
     ensures reads { ReadsAs net.now text.now result }
     ensures keeps { IfOk result (λ i. IsIntent net.now i) }
 {
-    let root = match document(alloc, text) {
-        Ok(Some(root)) => root,
-        Ok(None) => return Err(IntentFault::NotToml),
-        Err(_) => return Err(IntentFault::NoMemory),
+    let Some(root) = document(alloc, text)? else {
+        return Err(IntentFault::NotToml);
     };
-    match intent(alloc, net, &root) {
-        Ok(Some(intent)) => Ok(intent),
-        Ok(None) => Err(IntentFault::NotBuilt),
-        Err(_) => Err(IntentFault::NoMemory),
+    match intent(alloc, net, &root)? {
+        Some(intent) => Ok(intent),
+        None => Err(IntentFault::NotBuilt),
     }
 }

@@ -1,4 +1,5 @@
-//! The rules of an intent in its network, each as a function that answers one word of the definitions.
+//! The rules of an intent in its network, each as a function that answers one word of the
+//! definitions.
 
 ghost use Rattle.std.specs.Prelude.{◌≡◌, ◌<◌, length, slice_get, option_map};
 ghost use Rattle.std.specs.List.{list_all};
@@ -100,7 +101,8 @@ fn node_after(net: &Net, node: u32, step: &Step) -> Option<u32>
     }
 }
 
-/// The node where a walk stands after steps from a node, if each starts where the one before it ended.
+/// The node where a walk stands after steps from a node, if each starts where the one before it
+/// ended.
 fn stand_after(net: &Net, node: u32, steps: &[Step]) -> Option<u32>
     ensures { result ≡ stand_after net.now node steps.now }
 {
@@ -132,20 +134,21 @@ fn ends_in_function(steps: &[Step]) -> bool
     }
 }
 
-/// Whether an intent keeps all rules in a network (own rules): its headend is there, its numbers are in their
-/// ranges, it has 1 to 48 steps, each of which starts where the one before it ended, and the last is a function.
+/// Whether an intent keeps all rules in a network (own rules): its headend is there, its numbers
+/// are in their ranges, it has 1 to 48 steps, each of which starts where the one before it ended,
+/// and the last is a function.
 #[tactic(auto, unfolding(crate::specs::Rules::is_intent))]
 pub fn is_intent(net: &Net, intent: &Intent) -> bool
     ensures { result ≡ is_intent net.now intent.now }
 {
     let steps = intent.steps.as_slice();
     intent.headend < net.nodes()
-        && (1 <= intent.hop_limit
-            && (1 <= intent.max_containers
-                && (intent.max_containers <= 127
-                    && (intent.flow_label < 0x10_0000
-                        && (1 <= steps.len()
-                            && (steps.len() <= 48
-                                && (stand_after(net, intent.headend, steps).is_some()
-                                    && ends_in_function(steps))))))))
+        && 1 <= intent.hop_limit
+        && 1 <= intent.max_containers
+        && intent.max_containers <= 127
+        && intent.flow_label < 0x10_0000
+        && 1 <= steps.len()
+        && steps.len() <= 48
+        && stand_after(net, intent.headend, steps).is_some()
+        && ends_in_function(steps)
 }

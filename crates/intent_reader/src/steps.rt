@@ -35,7 +35,9 @@ fn function_step(net: &Net, value: &Value) -> Option<Step>
 
 /// The step that a table with no other keys describes.
 fn step_from(alloc: Global, net: &Net, table: &Table) -> Result<Option<Step>, AllocError>
-    ensures { IfOk result (λ r. r ≡ step_from net.now (get_member (codes "links") (table_view table.now)) (get_member (codes "function") (table_view table.now))) }
+    ensures { IfOk result (λ r. r ≡ step_from net.now
+        (get_member (codes "links") (table_view table.now))
+        (get_member (codes "function") (table_view table.now))) }
 {
     match (at(table, "links"), at(table, "function")) {
         (Some(names), None) => links_step(alloc, net, names),
@@ -55,9 +57,10 @@ fn step(alloc: Global, net: &Net, item: &Value) -> Result<Option<Step>, AllocErr
 }
 
 /// The steps that items describe.
-#[tactic(auto, using(net_reader::proofs::Items::reading))]
+#[tactic(auto, using(net_reader::proofs::PublicLaws::reading))]
 fn each_step(alloc: Global, net: &Net, items: &[Value]) -> Result<Option<Vec<Step>>, AllocError>
-    ensures { IfOk result (λ r. option_map (λ v. v.items) r ≡ each_of (step_of net.now) (items_view items.now)) }
+    ensures { IfOk result (λ r. option_map (λ v. v.items) r ≡ each_of (step_of net.now)
+        (items_view items.now)) }
 {
     let mut steps = Vec::new(alloc);
     for item in items {
@@ -89,7 +92,8 @@ pub(crate) fn steps_at(
     table: &Table,
     key: &str,
 ) -> Result<Option<Steps>, AllocError>
-    ensures { IfOk result (λ r. r ≡ needed (array_of (step_of net.now)) key.now (table_view table.now)) }
+    ensures { IfOk result (λ r. r ≡ needed (array_of (step_of net.now)) key.now
+        (table_view table.now)) }
 {
     match at(table, key) {
         Some(value) => steps_in(alloc, net, value),

@@ -172,14 +172,22 @@ fn reads_an_intent_with_defaults(rt: HostRuntime) -> Result<(), Fail> {
     Ok(())
 }
 
+const GIVEN_NUMBERS: &str = r#"
+headend = "B"
+source = "::1"
+inner = "ipv6"
+mode = "full"
+hop_limit = 255
+max_containers = 127
+traffic_class = 255
+flow_label = 1048575
+step = [{ links = ["bc2", "bc1"] }, { links = ["cd"] }, { function = "vpn" }]
+"#;
+
 #[test]
 fn reads_the_numbers_that_are_given(rt: HostRuntime) -> Result<(), Fail> {
     let net = read_net(rt.alloc(), NET.as_bytes())?;
-    let intent = read_intent(
-        rt.alloc(),
-        b"headend = \"B\"\nsource = \"::1\"\ninner = \"ipv6\"\nmode = \"full\"\nhop_limit = 255\nmax_containers = 127\ntraffic_class = 255\nflow_label = 1048575\nstep = [{ links = [\"bc2\", \"bc1\"] }, { links = [\"cd\"] }, { function = \"vpn\" }]",
-        &net,
-    )?;
+    let intent = read_intent(rt.alloc(), GIVEN_NUMBERS.as_bytes(), &net)?;
     assert_eq!(rt; intent.headend, 1);
     assert!(rt; !intent.reduced);
     assert_eq!(rt; intent.hop_limit, 255);
@@ -230,16 +238,24 @@ fn refuses_other_forms(rt: HostRuntime) -> Result<(), Fail> {
     for rest in [
         "",
         "step = []",
-        "kind = 1\nstep = [{ links = [\"ab\"] }, { links = [\"bc1\"] }, { links = [\"cd\"] }, { function = \"vpn\" }]",
-        "hop_limit = 0\nstep = [{ links = [\"ab\"] }, { links = [\"bc1\"] }, { links = [\"cd\"] }, { function = \"vpn\" }]",
-        "step = [{ links = [\"ab\"], function = \"vpn\" }]",
-        "step = [{ links = [\"ab\"] }, {}, { links = [\"bc1\"] }, { links = [\"cd\"] }, { function = \"vpn\" }]",
-        "step = [{ links = [\"ab\"] }, { links = [\"bc1\", \"bc1\"] }, { links = [\"cd\"] }, { function = \"vpn\" }]",
-        "step = [{ links = [\"bc1\"] }, { links = [\"cd\"] }, { function = \"vpn\" }]",
-        "step = [{ links = [\"ab\"] }, { links = [\"bc1\"] }, { links = [\"cd\"] }, { links = [\"ce\"] }, { function = \"vpn\" }]",
-        "step = [{ links = [\"ab\"] }, { function = \"vpn\" }]",
-        "step = [{ links = [\"ab\"] }, { links = [\"bc1\"] }, { links = [\"cd\"] }, { function = \"other\" }]",
-        "step = [{ links = [\"ab\"] }]",
+        r#"kind = 1
+        step = [{ links = ["ab"] },
+            { links = ["bc1"] }, { links = ["cd"] }, { function = "vpn" }]"#,
+        r#"hop_limit = 0
+        step = [{ links = ["ab"] },
+            { links = ["bc1"] }, { links = ["cd"] }, { function = "vpn" }]"#,
+        r#"step = [{ links = ["ab"], function = "vpn" }]"#,
+        r#"step = [{ links = ["ab"] }, {},
+            { links = ["bc1"] }, { links = ["cd"] }, { function = "vpn" }]"#,
+        r#"step = [{ links = ["ab"] },
+            { links = ["bc1", "bc1"] }, { links = ["cd"] }, { function = "vpn" }]"#,
+        r#"step = [{ links = ["bc1"] }, { links = ["cd"] }, { function = "vpn" }]"#,
+        r#"step = [{ links = ["ab"] },
+            { links = ["bc1"] }, { links = ["cd"] }, { links = ["ce"] }, { function = "vpn" }]"#,
+        r#"step = [{ links = ["ab"] }, { function = "vpn" }]"#,
+        r#"step = [{ links = ["ab"] },
+            { links = ["bc1"] }, { links = ["cd"] }, { function = "other" }]"#,
+        r#"step = [{ links = ["ab"] }]"#,
     ] {
         is_not_built(&rt, rt.alloc(), &net, WORDS, rest)?;
     }

@@ -37,32 +37,41 @@ longest-append a (x ∷ xs) ys =
       | inr h ↦ rw h (longest-append a xs ys)
     ]
 
-sid_entries-cons : (node n : ℕ) (s : SidEntry) (more : List SidEntry) → sid_entries node n (s ∷ more) ≡ sid_entries node n (s ∷ []) ++ sid_entries node (n + 1) more
+sid_entries-cons : (node n : ℕ) (s : SidEntry) (more : List SidEntry)
+    → sid_entries node n (s ∷ more) ≡ sid_entries node n (s ∷ []) ++ sid_entries node (n + 1) more
 sid_entries-cons node n s more =
     elim (cases_Bool (s.node == node)) [ inl h ↦ rw h refl | inr h ↦ rw h refl ]
 
-route_entries-cons : (node table n : ℕ) (r : Route) (more : List Route) → route_entries node table n (r ∷ more) ≡ route_entries node table n (r ∷ []) ++ route_entries node table (n + 1) more
+route_entries-cons : (node table n : ℕ) (r : Route) (more : List Route)
+    → route_entries node table n (r ∷ more) ≡ route_entries node table n (r ∷ []) ++ route_entries node table (n + 1) more
 route_entries-cons node table n r more =
     elim (cases_Bool ((r.node == node) && (r.table == table))) [ inl h ↦ rw h refl | inr h ↦ rw h refl ]
 
 -- a scan of SIDs, one SID on: what was found joined with what the rest gives stays the same
-pub sid_scan_more : (a node n : ℕ) (s : SidEntry) (more : List SidEntry) (found next : Option Entry) → next ≡ longer found (longest a (sid_entries node n (s ∷ []))) → longer next (longest a (sid_entries node (n + 1) more)) ≡ longer found (longest a (sid_entries node n (s ∷ more)))
+pub sid_scan_more : (a node n : ℕ) (s : SidEntry) (more : List SidEntry) (found next : Option Entry)
+    → next ≡ longer found (longest a (sid_entries node n (s ∷ [])))
+    → longer next (longest a (sid_entries node (n + 1) more)) ≡ longer found (longest a (sid_entries node n (s ∷ more)))
 sid_scan_more a node n s more found next e =
     ap (λ o. longer o (longest a (sid_entries node (n + 1) more))) e
     ∙ longer_assoc found (longest a (sid_entries node n (s ∷ []))) (longest a (sid_entries node (n + 1) more))
-    ∙ ap (longer found) (sym (longest-append a (sid_entries node n (s ∷ [])) (sid_entries node (n + 1) more)) ∙ ap (longest a) (sym (sid_entries-cons node n s more)))
+    ∙ ap (longer found) (sym (longest-append a (sid_entries node n (s ∷ [])) (sid_entries node (n + 1) more))
+    ∙ ap (longest a) (sym (sid_entries-cons node n s more)))
 
-pub route_scan_more : (a node table n : ℕ) (r : Route) (more : List Route) (found next : Option Entry) → next ≡ longer found (longest a (route_entries node table n (r ∷ []))) → longer next (longest a (route_entries node table (n + 1) more)) ≡ longer found (longest a (route_entries node table n (r ∷ more)))
+pub route_scan_more : (a node table n : ℕ) (r : Route) (more : List Route) (found next : Option Entry)
+    → next ≡ longer found (longest a (route_entries node table n (r ∷ [])))
+    → longer next (longest a (route_entries node table (n + 1) more)) ≡ longer found (longest a (route_entries node table n (r ∷ more)))
 route_scan_more a node table n r more found next e =
     ap (λ o. longer o (longest a (route_entries node table (n + 1) more))) e
     ∙ longer_assoc found (longest a (route_entries node table n (r ∷ []))) (longest a (route_entries node table (n + 1) more))
-    ∙ ap (longer found) (sym (longest-append a (route_entries node table n (r ∷ [])) (route_entries node table (n + 1) more)) ∙ ap (longest a) (sym (route_entries-cons node table n r more)))
+    ∙ ap (longer found) (sym (longest-append a (route_entries node table n (r ∷ [])) (route_entries node table (n + 1) more))
+    ∙ ap (longest a) (sym (route_entries-cons node table n r more)))
 
 pub scan_end : (o : Option Entry) → longer o None ≡ o
 scan_end o = longer_none o
 
 -- three scans in a row
-pub three_scans : (a : ℕ) (xs ys zs : List Entry) (o p q : Option Entry) → o ≡ longest a xs → p ≡ longer o (longest a ys) → q ≡ longer p (longest a zs) → q ≡ longest a (xs ++ (ys ++ zs))
+pub three_scans : (a : ℕ) (xs ys zs : List Entry) (o p q : Option Entry) → o ≡ longest a xs → p ≡ longer o (longest a ys)
+    → q ≡ longer p (longest a zs) → q ≡ longest a (xs ++ (ys ++ zs))
 three_scans a xs ys zs o p q is_o is_p is_q =
     is_q ∙ ap (λ b. longer b (longest a zs)) (is_p ∙ ap (λ b. longer b (longest a ys)) is_o)
     ∙ longer_assoc (longest a xs) (longest a ys) (longest a zs)

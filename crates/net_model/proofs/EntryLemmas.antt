@@ -29,7 +29,8 @@ contains_later y ys x c = (suc c.0, omega (arith, c.1), c.2)
 
 -- a SID of the node among those whose first has the number n
 abbrev pub IsSidFrom : ℕ → ℕ → List SidEntry → Entry → Type 0
-IsSidFrom node n sids e = (i : ℕ) × (s : SidEntry) × (slice_get sids i ≡ Some s) × (s.node ≡ node) × (e ≡ record { hit = hits.Sid (n + i); prefix = s.prefix })
+IsSidFrom node n sids e = (i : ℕ) × (s : SidEntry) × (slice_get sids i ≡ Some s) × (s.node ≡ node)
+    × (e ≡ record { hit = hits.Sid (n + i); prefix = s.prefix })
 
 sid_later : (node n : ℕ) (s : SidEntry) (sids : List SidEntry) (e : Entry) → IsSidFrom node (n + 1) sids e → IsSidFrom node n (s ∷ sids) e
 sid_later node n s sids e (i, t, at, of, is) =
@@ -48,58 +49,80 @@ sid_means node n (s ∷ sids) e c =
       | inr other ↦ sid_later node n s sids e (sid_means node (n + 1) sids e (rw other at c))
     ]
 
-sid_in_front : (node n : ℕ) (s : SidEntry) (sids : List SidEntry) (e : Entry) → Contains (sid_entries node (n + 1) sids) e → Contains (sid_entries node n (s ∷ sids)) e
+sid_in_front : (node n : ℕ) (s : SidEntry) (sids : List SidEntry) (e : Entry) → Contains (sid_entries node (n + 1) sids) e
+    → Contains (sid_entries node n (s ∷ sids)) e
 sid_in_front node n s sids e c =
     elim (cases_Bool (s.node == node)) [ inl mine ↦ rw mine (contains_later _ _ e c) | inr other ↦ rw other c ]
 
-sid_at_front : (node n : ℕ) (s : SidEntry) (sids : List SidEntry) → s.node ≡ node → Contains (sid_entries node n (s ∷ sids)) (record { hit = hits.Sid n; prefix = s.prefix })
+sid_at_front : (node n : ℕ) (s : SidEntry) (sids : List SidEntry) → s.node ≡ node
+    → Contains (sid_entries node n (s ∷ sids)) (record { hit = hits.Sid n; prefix = s.prefix })
 sid_at_front node n s sids of = let mine = eq-eqb s.node node of in rw mine (contains_first _ _)
 
-pub sid_is_there : (node n : ℕ) (sids : List SidEntry) (i k : ℕ) (s : SidEntry) → slice_get sids i ≡ Some s → s.node ≡ node → k ≡ n + i → Contains (sid_entries node n sids) (record { hit = hits.Sid k; prefix = s.prefix })
+pub sid_is_there : (node n : ℕ) (sids : List SidEntry) (i k : ℕ) (s : SidEntry) → slice_get sids i ≡ Some s → s.node ≡ node → k ≡ n + i
+    → Contains (sid_entries node n sids) (record { hit = hits.Sid k; prefix = s.prefix })
 sid_is_there node n [] i k s at of is = cc
 sid_is_there node n (t ∷ sids) zero k s at of is =
-    let P : SidEntry → Type 0 = λ x. x.node ≡ node → Contains (sid_entries node n (t ∷ sids)) (record { hit = hits.Sid k; prefix = x.prefix }) in
+    let P : SidEntry → Type 0 = λ x. x.node ≡ node
+    → Contains (sid_entries node n (t ∷ sids)) (record { hit = hits.Sid k; prefix = x.prefix }) in
     let same : n ≡ k = omega arith in
-    subst P (same_Some t s at) (λ mine. subst (λ m. Contains (sid_entries node n (t ∷ sids)) (record { hit = hits.Sid m; prefix = t.prefix })) same (sid_at_front node n t sids mine)) of
+    subst P (same_Some t s at) (λ mine. subst
+    (λ m. Contains (sid_entries node n (t ∷ sids)) (record { hit = hits.Sid m; prefix = t.prefix })) same
+    (sid_at_front node n t sids mine)) of
 sid_is_there node n (t ∷ sids) (suc i) k s at of is =
     sid_in_front node n t sids _ (sid_is_there node (n + 1) sids i k s at of (omega arith))
 
 -- a route of the node's table among those whose first has the number n
 abbrev pub IsRouteFrom : ℕ → ℕ → ℕ → List Route → Entry → Type 0
-IsRouteFrom node table n routes e = (i : ℕ) × (r : Route) × (slice_get routes i ≡ Some r) × (r.node ≡ node) × (r.table ≡ table) × (e ≡ record { hit = hits.Route (n + i); prefix = r.prefix })
+IsRouteFrom node table n routes e = (i : ℕ) × (r : Route) × (slice_get routes i ≡ Some r) × (r.node ≡ node) × (r.table ≡ table)
+    × (e ≡ record { hit = hits.Route (n + i); prefix = r.prefix })
 
-route_later : (node table n : ℕ) (r : Route) (routes : List Route) (e : Entry) → IsRouteFrom node table (n + 1) routes e → IsRouteFrom node table n (r ∷ routes) e
+route_later : (node table n : ℕ) (r : Route) (routes : List Route) (e : Entry) → IsRouteFrom node table (n + 1) routes e
+    → IsRouteFrom node table n (r ∷ routes) e
 route_later node table n r routes e (i, t, at, of, in_table, is) =
     let shift : n + 1 + i ≡ n + suc i = omega arith in
     (suc i, t, at, of, in_table, is ∙ ap (λ k. record { hit = hits.Route k; prefix = t.prefix }) shift)
 
-pub route_means : (node table n : ℕ) (routes : List Route) (e : Entry) → Contains (route_entries node table n routes) e → IsRouteFrom node table n routes e
+pub route_means : (node table n : ℕ) (routes : List Route) (e : Entry) → Contains (route_entries node table n routes) e
+    → IsRouteFrom node table n routes e
 route_means node table n [] e c = absurd (contains_none e c)
 route_means node table n (r ∷ routes) e c =
     elim (cases_Bool ((r.node == node) && (r.table == table))) [
       | inl mine ↦ elim (contains_cases _ _ e (rw mine at c)) [
         | inl is ↦ let shift : n ≡ n + 0 = omega arith in
-            let both = and_parts _ _ mine in
-            (0, r, refl, eqb-true _ _ both.0, eqb-true _ _ both.1, sym is ∙ ap (λ k. record { hit = hits.Route k; prefix = r.prefix }) shift)
+            let both = and_parts _ _ mine in (
+              0,
+              r,
+              refl,
+              eqb-true _ _ both.0,
+              eqb-true _ _ both.1,
+              sym is
+                  ∙ ap (λ k. record { hit = hits.Route k; prefix = r.prefix }) shift,
+            )
         | inr more ↦ route_later node table n r routes e (route_means node table (n + 1) routes e more)
       ]
       | inr other ↦ route_later node table n r routes e (route_means node table (n + 1) routes e (rw other at c))
     ]
 
-route_in_front : (node table n : ℕ) (r : Route) (routes : List Route) (e : Entry) → Contains (route_entries node table (n + 1) routes) e → Contains (route_entries node table n (r ∷ routes)) e
+route_in_front : (node table n : ℕ) (r : Route) (routes : List Route) (e : Entry) → Contains (route_entries node table (n + 1) routes) e
+    → Contains (route_entries node table n (r ∷ routes)) e
 route_in_front node table n r routes e c =
     elim (cases_Bool ((r.node == node) && (r.table == table))) [ inl mine ↦ rw mine (contains_later _ _ e c) | inr other ↦ rw other c ]
 
-route_at_front : (node table n : ℕ) (r : Route) (routes : List Route) → r.node ≡ node → r.table ≡ table → Contains (route_entries node table n (r ∷ routes)) (record { hit = hits.Route n; prefix = r.prefix })
+route_at_front : (node table n : ℕ) (r : Route) (routes : List Route) → r.node ≡ node → r.table ≡ table
+    → Contains (route_entries node table n (r ∷ routes)) (record { hit = hits.Route n; prefix = r.prefix })
 route_at_front node table n r routes of in_table =
     let mine = and_from _ _ (eq-eqb r.node node of) (eq-eqb r.table table in_table) in rw mine (contains_first _ _)
 
-pub route_is_there : (node table n : ℕ) (routes : List Route) (i k : ℕ) (r : Route) → slice_get routes i ≡ Some r → r.node ≡ node → r.table ≡ table → k ≡ n + i → Contains (route_entries node table n routes) (record { hit = hits.Route k; prefix = r.prefix })
+pub route_is_there : (node table n : ℕ) (routes : List Route) (i k : ℕ) (r : Route) → slice_get routes i ≡ Some r → r.node ≡ node
+    → r.table ≡ table → k ≡ n + i → Contains (route_entries node table n routes) (record { hit = hits.Route k; prefix = r.prefix })
 route_is_there node table n [] i k r at of in_table is = cc
 route_is_there node table n (t ∷ routes) zero k r at of in_table is =
-    let P : Route → Type 0 = λ x. x.node ≡ node → x.table ≡ table → Contains (route_entries node table n (t ∷ routes)) (record { hit = hits.Route k; prefix = x.prefix }) in
+    let P : Route → Type 0 = λ x. x.node ≡ node → x.table ≡ table
+    → Contains (route_entries node table n (t ∷ routes)) (record { hit = hits.Route k; prefix = x.prefix }) in
     let same : n ≡ k = omega arith in
-    subst P (same_Some t r at) (λ mine mine_too. subst (λ m. Contains (route_entries node table n (t ∷ routes)) (record { hit = hits.Route m; prefix = t.prefix })) same (route_at_front node table n t routes mine mine_too)) of in_table
+    subst P (same_Some t r at) (λ mine mine_too. subst
+    (λ m. Contains (route_entries node table n (t ∷ routes)) (record { hit = hits.Route m; prefix = t.prefix })) same
+    (route_at_front node table n t routes mine mine_too)) of in_table
 route_is_there node table n (t ∷ routes) (suc i) k r at of in_table is =
     route_in_front node table n t routes _ (route_is_there node table (n + 1) routes i k r at of in_table (omega arith))
 
@@ -111,7 +134,8 @@ by_sid net node table e first c =
     let same : i ≡ 0 + i = omega arith in
     subst (IsEntry net node table) (sym is) (s, subst (λ k. slice_get net.sids k ≡ Some s) same at, of, refl, first)
 
-by_address : (net : Network) (node table : ℕ) (e : Entry) (o : Option Node) → slice_get net.nodes node ≡ o → table ≡ 0 → Contains (address_entries o) e → IsEntry net node table e
+by_address : (net : Network) (node table : ℕ) (e : Entry) (o : Option Node) → slice_get net.nodes node ≡ o → table ≡ 0
+    → Contains (address_entries o) e → IsEntry net node table e
 by_address net node table e None at first c = absurd (contains_none e c)
 by_address net node table e (Some n) at first c =
     elim (contains_cases (record { hit = hits.Address; prefix = record { value = n.address.value; len = 128 } }) [] e c) [
@@ -126,47 +150,60 @@ by_route net node table e c =
     subst (IsEntry net node table) (sym is) (r, subst (λ k. slice_get net.routes k ≡ Some r) same at, of, in_table, refl)
 
 -- the entries of table 0, and of another
-pub entries_of-first : (net : Network) (node table : ℕ) → table ≡ 0 → entries_of net node table ≡ sid_entries node 0 net.sids ++ (address_entries (slice_get net.nodes node) ++ route_entries node table 0 net.routes)
+pub entries_of-first : (net : Network) (node table : ℕ) → table ≡ 0
+    → entries_of net node table ≡ sid_entries node 0 net.sids
+    ++ (address_entries (slice_get net.nodes node) ++ route_entries node table 0 net.routes)
 entries_of-first net node table first =
-    subst (λ t. entries_of net node t ≡ sid_entries node 0 net.sids ++ (address_entries (slice_get net.nodes node) ++ route_entries node t 0 net.routes)) (sym first) refl
+    subst (λ t. entries_of net node t ≡ sid_entries node 0 net.sids
+    ++ (address_entries (slice_get net.nodes node) ++ route_entries node t 0 net.routes)) (sym first) refl
 
-pub entries_of-other : (net : Network) (node table : ℕ) → (table == 0) ≡ false → entries_of net node table ≡ route_entries node table 0 net.routes
+pub entries_of-other : (net : Network) (node table : ℕ) → (table == 0) ≡ false
+    → entries_of net node table ≡ route_entries node table 0 net.routes
 entries_of-other net node table other = rw other refl
 
 pub entry_means : (net : Network) (node table : ℕ) (e : Entry) → Contains (entries_of net node table) e → IsEntry net node table e
 entry_means net node table e c =
     elim (cases_Bool (table == 0)) [
       | inl is ↦ let first = eqb-true table 0 is in
-          elim (Contains-append_cases (sid_entries node 0 net.sids) _ e (subst (λ es. Contains es e) (entries_of-first net node table first) c)) [
+          elim (Contains-append_cases (sid_entries node 0 net.sids) _ e
+          (subst (λ es. Contains es e) (entries_of-first net node table first) c)) [
             | inl sid ↦ by_sid net node table e first sid
-            | inr more ↦ elim (Contains-append_cases (address_entries (slice_get net.nodes node)) (route_entries node table 0 net.routes) e more) [
-              | inl own ↦ by_address net node table e (slice_get net.nodes node) refl first own
-              | inr route ↦ by_route net node table e route
-            ]
+            | inr more ↦ elim (Contains-append_cases (address_entries (slice_get net.nodes node))
+                (route_entries node table 0 net.routes) e more) [
+                  | inl own ↦ by_address net node table e (slice_get net.nodes node) refl first own
+                  | inr route ↦ by_route net node table e route
+                ]
           ]
       | inr other ↦ by_route net node table e (subst (λ es. Contains es e) (entries_of-other net node table other) c)
     ]
 
-route_among : (net : Network) (node table : ℕ) (e : Entry) → Contains (route_entries node table 0 net.routes) e → Contains (entries_of net node table) e
+route_among : (net : Network) (node table : ℕ) (e : Entry) → Contains (route_entries node table 0 net.routes) e
+    → Contains (entries_of net node table) e
 route_among net node table e c =
     elim (cases_Bool (table == 0)) [
       | inl is ↦ subst (λ es. Contains es e) (sym (entries_of-first net node table (eqb-true table 0 is)))
-          (Contains-append_right (sid_entries node 0 net.sids) _ e (Contains-append_right (address_entries (slice_get net.nodes node)) (route_entries node table 0 net.routes) e c))
+          (Contains-append_right (sid_entries node 0 net.sids) _ e
+          (Contains-append_right (address_entries (slice_get net.nodes node)) (route_entries node table 0 net.routes) e c))
       | inr other ↦ subst (λ es. Contains es e) (sym (entries_of-other net node table other)) c
     ]
 
-pub entry_is_there : (net : Network) (node table : ℕ) (p : PrefixValue) (h : Hit) → IsEntryAs net node table p h → Contains (entries_of net node table) (record { hit = h; prefix = p })
+pub entry_is_there : (net : Network) (node table : ℕ) (p : PrefixValue) (h : Hit) → IsEntryAs net node table p h
+    → Contains (entries_of net node table) (record { hit = h; prefix = p })
 entry_is_there net node table p (hits.Sid n) (s, at, of, is, first) =
     let e : Entry = record { hit = hits.Sid n; prefix = p } in
-    let there = subst (λ q. Contains (sid_entries node 0 net.sids) (record { hit = hits.Sid n; prefix = q })) is (sid_is_there node 0 net.sids n n s at of (omega arith)) in
+    let there = subst (λ q. Contains (sid_entries node 0 net.sids) (record { hit = hits.Sid n; prefix = q })) is
+    (sid_is_there node 0 net.sids n n s at of (omega arith)) in
     subst (λ es. Contains es e) (sym (entries_of-first net node table first)) (Contains-append_left (sid_entries node 0 net.sids) _ e there)
 entry_is_there net node table p hits.Address (n, at, is, first) =
     let e : Entry = record { hit = hits.Address; prefix = p } in
-    let own = subst (λ q. Contains (address_entries (Some n)) (record { hit = hits.Address; prefix = q })) (sym is) (contains_first (record { hit = hits.Address; prefix = record { value = n.address.value; len = 128 } }) []) in
+    let own = subst (λ q. Contains (address_entries (Some n)) (record { hit = hits.Address; prefix = q })) (sym is)
+    (contains_first (record { hit = hits.Address; prefix = record { value = n.address.value; len = 128 } }) []) in
     let there = subst (λ o. Contains (address_entries o) e) (sym at) own in
     subst (λ es. Contains es e) (sym (entries_of-first net node table first))
-    (Contains-append_right (sid_entries node 0 net.sids) _ e (Contains-append_left (address_entries (slice_get net.nodes node)) (route_entries node table 0 net.routes) e there))
+    (Contains-append_right (sid_entries node 0 net.sids) _ e
+    (Contains-append_left (address_entries (slice_get net.nodes node)) (route_entries node table 0 net.routes) e there))
 entry_is_there net node table p (hits.Route n) (r, at, of, in_table, is) =
-    let there = subst (λ q. Contains (route_entries node table 0 net.routes) (record { hit = hits.Route n; prefix = q })) is (route_is_there node table 0 net.routes n n r at of in_table (omega arith)) in
+    let there = subst (λ q. Contains (route_entries node table 0 net.routes) (record { hit = hits.Route n; prefix = q })) is
+    (route_is_there node table 0 net.routes n n r at of in_table (omega arith)) in
     route_among net node table _ there
 entry_is_there net node table p hits.Nothing none = absurd none

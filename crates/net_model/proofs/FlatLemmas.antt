@@ -7,7 +7,7 @@ use Rattle.std.proofs.lemmas.Bool.{cases_Bool, both_ways}
 use Rattle.std.proofs.lemmas.Option.{same_Some, slice_get_read, slice_get_within, slice_get-map, get_or_from_slice_get}
 use Rattle.std.proofs.lemmas.List.Folds.{find-append}
 use Rattle.v6_addr.specs.Address.{PrefixValue, IsInside, is_inside}
-use Rattle.v6_addr.proofs.Prefixes.{is_inside_is}
+use Rattle.v6_addr.proofs.PublicLaws.{is_inside_is}
 use Rattle.srv6_rules.specs.declared.sid.SidEntry.{SidEntry}
 use Rattle.net_model.specs.declared.flat.NotFlat.{NotFlat}
 use Rattle.net_model.specs.declared.flat.NotFlat.TheVariants.{Nested}
@@ -15,14 +15,16 @@ use Rattle.net_model.specs.Network.{Network}
 use Rattle.net_model.specs.Flat.{sid_prefix, inner_entries, IsFlat, IsNestedAt, IsFirstNested, IsJudged, first_inside, nested_or, first_nested, flatness_of}
 
 -- the first of three lists in a row
-pub joined : (outer : PrefixValue) (xs ys zs : List PrefixValue) → first_inside outer (xs ++ (ys ++ zs)) ≡ option_or (first_inside outer xs) (option_or (first_inside outer ys) (first_inside outer zs))
+pub joined : (outer : PrefixValue) (xs ys zs : List PrefixValue)
+    → first_inside outer (xs ++ (ys ++ zs)) ≡ option_or (first_inside outer xs) (option_or (first_inside outer ys) (first_inside outer zs))
 joined outer xs ys zs =
     let test : PrefixValue → Bool = λ inner. is_inside inner outer in
     find-append test xs (ys ++ zs) ∙ ap (option_or (first_inside outer xs)) (find-append test ys zs)
 
 -- the first item that passes a test stands at a place, and those before it fail
 abbrev pub IsFirstPassing : {X : Type 0} → (X → Bool) → List X → X → Type 0
-IsFirstPassing {X} p xs x = (j : ℕ) × (slice_get xs j ≡ Some x) × (p x ≡ true) × ((k : ℕ) (y : X) → k < j → slice_get xs k ≡ Some y → p y ≡ false)
+IsFirstPassing {X} p xs x = (j : ℕ) × (slice_get xs j ≡ Some x) × (p x ≡ true) × ((k : ℕ) (y : X) → k < j → slice_get xs k ≡ Some y
+    → p y ≡ false)
 
 first_later : {X : Type 0} (p : X → Bool) (y : X) (ys : List X) (x : X) → p y ≡ false → IsFirstPassing p ys x → IsFirstPassing p (y ∷ ys) x
 first_later p y ys x fails (j, at, passes, before) =
@@ -44,7 +46,11 @@ find_first p (y ∷ ys) x e =
 pub find_none : {X : Type 0} (p : X → Bool) (xs : List X) → find p xs ≡ None → (k : ℕ) (x : X) → slice_get xs k ≡ Some x → p x ≡ false
 find_none p [] e k x at = cc
 find_none p (y ∷ ys) e zero x at =
-    elim (cases_Bool (p y)) [ inl passes ↦ absurd (let none = rw passes at e in cc) | inr fails ↦ subst (λ z. p z ≡ false) (same_Some y x at) fails ]
+    elim (cases_Bool (p y)) [
+      | inl passes ↦ absurd (let none = rw passes at e in cc)
+      | inr fails ↦
+          subst (λ z. p z ≡ false) (same_Some y x at) fails
+    ]
 find_none p (y ∷ ys) e (suc k) x at =
     elim (cases_Bool (p y)) [ inl passes ↦ absurd (let none = rw passes at e in cc) | inr fails ↦ find_none p ys (rw fails at e) k x at ]
 
@@ -54,11 +60,13 @@ IsJudgedOver outers inners (Ok accepted) = (i j : ℕ) (p q : PrefixValue) → �
 IsJudgedOver outers inners (Err (Nested outer inner)) = IsFirstNested outers inners outer inner
 
 -- an outer entry in front with nothing inside it
-not_in_front : (o : PrefixValue) (outers inners : List PrefixValue) (r : Result (Unit {0}) NotFlat) → first_inside o inners ≡ None → IsJudgedOver outers inners r → IsJudgedOver (o ∷ outers) inners r
+not_in_front : (o : PrefixValue) (outers inners : List PrefixValue) (r : Result (Unit {0}) NotFlat) → first_inside o inners ≡ None
+    → IsJudgedOver outers inners r → IsJudgedOver (o ∷ outers) inners r
 not_in_front o outers inners (Ok accepted) none none_later = nowhere
   where
     nowhere : (i j : ℕ) (p q : PrefixValue) → ¬ IsNestedAt (o ∷ outers) inners i j p q
-    nowhere zero j p q at = both_ways _ (find_none (λ inner. is_inside inner o) inners none j q at.1) (subst (λ z. is_inside q z ≡ true) (sym (same_Some o p at.0)) ((is_inside_is q p).1 at.2))
+    nowhere zero j p q at = both_ways _ (find_none (λ inner. is_inside inner o) inners none j q at.1)
+        (subst (λ z. is_inside q z ≡ true) (sym (same_Some o p at.0)) ((is_inside_is q p).1 at.2))
     nowhere (suc i) j p q at = none_later i j p q at
 not_in_front o outers inners (Err (Nested outer inner)) none later = record {
   outer_place = suc later.outer_place;
@@ -69,11 +77,13 @@ not_in_front o outers inners (Err (Nested outer inner)) none later = record {
 }
   where
     nowhere : (i j : ℕ) (p q : PrefixValue) → i < suc later.outer_place → ¬ IsNestedAt (o ∷ outers) inners i j p q
-    nowhere zero j p q before at = both_ways _ (find_none (λ inner. is_inside inner o) inners none j q at.1) (subst (λ z. is_inside q z ≡ true) (sym (same_Some o p at.0)) ((is_inside_is q p).1 at.2))
+    nowhere zero j p q before at = both_ways _ (find_none (λ inner. is_inside inner o) inners none j q at.1)
+        (subst (λ z. is_inside q z ≡ true) (sym (same_Some o p at.0)) ((is_inside_is q p).1 at.2))
     nowhere (suc i) j p q before at = later.no_earlier_outer i j p q (omega arith) at
 
 -- an outer entry in front with an entry inside it
-in_front : (o inner : PrefixValue) (outers inners : List PrefixValue) → first_inside o inners ≡ Some inner → IsFirstNested (o ∷ outers) inners o inner
+in_front : (o inner : PrefixValue) (outers inners : List PrefixValue) → first_inside o inners ≡ Some inner
+    → IsFirstNested (o ∷ outers) inners o inner
 in_front o inner outers inners found =
     let (j, at, passes, before) = find_first (λ q. is_inside q o) inners inner found in
     record {
@@ -84,7 +94,8 @@ in_front o inner outers inners found =
       no_earlier_inner = λ k q below nested. both_ways _ (before k q below nested.1) ((is_inside_is q o).1 nested.2);
     }
 
-judged_by : (o : PrefixValue) (outers inners : List PrefixValue) (f : Option PrefixValue) (r : Result (Unit {0}) NotFlat) → first_inside o inners ≡ f → IsJudgedOver outers inners r → IsJudgedOver (o ∷ outers) inners (nested_or o f r)
+judged_by : (o : PrefixValue) (outers inners : List PrefixValue) (f : Option PrefixValue) (r : Result (Unit {0}) NotFlat)
+    → first_inside o inners ≡ f → IsJudgedOver outers inners r → IsJudgedOver (o ∷ outers) inners (nested_or o f r)
 judged_by o outers inners None r found later = not_in_front o outers inners r found later
 judged_by o outers inners (Some inner) r found later = in_front o inner outers inners found
 
@@ -108,21 +119,25 @@ sid_by : (o : Option SidEntry) (p : PrefixValue) → option_map sid_prefix o ≡
 sid_by None p e = cc
 sid_by (Some s) p e = (s, refl, same_Some s.prefix p e)
 
-sid_at : (sids : List SidEntry) (i : ℕ) (p : PrefixValue) → slice_get (map sid_prefix sids) i ≡ Some p → (s : SidEntry) × (slice_get sids i ≡ Some s) × (s.prefix ≡ p)
+sid_at : (sids : List SidEntry) (i : ℕ) (p : PrefixValue) → slice_get (map sid_prefix sids) i ≡ Some p
+    → (s : SidEntry) × (slice_get sids i ≡ Some s) × (s.prefix ≡ p)
 sid_at sids i p e = sid_by (slice_get sids i) p (sym (slice_get-map sid_prefix sids i) ∙ e)
 
-flat_from : (net : Network) → ((i j : ℕ) (p q : PrefixValue) → ¬ IsNestedAt (map sid_prefix net.sids) (inner_entries net) i j p q) → IsFlat net
+flat_from : (net : Network) → ((i j : ℕ) (p q : PrefixValue) → ¬ IsNestedAt (map sid_prefix net.sids) (inner_entries net) i j p q)
+    → IsFlat net
 flat_from net none s inner is_sid is_inner inside =
     let (i, at_i) = get_from_contains net.sids s is_sid in
     let (j, at_j) = get_from_contains (inner_entries net) inner is_inner in
     none i j s.prefix inner (prefix_at net.sids i s at_i, at_j, inside)
 
-not_flat_from : (net : Network) (i j : ℕ) (p q : PrefixValue) → IsNestedAt (map sid_prefix net.sids) (inner_entries net) i j p q → ¬ IsFlat net
+not_flat_from : (net : Network) (i j : ℕ) (p q : PrefixValue) → IsNestedAt (map sid_prefix net.sids) (inner_entries net) i j p q
+    → ¬ IsFlat net
 not_flat_from net i j p q (at_i, at_j, inside) flat =
     let (s, at_s, is) = sid_at net.sids i p at_i in
     flat s q (contains_from_get net.sids i s at_s) (contains_from_get (inner_entries net) j q at_j) (subst (IsInside q) (sym is) inside)
 
-judged_from : (net : Network) (r : Result (Unit {0}) NotFlat) → IsJudgedOver (map sid_prefix net.sids) (inner_entries net) r → IsJudged net r
+judged_from : (net : Network) (r : Result (Unit {0}) NotFlat) → IsJudgedOver (map sid_prefix net.sids) (inner_entries net) r
+    → IsJudged net r
 judged_from net (Ok accepted) none = flat_from net none
 judged_from net (Err (Nested outer inner)) first = first
 

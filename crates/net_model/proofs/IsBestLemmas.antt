@@ -4,7 +4,7 @@ use Rattle.std.specs.List.{slice_get, Contains}
 use Rattle.std.proofs.lemmas.Bool.{cases_Bool, both_ways, eqb-true, ltb-true, ltb-false}
 use Rattle.std.proofs.lemmas.List.Elements.{Contains-append_cases}
 use Rattle.v6_addr.specs.Address.{PrefixValue, IsPrefix, Holds, holds_address}
-use Rattle.v6_addr.proofs.Prefixes.{holds_address_is, same_value}
+use Rattle.v6_addr.proofs.PublicLaws.{holds_address_is, same_value}
 use Rattle.net_model.specs.declared.parts.Node.{Node}
 use Rattle.net_model.specs.declared.net.Hit.{Hit}
 use Rattle.net_model.specs.declared.net.Hit.TheVariants as hits
@@ -47,7 +47,8 @@ past_one a x xs (Some f) fails best = record {
 }
 
 -- an entry in front that holds the address, by whether the best of the rest is longer
-with_one : (a : ℕ) (x : Entry) (xs : List Entry) (o : Option Entry) → Holds x.prefix a → IsRanked (x ∷ xs) → IsLongest a xs o → IsLongest a (x ∷ xs) (longer (Some x) o)
+with_one : (a : ℕ) (x : Entry) (xs : List Entry) (o : Option Entry) → Holds x.prefix a → IsRanked (x ∷ xs) → IsLongest a xs o
+    → IsLongest a (x ∷ xs) (longer (Some x) o)
 with_one a x xs None held ranked best = record {
   is_there = contains_first x xs;
   holds = held;
@@ -93,10 +94,13 @@ HasRank k es = (e : Entry) → Contains es e → rank_of e.hit ≡ k
 
 ranked_from : (k : ℕ) (es : List Entry) → HasRank k es → IsRanked es
 ranked_from k [] rank = tt
-ranked_from k (e ∷ es) rank =
-    (λ other c. omega (arith, rank e (contains_first e es), rank other (contains_later e es other c)), ranked_from k es (λ f c. rank f (contains_later e es f c)))
+ranked_from k (e ∷ es) rank = (
+  λ other c. omega (arith, rank e (contains_first e es), rank other (contains_later e es other c)),
+  ranked_from k es (λ f c. rank f (contains_later e es f c)),
+)
 
-ranked_append : (xs ys : List Entry) → IsRanked xs → IsRanked ys → ((x y : Entry) → Contains xs x → Contains ys y → rank_of x.hit ≤ rank_of y.hit) → IsRanked (xs ++ ys)
+ranked_append : (xs ys : List Entry) → IsRanked xs → IsRanked ys
+    → ((x y : Entry) → Contains xs x → Contains ys y → rank_of x.hit ≤ rank_of y.hit) → IsRanked (xs ++ ys)
 ranked_append [] ys first later between = later
 ranked_append (x ∷ xs) ys first later between = (
   λ other c. elim (Contains-append_cases xs ys other c) [
@@ -120,13 +124,15 @@ address_rank (Some n) e c =
       | inr none ↦ absurd (contains_none e none)
     ]
 
-first_ranked : (net : Network) (node table : ℕ) → IsRanked (sid_entries node 0 net.sids ++ (address_entries (slice_get net.nodes node) ++ route_entries node table 0 net.routes))
+first_ranked : (net : Network) (node table : ℕ)
+    → IsRanked (sid_entries node 0 net.sids ++ (address_entries (slice_get net.nodes node) ++ route_entries node table 0 net.routes))
 first_ranked net node table =
     let sids = sid_entries node 0 net.sids in
     let own = address_entries (slice_get net.nodes node) in
     let routes = route_entries node table 0 net.routes in
     ranked_append sids (own ++ routes) (ranked_from 0 sids (sids_rank node 0 net))
-    (ranked_append own routes (ranked_from 1 own (address_rank (slice_get net.nodes node))) (ranked_from 2 routes (routes_rank node table 0 net))
+    (ranked_append own routes (ranked_from 1 own (address_rank (slice_get net.nodes node)))
+    (ranked_from 2 routes (routes_rank node table 0 net))
     (λ x y c d. omega (arith, address_rank (slice_get net.nodes node) x c, routes_rank node table 0 net y d)))
     (λ x y c d. omega (arith, sids_rank node 0 net x c))
 
@@ -134,28 +140,34 @@ entries_ranked : (net : Network) (node table : ℕ) → IsRanked (entries_of net
 entries_ranked net node table =
     elim (cases_Bool (table == 0)) [
       | inl is ↦ subst IsRanked (sym (entries_of-first net node table (eqb-true table 0 is))) (first_ranked net node table)
-      | inr other ↦ subst IsRanked (sym (entries_of-other net node table other)) (ranked_from 2 (route_entries node table 0 net.routes) (routes_rank node table 0 net))
+      | inr other ↦ subst IsRanked (sym (entries_of-other net node table other))
+          (ranked_from 2 (route_entries node table 0 net.routes) (routes_rank node table 0 net))
     ]
 
 -- the look-up is a best match
 
-best_by_hit : (net : Network) (node table a : ℕ) (p : PrefixValue) (h : Hit) → IsBestEntry (entries_of net node table) a (record { hit = h; prefix = p }) → IsBest net node table a h
+best_by_hit : (net : Network) (node table a : ℕ) (p : PrefixValue) (h : Hit)
+    → IsBestEntry (entries_of net node table) a (record { hit = h; prefix = p }) → IsBest net node table a h
 best_by_hit net node table a p (hits.Sid n) best = (p, best)
 best_by_hit net node table a p hits.Address best = (p, best)
 best_by_hit net node table a p (hits.Route n) best = (p, best)
-best_by_hit net node table a p hits.Nothing best = absurd (entry_means net node table (record { hit = hits.Nothing; prefix = p }) best.is_there)
+best_by_hit net node table a p hits.Nothing best =
+    absurd (entry_means net node table (record { hit = hits.Nothing; prefix = p }) best.is_there)
 
-best_from : (net : Network) (node table a : ℕ) (o : Option Entry) → IsLongest a (entries_of net node table) o → IsBest net node table a (hit_of o)
+best_from : (net : Network) (node table a : ℕ) (o : Option Entry) → IsLongest a (entries_of net node table) o
+    → IsBest net node table a (hit_of o)
 best_from net node table a None best = best
 best_from net node table a (Some e) best = best_by_hit net node table a e.prefix e.hit best
 
 pub lookup_is_best : (net : Network) (node table a : ℕ) → IsBest net node table a (lookup_of net node table a)
 unfolding lookup_of
 lookup_is_best net node table a =
-    best_from net node table a (longest a (entries_of net node table)) (longest_best a (entries_of net node table) (entries_ranked net node table))
+    best_from net node table a (longest a (entries_of net node table))
+    (longest_best a (entries_of net node table) (entries_ranked net node table))
 
 -- two best entries are equally long and of one rank
-best_agree : (es : List Entry) (a : ℕ) (e f : Entry) → IsBestEntry es a e → IsBestEntry es a f → (e.prefix.len ≡ f.prefix.len) × (rank_of e.hit ≡ rank_of f.hit)
+best_agree : (es : List Entry) (a : ℕ) (e f : Entry) → IsBestEntry es a e → IsBestEntry es a f
+    → (e.prefix.len ≡ f.prefix.len) × (rank_of e.hit ≡ rank_of f.hit)
 best_agree es a e f is_e is_f =
     let to_f = is_e.no_better f is_f.is_there is_f.holds in
     let to_e = is_f.no_better e is_e.is_there is_e.holds in
@@ -166,13 +178,15 @@ pub same_prefix_value : (p q : PrefixValue) → p.value ≡ q.value → p.len �
 same_prefix_value p q value len = λ i. record { value = value i; len = len i }
 
 -- two best entries of one rank have one prefix
-same_best_prefix : (es : List Entry) (a : ℕ) (e f : Entry) → IsBestEntry es a e → IsBestEntry es a f → IsPrefix e.prefix → IsPrefix f.prefix → e.prefix ≡ f.prefix
+same_best_prefix : (es : List Entry) (a : ℕ) (e f : Entry) → IsBestEntry es a e → IsBestEntry es a f → IsPrefix e.prefix → IsPrefix f.prefix
+    → e.prefix ≡ f.prefix
 same_best_prefix es a e f is_e is_f prefix_e prefix_f =
     let len = (best_agree es a e f is_e is_f).0 in
     same_prefix_value e.prefix f.prefix (same_value e.prefix f.prefix a prefix_e prefix_f len is_e.holds is_f.holds) len
 
 one_sid : (net : Network) (node table a m n : ℕ) (p q : PrefixValue) → Keeps net
-    → IsBestEntry (entries_of net node table) a (record { hit = hits.Sid m; prefix = p }) → IsBestEntry (entries_of net node table) a (record { hit = hits.Sid n; prefix = q }) → m ≡ n
+    → IsBestEntry (entries_of net node table) a (record { hit = hits.Sid m; prefix = p })
+    → IsBestEntry (entries_of net node table) a (record { hit = hits.Sid n; prefix = q }) → m ≡ n
 one_sid net node table a m n p q keeps is_m is_n =
     let (s, at_m, of_s, prefix_s, first) = entry_means net node table _ is_m.is_there in
     let (t, at_n, of_t, prefix_t, also) = entry_means net node table _ is_n.is_there in
@@ -181,7 +195,8 @@ one_sid net node table a m n p q keeps is_m is_n =
     keeps.sid_prefix m n s t at_m at_n (of_s ∙ sym of_t) (prefix_s ∙ same ∙ sym prefix_t)
 
 one_route : (net : Network) (node table a m n : ℕ) (p q : PrefixValue) → Keeps net
-    → IsBestEntry (entries_of net node table) a (record { hit = hits.Route m; prefix = p }) → IsBestEntry (entries_of net node table) a (record { hit = hits.Route n; prefix = q }) → m ≡ n
+    → IsBestEntry (entries_of net node table) a (record { hit = hits.Route m; prefix = p })
+    → IsBestEntry (entries_of net node table) a (record { hit = hits.Route n; prefix = q }) → m ≡ n
 one_route net node table a m n p q keeps is_m is_n =
     let (r, at_m, of_r, in_r, prefix_r) = entry_means net node table _ is_m.is_there in
     let (t, at_n, of_t, in_t, prefix_t) = entry_means net node table _ is_n.is_there in
@@ -190,21 +205,32 @@ one_route net node table a m n p q keeps is_m is_n =
     keeps.route_prefix m n r t at_m at_n (of_r ∙ sym of_t) (in_r ∙ sym in_t) (prefix_r ∙ same ∙ sym prefix_t)
 
 -- a best match has one rank
-rank_of_best : (net : Network) (node table a : ℕ) (p q : PrefixValue) (h k : Hit) → IsBestEntry (entries_of net node table) a (record { hit = h; prefix = p }) → IsBestEntry (entries_of net node table) a (record { hit = k; prefix = q }) → rank_of h ≡ rank_of k
+rank_of_best : (net : Network) (node table a : ℕ) (p q : PrefixValue) (h k : Hit)
+    → IsBestEntry (entries_of net node table) a (record { hit = h; prefix = p })
+    → IsBestEntry (entries_of net node table) a (record { hit = k; prefix = q }) → rank_of h ≡ rank_of k
 rank_of_best net node table a p q h k is_h is_k = (best_agree (entries_of net node table) a _ _ is_h is_k).1
 
-pub best_is_one : (net : Network) (node table a : ℕ) (h k : Hit) → IsNetwork net → IsBest net node table a h → IsBest net node table a k → h ≡ k
-best_is_one net node table a (hits.Sid m) (hits.Sid n) rules (p, is_h) (q, is_k) = ap hits.Sid (one_sid net node table a m n p q (keeps_from_network net rules) is_h is_k)
-best_is_one net node table a (hits.Sid m) hits.Address rules (p, is_h) (q, is_k) = absurd (omega (arith, rank_of_best net node table a p q (hits.Sid m) hits.Address is_h is_k))
-best_is_one net node table a (hits.Sid m) (hits.Route n) rules (p, is_h) (q, is_k) = absurd (omega (arith, rank_of_best net node table a p q (hits.Sid m) (hits.Route n) is_h is_k))
+pub best_is_one : (net : Network) (node table a : ℕ) (h k : Hit) → IsNetwork net → IsBest net node table a h → IsBest net node table a k
+    → h ≡ k
+best_is_one net node table a (hits.Sid m) (hits.Sid n) rules (p, is_h) (q, is_k) =
+    ap hits.Sid (one_sid net node table a m n p q (keeps_from_network net rules) is_h is_k)
+best_is_one net node table a (hits.Sid m) hits.Address rules (p, is_h) (q, is_k) =
+    absurd (omega (arith, rank_of_best net node table a p q (hits.Sid m) hits.Address is_h is_k))
+best_is_one net node table a (hits.Sid m) (hits.Route n) rules (p, is_h) (q, is_k) =
+    absurd (omega (arith, rank_of_best net node table a p q (hits.Sid m) (hits.Route n) is_h is_k))
 best_is_one net node table a (hits.Sid m) hits.Nothing rules (p, is_h) none = absurd (none _ is_h.is_there is_h.holds)
-best_is_one net node table a hits.Address (hits.Sid n) rules (p, is_h) (q, is_k) = absurd (omega (arith, rank_of_best net node table a p q hits.Address (hits.Sid n) is_h is_k))
+best_is_one net node table a hits.Address (hits.Sid n) rules (p, is_h) (q, is_k) =
+    absurd (omega (arith, rank_of_best net node table a p q hits.Address (hits.Sid n) is_h is_k))
 best_is_one net node table a hits.Address hits.Address rules is_h is_k = refl
-best_is_one net node table a hits.Address (hits.Route n) rules (p, is_h) (q, is_k) = absurd (omega (arith, rank_of_best net node table a p q hits.Address (hits.Route n) is_h is_k))
+best_is_one net node table a hits.Address (hits.Route n) rules (p, is_h) (q, is_k) =
+    absurd (omega (arith, rank_of_best net node table a p q hits.Address (hits.Route n) is_h is_k))
 best_is_one net node table a hits.Address hits.Nothing rules (p, is_h) none = absurd (none _ is_h.is_there is_h.holds)
-best_is_one net node table a (hits.Route m) (hits.Sid n) rules (p, is_h) (q, is_k) = absurd (omega (arith, rank_of_best net node table a p q (hits.Route m) (hits.Sid n) is_h is_k))
-best_is_one net node table a (hits.Route m) hits.Address rules (p, is_h) (q, is_k) = absurd (omega (arith, rank_of_best net node table a p q (hits.Route m) hits.Address is_h is_k))
-best_is_one net node table a (hits.Route m) (hits.Route n) rules (p, is_h) (q, is_k) = ap hits.Route (one_route net node table a m n p q (keeps_from_network net rules) is_h is_k)
+best_is_one net node table a (hits.Route m) (hits.Sid n) rules (p, is_h) (q, is_k) =
+    absurd (omega (arith, rank_of_best net node table a p q (hits.Route m) (hits.Sid n) is_h is_k))
+best_is_one net node table a (hits.Route m) hits.Address rules (p, is_h) (q, is_k) =
+    absurd (omega (arith, rank_of_best net node table a p q (hits.Route m) hits.Address is_h is_k))
+best_is_one net node table a (hits.Route m) (hits.Route n) rules (p, is_h) (q, is_k) =
+    ap hits.Route (one_route net node table a m n p q (keeps_from_network net rules) is_h is_k)
 best_is_one net node table a (hits.Route m) hits.Nothing rules (p, is_h) none = absurd (none _ is_h.is_there is_h.holds)
 best_is_one net node table a hits.Nothing (hits.Sid n) rules none (q, is_k) = absurd (none _ is_k.is_there is_k.holds)
 best_is_one net node table a hits.Nothing hits.Address rules none (q, is_k) = absurd (none _ is_k.is_there is_k.holds)

@@ -46,7 +46,8 @@ ends_from node_count from (Some to) h =
     let parts = and_parts _ _ h in
     (ltb-true _ _ parts.0, eqb-false _ _ (not-true _ parts.1))
 
-suits_from : (links : List Link) (node : ℕ) (b : Behaviour) (set : List ℕ) → keeps_behaviour links node b set ≡ true → SuitsBehaviour links node b set
+suits_from : (links : List Link) (node : ℕ) (b : Behaviour) (set : List ℕ) → keeps_behaviour links node b set ≡ true
+    → SuitsBehaviour links node b set
 suits_from links node End set h = nil_from_length set (eqb-true _ _ h)
 suits_from links node EndX set h = link_set_from links node set h
 suits_from links node (Dt6 table) set h =
@@ -82,7 +83,8 @@ route_from net r h =
       via = link_set_from net.links r.node r.via prefix.1;
     }
 
-sid_from : (net : Network) (s : SidEntry) → keeps_sid (length net.nodes) net.links (length net.titles) s ≡ true → has_room net.sids s ≡ true → KeepsSid net s
+sid_from : (net : Network) (s : SidEntry) → keeps_sid (length net.nodes) net.links (length net.titles) s ≡ true → has_room net.sids s ≡ true
+    → KeepsSid net s
 sid_from net s h room =
     let node = and_parts _ _ h in
     let len = and_parts _ _ node.1 in
@@ -102,6 +104,13 @@ same_prefix_from p q e = and_from _ _ (eq-eqb _ _ (ap (λ r. r.value) e)) (eq-eq
 
 same_title_from : (o p : Option ℕ) (t : ℕ) → o ≡ Some t → p ≡ Some t → same_option o p ≡ true
 same_title_from o p t e f = rw (e, f) (eq-eqb t t refl)
+
+same_route_from : (q r : Route) → q.node ≡ r.node → q.table ≡ r.table → q.prefix ≡ r.prefix → same_route q r ≡ true
+same_route_from q r node table prefix =
+    and_from _ _ (eq-eqb _ _ node) (and_from _ _ (eq-eqb _ _ table) (same_prefix_from _ _ prefix))
+
+same_sid_from : (s t : SidEntry) → s.node ≡ t.node → s.prefix ≡ t.prefix → same_sid s t ≡ true
+same_sid_from s t node prefix = and_from _ _ (eq-eqb _ _ node) (same_prefix_from _ _ prefix)
 
 -- a network that keeps the rules has each of the facts
 pub keeps_from_network : (net : Network) → IsNetwork net → Keeps net
@@ -123,7 +132,6 @@ keeps_from_network net h =
     let each_sid = and_parts _ _ sids.1 in
     let one_sid = and_parts _ _ each_sid.1 in
     let room = and_parts _ _ one_sid.1 in
-    let sid_titles = are_distinct-titles net.sids ∙ room.1 in
     record {
       node_count = leb-true _ _ nodes.0;
       link_count = leb-true _ _ links.0;
@@ -132,17 +140,21 @@ keeps_from_network net h =
       node = λ i n e. node_from n (passes_at keeps_node net.nodes i n each_node.0 e);
       link = λ i l e. link_from net l (passes_at (keeps_link (length net.nodes)) net.links i l each_link.0 e);
       route = λ i r e. route_from net r (passes_at (keeps_route (length net.nodes) net.links) net.routes i r each_route.0 e);
-      sid = λ i s e. sid_from net s (passes_at (keeps_sid (length net.nodes) net.links (length net.titles)) net.sids i s each_sid.0 e) (passes_at (has_room net.sids) net.sids i s room.0 e);
+      sid = λ i s e. sid_from net s (passes_at (keeps_sid (length net.nodes) net.links (length net.titles)) net.sids i s each_sid.0 e)
+          (passes_at (has_room net.sids) net.sids i s room.0 e);
       title = λ i t e. passes_at is_name net.titles i t titles.0 e;
-      node_name = λ i j m n e f same. same_number_of same_node_name net.nodes i j m n one_node.0 e f (same_bytes_from _ _ same) (same_bytes_from _ _ (sym same));
-      node_address = λ i j m n e f same. same_number_of same_node_address net.nodes i j m n one_node.1 e f (eq-eqb _ _ same) (eq-eqb _ _ (sym same));
-      link_name = λ i j l m e f same. same_number_of same_link_name net.links i j l m each_link.1 e f (same_bytes_from _ _ same) (same_bytes_from _ _ (sym same));
+      node_name = λ i j m n e f same. same_number_of same_node_name net.nodes i j m n one_node.0 e f (same_bytes_from _ _ same)
+          (same_bytes_from _ _ (sym same));
+      node_address = λ i j m n e f same. same_number_of same_node_address net.nodes i j m n one_node.1 e f (eq-eqb _ _ same)
+          (eq-eqb _ _ (sym same));
+      link_name = λ i j l m e f same. same_number_of same_link_name net.links i j l m each_link.1 e f (same_bytes_from _ _ same)
+          (same_bytes_from _ _ (sym same));
       route_prefix = λ i j q r e f node table prefix. same_number_of same_route net.routes i j q r each_route.1 e f
-          (and_from _ _ (eq-eqb _ _ node) (and_from _ _ (eq-eqb _ _ table) (same_prefix_from _ _ prefix)))
-          (and_from _ _ (eq-eqb _ _ (sym node)) (and_from _ _ (eq-eqb _ _ (sym table)) (same_prefix_from _ _ (sym prefix))));
+          (same_route_from q r node table prefix) (same_route_from r q (sym node) (sym table) (sym prefix));
       sid_prefix = λ i j s t e f node prefix. same_number_of same_sid net.sids i j s t one_sid.0 e f
-          (and_from _ _ (eq-eqb _ _ node) (same_prefix_from _ _ prefix))
-          (and_from _ _ (eq-eqb _ _ (sym node)) (same_prefix_from _ _ (sym prefix)));
-      sid_title = λ i j s t title e f a b. same_number_of same_title net.sids i j s t sid_titles e f (same_title_from _ _ title a b) (same_title_from _ _ title b a);
-      title_name = λ i j t u e f same. same_number_of same_bytes net.titles i j t u titles.1 e f (same_bytes_from _ _ same) (same_bytes_from _ _ (sym same));
+          (same_sid_from s t node prefix) (same_sid_from t s (sym node) (sym prefix));
+      sid_title = λ i j s t title e f a b. same_number_of same_title net.sids i j s t (are_distinct-titles net.sids ∙ room.1) e f
+          (same_title_from _ _ title a b) (same_title_from _ _ title b a);
+      title_name = λ i j t u e f same. same_number_of same_bytes net.titles i j t u titles.1 e f (same_bytes_from _ _ same)
+          (same_bytes_from _ _ (sym same));
     }

@@ -7,3 +7,4 @@ pub mod EntryLemmas
 pub mod IsBestLemmas
 pub mod FlatLemmas
 pub mod AlikeLemmas
+pub mod PublicLaws

@@ -22,7 +22,8 @@ fails_at p (y ∷ ys) zero x h e = subst (λ z. p z ≡ false) (same_Some y x e)
 fails_at p (y ∷ ys) (suc i) x h e = fails_at p ys i x (or_parts _ _ h).1 e
 
 -- in a list of distinct items two that agree have one number
-pub same_number_of : {X : Type 0} (same : X → X → Bool) (xs : List X) (i j : ℕ) (x y : X) → are_distinct same xs ≡ true → slice_get xs i ≡ Some x → slice_get xs j ≡ Some y → same x y ≡ true → same y x ≡ true → i ≡ j
+pub same_number_of : {X : Type 0} (same : X → X → Bool) (xs : List X) (i j : ℕ) (x y : X) → are_distinct same xs ≡ true
+    → slice_get xs i ≡ Some x → slice_get xs j ≡ Some y → same x y ≡ true → same y x ≡ true → i ≡ j
 same_number_of same [] i j x y h at_i at_j xy yx = cc
 same_number_of same (z ∷ zs) zero zero x y h at_i at_j xy yx = refl
 same_number_of same (z ∷ zs) zero (suc j) x y h at_i at_j xy yx =

@@ -57,9 +57,12 @@ pub record IsBestEntry (entries : List Entry) (a : ℕ) (e : Entry) : Type 0 whe
 -- best match: the hit of an entry that fits best, and nothing exactly where no entry holds the address
 abbrev pub IsBest : Network → ℕ → ℕ → ℕ → Hit → Type 0
 IsBest net node table a hits.Nothing = (e : Entry) → Contains (entries_of net node table) e → ¬ Holds e.prefix a
-IsBest net node table a (hits.Sid n) = (p : PrefixValue) × IsBestEntry (entries_of net node table) a (record { hit = hits.Sid n; prefix = p })
-IsBest net node table a (hits.Route n) = (p : PrefixValue) × IsBestEntry (entries_of net node table) a (record { hit = hits.Route n; prefix = p })
-IsBest net node table a hits.Address = (p : PrefixValue) × IsBestEntry (entries_of net node table) a (record { hit = hits.Address; prefix = p })
+IsBest net node table a (hits.Sid n) = (p : PrefixValue) × IsBestEntry (entries_of net node table) a
+    (record { hit = hits.Sid n; prefix = p })
+IsBest net node table a (hits.Route n) = (p : PrefixValue) × IsBestEntry (entries_of net node table) a
+    (record { hit = hits.Route n; prefix = p })
+IsBest net node table a hits.Address = (p : PrefixValue) × IsBestEntry (entries_of net node table) a
+    (record { hit = hits.Address; prefix = p })
 
 -- of what was found first and what was found later the longer, and of equally long ones the first
 abbrev pub longer : Option Entry → Option Entry → Option Entry

@@ -12,8 +12,10 @@ use Rattle.net_model.specs.Best.{Entry}
 -- the node's SIDs and its address are in its table 0, and its routes in their tables
 abbrev pub IsEntryAs : Network → ℕ → ℕ → PrefixValue → Hit → Type 0
 IsEntryAs net node table p (hits.Sid n) = (s : SidEntry) × (slice_get net.sids n ≡ Some s) × (s.node ≡ node) × (s.prefix ≡ p) × (table ≡ 0)
-IsEntryAs net node table p hits.Address = (n : Node) × (slice_get net.nodes node ≡ Some n) × (p ≡ record { value = n.address.value; len = 128 }) × (table ≡ 0)
-IsEntryAs net node table p (hits.Route n) = (r : Route) × (slice_get net.routes n ≡ Some r) × (r.node ≡ node) × (r.table ≡ table) × (r.prefix ≡ p)
+IsEntryAs net node table p hits.Address = (n : Node) × (slice_get net.nodes node ≡ Some n)
+    × (p ≡ record { value = n.address.value; len = 128 }) × (table ≡ 0)
+IsEntryAs net node table p (hits.Route n) = (r : Route) × (slice_get net.routes n ≡ Some r) × (r.node ≡ node) × (r.table ≡ table)
+    × (r.prefix ≡ p)
 IsEntryAs net node table p hits.Nothing = ⊥
 
 abbrev pub IsEntry : Network → ℕ → ℕ → Entry → Type 0

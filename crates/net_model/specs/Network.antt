@@ -15,4 +15,11 @@ pub record Network : Type 0 where
   pub sids : List SidEntry
 
 abbrev pub network_of : NetParts → Network
-network_of p = record { nodes = p.nodes.items; links = p.links.items; routes = p.routes.items; titles = p.titles.items; sids = p.sids.items }
+network_of p = record {
+  nodes = p.nodes.items;
+  links = p.links.items;
+  routes = p.routes.items;
+  titles = p.titles.items;
+  sids =
+      p.sids.items;
+}

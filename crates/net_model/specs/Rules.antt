@@ -5,6 +5,7 @@ use Rattle.v6_addr.specs.Address.{PrefixValue}
 use Rattle.srv6_rules.specs.declared.sid.SidEntry.{SidEntry}
 use Rattle.srv6_rules.specs.declared.sid.Behaviour.{Behaviour}
 use Rattle.srv6_rules.specs.declared.sid.Behaviour.TheVariants.{End, EndX, Dt6}
+use Rattle.net_model.specs.declared.limits.TheConstants.{MAX_NODES, MAX_LINKS, MAX_ROUTES, MAX_SIDS, MAX_SIDS_OF_NODE, MAX_LINKS_OF_SET, MAX_ALLOWED_TYPES, MAX_NAME_BYTES, LAST_TABLE}
 use Rattle.net_model.specs.declared.parts.Node.{Node}
 use Rattle.net_model.specs.declared.parts.Link.{Link}
 use Rattle.net_model.specs.declared.parts.Route.{Route}
@@ -29,9 +30,9 @@ is_between low high b = nat_le low b && nat_le b high
 abbrev pub is_name_byte : ℕ → Bool
 is_name_byte b = is_between 97 122 b || (is_between 65 90 b || (is_between 48 57 b || ((b == 95) || ((b == 46) || (b == 45)))))
 
--- a name has 1 to 32 bytes
+-- a name has some bytes, and not too many
 abbrev pub is_name : List ℕ → Bool
-is_name name = nat_le 1 (length name) && (nat_le (length name) 32 && list_all is_name_byte name)
+is_name name = nat_le 1 (length name) && (nat_le (length name) MAX_NAME_BYTES && list_all is_name_byte name)
 
 -- an address has 128 bits
 unfoldable pub is_address : ℕ → Bool
@@ -44,7 +45,7 @@ is_prefix p = nat_le p.len 128 && (is_address p.value && ((p.value % 2 ^ (128 - 
 -- nodes
 
 abbrev pub keeps_node : Node → Bool
-keeps_node n = is_name n.name && (is_address n.address.value && nat_le (length n.allow) 16)
+keeps_node n = is_name n.name && (is_address n.address.value && nat_le (length n.allow) MAX_ALLOWED_TYPES)
 
 abbrev pub same_node_name : Node → Node → Bool
 same_node_name m n = same_bytes m.name n.name
@@ -54,7 +55,8 @@ same_node_address m n = m.address.value == n.address.value
 
 abbrev pub keeps_nodes : List Node → Bool
 keeps_nodes nodes =
-    nat_le (length nodes) 256 && (list_all keeps_node nodes && (are_distinct same_node_name nodes && are_distinct same_node_address nodes))
+    nat_le (length nodes) MAX_NODES && (list_all keeps_node nodes &&
+    (are_distinct same_node_name nodes && are_distinct same_node_address nodes))
 
 -- links
 
@@ -70,7 +72,8 @@ abbrev pub same_link_name : Link → Link → Bool
 same_link_name m l = same_bytes m.name l.name
 
 abbrev pub keeps_links : ℕ → List Link → Bool
-keeps_links node_count links = nat_le (length links) 4096 && (list_all (keeps_link node_count) links && are_distinct same_link_name links)
+keeps_links node_count links = nat_le (length links) MAX_LINKS &&
+    (list_all (keeps_link node_count) links && are_distinct same_link_name links)
 
 -- sets of equal next hops
 
@@ -85,16 +88,16 @@ starts_at links node n = starts_at_node node (slice_get links n)
 abbrev pub same_number : ℕ → ℕ → Bool
 same_number m n = m == n
 
--- 1 to 64 links of the node, each once
+-- some links of the node, not too many, each once
 abbrev pub is_link_set : List Link → ℕ → List ℕ → Bool
 is_link_set links node set =
-    nat_le 1 (length set) && (nat_le (length set) 64 && (are_distinct same_number set && list_all (starts_at links node) set))
+    nat_le 1 (length set) && (nat_le (length set) MAX_LINKS_OF_SET && (are_distinct same_number set && list_all (starts_at links node) set))
 
 -- routes
 
--- a table's number is at most 65,535
+-- a table's number
 abbrev pub is_table : ℕ → Bool
-is_table table = nat_le table 65535
+is_table table = nat_le table LAST_TABLE
 
 abbrev pub keeps_route : ℕ → List Link → Route → Bool
 keeps_route node_count links r = nat_lt r.node node_count && (is_table r.table && (is_prefix r.prefix && is_link_set links r.node r.via))
@@ -107,7 +110,7 @@ same_route q r = (q.node == r.node) && ((q.table == r.table) && same_prefix q.pr
 
 abbrev pub keeps_routes : ℕ → List Link → List Route → Bool
 keeps_routes node_count links routes =
-    nat_le (length routes) 65536 && (list_all (keeps_route node_count links) routes && are_distinct same_route routes)
+    nat_le (length routes) MAX_ROUTES && (list_all (keeps_route node_count links) routes && are_distinct same_route routes)
 
 -- SIDs
 
@@ -132,16 +135,16 @@ same_sid s t = (s.node == t.node) && same_prefix s.prefix t.prefix
 abbrev pub is_sid_of : ℕ → SidEntry → Bool
 is_sid_of node s = s.node == node
 
--- at most 64 SIDs stand at the node of each SID
+-- not too many SIDs stand at the node of each SID
 abbrev pub has_room : List SidEntry → SidEntry → Bool
-has_room sids s = nat_le (count_by (is_sid_of s.node) sids) 64
+has_room sids s = nat_le (count_by (is_sid_of s.node) sids) MAX_SIDS_OF_NODE
 
 abbrev pub title_of : SidEntry → Option ℕ
 title_of s = s.title
 
 abbrev pub keeps_sids : ℕ → List Link → List (List ℕ) → List SidEntry → Bool
 keeps_sids node_count links titles sids =
-    nat_le (length sids) 4096 && (list_all (keeps_sid node_count links (length titles)) sids && (are_distinct same_sid sids
+    nat_le (length sids) MAX_SIDS && (list_all (keeps_sid node_count links (length titles)) sids && (are_distinct same_sid sids
     && (list_all (has_room sids) sids && are_distinct same_number (filter_map title_of sids))))
 
 -- titles are names, each of which stands once

@@ -18,7 +18,8 @@ pub enum NotFlat {
     Nested {
         /// The SID's prefix.
         outer: Prefix,
-        /// The prefix of a SID or of a route of any table, or a node's address as a prefix of 128 bits.
+        /// The prefix of a SID or of a route of any table, or a node's address as a prefix of 128
+        /// bits.
         inner: Prefix,
     },
 }
@@ -71,9 +72,10 @@ fn first_nested(sids: &[SidEntry], parts: &NetParts) -> Result<(), NotFlat>
     Ok(())
 }
 
-/// Whether lists may be compiled over the network: no entry lies strictly inside the prefix of a SID (own rule).
-/// The refusal is the first such pair by the SID's place in the description, then by the inner entry's, where the
-/// prefixes of SIDs come before those of the routes of all tables, and these before the nodes' addresses.
+/// Whether lists may be compiled over the network: no entry lies strictly inside the prefix of a
+/// SID (own rule). The refusal is the first such pair by the SID's place in the description, then
+/// by the inner entry's, where the prefixes of SIDs come before those of the routes of all tables,
+/// and these before the nodes' addresses.
 pub fn compilable(net: &Net) -> Result<(), NotFlat>
     ensures answer { result ≡ flatness_of net.now }
     ensures flat { IsOk result ↔ IsFlat net.now }

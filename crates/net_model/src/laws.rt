@@ -1,12 +1,14 @@
 //! Laws of the definitions: each is the contract of an empty function.
 
-ghost use Rattle.std.specs.Prelude.{◌≡◌, ◌↔◌, ℕ, slice_get, Contains};
+ghost use Rattle.std.specs.Prelude.{◌≡◌, ◌↔◌, ℕ, Bool, true, false, List, Some, None, slice_get, position, Contains};
 ghost use Rattle.v6_addr.specs.Address.{Holds};
 ghost use Rattle.srv6_rules.specs.declared.sid.SidEntry.{SidEntry};
 ghost use Rattle.net_model.specs.declared.net.Hit.{Hit};
 ghost use Rattle.net_model.specs.declared.net.Hit.TheVariants.{Sid};
 ghost use Rattle.net_model.specs.Network.{Network};
-ghost use Rattle.net_model.specs.Rules.{IsNetwork};
+ghost use Rattle.net_model.specs.declared.parts.Link.{Link};
+ghost use Rattle.net_model.specs.Rules.{IsNetwork, is_link_set};
+ghost use Rattle.net_model.specs.Keeps.{IsLinkSet, Keeps};
 ghost use Rattle.net_model.specs.Best.{Entry, entries_of, IsBest, lookup_of};
 ghost use Rattle.net_model.specs.Flat.{IsFlat};
 ghost use Rattle.net_model.specs.Entries.{IsEntry};
@@ -19,15 +21,16 @@ pub fn best_match_is_one()
         → IsBest net node table a h → IsBest net node table a k → h ≡ k }
 {}
 
-/// The entries of a node's table are its SIDs and its address in table 0, and its routes in their tables.
+/// The entries of a node's table are its SIDs and its address in table 0, and its routes in their
+/// tables.
 pub fn entries_are_its_own()
     ensures { (net : Network) (node table : ℕ) (e : Entry)
         → Contains (entries_of net node table) e ↔ IsEntry net node table e }
 {}
 
-/// A flat network treats all addresses in the prefix of a SID alike: in each table of each node they have the same
-/// best match; at the SID's own node that match in table 0 is the SID; and SIDs that hold one address have one
-/// prefix.
+/// A flat network treats all addresses in the prefix of a SID alike: in each table of each node
+/// they have the same best match; at the SID's own node that match in table 0 is the SID; and SIDs
+/// that hold one address have one prefix.
 pub fn flat_networks_treat_addresses_alike()
     ensures alike { (net : Network) (n : ℕ) (s : SidEntry) (node table a b : ℕ) → IsFlat net
         → slice_get net.sids n ≡ Some s → Holds s.prefix a → Holds s.prefix b
@@ -44,4 +47,21 @@ pub fn matched_sids_hold_the_address()
     ensures { (net : Network) (m : ℕ) (t : SidEntry) (node table a : ℕ)
         → lookup_of net node table a ≡ Sid m → slice_get net.sids m ≡ Some t
         → (t.node ≡ node) × (table ≡ 0) × Holds t.prefix a }
+{}
+
+/// A network that keeps the rules has each of the facts that follow from them, and a set that
+/// passes the test of sets is some links of the node, each once.
+pub fn rules_mean_their_facts()
+    ensures network { (net : Network) → IsNetwork net → Keeps net }
+    ensures set { (links : List Link) (node : ℕ) (set : List ℕ) → is_link_set links node set ≡ true
+        → IsLinkSet links node set }
+{}
+
+/// What the place that a test finds in a list means: its item passes the test, and with no place
+/// none of the items passes.
+pub fn places_are_of_passing_items<X>()
+    ensures some { (test : X → Bool) (items : List X) (i : ℕ) → position test items ≡ Some i
+        → (x : X) × (slice_get items i ≡ Some x) × (test x ≡ true) }
+    ensures none { (test : X → Bool) (items : List X) → position test items ≡ None
+        → (i : ℕ) (x : X) → slice_get items i ≡ Some x → test x ≡ false }
 {}

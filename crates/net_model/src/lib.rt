@@ -10,6 +10,7 @@
 
 mod flat;
 mod laws;
+mod limits;
 mod lookup;
 mod named;
 mod net;
@@ -21,7 +22,11 @@ mod tests;
 pub use flat::{NotFlat, compilable};
 pub use laws::{
     best_match_is_one, entries_are_its_own, flat_networks_treat_addresses_alike,
-    matched_sids_hold_the_address,
+    matched_sids_hold_the_address, places_are_of_passing_items, rules_mean_their_facts,
+};
+pub use limits::{
+    LAST_TABLE, MAX_ALLOWED_TYPES, MAX_LINKS, MAX_LINKS_OF_SET, MAX_NAME_BYTES, MAX_NODES,
+    MAX_ROUTES, MAX_SIDS, MAX_SIDS_OF_NODE,
 };
 pub use named::{place_of_link, place_of_node};
 pub use net::{Hit, Net};

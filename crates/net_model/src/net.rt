@@ -46,8 +46,8 @@ impl Net {
     ghost use Rattle.net_model.specs.Best.{IsBest, lookup_of};
     ghost use Rattle.net_model.specs.Named.{node_numbered, link_numbered, IsNodeNumbered, IsLinkNumbered};
 
-    /// The network with these parts; `None` exactly where they break a rule of descriptions (own rules).
-    /// The parts of a network that is not made are given up.
+    /// The network with these parts; `None` exactly where they break a rule of descriptions (own
+    /// rules). The parts of a network that is not made are given up.
     pub fn build(parts: NetParts) -> Option<Net>
         ensures keeps { IsSome result ↔ IsTrue (is_network (network_of parts)) }
         ensures breaks { IfNone result (is_network (network_of parts) ≡ false) }
@@ -75,7 +75,7 @@ impl Net {
         &self.parts
     }
 
-    /// How many nodes there are, at most 256.
+    /// How many nodes there are, at most `MAX_NODES`.
     pub fn nodes(&self) -> u32
         ensures { result ≡ length self.now.nodes }
     {
@@ -83,7 +83,7 @@ impl Net {
         self.parts.nodes.len() as u32
     }
 
-    /// How many links there are, at most 4,096.
+    /// How many links there are, at most `MAX_LINKS`.
     pub fn links(&self) -> u32
         ensures { result ≡ length self.now.links }
     {
@@ -91,7 +91,7 @@ impl Net {
         self.parts.links.len() as u32
     }
 
-    /// How many routes there are, at most 65,536.
+    /// How many routes there are, at most `MAX_ROUTES`.
     pub fn routes(&self) -> u32
         ensures { result ≡ length self.now.routes }
     {
@@ -106,7 +106,7 @@ impl Net {
         self.parts.titles.len()
     }
 
-    /// How many SIDs there are, at most 4,096.
+    /// How many SIDs there are, at most `MAX_SIDS`.
     pub fn sids(&self) -> u32
         ensures { result ≡ length self.now.sids }
     {
@@ -147,16 +147,16 @@ impl Net {
         }
     }
 
-    /// Whether a set has 1 to 64 links of the node, each once (own rule).
+    /// Whether a set has 1 to `MAX_LINKS_OF_SET` links of the node, each once (own rule).
     pub fn is_link_set(&self, node: u32, set: &[u32]) -> bool
         ensures { result ≡ is_link_set self.now.links node set.now }
     {
         is_link_set(&self.parts.links, node, set)
     }
 
-    /// What in a node's table fits an address best: the longest of the entries that hold it, and of equally long
-    /// ones a SID before the node's address before a route. Table 0 has the node's SIDs, its address and its
-    /// routes, other tables have routes alone (own rule).
+    /// What in a node's table fits an address best: the longest of the entries that hold it, and of
+    /// equally long ones a SID before the node's address before a route. Table 0 has the node's
+    /// SIDs, its address and its routes, other tables have routes alone (own rule).
     pub fn lookup(&self, node: u32, table: u32, a: Addr) -> Hit
         requires { node < length self.now.nodes }
         ensures value { result ≡ lookup_of self.now node table a.value }

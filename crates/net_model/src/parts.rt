@@ -2,69 +2,64 @@
 
 ghost use Rattle.std.specs.Prelude.{◌≡◌};
 
+use base::Seq;
 use srv6_rules::{LinkSet, SidEntry};
+use std::fmt;
 use std::marker::Model;
 use v6_addr::{Addr, Prefix};
 
-/// A name: the bytes of a node's, a link's or a title's name.
+/// A node's, a link's or a title's name. Contracts see its bytes, which are UTF-8.
 #[derive(Debug, Drop)]
 pub struct Name {
-    bytes: Vec<u8>,
+    text: String,
 }
 
 impl Model for Name {
-    ghost use Rattle.std.specs.Prelude.{List, ℕ};
+    ghost use Rattle.std.specs.Prelude.{List, ℕ, string_bytes};
 
     ghost Value = { List ℕ };
 
-    ghost view = { λ n. n.bytes.items };
+    ghost view = { λ n. string_bytes n.text };
 }
 
 impl Name {
-    /// The name with these bytes.
-    pub fn new(bytes: Vec<u8>) -> Name
-        ensures { result ≡ bytes.items }
+    ghost use Rattle.std.specs.Prelude.{string_bytes};
+
+    /// The name that a text writes.
+    pub fn new(text: String) -> Name
+        ensures { result ≡ string_bytes text }
     {
-        Name { bytes }
+        Name { text }
     }
 
-    /// The bytes.
+    /// The text.
+    pub fn as_str(&self) -> &str
+        ensures { result.now ≡ self.now }
+    {
+        self.text.as_str()
+    }
+
+    /// The bytes of the text.
     pub fn as_bytes(&self) -> &[u8]
         ensures { result.now ≡ self.now }
     {
-        self.bytes.as_slice()
+        self.text.as_bytes()
+    }
+}
+
+/// The text of a name as it stands.
+impl fmt::Display for Name {
+    ghost use Rattle.std.specs.Prelude.{Some};
+
+    ghost output = { λ n. Some n };
+
+    fn fmt<W: fmt::Write>(&self, f: &mut fmt::Formatter<W>) -> fmt::Result {
+        f.pad(self.as_str())
     }
 }
 
 /// The upper layers that a node takes at its SIDs, as next-header values.
-#[derive(Debug, Drop)]
-pub struct TypeList {
-    types: Vec<u8>,
-}
-
-impl Model for TypeList {
-    ghost use Rattle.std.specs.Prelude.{List, ℕ};
-
-    ghost Value = { List ℕ };
-
-    ghost view = { λ n. n.types.items };
-}
-
-impl TypeList {
-    /// The list with these next-header values, in this order.
-    pub fn new(types: Vec<u8>) -> TypeList
-        ensures { result ≡ types.items }
-    {
-        TypeList { types }
-    }
-
-    /// The next-header values, in order.
-    pub fn as_slice(&self) -> &[u8]
-        ensures { result.now ≡ self.now }
-    {
-        self.types.as_slice()
-    }
-}
+pub type TypeList = Seq<u8>;
 
 /// A node.
 #[derive(Debug, Drop)]

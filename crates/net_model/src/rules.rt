@@ -1,4 +1,5 @@
-//! The rules that the parts of a network keep, each as a test that answers one word of the definitions.
+//! The rules that the parts of a network keep, each as a test that answers one word of the
+//! definitions.
 
 ghost use Rattle.std.specs.Prelude.{◌≡◌, ℕ, Bool, IsTrue, length, count_by};
 ghost use Rattle.std.specs.List.{list_all, list_any, filter_map};
@@ -12,6 +13,10 @@ ghost use Rattle.net_model.specs.Rules.{keeps_behaviour, is_title, keeps_sid, sa
 ghost use Rattle.net_model.specs.Rules.{has_room, title_of, keeps_sids, keeps_titles, is_network};
 ghost use Rattle.net_model.specs.Titles.{same_title};
 
+use crate::limits::{
+    LAST_TABLE, MAX_ALLOWED_TYPES, MAX_LINKS, MAX_LINKS_OF_SET, MAX_NAME_BYTES, MAX_NODES,
+    MAX_ROUTES, MAX_SIDS, MAX_SIDS_OF_NODE,
+};
 use crate::parts::{Link, Name, NetParts, Node, Route};
 use srv6_rules::{Behaviour, SidEntry};
 use v6_addr::{Addr, Prefix};
@@ -97,7 +102,7 @@ impl Sameness<Route> for Routes {
     ghost same = { same_route };
 
     fn are_same(a: &Route, b: &Route) -> bool {
-        a.node == b.node && (a.table == b.table && same_prefix(&a.prefix, &b.prefix))
+        a.node == b.node && a.table == b.table && same_prefix(&a.prefix, &b.prefix)
     }
 }
 
@@ -140,8 +145,11 @@ fn is_name_byte(b: u8) -> bool
     ensures { result ≡ is_name_byte b }
 {
     is_between(b'a', b'z', b)
-        || (is_between(b'A', b'Z', b)
-            || (is_between(b'0', b'9', b) || (b == b'_' || (b == b'.' || b == b'-'))))
+        || is_between(b'A', b'Z', b)
+        || is_between(b'0', b'9', b)
+        || b == b'_'
+        || b == b'.'
+        || b == b'-'
 }
 
 fn are_name_bytes(bytes: &[u8]) -> bool
@@ -150,11 +158,11 @@ fn are_name_bytes(bytes: &[u8]) -> bool
     bytes.iter().all(|b| is_name_byte(*b))
 }
 
-/// Whether a name has 1 to 32 bytes, all of them letters, digits, `_`, `.` or `-`.
+/// Whether a name has some bytes and not too many, all of them letters, digits, `_`, `.` or `-`.
 fn is_name(name: &[u8]) -> bool
     ensures { result ≡ is_name name.now }
 {
-    1 <= name.len() && (name.len() <= 32 && are_name_bytes(name))
+    1 <= name.len() && name.len() <= MAX_NAME_BYTES && are_name_bytes(name)
 }
 
 /// Always true: the type holds no other number.
@@ -178,7 +186,9 @@ fn is_prefix(p: &Prefix) -> bool
 fn keeps_node(n: &Node) -> bool
     ensures { result ≡ keeps_node n.now }
 {
-    is_name(n.name.as_bytes()) && (is_address(n.address) && n.allow.as_slice().len() <= 16)
+    is_name(n.name.as_bytes())
+        && is_address(n.address)
+        && n.allow.as_slice().len() <= MAX_ALLOWED_TYPES
 }
 
 fn each_keeps_node(nodes: &[Node]) -> bool
@@ -190,10 +200,10 @@ fn each_keeps_node(nodes: &[Node]) -> bool
 fn keeps_nodes(nodes: &[Node]) -> bool
     ensures { result ≡ keeps_nodes nodes.now }
 {
-    nodes.len() <= 256
-        && (each_keeps_node(nodes)
-            && (are_distinct::<Node, NodeNames>(nodes)
-                && are_distinct::<Node, NodeAddresses>(nodes)))
+    nodes.len() <= MAX_NODES
+        && each_keeps_node(nodes)
+        && are_distinct::<Node, NodeNames>(nodes)
+        && are_distinct::<Node, NodeAddresses>(nodes)
 }
 
 fn ends_elsewhere(node_count: usize, from: u32, to: Option<u32>) -> bool
@@ -209,7 +219,8 @@ fn keeps_link(node_count: usize, l: &Link) -> bool
     ensures { result ≡ keeps_link node_count l.now }
 {
     is_name(l.name.as_bytes())
-        && ((l.from as usize) < node_count && ends_elsewhere(node_count, l.from, l.to))
+        && (l.from as usize) < node_count
+        && ends_elsewhere(node_count, l.from, l.to)
 }
 
 fn each_keeps_link(node_count: usize, links: &[Link]) -> bool
@@ -221,8 +232,9 @@ fn each_keeps_link(node_count: usize, links: &[Link]) -> bool
 fn keeps_links(node_count: usize, links: &[Link]) -> bool
     ensures { result ≡ keeps_links node_count links.now }
 {
-    links.len() <= 4096
-        && (each_keeps_link(node_count, links) && are_distinct::<Link, LinkNames>(links))
+    links.len() <= MAX_LINKS
+        && each_keeps_link(node_count, links)
+        && are_distinct::<Link, LinkNames>(links)
 }
 
 /// Whether a link is there, and starts at the node.
@@ -241,27 +253,29 @@ fn each_starts_at(links: &[Link], node: u32, set: &[u32]) -> bool
     set.iter().all(|n| starts_at(links, node, *n))
 }
 
-/// Whether a set has 1 to 64 links of the node, each once.
+/// Whether a set has some links of the node and not too many, each once.
 pub(crate) fn is_link_set(links: &[Link], node: u32, set: &[u32]) -> bool
     ensures { result ≡ is_link_set links.now node set.now }
 {
     1 <= set.len()
-        && (set.len() <= 64
-            && (are_distinct::<u32, Numbers>(set) && each_starts_at(links, node, set)))
+        && set.len() <= MAX_LINKS_OF_SET
+        && are_distinct::<u32, Numbers>(set)
+        && each_starts_at(links, node, set)
 }
 
 fn is_table(table: u32) -> bool
     ensures { result ≡ is_table table }
 {
-    table <= 65535
+    table <= LAST_TABLE
 }
 
 fn keeps_route(node_count: usize, links: &[Link], r: &Route) -> bool
     ensures { result ≡ keeps_route node_count links.now r.now }
 {
     (r.node as usize) < node_count
-        && (is_table(r.table)
-            && (is_prefix(&r.prefix) && is_link_set(links, r.node, r.via.as_slice())))
+        && is_table(r.table)
+        && is_prefix(&r.prefix)
+        && is_link_set(links, r.node, r.via.as_slice())
 }
 
 fn same_prefix(p: &Prefix, q: &Prefix) -> bool
@@ -279,11 +293,13 @@ fn each_keeps_route(node_count: usize, links: &[Link], routes: &[Route]) -> bool
 fn keeps_routes(node_count: usize, links: &[Link], routes: &[Route]) -> bool
     ensures { result ≡ keeps_routes node_count links.now routes.now }
 {
-    routes.len() <= 65536
-        && (each_keeps_route(node_count, links, routes) && are_distinct::<Route, Routes>(routes))
+    routes.len() <= MAX_ROUTES
+        && each_keeps_route(node_count, links, routes)
+        && are_distinct::<Route, Routes>(routes)
 }
 
-/// Whether the links of a SID, and the table of one that decapsulates, are as its behaviour wants them.
+/// Whether the links of a SID, and the table of one that decapsulates, are as its behaviour wants
+/// them.
 fn keeps_behaviour(links: &[Link], node: u32, behaviour: Behaviour, set: &[u32]) -> bool
     ensures { result ≡ keeps_behaviour links.now node behaviour set.now }
 {
@@ -307,18 +323,18 @@ fn keeps_sid(node_count: usize, links: &[Link], title_count: usize, s: &SidEntry
     ensures { result ≡ keeps_sid node_count links.now title_count s.now }
 {
     (s.node as usize) < node_count
-        && (1 <= s.prefix.len()
-            && (is_prefix(&s.prefix)
-                && (keeps_behaviour(links, s.node, s.behaviour, s.links.as_slice())
-                    && is_title(title_count, s.title))))
+        && 1 <= s.prefix.len()
+        && is_prefix(&s.prefix)
+        && keeps_behaviour(links, s.node, s.behaviour, s.links.as_slice())
+        && is_title(title_count, s.title)
 }
 
-/// Whether at most 64 SIDs stand at the node of a SID.
+/// Whether not too many SIDs stand at the node of a SID.
 fn has_room(sids: &[SidEntry], s: &SidEntry) -> bool
     ensures { result ≡ has_room sids.now s.now }
 {
     let node = s.node;
-    sids.iter().filter(|other| other.node == node).count() <= 64
+    sids.iter().filter(|other| other.node == node).count() <= MAX_SIDS_OF_NODE
 }
 
 fn each_keeps_sid(node_count: usize, links: &[Link], title_count: usize, sids: &[SidEntry]) -> bool
@@ -357,10 +373,11 @@ fn have_distinct_titles(sids: &[SidEntry]) -> bool
 fn keeps_sids(node_count: usize, links: &[Link], titles: &[Name], sids: &[SidEntry]) -> bool
     ensures { result ≡ keeps_sids node_count links.now titles.now sids.now }
 {
-    sids.len() <= 4096
-        && (each_keeps_sid(node_count, links, titles.len(), sids)
-            && (are_distinct::<SidEntry, Sids>(sids)
-                && (each_has_room(sids) && have_distinct_titles(sids))))
+    sids.len() <= MAX_SIDS
+        && each_keeps_sid(node_count, links, titles.len(), sids)
+        && are_distinct::<SidEntry, Sids>(sids)
+        && each_has_room(sids)
+        && have_distinct_titles(sids)
 }
 
 fn are_names(titles: &[Name]) -> bool
@@ -384,8 +401,8 @@ pub(crate) fn is_network(parts: &NetParts) -> bool
     let links = parts.links.as_slice();
     let titles = parts.titles.as_slice();
     keeps_nodes(nodes)
-        && (keeps_links(nodes.len(), links)
-            && (keeps_routes(nodes.len(), links, parts.routes.as_slice())
-                && (keeps_titles(titles)
-                    && keeps_sids(nodes.len(), links, titles, parts.sids.as_slice()))))
+        && keeps_links(nodes.len(), links)
+        && keeps_routes(nodes.len(), links, parts.routes.as_slice())
+        && keeps_titles(titles)
+        && keeps_sids(nodes.len(), links, titles, parts.sids.as_slice())
 }

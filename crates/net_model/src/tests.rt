@@ -20,11 +20,11 @@ fn prefix(rt: &impl Abort, value: u128, len: u8) -> Prefix {
     Prefix::new(Addr { value }, len).expect(rt, "a prefix")
 }
 
-fn name(alloc: Global, text: &[u8]) -> Result<Name, AllocError> {
-    Ok(Name::new(text.to_vec(alloc)?))
+fn name(alloc: Global, text: &str) -> Result<Name, AllocError> {
+    Ok(Name::new(text.to_string(alloc)?))
 }
 
-fn node(alloc: Global, text: &[u8], address: u128) -> Result<Node, AllocError> {
+fn node(alloc: Global, text: &str, address: u128) -> Result<Node, AllocError> {
     Ok(Node {
         name: name(alloc, text)?,
         address: Addr { value: address },
@@ -42,10 +42,11 @@ fn end_at_b(alloc: Global, prefix: Prefix) -> SidEntry {
     }
 }
 
-/// Nodes of these names, a link from the first to the second, a default route over it, and the SIDs at the second.
+/// Nodes of these names, a link from the first to the second, a default route over it, and the SIDs
+/// at the second.
 fn two_nodes(
     alloc: Global,
-    names: (&[u8], &[u8]),
+    names: (&str, &str),
     all: Prefix,
     sids: Vec<SidEntry>,
 ) -> Result<NetParts, AllocError> {
@@ -54,7 +55,7 @@ fn two_nodes(
     nodes.push(node(alloc, names.1, OWN_B)?)?;
     let mut links = Vec::new(alloc);
     links.push(Link {
-        name: name(alloc, b"ab")?,
+        name: name(alloc, "ab")?,
         from: 0,
         to: Some(1),
     })?;
@@ -79,7 +80,7 @@ fn two_nodes(
 #[test]
 fn one_name_for_two_nodes_is_no_network(rt: HostRuntime) -> Result<(), Fail> {
     let alloc = rt.alloc();
-    let parts = two_nodes(alloc, (b"A", b"A"), prefix(&rt, 0, 0), Vec::new(alloc))?;
+    let parts = two_nodes(alloc, ("A", "A"), prefix(&rt, 0, 0), Vec::new(alloc))?;
     assert!(rt; Net::build(parts).is_none());
     Ok(())
 }
@@ -88,7 +89,7 @@ fn two_sids(rt: &impl Abort, alloc: Global) -> Result<Net, AllocError> {
     let mut sids = Vec::new(alloc);
     sids.push(end_at_b(alloc, prefix(rt, SID, 48)))?;
     sids.push(end_at_b(alloc, prefix(rt, INNER_SID, 64)))?;
-    let parts = two_nodes(alloc, (b"A", b"B"), prefix(rt, 0, 0), sids)?;
+    let parts = two_nodes(alloc, ("A", "B"), prefix(rt, 0, 0), sids)?;
     Ok(Net::build(parts).expect(rt, "a network"))
 }
 
@@ -133,8 +134,16 @@ fn one_sid_is_flat(rt: HostRuntime) -> Result<(), Fail> {
     let alloc = rt.alloc();
     let mut sids = Vec::new(alloc);
     sids.push(end_at_b(alloc, prefix(&rt, SID, 48)))?;
-    let parts = two_nodes(alloc, (b"A", b"B"), prefix(&rt, 0, 0), sids)?;
+    let parts = two_nodes(alloc, ("A", "B"), prefix(&rt, 0, 0), sids)?;
     let net = Net::build(parts).expect(&rt, "a network");
     assert!(rt; compilable(&net) == Ok(()));
+    Ok(())
+}
+
+#[test]
+fn a_name_in_a_line(rt: HostRuntime) -> Result<(), Fail> {
+    let name = name(rt.alloc(), "b.2")?;
+    let line = format!(in rt.alloc(); "at {name}\n")?;
+    assert_eq!(rt; line.as_str(), "at b.2\n");
     Ok(())
 }

@@ -22,11 +22,13 @@ same_option (Some xs) = refl
 pub reads_start : {X : Type 0} (read : Data → Option X) (vs : List Value) → HasRead read vs 0 []
 reads_start read vs = record { same = same_option (each_of read (items_view vs)) }
 
-front_moves : {X : Type 0} (done : List X) (y : X) (o : Option (List X)) → option_map (λ rest. done ++ rest) (in_front (Some y) o) ≡ option_map (λ rest. (done ++ y ∷ []) ++ rest) o
+front_moves : {X : Type 0} (done : List X) (y : X) (o : Option (List X))
+    → option_map (λ rest. done ++ rest) (in_front (Some y) o) ≡ option_map (λ rest. (done ++ y ∷ []) ++ rest) o
 front_moves done y None = refl
 front_moves done y (Some rest) = ap Some (sym (append_assoc done (y ∷ []) rest))
 
-pub reads_more : {X : Type 0} (read : Data → Option X) (vs : List Value) (i : ℕ) (done : List X) (x : Value) (y : X) → HasRead read vs i done → i < length vs → x ≡ get_or vs i x → read (view x) ≡ Some y → HasRead read vs (i + 1) (done ++ y ∷ [])
+pub reads_more : {X : Type 0} (read : Data → Option X) (vs : List Value) (i : ℕ) (done : List X) (x : Value) (y : X)
+    → HasRead read vs i done → i < length vs → x ≡ get_or vs i x → read (view x) ≡ Some y → HasRead read vs (i + 1) (done ++ y ∷ [])
 reads_more read vs i done x y so_far within is gives = record {
   same =
       let turn : each_of read (items_view (drop i vs)) ≡ in_front (Some y) (each_of read (items_view (drop (i + 1) vs))) =
@@ -34,12 +36,14 @@ reads_more read vs i done x y so_far within is gives = record {
       sym (front_moves done y (each_of read (items_view (drop (i + 1) vs)))) ∙ rw (← turn) so_far.same;
 }
 
-pub reads_stop : {X : Type 0} (read : Data → Option X) (vs : List Value) (i : ℕ) (done : List X) (x : Value) → HasRead read vs i done → i < length vs → x ≡ get_or vs i x → read (view x) ≡ None → None ≡ each_of read (items_view vs)
+pub reads_stop : {X : Type 0} (read : Data → Option X) (vs : List Value) (i : ℕ) (done : List X) (x : Value) → HasRead read vs i done
+    → i < length vs → x ≡ get_or vs i x → read (view x) ≡ None → None ≡ each_of read (items_view vs)
 reads_stop read vs i done x so_far within is gives =
     let turn : each_of read (items_view (drop i vs)) ≡ None = rw (items_view-drop vs i x within, ← is, gives) in
     rw turn at so_far.same
 
-pub reads_end : {X : Type 0} (read : Data → Option X) (vs : List Value) (i : ℕ) (done : List X) → HasRead read vs i done → length vs ≤ i → Some done ≡ each_of read (items_view vs)
+pub reads_end : {X : Type 0} (read : Data → Option X) (vs : List Value) (i : ℕ) (done : List X) → HasRead read vs i done → length vs ≤ i
+    → Some done ≡ each_of read (items_view vs)
 reads_end read vs i done so_far past =
     ap Some (sym (append-nil done)) ∙ rw (drop_of_length-le vs past) at so_far.same
 
@@ -51,7 +55,8 @@ no_items_view [] = refl
 no_items_view (v ∷ vs) = grind (arith, nat_tests)
 
 -- the test of a table's keys, as a test of the keys of its map
-pub has_only-keys : (keys : List (List ℕ)) (es : List (String Global × Value)) → has_only keys (members_view es) ≡ list_all (λ k. list_any (λ known. bytes_eq known (string_bytes k)) keys) (keys_of es)
+pub has_only-keys : (keys : List (List ℕ)) (es : List (String Global × Value))
+    → has_only keys (members_view es) ≡ list_all (λ k. list_any (λ known. bytes_eq known (string_bytes k)) keys) (keys_of es)
 has_only-keys keys [] = refl
 has_only-keys keys (e ∷ es) = rw (has_only-keys keys es)
 

@@ -6,6 +6,7 @@ use Rattle.v6_addr.specs.Address.{PrefixValue}
 use Rattle.v6_addr.specs.Text.{address_of_text, prefix_of_text}
 use Rattle.srv6_rules.specs.declared.sid.SidEntry.{SidEntry}
 use Rattle.srv6_rules.specs.declared.sid.Behaviour.TheVariants.{End, EndX, Dt6}
+use Rattle.net_model.specs.declared.limits.TheConstants.{LAST_TABLE}
 use Rattle.net_model.specs.declared.parts.Node.{Node}
 use Rattle.net_model.specs.declared.parts.Link.{Link}
 use Rattle.net_model.specs.declared.parts.Route.{Route}
@@ -28,9 +29,9 @@ prefix_in d = do
   text ← as_str d
   prefix_of_text text
 
--- a table's number is at most 65,535
+-- a table's number, from 0 to the last
 abbrev pub table_in : Data → Option ℕ
-table_in = number_at_most 65535
+table_in = number_at_most LAST_TABLE
 
 -- nodes
 

@@ -1,3 +1,4 @@
+use std::alloc::AllocError;
 use thiserror::Error;
 
 /// Why a description gives no network.
@@ -12,4 +13,15 @@ pub enum NetFault {
     /// Memory ran out, which says nothing about the text.
     #[error("out of memory")]
     NoMemory,
+}
+
+impl From<AllocError> for NetFault {
+    ghost use Rattle.std.specs.Prelude.{◌≡◌};
+    ghost use Rattle.net_reader.specs.declared.fault.NetFault.TheVariants.{NoMemory};
+
+    ghost from_gives = { λ _ fault. fault ≡ NoMemory };
+
+    fn from(_: AllocError) -> NetFault {
+        NetFault::NoMemory
+    }
 }

@@ -9,6 +9,7 @@ ghost use Rattle.net_reader.specs.Description.{numbered, titles_of, title_in};
 #[tactic(auto, using(crate::proofs::Numbers::title_numbers))]
 pub fn titles_have_their_numbers()
     ensures { (sids : List DescribedSid) (i : ℕ)
-        → option_map (λ e. option_and_then (slice_get (titles_of sids)) e.title) (slice_get (numbered 0 sids) i)
+        → option_map (λ e. option_and_then (slice_get (titles_of sids)) e.title)
+        (slice_get (numbered 0 sids) i)
         ≡ option_map title_in (slice_get sids i) }
 {}

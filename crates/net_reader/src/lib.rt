@@ -3,8 +3,8 @@
 //! A description is TOML: arrays of tables `node`, `link`, `route` and `sid`, each of which may be
 //! absent, and whose items name one another by their names. In the form that is built there are no
 //! blocks and no policies, routes and SIDs are IPv6, and a SID is a plain End, End.X or End.DT6
-//! (RFC 8986 section 4) without flavours. `specs/` says which network a document gives, as functions
-//! on its tree.
+//! (RFC 8986 section 4) without flavours. `specs/` says which network a document gives, as
+//! functions on its tree.
 #![tactic(auto)]
 
 mod described;

@@ -16,7 +16,8 @@ use toml::{Table, Value};
 /// The node where a link ends; a link without one leaves the network.
 fn end_at(nodes: &[Node], table: &Table) -> Option<Option<u32>>
     requires { length nodes.now < 2 ^ 32 }
-    ensures { result ≡ optional (λ end. option_map Some (node_in nodes.now end)) None (codes "to") (table_view table.now) }
+    ensures { result ≡ optional (λ end. option_map Some (node_in nodes.now end)) None (codes "to")
+        (table_view table.now) }
 {
     match at(table, "to") {
         Some(value) => match node_in(nodes, value) {
@@ -45,7 +46,7 @@ fn link(alloc: Global, nodes: &[Node], item: &Value) -> Result<Option<Link>, All
         return Ok(None);
     };
     Ok(Some(Link {
-        name: Name::new(name.as_bytes().to_vec(alloc)?),
+        name: Name::new(name.to_string(alloc)?),
         from,
         to,
     }))
@@ -59,7 +60,8 @@ fn each_link(
     items: &[Value],
 ) -> Result<Option<Vec<Link>>, AllocError>
     requires { length nodes.now < 2 ^ 32 }
-    ensures { IfOk result (λ r. option_map (λ v. v.items) r ≡ each_of (link_of nodes.now) (items_view items.now)) }
+    ensures { IfOk result (λ r. option_map (λ v. v.items) r ≡ each_of (link_of nodes.now)
+        (items_view items.now)) }
 {
     let mut links = Vec::new(alloc);
     for item in items {
@@ -78,7 +80,8 @@ pub(crate) fn links(
     root: &Table,
 ) -> Result<Option<Vec<Link>>, AllocError>
     requires { length nodes.now < 2 ^ 32 }
-    ensures { IfOk result (λ r. option_map (λ v. v.items) r ≡ each_at (link_of nodes.now) (codes "link") (table_view root.now)) }
+    ensures { IfOk result (λ r. option_map (λ v. v.items) r ≡ each_at (link_of nodes.now)
+        (codes "link") (table_view root.now)) }
 {
     match array_at(root, "link") {
         Some(items) => each_link(alloc, nodes, items),
@@ -116,7 +119,8 @@ fn each_link_in(
     items: &[Value],
 ) -> Result<Option<Vec<u32>>, AllocError>
     requires { length links.now < 2 ^ 32 }
-    ensures { IfOk result (λ r. option_map (λ v. v.items) r ≡ each_of (link_in links.now) (items_view items.now)) }
+    ensures { IfOk result (λ r. option_map (λ v. v.items) r ≡ each_of (link_in links.now)
+        (items_view items.now)) }
 {
     let mut numbers = Vec::new(alloc);
     for item in items {

@@ -14,7 +14,8 @@ use toml::{Table, Value};
 
 /// The next-header values at `allow`.
 fn allow_at(alloc: Global, table: &Table) -> Result<Option<Vec<u8>>, AllocError>
-    ensures { IfOk result (λ r. option_map (λ v. v.items) r ≡ each_at (number_at_most 255) (codes "allow") (table_view table.now)) }
+    ensures { IfOk result (λ r. option_map (λ v. v.items) r ≡ each_at (number_at_most 255)
+        (codes "allow") (table_view table.now)) }
 {
     match array_at(table, "allow") {
         Some(items) => bytes(alloc, items),
@@ -39,7 +40,7 @@ fn node(alloc: Global, item: &Value) -> Result<Option<Node>, AllocError>
         return Ok(None);
     };
     Ok(Some(Node {
-        name: Name::new(name.as_bytes().to_vec(alloc)?),
+        name: Name::new(name.to_string(alloc)?),
         address,
         allow: TypeList::new(allow),
     }))
@@ -48,7 +49,8 @@ fn node(alloc: Global, item: &Value) -> Result<Option<Node>, AllocError>
 /// The nodes that items describe.
 #[tactic(auto, using(crate::proofs::Items::reading))]
 fn each_node(alloc: Global, items: &[Value]) -> Result<Option<Vec<Node>>, AllocError>
-    ensures { IfOk result (λ r. option_map (λ v. v.items) r ≡ each_of node_of (items_view items.now)) }
+    ensures { IfOk result (λ r. option_map (λ v. v.items) r ≡ each_of node_of
+        (items_view items.now)) }
 {
     let mut nodes = Vec::new(alloc);
     for item in items {
@@ -62,7 +64,8 @@ fn each_node(alloc: Global, items: &[Value]) -> Result<Option<Vec<Node>>, AllocE
 
 /// The nodes of a description.
 pub(crate) fn nodes(alloc: Global, root: &Table) -> Result<Option<Vec<Node>>, AllocError>
-    ensures { IfOk result (λ r. option_map (λ v. v.items) r ≡ each_at node_of (codes "node") (table_view root.now)) }
+    ensures { IfOk result (λ r. option_map (λ v. v.items) r ≡ each_at node_of (codes "node")
+        (table_view root.now)) }
 {
     match array_at(root, "node") {
         Some(items) => each_node(alloc, items),

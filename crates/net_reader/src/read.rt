@@ -12,17 +12,9 @@ use crate::routes::routes;
 use crate::sids::sids;
 use crate::titles::numbered;
 use crate::tree::{has_only, is_empty_at};
-use net_model::{Link, Net, NetParts, Node};
+use net_model::{Link, MAX_LINKS, MAX_NODES, MAX_SIDS, Net, NetParts, Node};
 use std::alloc::{AllocError, Global};
 use toml::Table;
-
-/// More nodes than these break the rules of a network, and so do more links or SIDs: with so few, their
-/// numbers fit.
-const MOST_NODES: usize = 256;
-
-const MOST_LINKS: usize = 4096;
-
-const MOST_SIDS: usize = 4096;
 
 /// The document that a text is; `None` exactly where the bytes are not UTF-8 or not TOML.
 pub fn document(alloc: Global, text: &[u8]) -> Result<Option<Table>, AllocError>
@@ -47,7 +39,8 @@ fn is_plain(root: &Table) -> bool
         && is_empty_at(root, "policy")
 }
 
-/// The network of nodes and links, with the routes and SIDs that a document describes.
+/// The network of nodes and links, with the routes and SIDs that a document describes. More SIDs
+/// than a network may have break its rules; with so few, their titles' numbers fit.
 #[tactic(auto, using(crate::proofs::Limits::limits))]
 fn network_with(
     alloc: Global,
@@ -55,8 +48,8 @@ fn network_with(
     links: Vec<Link>,
     root: &Table,
 ) -> Result<Option<Net>, AllocError>
-    requires few_nodes { length nodes.items ≤ 256 }
-    requires few_links { length links.items ≤ 4096 }
+    requires few_nodes { length nodes.items ≤ MAX_NODES }
+    requires few_links { length links.items ≤ MAX_LINKS }
     ensures { IfOk result (λ r. r ≡ network_with nodes.items links.items (table_view root.now)) }
 {
     let Some(routes) = routes(alloc, nodes.as_slice(), links.as_slice(), root)? else {
@@ -65,7 +58,7 @@ fn network_with(
     let Some(sids) = sids(alloc, nodes.as_slice(), links.as_slice(), root)? else {
         return Ok(None);
     };
-    if sids.len() > MOST_SIDS {
+    if sids.len() > MAX_SIDS {
         return Ok(None);
     }
     let (titles, sids) = numbered(alloc, sids)?;
@@ -78,7 +71,8 @@ fn network_with(
     }))
 }
 
-/// The network that a document describes.
+/// The network that a document describes. More nodes or links than a network may have break its
+/// rules; with so few, their numbers fit.
 #[tactic(auto, using(crate::proofs::Limits::limits))]
 fn network(alloc: Global, root: &Table) -> Result<Option<Net>, AllocError>
     ensures { IfOk result (λ r. r ≡ network_of_document (table_view root.now)) }
@@ -89,13 +83,13 @@ fn network(alloc: Global, root: &Table) -> Result<Option<Net>, AllocError>
     let Some(nodes) = nodes(alloc, root)? else {
         return Ok(None);
     };
-    if nodes.len() > MOST_NODES {
+    if nodes.len() > MAX_NODES {
         return Ok(None);
     }
     let Some(links) = links(alloc, nodes.as_slice(), root)? else {
         return Ok(None);
     };
-    if links.len() > MOST_LINKS {
+    if links.len() > MAX_LINKS {
         return Ok(None);
     }
     network_with(alloc, nodes, links, root)
@@ -103,20 +97,17 @@ fn network(alloc: Global, root: &Table) -> Result<Option<Net>, AllocError>
 
 /// The network that a description's text gives.
 ///
-/// `NotToml` comes exactly where the text is no TOML, as where it isn't UTF-8, and `NotBuilt` exactly
-/// where it is TOML that describes no network in the form that is built, or a network that breaks a
-/// rule (own rules). `NoMemory` may come at any time, and says nothing about the text.
+/// `NotToml` comes exactly where the text is no TOML, as where it isn't UTF-8, and `NotBuilt`
+/// exactly where it is TOML that describes no network in the form that is built, or a network that
+/// breaks a rule (own rules). `NoMemory` may come at any time, and says nothing about the text.
 pub fn read_net(alloc: Global, text: &[u8]) -> Result<Net, NetFault>
     ensures { ReadsAs text.now result }
 {
-    let root = match document(alloc, text) {
-        Ok(Some(root)) => root,
-        Ok(None) => return Err(NetFault::NotToml),
-        Err(_) => return Err(NetFault::NoMemory),
+    let Some(root) = document(alloc, text)? else {
+        return Err(NetFault::NotToml);
     };
-    match network(alloc, &root) {
-        Ok(Some(net)) => Ok(net),
-        Ok(None) => Err(NetFault::NotBuilt),
-        Err(_) => Err(NetFault::NoMemory),
+    match network(alloc, &root)? {
+        Some(net) => Ok(net),
+        None => Err(NetFault::NotBuilt),
     }
 }

@@ -57,7 +57,8 @@ fn each_route(
 ) -> Result<Option<Vec<Route>>, AllocError>
     requires few_nodes { length nodes.now < 2 ^ 32 }
     requires few_links { length links.now < 2 ^ 32 }
-    ensures { IfOk result (λ r. option_map (λ v. v.items) r ≡ each_of (route_of nodes.now links.now) (items_view items.now)) }
+    ensures { IfOk result (λ r. option_map (λ v. v.items) r ≡ each_of (route_of nodes.now links.now)
+        (items_view items.now)) }
 {
     let mut routes = Vec::new(alloc);
     for item in items {
@@ -78,7 +79,8 @@ pub(crate) fn routes(
 ) -> Result<Option<Vec<Route>>, AllocError>
     requires few_nodes { length nodes.now < 2 ^ 32 }
     requires few_links { length links.now < 2 ^ 32 }
-    ensures { IfOk result (λ r. option_map (λ v. v.items) r ≡ each_at (route_of nodes.now links.now) (codes "route") (table_view root.now)) }
+    ensures { IfOk result (λ r. option_map (λ v. v.items) r ≡ each_at (route_of nodes.now links.now)
+        (codes "route") (table_view root.now)) }
 {
     match array_at(root, "route") {
         Some(items) => each_route(alloc, nodes, links, items),

@@ -19,7 +19,8 @@ use toml::{Table, Value};
 
 /// End, which takes neither links nor a table (RFC 8986 section 4.1).
 fn end(alloc: Global, table: &Table) -> Option<Treatment>
-    ensures { result ≡ end_from (get_member (codes "links") (table_view table.now)) (get_member (codes "table") (table_view table.now)) }
+    ensures { result ≡ end_from (get_member (codes "links") (table_view table.now))
+        (get_member (codes "table") (table_view table.now)) }
 {
     if at(table, "links").is_some() {
         return None;
@@ -36,7 +37,9 @@ fn end(alloc: Global, table: &Table) -> Option<Treatment>
 /// End.X, which needs links and takes no table (RFC 8986 section 4.2).
 fn end_x(alloc: Global, links: &[Link], table: &Table) -> Result<Option<Treatment>, AllocError>
     requires { length links.now < 2 ^ 32 }
-    ensures { IfOk result (λ r. r ≡ end_x_from links.now (get_member (codes "links") (table_view table.now)) (get_member (codes "table") (table_view table.now))) }
+    ensures { IfOk result (λ r. r ≡ end_x_from links.now
+        (get_member (codes "links") (table_view table.now))
+        (get_member (codes "table") (table_view table.now))) }
 {
     let Some(names) = at(table, "links") else {
         return Ok(None);
@@ -55,7 +58,8 @@ fn end_x(alloc: Global, links: &[Link], table: &Table) -> Result<Option<Treatmen
 
 /// End.DT6, which needs a table and takes no links (RFC 8986 section 4.6).
 fn end_dt6(alloc: Global, table: &Table) -> Option<Treatment>
-    ensures { result ≡ end_dt6_from (get_member (codes "links") (table_view table.now)) (get_member (codes "table") (table_view table.now)) }
+    ensures { result ≡ end_dt6_from (get_member (codes "links") (table_view table.now))
+        (get_member (codes "table") (table_view table.now)) }
 {
     if at(table, "links").is_some() {
         return None;
@@ -80,7 +84,9 @@ fn treatment(
     table: &Table,
 ) -> Result<Option<Treatment>, AllocError>
     requires { length links.now < 2 ^ 32 }
-    ensures { IfOk result (λ r. r ≡ treatment_of links.now word.now (get_member (codes "links") (table_view table.now)) (get_member (codes "table") (table_view table.now))) }
+    ensures { IfOk result (λ r. r ≡ treatment_of links.now word.now
+        (get_member (codes "links") (table_view table.now))
+        (get_member (codes "table") (table_view table.now))) }
 {
     if word == "End" {
         return Ok(end(alloc, table));
@@ -96,10 +102,11 @@ fn treatment(
 
 /// The title at a key that may be absent.
 fn title_at(alloc: Global, table: &Table) -> Result<Option<Option<Name>>, AllocError>
-    ensures { IfOk result (λ r. r ≡ optional (λ text. option_map Some (as_str text)) None (codes "title") (table_view table.now)) }
+    ensures { IfOk result (λ r. r ≡ optional (λ text. option_map Some (as_str text)) None
+        (codes "title") (table_view table.now)) }
 {
     match text_if_given(table, "title") {
-        Some(Some(text)) => Ok(Some(Some(Name::new(text.as_bytes().to_vec(alloc)?)))),
+        Some(Some(text)) => Ok(Some(Some(Name::new(text.to_string(alloc)?)))),
         Some(None) => Ok(Some(None)),
         None => Ok(None),
     }
@@ -181,7 +188,8 @@ fn each_sid(
 ) -> Result<Option<Vec<DescribedSid>>, AllocError>
     requires few_nodes { length nodes.now < 2 ^ 32 }
     requires few_links { length links.now < 2 ^ 32 }
-    ensures { IfOk result (λ r. option_map (λ v. v.items) r ≡ each_of (sid_of nodes.now links.now) (items_view items.now)) }
+    ensures { IfOk result (λ r. option_map (λ v. v.items) r ≡ each_of (sid_of nodes.now links.now)
+        (items_view items.now)) }
 {
     let mut sids = Vec::new(alloc);
     for item in items {
@@ -202,7 +210,8 @@ pub(crate) fn sids(
 ) -> Result<Option<Vec<DescribedSid>>, AllocError>
     requires few_nodes { length nodes.now < 2 ^ 32 }
     requires few_links { length links.now < 2 ^ 32 }
-    ensures { IfOk result (λ r. option_map (λ v. v.items) r ≡ each_at (sid_of nodes.now links.now) (codes "sid") (table_view root.now)) }
+    ensures { IfOk result (λ r. option_map (λ v. v.items) r ≡ each_at (sid_of nodes.now links.now)
+        (codes "sid") (table_view root.now)) }
 {
     match array_at(root, "sid") {
         Some(items) => each_sid(alloc, nodes, links, items),

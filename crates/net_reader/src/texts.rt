@@ -6,10 +6,9 @@ ghost use Rattle.net_reader.specs.Tree.{needed, optional};
 ghost use Rattle.net_reader.specs.Description.{address_in, prefix_in, table_in};
 
 use crate::tree::{at, number_at_most};
+use net_model::LAST_TABLE;
 use toml::{Table, Value};
 use v6_addr::{Addr, Prefix, parse_addr, parse_prefix};
-
-const LAST_TABLE: u32 = 65535;
 
 /// The address that a text value writes.
 fn address_in(value: &Value) -> Option<Addr>
@@ -21,8 +20,8 @@ fn address_in(value: &Value) -> Option<Addr>
     }
 }
 
-/// The IPv6 address that the text at a key writes (RFC 4291 section 2.2); `None` where the key is absent, holds no
-/// text, or holds a text that is no address.
+/// The IPv6 address that the text at a key writes (RFC 4291 section 2.2); `None` where the key is
+/// absent, holds no text, or holds a text that is no address.
 pub fn address_at(table: &Table, key: &str) -> Option<Addr>
     ensures { option_map (λ a. a.value) result ≡ needed address_in key.now (table_view table.now) }
 {
@@ -52,7 +51,7 @@ pub(crate) fn prefix_at(table: &Table, key: &str) -> Option<Prefix>
     }
 }
 
-/// The number of a table of routes, from 0 to 65,535.
+/// The number of a table of routes, from 0 to `LAST_TABLE`.
 pub(crate) fn table_in(value: &Value) -> Option<u32>
     ensures { result ≡ table_in (view value.now) }
 {

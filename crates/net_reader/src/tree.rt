@@ -1,5 +1,5 @@
-//! Values of the tree of a TOML document. Each reader answers one word of `specs/Tree.antt`, and is `None` where
-//! the tree does not have what is asked for.
+//! Values of the tree of a TOML document. Each reader answers one word of `specs/Tree.antt`, and is
+//! `None` where the tree does not have what is asked for.
 
 ghost use Rattle.std.specs.Prelude.{◌≡◌, ◌≤◌, ◌<◌, ◌^◌, IfOk, IfSome, Some, None, option_map, map, length, bytes_eq};
 ghost use Rattle.toml.specs.Data.{get_member, as_str, as_array};
@@ -30,7 +30,8 @@ pub fn text_at<'a>(table: &'a Table, key: &str) -> Option<&'a str>
 
 /// The text at a key that may be absent.
 pub fn text_if_given<'a>(table: &'a Table, key: &str) -> Option<Option<&'a str>>
-    ensures { option_map option_copied result ≡ optional (λ text. option_map Some (as_str text)) None key.now (table_view table.now) }
+    ensures { option_map option_copied result ≡ optional
+        (λ text. option_map Some (as_str text)) None key.now (table_view table.now) }
 {
     match at(table, key) {
         Some(value) => match value.as_str() {
@@ -43,7 +44,8 @@ pub fn text_if_given<'a>(table: &'a Table, key: &str) -> Option<Option<&'a str>>
 
 /// The table that a value is, if each of its keys is one of these.
 pub fn table_with<'a>(value: &'a Value, keys: &[&str]) -> Option<&'a Table>
-    ensures { option_map (λ t. table_view t.now) result ≡ table_with (map (λ k. k.now) keys.now) (view value.now) }
+    ensures { option_map (λ t. table_view t.now) result ≡ table_with (map (λ k. k.now) keys.now)
+        (view value.now) }
 {
     match value.as_table() {
         Some(table) if has_only(table, keys) => Some(table),
@@ -108,7 +110,8 @@ pub fn is_empty_at(table: &Table, key: &str) -> bool
 /// The bytes that items hold, if each is an integer from 0 to 255.
 #[tactic(auto, using(crate::proofs::Items::reading))]
 pub fn bytes(alloc: Global, items: &[Value]) -> Result<Option<Vec<u8>>, AllocError>
-    ensures { IfOk result (λ r. option_map (λ v. v.items) r ≡ each_of (number_at_most 255) (items_view items.now)) }
+    ensures { IfOk result (λ r. option_map (λ v. v.items) r ≡ each_of (number_at_most 255)
+        (items_view items.now)) }
 {
     let mut bytes = Vec::new(alloc);
     for item in items {

@@ -48,11 +48,11 @@ fn prefix(rt: &impl Abort, value: u128, len: u8) -> Prefix {
     Prefix::new(Addr { value }, len).expect(rt, "a prefix")
 }
 
-fn name(alloc: Global, text: &[u8]) -> Result<Name, AllocError> {
-    Ok(Name::new(text.to_vec(alloc)?))
+fn name(alloc: Global, text: &str) -> Result<Name, AllocError> {
+    Ok(Name::new(text.to_string(alloc)?))
 }
 
-fn node(alloc: Global, text: &[u8], address: u128) -> Result<Node, AllocError> {
+fn node(alloc: Global, text: &str, address: u128) -> Result<Node, AllocError> {
     Ok(Node {
         name: name(alloc, text)?,
         address: Addr { value: address },
@@ -94,16 +94,16 @@ fn two_nodes(
     inside: Prefix,
 ) -> Result<NetParts, AllocError> {
     let mut nodes = Vec::new(alloc);
-    nodes.push(node(alloc, b"A", 1)?)?;
-    nodes.push(node(alloc, b"B", 2)?)?;
+    nodes.push(node(alloc, "A", 1)?)?;
+    nodes.push(node(alloc, "B", 2)?)?;
     let mut links = Vec::new(alloc);
     links.push(Link {
-        name: name(alloc, b"ab")?,
+        name: name(alloc, "ab")?,
         from: 0,
         to: Some(1),
     })?;
     links.push(Link {
-        name: name(alloc, b"out")?,
+        name: name(alloc, "out")?,
         from: 1,
         to: None,
     })?;

@@ -105,18 +105,22 @@ field_of-same a at width v within fits =
     ap (λ n. field_of n at width) (with_field_is_put a at width v within) ∙ put_same a (128 - at - width) width v fits
 
 -- a field before one that was written is as it was
-pub field_of-before : (a at width v other size : ℕ) → at + width ≤ 128 → v < 2 ^ width → other + size ≤ at → field_of (with_field_of a at width v) other size ≡ field_of a other size
+pub field_of-before : (a at width v other size : ℕ) → at + width ≤ 128 → v < 2 ^ width → other + size ≤ at
+    → field_of (with_field_of a at width v) other size ≡ field_of a other size
 unfolding field_of cut
 field_of-before a at width v other size within fits before =
     ap (λ n. field_of n other size) (with_field_is_put a at width v within)
-    ∙ cut_above (put a (128 - at - width) width v) a (128 - at - width + width) (128 - other - size) size (omega arith) (put_above a (128 - at - width) width v fits)
+    ∙ cut_above (put a (128 - at - width) width v) a (128 - at - width + width) (128 - other - size) size (omega arith)
+    (put_above a (128 - at - width) width v fits)
 
 -- a field behind one that was written is as it was
-pub field_of-behind : (a at width v other size : ℕ) → at + width ≤ 128 → v < 2 ^ width → at + width ≤ other → other + size ≤ 128 → field_of (with_field_of a at width v) other size ≡ field_of a other size
+pub field_of-behind : (a at width v other size : ℕ) → at + width ≤ 128 → v < 2 ^ width → at + width ≤ other → other + size ≤ 128
+    → field_of (with_field_of a at width v) other size ≡ field_of a other size
 unfolding field_of cut
 field_of-behind a at width v other size within fits behind ends =
     ap (λ n. field_of n other size) (with_field_is_put a at width v within)
-    ∙ cut_below (put a (128 - at - width) width v) a (128 - at - width) (128 - other - size) size (omega arith) (put_below a (128 - at - width) width v fits)
+    ∙ cut_below (put a (128 - at - width) width v) a (128 - at - width) (128 - other - size) size (omega arith)
+    (put_below a (128 - at - width) width v fits)
 
 -- an address with a field written is an address
 pub with_field_of_bound : (a at width v : ℕ) → at + width ≤ 128 → a < 2 ^ 128 → v < 2 ^ width → with_field_of a at width v < 2 ^ 128
@@ -125,11 +129,13 @@ with_field_of_bound a at width v within below fits =
     subst P (sym (with_field_is_put a at width v within)) (put_bound a (128 - at - width) width v 128 (omega arith) below fits)
 
 -- a prefix holds an address with a field written behind the prefix where it held the address
-pub Holds-with_field : (p : PrefixValue) (a at width v : ℕ) → at + width ≤ 128 → v < 2 ^ width → p.len ≤ at → Holds p a → Holds p (with_field_of a at width v)
+pub Holds-with_field : (p : PrefixValue) (a at width v : ℕ) → at + width ≤ 128 → v < 2 ^ width → p.len ≤ at → Holds p a
+    → Holds p (with_field_of a at width v)
 unfolding Holds
 Holds-with_field p a at width v within fits behind h =
     ap (λ n. n / 2 ^ (128 - p.len)) (with_field_is_put a at width v within)
-    ∙ same_above (put a (128 - at - width) width v) a (128 - at - width + width) (128 - p.len) (omega arith) (put_above a (128 - at - width) width v fits)
+    ∙ same_above (put a (128 - at - width) width v) a (128 - at - width + width) (128 - p.len) (omega arith)
+    (put_above a (128 - at - width) width v fits)
     ∙ h
 
 -- ---- for the code

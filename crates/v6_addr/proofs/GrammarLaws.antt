@@ -20,7 +20,8 @@ pub some_cond : {A : Type 0} (b : Bool) (o : Option A) (x : A) → cond b o None
 some_cond true o x e = (refl, e)
 some_cond false o x e = absurd (none-some x e)
 
-pub some_then : {A B : Type 0} (f : A → Option B) (o : Option A) (y : B) → option_and_then f o ≡ Some y → (x : A) × (o ≡ Some x) × (f x ≡ Some y)
+pub some_then : {A B : Type 0} (f : A → Option B) (o : Option A) (y : B) → option_and_then f o ≡ Some y
+    → (x : A) × (o ≡ Some x) × (f x ≡ Some y)
 some_then f None y e = absurd (none-some y e)
 some_then f (Some x) y e = (x, refl, e)
 
@@ -40,7 +41,8 @@ test_from_digits : (radix : ℕ) (text : List ℕ) → AllDigits radix text → 
 test_from_digits radix [] h = refl
 test_from_digits radix (c ∷ cs) h = and_from _ _ (lt-ltb _ _ h.0) (test_from_digits radix cs h.1)
 
-pub number_is : (radix : ℕ) (text : List ℕ) (n : ℕ) → number_of_text radix text ≡ Some n → AllDigits radix text × (n ≡ digits_value radix text)
+pub number_is : (radix : ℕ) (text : List ℕ) (n : ℕ) → number_of_text radix text ≡ Some n
+    → AllDigits radix text × (n ≡ digits_value radix text)
 unfolding number_of_text
 number_is radix text n e =
     let parts = some_cond _ _ n e in
@@ -110,13 +112,15 @@ split_joined : (text : List ℕ) (texts : List (List ℕ)) (g : ℕ) (groups : L
 split_joined t [] g gs h = slice_split_none (λ b. eqb b 58) t (no_colons t h.0.2)
 split_joined t (u ∷ us) g [] h = absurd h.1
 split_joined t (u ∷ us) g (k ∷ ks) h =
-    slice_split_at (λ b. eqb b 58) t 58 (join_with_byte 58 (u ∷ us)) (no_colons t h.0.2) refl ∙ ap (λ ts. t ∷ ts) (split_joined u us k ks h.1)
+    slice_split_at (λ b. eqb b 58) t 58 (join_with_byte 58 (u ∷ us)) (no_colons t h.0.2) refl
+    ∙ ap (λ ts. t ∷ ts) (split_joined u us k ks h.1)
 
 joined_some : (text : List ℕ) (texts : List (List ℕ)) → 1 ≤ length text → eqb (length (join_with_byte 58 (text ∷ texts))) 0 ≡ false
 joined_some t [] some = ne_eqb _ _ (λ e. absurd (omega arith))
 joined_some t (u ∷ us) some = ne_eqb _ _ (λ e. absurd (omega (arith, length-append t (58 ∷ join_with_byte 58 (u ∷ us)))))
 
-joined_reads : (texts : List (List ℕ)) (groups : List ℕ) → AllZip IsGroupText texts groups → groups_of_text (join_with_byte 58 texts) ≡ Some groups
+joined_reads : (texts : List (List ℕ)) (groups : List ℕ) → AllZip IsGroupText texts groups
+    → groups_of_text (join_with_byte 58 texts) ≡ Some groups
 unfolding groups_of_text
 joined_reads [] [] h = refl
 joined_reads [] (g ∷ gs) h = absurd h
@@ -138,7 +142,8 @@ behind_one : (n : ℕ) (o : Option ℕ) → option_map suc (option_map (λ k. n 
 behind_one n None = refl
 behind_one n (Some k) = let sum : suc (n + k) ≡ suc n + k = omega arith in ap Some sum
 
-behind_both : (n m all : ℕ) (o : Option ℕ) → all ≡ n + suc m → option_map (λ k. n + k) (option_map suc (option_map (λ k. m + k) o)) ≡ option_map (λ k. all + k) o
+behind_both : (n m all : ℕ) (o : Option ℕ) → all ≡ n + suc m
+    → option_map (λ k. n + k) (option_map suc (option_map (λ k. m + k) o)) ≡ option_map (λ k. all + k) o
 behind_both n m all None e = refl
 behind_both n m all (Some k) e = let sum : n + suc (m + k) ≡ all + k = omega arith in ap Some sum
 
@@ -176,7 +181,8 @@ gap_behind_texts [] groups more h = behind_nothing (gap_of more)
 gap_behind_texts (t ∷ ts) [] more h = absurd h
 gap_behind_texts (t ∷ ts) (g ∷ gs) more h = gap_behind_joined t ts g gs more h
 
-gap_behind_groups : (text groups more : List ℕ) → IsGroupsText text groups → gap_of (text ++ more) ≡ option_map (λ k. length text + k) (gap_of more)
+gap_behind_groups : (text groups more : List ℕ) → IsGroupsText text groups
+    → gap_of (text ++ more) ≡ option_map (λ k. length text + k) (gap_of more)
 gap_behind_groups text groups more h =
     let P : List ℕ → Type 0 = λ t. gap_of (t ++ more) ≡ option_map (λ k. length t + k) (gap_of more) in
     subst P (sym h.joined) (gap_behind_texts h.texts groups more h.each)
@@ -187,20 +193,24 @@ unfolding gap_of
 gap_parts [] gap e = absurd (none-some gap e)
 gap_parts (c ∷ cs) gap e = by_test c cs gap ((eqb c 58) && (eqb (get_or cs 0 0) 58)) refl e (gap_parts cs)
   where
-    here : (c : ℕ) (cs : List ℕ) (gap : ℕ) → 0 ≡ gap → c ≡ 58 → get_or cs 0 0 ≡ 58 → c ∷ cs ≡ take gap (c ∷ cs) ++ (58 ∷ 58 ∷ drop (gap + 2) (c ∷ cs))
+    here : (c : ℕ) (cs : List ℕ) (gap : ℕ) → 0 ≡ gap → c ≡ 58 → get_or cs 0 0 ≡ 58
+        → c ∷ cs ≡ take gap (c ∷ cs) ++ (58 ∷ 58 ∷ drop (gap + 2) (c ∷ cs))
     here c [] gap is_gap first second = absurd (omega arith)
     here c (d ∷ ds) gap is_gap first second =
         let P : ℕ → Type 0 = λ n. c ∷ d ∷ ds ≡ take n (c ∷ d ∷ ds) ++ (58 ∷ 58 ∷ drop (n + 2) (c ∷ d ∷ ds)) in
         subst P is_gap (ap (λ n. n ∷ d ∷ ds) first ∙ ap (λ n. 58 ∷ n ∷ ds) second)
 
-    behind : (c : ℕ) (cs : List ℕ) (gap k : ℕ) → suc k ≡ gap → cs ≡ take k cs ++ (58 ∷ 58 ∷ drop (k + 2) cs) → c ∷ cs ≡ take gap (c ∷ cs) ++ (58 ∷ 58 ∷ drop (gap + 2) (c ∷ cs))
+    behind : (c : ℕ) (cs : List ℕ) (gap k : ℕ) → suc k ≡ gap → cs ≡ take k cs ++ (58 ∷ 58 ∷ drop (k + 2) cs)
+        → c ∷ cs ≡ take gap (c ∷ cs) ++ (58 ∷ 58 ∷ drop (gap + 2) (c ∷ cs))
     behind c cs gap k is_gap rest =
         let sum : suc k + 2 ≡ suc (k + 2) = omega arith in
         let P : ℕ → Type 0 = λ n. c ∷ cs ≡ take n (c ∷ cs) ++ (58 ∷ 58 ∷ drop (n + 2) (c ∷ cs)) in
         subst P is_gap (ap (λ t. c ∷ t) rest ∙ ap (λ n. c ∷ (take k cs ++ (58 ∷ 58 ∷ drop n (c ∷ cs)))) (sym sum))
 
-    by_test : (c : ℕ) (cs : List ℕ) (gap : ℕ) (b : Bool) → ((eqb c 58) && (eqb (get_or cs 0 0) 58)) ≡ b → cond b (Some 0) (option_map suc (gap_of cs)) ≡ Some gap
-        → ((k : ℕ) → gap_of cs ≡ Some k → cs ≡ take k cs ++ (58 ∷ 58 ∷ drop (k + 2) cs)) → c ∷ cs ≡ take gap (c ∷ cs) ++ (58 ∷ 58 ∷ drop (gap + 2) (c ∷ cs))
+    by_test : (c : ℕ) (cs : List ℕ) (gap : ℕ) (b : Bool) → ((eqb c 58) && (eqb (get_or cs 0 0) 58)) ≡ b
+        → cond b (Some 0) (option_map suc (gap_of cs)) ≡ Some gap
+        → ((k : ℕ) → gap_of cs ≡ Some k → cs ≡ take k cs ++ (58 ∷ 58 ∷ drop (k + 2) cs))
+        → c ∷ cs ≡ take gap (c ∷ cs) ++ (58 ∷ 58 ∷ drop (gap + 2) (c ∷ cs))
     by_test c cs gap true test e more =
         let both = and_parts _ _ test in
         here c cs gap (same_Some 0 gap e) (eqb-true _ _ both.0) (eqb-true _ _ both.1)
@@ -244,8 +254,10 @@ no_gap_behind n = refl
 full_from : (text : List ℕ) (a : ℕ) → IsFullText text a → address_of_text text ≡ Some a
 unfolding address_of_text
 full_from text a h =
-    let none : gap_of text ≡ None = ap gap_of (sym (append-nil text)) ∙ gap_behind_groups text h.groups [] h.written ∙ no_gap_behind (length text) in
-    ap (address_of_parts text) none ∙ sym (full_reads text h.groups (length h.groups) a (groups_from text h.groups h.written) refl h.eight h.value)
+    let none : gap_of text ≡ None = ap gap_of (sym (append-nil text)) ∙ gap_behind_groups text h.groups [] h.written
+    ∙ no_gap_behind (length text) in
+    ap (address_of_parts text) none ∙ sym (full_reads text h.groups (length h.groups) a
+    (groups_from text h.groups h.written) refl h.eight h.value)
 
 take_front : (left right : List ℕ) → left ≡ take (length left) (left ++ right)
 take_front [] right = refl
@@ -269,11 +281,15 @@ shortened_from text a h =
     gap_behind_groups h.left_text h.left (58 ∷ 58 ∷ h.right_text) h.left_written ∙ gap_here (length h.left_text) h.right_text in
     let read : address_of_text whole ≡ shortened_address h.left h.right =
     ap (address_of_parts whole) gap
-    ∙ shortened_parts whole h.left_text h.right_text h.left h.right (length h.left_text) (take_front h.left_text (58 ∷ 58 ∷ h.right_text)) (drop_back h.left_text h.right_text 58 58)
+    ∙ shortened_parts whole h.left_text h.right_text h.left h.right (length h.left_text) (take_front h.left_text (58 ∷ 58 ∷ h.right_text))
+    (drop_back h.left_text h.right_text 58 58)
     (groups_from _ _ h.left_written) (groups_from _ _ h.right_written) in
-    ap address_of_text h.parts ∙ read ∙ cond-true _ _ _ (lt-ltb (length h.left + length h.right) 8 (omega (arith, h.some_zeros))) ∙ ap Some (sym h.value)
+    ap address_of_text h.parts ∙ read ∙ cond-true _ _ _ (lt-ltb (length h.left + length h.right) 8 (omega (arith, h.some_zeros)))
+    ∙ ap Some (sym h.value)
 
 pub address_text_is : (text : List ℕ) (a : ℕ) → (address_of_text text ≡ Some a) ↔ IsAddressText text a
 unfolding address_of_text
-address_text_is text a =
-    (λ e. parts_are text a (gap_of text) refl e, λ h. elim h [ inl full ↦ full_from text a full | inr shortened ↦ shortened_from text a shortened ])
+address_text_is text a = (
+  λ e. parts_are text a (gap_of text) refl e,
+  λ h. elim h [ inl full ↦ full_from text a full | inr shortened ↦ shortened_from text a shortened ],
+)

@@ -25,7 +25,8 @@ more_fits value group count bound small few =
     let room : 16 * (count + 1) ≤ 128 = omega arith in
     omega (arith, more_bound value group count bound small, pow-le-pow_right {n = 2} (lit< tt) room)
 
-pub more_groups : (groups : List ℕ) (value group count : ℕ) → count < length groups → SummedGroups groups value count → group ≡ get_or groups count 0 → group < 2 ^ 16
+pub more_groups : (groups : List ℕ) (value group count : ℕ) → count < length groups → SummedGroups groups value count
+    → group ≡ get_or groups count 0 → group < 2 ^ 16
     → SummedGroups groups (value * 65536 + group) (count + 1)
 unfolding number_of_groups
 more_groups groups value group count within so_far is_group small = record {
@@ -34,9 +35,13 @@ more_groups groups value group count within so_far is_group small = record {
   bound = more_bound value group count so_far.bound small;
 }
 
-pub all_groups : (groups : List ℕ) (value count : ℕ) → count ≡ length groups → SummedGroups groups value count → (value ≡ number_of_groups groups) × (value < 2 ^ (16 * length groups))
-all_groups groups value count whole so_far =
-    (so_far.same ∙ ap number_of_groups (take_all count groups (omega arith)), let P : ℕ → Type 0 = λ n. value < 2 ^ (16 * n) in subst P whole so_far.bound)
+pub all_groups : (groups : List ℕ) (value count : ℕ) → count ≡ length groups → SummedGroups groups value count
+    → (value ≡ number_of_groups groups) × (value < 2 ^ (16 * length groups))
+all_groups groups value count whole so_far = (
+  so_far.same ∙ ap number_of_groups (take_all count groups (omega arith)),
+  let P : ℕ → Type 0 = λ n. value < 2 ^ (16 * n) in
+      subst P whole so_far.bound,
+)
 
 pub no_groups_yet : (groups : List ℕ) → SummedGroups groups 0 0
 unfolding number_of_groups
@@ -45,7 +50,8 @@ no_groups_yet groups = record { same = refl; bound = lit< tt }
 -- ---- two lists of groups, one behind the other
 
 -- groups behind a number
-pub number_from : (n : ℕ) (groups : List ℕ) → fold (λ m g. m * 2 ^ 16 + g) n groups ≡ n * 2 ^ (16 * length groups) + fold (λ m g. m * 2 ^ 16 + g) 0 groups
+pub number_from : (n : ℕ) (groups : List ℕ)
+    → fold (λ m g. m * 2 ^ 16 + g) n groups ≡ n * 2 ^ (16 * length groups) + fold (λ m g. m * 2 ^ 16 + g) 0 groups
 number_from n [] = omega arith
 number_from n (g ∷ groups) =
     let sum : 16 * suc (length groups) ≡ 16 + 16 * length groups = omega arith in
@@ -54,7 +60,8 @@ number_from n (g ∷ groups) =
     let right = number_from (0 * 2 ^ 16 + g) groups in
     rw power (omega (arith, left, right))
 
-pub number_of_groups-append : (left right : List ℕ) → number_of_groups (left ++ right) ≡ number_of_groups left * 2 ^ (16 * length right) + number_of_groups right
+pub number_of_groups-append : (left right : List ℕ)
+    → number_of_groups (left ++ right) ≡ number_of_groups left * 2 ^ (16 * length right) + number_of_groups right
 unfolding number_of_groups
 number_of_groups-append left right =
     fold-append (λ m g. m * 2 ^ 16 + g) 0 left right ∙ number_from (fold (λ m g. m * 2 ^ 16 + g) 0 left) right
@@ -66,7 +73,8 @@ number_of_groups-zeros (suc n) = number_of_groups-zeros n
 
 -- groups, zeros and groups that are eight together
 pub number_of_groups-around : (left right : List ℕ) → length left + length right ≤ 8
-    → number_of_groups (left ++ replicate (8 - (length left + length right)) 0 ++ right) ≡ number_of_groups left * 2 ^ (128 - 16 * length left) + number_of_groups right
+    → number_of_groups (left ++ replicate (8 - (length left + length right)) 0 ++ right) ≡ number_of_groups left * 2 ^
+    (128 - 16 * length left) + number_of_groups right
 number_of_groups-around left right few =
     let zeros = 8 - (length left + length right) in
     let sum : 16 * zeros + 16 * length right ≡ 128 - 16 * length left = omega arith in
@@ -109,12 +117,14 @@ pub full_refused : (text : List ℕ) → TooMany (groups_of_text text) → None 
 unfolding address_of_parts
 full_refused text many = refused (groups_of_text text) many
 
-pub full_other : (text groups : List ℕ) (n : ℕ) → groups_of_text text ≡ Some groups → n ≡ length groups → (n ≡ 8 → ⊥) → None ≡ address_of_parts text None
+pub full_other : (text groups : List ℕ) (n : ℕ) → groups_of_text text ≡ Some groups → n ≡ length groups → (n ≡ 8 → ⊥)
+    → None ≡ address_of_parts text None
 unfolding address_of_parts full_address
 full_other text groups n read is_length other =
     sym (ap (option_and_then full_address) read ∙ cond-false _ _ _ (ne_eqb (length groups) 8 (λ e. other (is_length ∙ e))))
 
-pub full_reads : (text groups : List ℕ) (n value : ℕ) → groups_of_text text ≡ Some groups → n ≡ length groups → n ≡ 8 → value ≡ number_of_groups groups → Some value ≡ address_of_parts text None
+pub full_reads : (text groups : List ℕ) (n value : ℕ) → groups_of_text text ≡ Some groups → n ≡ length groups → n ≡ 8
+    → value ≡ number_of_groups groups → Some value ≡ address_of_parts text None
 unfolding address_of_parts full_address
 full_reads text groups n value read is_length eight is_number =
     ap Some is_number ∙ sym (ap (option_and_then full_address) read ∙ cond-true _ _ _ (eq-eqb (length groups) 8 (sym is_length ∙ eight)))
@@ -135,33 +145,43 @@ right_refused None right many = refl
 right_refused (Some ls) None many = refl
 right_refused (Some ls) (Some rs) many = sym (cond-false _ _ _ (le-ltb (length ls + length rs) 8 (omega arith)))
 
-pub shortened_left_refused : (text left : List ℕ) (gap : ℕ) → left ≡ take gap text → TooMany (groups_of_text left) → None ≡ address_of_parts text (Some gap)
+pub shortened_left_refused : (text left : List ℕ) (gap : ℕ) → left ≡ take gap text → TooMany (groups_of_text left)
+    → None ≡ address_of_parts text (Some gap)
 unfolding address_of_parts
 shortened_left_refused text left gap is_left many =
-    left_refused (groups_of_text (take gap text)) (groups_of_text (drop (gap + 2) text)) (let P : List ℕ → Type 0 = λ t. TooMany (groups_of_text t) in subst P is_left many)
+    left_refused (groups_of_text (take gap text)) (groups_of_text (drop (gap + 2) text)) (let P : List ℕ
+    → Type 0 = λ t. TooMany (groups_of_text t) in subst P is_left many)
 
-pub shortened_right_refused : (text right : List ℕ) (gap : ℕ) → right ≡ drop (gap + 2) text → TooMany (groups_of_text right) → None ≡ address_of_parts text (Some gap)
+pub shortened_right_refused : (text right : List ℕ) (gap : ℕ) → right ≡ drop (gap + 2) text → TooMany (groups_of_text right)
+    → None ≡ address_of_parts text (Some gap)
 unfolding address_of_parts
 shortened_right_refused text right gap is_right many =
-    right_refused (groups_of_text (take gap text)) (groups_of_text (drop (gap + 2) text)) (let P : List ℕ → Type 0 = λ t. TooMany (groups_of_text t) in subst P is_right many)
+    right_refused (groups_of_text (take gap text)) (groups_of_text (drop (gap + 2) text)) (let P : List ℕ
+    → Type 0 = λ t. TooMany (groups_of_text t) in subst P is_right many)
 
 -- the address round `::`
-pub shortened_parts : (text left right ls rs : List ℕ) (gap : ℕ) → left ≡ take gap text → right ≡ drop (gap + 2) text → groups_of_text left ≡ Some ls → groups_of_text right ≡ Some rs
+pub shortened_parts : (text left right ls rs : List ℕ) (gap : ℕ) → left ≡ take gap text → right ≡ drop (gap + 2) text
+    → groups_of_text left ≡ Some ls → groups_of_text right ≡ Some rs
     → address_of_parts text (Some gap) ≡ shortened_address ls rs
 unfolding address_of_parts
 shortened_parts text left right ls rs gap is_left is_right read_left read_right =
     ap (λ o. around o (groups_of_text (drop (gap + 2) text))) (ap groups_of_text (sym is_left) ∙ read_left)
     ∙ ap (λ o. around (Some ls) o) (ap groups_of_text (sym is_right) ∙ read_right)
 
-pub shortened_too_many : (text left right ls rs : List ℕ) (gap : ℕ) → left ≡ take gap text → right ≡ drop (gap + 2) text → groups_of_text left ≡ Some ls → groups_of_text right ≡ Some rs
+pub shortened_too_many : (text left right ls rs : List ℕ) (gap : ℕ) → left ≡ take gap text → right ≡ drop (gap + 2) text
+    → groups_of_text left ≡ Some ls → groups_of_text right ≡ Some rs
     → 7 < length ls + length rs → None ≡ address_of_parts text (Some gap)
 unfolding shortened_address
 shortened_too_many text left right ls rs gap is_left is_right read_left read_right many =
-    sym (shortened_parts text left right ls rs gap is_left is_right read_left read_right ∙ cond-false _ _ _ (le-ltb (length ls + length rs) 8 (omega arith)))
+    sym (shortened_parts text left right ls rs gap is_left is_right read_left read_right
+    ∙ cond-false _ _ _ (le-ltb (length ls + length rs) 8 (omega arith)))
 
-pub shortened_reads : (text left right ls rs : List ℕ) (gap value : ℕ) → left ≡ take gap text → right ≡ drop (gap + 2) text → groups_of_text left ≡ Some ls → groups_of_text right ≡ Some rs
-    → length ls + length rs ≤ 7 → value ≡ number_of_groups ls * 2 ^ (128 - 16 * length ls) + number_of_groups rs → Some value ≡ address_of_parts text (Some gap)
+pub shortened_reads : (text left right ls rs : List ℕ) (gap value : ℕ) → left ≡ take gap text → right ≡ drop (gap + 2) text
+    → groups_of_text left ≡ Some ls → groups_of_text right ≡ Some rs
+    → length ls + length rs ≤ 7 → value ≡ number_of_groups ls * 2 ^ (128 - 16 * length ls) + number_of_groups rs
+    → Some value ≡ address_of_parts text (Some gap)
 unfolding shortened_address
 shortened_reads text left right ls rs gap value is_left is_right read_left read_right few is_value =
     ap Some (is_value ∙ sym (number_of_groups-around ls rs (omega arith)))
-    ∙ sym (shortened_parts text left right ls rs gap is_left is_right read_left read_right ∙ cond-true _ _ _ (lt-ltb (length ls + length rs) 8 (omega arith)))
+    ∙ sym (shortened_parts text left right ls rs gap is_left is_right read_left read_right
+    ∙ cond-true _ _ _ (lt-ltb (length ls + length rs) 8 (omega arith)))

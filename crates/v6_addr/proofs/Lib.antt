@@ -1,8 +1,10 @@
+pub mod Cases
 pub mod Fields
 pub mod GrammarLaws
 pub mod GroupSums
 pub mod PrefixGrammar
 pub mod Prefixes
+pub mod PublicLaws
 pub mod Reading
 pub mod RoundTrip
 pub mod RunLaws

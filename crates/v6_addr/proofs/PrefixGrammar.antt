@@ -39,7 +39,8 @@ number_below (g ∷ gs) below =
     let more = number_below gs (All-tail (λ n. n < 65536) g gs below) in
     let here : 0 * 2 ^ 16 + g < 65536 = omega (arith, All-head (λ n. n < 65536) g gs below) in
     let sum : 16 * suc (length gs) ≡ 16 * length gs + 16 = omega arith in
-    rw (number_behind (0 * 2 ^ 16 + g) gs, sum, pow-add 2 (16 * length gs) 16) (mul-add-lt (0 * 2 ^ 16 + g) (2 ^ (16 * length gs)) _ 65536 here more)
+    rw (number_behind (0 * 2 ^ 16 + g) gs, sum, pow-add 2 (16 * length gs) 16)
+    (mul-add-lt (0 * 2 ^ 16 + g) (2 ^ (16 * length gs)) _ 65536 here more)
 
 eight_below : (groups : List ℕ) → length groups ≡ 8 → All (λ g. g < 65536) groups → number_of_groups groups < 2 ^ 128
 eight_below groups eight below =
@@ -57,7 +58,8 @@ address_below text a (inr h) =
     let eight : length (front ++ h.right) ≡ 8 =
     omega (arith, h.some_zeros, length-append front h.right, length-append h.left (replicate zeros 0), length-replicate {A = ℕ} zeros 0) in
     let below = All-append (λ g. g < 65536) front h.right
-    (All-append (λ g. g < 65536) h.left (replicate zeros 0) (groups_below h.left_written.texts h.left h.left_written.each) (All-replicate (λ g. g < 65536) zeros 0 (lit< tt)))
+    (All-append (λ g. g < 65536) h.left (replicate zeros 0) (groups_below h.left_written.texts h.left h.left_written.each)
+    (All-replicate (λ g. g < 65536) zeros 0 (lit< tt)))
     (groups_below h.right_written.texts h.right h.right_written.each) in
     subst P (sym h.value) (eight_below (front ++ h.right) eight below)
 
@@ -79,7 +81,8 @@ joined_no_slash (t ∷ ts) [] h = absurd h
 joined_no_slash (t ∷ []) (g ∷ gs) h = digits_no_slash t h.0.2
 joined_no_slash (t ∷ u ∷ us) (g ∷ gs) h =
     let P : ℕ → Type 0 = λ c. eqb c 47 ≡ false in
-    All-append P t (58 ∷ join_with_byte 58 (u ∷ us)) (digits_no_slash t h.0.2) (All-cons P 58 (join_with_byte 58 (u ∷ us)) refl (joined_no_slash (u ∷ us) gs h.1))
+    All-append P t (58 ∷ join_with_byte 58 (u ∷ us)) (digits_no_slash t h.0.2)
+    (All-cons P 58 (join_with_byte 58 (u ∷ us)) refl (joined_no_slash (u ∷ us) gs h.1))
 
 groups_no_slash : (text groups : List ℕ) → IsGroupsText text groups → NoSlash text
 groups_no_slash text groups h = subst NoSlash (sym h.joined) (joined_no_slash h.texts groups h.each)
@@ -136,16 +139,19 @@ two_digits a b some below_a below_b =
     let n = (0 * 10 + a) * 10 + b in
     let first : n / 10 ≡ a = omega arith in
     let last : n % 10 ≡ b = omega arith in
-    length_text-2 n (omega arith) (omega arith) ∙ ap (λ d. digit_char d ∷ digit_char (n % 10) ∷ []) first ∙ ap (λ d. digit_char a ∷ digit_char d ∷ []) last
+    length_text-2 n (omega arith) (omega arith) ∙ ap (λ d. digit_char d ∷ digit_char (n % 10) ∷ []) first
+    ∙ ap (λ d. digit_char a ∷ digit_char d ∷ []) last
 
-three_digits : (a b c : ℕ) → 1 ≤ a → a < 10 → b < 10 → c < 10 → length_text (((0 * 10 + a) * 10 + b) * 10 + c) ≡ digit_char a ∷ digit_char b ∷ digit_char c ∷ []
+three_digits : (a b c : ℕ) → 1 ≤ a → a < 10 → b < 10 → c < 10
+    → length_text (((0 * 10 + a) * 10 + b) * 10 + c) ≡ digit_char a ∷ digit_char b ∷ digit_char c ∷ []
 three_digits a b c some below_a below_b below_c =
     let n = ((0 * 10 + a) * 10 + b) * 10 + c in
     let first : n / 100 ≡ a = omega arith in
     let middle : n / 10 % 10 ≡ b = omega arith in
     let last : n % 10 ≡ c = omega arith in
     length_text-3 n (omega arith) ∙ ap (λ d. digit_char d ∷ digit_char (n / 10 % 10) ∷ digit_char (n % 10) ∷ []) first
-    ∙ ap (λ d. digit_char a ∷ digit_char d ∷ digit_char (n % 10) ∷ []) middle ∙ ap (λ d. digit_char a ∷ digit_char b ∷ digit_char d ∷ []) last
+    ∙ ap (λ d. digit_char a ∷ digit_char d ∷ digit_char (n % 10) ∷ []) middle
+    ∙ ap (λ d. digit_char a ∷ digit_char b ∷ digit_char d ∷ []) last
 
 -- a first digit that isn't `0` has a value
 leading : (c : ℕ) → digit_value c < 10 → eqb c 48 ≡ false → 1 ≤ digit_value c
@@ -158,7 +164,8 @@ leading c digit other =
     is_zero : (v : ℕ) → v ≤ 0 → v + 48 ≡ c → c ≡ 48
     is_zero v none sum = omega arith
 
-digits_shape : (text : List ℕ) → AllDigits 10 text → 1 ≤ length text → length text ≤ 3 → not (ltb 1 (length text) && eqb (get_or text 0 0) 48) ≡ true → text ≡ length_text (digits_value 10 text)
+digits_shape : (text : List ℕ) → AllDigits 10 text → 1 ≤ length text → length text ≤ 3
+    → not (ltb 1 (length text) && eqb (get_or text 0 0) 48) ≡ true → text ≡ length_text (digits_value 10 text)
 digits_shape [] h some few lead = absurd (omega arith)
 digits_shape (c ∷ []) h some few lead = sym (one_digit (digit_value c) h.0 ∙ ap (λ d. d ∷ []) (digit_back c h.0))
 digits_shape (c ∷ d ∷ []) h some few lead =
@@ -177,8 +184,11 @@ length_is text n e =
     let short = short_length n (number_of_text 10 text) outer.1 in
     let number = number_is 10 text n short.1 in
     let tests = and_parts _ _ outer.0 in
-    let lengths = and_parts _ _ tests.0 in
-    (short.0, digits_shape text number.0 (leb-true 1 (length text) lengths.0) (leb-true (length text) 3 lengths.1) tests.1 ∙ ap length_text (sym number.1))
+    let lengths = and_parts _ _ tests.0 in (
+      short.0,
+      digits_shape text number.0 (leb-true 1 (length text) lengths.0) (leb-true (length text) 3 lengths.1) tests.1
+          ∙ ap length_text (sym number.1),
+    )
 
 abbrev is_same : ℕ → Option ℕ → Bool
 is_same n None = false
@@ -191,7 +201,8 @@ same_from n (Some m) h = ap Some (eqb-true m n h)
 length_reads : (n : ℕ) → n ≤ 128 → length_of_text (length_text n) ≡ Some n
 unfolding length_of_text length_text number_of_text
 length_reads n short =
-    same_from n (length_of_text (length_text n)) (agree_below_at (λ m. is_same m (length_of_text (length_text m))) (λ m. true) 129 n refl (omega arith))
+    same_from n (length_of_text (length_text n))
+    (agree_below_at (λ m. is_same m (length_of_text (length_text m))) (λ m. true) 129 n refl (omega arith))
 
 no_length_of_nothing : (n : ℕ) → length_of_text [] ≡ Some n → ⊥
 unfolding length_of_text
@@ -199,7 +210,8 @@ no_length_of_nothing n e = none-some n e
 
 -- ---- the whole text
 
-parts_some : (value len : Option ℕ) (p : PrefixValue) → prefix_of_parts value len ≡ Some p → (value ≡ Some p.value) × (len ≡ Some p.len) × (p.value % 2 ^ (128 - p.len) ≡ 0)
+parts_some : (value len : Option ℕ) (p : PrefixValue) → prefix_of_parts value len ≡ Some p
+    → (value ≡ Some p.value) × (len ≡ Some p.len) × (p.value % 2 ^ (128 - p.len) ≡ 0)
 unfolding prefix_of_parts
 parts_some None len p e = absurd (none-some p e)
 parts_some (Some v) None p e = absurd (none-some p e)
@@ -227,7 +239,8 @@ prefix_is text p e =
     let address = (address_text_is (take place text) p.value).0 parts.0 in
     record {
       address_part = take place text;
-      parts = split_at_first slash text 0 within ∙ ap (λ c. take place text ++ (c ∷ drop (place + 1) text)) (eqb-true _ _ (passes_at_first slash text 0 within))
+      parts = split_at_first slash text 0 within
+          ∙ ap (λ c. take place text ++ (c ∷ drop (place + 1) text)) (eqb-true _ _ (passes_at_first slash text 0 within))
           ∙ ap (λ t. take place text ++ (47 ∷ t)) len.1;
       address = address;
       is_prefix = (len.0, address_below (take place text) p.value address, parts.2);

@@ -54,6 +54,12 @@ unfolding Holds
 Holds_nested p q a shorter hp hq =
     sym (same_above a q.value (128 - q.len) (128 - p.len) (omega arith) hq) ∙ hp
 
+-- what holds one address of a prefix that is no shorter holds the others
+pub Holds_alike : (p q : PrefixValue) (a b : ℕ) → p.len ≤ q.len → Holds q a → Holds q b → Holds p a → Holds p b
+unfolding Holds
+Holds_alike p q a b shorter q_a q_b p_a =
+    sym (same_above a b (128 - q.len) (128 - p.len) (omega arith) (q_a ∙ sym q_b)) ∙ p_a
+
 -- two prefixes of one length that hold one address have one value
 pub same_value : (p q : PrefixValue) (a : ℕ) → IsPrefix p → IsPrefix q → p.len ≡ q.len → Holds p a → Holds q a → p.value ≡ q.value
 unfolding Holds
@@ -68,13 +74,15 @@ same_value p q a prefix_p prefix_q same hp hq =
     ∙ shr_split q.value k
 
 -- the code's test of the lengths, and then of the address
-pub is_inside-longer : (inner outer : PrefixValue) (value len outer_len : ℕ) → value ≡ inner.value → len ≡ inner.len → outer_len ≡ outer.len → outer_len < len → holds_address outer value ≡ is_inside inner outer
+pub is_inside-longer : (inner outer : PrefixValue) (value len outer_len : ℕ) → value ≡ inner.value → len ≡ inner.len → outer_len ≡ outer.len
+    → outer_len < len → holds_address outer value ≡ is_inside inner outer
 unfolding is_inside
 is_inside-longer inner outer value len outer_len is_value is_len is_outer longer =
     let before : outer.len < inner.len = omega arith in
     rw (lt-ltb outer.len inner.len before) (ap (λ n. holds_address outer n) is_value)
 
-pub is_inside-not_longer : (inner outer : PrefixValue) (len outer_len : ℕ) → len ≡ inner.len → outer_len ≡ outer.len → len ≤ outer_len → ltb outer_len len ≡ is_inside inner outer
+pub is_inside-not_longer : (inner outer : PrefixValue) (len outer_len : ℕ) → len ≡ inner.len → outer_len ≡ outer.len → len ≤ outer_len
+    → ltb outer_len len ≡ is_inside inner outer
 unfolding is_inside
 is_inside-not_longer inner outer len outer_len is_len is_outer shorter =
     let before : inner.len ≤ outer.len = omega arith in

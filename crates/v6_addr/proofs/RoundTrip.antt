@@ -29,7 +29,8 @@ written_digits n (d ∷ ds) h =
     let more = written_digits (n * 16 + d) ds h.1 in
     ((subst P (sym value) h.0, more.0), more.1 ∙ ap (λ m. digits_value_after 16 (n * 16 + m) (map digit_char ds)) (sym value))
 
-group_written : (g : ℕ) (digits text : List ℕ) → text ≡ map digit_char digits → AllByRecursion (λ d. d < 16) digits → (1 ≤ length text) × (length text ≤ 4)
+group_written : (g : ℕ) (digits text : List ℕ) → text ≡ map digit_char digits → AllByRecursion (λ d. d < 16) digits
+    → (1 ≤ length text) × (length text ≤ 4)
     → g ≡ number_from_digits_after 16 0 digits → IsGroupText text g
 group_written g digits text is_text below lengths is_number =
     let written = written_digits 0 digits below in
@@ -46,11 +47,14 @@ group_text-2 g above below = cond-false _ _ _ (le-ltb g 16 above) ∙ cond-true 
 
 group_text-3 : (g : ℕ) → 256 ≤ g → g < 4096 → group_text g ≡ digit_char (g / 256) ∷ digit_char (g / 16 % 16) ∷ digit_char (g % 16) ∷ []
 unfolding group_text
-group_text-3 g above below = cond-false _ _ _ (le-ltb g 16 (omega arith)) ∙ cond-false _ _ _ (le-ltb g 256 above) ∙ cond-true _ _ _ (lt-ltb g 4096 below)
+group_text-3 g above below = cond-false _ _ _ (le-ltb g 16 (omega arith)) ∙ cond-false _ _ _ (le-ltb g 256 above)
+    ∙ cond-true _ _ _ (lt-ltb g 4096 below)
 
-group_text-4 : (g : ℕ) → 4096 ≤ g → group_text g ≡ digit_char (g / 4096) ∷ digit_char (g / 256 % 16) ∷ digit_char (g / 16 % 16) ∷ digit_char (g % 16) ∷ []
+group_text-4 : (g : ℕ) → 4096 ≤ g → group_text g ≡ digit_char (g / 4096) ∷ digit_char (g / 256 % 16) ∷ digit_char (g / 16 % 16) ∷ digit_char
+    (g % 16) ∷ []
 unfolding group_text
-group_text-4 g above = cond-false _ _ _ (le-ltb g 16 (omega arith)) ∙ cond-false _ _ _ (le-ltb g 256 (omega arith)) ∙ cond-false _ _ _ (le-ltb g 4096 above)
+group_text-4 g above = cond-false _ _ _ (le-ltb g 16 (omega arith)) ∙ cond-false _ _ _ (le-ltb g 256 (omega arith))
+    ∙ cond-false _ _ _ (le-ltb g 4096 above)
 
 group_1 : (g : ℕ) → g < 16 → IsGroupText (group_text g) g
 group_1 g below =
@@ -61,20 +65,23 @@ group_2 : (g : ℕ) → 16 ≤ g → g < 256 → IsGroupText (group_text g) g
 group_2 g above below =
     let P : List ℕ → Type 0 = λ t. IsGroupText t g in
     subst P (sym (group_text-2 g above below))
-    (group_written g (g / 16 ∷ g % 16 ∷ []) (digit_char (g / 16) ∷ digit_char (g % 16) ∷ []) refl (omega arith, (omega arith, tt)) (lit≤ tt, lit≤ tt) (omega arith))
+    (group_written g (g / 16 ∷ g % 16 ∷ []) (digit_char (g / 16) ∷ digit_char (g % 16) ∷ []) refl (omega arith, (omega arith, tt))
+    (lit≤ tt, lit≤ tt) (omega arith))
 
 group_3 : (g : ℕ) → 256 ≤ g → g < 4096 → IsGroupText (group_text g) g
 group_3 g above below =
     let P : List ℕ → Type 0 = λ t. IsGroupText t g in
     subst P (sym (group_text-3 g above below))
-    (group_written g (g / 256 ∷ g / 16 % 16 ∷ g % 16 ∷ []) (digit_char (g / 256) ∷ digit_char (g / 16 % 16) ∷ digit_char (g % 16) ∷ []) refl (omega arith, (omega arith, (omega arith, tt)))
+    (group_written g (g / 256 ∷ g / 16 % 16 ∷ g % 16 ∷ []) (digit_char (g / 256) ∷ digit_char (g / 16 % 16) ∷ digit_char (g % 16) ∷ []) refl
+    (omega arith, (omega arith, (omega arith, tt)))
     (lit≤ tt, lit≤ tt) (omega arith))
 
 group_4 : (g : ℕ) → 4096 ≤ g → g < 65536 → IsGroupText (group_text g) g
 group_4 g above below =
     let P : List ℕ → Type 0 = λ t. IsGroupText t g in
     subst P (sym (group_text-4 g above))
-    (group_written g (g / 4096 ∷ g / 256 % 16 ∷ g / 16 % 16 ∷ g % 16 ∷ []) (digit_char (g / 4096) ∷ digit_char (g / 256 % 16) ∷ digit_char (g / 16 % 16) ∷ digit_char (g % 16) ∷ []) refl
+    (group_written g (g / 4096 ∷ g / 256 % 16 ∷ g / 16 % 16 ∷ g % 16 ∷ [])
+    (digit_char (g / 4096) ∷ digit_char (g / 256 % 16) ∷ digit_char (g / 16 % 16) ∷ digit_char (g % 16) ∷ []) refl
     (omega arith, (omega arith, (omega arith, (omega arith, tt)))) (lit≤ tt, lit≤ tt) (omega arith))
 
 group_text_is : (g : ℕ) → g < 65536 → IsGroupText (group_text g) g
@@ -104,8 +111,16 @@ field_below a at = mod_below (a / 2 ^ (128 - at - 16)) 65536 (lit< tt)
 
 groups_below : (a : ℕ) → All (λ g. g < 65536) (groups_of a)
 unfolding groups_of
-groups_below a = All-from_recursion (λ g. g < 65536) (groups_of a)
-    (field_below a 0, (field_below a 16, (field_below a 32, (field_below a 48, (field_below a 64, (field_below a 80, (field_below a 96, (field_below a 112, tt))))))))
+groups_below a = All-from_recursion (λ g. g < 65536) (groups_of a) (
+  field_below a 0,
+  (
+    field_below a 16,
+    (
+      field_below a 32,
+      (field_below a 48, (field_below a 64, (field_below a 80, (field_below a 96, (field_below a 112, tt))))),
+    ),
+  ),
+)
 
 groups_of-length : (a : ℕ) → length (groups_of a) ≡ 8
 unfolding groups_of
@@ -139,7 +154,8 @@ front_list (g ∷ gs) (suc n) run =
     ap (λ m. m ∷ gs) here ∙ ap (λ t. 0 ∷ t) (front_list gs n (front_without g gs n run))
 
 -- the groups before a run, its zeros, and the groups behind it
-run_list : (groups : List ℕ) (start count : ℕ) → IsZeroRun groups start count → groups ≡ take start groups ++ replicate count 0 ++ drop (start + count) groups
+run_list : (groups : List ℕ) (start count : ℕ) → IsZeroRun groups start count
+    → groups ≡ take start groups ++ replicate count 0 ++ drop (start + count) groups
 run_list groups zero count run =
     let sum : count ≡ 0 + count = omega arith in
     front_list groups count run ∙ ap (λ n. replicate count 0 ++ drop n groups) sum
@@ -151,7 +167,8 @@ run_list (g ∷ gs) (suc start) count run =
 
 -- ---- an address
 
-written_short : (a : ℕ) (groups : List ℕ) (start count : ℕ) → length groups ≡ 8 → All (λ g. g < 65536) groups → a ≡ number_of_groups groups → IsZeroRun groups start count → 2 ≤ count
+written_short : (a : ℕ) (groups : List ℕ) (start count : ℕ) → length groups ≡ 8 → All (λ g. g < 65536) groups → a ≡ number_of_groups groups
+    → IsZeroRun groups start count → 2 ≤ count
     → IsAddressText (groups_text (take start groups) ++ (58 ∷ 58 ∷ groups_text (drop (start + count) groups))) a
 written_short a groups start count eight below value run long =
     let left = take start groups in
@@ -171,19 +188,24 @@ written_short a groups start count eight below value run long =
       value = value ∙ ap number_of_groups (run_list groups start count run ∙ ap (λ n. left ++ replicate n 0 ++ right) zeros);
     })
 
-written_full : (a : ℕ) (groups : List ℕ) → length groups ≡ 8 → All (λ g. g < 65536) groups → a ≡ number_of_groups groups → IsAddressText (groups_text groups) a
+written_full : (a : ℕ) (groups : List ℕ) → length groups ≡ 8 → All (λ g. g < 65536) groups → a ≡ number_of_groups groups
+    → IsAddressText (groups_text groups) a
 written_full a groups eight below value =
     inl (record { groups = groups; written = groups_text_is groups below; eight = eight; value = value })
 
-written_by_test : (a : ℕ) (groups : List ℕ) (run : Run) (b : Bool) → leb 2 run.count ≡ b → length groups ≡ 8 → All (λ g. g < 65536) groups → a ≡ number_of_groups groups → IsZeroRun groups run.start run.count
-    → IsAddressText (cond b (groups_text (take run.start groups) ++ (58 ∷ 58 ∷ groups_text (drop (run.start + run.count) groups))) (groups_text groups)) a
-written_by_test a groups run true test eight below value zeros = written_short a groups run.start run.count eight below value zeros (leb-true 2 run.count test)
+written_by_test : (a : ℕ) (groups : List ℕ) (run : Run) (b : Bool) → leb 2 run.count ≡ b → length groups ≡ 8 → All (λ g. g < 65536) groups
+    → a ≡ number_of_groups groups → IsZeroRun groups run.start run.count
+    → IsAddressText (cond b (groups_text (take run.start groups) ++ (58 ∷ 58 ∷ groups_text (drop (run.start + run.count) groups)))
+    (groups_text groups)) a
+written_by_test a groups run true test eight below value zeros = written_short a groups run.start run.count eight below value zeros
+    (leb-true 2 run.count test)
 written_by_test a groups run false test eight below value zeros = written_full a groups eight below value
 
 pub address_text_written : (a : ℕ) → a < 2 ^ 128 → IsAddressText (address_text a) a
 unfolding address_text text_with_run
 address_text_written a below =
-    written_by_test a (groups_of a) (longest_run (groups_of a)) (leb 2 (longest_run (groups_of a)).count) refl (groups_of-length a) (groups_below a) (sym (number_of_groups-groups_of a below))
+    written_by_test a (groups_of a) (longest_run (groups_of a)) (leb 2 (longest_run (groups_of a)).count) refl (groups_of-length a)
+    (groups_below a) (sym (number_of_groups-groups_of a below))
     (longest_run_is (groups_of a)).zeros
 
 pub address_read_back : (a : ℕ) → a < 2 ^ 128 → address_of_text (address_text a) ≡ Some a
@@ -197,7 +219,11 @@ group_text_length g =
       | inl small ↦ omega (arith, ap length (group_text-1 g small))
       | inr above16 ↦ elim (cases_lt g 256) [
         | inl small ↦ omega (arith, ap length (group_text-2 g above16 small))
-        | inr above256 ↦ elim (cases_lt g 4096) [ inl small ↦ omega (arith, ap length (group_text-3 g above256 small)) | inr above4096 ↦ omega (arith, ap length (group_text-4 g above4096)) ]
+        | inr above256 ↦ elim (cases_lt g 4096) [
+          | inl small ↦ omega (arith, ap length (group_text-3 g above256 small))
+          | inr above4096 ↦
+              omega (arith, ap length (group_text-4 g above4096))
+        ]
       ]
     ]
 
@@ -222,7 +248,8 @@ short_length groups start count eight within long =
     )
 
 length_by_test : (groups : List ℕ) (run : Run) (b : Bool) → leb 2 run.count ≡ b → length groups ≡ 8 → run.start + run.count ≤ 8
-    → length (cond b (groups_text (take run.start groups) ++ (58 ∷ 58 ∷ groups_text (drop (run.start + run.count) groups))) (groups_text groups)) ≤ 39
+    → length (cond b (groups_text (take run.start groups) ++ (58 ∷ 58 ∷ groups_text (drop (run.start + run.count) groups)))
+    (groups_text groups)) ≤ 39
 length_by_test groups run true test eight within = short_length groups run.start run.count eight within (leb-true 2 run.count test)
 length_by_test groups run false test eight within = omega (arith, groups_text_length groups)
 

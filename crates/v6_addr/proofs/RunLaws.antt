@@ -9,19 +9,22 @@ use Rattle.v6_addr.specs.Grammar.{IsZeroRun, IsLongestRun}
 run_behind : (g : ℕ) (gs : List ℕ) (start count : ℕ) → IsZeroRun gs start count → IsZeroRun (g ∷ gs) (suc start) count
 run_behind g gs start count run = (
   let inside = run.0 in omega arith,
-  λ k below. let sum : suc (start + k) ≡ suc start + k = omega arith in let P : ℕ → Type 0 = λ n. get_or (g ∷ gs) n 0 ≡ 0 in subst P sum (run.1 k below),
+  λ k below. let sum : suc (start + k) ≡ suc start + k = omega arith in let P : ℕ → Type 0 = λ n. get_or (g ∷ gs) n 0 ≡ 0 in
+      subst P sum (run.1 k below),
 )
 
 pub run_without : (g : ℕ) (gs : List ℕ) (start count : ℕ) → IsZeroRun (g ∷ gs) (suc start) count → IsZeroRun gs start count
 run_without g gs start count run = (
   let inside = run.0 in omega arith,
-  λ k below. let sum : suc start + k ≡ suc (start + k) = omega arith in let P : ℕ → Type 0 = λ n. get_or (g ∷ gs) n 0 ≡ 0 in subst P sum (run.1 k below),
+  λ k below. let sum : suc start + k ≡ suc (start + k) = omega arith in let P : ℕ → Type 0 = λ n. get_or (g ∷ gs) n 0 ≡ 0 in
+      subst P sum (run.1 k below),
 )
 
 front_each : (g : ℕ) (gs : List ℕ) (n : ℕ) → g ≡ 0 → IsZeroRun gs 0 n → (k : ℕ) → k < suc n → get_or (g ∷ gs) (0 + k) 0 ≡ 0
 front_each g gs n is_zero run zero below = is_zero
 front_each g gs n is_zero run (suc k) below =
-    let sum : suc (0 + k) ≡ 0 + suc k = omega arith in let P : ℕ → Type 0 = λ m. get_or (g ∷ gs) m 0 ≡ 0 in subst P sum (run.1 k (omega arith))
+    let sum : suc (0 + k) ≡ 0 + suc k = omega arith in let P : ℕ → Type 0 = λ m. get_or (g ∷ gs) m 0 ≡ 0 in
+    subst P sum (run.1 k (omega arith))
 
 front_more : (g : ℕ) (gs : List ℕ) (n : ℕ) → g ≡ 0 → IsZeroRun gs 0 n → IsZeroRun (g ∷ gs) 0 (suc n)
 front_more g gs n is_zero run = (let inside = run.0 in omega arith, front_each g gs n is_zero run)
@@ -29,7 +32,8 @@ front_more g gs n is_zero run = (let inside = run.0 in omega arith, front_each g
 pub front_without : (g : ℕ) (gs : List ℕ) (n : ℕ) → IsZeroRun (g ∷ gs) 0 (suc n) → IsZeroRun gs 0 n
 front_without g gs n run = (
   let inside = run.0 in omega arith,
-  λ k below. let sum : 0 + suc k ≡ suc (0 + k) = omega arith in let P : ℕ → Type 0 = λ m. get_or (g ∷ gs) m 0 ≡ 0 in subst P sum (run.1 (suc k) (omega arith)),
+  λ k below. let sum : 0 + suc k ≡ suc (0 + k) = omega arith in let P : ℕ → Type 0 = λ m. get_or (g ∷ gs) m 0 ≡ 0 in
+      subst P sum (run.1 (suc k) (omega arith)),
 )
 
 no_run : (gs : List ℕ) → IsZeroRun gs 0 0
@@ -57,7 +61,8 @@ front_most (g ∷ gs) (suc n) run =
 
 -- ---- the longest run
 
-longer_is : (g : ℕ) (gs : List ℕ) (here : ℕ) (behind : Run) (b : Bool) → leb behind.count here ≡ b → IsZeroRun (g ∷ gs) 0 here → ((n : ℕ) → IsZeroRun (g ∷ gs) 0 n → n ≤ here) → IsLongestRun gs behind
+longer_is : (g : ℕ) (gs : List ℕ) (here : ℕ) (behind : Run) (b : Bool) → leb behind.count here ≡ b → IsZeroRun (g ∷ gs) 0 here
+    → ((n : ℕ) → IsZeroRun (g ∷ gs) 0 n → n ≤ here) → IsLongestRun gs behind
     → IsLongestRun (g ∷ gs) (cond b (record { start = 0; count = here }) (record { start = suc behind.start; count = behind.count }))
 longer_is g gs here behind true test run most longest = record {
   zeros = run;
@@ -91,4 +96,5 @@ longest_run_is [] = record {
   first = λ start zeros. omega arith;
 }
 longest_run_is (g ∷ gs) =
-    longer_is g gs (leading_zeros (g ∷ gs)) (longest_run gs) (leb (longest_run gs).count (leading_zeros (g ∷ gs))) refl (front_zeros (g ∷ gs)) (front_most (g ∷ gs)) (longest_run_is gs)
+    longer_is g gs (leading_zeros (g ∷ gs)) (longest_run gs) (leb (longest_run gs).count (leading_zeros (g ∷ gs))) refl
+    (front_zeros (g ∷ gs)) (front_most (g ∷ gs)) (longest_run_is gs)

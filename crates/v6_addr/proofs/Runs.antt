@@ -27,16 +27,21 @@ no_runs groups =
 same_run : (a b c d : ℕ) → a ≡ c → b ≡ d → ◌≡◌ {A = Run} (record { start = a; count = b }) (record { start = c; count = d })
 same_run a b c d e f = ap (λ (n : ℕ). record { start = n; count = b }) e ∙ ap (λ (n : ℕ). record { start = c; count = n }) f
 
-step_run : (next i here start count start' count' : ℕ) (b : Bool) → next + 1 ≡ i → i ≤ start → start' ≡ cond b next start → count' ≡ cond b here count
-    → ◌≡◌ {A = Run} (cond b (record { start = 0; count = here }) (record { start = suc (start - i); count = count })) (record { start = start' - next; count = count' })
-step_run next i here start count start' count' true is_next at is_start is_count = same_run 0 here (start' - next) count' (omega arith) (sym is_count)
-step_run next i here start count start' count' false is_next at is_start is_count = same_run (suc (start - i)) count (start' - next) count' (omega arith) (sym is_count)
+step_run : (next i here start count start' count' : ℕ) (b : Bool) → next + 1 ≡ i → i ≤ start → start' ≡ cond b next start
+    → count' ≡ cond b here count
+    → ◌≡◌ {A = Run} (cond b (record { start = 0; count = here }) (record { start = suc (start - i); count = count }))
+    (record { start = start' - next; count = count' })
+step_run next i here start count start' count' true is_next at is_start is_count = same_run 0 here (start' - next) count' (omega arith)
+    (sym is_count)
+step_run next i here start count start' count' false is_next at is_start is_count = same_run (suc (start - i)) count (start' - next) count'
+    (omega arith) (sym is_count)
 
 step_at : (next i start start' : ℕ) (b : Bool) → next + 1 ≡ i → i ≤ start → start' ≡ cond b next start → next ≤ start'
 step_at next i start start' true is_next at is_start = omega arith
 step_at next i start start' false is_next at is_start = omega arith
 
-step_within : (next here start count start' count' all : ℕ) (b : Bool) → start' ≡ cond b next start → count' ≡ cond b here count → here + next ≤ all → start + count ≤ all → start' + count' ≤ all
+step_within : (next here start count start' count' all : ℕ) (b : Bool) → start' ≡ cond b next start → count' ≡ cond b here count
+    → here + next ≤ all → start + count ≤ all → start' + count' ≤ all
 step_within next here start count start' count' all true is_start is_count room within = omega arith
 step_within next here start count start' count' all false is_start is_count room within = omega arith
 
@@ -46,7 +51,8 @@ step_room next i here here' all false is_next is_here room = omega arith
 
 -- one group before
 pub runs_before : (groups : List ℕ) (i here start count next here' start' count' : ℕ) → next + 1 ≡ i → RunsFrom groups i here start count
-    → here' ≡ cond (eqb (get_or groups next 0) 0) (here + 1) 0 → start' ≡ cond (leb count here') next start → count' ≡ cond (leb count here') here' count
+    → here' ≡ cond (eqb (get_or groups next 0) 0) (here + 1) 0 → start' ≡ cond (leb count here') next start
+    → count' ≡ cond (leb count here') here' count
     → RunsFrom groups next here' start' count'
 unfolding leading_zeros longer_run longest_run
 runs_before groups i here start count next here' start' count' is_next runs is_here is_start is_count =
@@ -66,7 +72,9 @@ runs_before groups i here start count next here' start' count' is_next runs is_h
     }
 
 -- the run of all groups
-pub runs_all : (groups : List ℕ) (i here start count : ℕ) → i ≡ 0 → RunsFrom groups i here start count → record { start = start; count = count } ≡ longest_run groups
+pub runs_all : (groups : List ℕ) (i here start count : ℕ) → i ≡ 0 → RunsFrom groups i here start count
+    → record { start = start; count = count } ≡ longest_run groups
 runs_all groups i here start count none runs =
-    let whole = let P : ℕ → Type 0 = λ n. longest_run (drop n groups) ≡ record { start = start - n; count = count } in subst P none runs.longest in
+    let whole = let P : ℕ → Type 0 = λ n. longest_run (drop n groups) ≡ record { start = start - n; count = count } in
+    subst P none runs.longest in
     same_run start count (start - 0) count (omega arith) refl ∙ sym whole

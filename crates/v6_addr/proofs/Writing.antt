@@ -30,7 +30,8 @@ unfolding groups_text
 pushed_nothing old [] none = sym (append-nil old)
 pushed_nothing old (g ∷ gs) none = absurd (omega arith)
 
-pub written_out : (a start count : ℕ) (groups old new : List ℕ) → groups ≡ groups_of a → record { start = start; count = count } ≡ longest_run groups → count < 2
+pub written_out : (a start count : ℕ) (groups old new : List ℕ) → groups ≡ groups_of a
+    → record { start = start; count = count } ≡ longest_run groups → count < 2
     → old ≡ [] → new ≡ old ++ groups_text groups → new ≡ address_text a
 unfolding text_with_run address_text
 written_out a start count groups old new is_groups is_run short empty is_new =
@@ -39,21 +40,26 @@ written_out a start count groups old new is_groups is_run short empty is_new =
     ∙ ap (text_with_run groups) is_run
     ∙ ap (λ gs. text_with_run gs (longest_run gs)) is_groups
 
-pub written_short : (a start count : ℕ) (groups front back old one two three new : List ℕ) → groups ≡ groups_of a → record { start = start; count = count } ≡ longest_run groups
-    → 2 ≤ count → front ≡ take start groups → back ≡ drop (start + count) groups → old ≡ [] → one ≡ old ++ groups_text front → two ≡ one ++ 58 ∷ [] → three ≡ two ++ 58 ∷ []
+pub written_short : (a start count : ℕ) (groups front back old one two three new : List ℕ) → groups ≡ groups_of a
+    → record { start = start; count = count } ≡ longest_run groups
+    → 2 ≤ count → front ≡ take start groups → back ≡ drop (start + count) groups → old ≡ [] → one ≡ old ++ groups_text front
+    → two ≡ one ++ 58 ∷ [] → three ≡ two ++ 58 ∷ []
     → new ≡ three ++ groups_text back → new ≡ address_text a
 unfolding text_with_run address_text
-written_short a start count groups front back old one two three new is_groups is_run long is_front is_back empty is_one is_two is_three is_new =
+written_short a start count groups front back old one two three new is_groups is_run long is_front is_back empty is_one is_two is_three
+    is_new =
     let before : one ≡ groups_text (take start groups) = is_one ∙ ap (λ t. t ++ groups_text front) empty ∙ ap groups_text is_front in
     let colons : three ≡ groups_text (take start groups) ++ (58 ∷ 58 ∷ []) =
-    is_three ∙ ap (λ t. t ++ 58 ∷ []) (is_two ∙ ap (λ t. t ++ 58 ∷ []) before) ∙ append_assoc (groups_text (take start groups)) (58 ∷ []) (58 ∷ []) in
+    is_three ∙ ap (λ t. t ++ 58 ∷ []) (is_two ∙ ap (λ t. t ++ 58 ∷ []) before)
+    ∙ append_assoc (groups_text (take start groups)) (58 ∷ []) (58 ∷ []) in
     is_new ∙ ap (λ t. t ++ groups_text back) colons ∙ append_assoc (groups_text (take start groups)) (58 ∷ 58 ∷ []) (groups_text back)
     ∙ ap (λ t. groups_text (take start groups) ++ (58 ∷ 58 ∷ groups_text t)) is_back
     ∙ sym (cond-true _ _ _ (le-leb 2 count long))
     ∙ ap (text_with_run groups) is_run
     ∙ ap (λ gs. text_with_run gs (longest_run gs)) is_groups
 
-pub written_prefix : (p : PrefixValue) (value len : ℕ) (address old one two new : List ℕ) → value ≡ p.value → len ≡ p.len → address ≡ address_text value → old ≡ [] → one ≡ old ++ address
+pub written_prefix : (p : PrefixValue) (value len : ℕ) (address old one two new : List ℕ) → value ≡ p.value → len ≡ p.len
+    → address ≡ address_text value → old ≡ [] → one ≡ old ++ address
     → two ≡ one ++ 47 ∷ [] → new ≡ two ++ length_text len → new ≡ prefix_text p
 unfolding prefix_text
 written_prefix p value len address old one two new is_value is_len is_address empty is_one is_two is_new =

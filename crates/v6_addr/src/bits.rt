@@ -28,7 +28,8 @@ pub(crate) fn raised(a: u128, k: u8) -> u128
     if k == 128 { 0 } else { a << k }
 }
 
-/// The number in the `width` bits of an address from bit `at` on. Both count bits; bit 0 is the highest.
+/// The number in the `width` bits of an address from bit `at` on. Both count bits; bit 0 is the
+/// highest.
 #[tactic(auto, unfolding(crate::specs::Address::field_of))]
 pub fn field(a: Addr, at: u8, width: u8) -> u128
     requires some { 1 ≤ width }

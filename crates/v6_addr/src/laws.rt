@@ -3,14 +3,14 @@ ghost use Rattle.v6_addr.specs.Address.{PrefixValue, IsPrefix, Holds, holds_addr
 ghost use Rattle.v6_addr.specs.Text.{address_of_text, prefix_of_text, address_text, prefix_text, longest_run};
 ghost use Rattle.v6_addr.specs.Grammar.{IsAddressText, IsPrefixText, IsLongestRun};
 
-/// A law: an address's text is read exactly where the grammar of RFC 4291 section 2.2 without a dotted IPv4 tail has
-/// it, and so as one address at most.
+/// A law: an address's text is read exactly where the grammar of RFC 4291 section 2.2 without a
+/// dotted IPv4 tail has it, and so as one address at most.
 pub fn address_grammar()
     ensures { (text : List ℕ) (a : ℕ) → (address_of_text text ≡ Some a) ↔ IsAddressText text a }
 {}
 
-/// A law: the run of groups that `::` stands for is of groups that are 0, none is longer, and none as long begins
-/// earlier (RFC 5952 section 4.2.3).
+/// A law: the run of groups that `::` stands for is of groups that are 0, none is longer, and none
+/// as long begins earlier (RFC 5952 section 4.2.3).
 pub fn longest_run_rule()
     ensures { (groups : List ℕ) → IsLongestRun groups (longest_run groups) }
 {}
@@ -21,10 +21,11 @@ pub fn address_reads_back()
     ensures len { (a : ℕ) → length (address_text a) ≤ 39 }
 {}
 
-/// A law: a prefix's text is read exactly where the grammar of RFC 4291 section 2.3 has it with no bit set behind its
-/// length and no leading zeros (own rules), and so as one prefix at most.
+/// A law: a prefix's text is read exactly where the grammar of RFC 4291 section 2.3 has it with no
+/// bit set behind its length and no leading zeros (own rules), and so as one prefix at most.
 pub fn prefix_grammar()
-    ensures { (text : List ℕ) (p : PrefixValue) → (prefix_of_text text ≡ Some p) ↔ IsPrefixText text p }
+    ensures { (text : List ℕ) (p : PrefixValue)
+        → (prefix_of_text text ≡ Some p) ↔ IsPrefixText text p }
 {}
 
 /// A law: the text of a prefix has at most 43 bytes, and is read as that prefix.
@@ -33,14 +34,18 @@ pub fn prefix_reads_back()
     ensures len { (p : PrefixValue) → length (prefix_text p) ≤ 43 }
 {}
 
-/// Laws on what prefixes hold: a prefix holds its own address, and one of 128 bits no other; what a prefix holds is
-/// held by each prefix that it lies inside; of two prefixes that hold one address the shorter holds the other's, and
-/// two of one length are one.
+/// Laws on what prefixes hold: a prefix holds its own address, and one of 128 bits no other; what a
+/// prefix holds is held by each prefix that it lies inside; of two prefixes that hold one address
+/// the shorter holds the other's and all that the other holds, and two of one length are one.
 pub fn prefixes_nest()
     ensures own { (p : PrefixValue) → Holds p p.value }
     ensures whole { (p : PrefixValue) (a : ℕ) → p.len ≡ 128 → Holds p a ↔ (a ≡ p.value) }
-    ensures outer { (inner outer : PrefixValue) (a : ℕ) → IsInside inner outer → Holds inner a → Holds outer a }
-    ensures nested { (p q : PrefixValue) (a : ℕ) → p.len ≤ q.len → Holds p a → Holds q a → Holds p q.value }
+    ensures outer { (inner outer : PrefixValue) (a : ℕ) → IsInside inner outer → Holds inner a
+        → Holds outer a }
+    ensures nested { (p q : PrefixValue) (a : ℕ) → p.len ≤ q.len → Holds p a → Holds q a
+        → Holds p q.value }
+    ensures alike { (p q : PrefixValue) (a b : ℕ) → p.len ≤ q.len → Holds q a → Holds q b
+        → Holds p a → Holds p b }
     ensures same { (p q : PrefixValue) (a : ℕ) → IsPrefix p → IsPrefix q → p.len ≡ q.len
         → Holds p a → Holds q a → p.value ≡ q.value }
 {}
@@ -48,20 +53,23 @@ pub fn prefixes_nest()
 /// Laws on the tests of prefixes: each is true exactly where its fact holds.
 pub fn prefix_tests()
     ensures holds { (p : PrefixValue) (a : ℕ) → IsTrue (holds_address p a) ↔ Holds p a }
-    ensures inside { (inner outer : PrefixValue) → IsTrue (is_inside inner outer) ↔ IsInside inner outer }
+    ensures inside { (inner outer : PrefixValue)
+        → IsTrue (is_inside inner outer) ↔ IsInside inner outer }
 {}
 
-/// Laws on a field that is written: it is read back, each other field is as it was, the result is an address, and a
-/// prefix that ends before the field still holds it.
+/// Laws on a field that is written: it is read back, each other field is as it was, the result is
+/// an address, and a prefix that ends before the field still holds it.
 pub fn fields_apart()
     ensures same { (a at width v : ℕ) → at + width ≤ 128 → v < 2 ^ width
         → field_of (with_field_of a at width v) at width ≡ v }
-    ensures before { (a at width v other size : ℕ) → at + width ≤ 128 → v < 2 ^ width → other + size ≤ at
+    ensures before { (a at width v other size : ℕ) → at + width ≤ 128 → v < 2 ^ width
+        → other + size ≤ at
         → field_of (with_field_of a at width v) other size ≡ field_of a other size }
-    ensures behind { (a at width v other size : ℕ) → at + width ≤ 128 → v < 2 ^ width → at + width ≤ other
-        → other + size ≤ 128 → field_of (with_field_of a at width v) other size ≡ field_of a other size }
+    ensures behind { (a at width v other size : ℕ) → at + width ≤ 128 → v < 2 ^ width
+        → at + width ≤ other → other + size ≤ 128
+        → field_of (with_field_of a at width v) other size ≡ field_of a other size }
     ensures bound { (a at width v : ℕ) → at + width ≤ 128 → a < 2 ^ 128 → v < 2 ^ width
         → with_field_of a at width v < 2 ^ 128 }
-    ensures held { (p : PrefixValue) (a at width v : ℕ) → at + width ≤ 128 → v < 2 ^ width → p.len ≤ at
-        → Holds p a → Holds p (with_field_of a at width v) }
+    ensures held { (p : PrefixValue) (a at width v : ℕ) → at + width ≤ 128 → v < 2 ^ width
+        → p.len ≤ at → Holds p a → Holds p (with_field_of a at width v) }
 {}

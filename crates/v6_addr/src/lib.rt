@@ -1,10 +1,13 @@
-//! IPv6 addresses and prefixes, their bit fields and their texts (RFC 4291 section 2, RFC 5952 section 4).
+//! IPv6 addresses and prefixes, their bit fields and their texts (RFC 4291 section 2, RFC 5952
+//! section 4).
 //!
-//! Nothing here takes memory. An address is a number below 2 to the 128, and bit 0 is its highest bit.
+//! Nothing here takes memory. An address is a number below 2 to the 128, and bit 0 is its highest
+//! bit.
 #![tactic(auto)]
 
 mod address;
 mod bits;
+mod display;
 mod errors;
 mod groups;
 mod laws;

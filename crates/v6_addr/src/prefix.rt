@@ -5,8 +5,8 @@ use crate::address::Addr;
 use crate::bits::{high_bits, low_bits};
 use std::marker::Model;
 
-/// An IPv6 prefix (RFC 4291 section 2.3): an address and a length of at most 128 bits, where no bit past the
-/// length is set.
+/// An IPv6 prefix (RFC 4291 section 2.3): an address and a length of at most 128 bits, where no bit
+/// past the length is set.
 #[derive(Clone, Copy, Debug, PartialEq, Eq, PartialOrd, Ord, Hash)]
 pub struct Prefix {
     value: Addr,
@@ -24,8 +24,8 @@ impl Model for Prefix {
 }
 
 impl Prefix {
-    /// The prefix of an address and a length in bits. `None` exactly where the length is above 128 or a bit
-    /// past it is set.
+    /// The prefix of an address and a length in bits. `None` exactly where the length is above 128
+    /// or a bit past it is set.
     pub fn new(value: Addr, len: u8) -> Option<Prefix>
         ensures is_prefix { IsSome result ↔ IsPrefix (record { value = value.value; len = len }) }
         ensures value { IfSome result (λ p. p ≡ record { value = value.value; len = len }) }
@@ -52,7 +52,8 @@ impl Prefix {
         self.len
     }
 
-    /// Whether the address is in the prefix: both agree in the first bits, as many as the prefix's length.
+    /// Whether the address is in the prefix: both agree in the first bits, as many as the prefix's
+    /// length.
     pub fn holds(&self, a: Addr) -> bool
         ensures test { result ≡ holds_address self.now a.value }
         ensures fact { IsTrue result ↔ Holds self.now a.value }
@@ -61,7 +62,8 @@ impl Prefix {
         high_bits(a.value, behind) == high_bits(self.value.value, behind)
     }
 
-    /// Whether the prefix lies strictly inside another: it is longer, and the other holds its address.
+    /// Whether the prefix lies strictly inside another: it is longer, and the other holds its
+    /// address.
     pub fn inside(&self, outer: &Prefix) -> bool
         ensures test { result ≡ is_inside self.now outer.now }
         ensures fact { IsTrue result ↔ IsInside self.now outer.now }

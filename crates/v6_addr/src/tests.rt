@@ -1,6 +1,7 @@
 use crate::{Addr, BadAddr, field, parse_addr, parse_prefix, with_field, write_addr, write_prefix};
 use arrayvec::ArrayString;
 use std::process::Abort;
+use std::test::Fail;
 
 // Reads a text as this number, and writes the number as the other text.
 fn reads(rt: &impl Abort, text: &[u8], value: u128, written: &str) {
@@ -140,4 +141,20 @@ fn prefixes_and_fields(rt: HostRuntime) {
     } else {
         assert!(rt; false);
     }
+}
+
+#[test]
+fn an_address_in_a_line(rt: HostRuntime) -> Result<(), Fail> {
+    let address = Addr { value: 1 };
+    let line = format!(in rt.alloc(); "to {address}\n")?;
+    assert_eq!(rt; line.as_str(), "to ::1\n");
+    Ok(())
+}
+
+#[test]
+fn a_prefix_in_a_line(rt: HostRuntime) -> Result<(), Fail> {
+    let prefix = parse_prefix(b"2001:DB8::/32")?;
+    let line = format!(in rt.alloc(); "to {prefix}\n")?;
+    assert_eq!(rt; line.as_str(), "to 2001:db8::/32\n");
+    Ok(())
 }

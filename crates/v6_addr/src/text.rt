@@ -18,9 +18,10 @@ fn parse_value(text: &[u8]) -> Option<u128>
     }
 }
 
-/// The address that a text writes (RFC 4291 section 2.2): eight groups of one to four hexadecimal digits in either
-/// case, parted by colons, where `::` may stand once for one or more groups that are 0. No IPv4 address and no zone
-/// may stand at the end (own rule). `BadAddr` comes exactly where the text is another.
+/// The address that a text writes (RFC 4291 section 2.2): eight groups of one to four hexadecimal
+/// digits in either case, parted by colons, where `::` may stand once for one or more groups that
+/// are 0. No IPv4 address and no zone may stand at the end (own rule). `BadAddr` comes exactly
+/// where the text is another.
 pub fn parse_addr(text: &[u8]) -> Result<Addr, BadAddr>
     ensures { MatchResult result
         (λ address. address_of_text text.now ≡ Some address.value)
@@ -50,9 +51,9 @@ fn read_prefix(text: &[u8]) -> Option<Prefix>
     Prefix::new(Addr { value }, len)
 }
 
-/// The prefix that a text writes (RFC 4291 section 2.3): an address, a slash and a length, a decimal number of at
-/// most 128. The length has no leading zeros, and no bit past it is set (own rules). `BadAddr` comes exactly where
-/// the text is another.
+/// The prefix that a text writes (RFC 4291 section 2.3): an address, a slash and a length, a
+/// decimal number of at most 128. The length has no leading zeros, and no bit past it is set (own
+/// rules). `BadAddr` comes exactly where the text is another.
 pub fn parse_prefix(text: &[u8]) -> Result<Prefix, BadAddr>
     ensures { MatchResult result
         (λ prefix. prefix_of_text text.now ≡ Some prefix)

@@ -23,7 +23,7 @@ fn push_digit(out: &mut ArrayString<39>, digit: u16)
 }
 
 /// Appends a group in hexadecimal digits without leading zeros.
-#[tactic(auto, using(std::proofs::lemmas::Bool::Decides::nat_tests), unfolding(crate::specs::Text::group_text))]
+#[tactic(auto, using(crate::proofs::Cases::tests), unfolding(crate::specs::Text::group_text))]
 fn push_group(out: &mut ArrayString<39>, group: u16)
     requires { array_string_len out.old + 4 ≤ 39 }
     ensures bytes { out.new.bytes ≡ out.old.bytes ++ group_text group }
@@ -83,7 +83,8 @@ fn push_more_groups(out: &mut ArrayString<39>, groups: &[u16])
 fn push_groups(out: &mut ArrayString<39>, groups: &[u16])
     requires { array_string_len out.old + 5 * length groups.now ≤ 40 }
     ensures bytes { out.new.bytes ≡ out.old.bytes ++ groups_text groups.now }
-    ensures len { array_string_len out.new ≤ array_string_len out.old + (5 * length groups.now - 1) }
+    ensures len { array_string_len out.new
+        ≤ array_string_len out.old + (5 * length groups.now - 1) }
 {
     if let Some((first, rest)) = groups.split_first() {
         push_group(out, *first);
@@ -122,8 +123,9 @@ fn find_longest_run(groups: &[u16]) -> Run
     run
 }
 
-/// Writes the text of an address (RFC 5952 section 4): groups in lower case without leading zeros, with `::` for the
-/// longest run of two or more groups that are 0, the first among equals. `out` must be empty; it always has the room.
+/// Writes the text of an address (RFC 5952 section 4): groups in lower case without leading zeros,
+/// with `::` for the longest run of two or more groups that are 0, the first among equals. `out`
+/// must be empty; it always has the room.
 pub fn write_addr(out: &mut ArrayString<39>, a: Addr)
     requires { out.old.bytes ≡ [] }
     ensures { out.new.bytes ≡ address_text a.value }
@@ -141,7 +143,7 @@ pub fn write_addr(out: &mut ArrayString<39>, a: Addr)
 }
 
 /// Appends a prefix's length in decimal digits without leading zeros.
-#[tactic(auto, using(std::proofs::lemmas::Bool::Decides::nat_tests), unfolding(crate::specs::Text::length_text))]
+#[tactic(auto, using(crate::proofs::Cases::tests), unfolding(crate::specs::Text::length_text))]
 fn push_length(out: &mut ArrayString<43>, len: u8)
     requires { array_string_len out.old + 3 ≤ 43 }
     ensures { out.new.bytes ≡ out.old.bytes ++ length_text len }
@@ -160,8 +162,8 @@ fn push_length(out: &mut ArrayString<43>, len: u8)
     out.push(char::from(b'0' + len % 10));
 }
 
-/// Writes the text of a prefix (RFC 4291 section 2.3): the text of its address, a slash and its length in decimal
-/// digits. `out` must be empty; it always has the room.
+/// Writes the text of a prefix (RFC 4291 section 2.3): the text of its address, a slash and its
+/// length in decimal digits. `out` must be empty; it always has the room.
 pub fn write_prefix(out: &mut ArrayString<43>, p: &Prefix)
     requires { out.old.bytes ≡ [] }
     ensures { out.new.bytes ≡ prefix_text p.now }

@@ -1,5 +1,5 @@
 use Rattle.net_reader.specs.Description.{link_in}
-use Rattle.net_reader.proofs.Items.{HasRead}
+use Rattle.net_reader.proofs.PublicLaws.{HasRead}
 use Rattle.intent_reader.proofs.names.each_link_in.Given as goal
 
 abbrev pub invariant-loop-item : goal.invariant-loop-item

@@ -1,4 +1,4 @@
-use Rattle.net_reader.proofs.Items.{HasRead}
+use Rattle.net_reader.proofs.PublicLaws.{HasRead}
 use Rattle.intent_reader.specs.Document.{step_of}
 use Rattle.intent_reader.proofs.steps.each_step.Given as goal
 

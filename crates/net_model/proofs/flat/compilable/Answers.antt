@@ -9,12 +9,14 @@ use Rattle.net_model.proofs.flat.compilable.Goals as goal
 pub returns-clause-judged : goal.returns-clause-judged
 returns-clause-judged c =
     let parts = c.parts-parts.result.now in
-    let answer = c.first_nested.ensures ∙ ap (λ sids. first_nested (inner_entries (network_of parts)) (map sid_prefix sids)) c.as_slice.ensures.value ∙ ap flatness_of c.parts-parts.ensures in
+    let answer = c.first_nested.ensures ∙ ap (λ sids. first_nested (inner_entries (network_of parts)) (map sid_prefix sids))
+    c.as_slice.ensures.value ∙ ap flatness_of c.parts-parts.ensures in
     subst (IsJudged c.args.net.now) (sym answer) (flatness_judges c.args.net.now)
 
 pub returns-clause-flat : goal.returns-clause-flat
 returns-clause-flat c =
     let parts = c.parts-parts.result.now in
-    let answer = c.first_nested.ensures ∙ ap (λ sids. first_nested (inner_entries (network_of parts)) (map sid_prefix sids)) c.as_slice.ensures.value ∙ ap flatness_of c.parts-parts.ensures in
+    let answer = c.first_nested.ensures ∙ ap (λ sids. first_nested (inner_entries (network_of parts)) (map sid_prefix sids))
+    c.as_slice.ensures.value ∙ ap flatness_of c.parts-parts.ensures in
     let P : Result (Unit {0}) NotFlat → Type 0 = λ r. IsOk r ↔ IsFlat c.args.net.now in
     subst P (sym answer) (flatness_ok c.args.net.now)

@@ -11,9 +11,12 @@ returns c =
     let parts = c.args.parts.now in
     let node = c.args.node in
     let a = c.args.a.value in
-    let own = slice_get_read parts.nodes.items (length parts.nodes.items) node c.index-own.result.now refl c.requires.there c.index-own.ensures in
-    three_scans a (sid_entries node 0 parts.sids.items) (address_entries (slice_get parts.nodes.items node)) (route_entries node 0 0 parts.routes.items)
+    let own = slice_get_read parts.nodes.items (length parts.nodes.items) node c.index-own.result.now refl c.requires.there
+    c.index-own.ensures in
+    three_scans a (sid_entries node 0 parts.sids.items) (address_entries (slice_get parts.nodes.items node))
+    (route_entries node 0 0 parts.routes.items)
     (seen c.with_sids-by_sid.result) (seen c.with_address-by_address.result) (seen c.with_routes.result)
     (c.with_sids-by_sid.ensures ∙ ap (λ sids. longest a (sid_entries node 0 sids)) c.deref.ensures.value)
     (c.with_address-by_address.ensures ∙ ap (λ o. longer (seen c.with_sids-by_sid.result) (longest a (address_entries o))) (sym own))
-    (c.with_routes.ensures ∙ ap (λ routes. longer (seen c.with_address-by_address.result) (longest a (route_entries node 0 0 routes))) c.deref-2.ensures.value)
+    (c.with_routes.ensures ∙ ap (λ routes. longer (seen c.with_address-by_address.result) (longest a (route_entries node 0 0 routes)))
+    c.deref-2.ensures.value)

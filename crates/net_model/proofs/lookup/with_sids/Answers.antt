@@ -11,7 +11,8 @@ loop-rest-preserved c =
     let parts = first_and_more c.loop-rest.rest.now c.s-item.result c.in-len1-up.len_at_least c.s-item.is in
     record {
       place = omega (arith, ap length parts);
-      answer = sid_scan_more c.args.a.value c.args.node c.loop-rest.n c.s-item.result _ (seen c.loop-rest.found) (seen c.with_sid-found.result) c.with_sid-found.ensures
+      answer = sid_scan_more c.args.a.value c.args.node c.loop-rest.n c.s-item.result _ (seen c.loop-rest.found)
+          (seen c.with_sid-found.result) c.with_sid-found.ensures
           ∙ ap (λ xs. longer (seen c.loop-rest.found) (longest c.args.a.value (sid_entries c.args.node c.loop-rest.n xs))) (sym parts)
           ∙ c.loop-rest.invariant.answer;
     }

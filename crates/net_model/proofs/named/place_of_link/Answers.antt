@@ -5,4 +5,5 @@ use Rattle.net_model.proofs.named.place_of_link.Goals as goal
 
 pub returns-clause-meaning : goal.returns-clause-meaning
 returns-clause-meaning c =
-    subst (IsLinkNumbered c.args.name.now c.args.links.now) (sym c.first_link.ensures) (link_numbered_means c.args.name.now c.args.links.now)
+    subst (IsLinkNumbered c.args.name.now c.args.links.now) (sym c.first_link.ensures)
+    (link_numbered_means c.args.name.now c.args.links.now)

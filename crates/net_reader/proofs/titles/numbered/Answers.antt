@@ -10,6 +10,7 @@ loop-sid-preserved c =
     record {
       titles = c.in_ok-title.ensures.titles ∙ titles_more _ c.loop-sid.yielded c.in-Some.sid so_far.titles;
       entries =
-          c.in_ok-push.ensures.items ∙ entries_more _ _ c.loop-sid.yielded c.in-Some.sid _ so_far.entries so_far.titles c.in_ok-title.ensures.number;
+          c.in_ok-push.ensures.items ∙ entries_more _ _ c.loop-sid.yielded c.in-Some.sid _ so_far.entries so_far.titles
+          c.in_ok-title.ensures.number;
       few = omega (arith, simp length-append at (ap length c.in_ok-title.ensures.titles), length_push c.loop-sid.yielded c.in-Some.sid);
     }

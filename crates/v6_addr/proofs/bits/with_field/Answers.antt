@@ -8,16 +8,19 @@ raised-moved-requires-clause-fits c = raised_fits c.args.at c.args.width c.args.
 
 pub returns-clause-value : goal.returns-clause-value
 returns-clause-value c =
-    (edited_code c.args.a.value c.args.at c.args.width c.args.v _ _ _ c.requires.within (omega arith) c.requires.fits c.low_bits.ensures c.raised-moved.ensures c.low_bits-below.ensures).0
+    (edited_code c.args.a.value c.args.at c.args.width c.args.v _ _ _ c.requires.within
+    (omega arith) c.requires.fits c.low_bits.ensures c.raised-moved.ensures c.low_bits-below.ensures).0
 
 pub overflow_add-result-2 : goal.overflow_add-result-2
 overflow_add-result-2 c =
-    let whole = edited_code c.args.a.value c.args.at c.args.width c.args.v _ _ _ c.requires.within (omega arith) c.requires.fits c.low_bits.ensures c.raised-moved.ensures c.low_bits-below.ensures in
+    let whole = edited_code c.args.a.value c.args.at c.args.width c.args.v _ _ _ c.requires.within
+    (omega arith) c.requires.fits c.low_bits.ensures c.raised-moved.ensures c.low_bits-below.ensures in
     omega (arith, whole.1)
 
 pub overflow_add-result : goal.overflow_add-result
 overflow_add-result c =
-    let whole = edited_code c.args.a.value c.args.at c.args.width c.args.v _ _ _ c.requires.within (omega arith) c.requires.fits c.low_bits.ensures c.raised-moved.ensures c.low_bits-below.ensures in
+    let whole = edited_code c.args.a.value c.args.at c.args.width c.args.v _ _ _ c.requires.within
+    (omega arith) c.requires.fits c.low_bits.ensures c.raised-moved.ensures c.low_bits-below.ensures in
     omega (arith, whole.1)
 
 pub returns-clause-same : goal.returns-clause-same

@@ -11,7 +11,11 @@ overflow_mul-value c =
 
 pub overflow_add-value : goal.overflow_add-value
 overflow_add-value c =
-    omega (arith, more_fits c.loop-group.value c.from.result c.loop-group.group-index c.loop-group.invariant.bound (omega arith) (omega arith))
+    omega (
+      arith,
+      more_fits c.loop-group.value c.from.result c.loop-group.group-index c.loop-group.invariant.bound (omega arith)
+          (omega arith),
+    )
 
 pub loop-group-preserved : goal.loop-group-preserved
 loop-group-preserved c = more_groups _ _ _ _ c.loop-group-test.true c.loop-group.invariant c.from.ensures (omega arith)

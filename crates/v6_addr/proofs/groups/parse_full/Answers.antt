@@ -10,4 +10,5 @@ pub returns-then-len-ne8 : goal.returns-then-len-ne8
 returns-then-len-ne8 c = full_other _ _ c.len.result c.in_ok-groups.ensures c.len.ensures.value c.if-len-ne8.true
 
 pub returns : goal.returns
-returns c = full_reads _ _ c.len.result _ c.in_ok-groups.ensures c.len.ensures.value c.if-len-ne8.false (c.number.ensures.value ∙ ap number_of_groups c.as_slice.ensures.value)
+returns c = full_reads _ _ c.len.result _ c.in_ok-groups.ensures c.len.ensures.value c.if-len-ne8.false (c.number.ensures.value
+    ∙ ap number_of_groups c.as_slice.ensures.value)

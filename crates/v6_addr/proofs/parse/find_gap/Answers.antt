@@ -5,7 +5,8 @@ use Rattle.v6_addr.proofs.parse.find_gap.Goals as goal
 use Rattle.v6_addr.proofs.parse.find_gap.Goals.{else-text-i-eq58-via-then-text-i-eq58+else-text-i-eq58-2, else-text-i-eq58-via-else-text-i-eq58}
 
 pub returns-then-text-i-eq58-2-clause-value : goal.returns-then-text-i-eq58-2-clause-value
-returns-then-text-i-eq58-2-clause-value c = gap_found _ _ (omega arith) (omega arith) c.loop-i.invariant c.if-text-i-eq58.true c.if-text-i-eq58-2.true
+returns-then-text-i-eq58-2-clause-value c =
+    gap_found _ _ (omega arith) (omega arith) c.loop-i.invariant c.if-text-i-eq58.true c.if-text-i-eq58-2.true
 
 pub loop-i-preserved : goal.loop-i-preserved
 loop-i-preserved c =

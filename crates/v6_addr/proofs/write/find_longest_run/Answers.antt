@@ -10,14 +10,24 @@ loop-i-init c = no_runs c.args.groups.now
 pub loop-i-preserved-then-here-run : goal.loop-i-preserved-then-here-run
 loop-i-preserved-then-here-run c =
     let here : c.if-groups-i-eq0.here ≡ cond (eqb (get_or c.args.groups.now (c.loop-i.i - 1) 0) 0) (c.loop-i.here + 1) 0 =
-    elim c.if-groups-i-eq0.branch [ then-groups-i-eq0 w ↦ w.here-is ∙ sym (cond-true _ _ _ (eq-eqb _ _ w.if-groups-i-eq0.true)) | else-groups-i-eq0 w ↦ w.here-is ∙ sym (cond-false _ _ _ (ne_eqb _ _ w.if-groups-i-eq0.false)) ] in
+    elim c.if-groups-i-eq0.branch [
+      | then-groups-i-eq0 w ↦ w.here-is
+          ∙ sym (cond-true _ _ _ (eq-eqb _ _ w.if-groups-i-eq0.true))
+      | else-groups-i-eq0 w ↦ w.here-is
+          ∙ sym (cond-false _ _ _ (ne_eqb _ _ w.if-groups-i-eq0.false))
+    ] in
     let more = le-leb _ _ c.if-here-run.true in
     runs_before _ _ _ _ _ _ _ _ _ (omega arith) c.loop-i.invariant here (sym (cond-true _ _ _ more)) (sym (cond-true _ _ _ more))
 
 pub loop-i-preserved : goal.loop-i-preserved
 loop-i-preserved c =
     let here : c.if-groups-i-eq0.here ≡ cond (eqb (get_or c.args.groups.now (c.loop-i.i - 1) 0) 0) (c.loop-i.here + 1) 0 =
-    elim c.if-groups-i-eq0.branch [ then-groups-i-eq0 w ↦ w.here-is ∙ sym (cond-true _ _ _ (eq-eqb _ _ w.if-groups-i-eq0.true)) | else-groups-i-eq0 w ↦ w.here-is ∙ sym (cond-false _ _ _ (ne_eqb _ _ w.if-groups-i-eq0.false)) ] in
+    elim c.if-groups-i-eq0.branch [
+      | then-groups-i-eq0 w ↦ w.here-is
+          ∙ sym (cond-true _ _ _ (eq-eqb _ _ w.if-groups-i-eq0.true))
+      | else-groups-i-eq0 w ↦ w.here-is
+          ∙ sym (cond-false _ _ _ (ne_eqb _ _ w.if-groups-i-eq0.false))
+    ] in
     let less = lt-leb _ _ c.if-here-run.false in
     runs_before _ _ _ _ _ _ _ _ _ (omega arith) c.loop-i.invariant here (sym (cond-false _ _ _ less)) (sym (cond-false _ _ _ less))
 

@@ -9,4 +9,5 @@ returns-clause-best c =
     let node = c.args.node in
     let table = c.args.table in
     let a = c.args.a.value in
-    subst (IsBest net node table a) (sym (c.lookup_in.ensures ∙ ap (λ n. lookup_of n node table a) c.self.view_is)) (lookup_is_best net node table a)
+    subst (IsBest net node table a) (sym (c.lookup_in.ensures ∙ ap (λ n. lookup_of n node table a) c.self.view_is))
+    (lookup_is_best net node table a)
