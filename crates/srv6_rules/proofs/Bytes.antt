@@ -42,7 +42,8 @@ same_bytes (suc n) (x ∷ xs) (y ∷ ys) ex ey hx hy e =
     let below_ys = big_number-below n ys (All-tail (λ b. b < 2 ^ 8) y ys hy) in
     let e2 : x * 256 ^ n + big_from 0 n xs ≡ y * 256 ^ n + big_from 0 n ys = rw (big_from-cons 0 n x xs, big_from-cons 0 n y ys) at e in
     let both = same_from_place x (big_from 0 n xs) y (big_from 0 n ys) (256 ^ n) below_xs below_ys e2 in
-    let rest = same_bytes n xs ys (omega arith) (omega arith) (All-tail (λ b. b < 2 ^ 8) x xs hx) (All-tail (λ b. b < 2 ^ 8) y ys hy) both.1 in
+    let rest = same_bytes n xs ys (omega arith) (omega arith) (All-tail (λ b. b < 2 ^ 8) x xs hx)
+    (All-tail (λ b. b < 2 ^ 8) y ys hy) both.1 in
     cc (both.0, rest)
 
 -- the bytes of the number in the first n bytes are these bytes
@@ -113,7 +114,8 @@ pub four_bytes-number : (bytes : List ℕ) → 4 ≤ length bytes → All (λ b.
 unfolding four_number four_bytes
 four_bytes-number bytes h all = big_bytes-back 4 bytes h all
 
-pub address_bytes-number : (bytes : List ℕ) → 16 ≤ length bytes → All (λ b. b < 2 ^ 8) bytes → address_bytes (address_number bytes) ≡ take 16 bytes
+pub address_bytes-number : (bytes : List ℕ) → 16 ≤ length bytes → All (λ b. b < 2 ^ 8) bytes
+    → address_bytes (address_number bytes) ≡ take 16 bytes
 unfolding address_number address_bytes
 address_bytes-number bytes h all = big_bytes-back 16 bytes h all
 

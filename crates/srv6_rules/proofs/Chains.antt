@@ -1,11 +1,11 @@
 -- The chain of extension headers: how it goes on from each place, and where its headers lie.
-use Rattle.std.proofs.Common.{◌≡◌, ℕ, zero, suc, ◌+◌, ◌*◌, ◌^◌, ◌<◌, ◌≤◌, Bool, true, false, ◌==◌, nat_le, if◌then◌else◌, List, [], ◌∷◌, ◌++◌, length, take, drop, slice_index, All, Contains, refl, sym, ap, subst, ◌∙◌, arith, inl, inr, length-drop}
+use Rattle.std.proofs.Common.{◌≡◌, ℕ, zero, suc, ◌+◌, ◌*◌, ◌^◌, ◌<◌, ◌≤◌, Bool, true, false, ◌==◌, nat_le, if◌then◌else◌, List, [], ◌++◌, length, take, drop, slice_index, All, refl, sym, ap, subst, ◌∙◌, arith, ◌⊎◌, ◌||◌, inl, inr, length-drop}
 use Rattle.std.proofs.lemmas.List.{drop-drop, get_or-drop, get_or-take, length-append, length-take-le, take_at}
-use Rattle.std.proofs.lemmas.List.Elements.{All-nil, All-cons, All-contains, Contains-get_or, Contains-append_right, All-take, All-drop}
-use Rattle.std.proofs.lemmas.Bool.{cases_Bool, and_parts, and_from, leb-true, lt-leb, le-leb}
+use Rattle.std.proofs.lemmas.List.Elements.{All-nil, All-cons, All-take, All-drop}
+use Rattle.std.proofs.lemmas.Bool.{cases_Bool, or_cases, and_parts, and_from, eqb-true, leb-true, lt-leb, le-leb}
 use Rattle.srv6_rules.specs.Srh.{Srh, srh_spelling}
 use Rattle.srv6_rules.proofs.Headers.{length-srh_spelling}
-use Rattle.srv6_rules.specs.Chain.{Header, Chain, ChainEnd, Upper, Cut, LiesIn, fragment, routing, is_extension, extension_bytes, is_whole, behind, chain_within, chain_at, header_at, is_passed, first_processed, processed_in, at_end, FirstNotPassed, AtHeader, AtUpper, AtCut}
+use Rattle.srv6_rules.specs.Chain.{Header, Chain, Upper, Cut, LiesIn, hop_by_hop, routing, fragment, destination_options, is_extension, extension_bytes, is_whole, behind, chain_within, chain_at, chain_behind, header_at}
 
 -- ---- one header and what follows
 
@@ -16,10 +16,25 @@ went_on ext whole h kind at tail =
 
 within-suc : (more kind at : ℕ) (bytes : List ℕ)
     → chain_within (suc more) kind at bytes
-    ≡ went_on (is_extension kind) (is_whole kind bytes) (record { kind = kind; at = at; bytes = take (extension_bytes kind bytes) bytes }) kind at
+    ≡ went_on (is_extension kind) (is_whole kind bytes)
+    (record { kind = kind; at = at; bytes = take (extension_bytes kind bytes) bytes }) kind at
     (chain_within more (slice_index bytes 0) (at + extension_bytes kind bytes) (drop (extension_bytes kind bytes) bytes))
 unfolding chain_within went_on
 within-suc more kind at bytes = refl
+
+-- the values that name extension headers
+pub extension-kinds : (kind : ℕ) → is_extension kind ≡ true → (kind ≡ 0) ⊎ ((kind ≡ 43) ⊎ ((kind ≡ 44) ⊎ (kind ≡ 60)))
+extension-kinds kind e = elim (or_cases (kind == hop_by_hop)
+    ((kind == routing) || ((kind == fragment) || (kind == destination_options))) e) [
+      | inl options ↦ inl (eqb-true kind 0 options)
+      | inr others ↦ elim (or_cases (kind == routing) ((kind == fragment) || (kind == destination_options)) others) [
+        | inl route ↦ inr (inl (eqb-true kind 43 route))
+        | inr two ↦ elim (or_cases (kind == fragment) (kind == destination_options) two) [
+          | inl part ↦ inr (inr (inl (eqb-true kind 44 part)))
+          | inr last ↦ inr (inr (inr (eqb-true kind 60 last)))
+        ]
+      ]
+    ]
 
 -- an extension header has at least 8 bytes
 pub extension_bytes-least : (kind : ℕ) (bytes : List ℕ) → 8 ≤ extension_bytes kind bytes
@@ -53,7 +68,8 @@ went_on-tails true true h kind at one two same = ap (λ t. behind h t) (same ref
 went_on-tails true false h kind at one two same = refl
 went_on-tails false whole h kind at one two same = refl
 
-within-zero : (kind at : ℕ) (bytes : List ℕ) → chain_within zero kind at bytes ≡ record { headers = []; end = if is_extension kind then Cut else Upper kind at }
+within-zero : (kind at : ℕ) (bytes : List ℕ)
+    → chain_within zero kind at bytes ≡ record { headers = []; end = if is_extension kind then Cut else Upper kind at }
 unfolding chain_within
 within-zero kind at bytes = refl
 
@@ -61,17 +77,21 @@ within-at_end : (n kind at : ℕ) (bytes : List ℕ) → length bytes ≤ 0 → 
 within-at_end n kind at bytes h =
     within-zero kind at bytes
     ∙ sym (within-suc n kind at bytes
-    ∙ went_on-not_whole (is_extension kind) (is_whole kind bytes) (record { kind = kind; at = at; bytes = take (extension_bytes kind bytes) bytes }) kind at
-    (chain_within n (slice_index bytes 0) (at + extension_bytes kind bytes) (drop (extension_bytes kind bytes) bytes)) (short kind bytes (omega arith)))
+    ∙ went_on-not_whole (is_extension kind) (is_whole kind bytes)
+    (record { kind = kind; at = at; bytes = take (extension_bytes kind bytes) bytes }) kind at
+    (chain_within n (slice_index bytes 0) (at + extension_bytes kind bytes) (drop (extension_bytes kind bytes) bytes))
+    (short kind bytes (omega arith)))
 
-pub within-enough : (m n kind at : ℕ) (bytes : List ℕ) → length bytes ≤ m → length bytes ≤ n → chain_within m kind at bytes ≡ chain_within n kind at bytes
+pub within-enough : (m n kind at : ℕ) (bytes : List ℕ) → length bytes ≤ m → length bytes ≤ n
+    → chain_within m kind at bytes ≡ chain_within n kind at bytes
 within-enough zero zero kind at bytes hm hn = refl
 within-enough zero (suc n) kind at bytes hm hn = within-at_end n kind at bytes hm
 within-enough (suc m) zero kind at bytes hm hn = sym (within-at_end m kind at bytes hn)
 within-enough (suc m) (suc n) kind at bytes hm hn =
     let k : ℕ = extension_bytes kind bytes in
     let h : Header = record { kind = kind; at = at; bytes = take k bytes } in
-    let tails : is_whole kind bytes ≡ true → chain_within m (slice_index bytes 0) (at + k) (drop k bytes) ≡ chain_within n (slice_index bytes 0) (at + k) (drop k bytes) =
+    let tails : is_whole kind bytes ≡ true
+    → chain_within m (slice_index bytes 0) (at + k) (drop k bytes) ≡ chain_within n (slice_index bytes 0) (at + k) (drop k bytes) =
     λ e. let parts = is_whole-parts kind bytes e in
     let least = extension_bytes-least kind bytes in
     let len = length-drop k bytes in
@@ -82,7 +102,8 @@ within-enough (suc m) (suc n) kind at bytes hm hn =
     ∙ sym (within-suc n kind at bytes)
 
 -- the chain with any number of steps that is enough is the chain
-pub chain_at-within : (payload : List ℕ) (kind at n : ℕ) → length (drop at payload) ≤ n → chain_at payload kind at ≡ chain_within n kind at (drop at payload)
+pub chain_at-within : (payload : List ℕ) (kind at n : ℕ) → length (drop at payload) ≤ n
+    → chain_at payload kind at ≡ chain_within n kind at (drop at payload)
 unfolding chain_at
 chain_at-within payload kind at n h = within-enough (length (drop at payload)) n kind at (drop at payload) (omega arith) h
 
@@ -91,7 +112,7 @@ chain_at-within payload kind at n h = within-enough (length (drop at payload)) n
 chain_at-went_on : (payload : List ℕ) (kind at : ℕ)
     → chain_at payload kind at
     ≡ went_on (is_extension kind) (is_whole kind (drop at payload)) (header_at payload kind at) kind at
-    (chain_at payload (slice_index (drop at payload) 0) (at + extension_bytes kind (drop at payload)))
+    (chain_behind payload kind at)
 chain_at-went_on payload kind at =
     let bytes : List ℕ = drop at payload in
     let k : ℕ = extension_bytes kind bytes in
@@ -109,14 +130,15 @@ pub chain_at-goes_on : (payload : List ℕ) (kind at : ℕ)
     → chain_at payload kind at
     ≡ (if is_extension kind
     then (if is_whole kind (drop at payload)
-    then behind (header_at payload kind at) (chain_at payload (slice_index (drop at payload) 0) (at + extension_bytes kind (drop at payload)))
+    then behind (header_at payload kind at) (chain_behind payload kind at)
     else record { headers = []; end = Cut })
     else record { headers = []; end = Upper kind at })
 unfolding went_on
 chain_at-goes_on payload kind at = chain_at-went_on payload kind at
 
 -- a chain ends at an upper layer
-pub chain_at-upper : (payload : List ℕ) (kind at : ℕ) → is_extension kind ≡ false → chain_at payload kind at ≡ record { headers = []; end = Upper kind at }
+pub chain_at-upper : (payload : List ℕ) (kind at : ℕ) → is_extension kind ≡ false
+    → chain_at payload kind at ≡ record { headers = []; end = Upper kind at }
 chain_at-upper payload kind at e = chain_at-goes_on payload kind at ∙ rw e refl
 
 -- a chain ends at a header that is cut
@@ -127,21 +149,14 @@ chain_at-cut payload kind at e w = chain_at-goes_on payload kind at ∙ rw (e, w
 -- a chain goes on behind a whole header
 pub chain_at-header : (payload : List ℕ) (kind at : ℕ) → is_extension kind ≡ true → is_whole kind (drop at payload) ≡ true
     → chain_at payload kind at
-    ≡ behind (header_at payload kind at) (chain_at payload (slice_index (drop at payload) 0) (at + extension_bytes kind (drop at payload)))
+    ≡ behind (header_at payload kind at) (chain_behind payload kind at)
 chain_at-header payload kind at e w = chain_at-goes_on payload kind at ∙ rw (e, w) refl
-
-processed-went_on : (ext whole : Bool) (h : Header) (kind at : ℕ) (tail : Chain)
-    → processed_in (went_on ext whole h kind at tail)
-    ≡ (if ext then (if whole then (if is_passed h then processed_in tail else AtHeader h) else AtCut) else AtUpper kind at)
-unfolding went_on
-processed-went_on true true h kind at tail = refl
-processed-went_on true false h kind at tail = refl
-processed-went_on false whole h kind at tail = refl
 
 -- ---- where headers lie
 
 went_on-all : (P : Header → Type 0) (ext whole : Bool) (h : Header) (kind at : ℕ) (tail : Chain)
-    → (ext ≡ true → whole ≡ true → P h) → (ext ≡ true → whole ≡ true → All P tail.headers) → All P (went_on ext whole h kind at tail).headers
+    → (ext ≡ true → whole ≡ true → P h) → (ext ≡ true → whole ≡ true → All P tail.headers)
+    → All P (went_on ext whole h kind at tail).headers
 unfolding went_on
 went_on-all P true true h kind at tail first more = All-cons P h tail.headers (first refl refl) (more refl refl)
 went_on-all P true false h kind at tail first more = All-nil P
@@ -152,7 +167,8 @@ extension_bytes-take : (kind n : ℕ) (bytes : List ℕ) → 1 < n → extension
 extension_bytes-take kind n bytes h = rw (get_or-take n bytes 1 0 h) refl
 
 -- the header at a place lies in the payload
-pub header_at-lies : (payload : List ℕ) (kind at : ℕ) → is_extension kind ≡ true → is_whole kind (drop at payload) ≡ true → LiesIn payload (header_at payload kind at)
+pub header_at-lies : (payload : List ℕ) (kind at : ℕ) → is_extension kind ≡ true → is_whole kind (drop at payload) ≡ true
+    → LiesIn payload (header_at payload kind at)
 header_at-lies payload kind at e w =
     let bytes : List ℕ = drop at payload in
     let n : ℕ = extension_bytes kind bytes in
@@ -169,7 +185,9 @@ header_at-lies payload kind at e w =
     }
 
 within-lies : (fuel kind at : ℕ) (payload : List ℕ) → All (LiesIn payload) (chain_within fuel kind at (drop at payload)).headers
-within-lies zero kind at payload = let Q : Chain → Type 0 = λ c. All (LiesIn payload) c.headers in subst Q (sym (within-zero kind at (drop at payload))) (All-nil (LiesIn payload))
+within-lies zero kind at payload =
+    let Q : Chain → Type 0 = λ c. All (LiesIn payload) c.headers in
+    subst Q (sym (within-zero kind at (drop at payload))) (All-nil (LiesIn payload))
 within-lies (suc more) kind at payload =
     let bytes : List ℕ = drop at payload in
     let k : ℕ = extension_bytes kind bytes in
@@ -193,7 +211,8 @@ lies-bytes payload h lies all =
     subst Q (sym lies.bytes) (All-take P (length h.bytes) (drop h.at payload) (All-drop P h.at payload all))
 
 -- a byte of a header is the payload's at its place
-pub lies-at : (payload : List ℕ) (h : Header) (k : ℕ) → LiesIn payload h → k < length h.bytes → slice_index h.bytes k ≡ slice_index payload (h.at + k)
+pub lies-at : (payload : List ℕ) (h : Header) (k : ℕ) → LiesIn payload h → k < length h.bytes
+    → slice_index h.bytes k ≡ slice_index payload (h.at + k)
 lies-at payload h k lies below =
     ap (λ xs. slice_index xs k) lies.bytes ∙ get_or-take (length h.bytes) (drop h.at payload) k 0 below ∙ get_or-drop h.at payload k 0
 
@@ -211,8 +230,10 @@ lies-stated payload h lies =
 StandsFrom : List ℕ → ℕ → ℕ → ℕ → Type 0
 StandsFrom payload from kind at = (is_extension kind ≡ false) × (from ≤ at) × (at ≤ length payload)
 
-went_on-upper : (payload : List ℕ) (ext whole : Bool) (h : Header) (kind at k a : ℕ) (tail : Chain) → is_extension kind ≡ ext → at ≤ length payload
-    → (ext ≡ true → whole ≡ true → tail.end ≡ Upper k a → StandsFrom payload at k a) → (went_on ext whole h kind at tail).end ≡ Upper k a → StandsFrom payload at k a
+went_on-upper : (payload : List ℕ) (ext whole : Bool) (h : Header) (kind at k a : ℕ) (tail : Chain) → is_extension kind ≡ ext
+    → at ≤ length payload
+    → (ext ≡ true → whole ≡ true → tail.end ≡ Upper k a → StandsFrom payload at k a) → (went_on ext whole h kind at tail).end ≡ Upper k a
+    → StandsFrom payload at k a
 unfolding went_on StandsFrom
 went_on-upper payload true true h kind at k a tail e start more is = more refl refl is
 went_on-upper payload true false h kind at k a tail e start more is = cc
@@ -230,18 +251,22 @@ ended-upper payload false kind at k a e start is =
     let place : at ≡ a = cc in
     (ap (λ n. is_extension n) (sym named) ∙ e, omega arith, omega arith)
 
-stands-before : (payload : List ℕ) (from later kind at : ℕ) → from ≤ later → StandsFrom payload later kind at → StandsFrom payload from kind at
+stands-before : (payload : List ℕ) (from later kind at : ℕ) → from ≤ later → StandsFrom payload later kind at
+    → StandsFrom payload from kind at
 unfolding StandsFrom
 stands-before payload from later kind at h s = (s.0, omega arith, s.2)
 
-within-upper : (fuel kind at k a : ℕ) (payload : List ℕ) → at ≤ length payload → (chain_within fuel kind at (drop at payload)).end ≡ Upper k a → StandsFrom payload at k a
+within-upper : (fuel kind at k a : ℕ) (payload : List ℕ) → at ≤ length payload
+    → (chain_within fuel kind at (drop at payload)).end ≡ Upper k a → StandsFrom payload at k a
 within-upper zero kind at k a payload start is =
-    ended-upper payload (is_extension kind) kind at k a refl start (sym (ap (λ (c : Chain). c.end) (within-zero kind at (drop at payload))) ∙ is)
+    ended-upper payload (is_extension kind) kind at k a refl start
+    (sym (ap (λ (c : Chain). c.end) (within-zero kind at (drop at payload))) ∙ is)
 within-upper (suc more) kind at k a payload start is =
     let bytes : List ℕ = drop at payload in
     let n : ℕ = extension_bytes kind bytes in
     let moved : drop n bytes ≡ drop (at + n) payload = drop-drop n at payload in
-    let tail : is_extension kind ≡ true → is_whole kind bytes ≡ true → (chain_within more (slice_index bytes 0) (at + n) (drop n bytes)).end ≡ Upper k a → StandsFrom payload at k a =
+    let tail : is_extension kind ≡ true → is_whole kind bytes ≡ true
+    → (chain_within more (slice_index bytes 0) (at + n) (drop n bytes)).end ≡ Upper k a → StandsFrom payload at k a =
     λ e w t.
     let lies = header_at-lies payload kind at e w in
     let parts = is_whole-parts kind bytes w in
@@ -259,108 +284,13 @@ pub chain_at-upper_stands : (payload : List ℕ) (kind at k a : ℕ) → at ≤ 
 unfolding chain_at StandsFrom
 chain_at-upper_stands payload kind at k a start is = within-upper (length (drop at payload)) kind at k a payload start is
 
--- ---- what is processed
-
-processed-not_end : (end : ChainEnd) (h : Header) → at_end end ≡ AtHeader h → ⊥
-processed-not_end (Upper kind at) h e = cc
-processed-not_end Cut h e = cc
-
-first-header-by : (x : Header) (hs : List Header) (end : ChainEnd) (h : Header) (passed : Bool) → is_passed x ≡ passed
-    → (if passed then first_processed hs end else AtHeader x) ≡ AtHeader h → (first_processed hs end ≡ AtHeader h → FirstNotPassed hs h) → FirstNotPassed (x ∷ hs) h
-first-header-by x hs end h true is e more =
-    let m = more e in
-    record {
-      before = x ∷ m.before;
-      after = m.after;
-      split = ap (λ xs. x ∷ xs) m.split;
-      passed = All-cons (λ y. is_passed y ≡ true) x m.before is m.passed;
-      stays = m.stays;
-    }
-first-header-by x hs end h false is e more =
-    let same : x ≡ h = cc in
-    record {
-      before = [];
-      after = hs;
-      split = ap (λ y. y ∷ hs) same;
-      passed = All-nil (λ y. is_passed y ≡ true);
-      stays = ap (λ y. is_passed y) (sym same) ∙ is;
-    }
-
--- the header that is processed is the first that is not passed over
-pub first-header : (hs : List Header) (end : ChainEnd) (h : Header) → first_processed hs end ≡ AtHeader h → FirstNotPassed hs h
-first-header [] end h e = absurd (processed-not_end end h e)
-first-header (x ∷ hs) end h e = first-header-by x hs end h (is_passed x) refl e (first-header hs end h)
-
-first-upper-by : (x : Header) (hs : List Header) (end : ChainEnd) (k a : ℕ) (passed : Bool) → is_passed x ≡ passed
-    → (if passed then first_processed hs end else AtHeader x) ≡ AtUpper k a
-    → (first_processed hs end ≡ AtUpper k a → All (λ y. is_passed y ≡ true) hs × (end ≡ Upper k a)) → All (λ y. is_passed y ≡ true) (x ∷ hs) × (end ≡ Upper k a)
-first-upper-by x hs end k a true is e more = let m = more e in (All-cons (λ y. is_passed y ≡ true) x hs is m.0, m.1)
-first-upper-by x hs end k a false is e more = cc
-
-first-upper-end : (end : ChainEnd) (k a : ℕ) → at_end end ≡ AtUpper k a → end ≡ Upper k a
-first-upper-end (Upper kind at) k a e = cc
-first-upper-end Cut k a e = cc
-
--- an upper layer is processed where each header is passed over
-pub first-upper : (hs : List Header) (end : ChainEnd) (k a : ℕ) → first_processed hs end ≡ AtUpper k a → All (λ y. is_passed y ≡ true) hs × (end ≡ Upper k a)
-first-upper [] end k a e = (All-nil (λ y. is_passed y ≡ true), first-upper-end end k a e)
-first-upper (x ∷ hs) end k a e = first-upper-by x hs end k a (is_passed x) refl e (first-upper hs end k a)
-
-first-cut-by : (x : Header) (hs : List Header) (end : ChainEnd) (passed : Bool) → is_passed x ≡ passed
-    → (if passed then first_processed hs end else AtHeader x) ≡ AtCut
-    → (first_processed hs end ≡ AtCut → All (λ y. is_passed y ≡ true) hs × (end ≡ Cut)) → All (λ y. is_passed y ≡ true) (x ∷ hs) × (end ≡ Cut)
-first-cut-by x hs end true is e more = let m = more e in (All-cons (λ y. is_passed y ≡ true) x hs is m.0, m.1)
-first-cut-by x hs end false is e more = cc
-
-first-cut-end : (end : ChainEnd) → at_end end ≡ AtCut → end ≡ Cut
-first-cut-end (Upper kind at) e = cc
-first-cut-end Cut e = refl
-
-pub first-cut : (hs : List Header) (end : ChainEnd) → first_processed hs end ≡ AtCut → All (λ y. is_passed y ≡ true) hs × (end ≡ Cut)
-first-cut [] end e = (All-nil (λ y. is_passed y ≡ true), first-cut-end end e)
-first-cut (x ∷ hs) end e = first-cut-by x hs end (is_passed x) refl e (first-cut hs end)
-
--- what is processed of a chain, from each place on
-pub processed-goes_on : (payload : List ℕ) (kind at : ℕ)
-    → processed_in (chain_at payload kind at)
-    ≡ (if is_extension kind
-    then (if is_whole kind (drop at payload)
-    then (if is_passed (header_at payload kind at)
-    then processed_in (chain_at payload (slice_index (drop at payload) 0) (at + extension_bytes kind (drop at payload)))
-    else AtHeader (header_at payload kind at))
-    else AtCut)
-    else AtUpper kind at)
-processed-goes_on payload kind at =
-    ap (λ c. processed_in c) (chain_at-went_on payload kind at)
-    ∙ processed-went_on (is_extension kind) (is_whole kind (drop at payload)) (header_at payload kind at) kind at
-    (chain_at payload (slice_index (drop at payload) 0) (at + extension_bytes kind (drop at payload)))
-
--- the first that is not passed over is one of the headers
-pub first-contained : (hs : List Header) (h : Header) → FirstNotPassed hs h → Contains hs h
-first-contained hs h f =
-    let here : Contains (h ∷ f.after) h = Contains-get_or (h ∷ f.after) 0 h (omega arith) in
-    let Q : List Header → Type 0 = λ xs. Contains xs h in
-    subst Q (sym f.split) (Contains-append_right f.before (h ∷ f.after) h here)
-
--- the header that is processed lies in the payload, and is not passed over
-pub processed-lies : (payload : List ℕ) (kind at : ℕ) (h : Header) → processed_in (chain_at payload kind at) ≡ AtHeader h → LiesIn payload h × (is_passed h ≡ false)
-processed-lies payload kind at h e =
-    let c : Chain = chain_at payload kind at in
-    let f = first-header c.headers c.end h e in
-    (All-contains (LiesIn payload) c.headers h (chain_at-lies payload kind at) (first-contained c.headers h f), f.stays)
-
--- the upper layer that is processed stands in the payload or at its end
-pub processed-upper_stands : (payload : List ℕ) (kind at k a : ℕ) → at ≤ length payload → processed_in (chain_at payload kind at) ≡ AtUpper k a
-    → (is_extension k ≡ false) × (at ≤ a) × (a ≤ length payload)
-processed-upper_stands payload kind at k a start e =
-    let c : Chain = chain_at payload kind at in
-    chain_at-upper_stands payload kind at k a start (first-upper c.headers c.end k a e).1
-
 -- ---- a header that was spelled
 
 -- the chain from a place where a segment routing header was spelled
-pub chain_at-spelled : (payload : List ℕ) (at : ℕ) (s : Srh) (rest : List ℕ) → length s.body ≡ 8 * s.extension_len → drop at payload ≡ srh_spelling s ++ rest
-    → chain_at payload routing at ≡ behind (record { kind = routing; at = at; bytes = srh_spelling s }) (chain_at payload s.next_header (at + length (srh_spelling s)))
+pub chain_at-spelled : (payload : List ℕ) (at : ℕ) (s : Srh) (rest : List ℕ) → length s.body ≡ 8 * s.extension_len
+    → drop at payload ≡ srh_spelling s ++ rest
+    → chain_at payload routing at ≡ behind (record { kind = routing; at = at; bytes = srh_spelling s })
+    (chain_at payload s.next_header (at + length (srh_spelling s)))
 chain_at-spelled payload at s rest body there =
     let len = length-srh_spelling s in
     let whole_len = length-append (srh_spelling s) rest in
@@ -368,11 +298,15 @@ chain_at-spelled payload at s rest body there =
     let all : length (drop at payload) ≡ length (srh_spelling s) + length rest = ap length there ∙ whole_len in
     let whole : is_whole routing (drop at payload) ≡ true =
     and_from (nat_le 8 (length (drop at payload))) (nat_le (extension_bytes routing (drop at payload)) (length (drop at payload)))
-    (le-leb 8 (length (drop at payload)) (omega arith)) (le-leb (extension_bytes routing (drop at payload)) (length (drop at payload)) (omega arith)) in
+    (le-leb 8 (length (drop at payload)) (omega arith))
+    (le-leb (extension_bytes routing (drop at payload)) (length (drop at payload)) (omega arith)) in
     let bytes : take (extension_bytes routing (drop at payload)) (drop at payload) ≡ srh_spelling s =
-    ap (λ n. take n (drop at payload)) stated ∙ ap (take (length (srh_spelling s))) there ∙ take_at (srh_spelling s) rest (length (srh_spelling s)) refl in
+    ap (λ n. take n (drop at payload)) stated ∙ ap (take (length (srh_spelling s))) there
+    ∙ take_at (srh_spelling s) rest (length (srh_spelling s)) refl in
     let next : slice_index (drop at payload) 0 ≡ s.next_header = ap (λ xs. slice_index xs 0) there in
     chain_at-header payload routing at refl whole
-    ∙ ap (λ xs. behind (record { kind = routing; at = at; bytes = xs }) (chain_at payload (slice_index (drop at payload) 0) (at + extension_bytes routing (drop at payload)))) bytes
-    ∙ ap (λ k. behind (record { kind = routing; at = at; bytes = srh_spelling s }) (chain_at payload k (at + extension_bytes routing (drop at payload)))) next
+    ∙ ap (λ xs. behind (record { kind = routing; at = at; bytes = xs })
+    (chain_at payload (slice_index (drop at payload) 0) (at + extension_bytes routing (drop at payload)))) bytes
+    ∙ ap (λ k. behind (record { kind = routing; at = at; bytes = srh_spelling s })
+    (chain_at payload k (at + extension_bytes routing (drop at payload)))) next
     ∙ ap (λ n. behind (record { kind = routing; at = at; bytes = srh_spelling s }) (chain_at payload s.next_header (at + n))) stated

@@ -7,7 +7,8 @@ use Rattle.srv6_rules.proofs.Packets.{laid, drop4-laid, drop8-laid, drop24-laid,
 
 -- ---- bytes that are laid out, with a part changed
 
-set7-laid : (a b : List ℕ) (n h : ℕ) (s d r : List ℕ) (x : ℕ) → length a ≡ 4 → length b ≡ 2 → slice_set (laid a b n h s d r) 7 x ≡ laid a b n x s d r
+set7-laid : (a b : List ℕ) (n h : ℕ) (s d r : List ℕ) (x : ℕ) → length a ≡ 4 → length b ≡ 2
+    → slice_set (laid a b n h s d r) 7 x ≡ laid a b n x s d r
 unfolding laid
 set7-laid a b n h s d r x la lb =
     set-append_right a (b ++ (n ∷ h ∷ (s ++ (d ++ r)))) 4 7 x la (omega arith)
@@ -17,7 +18,8 @@ front24-laid : (a b : List ℕ) (n h : ℕ) (s d r : List ℕ) → laid a b n h 
 unfolding laid
 front24-laid a b n h s d r = simp append_assoc
 
-take24-laid : (a b : List ℕ) (n h : ℕ) (s d r : List ℕ) → length a ≡ 4 → length b ≡ 2 → length s ≡ 16 → take 24 (laid a b n h s d r) ≡ a ++ (b ++ (n ∷ h ∷ s))
+take24-laid : (a b : List ℕ) (n h : ℕ) (s d r : List ℕ) → length a ≡ 4 → length b ≡ 2 → length s ≡ 16
+    → take 24 (laid a b n h s d r) ≡ a ++ (b ++ (n ∷ h ∷ s))
 take24-laid a b n h s d r la lb ls =
     ap (take 24) (front24-laid a b n h s d r) ∙ take_at (a ++ (b ++ (n ∷ h ∷ s))) (d ++ r) 24 (simp length-append (omega arith))
 
@@ -32,29 +34,45 @@ pub spelling-word : (p : Packet) → take 4 (spelling p) ≡ four_bytes (first_w
 unfolding laid
 spelling-word p =
     ap (take 4) (spelling-laid_alone p)
-    ∙ take_at (four_bytes (first_word p.traffic_class p.flow_label)) (two_bytes (length p.payload) ++ (p.next_header ∷ p.hop_limit ∷ (address_bytes p.source ++ (address_bytes p.destination ++ p.payload)))) 4
+    ∙ take_at (four_bytes (first_word p.traffic_class p.flow_label))
+    (two_bytes (length p.payload) ++
+    (p.next_header ∷ p.hop_limit ∷ (address_bytes p.source ++ (address_bytes p.destination ++ p.payload)))) 4
     (length-four_bytes (first_word p.traffic_class p.flow_label))
 
 pub spelling-stated : (p : Packet) → take 2 (drop 4 (spelling p)) ≡ two_bytes (length p.payload)
 spelling-stated p =
     ap (λ xs. take 2 (drop 4 xs)) (spelling-laid_alone p)
-    ∙ ap (take 2) (drop4-laid (four_bytes (first_word p.traffic_class p.flow_label)) (two_bytes (length p.payload)) p.next_header p.hop_limit (address_bytes p.source) (address_bytes p.destination) p.payload (length-four_bytes (first_word p.traffic_class p.flow_label)) (length-two_bytes (length p.payload)) (length-address_bytes p.source) (length-address_bytes p.destination))
-    ∙ take_at (two_bytes (length p.payload)) (p.next_header ∷ p.hop_limit ∷ (address_bytes p.source ++ (address_bytes p.destination ++ p.payload))) 2 (length-two_bytes (length p.payload))
+    ∙ ap (take 2) (drop4-laid (four_bytes (first_word p.traffic_class p.flow_label))
+    (two_bytes (length p.payload)) p.next_header p.hop_limit (address_bytes p.source) (address_bytes p.destination) p.payload
+    (length-four_bytes (first_word p.traffic_class p.flow_label)) (length-two_bytes (length p.payload)) (length-address_bytes p.source)
+    (length-address_bytes p.destination))
+    ∙ take_at (two_bytes (length p.payload))
+    (p.next_header ∷ p.hop_limit ∷ (address_bytes p.source ++ (address_bytes p.destination ++ p.payload))) 2
+    (length-two_bytes (length p.payload))
 
 pub spelling-next_header : (p : Packet) → slice_index (spelling p) 6 ≡ p.next_header
 spelling-next_header p =
-    ap (λ xs. slice_index xs 6) (spelling-laid_alone p) ∙ six-laid (four_bytes (first_word p.traffic_class p.flow_label)) (two_bytes (length p.payload)) p.next_header p.hop_limit (address_bytes p.source) (address_bytes p.destination) p.payload (length-four_bytes (first_word p.traffic_class p.flow_label)) (length-two_bytes (length p.payload)) (length-address_bytes p.source) (length-address_bytes p.destination)
+    ap (λ xs. slice_index xs 6) (spelling-laid_alone p)
+    ∙ six-laid (four_bytes (first_word p.traffic_class p.flow_label)) (two_bytes (length p.payload)) p.next_header p.hop_limit
+    (address_bytes p.source) (address_bytes p.destination) p.payload (length-four_bytes (first_word p.traffic_class p.flow_label))
+    (length-two_bytes (length p.payload)) (length-address_bytes p.source) (length-address_bytes p.destination)
 
 pub spelling-source : (p : Packet) → take 16 (drop 8 (spelling p)) ≡ address_bytes p.source
 spelling-source p =
     ap (λ xs. take 16 (drop 8 xs)) (spelling-laid_alone p)
-    ∙ ap (take 16) (drop8-laid (four_bytes (first_word p.traffic_class p.flow_label)) (two_bytes (length p.payload)) p.next_header p.hop_limit (address_bytes p.source) (address_bytes p.destination) p.payload (length-four_bytes (first_word p.traffic_class p.flow_label)) (length-two_bytes (length p.payload)) (length-address_bytes p.source) (length-address_bytes p.destination))
+    ∙ ap (take 16) (drop8-laid (four_bytes (first_word p.traffic_class p.flow_label))
+    (two_bytes (length p.payload)) p.next_header p.hop_limit (address_bytes p.source) (address_bytes p.destination) p.payload
+    (length-four_bytes (first_word p.traffic_class p.flow_label)) (length-two_bytes (length p.payload)) (length-address_bytes p.source)
+    (length-address_bytes p.destination))
     ∙ take_at (address_bytes p.source) (address_bytes p.destination ++ p.payload) 16 (length-address_bytes p.source)
 
 pub spelling-destination : (p : Packet) → take 16 (drop 24 (spelling p)) ≡ address_bytes p.destination
 spelling-destination p =
     ap (λ xs. take 16 (drop 24 xs)) (spelling-laid_alone p)
-    ∙ ap (take 16) (drop24-laid (four_bytes (first_word p.traffic_class p.flow_label)) (two_bytes (length p.payload)) p.next_header p.hop_limit (address_bytes p.source) (address_bytes p.destination) p.payload (length-four_bytes (first_word p.traffic_class p.flow_label)) (length-two_bytes (length p.payload)) (length-address_bytes p.source) (length-address_bytes p.destination))
+    ∙ ap (take 16) (drop24-laid (four_bytes (first_word p.traffic_class p.flow_label))
+    (two_bytes (length p.payload)) p.next_header p.hop_limit (address_bytes p.source) (address_bytes p.destination) p.payload
+    (length-four_bytes (first_word p.traffic_class p.flow_label)) (length-two_bytes (length p.payload)) (length-address_bytes p.source)
+    (length-address_bytes p.destination))
     ∙ take_at (address_bytes p.destination) p.payload 16 (length-address_bytes p.destination)
 
 pub spelling-behind : (p : Packet) → drop 40 (spelling p) ≡ p.payload
@@ -65,17 +83,23 @@ spelling-behind p = drop_at (header_spelling p) p.payload 40 (length-header_spel
 pub edit-hop_limit : (p : Packet) (x : ℕ) → spelling (record p { hop_limit = x }) ≡ slice_set (spelling p) 7 x
 edit-hop_limit p x =
     spelling-laid_alone (record p { hop_limit = x })
-    ∙ sym (set7-laid (four_bytes (first_word p.traffic_class p.flow_label)) (two_bytes (length p.payload)) p.next_header p.hop_limit (address_bytes p.source) (address_bytes p.destination) p.payload x (length-four_bytes (first_word p.traffic_class p.flow_label)) (length-two_bytes (length p.payload)))
+    ∙ sym (set7-laid (four_bytes (first_word p.traffic_class p.flow_label)) (two_bytes (length p.payload)) p.next_header p.hop_limit
+    (address_bytes p.source) (address_bytes p.destination) p.payload x (length-four_bytes (first_word p.traffic_class p.flow_label))
+    (length-two_bytes (length p.payload)))
     ∙ ap (λ xs. slice_set xs 7 x) (sym (spelling-laid_alone p))
 
-pub edit-destination : (p : Packet) (a : ℕ) → spelling (record p { destination = a }) ≡ take 24 (spelling p) ++ (address_bytes a ++ drop 40 (spelling p))
+pub edit-destination : (p : Packet) (a : ℕ)
+    → spelling (record p { destination = a }) ≡ take 24 (spelling p) ++ (address_bytes a ++ drop 40 (spelling p))
 edit-destination p a =
     spelling-laid_alone (record p { destination = a })
-    ∙ sym (put24-laid (four_bytes (first_word p.traffic_class p.flow_label)) (two_bytes (length p.payload)) p.next_header p.hop_limit (address_bytes p.source) (address_bytes p.destination) (address_bytes a) p.payload
-    (length-four_bytes (first_word p.traffic_class p.flow_label)) (length-two_bytes (length p.payload)) (length-address_bytes p.source) (length-address_bytes p.destination))
+    ∙ sym (put24-laid (four_bytes (first_word p.traffic_class p.flow_label)) (two_bytes (length p.payload)) p.next_header p.hop_limit
+    (address_bytes p.source) (address_bytes p.destination) (address_bytes a) p.payload
+    (length-four_bytes (first_word p.traffic_class p.flow_label)) (length-two_bytes (length p.payload)) (length-address_bytes p.source)
+    (length-address_bytes p.destination))
     ∙ ap (λ xs. take 24 xs ++ (address_bytes a ++ drop 40 xs)) (sym (spelling-laid_alone p))
 
-header-same_length : (p : Packet) (xs : List ℕ) → length xs ≡ length p.payload → header_spelling (record p { payload = xs }) ≡ header_spelling p
+header-same_length : (p : Packet) (xs : List ℕ) → length xs ≡ length p.payload
+    → header_spelling (record p { payload = xs }) ≡ header_spelling p
 unfolding header_spelling
 header-same_length p xs e = rw e refl
 
@@ -84,4 +108,5 @@ edit-payload p k v =
     let head = header-same_length p (slice_set p.payload k v) (length-set p.payload k v) in
     let moved : 40 + k - 40 ≡ k = omega arith in
     ap (λ xs. xs ++ slice_set p.payload k v) head
-    ∙ sym (set-append_right (header_spelling p) p.payload 40 (40 + k) v (length-header_spelling p) (omega arith) ∙ ap (λ n. header_spelling p ++ slice_set p.payload n v) moved)
+    ∙ sym (set-append_right (header_spelling p) p.payload 40 (40 + k) v (length-header_spelling p) (omega arith)
+    ∙ ap (λ n. header_spelling p ++ slice_set p.payload n v) moved)

@@ -1,22 +1,24 @@
--- A packet in an outer header with a segment list: what is processed of it, and what SIDs do with it.
-use Rattle.std.proofs.Common.{◌≡◌, ℕ, ◌+◌, ◌-◌, ◌*◌, ◌/◌, ◌^◌, ◌<◌, ◌≤◌, Bool, true, false, not, ◌==◌, ◌||◌, nat_lt, nat_le, if◌then◌else◌, List, [], ◌∷◌, ◌++◌, length, take, drop, reverse, slice_index, slice_set, All, flat_map, refl, sym, ap, subst, ◌∙◌, ◌⊎◌, ◌↔◌, arith, inl, inr, length-append, length-drop}
+-- A packet in an outer header with a segment list: its chain, and what SIDs do with it.
+use Rattle.std.proofs.Common.{◌≡◌, ℕ, ◌+◌, ◌-◌, ◌*◌, ◌/◌, ◌^◌, ◌<◌, ◌≤◌, Bool, true, false, not, ◌==◌, ◌||◌, nat_lt, nat_le, if◌then◌else◌, List, [], ◌∷◌, ◌++◌, length, take, drop, reverse, slice_index, slice_set, All, flat_map, refl, sym, ap, subst, ◌∙◌, arith, inl, inr, length-append, length-drop}
 use Rattle.std.proofs.Math.Bool.{or-true}
-use Rattle.std.proofs.lemmas.Bool.{cases_Bool, cases_lt, or_from, lt-ltb, ltb-true, ltb-false, le-ltb, le-leb, lt-leb, eq-eqb, ne_eqb}
+use Rattle.std.proofs.lemmas.Bool.{cases_Bool, cases_lt, or_from, lt-ltb, ltb-true, ltb-false, le-ltb, le-leb, lt-leb, eq-eqb}
 use Rattle.std.proofs.lemmas.List.{append-nil, drop_all, drop_at, take_at, get_or-drop, get_or_past, get_or-reverse, length-reverse}
 use Rattle.std.proofs.lemmas.List.Elements.{All-nil, All-append, All-drop}
-use Rattle.srv6_rules.specs.declared.sid.Behaviour.{Behaviour}
-use Rattle.srv6_rules.specs.declared.sid.Behaviour.TheVariants.{End, EndX, Dt6}
+use Rattle.srv6_rules.specs.declared.sid.Family.TheVariants as families
 use Rattle.srv6_rules.specs.declared.sid.Reason.TheVariants as reasons
-use Rattle.srv6_rules.specs.Packet.{Packet, V6, IsSpellable, most_len, spelling, content_of, two_bytes, two_number, address_bytes, address_number}
+use Rattle.srv6_rules.specs.declared.sid.SidEntry.{SidEntry}
+use Rattle.srv6_rules.specs.Behaviours.{goes_on, exposes, ipv6_inside}
+use Rattle.srv6_rules.specs.Packet.{Packet, IsSpellable, most_len, spelling, two_bytes, two_number, address_bytes, address_number}
 use Rattle.srv6_rules.specs.Srh.{Srh, IsSrhSpellable, srh_of, srh_spelling, entry_of, tlv_bytes}
-use Rattle.srv6_rules.specs.Chain.{Header, AtHeader, AtUpper, routing, is_extension, chain_at, is_segment_routing, processed_in, processed_of}
-use Rattle.srv6_rules.specs.Endpoint.{Onward, Exposed, Refused, ipv6_inside, upper_layer, has_bad_segments, advanced, next_segment, processed_at_sid, at_sid}
-use Rattle.srv6_rules.specs.Encapsulation.{Encapsulation, segment_list, has_segment_routing, segment_routing_of, outer, at_segment, header_bytes, IsSpellableEncapsulation, inner_lowered, encapsulated, takes_next_segment}
+use Rattle.srv6_rules.specs.Chain.{Header, Chain, Upper, routing, is_extension, behind, chain_at, chain_of}
+use Rattle.srv6_rules.specs.Endpoint.{Endpoint, Onward, Exposed, Refused, upper_layer, has_bad_segments, advanced, next_segment, over_headers, at_header, at_upper, at_end, at_sid}
+use Rattle.srv6_rules.specs.Encapsulation.{Encapsulation, segment_list, has_segment_routing, segment_routing_of, header_of, outer, at_segment, header_bytes, IsSpellableEncapsulation, inner_lowered, encapsulated}
 use Rattle.srv6_rules.proofs.Bytes.{all-address_bytes, length-two_bytes, two_number-bytes}
-use Rattle.srv6_rules.proofs.Packets.{content_of-spelling_alone, length-spelling, all-spelling}
+use Rattle.srv6_rules.proofs.Packets.{length-spelling, all-spelling}
 use Rattle.srv6_rules.proofs.Edits.{edit-hop_limit}
 use Rattle.srv6_rules.proofs.Headers.{length-srh_spelling, all-srh_spelling, entry-at, length-entries}
 use Rattle.srv6_rules.proofs.Chains.{chain_at-spelled, chain_at-upper}
+use Rattle.srv6_rules.proofs.Reached.{at_header-passed, at_header-steps, at_header-refuses}
 
 -- ---- a segment routing header at the start of a payload
 
@@ -29,22 +31,19 @@ srh_of-spelled s tag body =
     ap (take (8 * s.extension_len)) (behind ∙ sym (append-nil s.body)) ∙ take_at s.body [] (8 * s.extension_len) body in
     rw (number, whole) refl
 
--- a header with segments left is processed
-pub spelled-processed : (s : Srh) (inner : List ℕ) → length s.body ≡ 8 * s.extension_len → 0 < s.segments_left
-    → processed_in (chain_at (srh_spelling s ++ inner) routing 0) ≡ AtHeader (record { kind = routing; at = 0; bytes = srh_spelling s })
-spelled-processed s inner body left =
-    let some : (s.segments_left == 0) ≡ false = ne_eqb s.segments_left 0 (omega arith) in
-    ap (λ c. processed_in c) (chain_at-spelled (srh_spelling s ++ inner) 0 s inner body refl) ∙ rw some refl
-
--- a header with no segments left is passed over
-pub spelled-passed : (s : Srh) (inner : List ℕ) → length s.body ≡ 8 * s.extension_len → s.segments_left ≡ 0 → is_extension s.next_header ≡ false
-    → processed_in (chain_at (srh_spelling s ++ inner) routing 0) ≡ AtUpper s.next_header (length (srh_spelling s))
-spelled-passed s inner body left upper =
-    let none : (s.segments_left == 0) ≡ true = eq-eqb s.segments_left 0 left in
+-- the chain of a segment routing header and the upper layer behind it
+pub spelled-chain : (s : Srh) (inner : List ℕ) → length s.body ≡ 8 * s.extension_len → is_extension s.next_header ≡ false
+    → chain_at (srh_spelling s ++ inner) routing 0
+    ≡ record {
+      headers = record { kind = routing; at = 0; bytes = srh_spelling s } ∷ [];
+      end = Upper s.next_header (length (srh_spelling s));
+    }
+spelled-chain s inner body upper =
+    let h : Header = record { kind = routing; at = 0; bytes = srh_spelling s } in
     let place : 0 + length (srh_spelling s) ≡ length (srh_spelling s) = omega arith in
-    ap (λ c. processed_in c) (chain_at-spelled (srh_spelling s ++ inner) 0 s inner body refl)
-    ∙ rw none (ap (λ c. processed_in c) (chain_at-upper (srh_spelling s ++ inner) s.next_header (0 + length (srh_spelling s)) upper))
-    ∙ ap (AtUpper s.next_header) place
+    chain_at-spelled (srh_spelling s ++ inner) 0 s inner body refl
+    ∙ ap (λ c. behind h c) (chain_at-upper (srh_spelling s ++ inner) s.next_header (0 + length (srh_spelling s)) upper)
+    ∙ ap (λ n. behind h (record { headers = []; end = Upper s.next_header n })) place
 
 -- the step over a header with good segments and nothing behind its entries
 step-onward : (p : Packet) (at : ℕ) (s : Srh) → 1 < p.hop_limit → has_bad_segments s ≡ false → length (tlv_bytes s) ≡ 0
@@ -54,7 +53,7 @@ step-onward p at s hop good none =
     let empty : (length (tlv_bytes s) == 0) ≡ true = eq-eqb (length (tlv_bytes s)) 0 none in
     rw (high, good, empty) refl
 
-step-hop_limit : (p : Packet) (at : ℕ) (s : Srh) → p.hop_limit ≤ 1 → next_segment p at s ≡ Refused reasons.HopLimit
+step-hop_limit : (p : Packet) (at : ℕ) (s : Srh) → p.hop_limit ≤ 1 → next_segment p at s ≡ Refused reasons.HopLimit 0
 step-hop_limit p at s hop =
     let low : nat_le p.hop_limit 1 ≡ true = le-leb p.hop_limit 1 hop in
     rw low refl
@@ -64,7 +63,8 @@ step-hop_limit p at s hop =
 listed : Bool → List ℕ → List ℕ
 listed reduced segments = reverse (if reduced then drop 1 segments else segments)
 
-length-listed : (reduced : Bool) (segments : List ℕ) → length (listed reduced segments) ≡ (if reduced then length segments - 1 else length segments)
+length-listed : (reduced : Bool) (segments : List ℕ)
+    → length (listed reduced segments) ≡ (if reduced then length segments - 1 else length segments)
 unfolding listed
 length-listed true segments = length-reverse (drop 1 segments) ∙ length-drop 1 segments
 length-listed false segments = length-reverse segments
@@ -79,7 +79,8 @@ listed-no_more true segments = let len = length-listed true segments in omega ar
 listed-no_more false segments = let len = length-listed false segments in omega arith
 
 -- the entry at a place is the segment at that place from the end, but for the first segment
-listed-at : (reduced : Bool) (segments : List ℕ) (k : ℕ) → k + 1 < length segments → slice_index (listed reduced segments) k ≡ slice_index segments (length segments - 1 - k)
+listed-at : (reduced : Bool) (segments : List ℕ) (k : ℕ) → k + 1 < length segments
+    → slice_index (listed reduced segments) k ≡ slice_index segments (length segments - 1 - k)
 unfolding listed
 listed-at true segments k below =
     let len = length-drop 1 segments in
@@ -193,27 +194,28 @@ framed e next payload hop destination =
     }
 
 module _ (e : Encapsulation) (inner : List ℕ) (left hop destination : ℕ) where
-  pub outer-routed : has_segment_routing e ≡ true → outer e inner left hop destination ≡ framed e routing (srh_spelling (segment_routing_of e left) ++ inner) hop destination
+  pub outer-routed : has_segment_routing e ≡ true
+      → outer e inner left hop destination ≡ framed e routing (srh_spelling (segment_routing_of e left) ++ inner) hop destination
   outer-routed has = rw has refl
 
   pub outer-bare : has_segment_routing e ≡ false → outer e inner left hop destination ≡ framed e ipv6_inside inner hop destination
   outer-bare has = rw has refl
 
-  routed-processed : 0 < left → processed_of (framed e routing (srh_spelling (segment_routing_of e left) ++ inner) hop destination)
-      ≡ AtHeader (record { kind = routing; at = 0; bytes = srh_spelling (segment_routing_of e left) })
-  routed-processed some = spelled-processed (segment_routing_of e left) inner (length-body e left) some
+  routed-chain : chain_of (framed e routing (srh_spelling (segment_routing_of e left) ++ inner) hop destination)
+      ≡ record {
+        headers = header_of e left ∷ [];
+        end = Upper ipv6_inside (length (srh_spelling (segment_routing_of e left)));
+      }
+  routed-chain = spelled-chain (segment_routing_of e left) inner (length-body e left) refl
 
-  routed-passed : left ≡ 0 → processed_of (framed e routing (srh_spelling (segment_routing_of e left) ++ inner) hop destination)
-      ≡ AtUpper ipv6_inside (length (srh_spelling (segment_routing_of e left)))
-  routed-passed none = spelled-passed (segment_routing_of e left) inner (length-body e left) none refl
-
-  bare-passed : processed_of (framed e ipv6_inside inner hop destination) ≡ AtUpper ipv6_inside 0
-  bare-passed = ap (λ c. processed_in c) (chain_at-upper inner ipv6_inside 0 refl)
+  bare-chain : chain_of (framed e ipv6_inside inner hop destination) ≡ record { headers = []; end = Upper ipv6_inside 0 }
+  bare-chain = chain_at-upper inner ipv6_inside 0 refl
 
 -- ---- the length, and the place of the packet inside
 
 module _ (e : Encapsulation) where
-  header-size : (left : ℕ) → has_segment_routing e ≡ true → 40 + length (srh_spelling (segment_routing_of e left)) ≡ header_bytes e.reduced (length e.segments)
+  header-size : (left : ℕ) → has_segment_routing e ≡ true
+      → 40 + length (srh_spelling (segment_routing_of e left)) ≡ header_bytes e.reduced (length e.segments)
   unfolding listed
   header-size left has =
       let len = length-header e left in
@@ -253,140 +255,164 @@ outer-inner e inner left hop destination = elim (cases_Bool (has_segment_routing
       ∙ ap (λ n. drop n inner) place
 ]
 
--- ---- what is processed
+-- ---- the chain
 
--- with segments left the routing header
-pub outer-processed : (e : Encapsulation) (inner : List ℕ) (left hop destination : ℕ) → has_segment_routing e ≡ true → 0 < left
-    → processed_of (outer e inner left hop destination) ≡ AtHeader (record { kind = routing; at = 0; bytes = srh_spelling (segment_routing_of e left) })
-outer-processed e inner left hop destination has some =
-    ap (λ (p : Packet). processed_of p) (outer-routed e inner left hop destination has) ∙ routed-processed e inner left hop destination some
+-- the segment routing header where there is one
+abbrev outer_headers : Encapsulation → ℕ → Bool → List Header
+outer_headers e left has = if has then header_of e left ∷ [] else []
 
--- with none left the packet inside
-pub outer-passed : (e : Encapsulation) (inner : List ℕ) (left hop destination : ℕ) → left ≡ 0
-    → processed_of (outer e inner left hop destination) ≡ AtUpper ipv6_inside (header_bytes e.reduced (length e.segments) - 40)
-outer-passed e inner left hop destination none = elim (cases_Bool (has_segment_routing e)) [
+-- the segment routing header where the form has one, and the packet inside behind the header bytes
+pub outer-chain : (e : Encapsulation) (inner : List ℕ) (left hop destination : ℕ)
+    → chain_of (outer e inner left hop destination)
+    ≡ record {
+      headers = if has_segment_routing e then header_of e left ∷ []
+          else [];
+      end = Upper ipv6_inside (header_bytes e.reduced (length e.segments) - 40);
+    }
+outer-chain e inner left hop destination = elim (cases_Bool (has_segment_routing e)) [
   | inl has ↦
       let size = header-size e left has in
       let place : length (srh_spelling (segment_routing_of e left)) ≡ header_bytes e.reduced (length e.segments) - 40 = omega arith in
-      ap (λ (p : Packet). processed_of p) (outer-routed e inner left hop destination has)
-      ∙ routed-passed e inner left hop destination none
-      ∙ ap (AtUpper ipv6_inside) place
+      ap (λ (p : Packet). chain_of p) (outer-routed e inner left hop destination has)
+      ∙ routed-chain e inner left hop destination
+      ∙ ap (λ n. record { headers = outer_headers e left true; end = Upper ipv6_inside n }) place
+      ∙ ap (λ b. record { headers = outer_headers e left b; end = Upper ipv6_inside (header_bytes e.reduced (length e.segments) - 40) })
+      (sym has)
   | inr not ↦
       let size = bare-size e not in
       let place : 0 ≡ header_bytes e.reduced (length e.segments) - 40 = omega arith in
-      ap (λ (p : Packet). processed_of p) (outer-bare e inner left hop destination not)
-      ∙ bare-passed e inner left hop destination
-      ∙ ap (AtUpper ipv6_inside) place
+      ap (λ (p : Packet). chain_of p) (outer-bare e inner left hop destination not)
+      ∙ bare-chain e inner left hop destination
+      ∙ ap (λ n. record { headers = outer_headers e left false; end = Upper ipv6_inside n }) place
+      ∙ ap (λ b. record { headers = outer_headers e left b; end = Upper ipv6_inside (header_bytes e.reduced (length e.segments) - 40) })
+      (sym not)
 ]
 
 -- ---- at a SID
 
--- End and End.X take the step at a segment routing header
-header-takes_step : (b : Behaviour) (allow : List ℕ) (p : Packet) (h : Header) → takes_next_segment b ≡ true → is_segment_routing h ≡ true
-    → processed_at_sid b allow p (AtHeader h) ≡ next_segment p h.at (srh_of h.bytes)
-header-takes_step End allow p h takes is = rw is refl
-header-takes_step EndX allow p h takes is = rw is refl
-header-takes_step (Dt6 table) allow p h takes is = cc
+over-one : (treat : Header → Endpoint → Endpoint) (has : Bool) (h : Header) (end : Endpoint) → treat h end ≡ end
+    → over_headers treat (if has then h ∷ [] else []) end ≡ end
+over-one treat true h end passed = passed
+over-one treat false h end passed = refl
 
-upper-takes_step : (b : Behaviour) (allow : List ℕ) (p : Packet) (kind at : ℕ) → takes_next_segment b ≡ true
-    → processed_at_sid b allow p (AtUpper kind at) ≡ upper_layer allow kind
-upper-takes_step End allow p kind at takes = refl
-upper-takes_step EndX allow p kind at takes = refl
-upper-takes_step (Dt6 table) allow p kind at takes = cc
+module _ (s : SidEntry) (allow : List ℕ) (e : Encapsulation) (inner : List ℕ) (left hop destination : ℕ) where
+  outer-at_sid : at_sid s allow (outer e inner left hop destination)
+      ≡ over_headers (at_header s (outer e inner left hop destination)) (outer_headers e left (has_segment_routing e))
+      (at_upper s allow (outer e inner left hop destination) ipv6_inside (header_bytes e.reduced (length e.segments) - 40))
+  outer-at_sid =
+      let p : Packet = outer e inner left hop destination in
+      ap (λ (c : Chain). over_headers (at_header s p) c.headers (at_end s allow p c.end)) (outer-chain e inner left hop destination)
 
-module _ (e : Encapsulation) (inner : List ℕ) (left hop destination : ℕ) (has : has_segment_routing e ≡ true) (some : 0 < left) where
-  step-at_sid : (b : Behaviour) (allow : List ℕ) → takes_next_segment b ≡ true
-      → at_sid b allow (outer e inner left hop destination)
+  -- with no segments left the packet inside is the upper layer
+  pub outer-at_upper : left ≡ 0 → at_sid s allow (outer e inner left hop destination)
+      ≡ at_upper s allow (outer e inner left hop destination) ipv6_inside (header_bytes e.reduced (length e.segments) - 40)
+  outer-at_upper none =
+      let p : Packet = outer e inner left hop destination in
+      let end : Endpoint = at_upper s allow p ipv6_inside (header_bytes e.reduced (length e.segments) - 40) in
+      outer-at_sid
+      ∙ over-one (at_header s p) (has_segment_routing e) (header_of e left) end
+      (at_header-passed s p (header_of e left) end (refl, none))
+
+  pub outer-upper_layer : left ≡ 0 → exposes s ipv6_inside ≡ false → at_sid s allow (outer e inner left hop destination)
+      ≡ upper_layer allow (outer e inner left hop destination) ipv6_inside (header_bytes e.reduced (length e.segments) - 40)
+  outer-upper_layer none keeps = outer-at_upper none ∙ rw keeps refl
+
+  pub outer-exposed : left ≡ 0 → exposes s ipv6_inside ≡ true
+      → at_sid s allow (outer e inner left hop destination) ≡ Exposed families.V6 inner
+  outer-exposed none shows = outer-at_upper none ∙ rw shows (ap (Exposed families.V6) (outer-inner e inner left hop destination))
+
+  -- with segments left
+  outer-at_header : has_segment_routing e ≡ true → at_sid s allow (outer e inner left hop destination)
+      ≡ at_header s (outer e inner left hop destination) (header_of e left)
+      (at_upper s allow (outer e inner left hop destination) ipv6_inside (header_bytes e.reduced (length e.segments) - 40))
+  outer-at_header has =
+      let p : Packet = outer e inner left hop destination in
+      let end : Endpoint = at_upper s allow p ipv6_inside (header_bytes e.reduced (length e.segments) - 40) in
+      outer-at_sid ∙ ap (λ b. over_headers (at_header s p) (outer_headers e left b) end) has
+
+  -- a SID that does not go on takes no segment routing header with segments left
+  pub outer-bad_segments : has_segment_routing e ≡ true → 0 < left → goes_on s ≡ false
+      → at_sid s allow (outer e inner left hop destination) ≡ Refused reasons.BadSegments 43
+  outer-bad_segments has some stays =
+      let p : Packet = outer e inner left hop destination in
+      let end : Endpoint = at_upper s allow p ipv6_inside (header_bytes e.reduced (length e.segments) - 40) in
+      outer-at_header has ∙ at_header-refuses s p (header_of e left) end refl some stays
+
+  step-at_sid : has_segment_routing e ≡ true → 0 < left → goes_on s ≡ true → at_sid s allow (outer e inner left hop destination)
       ≡ next_segment (framed e routing (srh_spelling (segment_routing_of e left) ++ inner) hop destination) 0 (segment_routing_of e left)
-  step-at_sid b allow takes =
-      let p : Packet = framed e routing (srh_spelling (segment_routing_of e left) ++ inner) hop destination in
-      let h : Header = record { kind = routing; at = 0; bytes = srh_spelling (segment_routing_of e left) } in
-      ap (λ (x : Packet). at_sid b allow x) (outer-routed e inner left hop destination has)
-      ∙ ap (processed_at_sid b allow p) (routed-processed e inner left hop destination some)
-      ∙ header-takes_step b allow p h takes refl
+  step-at_sid has some goes =
+      let p : Packet = outer e inner left hop destination in
+      let end : Endpoint = at_upper s allow p ipv6_inside (header_bytes e.reduced (length e.segments) - 40) in
+      outer-at_header has
+      ∙ at_header-steps s p (header_of e left) end refl some goes
       ∙ ap (next_segment p 0) (read_back e left)
+      ∙ ap (λ (x : Packet). next_segment x 0 (segment_routing_of e left)) (outer-routed e inner left hop destination has)
 
-  pub outer-hop_limit : (b : Behaviour) (allow : List ℕ) → takes_next_segment b ≡ true → hop ≤ 1
-      → at_sid b allow (outer e inner left hop destination) ≡ Refused reasons.HopLimit
-  outer-hop_limit b allow takes low =
-      step-at_sid b allow takes
-      ∙ step-hop_limit (framed e routing (srh_spelling (segment_routing_of e left) ++ inner) hop destination) 0 (segment_routing_of e left) low
+  pub outer-hop_limit : has_segment_routing e ≡ true → 0 < left → goes_on s ≡ true → hop ≤ 1
+      → at_sid s allow (outer e inner left hop destination) ≡ Refused reasons.HopLimit 0
+  outer-hop_limit has some goes low =
+      step-at_sid has some goes
+      ∙ step-hop_limit (framed e routing (srh_spelling (segment_routing_of e left) ++ inner) hop destination) 0
+      (segment_routing_of e left) low
 
-  -- End and End.X go on to the next segment
-  pub outer-onward : (b : Behaviour) (allow : List ℕ) → takes_next_segment b ≡ true → left < length e.segments → All (λ a. a < 2 ^ 128) e.segments → 1 < hop
-      → at_sid b allow (outer e inner left hop destination) ≡ Onward (outer e inner (left - 1) (hop - 1) (slice_index e.segments (length e.segments - left)))
-  outer-onward b allow takes below all high =
+  -- a SID that goes on makes the next segment the active one
+  pub outer-onward : has_segment_routing e ≡ true → 0 < left → goes_on s ≡ true → left < length e.segments
+      → All (λ a. a < 2 ^ 128) e.segments → 1 < hop
+      → at_sid s allow (outer e inner left hop destination)
+      ≡ Onward (outer e inner (left - 1) (hop - 1) (slice_index e.segments (length e.segments - left)))
+  outer-onward has some goes below all high =
       let most = list-most e in
-      let s : Srh = segment_routing_of e left in
-      let p : Packet = framed e routing (srh_spelling s ++ inner) hop destination in
+      let header : Srh = segment_routing_of e left in
+      let p : Packet = framed e routing (srh_spelling header ++ inner) hop destination in
       let entry = next-entry e left some below all in
-      step-at_sid b allow takes
-      ∙ step-onward p 0 s high (good_segments e left (omega arith) (omega arith)) (no_tlv_bytes e left (omega arith))
+      step-at_sid has some goes
+      ∙ step-onward p 0 header high (good_segments e left (omega arith) (omega arith)) (no_tlv_bytes e left (omega arith))
       ∙ ap (λ a. Onward (framed e routing (srh_spelling (segment_routing_of e (left - 1)) ++ inner) (hop - 1) a)) entry
-      ∙ ap (λ (x : Packet). Onward x) (sym (outer-routed e inner (left - 1) (hop - 1) (slice_index e.segments (length e.segments - left)) has))
-
-  -- End.DT6 takes no segment routing header with segments left
-  pub outer-bad_segments : (table : ℕ) (allow : List ℕ) → at_sid (Dt6 table) allow (outer e inner left hop destination) ≡ Refused reasons.BadSegments
-  outer-bad_segments table allow =
-      ap (processed_at_sid (Dt6 table) allow (outer e inner left hop destination)) (outer-processed e inner left hop destination has some)
-
--- with no segments left
-module _ (e : Encapsulation) (inner : List ℕ) (left hop destination : ℕ) (none : left ≡ 0) where
-  pub outer-upper_layer : (b : Behaviour) (allow : List ℕ) → takes_next_segment b ≡ true
-      → at_sid b allow (outer e inner left hop destination) ≡ upper_layer allow ipv6_inside
-  outer-upper_layer b allow takes =
-      ap (processed_at_sid b allow (outer e inner left hop destination)) (outer-passed e inner left hop destination none)
-      ∙ upper-takes_step b allow (outer e inner left hop destination) ipv6_inside (header_bytes e.reduced (length e.segments) - 40) takes
-
-  pub outer-exposed : (table : ℕ) (allow : List ℕ) → at_sid (Dt6 table) allow (outer e inner left hop destination) ≡ Exposed (content_of inner)
-  outer-exposed table allow =
-      ap (processed_at_sid (Dt6 table) allow (outer e inner left hop destination)) (outer-passed e inner left hop destination none)
-      ∙ ap (λ xs. Exposed (content_of xs)) (outer-inner e inner left hop destination)
+      ∙ ap (λ (x : Packet). Onward x)
+      (sym (outer-routed e inner (left - 1) (hop - 1) (slice_index e.segments (length e.segments - left)) has))
 
 -- ---- while a segment is the active one
 
-module _ (e : Encapsulation) (inner : List ℕ) (i hop : ℕ) where
-  pub at_segment-onward : (b : Behaviour) (allow : List ℕ) → takes_next_segment b ≡ true → i + 1 < length e.segments → All (λ a. a < 2 ^ 128) e.segments → 1 < hop
-      → at_sid b allow (at_segment e inner i hop) ≡ Onward (at_segment e inner (i + 1) (hop - 1))
-  at_segment-onward b allow takes below all high =
+module _ (s : SidEntry) (allow : List ℕ) (e : Encapsulation) (inner : List ℕ) (i hop : ℕ) where
+  pub at_segment-onward : goes_on s ≡ true → i + 1 < length e.segments → All (λ a. a < 2 ^ 128) e.segments → 1 < hop
+      → at_sid s allow (at_segment e inner i hop) ≡ Onward (at_segment e inner (i + 1) (hop - 1))
+  at_segment-onward goes below all high =
       let n : ℕ = length e.segments in
       let left : n - 1 - i - 1 ≡ n - 1 - (i + 1) = omega arith in
       let next : n - (n - 1 - i) ≡ i + 1 = omega arith in
-      outer-onward e inner (n - 1 - i) hop (slice_index e.segments i) (more-routing e (omega arith)) (omega arith) b allow takes (omega arith) all high
+      outer-onward s allow e inner (n - 1 - i) hop (slice_index e.segments i) (more-routing e (omega arith)) (omega arith) goes
+      (omega arith) all high
       ∙ ap (λ k. Onward (outer e inner k (hop - 1) (slice_index e.segments (n - (n - 1 - i))))) left
       ∙ ap (λ k. Onward (outer e inner (n - 1 - (i + 1)) (hop - 1) (slice_index e.segments k))) next
 
-  pub at_segment-hop_limit : (b : Behaviour) (allow : List ℕ) → takes_next_segment b ≡ true → i + 1 < length e.segments → hop ≤ 1
-      → at_sid b allow (at_segment e inner i hop) ≡ Refused reasons.HopLimit
-  at_segment-hop_limit b allow takes below low =
-      outer-hop_limit e inner (length e.segments - 1 - i) hop (slice_index e.segments i) (more-routing e (omega arith)) (omega arith) b allow takes low
+  pub at_segment-hop_limit : goes_on s ≡ true → i + 1 < length e.segments → hop ≤ 1
+      → at_sid s allow (at_segment e inner i hop) ≡ Refused reasons.HopLimit 0
+  at_segment-hop_limit goes below low =
+      outer-hop_limit s allow e inner (length e.segments - 1 - i) hop (slice_index e.segments i) (more-routing e (omega arith))
+      (omega arith) goes low
 
-  pub at_segment-bad_segments : (table : ℕ) (allow : List ℕ) → i + 1 < length e.segments
-      → at_sid (Dt6 table) allow (at_segment e inner i hop) ≡ Refused reasons.BadSegments
-  at_segment-bad_segments table allow below =
-      outer-bad_segments e inner (length e.segments - 1 - i) hop (slice_index e.segments i) (more-routing e (omega arith)) (omega arith) table allow
+  pub at_segment-bad_segments : goes_on s ≡ false → i + 1 < length e.segments
+      → at_sid s allow (at_segment e inner i hop) ≡ Refused reasons.BadSegments 43
+  at_segment-bad_segments stays below =
+      outer-bad_segments s allow e inner (length e.segments - 1 - i) hop (slice_index e.segments i) (more-routing e (omega arith))
+      (omega arith) stays
 
-  pub at_segment-upper_layer : (b : Behaviour) (allow : List ℕ) → takes_next_segment b ≡ true → i + 1 ≡ length e.segments
-      → at_sid b allow (at_segment e inner i hop) ≡ upper_layer allow ipv6_inside
-  at_segment-upper_layer b allow takes last =
-      outer-upper_layer e inner (length e.segments - 1 - i) hop (slice_index e.segments i) (omega arith) b allow takes
+  pub at_segment-upper_layer : exposes s ipv6_inside ≡ false → i + 1 ≡ length e.segments → at_sid s allow (at_segment e inner i hop)
+      ≡ upper_layer allow (at_segment e inner i hop) ipv6_inside (header_bytes e.reduced (length e.segments) - 40)
+  at_segment-upper_layer keeps last =
+      outer-upper_layer s allow e inner (length e.segments - 1 - i) hop (slice_index e.segments i) (omega arith) keeps
 
-  pub at_segment-exposed : (table : ℕ) (allow : List ℕ) → i + 1 ≡ length e.segments
-      → at_sid (Dt6 table) allow (at_segment e inner i hop) ≡ Exposed (content_of inner)
-  at_segment-exposed table allow last =
-      outer-exposed e inner (length e.segments - 1 - i) hop (slice_index e.segments i) (omega arith) table allow
-
--- the packet inside is exposed as it was
-pub at_segment-exposed_packet : (e : Encapsulation) (p : Packet) (i hop table : ℕ) (allow : List ℕ) → IsSpellable p → i + 1 ≡ length e.segments
-    → at_sid (Dt6 table) allow (at_segment e (spelling p) i hop) ≡ Exposed (V6 p)
-at_segment-exposed_packet e p i hop table allow ok last =
-    at_segment-exposed e (spelling p) i hop table allow last ∙ ap (λ c. Exposed c) (content_of-spelling_alone p ok)
+  pub at_segment-exposed : exposes s ipv6_inside ≡ true → i + 1 ≡ length e.segments
+      → at_sid s allow (at_segment e inner i hop) ≡ Exposed families.V6 inner
+  at_segment-exposed shows last =
+      outer-exposed s allow e inner (length e.segments - 1 - i) hop (slice_index e.segments i) (omega arith) shows
 
 -- ---- packets that bytes can spell
 
 all-entries : (list : List ℕ) → All (λ b. b < 2 ^ 8) (flat_map address_bytes list)
 all-entries [] = All-nil (λ b. b < 2 ^ 8)
-all-entries (a ∷ list) = All-append (λ b. b < 2 ^ 8) (address_bytes a) (flat_map address_bytes list) (all-address_bytes a) (all-entries list)
+all-entries (a ∷ list) = All-append (λ b. b < 2 ^ 8) (address_bytes a) (flat_map address_bytes list) (all-address_bytes a)
+    (all-entries list)
 
 header-spellable : (e : Encapsulation) (left : ℕ) → IsSpellableEncapsulation e → left < 2 ^ 8 → IsSrhSpellable (segment_routing_of e left)
 header-spellable e left ok below =
@@ -410,7 +436,8 @@ address-below segments i all = elim (cases_lt i (length segments)) [
   | inr past ↦ rw (get_or_past segments i 0 past) (omega arith)
 ]
 
-outer-payload_bytes : (e : Encapsulation) (inner : List ℕ) (left hop destination : ℕ) → IsSpellableEncapsulation e → left < 2 ^ 8 → All (λ b. b < 2 ^ 8) inner
+outer-payload_bytes : (e : Encapsulation) (inner : List ℕ) (left hop destination : ℕ) → IsSpellableEncapsulation e → left < 2 ^ 8
+    → All (λ b. b < 2 ^ 8) inner
     → All (λ b. b < 2 ^ 8) (outer e inner left hop destination).payload
 outer-payload_bytes e inner left hop destination ok below all =
     let Q : Packet → Type 0 = λ p. All (λ b. b < 2 ^ 8) p.payload in
@@ -425,7 +452,8 @@ outer-next_header : (has : Bool) → (if has then routing else ipv6_inside) < 2 
 outer-next_header true = omega arith
 outer-next_header false = omega arith
 
-pub at_segment-spellable : (e : Encapsulation) (inner : List ℕ) (i hop : ℕ) → IsSpellableEncapsulation e → hop < 2 ^ 8 → All (λ b. b < 2 ^ 8) inner
+pub at_segment-spellable : (e : Encapsulation) (inner : List ℕ) (i hop : ℕ) → IsSpellableEncapsulation e → hop < 2 ^ 8
+    → All (λ b. b < 2 ^ 8) inner
     → header_bytes e.reduced (length e.segments) + length inner ≤ most_len → IsSpellable (at_segment e inner i hop)
 at_segment-spellable e inner i hop ok low all short =
     let left : ℕ = length e.segments - 1 - i in
@@ -469,7 +497,8 @@ encapsulated-spellable e p hop ok inner low short =
     let one = length-spelling p in
     let two = length-spelling (inner_lowered p) in
     let same : length (spelling (inner_lowered p)) ≡ length (spelling p) = two ∙ sym one in
-    at_segment-spellable e (spelling (inner_lowered p)) 0 hop ok low (all-spelling (inner_lowered p) (lowered-spellable p inner)) (omega arith)
+    at_segment-spellable e (spelling (inner_lowered p)) 0 hop ok low (all-spelling (inner_lowered p) (lowered-spellable p inner))
+    (omega arith)
 
 -- the header bytes of at least one segment grow with their number
 pub header_bytes-more : (reduced : Bool) (m n : ℕ) → 0 < m → m < n → header_bytes reduced m < header_bytes reduced n
@@ -484,23 +513,27 @@ header_bytes-more false m n some more = omega arith
 -- ---- the forms
 
 pub list-full : (e : Encapsulation) (left : ℕ) → e.reduced ≡ false
-    → (has_segment_routing e ≡ true) × (segment_list e ≡ reverse e.segments) × ((segment_routing_of e left).last_entry ≡ length e.segments - 1)
+    → (has_segment_routing e ≡ true) × (segment_list e ≡ reverse e.segments)
+    × ((segment_routing_of e left).last_entry ≡ length e.segments - 1)
 list-full e left full =
     let list : segment_list e ≡ reverse e.segments = rw full refl in
     (rw full refl, list, ap (λ xs. length xs - 1) list ∙ ap (λ n. n - 1) (length-reverse e.segments))
 
 pub list-reduced : (e : Encapsulation) (left : ℕ) → e.reduced ≡ true → 1 < length e.segments
-    → (has_segment_routing e ≡ true) × (segment_list e ≡ reverse (drop 1 e.segments)) × ((segment_routing_of e left).last_entry ≡ length e.segments - 2)
+    → (has_segment_routing e ≡ true) × (segment_list e ≡ reverse (drop 1 e.segments))
+    × ((segment_routing_of e left).last_entry ≡ length e.segments - 2)
 list-reduced e left reduced more =
     let list : segment_list e ≡ reverse (drop 1 e.segments) = rw reduced refl in
-    let len : length (reverse (drop 1 e.segments)) ≡ length e.segments - 1 = length-reverse (drop 1 e.segments) ∙ length-drop 1 e.segments in
+    let len : length (reverse (drop 1 e.segments)) ≡ length e.segments - 1 = length-reverse (drop 1 e.segments)
+    ∙ length-drop 1 e.segments in
     (more-routing e more, list, ap (λ xs. length xs - 1) list ∙ omega arith)
 
 pub list-one : (e : Encapsulation) → e.reduced ≡ true → length e.segments ≡ 1 → has_segment_routing e ≡ false
 list-one e reduced one = rw (reduced, one) refl
 
 pub outer-with_header : (e : Encapsulation) (inner : List ℕ) (left hop destination : ℕ) → has_segment_routing e ≡ true
-    → ((outer e inner left hop destination).next_header ≡ routing) × ((outer e inner left hop destination).payload ≡ srh_spelling (segment_routing_of e left) ++ inner)
+    → ((outer e inner left hop destination).next_header ≡ routing)
+    × ((outer e inner left hop destination).payload ≡ srh_spelling (segment_routing_of e left) ++ inner)
 outer-with_header e inner left hop destination has =
     let is = outer-routed e inner left hop destination has in
     (ap (λ (p : Packet). p.next_header) is, ap (λ (p : Packet). p.payload) is)
@@ -519,25 +552,16 @@ header-bytes e left = refl
 
 -- ---- lengths of spellings
 
-pub length-at_segment : (e : Encapsulation) (inner : List ℕ) (i hop : ℕ) → length (spelling (at_segment e inner i hop)) ≡ header_bytes e.reduced (length e.segments) + length inner
+pub length-at_segment : (e : Encapsulation) (inner : List ℕ) (i hop : ℕ)
+    → length (spelling (at_segment e inner i hop)) ≡ header_bytes e.reduced (length e.segments) + length inner
 length-at_segment e inner i hop =
     length-spelling (at_segment e inner i hop) ∙ length-outer e inner (length e.segments - 1 - i) hop (slice_index e.segments i)
 
-pub encapsulated-exposed : (e : Encapsulation) (p : Packet) (i hop table : ℕ) (allow : List ℕ) → IsSpellable p → i + 1 ≡ length e.segments
-    → at_sid (Dt6 table) allow (at_segment e (spelling (inner_lowered p)) i hop) ≡ Exposed (V6 (inner_lowered p))
-encapsulated-exposed e p i hop table allow ok last = at_segment-exposed_packet e (inner_lowered p) i hop table allow (lowered-spellable p ok) last
-
-pub length-encapsulated : (e : Encapsulation) (p : Packet) (hop : ℕ) → length (spelling (encapsulated e p hop)) ≡ header_bytes e.reduced (length e.segments) + length (spelling p)
+pub length-encapsulated : (e : Encapsulation) (p : Packet) (hop : ℕ)
+    → length (spelling (encapsulated e p hop)) ≡ header_bytes e.reduced (length e.segments) + length (spelling p)
 length-encapsulated e p hop =
     length-at_segment e (spelling (inner_lowered p)) 0 hop
     ∙ ap (λ n. header_bytes e.reduced (length e.segments) + n) (length-spelling (inner_lowered p) ∙ sym (length-spelling p))
 
 pub header_bytes-reduced : (n : ℕ) → 1 < n → header_bytes true n ≡ 32 + 16 * n
 header_bytes-reduced n more = let many : nat_lt 1 n ≡ true = lt-ltb 1 n more in rw many refl
-
--- ---- the behaviours
-
-pub takes-end : (b : Behaviour) → (takes_next_segment b ≡ true) ↔ ((b ≡ End) ⊎ (b ≡ EndX))
-takes-end End = (λ e. inl refl, λ e. refl)
-takes-end EndX = (λ e. inr refl, λ e. refl)
-takes-end (Dt6 table) = (λ e. cc, λ e. elim e [ inl same ↦ cc | inr same ↦ cc ])

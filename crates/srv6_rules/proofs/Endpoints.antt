@@ -1,113 +1,166 @@
 -- What an endpoint keeps of a packet.
-use Rattle.std.proofs.Common.{◌≡◌, ℕ, ◌+◌, ◌-◌, ◌*◌, ◌^◌, ◌<◌, ◌≤◌, Bool, true, false, ◌==◌, ◌≢◌, nat_le, if◌then◌else◌, List, ◌++◌, length, take, drop, slice_index, All, refl, sym, ap, subst, ◌∙◌, arith, inl, inr}
-use Rattle.std.proofs.lemmas.Bool.{true≢false, cases_eq, leb-false, eqb-true, eq-eqb, and_from}
+use Rattle.std.proofs.Common.{◌≡◌, ℕ, ◌+◌, ◌-◌, ◌*◌, ◌^◌, ◌<◌, ◌≤◌, Bool, true, false, ◌==◌, ◌≢◌, nat_le, if◌then◌else◌, List, ◌++◌, length, take, drop, slice_index, All, refl, sym, ap, subst, ◌∙◌, ◌⊎◌, ◌↔◌, arith, inl, inr}
+use Rattle.std.proofs.lemmas.Bool.{leb-false, eqb-true, eqb-false}
 use Rattle.std.proofs.lemmas.List.{get_or-set_other, get_or-set_same, length-set}
 use Rattle.std.proofs.lemmas.List.Elements.{All-drop, All-set, All-take}
 use Rattle.srv6_rules.specs.declared.sid.Behaviour.{Behaviour}
 use Rattle.srv6_rules.specs.declared.sid.Behaviour.TheVariants.{End, EndX, Dt6}
+use Rattle.srv6_rules.specs.declared.sid.Family.{Family}
+use Rattle.srv6_rules.specs.declared.sid.Family.TheVariants as families
 use Rattle.srv6_rules.specs.declared.sid.Reason.{Reason}
 use Rattle.srv6_rules.specs.declared.sid.Reason.TheVariants as reasons
-use Rattle.srv6_rules.specs.Packet.{Packet, Content, V6, Unreadable, IsSpellable, IsContent, spelling, content_of, bytes_of}
+use Rattle.srv6_rules.specs.declared.sid.SidEntry.{SidEntry}
+use Rattle.srv6_rules.specs.Behaviours.{behaviour_goes_on, behaviour_exposes, goes_on, exposes, ipv6_inside}
+use Rattle.srv6_rules.specs.Packet.{Packet, V6, Unreadable, IsSpellable, IsContent, spelling, read_as, bytes_of}
 use Rattle.srv6_rules.specs.Srh.{srh_of, entry_of, tlv_bytes}
-use Rattle.srv6_rules.specs.Chain.{Header, Processed, AtHeader, AtUpper, AtCut, is_segment_routing, is_passed, processed_of}
-use Rattle.srv6_rules.specs.Endpoint.{Onward, Exposed, Delivered, Refused, StepsTo, ChangesFewBytes, Exposes, ipv6_inside, is_allowed, has_bad_segments, advanced, header_at_sid, upper_at_sid, processed_at_sid, at_sid}
+use Rattle.srv6_rules.specs.Chain.{Header, ChainEnd, Upper, Cut, LiesIn, is_segment_routing, chain_of}
+use Rattle.srv6_rules.specs.Endpoint.{Endpoint, Onward, Exposed, Delivered, Refused, StepsTo, ChangesFewBytes, ExposesFrom, IsPassed, IsReached, in_packet, is_allowed, has_bad_segments, advanced, at_header, at_end, at_sid, at_address_header, at_address_end, at_address}
 use Rattle.srv6_rules.proofs.Bytes.{address_number-below, byte_below}
 use Rattle.srv6_rules.proofs.Packets.{content_of-is_content, content_of-bytes_of, length-spelling, reads-spelled, unreadable, spelling-agrees, spelling-hop_limit, spelling-payload}
-use Rattle.srv6_rules.proofs.Chains.{processed-lies, processed-upper_stands, lies-at, lies-bytes}
+use Rattle.srv6_rules.proofs.Chains.{chain_at-upper_stands, lies-at, lies-bytes}
+use Rattle.srv6_rules.proofs.Reached.{over-reached, reached-lies}
 
--- ---- where a packet goes on from
+-- ---- the behaviours
 
--- a packet goes on at a segment routing header alone
-record Goes (p : Packet) (h : Header) (q : Packet) : Type 0 where
-  routing : is_segment_routing h ≡ true
-  above : 1 < p.hop_limit
-  segments : has_bad_segments (srh_of h.bytes) ≡ false
-  is : advanced p h.at (srh_of h.bytes) ≡ q
+goes_on-by : (b : Behaviour) → (behaviour_goes_on b ≡ true) ↔ ((b ≡ End) ⊎ (b ≡ EndX))
+goes_on-by End = (λ e. inl refl, λ e. refl)
+goes_on-by EndX = (λ e. inr refl, λ e. refl)
+goes_on-by (Dt6 table) = (λ e. cc, λ e. elim e [ inl same ↦ cc | inr same ↦ cc ])
 
-goes-by : (p q : Packet) (h : Header) (routing short bad empty : Bool) → is_segment_routing h ≡ routing → nat_le p.hop_limit 1 ≡ short → has_bad_segments (srh_of h.bytes) ≡ bad
-    → (if routing then (if short then Refused reasons.HopLimit else if bad then Refused reasons.BadSegments else if empty then Onward (advanced p h.at (srh_of h.bytes)) else Refused reasons.NotBuilt) else Refused reasons.NotBuilt) ≡ Onward q
-    → Goes p h q
-goes-by p q h false short bad empty er es eb e = cc
-goes-by p q h true true bad empty er es eb e = cc
-goes-by p q h true false true empty er es eb e = cc
-goes-by p q h true false false false er es eb e = cc
-goes-by p q h true false false true er es eb e = record { routing = er; above = leb-false p.hop_limit 1 es; segments = eb; is = cc }
+-- End and End.X go on
+pub goes_on-is : (s : SidEntry) → (goes_on s ≡ true) ↔ ((s.behaviour ≡ End) ⊎ (s.behaviour ≡ EndX))
+goes_on-is s = goes_on-by s.behaviour
 
-upper-not_onward : (allowed : Bool) (q : Packet) → (if allowed then Delivered else Refused reasons.UpperLayer) ≡ Onward q → ⊥
-upper-not_onward true q e = cc
-upper-not_onward false q e = cc
+exposes-by : (b : Behaviour) (kind : ℕ) → behaviour_exposes b kind ≡ true → (kind ≡ ipv6_inside) × ((table : ℕ) × (b ≡ Dt6 table))
+exposes-by End kind e = cc
+exposes-by EndX kind e = cc
+exposes-by (Dt6 table) kind e = (eqb-true kind ipv6_inside e, (table, refl))
 
-refused-not_onward : (routing : Bool) (q : Packet) → (if routing then Refused reasons.BadSegments else Refused reasons.NotBuilt) ≡ Onward q → ⊥
-refused-not_onward true q e = cc
-refused-not_onward false q e = cc
+-- End.DT6 exposes an IPv6 packet, and nothing else exposes anything
+pub exposes-is : (s : SidEntry) (kind : ℕ) → exposes s kind ≡ true → (kind ≡ ipv6_inside) × ((table : ℕ) × (s.behaviour ≡ Dt6 table))
+exposes-is s kind e = exposes-by s.behaviour kind e
 
-exposed-not_onward : (inside allowed : Bool) (c : Content) (q : Packet)
-    → (if inside then Exposed c else if allowed then Delivered else Refused reasons.UpperLayer) ≡ Onward q → ⊥
-exposed-not_onward true allowed c q e = cc
-exposed-not_onward false true c q e = cc
-exposed-not_onward false false c q e = cc
+dt6-exposes_by : (b : Behaviour) (table : ℕ) → b ≡ Dt6 table → (behaviour_exposes b ipv6_inside ≡ true) × (behaviour_goes_on b ≡ false)
+dt6-exposes_by b table e = rw e (refl, refl)
 
-upper_at_sid-not_onward : (b : Behaviour) (allow : List ℕ) (p q : Packet) (kind at : ℕ) → upper_at_sid b allow p kind at ≡ Onward q → ⊥
-upper_at_sid-not_onward End allow p q kind at e = upper-not_onward (is_allowed allow kind) q e
-upper_at_sid-not_onward EndX allow p q kind at e = upper-not_onward (is_allowed allow kind) q e
-upper_at_sid-not_onward (Dt6 table) allow p q kind at e = exposed-not_onward (kind == ipv6_inside) (is_allowed allow kind) (content_of (drop at p.payload)) q e
+pub dt6-exposes : (s : SidEntry) (table : ℕ) → s.behaviour ≡ Dt6 table → (exposes s ipv6_inside ≡ true) × (goes_on s ≡ false)
+dt6-exposes s table e = dt6-exposes_by s.behaviour table e
 
-record GoesFrom (p : Packet) (r : Processed) (q : Packet) : Type 0 where
-  header : Header
-  at : r ≡ AtHeader header
-  goes : Goes p header q
+goes_on-exposes_by : (b : Behaviour) (kind : ℕ) → behaviour_goes_on b ≡ true → behaviour_exposes b kind ≡ false
+goes_on-exposes_by End kind e = refl
+goes_on-exposes_by EndX kind e = refl
+goes_on-exposes_by (Dt6 table) kind e = cc
 
-goes_from : (b : Behaviour) (allow : List ℕ) (p q : Packet) (r : Processed) → processed_at_sid b allow p r ≡ Onward q → GoesFrom p r q
-goes_from End allow p q (AtHeader h) e = record { header = h; at = refl; goes = goes-by p q h (is_segment_routing h) (nat_le p.hop_limit 1) (has_bad_segments (srh_of h.bytes)) (length (tlv_bytes (srh_of h.bytes)) == 0) refl refl refl e }
-goes_from EndX allow p q (AtHeader h) e = record { header = h; at = refl; goes = goes-by p q h (is_segment_routing h) (nat_le p.hop_limit 1) (has_bad_segments (srh_of h.bytes)) (length (tlv_bytes (srh_of h.bytes)) == 0) refl refl refl e }
-goes_from (Dt6 table) allow p q (AtHeader h) e = absurd (refused-not_onward (is_segment_routing h) q e)
-goes_from b allow p q (AtUpper kind at) e = absurd (upper_at_sid-not_onward b allow p q kind at e)
-goes_from b allow p q AtCut e = cc
+-- a SID that goes on exposes nothing
+pub goes_on-exposes : (s : SidEntry) (kind : ℕ) → goes_on s ≡ true → exposes s kind ≡ false
+goes_on-exposes s kind e = goes_on-exposes_by s.behaviour kind e
+
+-- ---- what is so of each outcome at a SID
+
+abbrev AtSid : SidEntry → Packet → Endpoint → Type 0
+AtSid s p (Onward q) = StepsTo p q
+AtSid s p (Exposed family bytes) = ExposesFrom s p family bytes
+AtSid s p (Delivered q) = q ≡ p
+AtSid s p (Refused reason at) = at ≤ 40 + length p.payload
+
+module _ (s : SidEntry) (p : Packet) where
+  steps : (h : Header) → IsReached (chain_of p).headers h → LiesIn p.payload h → is_segment_routing h ≡ true
+      → ((srh_of h.bytes).segments_left ≡ 0 → ⊥) → 1 < p.hop_limit → StepsTo p (advanced p h.at (srh_of h.bytes))
+  steps h reached lies routing some above =
+      let least = lies.least in
+      let read = lies-at p.payload h 3 lies (omega arith) in
+      let positive : 0 < slice_index h.bytes 3 = omega arith in
+      record {
+        header = h;
+        left = slice_index h.bytes 3 - 1;
+        reached = reached;
+        routing = routing;
+        lies = lies;
+        above_one = above;
+        hop_limit = omega arith;
+        was_left = sym read ∙ omega arith;
+        destination = refl;
+        payload = refl;
+        others = refl;
+      }
+
+  header-by : (h : Header) → IsReached (chain_of p).headers h → LiesIn p.payload h
+      → (rest : Endpoint) → (IsPassed h → AtSid s p rest) → (routing none goes low bad empty : Bool)
+      → is_segment_routing h ≡ routing → ((srh_of h.bytes).segments_left == 0) ≡ none → nat_le p.hop_limit 1 ≡ low
+      → AtSid s p (if routing
+      then (if none then rest
+      else if goes
+      then (if low then Refused reasons.HopLimit 0
+      else if bad then Refused reasons.BadSegments (in_packet (h.at + 3))
+      else if empty then Onward (advanced p h.at (srh_of h.bytes))
+      else Refused reasons.NotBuilt 0)
+      else Refused reasons.BadSegments (in_packet (h.at + 3)))
+      else Refused reasons.NotBuilt 0)
+  header-by h reached lies rest more false none goes low bad empty er en el = omega arith
+  header-by h reached lies rest more true true goes low bad empty er en el = more (er, eqb-true (srh_of h.bytes).segments_left 0 en)
+  header-by h reached lies rest more true false false low bad empty er en el =
+      let within = lies.within in
+      let least = lies.least in
+      omega arith
+  header-by h reached lies rest more true false true true bad empty er en el = omega arith
+  header-by h reached lies rest more true false true false true empty er en el =
+      let within = lies.within in
+      let least = lies.least in
+      omega arith
+  header-by h reached lies rest more true false true false false false er en el = omega arith
+  header-by h reached lies rest more true false true false false true er en el =
+      steps h reached lies er (eqb-false (srh_of h.bytes).segments_left 0 en) (leb-false p.hop_limit 1 el)
+
+  at_header-is : (h : Header) → IsReached (chain_of p).headers h → (rest : Endpoint) → (IsPassed h → AtSid s p rest)
+      → AtSid s p (at_header s p h rest)
+  at_header-is h reached rest more =
+      header-by h reached (reached-lies p.payload p.next_header 0 h reached) rest more
+      (is_segment_routing h) ((srh_of h.bytes).segments_left == 0) (goes_on s) (nat_le p.hop_limit 1)
+      (has_bad_segments (srh_of h.bytes)) (length (tlv_bytes (srh_of h.bytes)) == 0) refl refl refl
+
+  upper-by : (kind at : ℕ) → (chain_of p).end ≡ Upper kind at → All IsPassed (chain_of p).headers → at ≤ length p.payload
+      → (exposed allowed : Bool) → exposes s kind ≡ exposed
+      → AtSid s p (if exposed then Exposed families.V6 (drop at p.payload)
+      else if allowed then Delivered p else Refused reasons.UpperLayer (in_packet at))
+  upper-by kind at upper passed within true allowed e =
+      record {
+        kind = kind;
+        at = at;
+        upper = upper;
+        passed = passed;
+        exposed = e;
+        is_family = ((exposes-is s kind e).0, refl);
+        within = within;
+        inside = refl;
+      }
+  upper-by kind at upper passed within false true e = refl
+  upper-by kind at upper passed within false false e = omega arith
+
+  at_end-is : (allow : List ℕ) (end : ChainEnd) → (chain_of p).end ≡ end → All IsPassed (chain_of p).headers
+      → AtSid s p (at_end s allow p end)
+  at_end-is allow (Upper kind at) upper passed =
+      upper-by kind at upper passed (chain_at-upper_stands p.payload p.next_header 0 kind at (omega arith) upper).2
+      (exposes s kind) (is_allowed allow kind) refl
+  at_end-is allow Cut upper passed = omega arith
+
+  at_sid-is : (allow : List ℕ) → AtSid s p (at_sid s allow p)
+  at_sid-is allow =
+      over-reached (AtSid s p) (at_header s p) (chain_of p).headers (at_end s allow p (chain_of p).end)
+      (λ passed. at_end-is allow (chain_of p).end refl passed)
+      (λ h rest reached more. at_header-is h reached rest more)
 
 -- ---- the step
 
-not_passed : (h : Header) → is_segment_routing h ≡ true → is_passed h ≡ false → 0 < slice_index h.bytes 3
-not_passed h routing stays = elim (cases_eq (slice_index h.bytes 3) 0) [
-  | inl none ↦
-      let passed : is_passed h ≡ true = and_from (is_segment_routing h) (slice_index h.bytes 3 == 0) routing (eq-eqb (slice_index h.bytes 3) 0 none) in
-      absurd (true≢false (sym passed ∙ stays))
-  | inr some ↦ omega arith
-]
-
-steps : (p q : Packet) (h : Header) → processed_of p ≡ AtHeader h → Goes p h q → StepsTo p q
-steps p q h at g =
-    let there = processed-lies p.payload p.next_header 0 h at in
-    let positive = not_passed h g.routing there.1 in
-    let least = there.0.least in
-    let read = lies-at p.payload h 3 there.0 (omega arith) in
-    let left : ℕ = slice_index h.bytes 3 - 1 in
-    let Q : Packet → Type 0 = λ x. StepsTo p x in
-    let above = g.above in
-    subst Q g.is (record {
-      header = h;
-      left = left;
-      processed = at;
-      routing = g.routing;
-      lies = there.0;
-      above_one = g.above;
-      hop_limit = omega arith;
-      was_left = sym read ∙ omega arith;
-      destination = refl;
-      payload = refl;
-      others = refl;
-    })
-
 -- a packet that goes on from a SID has taken the step
-pub at_sid-steps : (b : Behaviour) (allow : List ℕ) (p q : Packet) → at_sid b allow p ≡ Onward q → StepsTo p q
-at_sid-steps b allow p q e =
-    let g = goes_from b allow p q (processed_of p) e in
-    steps p q g.header g.at g.goes
+pub at_sid-steps : (s : SidEntry) (allow : List ℕ) (p q : Packet) → at_sid s allow p ≡ Onward q → StepsTo p q
+at_sid-steps s allow p q e = let P : Endpoint → Type 0 = λ x. AtSid s p x in subst P e (at_sid-is s p allow)
 
 entry_of-below : (h : Header) (i : ℕ) → All (λ b. b < 2 ^ 8) h.bytes → entry_of (srh_of h.bytes) i < 2 ^ 128
 entry_of-below h i all =
     let P : ℕ → Type 0 = λ b. b < 2 ^ 8 in
     let n : ℕ = 8 * slice_index h.bytes 1 in
-    address_number-below (drop (16 * i) (take n (drop 8 h.bytes))) (All-drop P (16 * i) (take n (drop 8 h.bytes)) (All-take P n (drop 8 h.bytes) (All-drop P 8 h.bytes all)))
+    address_number-below (drop (16 * i) (take n (drop 8 h.bytes)))
+    (All-drop P (16 * i) (take n (drop 8 h.bytes)) (All-take P n (drop 8 h.bytes) (All-drop P 8 h.bytes all)))
 
 -- the step keeps a packet spellable
 pub steps-spellable : (p q : Packet) → IsSpellable p → StepsTo p q → IsSpellable q
@@ -137,12 +190,13 @@ steps-spellable p q ok s =
       payload = subst Q (sym s.payload) (All-set P p.payload (s.header.at + 3) s.left (omega arith) ok.payload);
     }
 
-pub at_sid-spellable : (b : Behaviour) (allow : List ℕ) (p q : Packet) → IsSpellable p → at_sid b allow p ≡ Onward q → IsSpellable q
-at_sid-spellable b allow p q ok e = steps-spellable p q ok (at_sid-steps b allow p q e)
+pub at_sid-spellable : (s : SidEntry) (allow : List ℕ) (p q : Packet) → IsSpellable p → at_sid s allow p ≡ Onward q → IsSpellable q
+at_sid-spellable s allow p q ok e = steps-spellable p q ok (at_sid-steps s allow p q e)
 
 -- ---- the bytes before and after the step
 
-payload-same : (p q : Packet) (s : StepsTo p q) (k : ℕ) → k ≢ 40 + (s.header.at + 3) → 40 ≤ k → slice_index q.payload (k - 40) ≡ slice_index p.payload (k - 40)
+payload-same : (p q : Packet) (s : StepsTo p q) (k : ℕ) → k ≢ 40 + (s.header.at + 3) → 40 ≤ k
+    → slice_index q.payload (k - 40) ≡ slice_index p.payload (k - 40)
 payload-same p q s k other far =
     let apart : k - 40 ≡ s.header.at + 3 → ⊥ = λ e. other (omega arith) in
     ap (λ xs. slice_index xs (k - 40)) s.payload ∙ get_or-set_other p.payload (s.header.at + 3) (k - 40) s.left 0 apart
@@ -171,90 +225,113 @@ steps-bytes p q s =
       within = omega arith;
       same_length = after ∙ ap (λ n. 40 + n) len ∙ sym before;
       hop_limit = spelling-hop_limit p ∙ s.hop_limit ∙ ap (λ n. n + 1) (sym (spelling-hop_limit q));
-      segments_left = spelling-payload p (s.header.at + 3) ∙ payload-stepped p q s ∙ ap (λ n. n + 1) (sym (spelling-payload q (s.header.at + 3)));
-      same = λ k not_seven not_there side. spelling-agrees p q class label next source len k not_seven side (payload-same p q s k not_there);
+      segments_left = spelling-payload p (s.header.at + 3) ∙ payload-stepped p q s
+          ∙ ap (λ n. n + 1) (sym (spelling-payload q (s.header.at + 3)));
+      same = λ k not_seven not_there side. spelling-agrees p q class label next source len k not_seven side
+          (payload-same p q s k not_there);
     }
 
 -- but for the hop limit, Segments Left and the destination all bytes are as they were
-pub at_sid-bytes : (b : Behaviour) (allow : List ℕ) (p q : Packet) → at_sid b allow p ≡ Onward q → ChangesFewBytes (spelling p) (spelling q)
-at_sid-bytes b allow p q e = steps-bytes p q (at_sid-steps b allow p q e)
+pub at_sid-bytes : (s : SidEntry) (allow : List ℕ) (p q : Packet) → at_sid s allow p ≡ Onward q → ChangesFewBytes (spelling p) (spelling q)
+at_sid-bytes s allow p q e = steps-bytes p q (at_sid-steps s allow p q e)
 
 -- ---- what is exposed
 
-exposes-by : (p : Packet) (c : Content) (kind at : ℕ) (inside allowed : Bool) → (kind == ipv6_inside) ≡ inside
-    → (if inside then Exposed (content_of (drop at p.payload)) else if allowed then Delivered else Refused reasons.UpperLayer) ≡ Exposed c
-    → (kind ≡ ipv6_inside) × (c ≡ content_of (drop at p.payload))
-exposes-by p c kind at true allowed i e = (eqb-true kind ipv6_inside i, cc)
-exposes-by p c kind at false true i e = cc
-exposes-by p c kind at false false i e = cc
+-- what a SID exposes stands in the payload at the upper layer
+pub at_sid-exposes : (s : SidEntry) (allow : List ℕ) (p : Packet) (family : Family) (bytes : List ℕ)
+    → at_sid s allow p ≡ Exposed family bytes → ExposesFrom s p family bytes
+at_sid-exposes s allow p family bytes e = let P : Endpoint → Type 0 = λ x. AtSid s p x in subst P e (at_sid-is s p allow)
 
-upper-not_exposed : (allowed : Bool) (c : Content) → (if allowed then Delivered else Refused reasons.UpperLayer) ≡ Exposed c → ⊥
-upper-not_exposed true c e = cc
-upper-not_exposed false c e = cc
+-- its bytes are bytes of the packet
+pub at_sid-exposed_bytes : (s : SidEntry) (allow : List ℕ) (p : Packet) (family : Family) (bytes : List ℕ) → IsSpellable p
+    → at_sid s allow p ≡ Exposed family bytes → All (λ b. b < 2 ^ 8) bytes
+at_sid-exposed_bytes s allow p family bytes ok e =
+    let x = at_sid-exposes s allow p family bytes e in
+    let Q : List ℕ → Type 0 = λ xs. All (λ b. b < 2 ^ 8) xs in
+    subst Q (sym x.inside) (All-drop (λ b. b < 2 ^ 8) x.at p.payload ok.payload)
 
-refused-not_exposed : (routing : Bool) (c : Content) → (if routing then Refused reasons.BadSegments else Refused reasons.NotBuilt) ≡ Exposed c → ⊥
-refused-not_exposed true c e = cc
-refused-not_exposed false c e = cc
+-- what bytes of a family read as is a content that bytes can spell
+pub read_as-is_content : (family : Family) (bytes : List ℕ) → All (λ b. b < 2 ^ 8) bytes → IsContent (read_as family bytes)
+read_as-is_content families.V6 bytes all = content_of-is_content bytes all
 
-step-not_exposed : (routing short bad empty : Bool) (q : Packet) (c : Content)
-    → (if routing then (if short then Refused reasons.HopLimit else if bad then Refused reasons.BadSegments else if empty then Onward q else Refused reasons.NotBuilt) else Refused reasons.NotBuilt) ≡ Exposed c → ⊥
-step-not_exposed false short bad empty q c e = cc
-step-not_exposed true true bad empty q c e = cc
-step-not_exposed true false true empty q c e = cc
-step-not_exposed true false false false q c e = cc
-step-not_exposed true false false true q c e = cc
+-- and its bytes read as it again
+pub read_as-bytes_of : (family : Family) (bytes : List ℕ) → All (λ b. b < 2 ^ 8) bytes
+    → read_as family (bytes_of (read_as family bytes)) ≡ read_as family bytes
+read_as-bytes_of families.V6 bytes all = content_of-bytes_of bytes all
 
-header-not_exposed : (b : Behaviour) (p : Packet) (h : Header) (c : Content) → header_at_sid b p h ≡ Exposed c → ⊥
-header-not_exposed End p h c e = step-not_exposed (is_segment_routing h) (nat_le p.hop_limit 1) (has_bad_segments (srh_of h.bytes)) (length (tlv_bytes (srh_of h.bytes)) == 0) (advanced p h.at (srh_of h.bytes)) c e
-header-not_exposed EndX p h c e = step-not_exposed (is_segment_routing h) (nat_le p.hop_limit 1) (has_bad_segments (srh_of h.bytes)) (length (tlv_bytes (srh_of h.bytes)) == 0) (advanced p h.at (srh_of h.bytes)) c e
-header-not_exposed (Dt6 table) p h c e = refused-not_exposed (is_segment_routing h) c e
+-- bytes that read as a packet begin with its spelling
+pub read_as-spelled : (family : Family) (bytes : List ℕ) (q : Packet) → All (λ b. b < 2 ^ 8) bytes → read_as family bytes ≡ V6 q
+    → bytes ≡ spelling q ++ drop (length (spelling q)) bytes
+read_as-spelled families.V6 bytes q all e = reads-spelled bytes q all e
 
--- what is exposed by what is processed
-record ExposesFrom (b : Behaviour) (p : Packet) (r : Processed) (c : Content) : Type 0 where
-  table : ℕ
-  at : ℕ
-  behaviour : b ≡ Dt6 table
-  processed : r ≡ AtUpper ipv6_inside at
-  content : c ≡ content_of (drop at p.payload)
+-- bytes that do not read are kept as they are
+pub read_as-unreadable : (family : Family) (bytes kept : List ℕ) (why : Reason) → read_as family bytes ≡ Unreadable kept why → bytes ≡ kept
+read_as-unreadable families.V6 bytes kept why e = unreadable bytes kept why e
 
-exposes_from : (b : Behaviour) (allow : List ℕ) (p : Packet) (r : Processed) (c : Content) → processed_at_sid b allow p r ≡ Exposed c → ExposesFrom b p r c
-exposes_from b allow p (AtHeader h) c e = absurd (header-not_exposed b p h c e)
-exposes_from End allow p (AtUpper kind at) c e = absurd (upper-not_exposed (is_allowed allow kind) c e)
-exposes_from EndX allow p (AtUpper kind at) c e = absurd (upper-not_exposed (is_allowed allow kind) c e)
-exposes_from (Dt6 table) allow p (AtUpper kind at) c e =
-    let both = exposes-by p c kind at (kind == ipv6_inside) (is_allowed allow kind) refl e in
-    record { table = table; at = at; behaviour = refl; processed = ap (λ k. AtUpper k at) both.0; content = both.1 }
-exposes_from b allow p AtCut c e = cc
+pub at_sid-content : (s : SidEntry) (allow : List ℕ) (p : Packet) (family : Family) (bytes : List ℕ) → IsSpellable p
+    → at_sid s allow p ≡ Exposed family bytes → IsContent (read_as family bytes)
+at_sid-content s allow p family bytes ok e = read_as-is_content family bytes (at_sid-exposed_bytes s allow p family bytes ok e)
 
--- what a SID exposes is read from the place of the packet inside
-pub at_sid-exposes : (b : Behaviour) (allow : List ℕ) (p : Packet) (c : Content) → at_sid b allow p ≡ Exposed c → Exposes b p c
-at_sid-exposes b allow p c e =
-    let x = exposes_from b allow p (processed_of p) c e in
-    let stands = processed-upper_stands p.payload p.next_header 0 ipv6_inside x.at (omega arith) x.processed in
-    record { table = x.table; at = x.at; behaviour = x.behaviour; processed = x.processed; within = stands.2; content = x.content }
+pub at_sid-exposed_packet : (s : SidEntry) (allow : List ℕ) (p q : Packet) (family : Family) (bytes : List ℕ) → IsSpellable p
+    → at_sid s allow p ≡ Exposed family bytes → read_as family bytes ≡ V6 q → bytes ≡ spelling q ++ drop (length (spelling q)) bytes
+at_sid-exposed_packet s allow p q family bytes ok e reads =
+    read_as-spelled family bytes q (at_sid-exposed_bytes s allow p family bytes ok e) reads
 
-pub at_sid-content : (b : Behaviour) (allow : List ℕ) (p : Packet) (c : Content) → IsSpellable p → at_sid b allow p ≡ Exposed c → IsContent c
-at_sid-content b allow p c ok e =
-    let x = at_sid-exposes b allow p c e in
-    let Q : Content → Type 0 = λ d. IsContent d in
-    subst Q (sym x.content) (content_of-is_content (drop x.at p.payload) (All-drop (λ n. n < 2 ^ 8) x.at p.payload ok.payload))
+pub at_sid-exposed_back : (s : SidEntry) (allow : List ℕ) (p : Packet) (family : Family) (bytes : List ℕ) → IsSpellable p
+    → at_sid s allow p ≡ Exposed family bytes → read_as family (bytes_of (read_as family bytes)) ≡ read_as family bytes
+at_sid-exposed_back s allow p family bytes ok e = read_as-bytes_of family bytes (at_sid-exposed_bytes s allow p family bytes ok e)
 
--- the bytes of a packet that is exposed stand in the payload as they are
-pub at_sid-exposed_packet : (b : Behaviour) (allow : List ℕ) (p q : Packet) → IsSpellable p → at_sid b allow p ≡ Exposed (V6 q)
-    → (at : ℕ) × (processed_of p ≡ AtUpper ipv6_inside at) × (drop at p.payload ≡ spelling q ++ drop (length (spelling q)) (drop at p.payload))
-at_sid-exposed_packet b allow p q ok e =
-    let x = at_sid-exposes b allow p (V6 q) e in
-    (x.at, x.processed, reads-spelled (drop x.at p.payload) q (All-drop (λ n. n < 2 ^ 8) x.at p.payload ok.payload) (sym x.content))
+-- ---- what is delivered, and the place of a fault
 
-pub at_sid-exposed_unreadable : (b : Behaviour) (allow : List ℕ) (p : Packet) (bytes : List ℕ) (why : Reason) → at_sid b allow p ≡ Exposed (Unreadable bytes why)
-    → (at : ℕ) × (processed_of p ≡ AtUpper ipv6_inside at) × (bytes ≡ drop at p.payload)
-at_sid-exposed_unreadable b allow p bytes why e =
-    let x = at_sid-exposes b allow p (Unreadable bytes why) e in
-    (x.at, x.processed, sym (unreadable (drop x.at p.payload) bytes why (sym x.content)))
+-- a packet that is delivered is as it was
+pub at_sid-delivered : (s : SidEntry) (allow : List ℕ) (p q : Packet) → at_sid s allow p ≡ Delivered q → q ≡ p
+at_sid-delivered s allow p q e = let P : Endpoint → Type 0 = λ x. AtSid s p x in subst P e (at_sid-is s p allow)
 
--- what is exposed reads again from its bytes
-pub at_sid-exposed_back : (b : Behaviour) (allow : List ℕ) (p : Packet) (c : Content) → IsSpellable p → at_sid b allow p ≡ Exposed c → content_of (bytes_of c) ≡ c
-at_sid-exposed_back b allow p c ok e =
-    let x = at_sid-exposes b allow p c e in
-    let back = content_of-bytes_of (drop x.at p.payload) (All-drop (λ n. n < 2 ^ 8) x.at p.payload ok.payload) in
-    ap (λ d. content_of (bytes_of d)) x.content ∙ back ∙ sym x.content
+-- the place of a fault lies in the packet or at its end
+pub at_sid-place : (s : SidEntry) (allow : List ℕ) (p : Packet) (reason : Reason) (at : ℕ) → at_sid s allow p ≡ Refused reason at
+    → at ≤ 40 + length p.payload
+at_sid-place s allow p reason at e = let P : Endpoint → Type 0 = λ x. AtSid s p x in subst P e (at_sid-is s p allow)
+
+-- ---- what is so of each outcome at an address
+
+abbrev AtAddress : Packet → Endpoint → Type 0
+AtAddress p (Onward q) = ⊥
+AtAddress p (Exposed family bytes) = ⊥
+AtAddress p (Delivered q) = q ≡ p
+AtAddress p (Refused reason at) = at ≤ 40 + length p.payload
+
+module _ (p : Packet) where
+  address_header-by : (h : Header) → LiesIn p.payload h → (rest : Endpoint) → (IsPassed h → AtAddress p rest) → (routing none : Bool)
+      → is_segment_routing h ≡ routing → ((srh_of h.bytes).segments_left == 0) ≡ none
+      → AtAddress p (if routing then (if none then rest else Refused reasons.UnknownRouting (in_packet (h.at + 2)))
+      else Refused reasons.NotBuilt 0)
+  address_header-by h lies rest more false none er en = omega arith
+  address_header-by h lies rest more true true er en = more (er, eqb-true (srh_of h.bytes).segments_left 0 en)
+  address_header-by h lies rest more true false er en =
+      let within = lies.within in
+      let least = lies.least in
+      omega arith
+
+  address_end-is : (end : ChainEnd) → AtAddress p (at_address_end p end)
+  address_end-is (Upper kind at) = refl
+  address_end-is Cut = omega arith
+
+  at_address-is : AtAddress p (at_address p)
+  at_address-is =
+      over-reached (AtAddress p) at_address_header (chain_of p).headers (at_address_end p (chain_of p).end)
+      (λ passed. address_end-is (chain_of p).end)
+      (λ h rest reached more. address_header-by h (reached-lies p.payload p.next_header 0 h reached) rest more
+      (is_segment_routing h) ((srh_of h.bytes).segments_left == 0) refl refl)
+
+pub at_address-delivered : (p q : Packet) → at_address p ≡ Delivered q → q ≡ p
+at_address-delivered p q e = let P : Endpoint → Type 0 = λ x. AtAddress p x in subst P e (at_address-is p)
+
+pub at_address-place : (p : Packet) (reason : Reason) (at : ℕ) → at_address p ≡ Refused reason at → at ≤ 40 + length p.payload
+at_address-place p reason at e = let P : Endpoint → Type 0 = λ x. AtAddress p x in subst P e (at_address-is p)
+
+-- at an address no packet goes on, and none is exposed
+pub at_address-not_onward : (p q : Packet) → at_address p ≡ Onward q → ⊥
+at_address-not_onward p q e = let P : Endpoint → Type 0 = λ x. AtAddress p x in subst P e (at_address-is p)
+
+pub at_address-not_exposed : (p : Packet) (family : Family) (bytes : List ℕ) → at_address p ≡ Exposed family bytes → ⊥
+at_address-not_exposed p family bytes e = let P : Endpoint → Type 0 = λ x. AtAddress p x in subst P e (at_address-is p)

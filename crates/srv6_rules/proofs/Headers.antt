@@ -10,9 +10,12 @@ use Rattle.srv6_rules.proofs.Bytes.{length-two_bytes, all-two_bytes, two_number-
 pub srh_of-spelling : (s : Srh) (rest : List ℕ) → IsSrhSpellable s → srh_of (srh_spelling s ++ rest) ≡ s
 srh_of-spelling s rest h =
     let tail : (two_bytes s.tag ++ s.body) ++ rest ≡ two_bytes s.tag ++ (s.body ++ rest) = append_assoc (two_bytes s.tag) s.body rest in
-    let tag : two_number ((two_bytes s.tag ++ s.body) ++ rest) ≡ s.tag = ap two_number tail ∙ two_number-bytes s.tag (s.body ++ rest) h.tag in
-    let front : drop 2 ((two_bytes s.tag ++ s.body) ++ rest) ≡ s.body ++ rest = ap (drop 2) tail ∙ drop_at (two_bytes s.tag) (s.body ++ rest) 2 (length-two_bytes s.tag) in
-    let body : take (8 * s.extension_len) (drop 2 ((two_bytes s.tag ++ s.body) ++ rest)) ≡ s.body = ap (take (8 * s.extension_len)) front ∙ take_at s.body rest (8 * s.extension_len) h.body_len in
+    let tag : two_number ((two_bytes s.tag ++ s.body) ++ rest) ≡ s.tag = ap two_number tail
+    ∙ two_number-bytes s.tag (s.body ++ rest) h.tag in
+    let front : drop 2 ((two_bytes s.tag ++ s.body) ++ rest) ≡ s.body ++ rest = ap (drop 2) tail
+    ∙ drop_at (two_bytes s.tag) (s.body ++ rest) 2 (length-two_bytes s.tag) in
+    let body : take (8 * s.extension_len) (drop 2 ((two_bytes s.tag ++ s.body) ++ rest)) ≡ s.body = ap (take (8 * s.extension_len)) front
+    ∙ take_at s.body rest (8 * s.extension_len) h.body_len in
     rw (tag, body) refl
 
 pub length-srh_spelling : (s : Srh) → length (srh_spelling s) ≡ 8 + length s.body
@@ -30,14 +33,18 @@ all-srh_spelling s h =
     let e4 = All-cons P s.last_entry (s.flags ∷ (two_bytes s.tag ++ s.body)) h.last_entry e5 in
     let e3 = All-cons P s.segments_left (s.last_entry ∷ s.flags ∷ (two_bytes s.tag ++ s.body)) h.segments_left e4 in
     let e2 = All-cons P segment_routing (s.segments_left ∷ s.last_entry ∷ s.flags ∷ (two_bytes s.tag ++ s.body)) (omega arith) e3 in
-    let e1 = All-cons P s.extension_len (segment_routing ∷ s.segments_left ∷ s.last_entry ∷ s.flags ∷ (two_bytes s.tag ++ s.body)) h.extension_len e2 in
-    All-cons P s.next_header (s.extension_len ∷ segment_routing ∷ s.segments_left ∷ s.last_entry ∷ s.flags ∷ (two_bytes s.tag ++ s.body)) h.next_header e1
+    let e1 = All-cons P s.extension_len
+    (segment_routing ∷ s.segments_left ∷ s.last_entry ∷ s.flags ∷ (two_bytes s.tag ++ s.body)) h.extension_len e2 in
+    All-cons P s.next_header (s.extension_len ∷ segment_routing ∷ s.segments_left ∷ s.last_entry ∷ s.flags ∷
+    (two_bytes s.tag ++ s.body)) h.next_header e1
 
 -- ---- a header in bytes
 
 -- the first six bytes, one by one
 six_bytes : (bytes : List ℕ) → 6 ≤ length bytes
-    → bytes ≡ slice_index bytes 0 ∷ slice_index bytes 1 ∷ slice_index bytes 2 ∷ slice_index bytes 3 ∷ slice_index bytes 4 ∷ slice_index bytes 5 ∷ drop 6 bytes
+    → bytes
+    ≡ slice_index bytes 0 ∷ slice_index bytes 1 ∷ slice_index bytes 2 ∷ slice_index bytes 3 ∷ slice_index bytes 4 ∷ slice_index bytes 5 ∷
+    drop 6 bytes
 six_bytes bytes h =
     let e0 = drop_more bytes 0 0 (omega arith) in
     let e1 = drop_more bytes 1 0 (omega arith) in
@@ -53,17 +60,22 @@ pub srh_spelling-srh_of : (bytes : List ℕ) → All (λ b. b < 2 ^ 8) bytes →
 srh_spelling-srh_of bytes all long kind =
     let P : ℕ → Type 0 = λ b. b < 2 ^ 8 in
     let n : ℕ = 8 * slice_index bytes 1 in
-    let tag : two_bytes (two_number (drop 6 bytes)) ≡ take 2 (drop 6 bytes) = two_bytes-number (drop 6 bytes) (omega (arith, length-drop 6 bytes)) (All-drop P 6 bytes all) in
+    let tag : two_bytes (two_number (drop 6 bytes))
+    ≡ take 2 (drop 6 bytes) = two_bytes-number (drop 6 bytes) (omega (arith, length-drop 6 bytes)) (All-drop P 6 bytes all) in
     let behind : two_bytes (two_number (drop 6 bytes)) ++ take n (drop 8 bytes) ≡ take (2 + n) (drop 6 bytes) =
-    ap (λ xs. xs ++ take n (drop 8 bytes)) tag ∙ ap (λ xs. take 2 (drop 6 bytes) ++ take n xs) (sym (drop-drop 2 6 bytes)) ∙ sym (take-add 2 n (drop 6 bytes)) in
+    ap (λ xs. xs ++ take n (drop 8 bytes)) tag ∙ ap (λ xs. take 2 (drop 6 bytes) ++ take n xs) (sym (drop-drop 2 6 bytes))
+    ∙ sym (take-add 2 n (drop 6 bytes)) in
     let whole = six_bytes bytes (omega arith) in
     let split : take (6 + (2 + n)) bytes ≡ take 6 bytes ++ take (2 + n) (drop 6 bytes) = take-add 6 (2 + n) bytes in
-    let front : take 6 bytes ≡ slice_index bytes 0 ∷ slice_index bytes 1 ∷ slice_index bytes 2 ∷ slice_index bytes 3 ∷ slice_index bytes 4 ∷ slice_index bytes 5 ∷ [] = ap (take 6) whole in
+    let front : take 6 bytes
+    ≡ slice_index bytes 0 ∷ slice_index bytes 1 ∷ slice_index bytes 2 ∷ slice_index bytes 3 ∷ slice_index bytes 4 ∷ slice_index bytes 5 ∷
+    [] = ap (take 6) whole in
     let sum : 8 + n ≡ 6 + (2 + n) = omega arith in
     rw (behind, sum, split, front, kind) refl
 
 -- a header in bytes can be spelled
-pub srh_of-spellable : (bytes : List ℕ) → All (λ b. b < 2 ^ 8) bytes → 8 + 8 * slice_index bytes 1 ≤ length bytes → IsSrhSpellable (srh_of bytes)
+pub srh_of-spellable : (bytes : List ℕ) → All (λ b. b < 2 ^ 8) bytes → 8 + 8 * slice_index bytes 1 ≤ length bytes
+    → IsSrhSpellable (srh_of bytes)
 srh_of-spellable bytes all long =
     let P : ℕ → Type 0 = λ b. b < 2 ^ 8 in
     record {
@@ -92,7 +104,8 @@ entry-at (a ∷ list) more (suc i) below all =
     let whole : List ℕ = (address_bytes a ++ flat_map address_bytes list) ++ more in
     let sum : 16 * suc i ≡ 16 + 16 * i = omega arith in
     let behind : drop 16 whole ≡ flat_map address_bytes list ++ more =
-    ap (drop 16) (append_assoc (address_bytes a) (flat_map address_bytes list) more) ∙ drop_at (address_bytes a) (flat_map address_bytes list ++ more) 16 (length-address_bytes a) in
+    ap (drop 16) (append_assoc (address_bytes a) (flat_map address_bytes list) more)
+    ∙ drop_at (address_bytes a) (flat_map address_bytes list ++ more) 16 (length-address_bytes a) in
     ap (λ n. address_number (drop n whole)) sum
     ∙ ap address_number (sym (drop-drop (16 * i) 16 whole) ∙ ap (drop (16 * i)) behind)
     ∙ entry-at list more i (omega arith) (All-tail P a list all)
@@ -106,5 +119,6 @@ length-entries (a ∷ list) =
     omega (arith, one, rest, sum)
 
 -- Segments Left is the header's byte 3
-pub left-set : (s : Srh) (rest : List ℕ) (v : ℕ) → slice_set (srh_spelling s ++ rest) 3 v ≡ srh_spelling (record s { segments_left = v }) ++ rest
+pub left-set : (s : Srh) (rest : List ℕ) (v : ℕ)
+    → slice_set (srh_spelling s ++ rest) 3 v ≡ srh_spelling (record s { segments_left = v }) ++ rest
 left-set s rest v = refl

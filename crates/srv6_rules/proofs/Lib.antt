@@ -3,5 +3,7 @@ pub mod Packets
 pub mod Edits
 pub mod Headers
 pub mod Chains
+pub mod Reached
 pub mod Endpoints
 pub mod Encapsulations
+pub mod PublicLaws

@@ -41,13 +41,15 @@ module _ (a b : List ℕ) (n h : ℕ) (s d r : List ℕ) (la : length a ≡ 4) (
   length-laid = simp length-append (omega arith)
 
 -- a byte of what is laid out, by its place
-front-laid : (a b : List ℕ) (n h : ℕ) (s d r : List ℕ) (k : ℕ) → length a ≡ 4 → length b ≡ 2 → k < 6 → slice_index (laid a b n h s d r) k ≡ slice_index (a ++ b) k
+front-laid : (a b : List ℕ) (n h : ℕ) (s d r : List ℕ) (k : ℕ) → length a ≡ 4 → length b ≡ 2 → k < 6
+    → slice_index (laid a b n h s d r) k ≡ slice_index (a ++ b) k
 unfolding laid
 front-laid a b n h s d r k la lb below =
     ap (λ xs. slice_index xs k) (sym (append_assoc a b (n ∷ h ∷ (s ++ (d ++ r)))))
     ∙ get_or_append_left (a ++ b) (n ∷ h ∷ (s ++ (d ++ r))) 0 k (omega (arith, length-append a b))
 
-source-laid : (a b : List ℕ) (n h : ℕ) (s d r : List ℕ) (k : ℕ) → length a ≡ 4 → length b ≡ 2 → length s ≡ 16 → length d ≡ 16 → 8 ≤ k → k < 24
+source-laid : (a b : List ℕ) (n h : ℕ) (s d r : List ℕ) (k : ℕ) → length a ≡ 4 → length b ≡ 2 → length s ≡ 16 → length d ≡ 16 → 8 ≤ k
+    → k < 24
     → slice_index (laid a b n h s d r) k ≡ slice_index s (k - 8)
 source-laid a b n h s d r k la lb ls ld from below =
     let sum : k ≡ 8 + (k - 8) = omega arith in
@@ -65,7 +67,8 @@ rest-laid a b n h s d r k la lb ls ld from =
     ∙ ap (λ xs. slice_index xs (k - 40)) (drop40-laid a b n h s d r la lb ls ld)
 
 -- bytes that are laid out alike but for a number and a part agree elsewhere
-agree-laid : (a b : List ℕ) (n h h' : ℕ) (s d d' r r' : List ℕ) → length a ≡ 4 → length b ≡ 2 → length s ≡ 16 → length d ≡ 16 → length d' ≡ 16
+agree-laid : (a b : List ℕ) (n h h' : ℕ) (s d d' r r' : List ℕ) → length a ≡ 4 → length b ≡ 2 → length s ≡ 16 → length d ≡ 16
+    → length d' ≡ 16
     → (k : ℕ) → (k ≡ 7 → ⊥) → (k < 24) ⊎ (40 ≤ k) → (40 ≤ k → slice_index r (k - 40) ≡ slice_index r' (k - 40))
     → slice_index (laid a b n h s d r) k ≡ slice_index (laid a b n h' s d' r') k
 agree-laid a b n h h' s d d' r r' la lb ls ld ld' k not_seven side behind = elim (cases_lt k 6) [
@@ -125,7 +128,8 @@ four_number-version bytes h =
 
 -- a spelling with more behind it, laid out
 pub spelling-laid : (p : Packet) (rest : List ℕ)
-    → spelling p ++ rest ≡ laid (four_bytes (first_word p.traffic_class p.flow_label)) (two_bytes (length p.payload)) p.next_header p.hop_limit (address_bytes p.source) (address_bytes p.destination) (p.payload ++ rest)
+    → spelling p ++ rest ≡ laid (four_bytes (first_word p.traffic_class p.flow_label))
+    (two_bytes (length p.payload)) p.next_header p.hop_limit (address_bytes p.source) (address_bytes p.destination) (p.payload ++ rest)
 unfolding laid header_spelling
 spelling-laid p rest = simp append_assoc
 
@@ -144,17 +148,22 @@ all-header_spelling : (p : Packet) → IsSpellable p → All (λ b. b < 2 ^ 8) (
 unfolding header_spelling
 all-header_spelling p h =
     let P : ℕ → Type 0 = λ b. b < 2 ^ 8 in
-    let addresses = All-append P (address_bytes p.source) (address_bytes p.destination) (all-address_bytes p.source) (all-address_bytes p.destination) in
+    let addresses = All-append P (address_bytes p.source) (address_bytes p.destination) (all-address_bytes p.source)
+    (all-address_bytes p.destination) in
     let tail = All-cons P p.next_header (p.hop_limit ∷ (address_bytes p.source ++ address_bytes p.destination)) h.next_header
     (All-cons P p.hop_limit (address_bytes p.source ++ address_bytes p.destination) h.hop_limit addresses) in
-    let behind_word = All-append P (two_bytes (length p.payload)) (p.next_header ∷ (p.hop_limit ∷ (address_bytes p.source ++ address_bytes p.destination))) (all-two_bytes (length p.payload)) tail in
-    All-append P (four_bytes (first_word p.traffic_class p.flow_label)) (two_bytes (length p.payload) ++ (p.next_header ∷ (p.hop_limit ∷ (address_bytes p.source ++ address_bytes p.destination)))) (all-four_bytes (first_word p.traffic_class p.flow_label)) behind_word
+    let behind_word = All-append P (two_bytes (length p.payload))
+    (p.next_header ∷ (p.hop_limit ∷ (address_bytes p.source ++ address_bytes p.destination))) (all-two_bytes (length p.payload)) tail in
+    All-append P (four_bytes (first_word p.traffic_class p.flow_label))
+    (two_bytes (length p.payload) ++ (p.next_header ∷ (p.hop_limit ∷ (address_bytes p.source ++ address_bytes p.destination))))
+    (all-four_bytes (first_word p.traffic_class p.flow_label)) behind_word
 
 pub all-spelling : (p : Packet) → IsSpellable p → All (λ b. b < 2 ^ 8) (spelling p)
 all-spelling p h = All-append (λ b. b < 2 ^ 8) (header_spelling p) p.payload (all-header_spelling p h) h.payload
 
 -- bytes that hold what their header states read as the packet there
-pub content_of-whole : (bytes : List ℕ) → slice_index bytes 0 / 16 ≡ 6 → 40 + stated_len bytes ≤ length bytes → content_of bytes ≡ V6 (packet_at bytes)
+pub content_of-whole : (bytes : List ℕ) → slice_index bytes 0 / 16 ≡ 6 → 40 + stated_len bytes ≤ length bytes
+    → content_of bytes ≡ V6 (packet_at bytes)
 content_of-whole bytes version whole =
     let e1 = ne_eqb (length bytes) 0 (omega arith) in
     let e2 = eq-eqb (slice_index bytes 0 / 16) 6 version in
@@ -176,16 +185,21 @@ module _ (p : Packet) (rest : List ℕ) (h : IsSpellable p) where
   word = first_word p.traffic_class p.flow_label
 
   spelled : List ℕ
-  spelled = laid (four_bytes word) (two_bytes (length p.payload)) p.next_header p.hop_limit (address_bytes p.source) (address_bytes p.destination) (p.payload ++ rest)
+  spelled = laid (four_bytes word) (two_bytes (length p.payload)) p.next_header p.hop_limit (address_bytes p.source)
+      (address_bytes p.destination) (p.payload ++ rest)
 
   word_is : four_number spelled ≡ word
   unfolding spelled laid word
-  word_is = four_number-bytes word (two_bytes (length p.payload) ++ (p.next_header ∷ p.hop_limit ∷ (address_bytes p.source ++ (address_bytes p.destination ++ (p.payload ++ rest)))))
+  word_is = four_number-bytes word
+      (two_bytes (length p.payload) ++
+      (p.next_header ∷ p.hop_limit ∷ (address_bytes p.source ++ (address_bytes p.destination ++ (p.payload ++ rest)))))
       (first_word-below p.traffic_class p.flow_label h.traffic_class h.flow_label)
 
   version_is : slice_index spelled 0 / 16 ≡ 6
   unfolding spelled laid word
-  version_is = first_word-version p.traffic_class p.flow_label (two_bytes (length p.payload) ++ (p.next_header ∷ p.hop_limit ∷ (address_bytes p.source ++ (address_bytes p.destination ++ (p.payload ++ rest)))))
+  version_is = first_word-version p.traffic_class p.flow_label
+      (two_bytes (length p.payload) ++
+      (p.next_header ∷ p.hop_limit ∷ (address_bytes p.source ++ (address_bytes p.destination ++ (p.payload ++ rest)))))
       h.traffic_class h.flow_label
 
   length_word : length (four_bytes word) ≡ 4
@@ -193,25 +207,31 @@ module _ (p : Packet) (rest : List ℕ) (h : IsSpellable p) where
 
   stated_is : stated_len spelled ≡ length p.payload
   unfolding spelled stated_len
-  stated_is = ap two_number (drop4-laid (four_bytes word) (two_bytes (length p.payload)) p.next_header p.hop_limit (address_bytes p.source) (address_bytes p.destination) (p.payload ++ rest)
+  stated_is = ap two_number (drop4-laid (four_bytes word) (two_bytes (length p.payload)) p.next_header p.hop_limit (address_bytes p.source)
+      (address_bytes p.destination) (p.payload ++ rest)
       length_word (length-two_bytes (length p.payload)) (length-address_bytes p.source) (length-address_bytes p.destination))
-      ∙ two_number-bytes (length p.payload) (p.next_header ∷ p.hop_limit ∷ (address_bytes p.source ++ (address_bytes p.destination ++ (p.payload ++ rest)))) h.payload_len
+      ∙ two_number-bytes (length p.payload)
+      (p.next_header ∷ p.hop_limit ∷ (address_bytes p.source ++ (address_bytes p.destination ++ (p.payload ++ rest)))) h.payload_len
 
   source_is : address_number (drop 8 spelled) ≡ p.source
   unfolding spelled
-  source_is = ap address_number (drop8-laid (four_bytes word) (two_bytes (length p.payload)) p.next_header p.hop_limit (address_bytes p.source) (address_bytes p.destination) (p.payload ++ rest)
+  source_is = ap address_number (drop8-laid (four_bytes word) (two_bytes (length p.payload)) p.next_header p.hop_limit
+      (address_bytes p.source) (address_bytes p.destination) (p.payload ++ rest)
       length_word (length-two_bytes (length p.payload)) (length-address_bytes p.source) (length-address_bytes p.destination))
       ∙ address_number-bytes p.source (address_bytes p.destination ++ (p.payload ++ rest)) h.source
 
   destination_is : address_number (drop 24 spelled) ≡ p.destination
   unfolding spelled
-  destination_is = ap address_number (drop24-laid (four_bytes word) (two_bytes (length p.payload)) p.next_header p.hop_limit (address_bytes p.source) (address_bytes p.destination) (p.payload ++ rest)
+  destination_is = ap address_number
+      (drop24-laid (four_bytes word) (two_bytes (length p.payload)) p.next_header p.hop_limit (address_bytes p.source)
+      (address_bytes p.destination) (p.payload ++ rest)
       length_word (length-two_bytes (length p.payload)) (length-address_bytes p.source) (length-address_bytes p.destination))
       ∙ address_number-bytes p.destination (p.payload ++ rest) h.destination
 
   rest_is : drop 40 spelled ≡ p.payload ++ rest
   unfolding spelled
-  rest_is = drop40-laid (four_bytes word) (two_bytes (length p.payload)) p.next_header p.hop_limit (address_bytes p.source) (address_bytes p.destination) (p.payload ++ rest)
+  rest_is = drop40-laid (four_bytes word) (two_bytes (length p.payload)) p.next_header p.hop_limit (address_bytes p.source)
+      (address_bytes p.destination) (p.payload ++ rest)
       length_word (length-two_bytes (length p.payload)) (length-address_bytes p.source) (length-address_bytes p.destination)
 
   payload_is : take (stated_len spelled) (drop 40 spelled) ≡ p.payload
@@ -219,17 +239,20 @@ module _ (p : Packet) (rest : List ℕ) (h : IsSpellable p) where
 
   next_header_is : slice_index spelled 6 ≡ p.next_header
   unfolding spelled
-  next_header_is = six-laid (four_bytes word) (two_bytes (length p.payload)) p.next_header p.hop_limit (address_bytes p.source) (address_bytes p.destination) (p.payload ++ rest)
+  next_header_is = six-laid (four_bytes word) (two_bytes (length p.payload)) p.next_header p.hop_limit (address_bytes p.source)
+      (address_bytes p.destination) (p.payload ++ rest)
       length_word (length-two_bytes (length p.payload)) (length-address_bytes p.source) (length-address_bytes p.destination)
 
   hop_limit_is : slice_index spelled 7 ≡ p.hop_limit
   unfolding spelled
-  hop_limit_is = seven-laid (four_bytes word) (two_bytes (length p.payload)) p.next_header p.hop_limit (address_bytes p.source) (address_bytes p.destination) (p.payload ++ rest)
+  hop_limit_is = seven-laid (four_bytes word) (two_bytes (length p.payload)) p.next_header p.hop_limit (address_bytes p.source)
+      (address_bytes p.destination) (p.payload ++ rest)
       length_word (length-two_bytes (length p.payload)) (length-address_bytes p.source) (length-address_bytes p.destination)
 
   length_is : length spelled ≡ 40 + (length p.payload + length rest)
   unfolding spelled
-  length_is = length-laid (four_bytes word) (two_bytes (length p.payload)) p.next_header p.hop_limit (address_bytes p.source) (address_bytes p.destination) (p.payload ++ rest)
+  length_is = length-laid (four_bytes word) (two_bytes (length p.payload)) p.next_header p.hop_limit (address_bytes p.source)
+      (address_bytes p.destination) (p.payload ++ rest)
       length_word (length-two_bytes (length p.payload)) (length-address_bytes p.source) (length-address_bytes p.destination)
       ∙ ap (λ n. 40 + n) (length-append p.payload rest)
 
@@ -248,23 +271,29 @@ module _ (p : Packet) (rest : List ℕ) (h : IsSpellable p) where
 
 -- a spelling, laid out
 pub spelling-laid_alone : (p : Packet)
-    → spelling p ≡ laid (four_bytes (first_word p.traffic_class p.flow_label)) (two_bytes (length p.payload)) p.next_header p.hop_limit (address_bytes p.source) (address_bytes p.destination) p.payload
+    → spelling p ≡ laid (four_bytes (first_word p.traffic_class p.flow_label)) (two_bytes (length p.payload)) p.next_header p.hop_limit
+    (address_bytes p.source) (address_bytes p.destination) p.payload
 spelling-laid_alone p =
     sym (append-nil (spelling p)) ∙ spelling-laid p []
-    ∙ ap (laid (four_bytes (first_word p.traffic_class p.flow_label)) (two_bytes (length p.payload)) p.next_header p.hop_limit (address_bytes p.source) (address_bytes p.destination)) (append-nil p.payload)
+    ∙ ap (laid (four_bytes (first_word p.traffic_class p.flow_label)) (two_bytes (length p.payload)) p.next_header p.hop_limit
+    (address_bytes p.source) (address_bytes p.destination)) (append-nil p.payload)
 
 -- packets that differ in the hop limit, the destination and bytes of the payload agree elsewhere in their spellings
-pub spelling-agrees : (p q : Packet) → q.traffic_class ≡ p.traffic_class → q.flow_label ≡ p.flow_label → q.next_header ≡ p.next_header → q.source ≡ p.source
+pub spelling-agrees : (p q : Packet) → q.traffic_class ≡ p.traffic_class → q.flow_label ≡ p.flow_label → q.next_header ≡ p.next_header
+    → q.source ≡ p.source
     → length q.payload ≡ length p.payload → (k : ℕ) → (k ≡ 7 → ⊥) → (k < 24) ⊎ (40 ≤ k)
     → (40 ≤ k → slice_index q.payload (k - 40) ≡ slice_index p.payload (k - 40)) → slice_index (spelling q) k ≡ slice_index (spelling p) k
 spelling-agrees p q class label next source len k not_seven side behind =
     let w : ℕ = first_word p.traffic_class p.flow_label in
     let word : first_word q.traffic_class q.flow_label ≡ w = rw (class, label) refl in
-    let there : spelling q ≡ laid (four_bytes w) (two_bytes (length p.payload)) p.next_header q.hop_limit (address_bytes p.source) (address_bytes q.destination) q.payload =
+    let there : spelling q ≡ laid (four_bytes w) (two_bytes (length p.payload)) p.next_header q.hop_limit (address_bytes p.source)
+    (address_bytes q.destination) q.payload =
     spelling-laid_alone q ∙ rw (word, len, next, source) refl in
     ap (λ xs. slice_index xs k) there
-    ∙ agree-laid (four_bytes w) (two_bytes (length p.payload)) p.next_header q.hop_limit p.hop_limit (address_bytes p.source) (address_bytes q.destination) (address_bytes p.destination) q.payload p.payload
-    (length-four_bytes w) (length-two_bytes (length p.payload)) (length-address_bytes p.source) (length-address_bytes q.destination) (length-address_bytes p.destination)
+    ∙ agree-laid (four_bytes w) (two_bytes (length p.payload)) p.next_header q.hop_limit p.hop_limit (address_bytes p.source)
+    (address_bytes q.destination) (address_bytes p.destination) q.payload p.payload
+    (length-four_bytes w) (length-two_bytes (length p.payload)) (length-address_bytes p.source) (length-address_bytes q.destination)
+    (length-address_bytes p.destination)
     k not_seven side behind
     ∙ ap (λ xs. slice_index xs k) (sym (spelling-laid_alone p))
 
@@ -273,7 +302,8 @@ pub spelling-hop_limit : (p : Packet) → slice_index (spelling p) 7 ≡ p.hop_l
 spelling-hop_limit p =
     let w : ℕ = first_word p.traffic_class p.flow_label in
     ap (λ xs. slice_index xs 7) (spelling-laid_alone p)
-    ∙ seven-laid (four_bytes w) (two_bytes (length p.payload)) p.next_header p.hop_limit (address_bytes p.source) (address_bytes p.destination) p.payload
+    ∙ seven-laid (four_bytes w) (two_bytes (length p.payload)) p.next_header p.hop_limit (address_bytes p.source)
+    (address_bytes p.destination) p.payload
     (length-four_bytes w) (length-two_bytes (length p.payload)) (length-address_bytes p.source) (length-address_bytes p.destination)
 
 pub spelling-payload : (p : Packet) (k : ℕ) → slice_index (spelling p) (40 + k) ≡ slice_index p.payload k
@@ -302,8 +332,11 @@ pub record Reads (bytes : List ℕ) (p : Packet) : Type 0 where
   pub packet : packet_at bytes ≡ p
 
 reads-by_tests : (bytes : List ℕ) (p : Packet) (empty six short cut : Bool)
-    → length bytes == 0 ≡ empty → (slice_index bytes 0 / 16) == 6 ≡ six → nat_lt (length bytes) 40 ≡ short → nat_lt (length bytes) (40 + stated_len bytes) ≡ cut
-    → cond empty (Unreadable bytes Truncated) (cond six (cond short (Unreadable bytes Truncated) (cond cut (Unreadable bytes Truncated) (V6 (packet_at bytes)))) (Unreadable bytes BadVersion)) ≡ V6 p
+    → length bytes == 0 ≡ empty → (slice_index bytes 0 / 16) == 6 ≡ six → nat_lt (length bytes) 40 ≡ short
+    → nat_lt (length bytes) (40 + stated_len bytes) ≡ cut
+    → cond empty (Unreadable bytes Truncated)
+    (cond six (cond short (Unreadable bytes Truncated) (cond cut (Unreadable bytes Truncated) (V6 (packet_at bytes))))
+    (Unreadable bytes BadVersion)) ≡ V6 p
     → Reads bytes p
 reads-by_tests bytes p true six short cut e1 e2 e3 e4 e = cc
 reads-by_tests bytes p false false short cut e1 e2 e3 e4 e = cc
@@ -313,11 +346,14 @@ reads-by_tests bytes p false true false false e1 e2 e3 e4 e =
     record { version = eqb-true (slice_index bytes 0 / 16) 6 e2; whole = ltb-false (length bytes) (40 + stated_len bytes) e4; packet = cc }
 
 pub reads : (bytes : List ℕ) (p : Packet) → content_of bytes ≡ V6 p → Reads bytes p
-reads bytes p e = reads-by_tests bytes p (length bytes == 0) ((slice_index bytes 0 / 16) == 6) (nat_lt (length bytes) 40) (nat_lt (length bytes) (40 + stated_len bytes)) refl refl refl refl e
+reads bytes p e = reads-by_tests bytes p (length bytes == 0) ((slice_index bytes 0 / 16) == 6) (nat_lt (length bytes) 40)
+    (nat_lt (length bytes) (40 + stated_len bytes)) refl refl refl refl e
 
 -- what does not read is kept as it is
 unreadable-by_tests : (bytes kept : List ℕ) (why : Reason) (empty six short cut : Bool)
-    → cond empty (Unreadable bytes Truncated) (cond six (cond short (Unreadable bytes Truncated) (cond cut (Unreadable bytes Truncated) (V6 (packet_at bytes)))) (Unreadable bytes BadVersion)) ≡ Unreadable kept why
+    → cond empty (Unreadable bytes Truncated)
+    (cond six (cond short (Unreadable bytes Truncated) (cond cut (Unreadable bytes Truncated) (V6 (packet_at bytes))))
+    (Unreadable bytes BadVersion)) ≡ Unreadable kept why
     → bytes ≡ kept
 unreadable-by_tests bytes kept why true six short cut e = cc
 unreadable-by_tests bytes kept why false false short cut e = cc
@@ -326,10 +362,12 @@ unreadable-by_tests bytes kept why false true false true e = cc
 unreadable-by_tests bytes kept why false true false false e = cc
 
 pub unreadable : (bytes kept : List ℕ) (why : Reason) → content_of bytes ≡ Unreadable kept why → bytes ≡ kept
-unreadable bytes kept why e = unreadable-by_tests bytes kept why (length bytes == 0) ((slice_index bytes 0 / 16) == 6) (nat_lt (length bytes) 40) (nat_lt (length bytes) (40 + stated_len bytes)) e
+unreadable bytes kept why e = unreadable-by_tests bytes kept why (length bytes == 0) ((slice_index bytes 0 / 16) == 6)
+    (nat_lt (length bytes) 40) (nat_lt (length bytes) (40 + stated_len bytes)) e
 
 -- the packet in whole bytes can be spelled
-pub packet_at-spellable : (bytes : List ℕ) → All (λ b. b < 2 ^ 8) bytes → 40 + stated_len bytes ≤ length bytes → IsSpellable (packet_at bytes)
+pub packet_at-spellable : (bytes : List ℕ) → All (λ b. b < 2 ^ 8) bytes → 40 + stated_len bytes ≤ length bytes
+    → IsSpellable (packet_at bytes)
 unfolding packet_at stated_len
 packet_at-spellable bytes all whole =
     let P : ℕ → Type 0 = λ b. b < 2 ^ 8 in
@@ -348,7 +386,8 @@ packet_at-spellable bytes all whole =
 -- a part of bytes and the part behind it are one part
 then_take : (i m n : ℕ) (xs zs ys : List ℕ) → zs ≡ take m (drop i xs) → ys ≡ take n (drop (i + m) xs) → zs ++ ys ≡ take (m + n) (drop i xs)
 then_take i m n xs zs ys ez ey =
-    ap (λ ws. ws ++ ys) ez ∙ ap (λ ws. take m (drop i xs) ++ ws) (ey ∙ ap (take n) (sym (drop-drop m i xs))) ∙ sym (take-add m n (drop i xs))
+    ap (λ ws. ws ++ ys) ez ∙ ap (λ ws. take m (drop i xs) ++ ws) (ey ∙ ap (take n) (sym (drop-drop m i xs)))
+    ∙ sym (take-add m n (drop i xs))
 
 laid-from : (bytes a b : List ℕ) (n h : ℕ) (s d r : List ℕ) (k : ℕ) → a ≡ take 4 bytes → b ≡ take 2 (drop 4 bytes)
     → n ∷ h ∷ [] ≡ take 2 (drop 6 bytes) → s ≡ take 16 (drop 8 bytes) → d ≡ take 16 (drop 24 bytes) → r ≡ take k (drop 40 bytes)
@@ -367,14 +406,17 @@ two_at_six : (bytes : List ℕ) → 8 ≤ length bytes → slice_index bytes 6 �
 two_at_six bytes h = rw (drop_more bytes 6 0 (omega arith), drop_more bytes 7 0 (omega arith)) refl
 
 -- a packet's spelling from what is known of its fields
-spelling-from : (p : Packet) (bytes : List ℕ) → four_bytes (first_word p.traffic_class p.flow_label) ≡ take 4 bytes → two_bytes (length p.payload) ≡ take 2 (drop 4 bytes)
-    → p.next_header ∷ p.hop_limit ∷ [] ≡ take 2 (drop 6 bytes) → address_bytes p.source ≡ take 16 (drop 8 bytes) → address_bytes p.destination ≡ take 16 (drop 24 bytes)
+spelling-from : (p : Packet) (bytes : List ℕ) → four_bytes (first_word p.traffic_class p.flow_label) ≡ take 4 bytes
+    → two_bytes (length p.payload) ≡ take 2 (drop 4 bytes)
+    → p.next_header ∷ p.hop_limit ∷ [] ≡ take 2 (drop 6 bytes) → address_bytes p.source ≡ take 16 (drop 8 bytes)
+    → address_bytes p.destination ≡ take 16 (drop 24 bytes)
     → p.payload ≡ take (length p.payload) (drop 40 bytes)
     → spelling p ≡ take (40 + length p.payload) bytes
 spelling-from p bytes ew el en es ed er =
     let flat = sym (append-nil (spelling p)) ∙ spelling-laid p [] in
     let inner = append-nil p.payload in
-    flat ∙ laid-from bytes (four_bytes (first_word p.traffic_class p.flow_label)) (two_bytes (length p.payload)) p.next_header p.hop_limit (address_bytes p.source) (address_bytes p.destination) (p.payload ++ []) (length p.payload)
+    flat ∙ laid-from bytes (four_bytes (first_word p.traffic_class p.flow_label)) (two_bytes (length p.payload)) p.next_header p.hop_limit
+    (address_bytes p.source) (address_bytes p.destination) (p.payload ++ []) (length p.payload)
     ew el en es ed (inner ∙ er)
 
 length-payload_at : (bytes : List ℕ) → 40 + stated_len bytes ≤ length bytes → length (packet_at bytes).payload ≡ stated_len bytes
@@ -395,13 +437,16 @@ two_at : (bytes : List ℕ) → 8 ≤ length bytes → (packet_at bytes).next_he
 unfolding packet_at
 two_at bytes h = two_at_six bytes h
 
-source_at : (bytes : List ℕ) → All (λ b. b < 2 ^ 8) bytes → 40 ≤ length bytes → address_bytes (packet_at bytes).source ≡ take 16 (drop 8 bytes)
+source_at : (bytes : List ℕ) → All (λ b. b < 2 ^ 8) bytes → 40 ≤ length bytes
+    → address_bytes (packet_at bytes).source ≡ take 16 (drop 8 bytes)
 unfolding packet_at
 source_at bytes all long = address_bytes-number (drop 8 bytes) (omega (arith, length-drop 8 bytes)) (All-drop (λ b. b < 2 ^ 8) 8 bytes all)
 
-destination_at : (bytes : List ℕ) → All (λ b. b < 2 ^ 8) bytes → 40 ≤ length bytes → address_bytes (packet_at bytes).destination ≡ take 16 (drop 24 bytes)
+destination_at : (bytes : List ℕ) → All (λ b. b < 2 ^ 8) bytes → 40 ≤ length bytes
+    → address_bytes (packet_at bytes).destination ≡ take 16 (drop 24 bytes)
 unfolding packet_at
-destination_at bytes all long = address_bytes-number (drop 24 bytes) (omega (arith, length-drop 24 bytes)) (All-drop (λ b. b < 2 ^ 8) 24 bytes all)
+destination_at bytes all long =
+    address_bytes-number (drop 24 bytes) (omega (arith, length-drop 24 bytes)) (All-drop (λ b. b < 2 ^ 8) 24 bytes all)
 
 stated_at : (bytes : List ℕ) → All (λ b. b < 2 ^ 8) bytes → 40 ≤ length bytes → two_bytes (stated_len bytes) ≡ take 2 (drop 4 bytes)
 unfolding stated_len
@@ -432,13 +477,15 @@ pub reads-spelled : (bytes : List ℕ) (p : Packet) → All (λ b. b < 2 ^ 8) by
     → bytes ≡ spelling p ++ drop (length (spelling p)) bytes
 reads-spelled bytes p all e =
     let r = reads bytes p e in
-    let whole : spelling p ≡ take (40 + stated_len bytes) bytes = ap (λ q. spelling q) (sym r.packet) ∙ spelling-packet_at bytes all r.version r.whole in
+    let whole : spelling p ≡ take (40 + stated_len bytes) bytes = ap (λ q. spelling q) (sym r.packet)
+    ∙ spelling-packet_at bytes all r.version r.whole in
     let len : length (spelling p) ≡ 40 + stated_len bytes = ap length whole ∙ length-take-le (40 + stated_len bytes) bytes r.whole in
     let cut : spelling p ≡ take (length (spelling p)) bytes = whole ∙ ap (λ n. take n bytes) (sym len) in
     sym (take-append-drop (length (spelling p)) bytes) ∙ ap (λ xs. xs ++ drop (length (spelling p)) bytes) (sym cut)
 
 -- bytes with nothing behind the end of their packet are its spelling
-pub reads-spelling : (bytes : List ℕ) (p : Packet) → All (λ b. b < 2 ^ 8) bytes → content_of bytes ≡ V6 p → length bytes ≤ length (spelling p)
+pub reads-spelling : (bytes : List ℕ) (p : Packet) → All (λ b. b < 2 ^ 8) bytes → content_of bytes ≡ V6 p
+    → length bytes ≤ length (spelling p)
     → bytes ≡ spelling p
 reads-spelling bytes p all e short =
     reads-spelled bytes p all e ∙ ap (λ xs. spelling p ++ xs) (drop_all (length (spelling p)) bytes short) ∙ append-nil (spelling p)

@@ -1,7 +1,8 @@
 -- The chain of extension headers behind an IPv6 header (RFC 8200 section 4).
-use Rattle.std.specs.Prelude.{◌≡◌, ℕ, zero, suc, ◌+◌, ◌*◌, ◌≤◌, Bool, true, false, ◌==◌, ◌&&◌, ◌||◌, nat_le, if◌then◌else◌, List, [], ◌∷◌, ◌++◌, length, take, drop, slice_index, All}
+use Rattle.std.specs.Prelude.{◌≡◌, ℕ, zero, suc, ◌+◌, ◌*◌, ◌≤◌, Bool, true, ◌==◌, ◌&&◌, ◌||◌, nat_le, if◌then◌else◌, List, [], ◌∷◌, length, take, drop, slice_index}
+use Rattle.srv6_rules.specs.declared.numbers.TheConstants.{HOP_BY_HOP, ROUTING, FRAGMENT, DESTINATION_OPTIONS, EXTENSION_UNIT, EXTENSION_LEN_AT}
 use Rattle.srv6_rules.specs.Packet.{Packet}
-use Rattle.srv6_rules.specs.Srh.{segment_routing}
+use Rattle.srv6_rules.specs.Srh.{segment_routing, routing_type_at}
 
 -- an extension header: the next-header value that named it, its place in the payload in bytes from 0, and its bytes
 pub record Header : Type 0 where
@@ -20,27 +21,27 @@ pub record Chain : Type 0 where
 
 -- Hop-by-Hop Options, Routing, Fragment and Destination Options; every other value names an upper layer (own rule)
 abbrev pub hop_by_hop : ℕ
-hop_by_hop = 0
+hop_by_hop = HOP_BY_HOP
 
 abbrev pub routing : ℕ
-routing = 43
+routing = ROUTING
 
 abbrev pub fragment : ℕ
-fragment = 44
+fragment = FRAGMENT
 
 abbrev pub destination_options : ℕ
-destination_options = 60
+destination_options = DESTINATION_OPTIONS
 
 abbrev pub is_extension : ℕ → Bool
 is_extension kind = (kind == hop_by_hop) || ((kind == routing) || ((kind == fragment) || (kind == destination_options)))
 
 -- the length in bytes of the header that these bytes begin with; a Fragment header has always 8
 abbrev pub extension_bytes : ℕ → List ℕ → ℕ
-extension_bytes kind bytes = if kind == fragment then 8 else 8 * (slice_index bytes 1 + 1)
+extension_bytes kind bytes = if kind == fragment then EXTENSION_UNIT else EXTENSION_UNIT * (slice_index bytes EXTENSION_LEN_AT + 1)
 
 -- the whole header is there
 abbrev pub is_whole : ℕ → List ℕ → Bool
-is_whole kind bytes = nat_le 8 (length bytes) && nat_le (extension_bytes kind bytes) (length bytes)
+is_whole kind bytes = nat_le EXTENSION_UNIT (length bytes) && nat_le (extension_bytes kind bytes) (length bytes)
 
 abbrev pub behind : Header → Chain → Chain
 behind h c = record { headers = h ∷ c.headers; end = c.end }
@@ -65,12 +66,16 @@ chain_at payload kind at = chain_within (length (drop at payload)) kind at (drop
 abbrev pub header_at : List ℕ → ℕ → ℕ → Header
 header_at payload kind at = record { kind = kind; at = at; bytes = take (extension_bytes kind (drop at payload)) (drop at payload) }
 
+-- the chain behind the header at a place of a payload
+abbrev pub chain_behind : List ℕ → ℕ → ℕ → Chain
+chain_behind payload kind at = let bytes = drop at payload in chain_at payload (slice_index bytes 0) (at + extension_bytes kind bytes)
+
 -- a header lies whole in a payload, with the length that it states
 pub record LiesIn (payload : List ℕ) (h : Header) : Type 0 where
   pub extension : is_extension h.kind ≡ true
   pub within : h.at + length h.bytes ≤ length payload
   pub bytes : h.bytes ≡ take (length h.bytes) (drop h.at payload)
-  pub least : 8 ≤ length h.bytes
+  pub least : EXTENSION_UNIT ≤ length h.bytes
   pub stated : length h.bytes ≡ extension_bytes h.kind h.bytes
 
 -- the chain of a packet
@@ -79,36 +84,4 @@ chain_of p = chain_at p.payload p.next_header 0
 
 -- a segment routing header
 abbrev pub is_segment_routing : Header → Bool
-is_segment_routing h = (h.kind == routing) && (slice_index h.bytes 2 == segment_routing)
-
--- a segment routing header with no segments left is passed over
-abbrev pub is_passed : Header → Bool
-is_passed h = is_segment_routing h && (slice_index h.bytes 3 == 0)
-
--- what is processed of a chain: the first header that is not passed over, else the end
-pub data Processed : Type 0 where
-  AtHeader : Header → Processed
-  AtUpper : ℕ → ℕ → Processed
-  AtCut : Processed
-
-abbrev pub at_end : ChainEnd → Processed
-at_end (Upper kind at) = AtUpper kind at
-at_end Cut = AtCut
-
-abbrev pub first_processed : List Header → ChainEnd → Processed
-first_processed [] end = at_end end
-first_processed (h ∷ hs) end = if is_passed h then first_processed hs end else AtHeader h
-
-abbrev pub processed_in : Chain → Processed
-processed_in c = first_processed c.headers c.end
-
-abbrev pub processed_of : Packet → Processed
-processed_of p = processed_in (chain_of p)
-
--- a header is the first of a chain that is not passed over
-pub record FirstNotPassed (headers : List Header) (h : Header) : Type 0 where
-  pub before : List Header
-  pub after : List Header
-  pub split : headers ≡ before ++ h ∷ after
-  pub passed : All (λ x. is_passed x ≡ true) before
-  pub stays : is_passed h ≡ false
+is_segment_routing h = (h.kind == routing) && (slice_index h.bytes routing_type_at == segment_routing)

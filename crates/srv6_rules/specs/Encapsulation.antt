@@ -1,12 +1,10 @@
 -- Encapsulation of a packet behind an outer IPv6 header and a segment list: H.Encaps and its reduced form (RFC 8986
 -- sections 5.1 and 5.2, RFC 8754 sections 2, 4.1 and 4.1.1).
-use Rattle.std.specs.Prelude.{ℕ, ◌+◌, ◌-◌, ◌*◌, ◌^◌, ◌<◌, ◌≤◌, Bool, true, false, not, ◌||◌, nat_lt, if◌then◌else◌, List, ◌++◌, length, drop, reverse, slice_index, flat_map, All}
-use Rattle.srv6_rules.specs.declared.sid.Behaviour.{Behaviour}
-use Rattle.srv6_rules.specs.declared.sid.Behaviour.TheVariants.{End, EndX, Dt6}
+use Rattle.std.specs.Prelude.{ℕ, ◌+◌, ◌-◌, ◌*◌, ◌^◌, ◌<◌, ◌≤◌, Bool, not, ◌||◌, nat_lt, if◌then◌else◌, List, ◌++◌, length, drop, reverse, slice_index, flat_map, All}
 use Rattle.srv6_rules.specs.Packet.{Packet, spelling, address_bytes}
 use Rattle.srv6_rules.specs.Srh.{Srh, srh_spelling}
-use Rattle.srv6_rules.specs.Chain.{routing}
-use Rattle.srv6_rules.specs.Endpoint.{ipv6_inside}
+use Rattle.srv6_rules.specs.Chain.{Header, routing}
+use Rattle.srv6_rules.specs.Behaviours.{ipv6_inside}
 
 -- what a packet is encapsulated with, but for the hop limit: the outer header's fields; the segments, at least one, in
 -- the order in which they are visited; and whether it is the reduced form, whose segment list lacks the first segment
@@ -38,6 +36,10 @@ segment_routing_of e left =
       tag = 0;
       body = flat_map address_bytes (segment_list e);
     }
+
+-- that header as the first of the outer packet's chain
+abbrev pub header_of : Encapsulation → ℕ → Header
+header_of e left = record { kind = routing; at = 0; bytes = srh_spelling (segment_routing_of e left) }
 
 -- the packet round the bytes of the inner one, with these Segments Left, hop limit and destination
 abbrev pub outer : Encapsulation → List ℕ → ℕ → ℕ → ℕ → Packet
@@ -72,12 +74,6 @@ inner_lowered p = record p { hop_limit = p.hop_limit - 1 }
 -- H.Encaps, or H.Encaps.Red where the form is reduced: of a packet whose hop limit is above 1, with the outer hop limit
 abbrev pub encapsulated : Encapsulation → Packet → ℕ → Packet
 encapsulated e p hop = pushed e (spelling (inner_lowered p)) hop
-
--- the behaviours that make the next segment the destination: End and End.X (RFC 8986 sections 4.1 and 4.2)
-abbrev pub takes_next_segment : Behaviour → Bool
-takes_next_segment End = true
-takes_next_segment EndX = true
-takes_next_segment (Dt6 table) = false
 
 -- the encapsulations of packets that bytes can spell: each field fits its width, and at most 127 addresses are visited,
 -- so that the header's length fits its byte (own rule)

@@ -1,5 +1,7 @@
 pub mod Packet
 pub mod Srh
+pub mod Behaviours
 pub mod Chain
 pub mod Endpoint
 pub mod Encapsulation
+pub mod Reasons

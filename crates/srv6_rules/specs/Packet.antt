@@ -1,6 +1,9 @@
 -- IPv6 packets as values, their one spelling, and how bytes are read (RFC 8200 section 3).
 use Rattle.std.specs.Prelude.{◌≡◌, ℕ, ◌+◌, ◌*◌, ◌/◌, ◌%◌, ◌^◌, ◌<◌, ◌==◌, nat_lt, if◌then◌else◌, List, ◌∷◌, ◌++◌, length, take, drop, slice_index, All}
 use Rattle.byteorder.specs.Endian.{big_number, big_bytes}
+use Rattle.srv6_rules.specs.declared.numbers.TheConstants.{IPV6_HEADER_LEN, MOST_LEN, IPV6_VERSION, PAYLOAD_LEN_AT, NEXT_HEADER_AT, HOP_LIMIT_AT, SOURCE_AT, DESTINATION_AT}
+use Rattle.srv6_rules.specs.declared.sid.Family.{Family}
+use Rattle.srv6_rules.specs.declared.sid.Family.TheVariants as families
 use Rattle.srv6_rules.specs.declared.sid.Reason.{Reason}
 use Rattle.srv6_rules.specs.declared.sid.Reason.TheVariants.{Truncated, BadVersion}
 
@@ -21,11 +24,11 @@ pub data Content : Type 0 where
 
 -- the IPv6 header's length in bytes
 abbrev pub header_len : ℕ
-header_len = 40
+header_len = IPV6_HEADER_LEN
 
 -- the longest packet in bytes: a header and the greatest payload length
 abbrev pub most_len : ℕ
-most_len = 65575
+most_len = MOST_LEN
 
 -- the 2, 4 or 16 bytes of a number, the highest first
 unfoldable pub two_bytes : ℕ → List ℕ
@@ -49,12 +52,13 @@ address_number bytes = big_number 16 bytes
 
 -- version 6, traffic class and flow label, in 4, 8 and 20 bits
 unfoldable pub first_word : ℕ → ℕ → ℕ
-first_word traffic_class flow_label = 6 * 2 ^ 28 + traffic_class * 2 ^ 20 + flow_label
+first_word traffic_class flow_label = IPV6_VERSION * 2 ^ 28 + traffic_class * 2 ^ 20 + flow_label
 
 -- the bytes of a packet's header; its payload length is the payload's (RFC 8200 section 3)
 unfoldable pub header_spelling : Packet → List ℕ
 header_spelling p =
-    four_bytes (first_word p.traffic_class p.flow_label) ++ (two_bytes (length p.payload) ++ (p.next_header ∷ p.hop_limit ∷ (address_bytes p.source ++ address_bytes p.destination)))
+    four_bytes (first_word p.traffic_class p.flow_label) ++
+    (two_bytes (length p.payload) ++ (p.next_header ∷ p.hop_limit ∷ (address_bytes p.source ++ address_bytes p.destination)))
 
 -- the one spelling of a packet
 abbrev pub spelling : Packet → List ℕ
@@ -77,7 +81,7 @@ Spells bytes p = IsSpellable p × (bytes ≡ spelling p)
 
 -- the payload length that a header of at least 40 bytes states
 unfoldable pub stated_len : List ℕ → ℕ
-stated_len bytes = two_number (drop 4 bytes)
+stated_len bytes = two_number (drop PAYLOAD_LEN_AT bytes)
 
 -- the packet whose header these at least 40 bytes begin with; what stands behind its end is cut
 unfoldable pub packet_at : List ℕ → Packet
@@ -86,22 +90,26 @@ packet_at bytes =
     record {
       traffic_class = word / 2 ^ 20 % 2 ^ 8;
       flow_label = word % 2 ^ 20;
-      next_header = slice_index bytes 6;
-      hop_limit = slice_index bytes 7;
-      source = address_number (drop 8 bytes);
-      destination = address_number (drop 24 bytes);
-      payload = take (stated_len bytes) (drop 40 bytes);
+      next_header = slice_index bytes NEXT_HEADER_AT;
+      hop_limit = slice_index bytes HOP_LIMIT_AT;
+      source = address_number (drop SOURCE_AT bytes);
+      destination = address_number (drop DESTINATION_AT bytes);
+      payload = take (stated_len bytes) (drop header_len bytes);
     }
 
--- how bytes read as IPv6: the version is judged before the lengths where there is a byte
+-- how bytes read as IPv6: the version is judged before the lengths where there is a byte (RFC 8200 section 3)
 abbrev pub content_of : List ℕ → Content
 content_of bytes =
     if length bytes == 0 then Unreadable bytes Truncated
-    else if (slice_index bytes 0 / 16) == 6
-    then (if nat_lt (length bytes) 40 then Unreadable bytes Truncated
-    else if nat_lt (length bytes) (40 + stated_len bytes) then Unreadable bytes Truncated
+    else if (slice_index bytes 0 / 16) == IPV6_VERSION
+    then (if nat_lt (length bytes) header_len then Unreadable bytes Truncated
+    else if nat_lt (length bytes) (header_len + stated_len bytes) then Unreadable bytes Truncated
     else V6 (packet_at bytes))
     else Unreadable bytes BadVersion
+
+-- how bytes read as a packet of a family
+abbrev pub read_as : Family → List ℕ → Content
+read_as families.V6 bytes = content_of bytes
 
 -- what enters a node: of bytes that do not read at most a longest packet's length is kept (own rule)
 abbrev pub entered : List ℕ → Content

@@ -9,6 +9,7 @@
 
 pub mod encapsulation;
 pub mod laws;
+pub mod numbers;
 mod sid;
 
 pub use sid::{Behaviour, Csid, Family, LinkSet, Reason, SidEntry};

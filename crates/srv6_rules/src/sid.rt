@@ -1,8 +1,13 @@
 //! SIDs and their behaviours, sets of links, and the reasons for which a node drops a packet.
 
-ghost use Rattle.std.specs.Prelude.{◌≡◌, length};
+ghost use Rattle.std.specs.Prelude.{◌≡◌, Some};
+ghost use Rattle.srv6_rules.specs.Reasons.{reason_name};
+ghost use Rattle.srv6_rules.specs.Behaviours.{behaviour_goes_on, behaviour_exposes, goes_on, exposes};
 
-use std::marker::Model;
+use crate::numbers::IPV6_INSIDE;
+use base::Seq;
+use std::fmt;
+use std::fmt::{Display, Formatter};
 use v6_addr::Prefix;
 
 /// The family of a packet.
@@ -62,35 +67,28 @@ pub enum Reason {
     NotBuilt,
 }
 
+impl Display for Reason {
+    ghost output = { λ reason. Some (reason_name reason) };
+
+    #[tactic(auto, unfolding(crate::specs::Reasons::reason_name))]
+    fn fmt<W: fmt::Write>(&self, f: &mut Formatter<W>) -> fmt::Result {
+        f.write_str(match self {
+            Reason::Truncated => "Truncated",
+            Reason::BadVersion => "BadVersion",
+            Reason::Multicast => "Multicast",
+            Reason::NoRoute => "NoRoute",
+            Reason::HopLimit => "HopLimit",
+            Reason::BadChain => "BadChain",
+            Reason::BadSegments => "BadSegments",
+            Reason::UnknownRouting => "UnknownRouting",
+            Reason::UpperLayer => "UpperLayer",
+            Reason::NotBuilt => "NotBuilt",
+        })
+    }
+}
+
 /// A set of equal next hops, as numbers of links in the order of the description.
-#[derive(Debug, Drop)]
-pub struct LinkSet {
-    links: Vec<u32>,
-}
-
-impl Model for LinkSet {
-    ghost use Rattle.std.specs.Prelude.{List, ℕ};
-
-    ghost Value = { List ℕ };
-
-    ghost view = { λ s. s.links.items };
-}
-
-impl LinkSet {
-    /// The set with these links, in this order.
-    pub fn new(links: Vec<u32>) -> LinkSet
-        ensures { result ≡ links.items }
-    {
-        LinkSet { links }
-    }
-
-    /// The links, in order.
-    pub fn as_slice(&self) -> &[u32]
-        ensures { result.now ≡ self.now }
-    {
-        self.links.as_slice()
-    }
-}
+pub type LinkSet = Seq<u32>;
 
 /// A SID: a prefix that a node has, and what is done with packets that come to it.
 #[derive(Debug, Drop)]
@@ -105,4 +103,43 @@ pub struct SidEntry {
     pub title: Option<u32>,
     /// The links of an End.X, none of others.
     pub links: LinkSet,
+}
+
+impl Behaviour {
+    /// It makes the next segment the destination: End and End.X (RFC 8986 sections 4.1 and 4.2).
+    pub fn goes_on(&self) -> bool
+        ensures { result ≡ behaviour_goes_on self.now }
+    {
+        match self {
+            Behaviour::End | Behaviour::EndX => true,
+            Behaviour::Dt6 { .. } => false,
+        }
+    }
+
+    /// It exposes the packet inside, an upper layer of this kind: End.DT6 of IPv6 (RFC 8986 section
+    /// 4.6).
+    pub fn exposes(&self, kind: u8) -> bool
+        ensures { result ≡ behaviour_exposes self.now kind }
+    {
+        match self {
+            Behaviour::End | Behaviour::EndX => false,
+            Behaviour::Dt6 { .. } => kind == IPV6_INSIDE,
+        }
+    }
+}
+
+impl SidEntry {
+    /// It makes the next segment the destination (RFC 8986 section 4).
+    pub fn goes_on(&self) -> bool
+        ensures { result ≡ goes_on self.now }
+    {
+        self.behaviour.goes_on()
+    }
+
+    /// It exposes the packet inside, an upper layer of this kind (RFC 8986 section 4).
+    pub fn exposes(&self, kind: u8) -> bool
+        ensures { result ≡ exposes self.now kind }
+    {
+        self.behaviour.exposes(kind)
+    }
 }

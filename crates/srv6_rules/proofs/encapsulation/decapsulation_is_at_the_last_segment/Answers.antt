@@ -2,4 +2,4 @@ use Rattle.srv6_rules.proofs.Encapsulations.{at_segment-bad_segments}
 use Rattle.srv6_rules.proofs.encapsulation.decapsulation_is_at_the_last_segment.Goals as goal
 
 pub returns : goal.returns
-returns c = λ table allow e inner i hop. at_segment-bad_segments e inner i hop table allow
+returns c = at_segment-bad_segments

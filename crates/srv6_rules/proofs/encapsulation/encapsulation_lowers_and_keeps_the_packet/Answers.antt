@@ -1,5 +1,8 @@
 use Rattle.std.proofs.Common.{refl}
-use Rattle.srv6_rules.proofs.Encapsulations.{encapsulated-exposed, encapsulated-spellable, length-encapsulated, lowered-spellable, lowered-spelling}
+use Rattle.srv6_rules.specs.Packet.{spelling}
+use Rattle.srv6_rules.specs.Encapsulation.{inner_lowered}
+use Rattle.srv6_rules.proofs.Packets.{content_of-spelling_alone}
+use Rattle.srv6_rules.proofs.Encapsulations.{at_segment-exposed, encapsulated-spellable, length-encapsulated, lowered-spellable, lowered-spelling}
 use Rattle.srv6_rules.proofs.encapsulation.encapsulation_lowers_and_keeps_the_packet.Goals as goal
 
 pub returns-clause-lowered : goal.returns-clause-lowered
@@ -18,4 +21,7 @@ pub returns-clause-spellable : goal.returns-clause-spellable
 returns-clause-spellable c = encapsulated-spellable
 
 pub returns-clause-exposed : goal.returns-clause-exposed
-returns-clause-exposed c = λ table allow e p i hop. encapsulated-exposed e p i hop table allow
+returns-clause-exposed c = λ s allow e p. at_segment-exposed s allow e (spelling (inner_lowered p))
+
+pub returns-clause-reads : goal.returns-clause-reads
+returns-clause-reads c = λ p ok. content_of-spelling_alone (inner_lowered p) (lowered-spellable p ok)

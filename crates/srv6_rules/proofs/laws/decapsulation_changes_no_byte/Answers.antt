@@ -1,4 +1,4 @@
-use Rattle.srv6_rules.proofs.Endpoints.{at_sid-exposes, at_sid-exposed_packet, at_sid-exposed_unreadable, at_sid-content, at_sid-exposed_back}
+use Rattle.srv6_rules.proofs.Endpoints.{at_sid-exposes, at_sid-exposed_packet, read_as-unreadable, at_sid-content, at_sid-exposed_back}
 use Rattle.srv6_rules.proofs.laws.decapsulation_changes_no_byte.Goals as goal
 
 pub returns-clause-exposes : goal.returns-clause-exposes
@@ -8,7 +8,7 @@ pub returns-clause-packet : goal.returns-clause-packet
 returns-clause-packet c = at_sid-exposed_packet
 
 pub returns-clause-unreadable : goal.returns-clause-unreadable
-returns-clause-unreadable c = at_sid-exposed_unreadable
+returns-clause-unreadable c = read_as-unreadable
 
 pub returns-clause-content : goal.returns-clause-content
 returns-clause-content c = at_sid-content

@@ -1,0 +1,14 @@
+use Rattle.srv6_rules.proofs.Endpoints.{at_sid-delivered, at_address-delivered, at_address-not_onward, at_address-not_exposed}
+use Rattle.srv6_rules.proofs.laws.delivered_packet_is_as_it_was.Goals as goal
+
+pub returns-clause-at_sid : goal.returns-clause-at_sid
+returns-clause-at_sid c = at_sid-delivered
+
+pub returns-clause-at_address : goal.returns-clause-at_address
+returns-clause-at_address c = at_address-delivered
+
+pub returns-clause-onward : goal.returns-clause-onward
+returns-clause-onward c = at_address-not_onward
+
+pub returns-clause-exposed : goal.returns-clause-exposed
+returns-clause-exposed c = at_address-not_exposed
