@@ -48,11 +48,14 @@ module _ (net : Network) (end : List Step → walks.Step → Bool) where
       (λ next e. every-rides ts next gave.after pick (taken + decisions gave.outcome) e))
       (every (pick taken))
 
-  goes_agree : (ts : List Step) (more : ℕ) (place : Place) (after : Content) (pick qick : ℕ → ℕ) (taken uaken : ℕ) (o : Outcome) (t : Step) (E : Type 0)
-      → ((next : Option Place) → Rides end ts (walk_of more net next after pick (taken + 1)) → Rides end ts (walk_of more net next after qick (uaken + 1)))
+  goes_agree : (ts : List Step) (more : ℕ) (place : Place) (after : Content) (pick qick : ℕ → ℕ) (taken uaken : ℕ) (o : Outcome) (t : Step)
+      → (E : Type 0)
+      → ((next : Option Place)
+      → Rides end ts (walk_of more net next after pick (taken + 1)) → Rides end ts (walk_of more net next after qick (uaken + 1)))
       → Goes o t (Rides end ts (walk_of more net (next_place net place o) after pick (taken + decisions o))) E
       → Goes o t (Rides end ts (walk_of more net (next_place net place o) after qick (uaken + decisions o))) E
-  goes_agree ts more place after pick qick taken uaken (outcomes.Send link) t E ih h = Crosses-map t link (ih (next_place net place (outcomes.Send link))) h
+  goes_agree ts more place after pick qick taken uaken (outcomes.Send link) t E ih h =
+      Crosses-map t link (ih (next_place net place (outcomes.Send link))) h
   goes_agree ts more place after pick qick taken uaken (outcomes.Again n how) t E ih h = h
   goes_agree ts more place after pick qick taken uaken (outcomes.Hand n how family) t E ih h = h
   goes_agree ts more place after pick qick taken uaken outcomes.Local t E ih h = absurd h
@@ -69,7 +72,8 @@ module _ (net : Network) (end : List Step → walks.Step → Bool) where
   agree (suc more) (t ∷ ts) None content pick qick taken uaken same h = absurd h
   agree (suc more) [] (Some place) content pick qick taken uaken same h =
       let at_first : pick taken ≡ qick uaken = first_same taken uaken pick qick (same 0 (omega arith)) in
-      subst (λ (c : ℕ). let gave = step_of net place content c in Ends gave.outcome (IsTrue (end [] (seen_at place content gave)))) at_first h
+      subst (λ (c : ℕ). let gave = step_of net place content c in Ends gave.outcome (IsTrue (end [] (seen_at place content gave))))
+      at_first h
     where
       first_same : (a b : ℕ) (p q : ℕ → ℕ) → p (a + 0) ≡ q (b + 0) → p a ≡ q b
       first_same a b p q e = ap p (omega arith) ∙ (e ∙ ap q (omega arith))
@@ -78,7 +82,8 @@ module _ (net : Network) (end : List Step → walks.Step → Bool) where
       let gave = step_of net place content (pick taken) in
       subst
       (λ (c : ℕ). let gave = step_of net place content c in
-      Goes gave.outcome t (Rides end ts (walk_of more net (next_place net place gave.outcome) gave.after qick (uaken + decisions gave.outcome)))
+      Goes gave.outcome t
+      (Rides end ts (walk_of more net (next_place net place gave.outcome) gave.after qick (uaken + decisions gave.outcome)))
       (IsTrue (end (t ∷ ts) (seen_at place content gave))))
       at_first
       (goes_agree ts more place gave.after pick qick taken uaken gave.outcome t _
@@ -146,7 +151,8 @@ module _ (net : Network) (end : List Step → walks.Step → Bool) where
   first_goes : (t : Step) (ts : List Step) (place : Place) (content : Content) (pick : ℕ → ℕ) (choice fuel : ℕ) → pick 0 ≡ choice
       → Rides end (t ∷ ts) (walk_of fuel net (Some place) content pick 0)
       → let gave = step_of net place content choice in
-      (more : ℕ) × Goes gave.outcome t (Rides end ts (walk_of more net (next_place net place gave.outcome) gave.after pick (0 + decisions gave.outcome)))
+      (more : ℕ) × Goes gave.outcome t
+      (Rides end ts (walk_of more net (next_place net place gave.outcome) gave.after pick (0 + decisions gave.outcome)))
       (IsTrue (end (t ∷ ts) (seen_at place content gave)))
   unfolding walk_of
   first_goes t ts place content pick choice zero e r = absurd r
@@ -154,7 +160,8 @@ module _ (net : Network) (end : List Step → walks.Step → Bool) where
     more,
     subst
         (λ (c : ℕ). let gave = step_of net place content c in
-        Goes gave.outcome t (Rides end ts (walk_of more net (next_place net place gave.outcome) gave.after pick (0 + decisions gave.outcome)))
+        Goes gave.outcome t
+        (Rides end ts (walk_of more net (next_place net place gave.outcome) gave.after pick (0 + decisions gave.outcome)))
         (IsTrue (end (t ∷ ts) (seen_at place content gave))))
         e r,
   )

@@ -1,11 +1,10 @@
 -- Rides by the way that the code finds, and the end of the first link of a set.
-use Rattle.std.proofs.Common.{◌≡◌, ℕ, ◌<◌, List, [], ◌∷◌, length, get_or, Option, Some, None, slice_get, Contains, refl, sym, ◌∙◌, ap, subst, arith}
+use Rattle.std.proofs.Common.{◌≡◌, ℕ, ◌<◌, List, [], ◌∷◌, length, get_or, Option, Some, None, slice_get, refl, sym, ap, subst, arith}
 use Rattle.std.specs.Prelude.{IfSome}
-use Rattle.std.proofs.lemmas.Grind.{get_or_default_zero}
 use Rattle.srv6_rules.specs.declared.sid.Reason.{Reason}
 use Rattle.net_model.specs.declared.parts.Link.{Link}
 use Rattle.net_model.specs.Network.{Network}
-use Rattle.net_model.specs.Keeps.{Keeps, IsLinkSet, EndsElsewhere}
+use Rattle.net_model.specs.Keeps.{Keeps, EndsElsewhere}
 use Rattle.walk_rules.specs.declared.place.Place.{Place}
 use Rattle.walk_rules.specs.Way.{Away, Own, Into, way_of}
 use Rattle.walk_rules.specs.Walk.{far_end}

@@ -9,7 +9,7 @@ use Rattle.srv6_rules.specs.declared.sid.Family.TheVariants as families
 use Rattle.srv6_rules.specs.declared.sid.Reason.TheVariants as reasons
 use Rattle.srv6_rules.specs.declared.sid.SidEntry.{SidEntry}
 use Rattle.srv6_rules.specs.Behaviours.{goes_on, exposes, ipv6_inside}
-use Rattle.srv6_rules.specs.Packet.{Packet, Content, V6, read_as}
+use Rattle.srv6_rules.specs.Packet.{Packet, V6, read_as}
 use Rattle.srv6_rules.specs.Srh.{Srh, srh_of, tlv_bytes, segments_left_at}
 use Rattle.srv6_rules.specs.Chain.{Header, ChainEnd, Upper, Cut, is_segment_routing, chain_of, chain_at, chain_within}
 use Rattle.srv6_rules.specs.Endpoint.{Endpoint, Onward, Exposed, Delivered, Refused, at_sid, at_header, at_end, over_headers, upper_layer, in_packet, next_segment, has_bad_segments, advanced}

@@ -28,7 +28,8 @@ use Rattle.leg_table.proofs.Options.{map-some, if-some, some-same}
 use Rattle.leg_table.proofs.Rides.{arrived, same_packet}
 
 -- events before events
-pub after-after : (xs ys : List Event) (o : Option Handed) → option_map (after_events xs) (option_map (after_events ys) o) ≡ option_map (after_events (xs ++ ys)) o
+pub after-after : (xs ys : List Event) (o : Option Handed)
+    → option_map (after_events xs) (option_map (after_events ys) o) ≡ option_map (after_events (xs ++ ys)) o
 after-after xs ys None = refl
 after-after xs ys (Some h) = ap (λ (t : List Event). Some (record { trace = t; content = h.content })) (sym (append_assoc xs ys h.trace))
 
@@ -38,12 +39,15 @@ after-none (Some h) = refl
 
 module _ (net : Network) where
   -- what a walk hands over, by what its first stage gives
-  pub handed-stage : (more : ℕ) (place : Place) (content : Content) (pick : ℕ → ℕ) (taken : ℕ) (gave : Gave) → step_of net place content (pick taken) ≡ gave
+  pub handed-stage : (more : ℕ) (place : Place) (content : Content) (pick : ℕ → ℕ) (taken : ℕ) (gave : Gave)
+      → step_of net place content (pick taken) ≡ gave
       → handed_over net (walk_of (suc more) net (Some place) content pick taken)
-      ≡ handed_first net gave gave.outcome (handed_over net (walk_of more net (next_place net place gave.outcome) gave.after pick (taken + decisions gave.outcome)))
+      ≡ handed_first net gave gave.outcome
+      (handed_over net (walk_of more net (next_place net place gave.outcome) gave.after pick (taken + decisions gave.outcome)))
   unfolding walk_of
   handed-stage more place content pick taken gave e =
-      ap (λ (g : Gave). handed_first net g g.outcome (handed_over net (walk_of more net (next_place net place g.outcome) g.after pick (taken + decisions g.outcome)))) e
+      ap (λ (g : Gave). handed_first net g g.outcome
+      (handed_over net (walk_of more net (next_place net place g.outcome) g.after pick (taken + decisions g.outcome)))) e
 
   -- what is handed over behind an execution, by the stage of the execution
   pub handed-behind : (fuel : ℕ) (place next : Place) (content after : Content) (pick : ℕ → ℕ) (taken n : ℕ) (how : How) (h : Handed)
@@ -53,11 +57,13 @@ module _ (net : Network) where
       → handed_over net (walk_of (suc fuel) net (Some place) content pick taken) ≡ Some (after_events (executed net n) h)
   handed-behind fuel place next content after pick taken n how h stage leads e =
       handed-stage fuel place content pick taken (goes (outcomes.Again n how) after) stage
-      ∙ ap (λ (o : Option Place). option_map (after_events (executed net n)) (handed_over net (walk_of fuel net o after pick (taken + 0)))) leads
+      ∙ ap (λ (o : Option Place). option_map (after_events (executed net n)) (handed_over net (walk_of fuel net o after pick (taken + 0))))
+      leads
       ∙ ap (option_map (after_events (executed net n))) e
 
   -- rows that agree from here on give one walk
-  pub walk-same : (fuel : ℕ) (o : Option Place) (content : Content) (pick qick : ℕ → ℕ) (taken uaken : ℕ) → ((d : ℕ) → pick (taken + d) ≡ qick (uaken + d))
+  pub walk-same : (fuel : ℕ) (o : Option Place) (content : Content) (pick qick : ℕ → ℕ) (taken uaken : ℕ)
+      → ((d : ℕ) → pick (taken + d) ≡ qick (uaken + d))
       → walk_of fuel net o content pick taken ≡ walk_of fuel net o content qick uaken
   unfolding walk_of
   walk-same zero o content pick qick taken uaken same = refl
@@ -67,7 +73,8 @@ module _ (net : Network) where
       let at_first : pick taken ≡ qick uaken = first_same taken uaken pick qick (same 0) in
       let gave = step_of net place content (pick taken) in
       ap (λ (rest : List walks.Step). stage (pick taken) ∷ rest)
-      (walk-same more (next_place net place gave.outcome) gave.after pick qick (taken + decisions gave.outcome) (uaken + decisions gave.outcome)
+      (walk-same more (next_place net place gave.outcome) gave.after pick qick (taken + decisions gave.outcome)
+      (uaken + decisions gave.outcome)
       (later taken uaken (decisions gave.outcome) pick qick same))
       ∙ ap (λ (c : ℕ). let gave = step_of net place content c in
       stage c ∷ walk_of more net (next_place net place gave.outcome) gave.after qick (uaken + decisions gave.outcome)) at_first
@@ -100,7 +107,8 @@ module _ (net : Network) where
       let f : suc m + n ≡ suc (m + n) = omega arith in
       let gave = step_of net place content (pick taken) in
       rw f
-      (first-more gave gave.outcome (handed_over net (walk_of m net (next_place net place gave.outcome) gave.after pick (taken + decisions gave.outcome)))
+      (first-more gave gave.outcome (handed_over net
+      (walk_of m net (next_place net place gave.outcome) gave.after pick (taken + decisions gave.outcome)))
       (handed_over net (walk_of (m + n) net (next_place net place gave.outcome) gave.after pick (taken + decisions gave.outcome))) h
       (λ k. handed-more m n (next_place net place gave.outcome) gave.after pick (taken + decisions gave.outcome) k) e)
 
@@ -109,7 +117,8 @@ module _ (net : Network) where
       → (us : List Step) × (matches us es ≡ true) × (length us ≤ length ts)
   executed-meets ts n es h = by_title (is_titled net n) ts h
     where
-      by_title : (t : Bool) (ts : List Step) → matches ts ((if t then Executed n ∷ [] else []) ++ es) ≡ true → (us : List Step) × (matches us es ≡ true) × (length us ≤ length ts)
+      by_title : (t : Bool) (ts : List Step) → matches ts ((if t then Executed n ∷ [] else []) ++ es) ≡ true
+          → (us : List Step) × (matches us es ≡ true) × (length us ≤ length ts)
       by_title false ts h = (ts, h, omega arith)
       by_title true [] h = absurd (false≢true h)
       by_title true (t ∷ ts) h = (ts, (and_parts (meets t (Executed n)) (matches ts es) h).1, omega arith)
@@ -147,12 +156,14 @@ module _ (net : Network) where
       let gave = step_of net place content (pick taken) in
       subst
       (λ (c : ℕ). let gave = step_of net place content c in
-      handed_first net gave gave.outcome (handed_over net (walk_of more net (next_place net place gave.outcome) gave.after qick (uaken + decisions gave.outcome))) ≡ Some h)
+      handed_first net gave gave.outcome
+      (handed_over net (walk_of more net (next_place net place gave.outcome) gave.after qick (uaken + decisions gave.outcome))) ≡ Some h)
       at_first
       (first-agree gave gave.outcome ts
       (handed_over net (walk_of more net (next_place net place gave.outcome) gave.after pick (taken + decisions gave.outcome)))
       (handed_over net (walk_of more net (next_place net place gave.outcome) gave.after qick (uaken + decisions gave.outcome))) h
-      (λ us k few met. hands-agree more us (next_place net place gave.outcome) gave.after pick qick (taken + decisions gave.outcome) (uaken + decisions gave.outcome) k
+      (λ us k few met. hands-agree more us (next_place net place gave.outcome) gave.after pick qick (taken + decisions gave.outcome)
+      (uaken + decisions gave.outcome) k
       (later taken uaken (decisions gave.outcome) (length us) pick qick few same) met)
       m e)
     where
@@ -174,7 +185,8 @@ pub record RideWalk (net : Network) (ts : List Step) (place : Place) (p : Packet
       (handed_over net (walk_of fuel net (Some r.place) (V6 (with_hop_limit (p.hop_limit - r.lowered) p)) pick (taken + count)))
 
 module _ (net : Network) (keeps : Keeps net) where
-  walk-here : (ts : List Step) (place : Place) (p : Packet) (n : ℕ) → RideWalk net ts place p (record { sid = n; place = place; left = ts; lowered = 0 })
+  walk-here : (ts : List Step) (place : Place) (p : Packet) (n : ℕ)
+      → RideWalk net ts place p (record { sid = n; place = place; left = ts; lowered = 0 })
   walk-here ts place p n =
       record {
         count = 0;
@@ -185,15 +197,18 @@ module _ (net : Network) (keeps : Keeps net) where
     where
       at : (pick : ℕ → ℕ) (taken fuel : ℕ)
           → handed_over net (walk_of (0 + fuel) net (Some place) (V6 p) pick taken)
-          ≡ option_map (after_events []) (handed_over net (walk_of fuel net (Some place) (V6 (with_hop_limit (p.hop_limit - 0) p)) pick (taken + 0)))
+          ≡ option_map (after_events [])
+          (handed_over net (walk_of fuel net (Some place) (V6 (with_hop_limit (p.hop_limit - 0) p)) pick (taken + 0)))
       at pick taken fuel =
           ap (λ (k : ℕ). handed_over net (walk_of k net (Some place) (V6 p) pick taken)) (zero-add fuel)
           ∙ ap (λ (q : Packet). handed_over net (walk_of fuel net (Some place) (V6 q) pick taken)) (sym (same_packet p))
-          ∙ ap (λ (k : ℕ). handed_over net (walk_of fuel net (Some place) (V6 (with_hop_limit (p.hop_limit - 0) p)) pick k)) (sym (add-zero taken))
+          ∙ ap (λ (k : ℕ). handed_over net (walk_of fuel net (Some place) (V6 (with_hop_limit (p.hop_limit - 0) p)) pick k))
+          (sym (add-zero taken))
           ∙ sym (after-none _)
 
   -- the stage that sends, in a set whose members lie in the step
-  sends : (place : Place) (p : Packet) (set : List ℕ) (lower : Bool) (k : ℕ) → way_of net place p.destination ≡ Over set lower → one_if lower + k < p.hop_limit
+  sends : (place : Place) (p : Packet) (set : List ℕ) (lower : Bool) (k : ℕ) → way_of net place p.destination ≡ Over set lower
+      → one_if lower + k < p.hop_limit
       → (choice : ℕ) → step_of net place (V6 p) choice ≡ goes (outcomes.Send (member_of set choice)) (V6 (lowered lower p))
   sends place p set false k e high choice = ap (λ (w : Way). treated net place.node w p choice) e
   sends place p set true k e high choice =
@@ -213,7 +228,8 @@ module _ (net : Network) (keeps : Keeps net) where
   high_enough p false k h = omega arith
 
   walk-later : (step : List ℕ) (ts : List Step) (place : Place) (p : Packet) (set : List ℕ) (lower : Bool) (to : ℕ) (r : Ride)
-      → way_of net place p.destination ≡ Over set lower → list_all (has_link step) set ≡ true → 0 < length set → list_all (ends_at net to) step ≡ true
+      → way_of net place p.destination ≡ Over set lower → list_all (has_link step) set ≡ true → 0 < length set
+      → list_all (ends_at net to) step ≡ true
       → one_if lower + r.lowered < p.hop_limit → RideWalk net ts (arrived to place) (lowered lower p) r
       → RideWalk net (Links step ∷ ts) place p (more_lowered lower r)
   walk-later step ts place p set lower to r way all some ends high w =
@@ -221,7 +237,8 @@ module _ (net : Network) (keeps : Keeps net) where
         count = suc w.count;
         events = λ pick taken. Crossed (member_of set (pick taken)) ∷ w.events pick (taken + 1);
         meets_them = λ pick taken more.
-            and_both (has_link step (member_of set (pick taken))) _ (member-of_all (has_link step) set some all (pick taken)) ∙ w.meets_them pick (taken + 1) more;
+            and_both (has_link step (member_of set (pick taken))) _ (member-of_all (has_link step) set some all (pick taken))
+            ∙ w.meets_them pick (taken + 1) more;
         walk = λ pick taken fuel. at pick taken fuel;
       }
     where
@@ -232,7 +249,8 @@ module _ (net : Network) (keeps : Keeps net) where
       at : (pick : ℕ → ℕ) (taken fuel : ℕ)
           → handed_over net (walk_of (suc w.count + fuel) net (Some place) (V6 p) pick taken)
           ≡ option_map (after_events (Crossed (member_of set (pick taken)) ∷ w.events pick (taken + 1)))
-          (handed_over net (walk_of fuel net (Some r.place) (V6 (with_hop_limit (p.hop_limit - (one_if lower + r.lowered)) p)) pick (taken + suc w.count)))
+          (handed_over net (walk_of fuel net (Some r.place) (V6 (with_hop_limit (p.hop_limit - (one_if lower + r.lowered)) p)) pick
+          (taken + suc w.count)))
       at pick taken fuel =
           let link = member_of set (pick taken) in
           let q = lowered lower p in
@@ -242,16 +260,21 @@ module _ (net : Network) (keeps : Keeps net) where
           = ap (λ (o : Option ℕ). arrival o place) (far_end-is (slice_get net.links link) ∙ link_ends net to step link ends here) in
           let count : taken + 1 + w.count ≡ taken + suc w.count = omega arith in
           ap (λ (k : ℕ). handed_over net (walk_of k net (Some place) (V6 p) pick taken)) more
-          ∙ handed-stage net (w.count + fuel) place (V6 p) pick taken (goes (outcomes.Send link) (V6 q)) (sends place p set lower r.lowered way high (pick taken))
-          ∙ ap (λ (o : Option Place). option_map (after_events (Crossed link ∷ [])) (handed_over net (walk_of (w.count + fuel) net o (V6 q) pick (taken + 1)))) next
+          ∙ handed-stage net (w.count + fuel) place (V6 p) pick taken (goes (outcomes.Send link) (V6 q))
+          (sends place p set lower r.lowered way high (pick taken))
+          ∙ ap (λ (o : Option Place). option_map (after_events (Crossed link ∷ []))
+          (handed_over net (walk_of (w.count + fuel) net o (V6 q) pick (taken + 1)))) next
           ∙ ap (option_map (after_events (Crossed link ∷ []))) (w.walk pick (taken + 1) fuel)
           ∙ after-after (Crossed link ∷ []) (w.events pick (taken + 1)) _
-          ∙ ap (λ (x : Packet). option_map (after_events (Crossed link ∷ w.events pick (taken + 1))) (handed_over net (walk_of fuel net (Some r.place) (V6 x) pick (taken + 1 + w.count))))
+          ∙ ap (λ (x : Packet). option_map (after_events (Crossed link ∷ w.events pick (taken + 1)))
+          (handed_over net (walk_of fuel net (Some r.place) (V6 x) pick (taken + 1 + w.count))))
           (same_left p lower r.lowered)
           ∙ ap (λ (k : ℕ). option_map (after_events (Crossed link ∷ w.events pick (taken + 1)))
-          (handed_over net (walk_of fuel net (Some r.place) (V6 (with_hop_limit (p.hop_limit - (one_if lower + r.lowered)) p)) pick k))) count
+          (handed_over net (walk_of fuel net (Some r.place) (V6 (with_hop_limit (p.hop_limit - (one_if lower + r.lowered)) p)) pick k)))
+          count
 
-  pub ride-walk : (ts : List Step) (place : Place) (p : Packet) (r : Ride) → IsHow net place.node place.how → is_some (stand_after net place.node ts) ≡ true
+  pub ride-walk : (ts : List Step) (place : Place) (p : Packet) (r : Ride) → IsHow net place.node place.how
+      → is_some (stand_after net place.node ts) ≡ true
       → ride_of net p.destination ts place ≡ Some r → r.lowered < p.hop_limit → RideWalk net ts place p r
   ride-walk [] place p r how stands h high = by_way (way_of net place p.destination) refl h
     where
@@ -264,9 +287,11 @@ module _ (net : Network) (keeps : Keeps net) where
       by_way t (way_of net place p.destination) refl (way-from net place p.destination keeps how) stands h
       (λ to q k stands h high. ride-walk ts (arrived to place) q k tt stands h high)
     where
-      by_way : (t : Step) (w : Way) → way_of net place p.destination ≡ w → IsWayFrom net place.node w → is_some (stand_after net place.node (t ∷ ts)) ≡ true
+      by_way : (t : Step) (w : Way) → way_of net place p.destination ≡ w → IsWayFrom net place.node w
+          → is_some (stand_after net place.node (t ∷ ts)) ≡ true
           → ride_by net place (t ∷ ts) t (ride_of net p.destination ts) w ≡ Some r
-          → ((to : ℕ) (q : Packet) (k : Ride) → is_some (stand_after net to ts) ≡ true → ride_of net q.destination ts (arrived to place) ≡ Some k → k.lowered < q.hop_limit
+          → ((to : ℕ) (q : Packet) (k : Ride) → is_some (stand_after net to ts) ≡ true
+          → ride_of net q.destination ts (arrived to place) ≡ Some k → k.lowered < q.hop_limit
           → RideWalk net ts (arrived to place) q k)
           → RideWalk net (t ∷ ts) place p r
       by_way t (Away reason) e links stands h ih = absurd (cc)
@@ -284,4 +309,5 @@ module _ (net : Network) (keeps : Keeps net) where
           subst (RideWalk net (Links step ∷ ts) place p) got.2
           (walk-later step ts place p set lower opened.0 got.0 e all.0 links.some opened.1 low
           (ih opened.0 (lowered lower p) got.0 opened.2
-          (ap (λ (d : ℕ). ride_of net d ts (arrived opened.0 place)) (same_destination p lower) ∙ later) (high_enough p lower got.0.lowered low)))
+          (ap (λ (d : ℕ). ride_of net d ts (arrived opened.0 place)) (same_destination p lower) ∙ later)
+          (high_enough p lower got.0.lowered low)))

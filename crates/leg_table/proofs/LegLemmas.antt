@@ -1,5 +1,5 @@
 -- A leg and a finish by look-ups are there exactly where all choices take a packet so.
-use Rattle.std.proofs.Common.{◌≡◌, ℕ, zero, suc, ◌+◌, ◌-◌, ◌<◌, ◌≤◌, Bool, true, false, ◌==◌, ◌&&◌, not, if◌then◌else◌, List, [], ◌∷◌, length, drop, Option, Some, None, slice_get, refl, sym, ◌∙◌, ap, subst, arith, eqb-true}
+use Rattle.std.proofs.Common.{◌≡◌, ℕ, zero, suc, ◌+◌, ◌-◌, ◌<◌, ◌≤◌, Bool, true, false, ◌==◌, ◌&&◌, if◌then◌else◌, List, [], ◌∷◌, length, drop, Option, Some, None, slice_get, refl, sym, ◌∙◌, ap, subst, arith, eqb-true}
 use Rattle.std.specs.Prelude.{◌↔◌}
 use Rattle.std.specs.Option.{option_map, option_and_then}
 use Rattle.std.proofs.lemmas.Bool.{false≢true, and_parts, and_from, eq-eqb}
@@ -76,12 +76,14 @@ left_after-le net n ts left h = by_title (is_titled net n) ts h
     by_title false ts h = let e : length ts ≡ left = some-same (length ts) left h in omega arith
 
 -- the tests, taken apart
-behind-parts : (net : Network) (next : ℕ) (r : Ride) (left : ℕ) → left_behind net next r ≡ Some left → (r.sid ≡ next) × (left_after net next r.left ≡ Some left)
+behind-parts : (net : Network) (next : ℕ) (r : Ride) (left : ℕ) → left_behind net next r ≡ Some left
+    → (r.sid ≡ next) × (left_after net next r.left ≡ Some left)
 behind-parts net next r left h =
     let got = if-some (r.sid == next) (left_after net next r.left) left h in
     (eqb-true r.sid next got.0, got.1)
 
-behind-from : (net : Network) (next : ℕ) (r : Ride) (left : ℕ) → r.sid ≡ next → left_after net next r.left ≡ Some left → left_behind net next r ≡ Some left
+behind-from : (net : Network) (next : ℕ) (r : Ride) (left : ℕ) → r.sid ≡ next → left_after net next r.left ≡ Some left
+    → left_behind net next r ≡ Some left
 behind-from net next r left e h = rw (eq-eqb r.sid next e) h
 
 leg_behind-parts : (net : Network) (count next : ℕ) (o : Option Ride) (leg : Leg) → leg_behind net count next o ≡ Some leg
@@ -104,29 +106,43 @@ finish_behind-parts net next (Some r) n h =
     (r, refl, got.1 ∙ ap Some none.0, none.1)
 
 -- a leg by look-ups is a ride to a middle SID, and the other way round
-pub leg-ride : (net : Network) (intent : Intent) (position : ℕ) (via : Option ℕ) (next : ℕ) (leg : Leg) → leg_of net intent position via next ≡ Some leg
-    → (n : NextRide net intent position via next) × (is_middle net next ≡ true) × (leg_with (length intent.steps) n.ride.lowered n.left ≡ leg)
+pub leg-ride : (net : Network) (intent : Intent) (position : ℕ) (via : Option ℕ) (next : ℕ) (leg : Leg)
+    → leg_of net intent position via next ≡ Some leg
+    → (n : NextRide net intent position via next) × (is_middle net next ≡ true)
+    × (leg_with (length intent.steps) n.ride.lowered n.left ≡ leg)
 leg-ride net intent position via next leg h =
     let tests = if-some (is_start net intent position via && is_middle net next) _ leg h in
     let both = and_parts (is_start net intent position via) (is_middle net next) tests.0 in
     let got = leg_behind-parts net (length intent.steps) next (ride_to net intent position via next) leg tests.1 in
     let ridden = then-some (ride_of net (sid_address net next) (drop position intent.steps)) (place_from net intent via) got.0 got.1 in
     let parts = behind-parts net next got.0 got.2 got.3 in (
-      record { start = both.0; place = ridden.0; from = ridden.1; ride = got.0; is_ride = ridden.2; sid = parts.0; left = got.2; left_is = parts.1 },
+      record {
+        start = both.0;
+        place = ridden.0;
+        from = ridden.1;
+        ride = got.0;
+        is_ride = ridden.2;
+        sid = parts.0;
+        left = got.2;
+        left_is = parts.1;
+      },
       both.1,
       got.4,
     )
 
-pub leg-from : (net : Network) (intent : Intent) (position : ℕ) (via : Option ℕ) (next : ℕ) (n : NextRide net intent position via next) → is_middle net next ≡ true
+pub leg-from : (net : Network) (intent : Intent) (position : ℕ) (via : Option ℕ) (next : ℕ) (n : NextRide net intent position via next)
+    → is_middle net next ≡ true
     → leg_of net intent position via next ≡ Some (leg_with (length intent.steps) n.ride.lowered n.left)
 leg-from net intent position via next n middle =
     rw (and_from (is_start net intent position via) (is_middle net next) n.start middle)
-    (ap (λ o. leg_behind net (length intent.steps) next (option_and_then (ride_of net (sid_address net next) (drop position intent.steps)) o)) n.from
+    (ap (λ o. leg_behind net (length intent.steps) next
+    (option_and_then (ride_of net (sid_address net next) (drop position intent.steps)) o)) n.from
     ∙ ap (leg_behind net (length intent.steps) next) n.is_ride
     ∙ ap (option_map (leg_with (length intent.steps) n.ride.lowered)) (behind-from net next n.ride n.left n.sid n.left_is))
 
 -- a finish by look-ups is a ride to a last SID with no step left, and the other way round
-pub finish-ride : (net : Network) (intent : Intent) (position : ℕ) (via : Option ℕ) (next lowered : ℕ) → finish_of net intent position via next ≡ Some lowered
+pub finish-ride : (net : Network) (intent : Intent) (position : ℕ) (via : Option ℕ) (next lowered : ℕ)
+    → finish_of net intent position via next ≡ Some lowered
     → (n : NextRide net intent position via next) × (is_last net next ≡ true) × (n.ride.lowered ≡ lowered) × (n.left ≡ 0)
 finish-ride net intent position via next lowered h =
     let tests = if-some (is_start net intent position via && is_last net next) _ lowered h in
@@ -134,13 +150,23 @@ finish-ride net intent position via next lowered h =
     let got = finish_behind-parts net next (ride_to net intent position via next) lowered tests.1 in
     let ridden = then-some (ride_of net (sid_address net next) (drop position intent.steps)) (place_from net intent via) got.0 got.1 in
     let parts = behind-parts net next got.0 0 got.2 in (
-      record { start = both.0; place = ridden.0; from = ridden.1; ride = got.0; is_ride = ridden.2; sid = parts.0; left = 0; left_is = parts.1 },
+      record {
+        start = both.0;
+        place = ridden.0;
+        from = ridden.1;
+        ride = got.0;
+        is_ride = ridden.2;
+        sid = parts.0;
+        left = 0;
+        left_is = parts.1;
+      },
       both.1,
       got.3,
       refl,
     )
 
-pub finish-from : (net : Network) (intent : Intent) (position : ℕ) (via : Option ℕ) (next : ℕ) (n : NextRide net intent position via next) → is_last net next ≡ true
+pub finish-from : (net : Network) (intent : Intent) (position : ℕ) (via : Option ℕ) (next : ℕ) (n : NextRide net intent position via next)
+    → is_last net next ≡ true
     → n.left ≡ 0 → finish_of net intent position via next ≡ Some n.ride.lowered
 finish-from net intent position via next n last none =
     rw (and_from (is_start net intent position via) (is_last net next) n.start last)
@@ -150,7 +176,8 @@ finish-from net intent position via next n last none =
 
 module _ (net : Network) (keeps : Keeps net) (intent : Intent) (is_intent : IsIntent net intent) where
   -- a way for all choices is a ride by look-ups
-  choices-ride : (end : List Step → walks.Step → Bool) (position : ℕ) (place : Place) (p : Packet) → StartFacts net intent position place → 0 < p.hop_limit
+  choices-ride : (end : List Step → walks.Step → Bool) (position : ℕ) (place : Place) (p : Packet) → StartFacts net intent position place
+      → 0 < p.hop_limit
       → ForAllChoices net end (drop position intent.steps) place (V6 p)
       ↔ RideEnds net end p (ride_of net p.destination (drop position intent.steps) place)
   choices-ride end position place p f positive =
@@ -158,16 +185,19 @@ module _ (net : Network) (keeps : Keeps net) (intent : Intent) (is_intent : IsIn
       let b = every-ride net end keeps (drop position intent.steps) place p f.how f.rest positive in
       (λ h. b.0 (a.0 h), λ h. a.1 (b.1 h))
 
-  left-count : (position : ℕ) (via : Option ℕ) (next : ℕ) → (n : NextRide net intent position via next) → n.left ≤ length intent.steps - position
+  left-count : (position : ℕ) (via : Option ℕ) (next : ℕ) → (n : NextRide net intent position via next)
+      → n.left ≤ length intent.steps - position
   left-count position via next n =
       let s = start-facts net keeps intent is_intent position via n.place n.start n.from in
       let f = ride-facts net keeps (sid_address net next) (drop position intent.steps) n.place n.ride s.how s.rest n.is_ride in
       let a = left_after-le net next n.ride.left n.left n.left_is in
-      let b : length n.ride.left ≡ length (drop position intent.steps) - f.count = ap length f.left ∙ length-drop f.count (drop position intent.steps) in
+      let b : length n.ride.left ≡ length (drop position intent.steps) - f.count
+      = ap length f.left ∙ length-drop f.count (drop position intent.steps) in
       let c = length-drop position intent.steps in
       omega arith
 
-  from-place : (via : Option ℕ) (place : Place) (P : Place → Type 0) → place_from net intent via ≡ Some place → P place → FromPlace (place_from net intent via) P
+  from-place : (via : Option ℕ) (place : Place) (P : Place → Type 0) → place_from net intent via ≡ Some place → P place
+      → FromPlace (place_from net intent via) P
   from-place via place P e h = subst (λ o. FromPlace o P) (sym e) h
 
   place-from : (o : Option Place) (P : Place → Type 0) → FromPlace o P → (place : Place) × (o ≡ Some place) × P place
@@ -205,7 +235,8 @@ module _ (net : Network) (keeps : Keeps net) (intent : Intent) (is_intent : IsIn
       high : (k h : ℕ) → 1 < h - k → k + 1 < h
       high k h e = omega arith
 
-  leg-is : (position : ℕ) (via : Option ℕ) (next : ℕ) (leg : Leg) → leg_of net intent position via next ≡ Some leg → IsLeg net intent position via next leg
+  leg-is : (position : ℕ) (via : Option ℕ) (next : ℕ) (leg : Leg) → leg_of net intent position via next ≡ Some leg
+      → IsLeg net intent position via next leg
   leg-is position via next leg h =
       let got = leg-ride net intent position via next leg h in
       let n = got.0 in
@@ -217,12 +248,15 @@ module _ (net : Network) (keeps : Keeps net) (intent : Intent) (is_intent : IsIn
         within = omega arith;
         taken =
             let e : length intent.steps - (length intent.steps - n.left) ≡ n.left = omega (arith, few) in
-            from-place via n.place (IsTaken net (drop position intent.steps) next (length intent.steps - (length intent.steps - n.left)) (n.ride.lowered + 1)) n.from
-            (subst (λ (left : ℕ). IsTaken net (drop position intent.steps) next left (n.ride.lowered + 1) n.place) (sym e) (ride-taken position via next n got.1));
+            from-place via n.place (IsTaken net (drop position intent.steps) next (length intent.steps - (length intent.steps - n.left))
+            (n.ride.lowered + 1)) n.from
+            (subst (λ (left : ℕ). IsTaken net (drop position intent.steps) next left (n.ride.lowered + 1) n.place) (sym e)
+            (ride-taken position via next n got.1));
       })
 
   -- a packet that all choices take so shows the ride
-  taken-ride : (position : ℕ) (via : Option ℕ) (next left hops : ℕ) (place : Place) → is_start net intent position via ≡ true → is_middle net next ≡ true
+  taken-ride : (position : ℕ) (via : Option ℕ) (next left hops : ℕ) (place : Place) → is_start net intent position via ≡ true
+      → is_middle net next ≡ true
       → place_from net intent via ≡ Some place → IsTaken net (drop position intent.steps) next left hops place
       → (n : NextRide net intent position via next) × (n.left ≡ left) × (n.ride.lowered + 1 ≡ hops)
   taken-ride position via next left hops place start middle from taken =
@@ -258,9 +292,11 @@ module _ (net : Network) (keeps : Keeps net) (intent : Intent) (is_intent : IsIn
       same_hops : (k hops limit : ℕ) → limit ≡ hops + 1 → 1 < limit - k → limit - k - 1 ≡ limit - hops → k + 1 ≡ hops
       same_hops k hops limit e f g = omega arith
 
-  is-leg : (position : ℕ) (via : Option ℕ) (next : ℕ) (leg : Leg) → IsLeg net intent position via next leg → leg_of net intent position via next ≡ Some leg
+  is-leg : (position : ℕ) (via : Option ℕ) (next : ℕ) (leg : Leg) → IsLeg net intent position via next leg
+      → leg_of net intent position via next ≡ Some leg
   is-leg position via next leg h =
-      let at = place-from (place_from net intent via) (IsTaken net (drop position intent.steps) next (length intent.steps - leg.to) leg.hops) h.taken in
+      let at = place-from (place_from net intent via)
+      (IsTaken net (drop position intent.steps) next (length intent.steps - leg.to) leg.hops) h.taken in
       let got = taken-ride position via next (length intent.steps - leg.to) leg.hops at.0 h.start h.middle at.1 at.2 in
       let to : length intent.steps - got.0.left ≡ leg.to = same_to (length intent.steps) leg.to got.0.left h.within got.1 in
       leg-from net intent position via next got.0 h.middle
@@ -304,10 +340,12 @@ module _ (net : Network) (keeps : Keeps net) (intent : Intent) (is_intent : IsIn
         last = got.1;
         handed =
             from-place via n.place (IsHanded net (drop position intent.steps) next 0 n.ride.lowered) n.from
-            (subst (λ (left : ℕ). IsHanded net (drop position intent.steps) next left n.ride.lowered n.place) got.3 (ride-handed position via next n got.1));
+            (subst (λ (left : ℕ). IsHanded net (drop position intent.steps) next left n.ride.lowered n.place) got.3
+            (ride-handed position via next n got.1));
       })
 
-  handed-ride : (position : ℕ) (via : Option ℕ) (next left lowered : ℕ) (place : Place) → is_start net intent position via ≡ true → is_last net next ≡ true
+  handed-ride : (position : ℕ) (via : Option ℕ) (next left lowered : ℕ) (place : Place) → is_start net intent position via ≡ true
+      → is_last net next ≡ true
       → place_from net intent via ≡ Some place → IsHanded net (drop position intent.steps) next left lowered place
       → (n : NextRide net intent position via next) × (n.left ≡ left) × (n.ride.lowered ≡ lowered)
   handed-ride position via next left lowered place start last from handed =

@@ -16,3 +16,4 @@ pub mod PathsUp
 pub mod PathsDown
 pub mod Realizing
 pub mod Traces
+pub mod PublicLaws

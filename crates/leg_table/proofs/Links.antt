@@ -6,9 +6,9 @@ use Rattle.std.specs.Option.{option_and_then}
 use Rattle.std.proofs.lemmas.Bool.{and_parts, and_from, false≢true}
 use Rattle.net_model.specs.declared.parts.Link.{Link}
 use Rattle.net_model.specs.Network.{Network}
-use Rattle.net_model.specs.Keeps.{Keeps, IsLinkSet}
+use Rattle.net_model.specs.Keeps.{IsLinkSet}
 use Rattle.net_model.specs.Rules.{is_link_set}
-use Rattle.net_model.proofs.KeepsLemmas.{link_set_from}
+use Rattle.net_model.proofs.PublicLaws.{link_set_from}
 use Rattle.walk_rules.specs.Treatment.{member_of}
 use Rattle.walk_rules.specs.Walk.{far_end}
 use Rattle.intent_reader.specs.Rules.{end_of_link, ends_at, is_at, far_node, first_end, stand_after, node_after}
@@ -54,22 +54,28 @@ link_ends net to (k ∷ ks) link all here =
 
     by_first : (has_link ks link ≡ true → end_of_link (slice_get net.links link) ≡ Some to) → (t : Bool) → (k == link) ≡ t
         → (t || has_link ks link) ≡ true → end_of_link (slice_get net.links link) ≡ Some to
-    by_first later true e h = subst (λ (n : ℕ). end_of_link (slice_get net.links n) ≡ Some to) (eqb-true k link e) (is_at-is to (end_of_link (slice_get net.links k)) parts.0)
+    by_first later true e h =
+        subst (λ (n : ℕ). end_of_link (slice_get net.links n) ≡ Some to) (eqb-true k link e)
+        (is_at-is to (end_of_link (slice_get net.links k)) parts.0)
     by_first later false e h = later h
 
 -- the end of the first member of a set that lies in a step
-pub first_end-is : (net : Network) (to : ℕ) (step set : List ℕ) → list_all (ends_at net to) step ≡ true → list_all (has_link step) set ≡ true → 0 < length set
+pub first_end-is : (net : Network) (to : ℕ) (step set : List ℕ) → list_all (ends_at net to) step ≡ true
+    → list_all (has_link step) set ≡ true → 0 < length set
     → first_end net set ≡ Some to
 first_end-is net to step [] ends all some = absurd (omega arith)
-first_end-is net to step (link ∷ links) ends all some = link_ends net to step link ends (and_parts (has_link step link) (list_all (has_link step) links) all).0
+first_end-is net to step (link ∷ links) ends all some =
+    link_ends net to step link ends (and_parts (has_link step link) (list_all (has_link step) links) all).0
 
 -- a strict step of links, from the node where it starts: all its links end at one node, where the next step starts
 pub step_opens : (net : Network) (node : ℕ) (step : List ℕ) (ts : List Step) → is_some (stand_after net node (Links step ∷ ts)) ≡ true
-    → (to : ℕ) × (list_all (ends_at net to) step ≡ true) × (is_some (stand_after net to ts) ≡ true) × (node_after net node (Links step) ≡ Some to)
+    → (to : ℕ) × (list_all (ends_at net to) step ≡ true) × (is_some (stand_after net to ts) ≡ true)
+    × (node_after net node (Links step) ≡ Some to)
 step_opens net node step ts h = by_end (first_end net step) h
   where
     by_end : (o : Option ℕ) → is_some (option_and_then (λ next. stand_after net next ts) (far_node net node step o)) ≡ true
-        → (to : ℕ) × (list_all (ends_at net to) step ≡ true) × (is_some (stand_after net to ts) ≡ true) × (far_node net node step o ≡ Some to)
+        → (to : ℕ) × (list_all (ends_at net to) step ≡ true) × (is_some (stand_after net to ts) ≡ true)
+        × (far_node net node step o ≡ Some to)
     by_end None h = absurd (false≢true h)
     by_end (Some to) h = by_test (is_link_set net.links node step) (list_all (ends_at net to) step) refl h
       where
@@ -82,13 +88,15 @@ step_opens net node step ts h = by_end (first_end net step) h
         by_test false t e h = absurd (false≢true h)
 
 -- the links of a step that starts at a node are a set of its links
-pub step_links : (net : Network) (node : ℕ) (step : Step) (set : List ℕ) → is_some (node_after net node step) ≡ true → step ≡ Links set → IsLinkSet net.links node set
+pub step_links : (net : Network) (node : ℕ) (step : Step) (set : List ℕ) → is_some (node_after net node step) ≡ true → step ≡ Links set
+    → IsLinkSet net.links node set
 step_links net node step set h e = by_end (first_end net set) (subst (λ (s : Step). is_some (node_after net node s) ≡ true) e h)
   where
     by_end : (o : Option ℕ) → is_some (far_node net node set o) ≡ true → IsLinkSet net.links node set
     by_end None h = absurd (false≢true h)
     by_end (Some to) h = by_test (is_link_set net.links node set) (list_all (ends_at net to) set) refl h
       where
-        by_test : (s t : Bool) → is_link_set net.links node set ≡ s → is_some (if s && t then Some to else None) ≡ true → IsLinkSet net.links node set
+        by_test : (s t : Bool) → is_link_set net.links node set ≡ s → is_some (if s && t then Some to else None) ≡ true
+            → IsLinkSet net.links node set
         by_test true t e h = link_set_from net.links node set e
         by_test false t e h = absurd (false≢true h)

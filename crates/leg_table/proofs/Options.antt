@@ -6,7 +6,8 @@ pub map-some : {X Y : Type 0} (f : X → Y) (o : Option X) (y : Y) → option_ma
 map-some f None y h = absurd (cc)
 map-some f (Some x) y h = (x, refl, cc)
 
-pub then-some : {X Y : Type 0} (f : X → Option Y) (o : Option X) (y : Y) → option_and_then f o ≡ Some y → (x : X) × (o ≡ Some x) × (f x ≡ Some y)
+pub then-some : {X Y : Type 0} (f : X → Option Y) (o : Option X) (y : Y) → option_and_then f o ≡ Some y
+    → (x : X) × (o ≡ Some x) × (f x ≡ Some y)
 then-some f None y h = absurd (cc)
 then-some f (Some x) y h = (x, refl, h)
 

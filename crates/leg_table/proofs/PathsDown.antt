@@ -1,5 +1,5 @@
 -- A list of segments that hands over for all choices is a path of legs and a finish.
-use Rattle.std.proofs.Common.{◌≡◌, ℕ, zero, suc, ◌+◌, ◌-◌, ◌^◌, ◌<◌, ◌≤◌, ◌⊎◌, inl, inr, Bool, true, false, ◌&&◌, if◌then◌else◌, List, [], ◌∷◌, ◌++◌, length, drop, map, Option, Some, None, IsTrue, slice_get, slice_index, refl, sym, ◌∙◌, ap, subst, arith, append-nil, not}
+use Rattle.std.proofs.Common.{◌≡◌, ℕ, zero, suc, ◌+◌, ◌-◌, ◌^◌, ◌<◌, ◌≤◌, ◌⊎◌, inl, inr, Bool, true, false, ◌&&◌, if◌then◌else◌, List, [], ◌∷◌, ◌++◌, length, drop, map, Option, Some, None, IsTrue, slice_get, slice_index, refl, sym, ◌∙◌, ap, subst, arith, append-nil}
 use Rattle.std.specs.Prelude.{nat_le}
 use Rattle.std.specs.List.{All}
 use Rattle.std.specs.Option.{option_map}
@@ -15,7 +15,7 @@ use Rattle.net_model.specs.Network.{Network}
 use Rattle.net_model.specs.Rules.{IsNetwork}
 use Rattle.net_model.specs.Flat.{IsFlat}
 use Rattle.net_model.specs.Keeps.{Keeps}
-use Rattle.net_model.proofs.KeepsLemmas.{keeps_from_network}
+use Rattle.net_model.proofs.PublicLaws.{keeps_from_network}
 use Rattle.walk_rules.specs.declared.place.How.{How}
 use Rattle.walk_rules.specs.declared.place.Place.{Place}
 use Rattle.walk_rules.specs.declared.place.Outcome.{Outcome}
@@ -32,9 +32,9 @@ use Rattle.leg_table.specs.Trace.{Crossed, executed, Handed, after_events, hande
 use Rattle.leg_table.specs.Tasks.{meets, matches, left_after}
 use Rattle.leg_table.specs.Choices.{Crosses, Goes, Ends, AtNext, EveryWay}
 use Rattle.leg_table.specs.Ride.{Ride, ride_of, with_hop_limit, RideEnds}
-use Rattle.leg_table.specs.Sids.{is_sid_at, is_middle, sid_goes_on, is_last, sid_exposes, sid_address}
+use Rattle.leg_table.specs.Sids.{is_sid_at, is_middle, sid_goes_on, sid_exposes, sid_address}
 use Rattle.leg_table.specs.Leg.{place_behind, place_from, is_start}
-use Rattle.leg_table.specs.Realizes.{with_leg, path_need}
+use Rattle.leg_table.specs.Realizes.{AreSidAddresses, with_leg, path_need}
 use Rattle.leg_table.proofs.Options.{map-some, some-same}
 use Rattle.leg_table.proofs.Choices.{then_row, then_row-later}
 use Rattle.leg_table.proofs.Rides.{every-ride}
@@ -52,13 +52,16 @@ module _ (net : Network) where
   -- under every row of choices a walk hands over, and its trace meets the steps
   abbrev pub Hands : Place → Content → List Step → Type 0
   Hands place content ts =
-      (pick : ℕ → ℕ) → (fuel : ℕ) × (h : Handed) × (handed_over net (walk_of fuel net (Some place) content pick 0) ≡ Some h) × (matches ts h.trace ≡ true)
+      (pick : ℕ → ℕ)
+      → (fuel : ℕ) × (h : Handed) × (handed_over net (walk_of fuel net (Some place) content pick 0) ≡ Some h)
+      × (matches ts h.trace ≡ true)
 
   -- what a first stage gives where a walk hands over
   abbrev First : Place → List Step → (ℕ → ℕ) → Gave → Type 0
   First place ts pick gave =
       (more : ℕ) × (h : Handed)
-      × (handed_first net gave gave.outcome (handed_over net (walk_of more net (next_place net place gave.outcome) gave.after pick (0 + decisions gave.outcome))) ≡ Some h)
+      × (handed_first net gave gave.outcome
+      (handed_over net (walk_of more net (next_place net place gave.outcome) gave.after pick (0 + decisions gave.outcome))) ≡ Some h)
       × (matches ts h.trace ≡ true)
 
   first-of : (place : Place) (content : Content) (ts : List Step) (pick : ℕ → ℕ) (gave : Gave) → step_of net place content (pick 0) ≡ gave
@@ -67,20 +70,36 @@ module _ (net : Network) where
   first-of place content ts pick gave e hands =
       let got = hands pick in by_fuel got.0 got.1 got.2 got.3
     where
-      by_fuel : (fuel : ℕ) (h : Handed) → handed_over net (walk_of fuel net (Some place) content pick 0) ≡ Some h → matches ts h.trace ≡ true → First place ts pick gave
+      by_fuel : (fuel : ℕ) (h : Handed) → handed_over net (walk_of fuel net (Some place) content pick 0) ≡ Some h
+          → matches ts h.trace ≡ true → First place ts pick gave
       by_fuel zero h f m = absurd (cc)
       by_fuel (suc more) h f m = (more, h, sym (handed-stage net more place content pick 0 gave e) ∙ f, m)
 
   -- a walk whose first stage hands nothing over, nor leaves anything to hand over, does not hand over
+  none-first : (place : Place) (ts : List Step) (pick : ℕ → ℕ) (gave : Gave) (o : Outcome) → gave.outcome ≡ o
+      → ((later : Option Handed) → handed_first net gave o later ≡ None) → First place ts pick gave → ⊥
+  none-first place ts pick gave o e none f =
+      let k = subst (λ (o : Outcome). (later : Option Handed) → handed_first net gave o later ≡ None) (sym e) none in
+      let rest = handed_over net (walk_of f.0 net (next_place net place gave.outcome) gave.after pick (0 + decisions gave.outcome)) in
+      absurd (cc (k rest, f.2))
+
   no-more : (place : Place) (content : Content) (ts : List Step) (gave : Gave) → step_of net place content 0 ≡ gave
       → ((later : Option Handed) → handed_first net gave gave.outcome later ≡ None) → Hands place content ts → ⊥
   no-more place content ts gave e none hands =
-      let f = first-of place content ts (λ (d : ℕ). 0) gave e hands in
-      absurd (cc (
-        none (handed_over net (walk_of f.0 net (next_place net place gave.outcome) gave.after (λ (d : ℕ). 0)
-            (0 + decisions gave.outcome))),
-        f.2,
-      ))
+      let zeros : ℕ → ℕ = λ d. 0 in
+      none-first place ts zeros gave gave.outcome refl none (first-of place content ts zeros gave e hands)
+
+  -- a walk whose first stage sends hands over behind it
+  sent-first : (place : Place) (ts : List Step) (pick : ℕ → ℕ) (gave : Gave) (link : ℕ) → gave.outcome ≡ outcomes.Send link
+      → First place ts pick gave
+      → (more : ℕ) × (h : Handed)
+      × (handed_over net (walk_of more net (next_place net place (outcomes.Send link)) gave.after pick (0 + 1)) ≡ Some h)
+      × (matches ts (Crossed link ∷ h.trace) ≡ true)
+  sent-first place ts pick gave link e f =
+      let rest = λ (o : Outcome). handed_over net (walk_of f.0 net (next_place net place o) gave.after pick (0 + decisions o)) in
+      let k = subst (λ (o : Outcome). handed_first net gave o (rest o) ≡ Some f.1) e f.2 in
+      let got = map-some (after_events (Crossed link ∷ [])) (rest (outcomes.Send link)) f.1 k in
+      (f.0, got.0, got.1, ap (λ (k : Handed). matches ts k.trace) got.2 ∙ f.3)
 
   -- a walk whose first stage is an execution hands over behind it
   behind-hands : (place next : Place) (content after : Content) (ts : List Step) (pick : ℕ → ℕ) (n : ℕ) (how : How)
@@ -95,27 +114,20 @@ module _ (net : Network) where
       (sym (ap (option_map (after_events (executed net n))) later) ∙ f.2) in
       (f.0, got.0, got.1, ap (λ (h : Handed). matches ts h.trace) got.2 ∙ f.3)
 
-  walk-none : (fuel : ℕ) (content : Content) (pick : ℕ → ℕ) (taken : ℕ) (h : Handed) → handed_over net (walk_of fuel net None content pick taken) ≡ Some h → ⊥
+  walk-none : (fuel : ℕ) (content : Content) (pick : ℕ → ℕ) (taken : ℕ) (h : Handed)
+      → handed_over net (walk_of fuel net None content pick taken) ≡ Some h → ⊥
   unfolding walk_of
   walk-none zero content pick taken h e = absurd (cc)
   walk-none (suc more) content pick taken h e = absurd (cc)
 
-  ends-from : (place : Place) (ts : List Step) (pick : ℕ → ℕ) (gave : Gave) (o : Outcome) → gave.outcome ≡ o → First place [] pick gave → Ends o (IsTrue true)
-  ends-from place ts pick gave (outcomes.Send link) e f =
-      let h = subst (λ (o : Outcome). (later : Option Handed) → handed_first net gave o later ≡ Some f.1 → (matches [] f.1.trace ≡ true) → ⊥) (sym e) (sends link f.1) in
-      h _ f.2 f.3
-    where
-      sends : (link : ℕ) (h : Handed) (later : Option Handed) → option_map (after_events (Crossed link ∷ [])) later ≡ Some h → matches [] h.trace ≡ true → ⊥
-      sends link h later e m =
-          let got = map-some (after_events (Crossed link ∷ [])) later h e in
-          let met : matches [] (Crossed link ∷ got.0.trace) ≡ true = ap (λ (k : Handed). matches [] k.trace) got.2 ∙ m in
-          false≢true met
-  ends-from place ts pick gave (outcomes.Again n how) e f = refl
-  ends-from place ts pick gave (outcomes.Hand n how family) e f = refl
-  ends-from place ts pick gave outcomes.Local e f =
-      let h = subst (λ (o : Outcome). (later : Option Handed) → handed_first net gave o later ≡ Some f.1 → ⊥) (sym e) (λ later k. absurd (cc)) in h _ f.2
-  ends-from place ts pick gave (outcomes.Drop reason error) e f =
-      let h = subst (λ (o : Outcome). (later : Option Handed) → handed_first net gave o later ≡ Some f.1 → ⊥) (sym e) (λ later k. absurd (cc)) in h _ f.2
+  ends-from : (place : Place) (pick : ℕ → ℕ) (gave : Gave) (o : Outcome) → gave.outcome ≡ o → First place [] pick gave
+      → Ends o (IsTrue true)
+  ends-from place pick gave (outcomes.Send link) e f = absurd (false≢true (sent-first place [] pick gave link e f).3)
+  ends-from place pick gave (outcomes.Again n how) e f = refl
+  ends-from place pick gave (outcomes.Hand n how family) e f = refl
+  ends-from place pick gave outcomes.Local e f = none-first place [] pick gave outcomes.Local e (λ later. refl) f
+  ends-from place pick gave (outcomes.Drop reason error) e f =
+      none-first place [] pick gave (outcomes.Drop reason error) e (λ later. refl) f
 
   next-hands : (ts : List Step) (o : Option Place) (after : Content) (choice : ℕ)
       → ((pick : ℕ → ℕ) → pick 0 ≡ choice
@@ -126,7 +138,8 @@ module _ (net : Network) where
       λ pick. let got = all (then_row net yes choice pick) refl in (
         got.0,
         got.1,
-        ap (handed_over net) (sym (walk-same net got.0 (Some next) after (then_row net yes choice pick) pick (0 + 1) 0 (then_row-later net yes choice pick))) ∙ got.2,
+        ap (handed_over net) (sym (walk-same net got.0 (Some next) after (then_row net yes choice pick) pick (0 + 1) 0
+            (then_row-later net yes choice pick))) ∙ got.2,
         got.3,
       )
 
@@ -140,38 +153,37 @@ module _ (net : Network) where
       → Goes o t (AtNext (next_place net place o) (λ next. EveryWay net yes ts next gave.after)) (IsTrue true)
   goes-from place t ts choice gave (outcomes.Send link) e all ih = by_step t all
     where
-      sent : (t : Step) (pick : ℕ → ℕ) → First place (t ∷ ts) pick gave
+      parts : (t : Step) (pick : ℕ → ℕ) → First place (t ∷ ts) pick gave
           → (meets t (Crossed link) ≡ true)
-          × ((more : ℕ) × (h : Handed) × (handed_over net (walk_of more net (next_place net place (outcomes.Send link)) gave.after pick (0 + 1)) ≡ Some h) × (matches ts h.trace ≡ true))
-      sent t pick f =
-          let k = subst (λ (o : Outcome). handed_first net gave o (handed_over net (walk_of f.0 net (next_place net place o) gave.after pick (0 + decisions o))) ≡ Some f.1) e f.2 in
-          let got = map-some (after_events (Crossed link ∷ [])) (handed_over net (walk_of f.0 net (next_place net place (outcomes.Send link)) gave.after pick (0 + 1))) f.1 k in
-          let met : matches (t ∷ ts) (Crossed link ∷ got.0.trace) ≡ true = ap (λ (k : Handed). matches (t ∷ ts) k.trace) got.2 ∙ f.3 in
-          let parts = and_parts (meets t (Crossed link)) (matches ts got.0.trace) met in
-          (parts.0, (f.0, got.0, got.1, parts.1))
+          × ((more : ℕ) × (h : Handed)
+          × (handed_over net (walk_of more net (next_place net place (outcomes.Send link)) gave.after pick (0 + 1)) ≡ Some h)
+          × (matches ts h.trace ≡ true))
+      parts t pick f =
+          let got = sent-first place (t ∷ ts) pick gave link e f in
+          let both = and_parts (meets t (Crossed link)) (matches ts got.1.trace) got.3 in
+          (both.0, (got.0, got.1, got.2, both.1))
 
       by_step : (t : Step) → ((pick : ℕ → ℕ) → pick 0 ≡ choice → First place (t ∷ ts) pick gave)
           → Crosses t link (AtNext (next_place net place (outcomes.Send link)) (λ next. EveryWay net yes ts next gave.after))
-      by_step (Function sid) all = false≢true (sent (Function sid) (λ _. choice) (all (λ _. choice) refl)).0
-      by_step (Links set) all = (
-        (sent (Links set) (λ _. choice) (all (λ _. choice) refl)).0,
-        AtNext-map (next_place net place (outcomes.Send link)) (λ next. Hands next gave.after ts) (λ next. EveryWay net yes ts next gave.after) ih
-            (next-hands ts (next_place net place (outcomes.Send link)) gave.after choice (λ pick k. (sent (Links set) pick (all pick k)).1)),
-      )
+      by_step (Function sid) all = false≢true (parts (Function sid) (λ _. choice) (all (λ _. choice) refl)).0
+      by_step (Links set) all =
+          let next = next_place net place (outcomes.Send link) in
+          let hands = next-hands ts next gave.after choice (λ pick k. (parts (Links set) pick (all pick k)).1) in (
+            (parts (Links set) (λ _. choice) (all (λ _. choice) refl)).0,
+            AtNext-map next (λ next. Hands next gave.after ts) (λ next. EveryWay net yes ts next gave.after) ih hands,
+          )
   goes-from place t ts choice gave (outcomes.Again n how) e all ih = refl
   goes-from place t ts choice gave (outcomes.Hand n how family) e all ih = refl
   goes-from place t ts choice gave outcomes.Local e all ih =
-      let f = all (λ _. choice) refl in
-      let h = subst (λ (o : Outcome). (later : Option Handed) → handed_first net gave o later ≡ Some f.1 → ⊥) (sym e) (λ later k. absurd (cc)) in h _ f.2
+      none-first place (t ∷ ts) (λ _. choice) gave outcomes.Local e (λ later. refl) (all (λ _. choice) refl)
   goes-from place t ts choice gave (outcomes.Drop reason error) e all ih =
-      let f = all (λ _. choice) refl in
-      let h = subst (λ (o : Outcome). (later : Option Handed) → handed_first net gave o later ≡ Some f.1 → ⊥) (sym e) (λ later k. absurd (cc)) in h _ f.2
+      none-first place (t ∷ ts) (λ _. choice) gave (outcomes.Drop reason error) e (λ later. refl) (all (λ _. choice) refl)
 
   -- such walks have a way, whatever is chosen
   pub hands-every : (ts : List Step) (place : Place) (content : Content) → Hands place content ts → EveryWay net yes ts place content
   hands-every [] place content hands =
       λ choice. let gave = step_of net place content choice in
-      ends-from place [] (λ _. choice) gave gave.outcome refl (first-of place content [] (λ _. choice) gave refl hands)
+      ends-from place (λ _. choice) gave gave.outcome refl (first-of place content [] (λ _. choice) gave refl hands)
   hands-every (t ∷ ts) place content hands =
       λ choice. let gave = step_of net place content choice in
       goes-from place t ts choice gave gave.outcome refl
@@ -190,11 +202,13 @@ module _ (net : Network) where
       let swap : got.0 + w.count ≡ w.count + got.0 = omega arith in
       let whole : handed_over net (walk_of (w.count + got.0) net (Some place) (V6 p) back 0) ≡ Some got.1
       = ap (λ (k : ℕ). handed_over net (walk_of k net (Some place) (V6 p) back 0)) (sym swap) ∙ more in
-      let parts = map-some (after_events (w.events back 0)) (handed_over net (walk_of got.0 net (Some r.place) (V6 q) back (0 + w.count))) got.1
+      let parts = map-some (after_events (w.events back 0)) (handed_over net (walk_of got.0 net (Some r.place) (V6 q) back (0 + w.count)))
+      got.1
       (sym (w.walk back 0 got.0) ∙ whole) in (
         got.0,
         parts.0,
-        ap (handed_over net) (sym (walk-same net got.0 (Some r.place) (V6 q) back pick (0 + w.count) 0 (λ d. shift pick w.count d))) ∙ parts.1,
+        ap (handed_over net) (sym (walk-same net got.0 (Some r.place) (V6 q) back pick (0 + w.count) 0 (λ d. shift pick w.count d)))
+            ∙ parts.1,
         sym (w.meets_them back 0 parts.0.trace) ∙ ap (λ (h : Handed). matches ts h.trace) parts.2 ∙ got.3,
       )
     where
@@ -210,9 +224,8 @@ pub record PathFrom (net : Network) (intent : Intent) (position : ℕ) (via : Op
   pub is_path : path_need net intent position via (first ∷ more) ≡ Some need
   pub below : need < hop
 
-module _ (net : Network) (network : IsNetwork net) (flat : IsFlat net) (intent : Intent) (is_intent : IsIntent net intent) (e : Encapsulation) (bytes : List ℕ)
-    (all : All (λ a. a < 2 ^ 128) e.segments)
-    (named : (i : ℕ) → i < length e.segments → (m : ℕ) × (s : SidEntry) × (slice_get net.sids m ≡ Some s) × (s.prefix.value ≡ slice_index e.segments i)) where
+module _ (net : Network) (network : IsNetwork net) (flat : IsFlat net) (intent : Intent) (is_intent : IsIntent net intent)
+    (e : Encapsulation) (bytes : List ℕ) (all : All (λ a. a < 2 ^ 128) e.segments) (named : AreSidAddresses net e.segments) where
   keeps : Keeps net
   keeps = keeps_from_network net network
 
@@ -228,8 +241,10 @@ module _ (net : Network) (network : IsNetwork net) (flat : IsFlat net) (intent :
     low : ride.lowered < hop
     hands : Hands net ride.place (V6 (at_segment e bytes i (hop - ride.lowered))) ride.left
 
-  comes : (position : ℕ) (via : Option ℕ) (i hop : ℕ) (place : Place) → is_start net intent position via ≡ true → place_from net intent via ≡ Some place
-      → i < length e.segments → 0 < hop → Hands net place (V6 (at_segment e bytes i hop)) (drop position intent.steps) → Comes position via i hop place
+  comes : (position : ℕ) (via : Option ℕ) (i hop : ℕ) (place : Place) → is_start net intent position via ≡ true
+      → place_from net intent via ≡ Some place
+      → i < length e.segments → 0 < hop → Hands net place (V6 (at_segment e bytes i hop)) (drop position intent.steps)
+      → Comes position via i hop place
   comes position via i hop place start from within positive hands =
       let ts = drop position intent.steps in
       let p = at_segment e bytes i hop in
@@ -237,7 +252,8 @@ module _ (net : Network) (network : IsNetwork net) (flat : IsFlat net) (intent :
       let ends = (every-ride net yes keeps ts place p s.how s.rest positive).0 (hands-every net ts place (V6 p) hands) in
       by_ride ts p s (ride_of net (slice_index e.segments i) ts place) refl ends
     where
-      by_ride : (ts : List Step) (p : Packet) → StartFacts net intent position place → (o : Option Ride) → ride_of net (slice_index e.segments i) (drop position intent.steps) place ≡ o
+      by_ride : (ts : List Step) (p : Packet) → StartFacts net intent position place → (o : Option Ride)
+          → ride_of net (slice_index e.segments i) (drop position intent.steps) place ≡ o
           → RideEnds net yes (at_segment e bytes i hop) o → Comes position via i hop place
       by_ride ts p s None f ends = absurd ends
       by_ride ts p s (Some r) f ends =
@@ -364,37 +380,69 @@ module _ (net : Network) (network : IsNetwork net) (flat : IsFlat net) (intent :
           absurd (no-more net c.ride.place (V6 p) c.ride.left _ gives (λ later. refl) c.hands)
 
   -- a leg in front of a path
-  leg-path : (position : ℕ) (via : Option ℕ) (i hop : ℕ) (place : Place) (segments : List ℕ) → is_start net intent position via ≡ true → place_from net intent via ≡ Some place
-      → (c : Comes position via i hop place) → Goes-on i hop c.ride c.sid
-      → ((to : ℕ) → is_start net intent to (Some c.ride.sid) ≡ true → Hands net (place_behind c.ride.sid c.sid) (V6 (at_segment e bytes (suc i) (hop - c.ride.lowered - 1))) (drop to intent.steps)
-      → PathFrom net intent to (Some c.ride.sid) segments (hop - c.ride.lowered - 1))
-      → PathFrom net intent position via (slice_index e.segments i ∷ segments) hop
-  leg-path position via i hop place segments start from c g later =
+  -- the packet behind the execution at a segment
+  abbrev behind_it : ℕ → ℕ → Ride → Content
+  behind_it i hop ride = V6 (at_segment e bytes (suc i) (hop - ride.lowered - 1))
+
+  -- the execution stands at a position where it may have been the last one, with the steps left that the path goes on with
+  record StandsAt (position : ℕ) (via : Option ℕ) (i hop : ℕ) (place : Place) (c : Comes position via i hop place) : Type 0 where
+    next : NextRide net intent position via c.ride.sid
+    same_ride : next.ride ≡ c.ride
+    starts : is_start net intent (length intent.steps - next.left) (Some c.ride.sid) ≡ true
+    hands : Hands net (place_behind c.ride.sid c.sid) (behind_it i hop c.ride) (drop (length intent.steps - next.left) intent.steps)
+
+  stands-at : (position : ℕ) (via : Option ℕ) (i hop : ℕ) (place : Place) → is_start net intent position via ≡ true
+      → place_from net intent via ≡ Some place → (c : Comes position via i hop place) → Goes-on i hop c.ride c.sid
+      → StandsAt position via i hop place c
+  stands-at position via i hop place start from c g =
       let n = c.ride.sid in
       let left = length g.rest in
       let to = length intent.steps - left in
       let nr : NextRide net intent position via n
-      = record { start = start; place = place; from = from; ride = c.ride; is_ride = c.is_ride; sid = refl; left = left; left_is = g.behind.left } in
-      let middle : is_middle net n ≡ true = ap sid_goes_on c.there ∙ g.middle in
-      let leg = leg-from net intent position via n nr middle in
+      = record {
+        start = start;
+        place = place;
+        from = from;
+        ride = c.ride;
+        is_ride = c.is_ride;
+        sid = refl;
+        left = left;
+        left_is = g.behind.left;
+      } in
       let s = start-facts net keeps intent is_intent position via place start from in
       let f = ride-facts net keeps (sid_address net n) (drop position intent.steps) place c.ride s.how s.rest c.is_ride in
       let at = at-end net keeps intent is_intent position n left (arrives net keeps intent is_intent position via n nr) in
       let is_at : is_sid_at net intent to n ≡ true = subst (λ (j : ℕ). is_sid_at net intent j n ≡ true) (sym at.1) at.4 in
-      let starts : is_start net intent to (Some n) ≡ true
-      = and_from (nat_le to (length intent.steps)) (is_sid_at net intent to n && is_middle net n) (le-leb to (length intent.steps) (omega arith))
-      (and_from (is_sid_at net intent to n) (is_middle net n) is_at middle) in
       let rest = rest-is intent.steps c.ride.left g.rest position f.count left f.left g.behind.rest refl f.within s.within g.behind.few in
-      let tail = later to starts (subst (λ (us : List Step). Hands net (place_behind n c.sid) (V6 (at_segment e bytes (suc i) (hop - c.ride.lowered - 1))) us) rest g.hands) in
+      record {
+        next = nr;
+        same_ride = refl;
+        starts =
+            and_from (nat_le to (length intent.steps)) (is_sid_at net intent to n && is_middle net n)
+            (le-leb to (length intent.steps) (omega arith))
+            (and_from (is_sid_at net intent to n) (is_middle net n) is_at (ap sid_goes_on c.there ∙ g.middle));
+        hands = subst (λ (us : List Step). Hands net (place_behind n c.sid) (behind_it i hop c.ride) us) rest g.hands;
+      }
+
+  leg-path : (position : ℕ) (via : Option ℕ) (i hop : ℕ) (place : Place) (segments : List ℕ) (c : Comes position via i hop place)
+      → Goes-on i hop c.ride c.sid → (at : StandsAt position via i hop place c)
+      → PathFrom net intent (length intent.steps - at.next.left) (Some c.ride.sid) segments (hop - c.ride.lowered - 1)
+      → PathFrom net intent position via (slice_index e.segments i ∷ segments) hop
+  leg-path position via i hop place segments c g at tail =
+      let n = c.ride.sid in
+      let leg = leg-from net intent position via n at.next (ap sid_goes_on c.there ∙ g.middle) in
+      let lowered : at.next.ride.lowered ≡ c.ride.lowered = ap (λ (r : Ride). r.lowered) at.same_ride in
       record {
         first = n;
         more = tail.first ∷ tail.more;
-        need = c.ride.lowered + 1 + tail.need;
-        names = ap (λ (a : ℕ). a ∷ map (sid_address net) (tail.first ∷ tail.more)) c.address ∙ ap (λ (xs : List ℕ). slice_index e.segments i ∷ xs) tail.names;
+        need = at.next.ride.lowered + 1 + tail.need;
+        names =
+            ap (λ (a : ℕ). a ∷ map (sid_address net) (tail.first ∷ tail.more)) c.address
+            ∙ ap (λ (xs : List ℕ). slice_index e.segments i ∷ xs) tail.names;
         is_path =
             ap (λ o. with_leg o (λ to. path_need net intent to (Some n) (tail.first ∷ tail.more))) leg
-            ∙ ap (option_map (λ (k : ℕ). c.ride.lowered + 1 + k)) tail.is_path;
-        below = omega (arith, g.high, tail.below);
+            ∙ ap (option_map (λ (k : ℕ). at.next.ride.lowered + 1 + k)) tail.is_path;
+        below = omega (arith, lowered, g.high, tail.below);
       }
 
   pub path-from : (more : List ℕ) (a position : ℕ) (via : Option ℕ) (i hop : ℕ) (place : Place) → is_start net intent position via ≡ true
@@ -405,14 +453,17 @@ module _ (net : Network) (network : IsNetwork net) (flat : IsFlat net) (intent :
       let len = ap length segments in
       let l = length-drop i e.segments in
       subst (λ (x : ℕ). PathFrom net intent position via (x ∷ []) hop) first.0
-      (end-path position via i hop place start from (omega (arith, first.2)) (comes position via i hop place start from first.2 positive hands))
+      (end-path position via i hop place start from (omega (arith, first.2))
+      (comes position via i hop place start from first.2 positive hands))
   path-from (b ∷ more) a position via i hop place start from segments positive hands =
       let first = first-left e.segments (b ∷ more) i a segments in
       let len = ap length segments in
       let l = length-drop i e.segments in
       let c = comes position via i hop place start from first.2 positive hands in
       let g = mid-goes position via i hop place (omega (arith, first.2)) c in
+      let at = stands-at position via i hop place start from c g in
+      let behind = ap (option_map (place_behind c.ride.sid)) c.there in
       subst (λ (x : ℕ). PathFrom net intent position via (x ∷ b ∷ more) hop) first.0
-      (leg-path position via i hop place (b ∷ more) start from c g
-      (λ to starts hands. path-from more b to (Some c.ride.sid) (suc i) (hop - c.ride.lowered - 1) (place_behind c.ride.sid c.sid) starts
-      (ap (option_map (place_behind c.ride.sid)) c.there) first.1 (omega (arith, g.high)) hands))
+      (leg-path position via i hop place (b ∷ more) c g at
+      (path-from more b (length intent.steps - at.next.left) (Some c.ride.sid) (suc i) (hop - c.ride.lowered - 1)
+      (place_behind c.ride.sid c.sid) at.starts behind first.1 (omega (arith, g.high)) at.hands))

@@ -1,5 +1,5 @@
 -- A path of legs and a finish hands an encapsulated packet over.
-use Rattle.std.proofs.Common.{◌≡◌, ℕ, zero, suc, ◌+◌, ◌-◌, ◌^◌, ◌<◌, ◌≤◌, true, List, [], ◌∷◌, ◌++◌, length, drop, map, Option, Some, None, slice_get, slice_index, refl, sym, ◌∙◌, ap, arith}
+use Rattle.std.proofs.Common.{◌≡◌, ℕ, zero, suc, ◌+◌, ◌-◌, ◌^◌, ◌<◌, ◌≤◌, true, List, [], ◌∷◌, ◌++◌, length, drop, map, Option, Some, None, slice_index, refl, sym, ◌∙◌, ap, arith}
 use Rattle.std.specs.List.{All}
 use Rattle.std.specs.Option.{option_map}
 use Rattle.std.proofs.lemmas.List.{length-drop}
@@ -46,7 +46,8 @@ with_leg-some (Some leg) later need h =
     (leg, refl, got.0, got.1, got.2)
 
 -- the steps left behind a ride and an execution are the last ones of the intent
-pub rest-is : (steps ts us : List Step) (position count left : ℕ) → ts ≡ drop count (drop position steps) → us ≡ drop (length ts - length us) ts → length us ≡ left
+pub rest-is : (steps ts us : List Step) (position count left : ℕ) → ts ≡ drop count (drop position steps)
+    → us ≡ drop (length ts - length us) ts → length us ≡ left
     → count ≤ length (drop position steps) → position ≤ length steps → length us ≤ length ts → us ≡ drop (length steps - left) steps
 rest-is steps ts us position count left e f g h p few =
     let a = ap length e in
@@ -66,7 +67,8 @@ module _ (net : Network) (keeps : Keeps net) (intent : Intent) (is_intent : IsIn
     pub meets_steps : matches (drop position intent.steps) handed.trace ≡ true
     pub content : handed.content ≡ content_of bytes
 
-  finish-hands : (position : ℕ) (via : Option ℕ) (next i hop need : ℕ) (pick : ℕ → ℕ) (taken : ℕ) → finish_of net intent position via next ≡ Some need
+  finish-hands : (position : ℕ) (via : Option ℕ) (next i hop need : ℕ) (pick : ℕ → ℕ) (taken : ℕ)
+      → finish_of net intent position via next ≡ Some need
       → slice_index e.segments i ≡ sid_address net next → i + 1 ≡ length e.segments → need < hop
       → (place : Place) × (place_from net intent via ≡ Some place) × Hands position i hop place pick taken
   finish-hands position via next i hop need pick taken h address last high =
@@ -75,13 +77,15 @@ module _ (net : Network) (keeps : Keeps net) (intent : Intent) (is_intent : IsIn
       let s = start-facts net keeps intent is_intent position via n.place n.start n.from in
       let ts = drop position intent.steps in
       let f = ride-facts net keeps (sid_address net next) ts n.place n.ride s.how s.rest n.is_ride in
-      let ridden : ride_of net (slice_index e.segments i) ts n.place ≡ Some n.ride = ap (λ (d : ℕ). ride_of net d ts n.place) address ∙ n.is_ride in
+      let ridden : ride_of net (slice_index e.segments i) ts n.place ≡ Some n.ride
+      = ap (λ (d : ℕ). ride_of net d ts n.place) address ∙ n.is_ride in
       let low : n.ride.lowered < hop = omega (arith, got.2) in
       let w = ride-walk net keeps ts n.place (at_segment e bytes i hop) n.ride s.how s.rest ridden low in
       let sid = last-sid net next got.1 in
       let into : way_of net n.ride.place (slice_index e.segments i) ≡ Into next
       = ap (way_of net n.ride.place) address ∙ (f.into ∙ ap Into n.sid) in
-      let stage = last-exposes net e bytes n.ride.place next i (hop - n.ride.lowered) (pick (taken + w.count)) sid.0 into sid.1 sid.2 last in
+      let stage = last-exposes net e bytes n.ride.place next i (hop - n.ride.lowered) (pick (taken + w.count)) sid.0 into sid.1 sid.2 last
+      in
       let left = left-behind net next n.ride.left 0 (n.left_is ∙ ap Some got.3) in (
         n.place,
         n.from,

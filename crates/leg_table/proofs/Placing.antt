@@ -29,12 +29,15 @@ pub placed-more : (net : Network) (n : ℕ) (xs : List ℕ) (i : ℕ) → i < le
     → take i xs ++ placed net n (drop i xs) ≡ take (i + 1) xs ++ placed net n (drop (i + 1) xs)
 placed-more net n xs i h e = rw add-one (placed-suc net n xs i h e)
 
-placed-past : (net : Network) (n : ℕ) (xs : List ℕ) → take (length xs) xs ++ placed net n (drop (length xs) xs) ≡ take (length xs) xs ++ n ∷ drop (length xs) xs
+placed-past : (net : Network) (n : ℕ) (xs : List ℕ)
+    → take (length xs) xs ++ placed net n (drop (length xs) xs) ≡ take (length xs) xs ++ n ∷ drop (length xs) xs
 placed-past net n [] = refl
 placed-past net n (x ∷ xs) = ap (λ (r : List ℕ). x ∷ r) (placed-past net n xs)
 
-pub placed-all : (net : Network) (n : ℕ) (xs : List ℕ) (i : ℕ) → i ≡ length xs → take i xs ++ placed net n (drop i xs) ≡ take i xs ++ n ∷ drop i xs
-placed-all net n xs i e = subst (λ (k : ℕ). take k xs ++ placed net n (drop k xs) ≡ take k xs ++ n ∷ drop k xs) (sym e) (placed-past net n xs)
+pub placed-all : (net : Network) (n : ℕ) (xs : List ℕ) (i : ℕ) → i ≡ length xs
+    → take i xs ++ placed net n (drop i xs) ≡ take i xs ++ n ∷ drop i xs
+placed-all net n xs i e =
+    subst (λ (k : ℕ). take k xs ++ placed net n (drop k xs) ≡ take k xs ++ n ∷ drop k xs) (sym e) (placed-past net n xs)
 
 -- a row by the numbers of its SIDs
 pub sids_below-zero : (net : Network) (intent : Intent) (position : ℕ) → sids_below net intent position 0 ≡ []
@@ -59,11 +62,13 @@ pub sids_below-out : (net : Network) (intent : Intent) (position k : ℕ) → is
     → sids_below net intent position (k + 1) ≡ sids_below net intent position k
 sids_below-out net intent position k e = ap (sids_below net intent position) (add-one k) ∙ suc-out net intent position k e
 
-pub row-in : (net : Network) (intent : Intent) (position k at : ℕ) (xs ys : List ℕ) → xs ≡ sids_below net intent position k → is_sid_at net intent position k ≡ true
+pub row-in : (net : Network) (intent : Intent) (position k at : ℕ) (xs ys : List ℕ) → xs ≡ sids_below net intent position k
+    → is_sid_at net intent position k ≡ true
     → placed net k xs ≡ take at xs ++ k ∷ drop at xs → ys ≡ take at xs ++ k ∷ drop at xs → ys ≡ sids_below net intent position (k + 1)
 row-in net intent position k at xs ys e f g h = h ∙ sym g ∙ ap (placed net k) e ∙ sym (sids_below-in net intent position k f)
 
-pub row-out : (net : Network) (intent : Intent) (position k : ℕ) (xs ys : List ℕ) → xs ≡ sids_below net intent position k → is_sid_at net intent position k ≡ false
+pub row-out : (net : Network) (intent : Intent) (position k : ℕ) (xs ys : List ℕ) → xs ≡ sids_below net intent position k
+    → is_sid_at net intent position k ≡ false
     → ys ≡ xs → ys ≡ sids_below net intent position (k + 1)
 row-out net intent position k xs ys e f h = h ∙ e ∙ sym (sids_below-out net intent position k f)
 
@@ -78,18 +83,21 @@ drop-next [] i x h e = absurd (omega arith)
 drop-next (y ∷ xs) zero x h e = ap (λ z. z ∷ xs) e
 drop-next (y ∷ xs) (suc i) x h e = drop-next xs i x (omega arith) e
 
-pub step-opens : (net : Network) (intent : Intent) (i node : ℕ) (step : Step) → IsIntent net intent → node_at net intent i ≡ Some node → i < length intent.steps
+pub step-opens : (net : Network) (intent : Intent) (i node : ℕ) (step : Step) → IsIntent net intent → node_at net intent i ≡ Some node
+    → i < length intent.steps
     → get_or intent.steps i step ≡ step → is_some (node_after net node step) ≡ true
 step-opens net intent i node step is_intent stands h e =
     let whole : is_some (stand_after net node (drop i intent.steps)) ≡ true
     = ap is_some (sym (stand_after-split net intent.headend node intent.steps i stands)) ∙ (intent-stands net intent is_intent).0 in
     opens (node_after net node step) (ap (λ ts. is_some (stand_after net node ts)) (sym (drop-next intent.steps i step h e)) ∙ whole)
   where
-    opens : (o : Option ℕ) → is_some (option_and_then (λ next. stand_after net next (drop (suc i) intent.steps)) o) ≡ true → is_some o ≡ true
+    opens : (o : Option ℕ) → is_some (option_and_then (λ next. stand_after net next (drop (suc i) intent.steps)) o) ≡ true
+        → is_some o ≡ true
     opens None h = h
     opens (Some n) h = refl
 
-pub step-lands : (net : Network) (intent : Intent) (i node to : ℕ) (step : Step) → node_at net intent i ≡ Some node → i < length intent.steps
+pub step-lands : (net : Network) (intent : Intent) (i node to : ℕ) (step : Step) → node_at net intent i ≡ Some node
+    → i < length intent.steps
     → get_or intent.steps i step ≡ step → node_after net node step ≡ Some to → node_at net intent (i + 1) ≡ Some to
 step-lands net intent i node to step stands h e after =
     ap (λ n. stand_after net intent.headend (take n intent.steps)) (add-one i)
@@ -99,7 +107,8 @@ step-lands net intent i node to step stands h e after =
     ∙ ap (option_and_then (λ n. stand_after net n [])) after
 
 -- rows, one after another
-pub rows-start : (net : Network) (intent : Intent) (row : List ℕ) (rows : List (List ℕ)) → row ≡ sids_of net intent 0 → rows ≡ row ∷ [] → AreRows net intent 0 rows
+pub rows-start : (net : Network) (intent : Intent) (row : List ℕ) (rows : List (List ℕ)) → row ≡ sids_of net intent 0 → rows ≡ row ∷ []
+    → AreRows net intent 0 rows
 rows-start net intent row rows e f =
     subst (AreRows net intent 0) (sym f) (refl, λ position h. at position h)
   where

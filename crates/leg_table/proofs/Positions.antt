@@ -29,7 +29,8 @@ contains-cases {X} x y xs h = by_place h.0 h.1 h.2
 
 pub placed-contains : (net : Network) (n : ℕ) (xs : List ℕ) (m : ℕ) → Contains (placed net n xs) m → (n ≡ m) ⊎ Contains xs m
 placed-contains net n [] m h = contains-cases n m [] h
-placed-contains net n (x ∷ xs) m h = by_test (sid_before (slice_get net.sids n) (slice_get net.sids x)) (λ h. placed-contains net n xs m h) h
+placed-contains net n (x ∷ xs) m h =
+    by_test (sid_before (slice_get net.sids n) (slice_get net.sids x)) (λ h. placed-contains net n xs m h) h
   where
     by_test : (t : Bool) → (Contains (placed net n xs) m → (n ≡ m) ⊎ Contains xs m)
         → Contains (if t then n ∷ x ∷ xs else x ∷ placed net n xs) m → (n ≡ m) ⊎ Contains (x ∷ xs) m
@@ -68,13 +69,15 @@ pub placed-length : (net : Network) (n : ℕ) (xs : List ℕ) → length (placed
 placed-length net n [] = refl
 placed-length net n (x ∷ xs) = by_test (sid_before (slice_get net.sids n) (slice_get net.sids x)) (placed-length net n xs)
   where
-    by_test : (t : Bool) → length (placed net n xs) ≡ suc (length xs) → length (if t then n ∷ x ∷ xs else x ∷ placed net n xs) ≡ suc (suc (length xs))
+    by_test : (t : Bool) → length (placed net n xs) ≡ suc (length xs)
+        → length (if t then n ∷ x ∷ xs else x ∷ placed net n xs) ≡ suc (suc (length xs))
     by_test true e = refl
     by_test false e = ap suc e
 
 -- a number put into its place keeps the order, where it is before or behind each other
 pub placed-order : (net : Network) (n : ℕ) (xs : List ℕ) → in_order net xs ≡ true
-    → ((m : ℕ) → Contains xs m → sid_before (slice_get net.sids n) (slice_get net.sids m) ≡ false → sid_before (slice_get net.sids m) (slice_get net.sids n) ≡ true)
+    → ((m : ℕ) → Contains xs m → sid_before (slice_get net.sids n) (slice_get net.sids m) ≡ false → sid_before (slice_get net.sids m)
+    (slice_get net.sids n) ≡ true)
     → in_order net (placed net n xs) ≡ true
 placed-order net n [] order apart = refl
 placed-order net n (m ∷ []) order apart = by_test (sid_before (slice_get net.sids n) (slice_get net.sids m)) refl
@@ -98,8 +101,10 @@ placed-order net n (m ∷ k ∷ ks) order apart =
         by_next : (u : Bool) → in_order net (if u then n ∷ k ∷ ks else k ∷ placed net n ks) ≡ true
             → in_order net (m ∷ (if u then n ∷ k ∷ ks else k ∷ placed net n ks)) ≡ true
         by_next true later =
-            and_from (sid_before (slice_get net.sids m) (slice_get net.sids n)) (in_order net (n ∷ k ∷ ks)) (apart m (contains-first m (k ∷ ks)) e) later
-        by_next false later = and_from (sid_before (slice_get net.sids m) (slice_get net.sids k)) (in_order net (k ∷ placed net n ks)) parts.0 later
+            and_from (sid_before (slice_get net.sids m) (slice_get net.sids n)) (in_order net (n ∷ k ∷ ks))
+            (apart m (contains-first m (k ∷ ks)) e) later
+        by_next false later =
+            and_from (sid_before (slice_get net.sids m) (slice_get net.sids k)) (in_order net (k ∷ placed net n ks)) parts.0 later
 
 -- of two numbers that differ in a pair one pair comes first
 behind-numbers : (a b c d : ℕ) → (nat_lt a b || ((a == b) && nat_lt c d)) ≡ false → (a ≡ b → c ≡ d → ⊥)
@@ -109,8 +114,10 @@ behind-numbers a b c d h apart = by_first (cases_order a b) (cases_order c d)
     by_first : ((a ≡ b) ⊎ ((a < b) ⊎ (b < a))) → ((c ≡ d) ⊎ ((c < d) ⊎ (d < c))) → (nat_lt b a || ((b == a) && nat_lt d c)) ≡ true
     by_first (inl e) (inl f) = absurd (apart e f)
     by_first (inl e) (inr (inl f)) =
-        absurd (both_ways _ h (or_right (nat_lt a b) ((a == b) && nat_lt c d) (and_from (a == b) (nat_lt c d) (eq-eqb a b e) (lt-ltb c d f))))
-    by_first (inl e) (inr (inr f)) = or_right (nat_lt b a) ((b == a) && nat_lt d c) (and_from (b == a) (nat_lt d c) (eq-eqb b a (sym e)) (lt-ltb d c f))
+        absurd (both_ways _ h (or_right (nat_lt a b) ((a == b) && nat_lt c d)
+        (and_from (a == b) (nat_lt c d) (eq-eqb a b e) (lt-ltb c d f))))
+    by_first (inl e) (inr (inr f)) =
+        or_right (nat_lt b a) ((b == a) && nat_lt d c) (and_from (b == a) (nat_lt d c) (eq-eqb b a (sym e)) (lt-ltb d c f))
     by_first (inr (inl e)) f = absurd (both_ways _ h (or_left (nat_lt a b) ((a == b) && nat_lt c d) (lt-ltb a b e)))
     by_first (inr (inr e)) f = or_left (nat_lt b a) ((b == a) && nat_lt d c) (lt-ltb b a e)
 
@@ -156,7 +163,8 @@ module _ (net : Network) (keeps : Keeps net) (intent : Intent) (position : ℕ) 
         order : in_order net xs ≡ true;
       }
 
-  row-next : (k : ℕ) (xs : List ℕ) (t : Bool) → is_sid_at net intent position k ≡ t → Row-is k xs → Row-is (suc k) (if t then placed net k xs else xs)
+  row-next : (k : ℕ) (xs : List ℕ) (t : Bool) → is_sid_at net intent position k ≡ t → Row-is k xs
+      → Row-is (suc k) (if t then placed net k xs else xs)
   row-next k xs true e row =
       record {
         in_row = λ m h. in_it m (placed-contains net k xs m h);
@@ -200,7 +208,11 @@ module _ (net : Network) (keeps : Keeps net) (intent : Intent) (position : ℕ) 
   are-sids =
       let row = row-is (length net.sids) in
       record {
-        each = λ n. (λ h. (row.in_row n h).1, λ at. let s = sid-at net intent position n at in row.of_row n (slice_get_within net.sids n s.0 s.1) at);
+        each = λ n. (
+          λ h. (row.in_row n h).1,
+          λ at. let s = sid-at net intent position n at in row.of_row n
+              (slice_get_within net.sids n s.0 s.1) at,
+        );
         order = row.order;
       }
 

@@ -11,7 +11,7 @@ use Rattle.net_model.specs.Network.{Network}
 use Rattle.net_model.specs.Rules.{IsNetwork}
 use Rattle.net_model.specs.Flat.{IsFlat}
 use Rattle.net_model.specs.Keeps.{Keeps}
-use Rattle.net_model.proofs.KeepsLemmas.{keeps_from_network}
+use Rattle.net_model.proofs.PublicLaws.{keeps_from_network}
 use Rattle.walk_rules.specs.declared.place.Place.{Place}
 use Rattle.walk_rules.specs.Walk.{walk_of, choice_at}
 use Rattle.intent_reader.specs.Rules.{IsIntent}
@@ -50,7 +50,8 @@ abbrev Are-there : Network → List ℕ → Type 0
 Are-there net [] = Unit {0}
 Are-there net (n ∷ ns) = ((s : SidEntry) × (slice_get net.sids n ≡ Some s)) × Are-there net ns
 
-path-there : (net : Network) (intent : Intent) (more : List ℕ) (next position : ℕ) (via : Option ℕ) (need : ℕ) → path_need net intent position via (next ∷ more) ≡ Some need
+path-there : (net : Network) (intent : Intent) (more : List ℕ) (next position : ℕ) (via : Option ℕ) (need : ℕ)
+    → path_need net intent position via (next ∷ more) ≡ Some need
     → Are-there net (next ∷ more)
 path-there net intent [] next position via need h =
     let got = last-sid net next (finish-ride net intent position via next need h).1 in ((got.0, got.1), tt)
@@ -66,7 +67,8 @@ there-named net (n ∷ ns) h (suc i) below = there-named net ns h.1 i (omega ari
 
 module _ (net : Network) (intent : Intent) where
   -- SIDs with one first address to which packets are taken are one
-  same-next : (position : ℕ) (via : Option ℕ) (next other : ℕ) → NextRide net intent position via next → NextRide net intent position via other
+  same-next : (position : ℕ) (via : Option ℕ) (next other : ℕ) → NextRide net intent position via next
+      → NextRide net intent position via other
       → sid_address net next ≡ sid_address net other → next ≡ other
   same-next position via next other n m address =
       let place : n.place ≡ m.place = some-same n.place m.place (sym n.from ∙ m.from) in
@@ -84,20 +86,25 @@ module _ (net : Network) (intent : Intent) where
   -- one list of first addresses has one path
   path-unique : (more : List ℕ) (next : ℕ) (others : List ℕ) (other position : ℕ) (via : Option ℕ) (need least : ℕ)
       → map (sid_address net) (next ∷ more) ≡ map (sid_address net) (other ∷ others)
-      → path_need net intent position via (next ∷ more) ≡ Some need → path_need net intent position via (other ∷ others) ≡ Some least → need ≡ least
+      → path_need net intent position via (next ∷ more) ≡ Some need → path_need net intent position via (other ∷ others) ≡ Some least
+      → need ≡ least
   path-unique [] next [] other position via need least names h k =
       let n = (finish-ride net intent position via next need h).0 in
       let m = (finish-ride net intent position via other least k).0 in
       let same = same-next position via next other n m (heads _ _ [] [] names).0 in
       some-same need least (sym h ∙ ap (finish_of net intent position via) same ∙ k)
-  path-unique [] next (o ∷ others) other position via need least names h k = absurd (cc (heads _ _ [] (sid_address net o ∷ map (sid_address net) others) names).1)
-  path-unique (m ∷ more) next [] other position via need least names h k = absurd (cc (heads _ _ (sid_address net m ∷ map (sid_address net) more) [] names).1)
+  path-unique [] next (o ∷ others) other position via need least names h k =
+      absurd (cc (heads _ _ [] (sid_address net o ∷ map (sid_address net) others) names).1)
+  path-unique (m ∷ more) next [] other position via need least names h k =
+      absurd (cc (heads _ _ (sid_address net m ∷ map (sid_address net) more) [] names).1)
   path-unique (m ∷ more) next (o ∷ others) other position via need least names h k =
       let a = with_leg-some (leg_of net intent position via next) (λ to. path_need net intent to (Some next) (m ∷ more)) need h in
       let b = with_leg-some (leg_of net intent position via other) (λ to. path_need net intent to (Some other) (o ∷ others)) least k in
-      let parts = heads (sid_address net next) (sid_address net other) (map (sid_address net) (m ∷ more)) (map (sid_address net) (o ∷ others)) names in
+      let parts = heads (sid_address net next) (sid_address net other) (map (sid_address net) (m ∷ more))
+      (map (sid_address net) (o ∷ others)) names in
       let same : next ≡ other
-      = same-next position via next other (leg-ride net intent position via next a.0 a.1).0 (leg-ride net intent position via other b.0 b.1).0 parts.0 in
+      = same-next position via next other (leg-ride net intent position via next a.0 a.1).0
+      (leg-ride net intent position via other b.0 b.1).0 parts.0 in
       let leg : a.0 ≡ b.0 = some-same a.0 b.0 (sym a.1 ∙ ap (leg_of net intent position via) same ∙ b.1) in
       let tail : path_need net intent a.0.to (Some next) (o ∷ others) ≡ Some b.2
       = ap (λ (l : Leg). path_need net intent l.to (Some next) (o ∷ others)) leg
@@ -110,7 +117,8 @@ abbrev bytes_of_inner : Packet → List ℕ
 bytes_of_inner inner = spelling (inner_lowered inner)
 
 -- what is handed over for all lists of choices is handed over under every row of choices
-lists-hands : (net : Network) (intent : Intent) (segments : List ℕ) (inner : Packet) (hop : ℕ) → AlwaysHandsOver net intent segments inner hop
+lists-hands : (net : Network) (intent : Intent) (segments : List ℕ) (inner : Packet) (hop : ℕ)
+    → AlwaysHandsOver net intent segments inner hop
     → Hands net (headend_place intent) (V6 (at_segment (encapsulation_of intent segments) (bytes_of_inner inner) 0 hop)) intent.steps
 lists-hands net intent segments inner hop all =
     λ pick.
@@ -120,13 +128,15 @@ lists-hands net intent segments inner hop all =
     let got = all row some in (
       got.0,
       got.1,
-      hands-agree net got.0 intent.steps (Some (headend_place intent)) (V6 (at_segment (encapsulation_of intent segments) (bytes_of_inner inner) 0 hop))
+      hands-agree net got.0 intent.steps (Some (headend_place intent))
+          (V6 (at_segment (encapsulation_of intent segments) (bytes_of_inner inner) 0 hop))
           (choice_at row) pick 0 0 got.1 (λ d few. row_agrees net yes pick n d (omega arith)) got.3 got.2,
       got.3,
     )
 
 -- a list that hands over for all choices is a path
-pub list-path : (net : Network) (intent : Intent) (segments : List ℕ) (inner : Packet) (hop : ℕ) → IsNetwork net → IsFlat net → IsIntent net intent
+pub list-path : (net : Network) (intent : Intent) (segments : List ℕ) (inner : Packet) (hop : ℕ) → IsNetwork net → IsFlat net
+    → IsIntent net intent
     → AreSidAddresses net segments → 0 < length segments → 0 < hop → AlwaysHandsOver net intent segments inner hop
     → (sids : List ℕ) × (need : ℕ) × IsPathOf net intent segments sids need × (need < hop)
 list-path net intent segments inner hop network flat is_intent named some positive all =
@@ -144,7 +154,8 @@ list-path net intent segments inner hop network flat is_intent named some positi
         → (sids : List ℕ) × (need : ℕ) × IsPathOf net intent segments sids need × (need < hop)
     by_list [] e named some hands = absurd (omega arith)
     by_list (a ∷ more) e named some hands =
-        let begins : is_start net intent 0 None ≡ true = and_from (nat_le 0 (length intent.steps)) true (le-leb 0 (length intent.steps) (omega arith)) refl in
+        let begins : is_start net intent 0 None ≡ true
+        = and_from (nat_le 0 (length intent.steps)) true (le-leb 0 (length intent.steps) (omega arith)) refl in
         let path = path-from net network flat intent is_intent (encapsulation_of intent segments) (bytes_of_inner inner)
         (subst (λ (xs : List ℕ). All (λ a. a < 2 ^ 128) xs) (sym e) (λ k d h. below (a ∷ more) named k d h))
         (subst (AreSidAddresses net) (sym e) named) more a 0 None 0 hop (headend_place intent) begins refl e positive hands in
@@ -183,15 +194,19 @@ path-realizes net intent (next ∷ more) need network flat is_intent h =
     segments : List ℕ
     segments = map (sid_address net) (next ∷ more)
 
-    over : (inner : Packet) → IsSpellable inner → (hop : ℕ) → need < hop → (choices : List ℕ) → HandsOver net intent segments inner hop choices
+    over : (inner : Packet) → IsSpellable inner → (hop : ℕ) → need < hop → (choices : List ℕ)
+        → HandsOver net intent segments inner hop choices
     over inner ok hop above choices =
-        let got = path-hands net keeps intent is_intent (encapsulation_of intent segments) (bytes_of_inner inner) (all-addresses net keeps (next ∷ more))
+        let got = path-hands net keeps intent is_intent (encapsulation_of intent segments) (bytes_of_inner inner)
+        (all-addresses net keeps (next ∷ more))
         more next 0 None 0 hop need (choice_at choices) 0 refl h above in
         let hand = got.2 in
         let place : got.0 ≡ headend_place intent = some-same got.0 (headend_place intent) (sym got.1) in (
           hand.fuel,
           hand.handed,
-          ap (λ (p : Place). handed_over net (walk_of hand.fuel net (Some p) (V6 (at_segment (encapsulation_of intent segments) (bytes_of_inner inner) 0 hop)) (choice_at choices) 0))
+          ap (λ (p : Place). handed_over net
+              (walk_of hand.fuel net (Some p) (V6 (at_segment (encapsulation_of intent segments) (bytes_of_inner inner) 0 hop))
+              (choice_at choices) 0))
               (sym place) ∙ hand.is_handed,
           hand.meets_steps,
           hand.content ∙ content_of-spelling_alone (inner_lowered inner) (lowered-spellable inner ok),
@@ -200,7 +215,8 @@ path-realizes net intent (next ∷ more) need network flat is_intent h =
     least : (n : ℕ) → ReachesAbove net intent segments n → need ≤ n
     least n reaches =
         let inner = some_inner-spellable in
-        let path = list-path net intent segments some_inner (n + 1) network flat is_intent (there-named net (next ∷ more) (path-there net intent more next 0 None need h))
+        let path = list-path net intent segments some_inner (n + 1) network flat is_intent
+        (there-named net (next ∷ more) (path-there net intent more next 0 None need h))
         (omega arith) (omega arith) (reaches some_inner inner.0 inner.1 (n + 1) (omega arith)) in
         by_path path.0 path.1 path.2 path.3
       where

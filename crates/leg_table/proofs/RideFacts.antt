@@ -8,11 +8,10 @@ use Rattle.std.proofs.lemmas.List.{take-append-drop}
 use Rattle.srv6_rules.specs.declared.sid.Family.TheVariants as families
 use Rattle.srv6_rules.specs.declared.sid.SidEntry.{SidEntry}
 use Rattle.net_model.specs.Network.{Network}
-use Rattle.net_model.specs.Keeps.{Keeps, SuitsBehaviour}
+use Rattle.net_model.specs.Keeps.{Keeps}
 use Rattle.walk_rules.specs.declared.place.Place.{Place}
 use Rattle.walk_rules.specs.Way.{Way, Away, Over, Own, Into, way_of, IsWayFrom}
-use Rattle.walk_rules.specs.Treatment.{on_from}
-use Rattle.walk_rules.specs.Relation.{IsHow, IsThrough}
+use Rattle.walk_rules.specs.Relation.{IsHow}
 use Rattle.walk_rules.specs.Walk.{arrival}
 use Rattle.walk_rules.proofs.PublicLaws.{sid-how, way-from}
 use Rattle.intent_reader.specs.Rules.{stand_after, first_end, node_after, is_at, IsIntent, is_intent, ends_in_function}
@@ -41,7 +40,8 @@ module _ (net : Network) (keeps : Keeps net) (destination : ℕ) where
   facts_here ts place n e =
       record { count = 0; within = omega arith; left = refl; lowered = omega arith; into = e; stands = refl }
 
-  facts_later : (step : List ℕ) (ts : List Step) (place : Place) (to : ℕ) (lower : Bool) (r : Ride) → node_after net place.node (Links step) ≡ Some to
+  facts_later : (step : List ℕ) (ts : List Step) (place : Place) (to : ℕ) (lower : Bool) (r : Ride)
+      → node_after net place.node (Links step) ≡ Some to
       → RideFacts net destination ts (arrived to place) r
       → RideFacts net destination (Links step ∷ ts) place (more_lowered lower r)
   facts_later step ts place to lower r e f =
@@ -58,7 +58,8 @@ module _ (net : Network) (keeps : Keeps net) (destination : ℕ) where
       bound true = omega (arith, f.lowered)
       bound false = omega (arith, f.lowered)
 
-  pub ride-facts : (ts : List Step) (place : Place) (r : Ride) → IsHow net place.node place.how → is_some (stand_after net place.node ts) ≡ true
+  pub ride-facts : (ts : List Step) (place : Place) (r : Ride) → IsHow net place.node place.how
+      → is_some (stand_after net place.node ts) ≡ true
       → ride_of net destination ts place ≡ Some r → RideFacts net destination ts place r
   ride-facts [] place r how stands h = by_way (way_of net place destination) refl h
     where
@@ -71,14 +72,16 @@ module _ (net : Network) (keeps : Keeps net) (destination : ℕ) where
       by_way t (way_of net place destination) refl (way-from net place destination keeps how) stands h
       (λ to q stands h. ride-facts ts (arrived to place) q tt stands h)
     where
-      by_way : (t : Step) (w : Way) → way_of net place destination ≡ w → IsWayFrom net place.node w → is_some (stand_after net place.node (t ∷ ts)) ≡ true
+      by_way : (t : Step) (w : Way) → way_of net place destination ≡ w → IsWayFrom net place.node w
+          → is_some (stand_after net place.node (t ∷ ts)) ≡ true
           → ride_by net place (t ∷ ts) t (ride_of net destination ts) w ≡ Some r
           → ((to : ℕ) (q : Ride) → is_some (stand_after net to ts) ≡ true → ride_of net destination ts (arrived to place) ≡ Some q
           → RideFacts net destination ts (arrived to place) q)
           → RideFacts net destination (t ∷ ts) place r
       by_way t (Away reason) e links stands h ih = absurd (cc)
       by_way t Own e links stands h ih = absurd (cc)
-      by_way t (Into n) e links stands h ih = subst (RideFacts net destination (t ∷ ts) place) (some-same _ r h) (facts_here (t ∷ ts) place n e)
+      by_way t (Into n) e links stands h ih =
+          subst (RideFacts net destination (t ∷ ts) place) (some-same _ r h) (facts_here (t ∷ ts) place n e)
       by_way (Function sid) (Over set lower) e links stands h ih = absurd (cc)
       by_way (Links step) (Over set lower) e links stands h ih =
           let opened = step_opens net place.node step ts stands in
@@ -103,7 +106,8 @@ stand_after-append net node (x ∷ xs) ys = by_next (node_after net node x) (λ 
     by_next None ih = refl
     by_next (Some next) ih = ih next
 
-pub stand_after-split : (net : Network) (node to : ℕ) (steps : List Step) (position : ℕ) → stand_after net node (take position steps) ≡ Some to
+pub stand_after-split : (net : Network) (node to : ℕ) (steps : List Step) (position : ℕ)
+    → stand_after net node (take position steps) ≡ Some to
     → stand_after net node steps ≡ stand_after net to (drop position steps)
 stand_after-split net node to steps position e =
     ap (stand_after net node) (sym (take-append-drop position steps))
@@ -120,7 +124,8 @@ pub sid-at : (net : Network) (intent : Intent) (position n : ℕ) → is_sid_at 
     × (title_suits n (step_before intent.steps position) s.title ≡ true)
 sid-at net intent position n h = by_sid (slice_get net.sids n) refl h
   where
-    by_sid : (o : Option SidEntry) → slice_get net.sids n ≡ o → sid_suits n (node_at net intent position) (step_before intent.steps position) o ≡ true
+    by_sid : (o : Option SidEntry) → slice_get net.sids n ≡ o
+        → sid_suits n (node_at net intent position) (step_before intent.steps position) o ≡ true
         → (s : SidEntry) × (slice_get net.sids n ≡ Some s) × (node_at net intent position ≡ Some s.node)
         × (title_suits n (step_before intent.steps position) s.title ≡ true)
     by_sid None e h = absurd (false≢true h)
@@ -137,7 +142,8 @@ pub record StartFacts (net : Network) (intent : Intent) (position : ℕ) (place 
   pub family : place.family ≡ families.V6
 
 pub intent-stands : (net : Network) (intent : Intent) → IsIntent net intent
-    → (is_some (stand_after net intent.headend intent.steps) ≡ true) × (length intent.steps ≤ 48) × (1 ≤ length intent.steps) × (intent.headend < length net.nodes)
+    → (is_some (stand_after net intent.headend intent.steps) ≡ true) × (length intent.steps ≤ 48) × (1 ≤ length intent.steps)
+    × (intent.headend < length net.nodes)
 unfolding is_intent
 intent-stands net intent h =
     let a = and_parts (nat_lt intent.headend (length net.nodes)) _ h in
@@ -157,12 +163,14 @@ module _ (net : Network) (keeps : Keeps net) (intent : Intent) (is_intent : IsIn
       record {
         within = within;
         stands = stands;
-        rest = ap is_some (sym (stand_after-split net intent.headend place.node intent.steps position stands)) ∙ (intent-stands net intent is_intent).0;
+        rest = ap is_some (sym (stand_after-split net intent.headend place.node intent.steps position stands))
+            ∙ (intent-stands net intent is_intent).0;
         how = how;
         family = family;
       }
 
-  pub start-facts : (position : ℕ) (via : Option ℕ) (place : Place) → is_start net intent position via ≡ true → place_from net intent via ≡ Some place
+  pub start-facts : (position : ℕ) (via : Option ℕ) (place : Place) → is_start net intent position via ≡ true
+      → place_from net intent via ≡ Some place
       → StartFacts net intent position place
   start-facts position None place start from =
       let parts = and_parts (nat_le position (length intent.steps)) (position == 0) start in
@@ -177,4 +185,5 @@ module _ (net : Network) (keeps : Keeps net) (intent : Intent) (is_intent : IsIn
       let e : Path (Option Place) (Some (place_behind v sid.0)) (Some place)
       = ap (option_map (place_behind v)) (sym sid.1) ∙ from in
       subst (StartFacts net intent position) (some-same _ place e)
-      (start_from position (place_behind v sid.0) (leb-true position (length intent.steps) parts.0) sid.2 (sid-how net v sid.0 keeps sid.1) refl)
+      (start_from position (place_behind v sid.0) (leb-true position (length intent.steps) parts.0) sid.2 (sid-how net v sid.0 keeps sid.1)
+      refl)

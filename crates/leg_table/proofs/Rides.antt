@@ -7,7 +7,6 @@ use Rattle.std.specs.Option.{option_map}
 use Rattle.std.proofs.lemmas.Bool.Decides.{leb_tells}
 use Rattle.srv6_rules.specs.declared.sid.SidEntry.{SidEntry}
 use Rattle.srv6_rules.specs.declared.sid.Behaviour.{Behaviour}
-use Rattle.srv6_rules.specs.declared.sid.Reason.{Reason}
 use Rattle.srv6_rules.specs.declared.sid.Reason.TheVariants as reasons
 use Rattle.srv6_rules.specs.Packet.{Packet, Content, V6}
 use Rattle.srv6_rules.specs.Endpoint.{Endpoint, Onward, Exposed, Delivered, Refused, at_sid, at_address}
@@ -45,7 +44,8 @@ goes-ends (outcomes.Hand n how family) t R E h = (λ x. x, λ x. x)
 goes-ends outcomes.Local t R E h = (λ x. x, λ x. x)
 goes-ends (outcomes.Drop reason error) t R E h = (λ x. x, λ x. x)
 
-at_sid-no_send : (net : Network) (node n : ℕ) (b : Behaviour) (p : Packet) (e : Endpoint) → IsNoSend (treated_at_sid net node n b p e).outcome
+at_sid-no_send : (net : Network) (node n : ℕ) (b : Behaviour) (p : Packet) (e : Endpoint)
+    → IsNoSend (treated_at_sid net node n b p e).outcome
 at_sid-no_send net node n b p (Onward q) = tt
 at_sid-no_send net node n b p (Exposed family bytes) = tt
 at_sid-no_send net node n b p (Delivered q) = tt
@@ -126,7 +126,8 @@ module _ (net : Network) (end : List Step → walks.Step → Bool) where
       → (let gave = treated net place.node (Into n) p 0 in Ends gave.outcome (IsTrue (end left (seen_at place (V6 p) gave))))
       ↔ RideEnds net end p (Some (record { sid = n; place = place; left = left; lowered = 0 }))
   into place left p n e some =
-      let Q : Way → Type 0 = λ w. let gave = treated net place.node w p 0 in Ends gave.outcome (IsTrue (end left (seen_at place (V6 p) gave))) in (
+      let Q : Way → Type 0
+      = λ w. let gave = treated net place.node w p 0 in Ends gave.outcome (IsTrue (end left (seen_at place (V6 p) gave))) in (
         λ h. (some, subst (EndsAt place left) (sym (same_packet p)) (subst Q (sym e) h)),
         λ h. subst Q e (subst (EndsAt place left) (same_packet p) h.1),
       )
@@ -168,14 +169,18 @@ module _ (net : Network) (end : List Step → walks.Step → Bool) where
 
     rides-sends : (q : Packet) → list_all (has_link step) set ≡ true → EveryWay net end ts (arrived to place) (V6 q) → Sends q
     rides-sends q all every =
-        λ choice. let here = member-of_all (has_link step) set some all choice in
-        (here, subst (λ (o : Option Place). AtNext o (λ next. EveryWay net end ts next (V6 q))) (sym (comes (member_of set choice) here)) every)
+        λ choice. let here = member-of_all (has_link step) set some all choice in (
+          here,
+          subst (λ (o : Option Place). AtNext o (λ next. EveryWay net end ts next (V6 q))) (sym (comes (member_of set choice) here))
+              every,
+        )
 
     over_is : (lower : Bool) (ride : Place → Option Ride) → list_all (has_link step) set ≡ true
         → ride_over net place (Links step) set lower ride ≡ option_map (more_lowered lower) (ride (arrived to place))
     over_is lower ride all = rw (all, first_end-is net to step set ends all some) refl
 
-    over_all : (lower : Bool) (ride : Place → Option Ride) (p : Packet) → RideEnds net end p (ride_over net place (Links step) set lower ride)
+    over_all : (lower : Bool) (ride : Place → Option Ride) (p : Packet)
+        → RideEnds net end p (ride_over net place (Links step) set lower ride)
         → list_all (has_link step) set ≡ true
     over_all lower ride p h = by_test (list_all (has_link step) set) refl h
       where
@@ -198,7 +203,8 @@ module _ (net : Network) (end : List Step → walks.Step → Bool) where
         λ h. let got = sends-rides p h in
             subst (RideEnds net end p) (sym (over_is false (ride_of net p.destination ts) got.0)) ((stays p _).0 ((ih p positive).0 got.1)),
         λ h. let all = over_all false (ride_of net p.destination ts) p h in
-            rides-sends p all ((ih p positive).1 ((stays p _).1 (subst (RideEnds net end p) (over_is false (ride_of net p.destination ts) all) h))),
+            rides-sends p all ((ih p positive).1
+            ((stays p _).1 (subst (RideEnds net end p) (over_is false (ride_of net p.destination ts) all) h))),
       )
 
       abbrev Goes-as : Packet → Gave → Type 0
@@ -230,7 +236,8 @@ module _ (net : Network) (end : List Step → walks.Step → Bool) where
               let sends = rides-sends (lowered true p) all ((ih (lowered true p) (omega (arith, high))).1 ((falls p _ high).1 r)) in
               λ choice. subst (Goes-as p) (sym (sent-high net place.node set p choice high)) (sends choice)
 
-  by_way : (place : Place) (p : Packet) (t : Step) (ts : List Step) (w : Way) → way_of net place p.destination ≡ w → IsWayFrom net place.node w
+  by_way : (place : Place) (p : Packet) (t : Step) (ts : List Step) (w : Way) → way_of net place p.destination ≡ w
+      → IsWayFrom net place.node w
       → is_some (stand_after net place.node (t ∷ ts)) ≡ true → 0 < p.hop_limit
       → ((to : ℕ) (q : Packet) → is_some (stand_after net to ts) ≡ true → 0 < q.hop_limit
       → EveryWay net end ts (arrived to place) (V6 q) ↔ RideEnds net end q (ride_of net q.destination ts (arrived to place)))

@@ -20,7 +20,7 @@ use Rattle.net_model.specs.Network.{Network}
 use Rattle.net_model.specs.Rules.{IsNetwork}
 use Rattle.net_model.specs.Flat.{IsFlat}
 use Rattle.net_model.specs.Best.{lookup_of}
-use Rattle.net_model.proofs.AlikeLemmas.{one_sid_prefix, matched_sid_holds}
+use Rattle.net_model.proofs.PublicLaws.{one_sid_prefix, matched_sid_holds}
 use Rattle.walk_rules.specs.declared.place.How.{How}
 use Rattle.walk_rules.specs.declared.place.How.TheVariants.{Arrived, Submitted, Through}
 use Rattle.walk_rules.specs.declared.place.Place.{Place}
@@ -48,7 +48,8 @@ behind-again net at n s stands =
     ∙ ap (λ x. Some (record { node = s.node; how = on_from n s.behaviour; family = x })) (family-v6 at.family)
 
 -- the way into a SID is by a look-up
-into-lookup : (net : Network) (place : Place) (a n : ℕ) → way_of net place a ≡ Into n → (table : ℕ) × (lookup_of net place.node table a ≡ hits.Sid n)
+into-lookup : (net : Network) (place : Place) (a n : ℕ) → way_of net place a ≡ Into n
+    → (table : ℕ) × (lookup_of net place.node table a ≡ hits.Sid n)
 unfolding way_of
 into-lookup net place a n e = by_how place.how e
   where
@@ -58,7 +59,8 @@ into-lookup net place a n e = by_how place.how e
     by_hit lower (hits.Route m) e = absurd (cc)
     by_hit lower hits.Nothing e = absurd (cc)
 
-    by_table : (table : ℕ) (lower t : Bool) → (if t then Away reasons.Multicast else way_by_hit net lower (lookup_of net place.node table a)) ≡ Into n
+    by_table : (table : ℕ) (lower t : Bool)
+        → (if t then Away reasons.Multicast else way_by_hit net lower (lookup_of net place.node table a)) ≡ Into n
         → (table : ℕ) × (lookup_of net place.node table a ≡ hits.Sid n)
     by_table table lower true e = absurd (cc)
     by_table table lower false e = (table, by_hit lower (lookup_of net place.node table a) e)
@@ -153,7 +155,8 @@ module _ (net : Network) (n : ℕ) where
   pub left-behind : (ts : List Step) (left : ℕ) → left_after net n ts ≡ Some left → (us : List Step) × LeftBehind ts us × (length us ≡ left)
   left-behind ts left h = by_title (is_titled net n) refl ts h
     where
-      by_title : (t : Bool) → is_titled net n ≡ t → (ts : List Step) → (if t then left_after_function n ts else Some (length ts)) ≡ Some left
+      by_title : (t : Bool) → is_titled net n ≡ t → (ts : List Step)
+          → (if t then left_after_function n ts else Some (length ts)) ≡ Some left
           → (us : List Step) × LeftBehind ts us × (length us ≡ left)
       by_title false e ts h = (ts, title-out e ts, some-same (length ts) left h)
       by_title true e [] h = absurd (cc)

@@ -1,5 +1,5 @@
 -- The legs of an intent in a network keep the laws of legs.
-use Rattle.std.proofs.Common.{◌≡◌, ℕ, zero, suc, ◌+◌, ◌-◌, ◌<◌, ◌≤◌, Bool, true, false, ◌==◌, ◌||◌, not, if◌then◌else◌, List, [], ◌∷◌, length, take, drop, Option, Some, None, slice_get, Contains, refl, sym, ◌∙◌, ap, subst, arith, eqb-true, add-one, nat_le}
+use Rattle.std.proofs.Common.{◌≡◌, ℕ, zero, suc, ◌+◌, ◌-◌, ◌<◌, ◌≤◌, Bool, true, false, ◌==◌, ◌||◌, if◌then◌else◌, List, [], ◌∷◌, length, take, drop, Option, Some, None, slice_get, Contains, refl, sym, ◌∙◌, ap, subst, arith, eqb-true, add-one, nat_le}
 use Rattle.std.specs.Prelude.{is_some}
 use Rattle.std.specs.Option.{option_and_then}
 use Rattle.std.proofs.lemmas.Bool.{false≢true, and_parts, and_from, eq-eqb, leb-true}
@@ -9,9 +9,7 @@ use Rattle.std.proofs.Math.Seq.{take-add}
 use Rattle.v6_addr.specs.Address.{PrefixValue}
 use Rattle.srv6_rules.specs.declared.sid.SidEntry.{SidEntry}
 use Rattle.net_model.specs.Network.{Network}
-use Rattle.net_model.specs.Rules.{IsNetwork}
 use Rattle.net_model.specs.Keeps.{Keeps}
-use Rattle.net_model.proofs.KeepsLemmas.{keeps_from_network}
 use Rattle.walk_rules.specs.declared.place.Place.{Place}
 use Rattle.walk_rules.specs.Way.{Into, way_of}
 use Rattle.walk_rules.proofs.PublicLaws.{way-into}
@@ -173,14 +171,17 @@ module _ (net : Network) (keeps : Keeps net) (intent : Intent) (is_intent : IsIn
       by_title None e = at-untitled position next left a e
       by_title (Some title) e = at-titled position next left a title e
 
-  via-is : (position : ℕ) (via : Option ℕ) → is_start net intent position via ≡ true → (position ≤ length intent.steps) × IsVia (legs_value net intent) position via
+  via-is : (position : ℕ) (via : Option ℕ) → is_start net intent position via ≡ true
+      → (position ≤ length intent.steps) × IsVia (legs_value net intent) position via
   via-is position None start =
       let parts = and_parts (nat_le position (length intent.steps)) (position == 0) start in
       (leb-true position (length intent.steps) parts.0, eqb-true position 0 parts.1)
   via-is position (Some v) start =
       let parts = and_parts (nat_le position (length intent.steps)) (is_via net intent position (Some v)) start in
-      let at = and_parts (is_sid_at net intent position v) (is_middle net v) parts.1 in
-      (leb-true position (length intent.steps) parts.0, (((are-sids net keeps intent position).each v).1 at.0, shape-middle (slice_get net.sids v) ∙ at.1))
+      let at = and_parts (is_sid_at net intent position v) (is_middle net v) parts.1 in (
+        leb-true position (length intent.steps) parts.0,
+        (((are-sids net keeps intent position).each v).1 at.0, shape-middle (slice_get net.sids v) ∙ at.1),
+      )
 
   few-lowered : (position : ℕ) (via : Option ℕ) (next : ℕ) → (n : NextRide net intent position via next) → n.ride.lowered ≤ 48
   few-lowered position via next n =
@@ -222,19 +223,22 @@ module _ (net : Network) (keeps : Keeps net) (intent : Intent) (is_intent : IsIn
       record {
         start = via_is.0;
         from_via = via_is.1;
-        is_next = subst (λ (to : ℕ). Contains (sids_of net intent to) next) (sym last) (((are-sids net keeps intent at.0).each next).1 at.4);
+        is_next = subst (λ (to : ℕ). Contains (sids_of net intent to) next) (sym last)
+            (((are-sids net keeps intent at.0).each next).1 at.4);
         hops = omega (arith, got.2);
       }
 
   -- what comes to a SID is a ride
-  comes-ride : (position : ℕ) (via : Option ℕ) (next : ℕ) → comes_to (legs_value net intent) position via next ≡ true → NextRide net intent position via next
+  comes-ride : (position : ℕ) (via : Option ℕ) (next : ℕ) → comes_to (legs_value net intent) position via next ≡ true
+      → NextRide net intent position via next
   comes-ride position via next h = by_leg (leg_of net intent position via next) refl h
     where
       by_finish : (o : Option ℕ) → finish_of net intent position via next ≡ o → is_some o ≡ true → NextRide net intent position via next
       by_finish None e h = absurd (false≢true h)
       by_finish (Some lowered) e h = (finish-ride net intent position via next lowered e).0
 
-      by_leg : (o : Option Leg) → leg_of net intent position via next ≡ o → (is_some o || is_some (finish_of net intent position via next)) ≡ true
+      by_leg : (o : Option Leg) → leg_of net intent position via next ≡ o
+          → (is_some o || is_some (finish_of net intent position via next)) ≡ true
           → NextRide net intent position via next
       by_leg None e h = by_finish (finish_of net intent position via next) refl h
       by_leg (Some leg) e h = (leg-ride net intent position via next leg e).0
@@ -285,5 +289,5 @@ module _ (net : Network) (keeps : Keeps net) (intent : Intent) (is_intent : IsIn
       }
 
 -- the legs of an intent that keeps the rules, in a network that keeps the rules
-pub strict-laws : (net : Network) (intent : Intent) → IsNetwork net → IsIntent net intent → KeepsLaws (legs_value net intent)
-strict-laws net intent network is_intent = laws net (keeps_from_network net network) intent is_intent
+pub strict-laws : (net : Network) (intent : Intent) → Keeps net → IsIntent net intent → KeepsLaws (legs_value net intent)
+strict-laws net intent keeps is_intent = laws net keeps intent is_intent

@@ -1,6 +1,5 @@
 -- The trace that comes with what is handed over is that of the stages up to and with the first hand-over.
-use Rattle.std.proofs.Common.{◌≡◌, List, [], ◌∷◌, ◌++◌, Option, Some, None, refl, sym, ◌∙◌, ap, append-nil}
-use Rattle.std.specs.Option.{option_map}
+use Rattle.std.proofs.Common.{◌≡◌, List, [], ◌∷◌, ◌++◌, Option, Some, sym, ◌∙◌, ap, append-nil}
 use Rattle.net_model.specs.Network.{Network}
 use Rattle.walk_rules.specs.declared.place.Outcome.{Outcome}
 use Rattle.walk_rules.specs.declared.place.Outcome.TheVariants as outcomes
@@ -23,6 +22,7 @@ first-trace net gave (outcomes.Send link) ss later h f e =
 first-trace net gave outcomes.Local ss later h f e = absurd (cc)
 first-trace net gave (outcomes.Drop reason error) ss later h f e = absurd (cc)
 
-pub handed-trace : (net : Network) (ss : List walks.Step) (h : Handed) → handed_over net ss ≡ Some h → h.trace ≡ trace_of net (through_hand ss)
+pub handed-trace : (net : Network) (ss : List walks.Step) (h : Handed) → handed_over net ss ≡ Some h
+    → h.trace ≡ trace_of net (through_hand ss)
 handed-trace net [] h e = absurd (cc)
 handed-trace net (s ∷ ss) h e = first-trace net s.gave s.gave.outcome ss (handed_over net ss) h (λ k. handed-trace net ss k) e

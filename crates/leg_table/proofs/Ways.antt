@@ -6,11 +6,11 @@ use Rattle.std.proofs.lemmas.Bool.{false≢true, eq-eqb, or_cases, or_left, or_r
 use Rattle.std.proofs.lemmas.List.{length-drop}
 use Rattle.srv6_rules.specs.declared.sid.SidEntry.{SidEntry}
 use Rattle.net_model.specs.Network.{Network}
-use Rattle.net_model.specs.Keeps.{Keeps, SuitsBehaviour}
+use Rattle.net_model.specs.Keeps.{Keeps}
 use Rattle.walk_rules.specs.declared.place.Place.{Place}
 use Rattle.walk_rules.specs.Way.{Way, Away, Over, Own, Into, way_of}
 use Rattle.walk_rules.specs.Treatment.{on_from}
-use Rattle.walk_rules.specs.Relation.{IsHow, IsThrough}
+use Rattle.walk_rules.specs.Relation.{IsHow}
 use Rattle.walk_rules.specs.Walk.{arrival}
 use Rattle.walk_rules.proofs.PublicLaws.{sid-how}
 use Rattle.intent_reader.specs.Rules.{first_end}
@@ -28,7 +28,8 @@ use Rattle.leg_table.proofs.Positions.{contains-first, contains-later, contains-
 abbrev IsRest : List Step → Ride → Type 0
 IsRest ts r = (k : ℕ) × (k ≤ length ts) × (r.left ≡ drop k ts)
 
-ride-rest : (net : Network) (destination : ℕ) (ts : List Step) (place : Place) (r : Ride) → ride_of net destination ts place ≡ Some r → IsRest ts r
+ride-rest : (net : Network) (destination : ℕ) (ts : List Step) (place : Place) (r : Ride) → ride_of net destination ts place ≡ Some r
+    → IsRest ts r
 ride-rest net destination [] place r h = by_way (way_of net place destination) h
   where
     by_way : (w : Way) → ride_end place w ≡ Some r → IsRest [] r
@@ -62,7 +63,8 @@ rest-by_length ts r h =
 
 -- the way to a SID that the packet comes to
 pub way-is : (net : Network) (destination next : ℕ) (ts rest : List Step) (place : Place) (reached : Reached)
-    → Some reached ≡ option_map reached_of (ride_of net destination ts place) → reached.sid ≡ next → rest ≡ drop (length ts - reached.left) ts
+    → Some reached ≡ option_map reached_of (ride_of net destination ts place) → reached.sid ≡ next
+    → rest ≡ drop (length ts - reached.left) ts
     → behind_of net next (ride_of net destination ts place) ≡ option_map (behind_with reached.lowered) (left_after net next rest)
 way-is net destination next ts rest place reached h sid is_rest =
     let got = map-some reached_of (ride_of net destination ts place) reached (sym h) in
@@ -92,7 +94,8 @@ any-contains : (xs : List ℕ) (n : ℕ) → list_any (λ y. y == n) xs ≡ true
 any-contains [] n h = absurd (false≢true h)
 any-contains (x ∷ xs) n h = by_test (or_cases (x == n) (list_any (λ y. y == n) xs) h) (λ k. any-contains xs n k)
   where
-    by_test : (((x == n) ≡ true) ⊎ (list_any (λ y. y == n) xs ≡ true)) → (list_any (λ y. y == n) xs ≡ true → Contains xs n) → Contains (x ∷ xs) n
+    by_test : (((x == n) ≡ true) ⊎ (list_any (λ y. y == n) xs ≡ true)) → (list_any (λ y. y == n) xs ≡ true → Contains xs n)
+        → Contains (x ∷ xs) n
     by_test (inl e) later = subst (λ (y : ℕ). Contains (x ∷ xs) y) (eqb-true x n e) (contains-first x xs)
     by_test (inr k) later = contains-later x n xs (later k)
 

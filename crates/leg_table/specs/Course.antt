@@ -29,4 +29,5 @@ finish_from_behind b = if_none_left b.lowered b.left
 -- the way from a start to a next SID
 abbrev pub way_behind : Network → Intent → ℕ → Option ℕ → ℕ → Option Behind
 way_behind net intent position via next =
-    option_and_then (λ place. behind_of net next (ride_of net (sid_address net next) (drop position intent.steps) place)) (start_of net intent position via)
+    option_and_then (λ place. behind_of net next (ride_of net (sid_address net next) (drop position intent.steps) place))
+    (start_of net intent position via)

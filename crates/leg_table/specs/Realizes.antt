@@ -36,7 +36,8 @@ encapsulation_of intent segments =
 abbrev pub HandsOver : Network → Intent → List ℕ → Packet → ℕ → List ℕ → Type 0
 HandsOver net intent segments inner hop choices =
     (fuel : ℕ) × (h : Handed)
-    × (handed_over net (walk_of fuel net (Some (headend_place intent)) (V6 (encapsulated (encapsulation_of intent segments) inner hop)) (choice_at choices) 0) ≡ Some h)
+    × (handed_over net (walk_of fuel net (Some (headend_place intent)) (V6 (encapsulated (encapsulation_of intent segments) inner hop))
+    (choice_at choices) 0) ≡ Some h)
     × IsTrue (matches intent.steps h.trace) × (h.content ≡ V6 (inner_lowered inner))
 
 -- for every list of choices

@@ -57,8 +57,10 @@ pub record KeepsLaws (v : LegsValue) : Type 0 where
   pub sids_count : (position : ℕ) → position ≤ v.steps → length (v.sids_at position) ≤ 128
   pub sids_order : (position : ℕ) → position ≤ v.steps → IsTrue (ascends v (v.sids_at position))
   pub leg : (position : ℕ) (via : Option ℕ) (next : ℕ) (leg : Leg) → v.leg position via next ≡ Some leg → IsLegOf v position via next leg
-  pub finish : (position : ℕ) (via : Option ℕ) (next lowered : ℕ) → v.finish position via next ≡ Some lowered → IsFinishOf v position via next lowered
-  pub one_of_prefix : (position : ℕ) (via : Option ℕ) (next other : ℕ) → IsTrue (comes_to v position via next) → IsTrue (comes_to v position via other)
+  pub finish : (position : ℕ) (via : Option ℕ) (next lowered : ℕ) → v.finish position via next ≡ Some lowered
+      → IsFinishOf v position via next lowered
+  pub one_of_prefix : (position : ℕ) (via : Option ℕ) (next other : ℕ) → IsTrue (comes_to v position via next)
+      → IsTrue (comes_to v position via other)
       → (v.shape next).prefix ≡ (v.shape other).prefix → next ≡ other
   pub above_finish : (position : ℕ) (via : Option ℕ) (next : ℕ) (leg : Leg) (lowered : ℕ) → v.leg position via next ≡ Some leg
       → v.finish position via next ≡ Some lowered → lowered < leg.hops
@@ -66,4 +68,11 @@ pub record KeepsLaws (v : LegsValue) : Type 0 where
 -- what the table of an intent's legs is to a search
 abbrev pub legs_value : Network → Intent → LegsValue
 legs_value net intent =
-    record { steps = length intent.steps; sids_at = sids_of net intent; shape = shape_of net; leg = leg_of net intent; finish = finish_of net intent }
+    record {
+      steps = length intent.steps;
+      sids_at = sids_of net intent;
+      shape = shape_of net;
+      leg = leg_of net intent;
+      finish = finish_of
+          net intent;
+    }

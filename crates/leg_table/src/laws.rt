@@ -3,6 +3,7 @@
 ghost use Rattle.std.specs.Prelude.{◌≡◌, ◌<◌, ℕ, Bool, List, Option, Some, None, ◌↔◌, IsTrue, is_some, map, length};
 ghost use Rattle.srv6_rules.specs.Packet.{Packet, Content, V6};
 ghost use Rattle.net_model.specs.Network.{Network};
+ghost use Rattle.net_model.specs.Keeps.{Keeps};
 ghost use Rattle.net_model.specs.Rules.{IsNetwork};
 ghost use Rattle.walk_rules.specs.Relation.{IsPlace};
 ghost use Rattle.walk_rules.specs.declared.place.Place.{Place};
@@ -23,7 +24,8 @@ ghost use Rattle.net_model.specs.Flat.{IsFlat};
 /// A way to an execution is there for all lists of choices exactly where it is there whatever is
 /// chosen at each stage.
 pub fn every_way_is_for_all_choices()
-    ensures { (net : Network) (end : List Step → walks.Step → Bool) (steps : List Step) (place : Place) (content : Content) →
+    ensures { (net : Network) (end : List Step → walks.Step → Bool) (steps : List Step) →
+        (place : Place) (content : Content) →
         ForAllChoices net end steps place content ↔ EveryWay net end steps place content }
 {}
 
@@ -31,41 +33,46 @@ pub fn every_way_is_for_all_choices()
 /// ended: a packet has a way to an execution whatever is chosen exactly where the ride by look-ups
 /// alone, which goes to the end of the first equal next hop, has it.
 pub fn every_way_is_a_ride()
-    ensures { (net : Network) (end : List Step → walks.Step → Bool) (steps : List Step) (place : Place) (p : Packet) →
-        IsNetwork net → IsPlace net place → IsTrue (is_some (stand_after net place.node steps)) → 0 < p.hop_limit →
-        EveryWay net end steps place (V6 p) ↔ RideEnds net end p (ride_of net p.destination steps place) }
+    ensures { (net : Network) (end : List Step → walks.Step → Bool) (steps : List Step) →
+        (place : Place) (p : Packet) → Keeps net → IsPlace net place →
+        IsTrue (is_some (stand_after net place.node steps)) → 0 < p.hop_limit →
+        EveryWay net end steps place (V6 p)
+        ↔ RideEnds net end p (ride_of net p.destination steps place) }
 {}
 
 /// The leg by look-ups alone is there exactly where for all choices a packet to the next SID is
 /// taken to that SID along exactly the steps up to the leg's end, and executed there.
 pub fn a_leg_is_for_all_choices()
-    ensures { (net : Network) (intent : Intent) (position : ℕ) (via : Option ℕ) (next : ℕ) (leg : Leg) →
-        IsNetwork net → IsIntent net intent →
+    ensures { (net : Network) (intent : Intent) (position : ℕ) (via : Option ℕ) (next : ℕ) →
+        (leg : Leg) → Keeps net → IsIntent net intent →
         (leg_of net intent position via next ≡ Some leg) ↔ IsLeg net intent position via next leg }
 {}
 
 /// The finish by look-ups alone is there exactly where for all choices a packet to the last SID is
 /// taken to that SID along exactly the steps that are left, and the packet inside exposed there.
 pub fn a_finish_is_for_all_choices()
-    ensures { (net : Network) (intent : Intent) (position : ℕ) (via : Option ℕ) (next : ℕ) (lowered : ℕ) →
-        IsNetwork net → IsIntent net intent →
-        (finish_of net intent position via next ≡ Some lowered) ↔ IsFinish net intent position via next lowered }
+    ensures { (net : Network) (intent : Intent) (position : ℕ) (via : Option ℕ) (next : ℕ) →
+        (lowered : ℕ) → Keeps net → IsIntent net intent →
+        (finish_of net intent position via next ≡ Some lowered)
+        ↔ IsFinish net intent position via next lowered }
 {}
 
 /// The SIDs of a position stand in order, each once: those at the node where the walk stands there
 /// which have no title or are the function of the step that ends there.
 pub fn sids_of_a_position_are_in_order()
-    ensures { (net : Network) (intent : Intent) (position : ℕ) → IsNetwork net →
+    ensures { (net : Network) (intent : Intent) (position : ℕ) → Keeps net →
         AreSidsAt net intent position (sids_of net intent position) }
 {}
 
 /// A path of legs and a finish through SIDs, whose first addresses are the segments of a list,
 /// realizes the intent in both forms of the header, and the sum of its lowerings is the need: above
-/// that outer hop limit, for all inner packets and all choices, the packet crosses exactly the steps
-/// and the inner packet is handed over with its hop limit lowered by one; above no lower one is it so.
+/// that outer hop limit, for all inner packets and all choices, the packet crosses exactly the
+/// steps and the inner packet is handed over with its hop limit lowered by one; above no lower one
+/// is it so.
 pub fn a_path_realizes_the_intent()
     ensures { (net : Network) (intent : Intent) (sids : List ℕ) (need : ℕ) →
-        IsNetwork net → IsFlat net → IsIntent net intent → path_need net intent 0 None sids ≡ Some need →
+        IsNetwork net → IsFlat net → IsIntent net intent →
+        path_need net intent 0 None sids ≡ Some need →
         Realizes net intent (map (sid_address net) sids) need }
 {}
 
@@ -74,7 +81,8 @@ pub fn a_path_realizes_the_intent()
 /// need is below that hop limit.
 pub fn a_list_that_always_hands_over_is_a_path()
     ensures { (net : Network) (intent : Intent) (segments : List ℕ) (inner : Packet) (hop : ℕ) →
-        IsNetwork net → IsFlat net → IsIntent net intent → AreSidAddresses net segments → 0 < length segments → 0 < hop →
+        IsNetwork net → IsFlat net → IsIntent net intent →
+        AreSidAddresses net segments → 0 < length segments → 0 < hop →
         AlwaysHandsOver net intent segments inner hop →
         (sids : List ℕ) × (need : ℕ) × IsPathOf net intent segments sids need × (need < hop) }
 {}
@@ -82,6 +90,7 @@ pub fn a_list_that_always_hands_over_is_a_path()
 /// The trace that comes with what stages hand over is that of the stages up to and with the first
 /// hand-over.
 pub fn what_is_handed_over_has_its_trace()
-    ensures { (net : Network) (stages : List walks.Step) (h : Handed) → handed_over net stages ≡ Some h →
+    ensures { (net : Network) (stages : List walks.Step) (h : Handed) →
+        handed_over net stages ≡ Some h →
         h.trace ≡ trace_of net (through_hand stages) }
 {}

@@ -15,9 +15,9 @@ pub trait Legs {
         ensures value { result ≡ (seen self.now).steps }
         ensures laws { KeepsLaws (seen self.now) };
 
-    /// The SIDs that may be executed at a position, at most `steps`: those at the node where the walk
-    /// stands after so many steps which have no title or whose title is that of the last of these
-    /// steps; each once, in the order of prefix value and prefix length.
+    /// The SIDs that may be executed at a position, at most `steps`: those at the node where the
+    /// walk stands after so many steps which have no title or whose title is that of the last of
+    /// these steps; each once, in the order of prefix value and prefix length.
     fn sids_at(&self, position: u32) -> &[u32]
         requires { position ≤ (seen self.now).steps }
         ensures { result.now ≡ (seen self.now).sids_at position };

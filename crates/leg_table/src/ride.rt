@@ -70,8 +70,10 @@ fn next_over(net: &Net, place: Place, step: &Step, set: &[u32]) -> Option<Place>
 pub fn ride(net: &Net, destination: Addr, steps: &[Step], place: Place) -> Option<Reached>
     requires is_place { IsPlace net.now place }
     requires few { length steps.now ≤ 48 }
-    ensures value { result ≡ option_map reached_of (rides.ride_of net.now destination.value steps.now place) }
-    ensures few { IfSome result (λ r. (r.left ≤ length steps.now) × (r.lowered ≤ length steps.now)) }
+    ensures value { result
+        ≡ option_map reached_of (rides.ride_of net.now destination.value steps.now place) }
+    ensures few { IfSome result (λ r.
+        (r.left ≤ length steps.now) × (r.lowered ≤ length steps.now)) }
 {
     let (links, lower) = match way_of(net, &place, destination) {
         Way::Away { .. } => return None,
@@ -126,8 +128,10 @@ pub fn way_to(net: &Net, next: u32, steps: &[Step], place: Place) -> Option<Behi
     requires is_there { next < length net.now.sids }
     requires is_place { IsPlace net.now place }
     requires few { length steps.now ≤ 48 }
-    ensures value { result ≡ behind_of net.now next (rides.ride_of net.now (sids.sid_address net.now next) steps.now place) }
-    ensures few { IfSome result (λ b. (b.left ≤ length steps.now) × (b.lowered ≤ length steps.now)) }
+    ensures value { let address = sids.sid_address net.now next in
+        result ≡ behind_of net.now next (rides.ride_of net.now address steps.now place) }
+    ensures few { IfSome result (λ b.
+        (b.left ≤ length steps.now) × (b.lowered ≤ length steps.now)) }
 {
     let destination = net.sid(next).prefix.value();
     let reached = ride(net, destination, steps, place)?;

@@ -60,7 +60,8 @@ fn is_before(net: &Net, n: u32, m: u32) -> bool
 // the place of a SID among others in order
 fn place_of(net: &Net, among: &[u32], n: u32) -> usize
     ensures within { result ≤ length among.now }
-    ensures value { sids.placed net.now n among.now ≡ take result among.now ++ n ∷ drop result among.now }
+    ensures value { sids.placed net.now n among.now
+        ≡ take result among.now ++ n ∷ drop result among.now }
 {
     for (i, m) in among.iter().enumerate() {
         if is_before(net, n, *m) {
@@ -109,7 +110,8 @@ fn node_behind(net: &Net, node: u32, step: &Step) -> u32
 /// The SIDs of each position, from the start to the end.
 pub fn rows_of(alloc: Global, net: &Net, intent: &Intent) -> Result<Vec<Row>, NoMemory>
     requires { rules.IsIntent net.now intent.now }
-    ensures { IfOk result (λ rows. AreRows net.now intent.now (length intent.now.steps) rows.items) }
+    ensures { IfOk result (λ rows.
+        AreRows net.now intent.now (length intent.now.steps) rows.items) }
 {
     let steps = intent.steps.as_slice();
     let mut node = intent.headend;

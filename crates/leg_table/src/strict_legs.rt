@@ -2,6 +2,7 @@
 
 ghost use Rattle.std.specs.Prelude.{◌≡◌, ◌<◌, ◌≤◌, ℕ, length, drop, slice_get, Some, IfOk, IfSome};
 ghost use Rattle.std.specs.Option.{option_map};
+ghost use Rattle.net_model.specs.Keeps.{Keeps};
 ghost use Rattle.net_model.specs.Rules.{IsNetwork};
 ghost use Rattle.walk_rules.specs.Relation.{IsPlace};
 ghost use Rattle.intent_reader.specs.Rules.{IsIntent};
@@ -57,12 +58,13 @@ impl<'a> StrictLegs<'a> {
         Ok(StrictLegs { net, intent, rows })
     }
 
-    /// That the table is whole: an empty function, for the callers' proofs.
+    /// That the network and the intent keep their rules: a call for the callers' proofs alone.
     pub fn keeps_rules(&self)
         ensures network { IsNetwork self.now.net }
+        ensures facts { Keeps self.now.net }
         ensures intent { IsIntent self.now.net self.now.intent }
     {
-        let _ = &self.rows;
+        self.net.keeps_rules();
     }
 
     fn count(&self) -> u32
@@ -92,7 +94,8 @@ impl<'a> StrictLegs<'a> {
     // from where a packet starts to the next SID
     fn start(&self, position: u32, via: Option<u32>) -> Option<Place>
         ensures value { result ≡ legs.start_of self.now.net self.now.intent position via }
-        ensures is_place { IfSome result (λ place. IsPlace self.now.net place × (position ≤ length self.now.intent.steps)) }
+        ensures is_place { IfSome result (λ place.
+            IsPlace self.now.net place × (position ≤ length self.now.intent.steps)) }
     {
         self.keeps_rules();
         if position > self.count() {
@@ -116,7 +119,8 @@ impl<'a> StrictLegs<'a> {
     fn way_behind(&self, position: u32, via: Option<u32>, next: u32) -> Option<Behind>
         requires { next < length self.now.net.sids }
         ensures value { result ≡ way_behind self.now.net self.now.intent position via next }
-        ensures few { IfSome result (λ b. (b.left ≤ length self.now.intent.steps) × (b.lowered ≤ 48)) }
+        ensures few { IfSome result (λ b.
+            (b.left ≤ length self.now.intent.steps) × (b.lowered ≤ 48)) }
     {
         self.count();
         let place = self.start(position, via)?;

@@ -25,13 +25,13 @@ route = [
     { node = "A", prefix = "fcbb:bb00:4::/48", via = ["ab"] },
     { node = "B", prefix = "fcbb:bb00:4::/48", via = ["bc1", "bc2"] },
     { node = "C", prefix = "fcbb:bb00:4::/48", via = ["cd"] },
-    { node = "D", table = 100, prefix = "::/0", via = ["ce"] },
+    { node = "D", table = 9, prefix = "::/0", via = ["ce"] },
 ]
 sid = [
     { node = "B", prefix = "fcbb:bb00:e001::/48", behaviour = "End.X", links = ["bc1"] },
     { node = "B", prefix = "fcbb:bb00:2::/48", behaviour = "End" },
     { node = "D", prefix = "fcbb:bb00:4::/48", behaviour = "End" },
-    { node = "D", prefix = "fcbb:bb00:f001::/48", behaviour = "End.DT6", title = "vpn", table = 100 },
+    { node = "D", prefix = "fcbb:bb00:f001::/48", behaviour = "End.DT6", title = "vpn", table = 9 },
 ]
 "#;
 

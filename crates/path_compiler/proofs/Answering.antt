@@ -7,7 +7,7 @@ use Rattle.net_model.specs.Flat.{IsFlat}
 use Rattle.intent_reader.specs.Rules.{IsIntent}
 use Rattle.intent_reader.specs.declared.intent.Intent.{Intent}
 use Rattle.leg_table.specs.Realizes.{path_need, AlwaysHandsOver, AreSidAddresses}
-use Rattle.leg_table.proofs.Realizing.{path-realizes, list-path}
+use Rattle.leg_table.proofs.PublicLaws.{path-realizes, list-path}
 use Rattle.leg_table.specs.Table.{LegTable, shape_of}
 use Rattle.leg_table.specs.Value.{legs_value}
 use Rattle.path_compiler.specs.declared.compiled.Compiled.{Compiled}
@@ -17,15 +17,19 @@ use Rattle.path_compiler.specs.Search.{IsPath, Finds}
 use Rattle.path_compiler.specs.Compiled.{IsListOf, IsFound, IsWithoutList}
 use Rattle.path_compiler.proofs.Searching.{need-is}
 
-pub found-is : (net : Network) (intent : Intent) (t : LegTable) (o : Option Found) (f : Found) (c : Compiled) → IsNetwork net → IsFlat net → IsIntent net intent → t ≡ record { net = net; intent = intent }
-    → Finds (legs_value t.net t.intent) (Ok o) → o ≡ Some f → IsListOf (shape_of t.net) intent.reduced f.sids.items f.need c → IsFound net intent c
+pub found-is : (net : Network) (intent : Intent) (t : LegTable) (o : Option Found) (f : Found) (c : Compiled) → IsNetwork net → IsFlat net
+    → IsIntent net intent → t ≡ record { net = net; intent = intent }
+    → Finds (legs_value t.net t.intent) (Ok o) → o ≡ Some f → IsListOf (shape_of t.net) intent.reduced f.sids.items f.need c
+    → IsFound net intent c
 found-is net intent t o f c network flat is_intent e found some list =
-    let path : IsPath (legs_value t.net t.intent) 0 None f 6273 = subst (λ (p : Option Found). Finds (legs_value t.net t.intent) (Ok p)) some found in
+    let path : IsPath (legs_value t.net t.intent) 0 None f 6273
+    = subst (λ (p : Option Found). Finds (legs_value t.net t.intent) (Ok p)) some found in
     let here : need_through (legs_value net intent) 0 None f.sids.items ≡ Some f.need =
     subst (λ (u : LegTable). need_through (legs_value u.net u.intent) 0 None f.sids.items ≡ Some f.need) e path.is_path in
     let it : IsListOf (shape_of net) intent.reduced f.sids.items f.need c =
     subst (λ (u : LegTable). IsListOf (shape_of u.net) intent.reduced f.sids.items f.need c) e list in
-    let need : path_need net intent 0 None f.sids.items ≡ Some c.need = sym (need-is net intent 0 None f.sids.items) ∙ here ∙ ap Some (sym it.need) in
+    let need : path_need net intent 0 None f.sids.items ≡ Some c.need
+    = sym (need-is net intent 0 None f.sids.items) ∙ here ∙ ap Some (sym it.need) in
     record {
       sids = f.sids.items;
       is_path = need;
@@ -38,7 +42,8 @@ none-path : (net : Network) (intent : Intent) (t : LegTable) (o : Option Found) 
 none-path net intent t o e found none sids =
     let all : (sids : List ℕ) → need_through (legs_value t.net t.intent) 0 None sids ≡ None =
     subst (λ (p : Option Found). Finds (legs_value t.net t.intent) (Ok p)) none found in
-    sym (need-is net intent 0 None sids) ∙ subst (λ (u : LegTable). need_through (legs_value u.net u.intent) 0 None sids ≡ None) e (all sids)
+    sym (need-is net intent 0 None sids)
+    ∙ subst (λ (u : LegTable). need_through (legs_value u.net u.intent) 0 None sids ≡ None) e (all sids)
 
 -- a packet without a payload, to try lists with
 small-packet : Packet
@@ -77,5 +82,6 @@ none-is net intent t o network flat is_intent e found none =
       no_path = no;
       none_hands_over = never;
       none_realizes = λ segments need are some real.
-          never segments small-packet (need + 1) are some (omega arith) (real.reaches small-packet small-spellable small-high (need + 1) (omega arith));
+          never segments small-packet (need + 1) are some (omega arith)
+          (real.reaches small-packet small-spellable small-high (need + 1) (omega arith));
     }

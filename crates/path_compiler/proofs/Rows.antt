@@ -34,21 +34,26 @@ last-more v laws count cells h are =
     let long = length-map (v.sids_at (v.steps - count)) (cell_at (v.steps - count)) in
     record {
       each = λ position n within above c.
-          elim (order position (v.steps - count) (omega arith)) as (λ w. Contains (cells ++ map (cell_at (v.steps - count)) (v.sids_at (v.steps - count))) (cell_at position n)) [
+          elim (order position (v.steps - count) (omega arith)) as
+          (λ w. Contains (cells ++ map (cell_at (v.steps - count)) (v.sids_at (v.steps - count))) (cell_at position n)) [
             | inl same ↦
                 Contains-append_right cells _ (cell_at position n)
-                (subst (λ (p : ℕ). Contains (map (cell_at p) (v.sids_at p)) (cell_at position n)) same (mapped (cell_at position) (v.sids_at position) n c))
+                (subst (λ (p : ℕ). Contains (map (cell_at p) (v.sids_at p)) (cell_at position n)) same
+                (mapped (cell_at position) (v.sids_at position) n c))
             | inr more ↦ Contains-append_left cells _ (cell_at position n) (are.each position n within (omega arith) c)
           ];
       few = omega (arith, length-append cells (map (cell_at (v.steps - count)) (v.sids_at (v.steps - count))), long, few, are.few);
     }
 
-pub last-all : (v : LegsValue) → KeepsLaws v → (count : ℕ) (cells : List Cell) → count ≡ v.steps + 1 → AreLastCells v count cells → AreCells v cells
+pub last-all : (v : LegsValue) → KeepsLaws v → (count : ℕ) (cells : List Cell) → count ≡ v.steps + 1 → AreLastCells v count cells
+    → AreCells v cells
 last-all v laws count cells e are =
     record { each = λ position n within c. are.each position n within (omega arith) c; few = let f = laws.steps in omega (arith, are.few) }
 
-pub last-turn : (v : LegsValue) → KeepsLaws v → (steps count : ℕ) (sids : List ℕ) (cells more : List Cell) → steps ≡ v.steps → count < steps + 1
-    → sids ≡ v.sids_at (steps - count) → more ≡ cells ++ map (cell_at (steps - count)) sids → AreLastCells v count cells → AreLastCells v (count + 1) more
+pub last-turn : (v : LegsValue) → KeepsLaws v → (steps count : ℕ) (sids : List ℕ) (cells more : List Cell) → steps ≡ v.steps
+    → count < steps + 1
+    → sids ≡ v.sids_at (steps - count) → more ≡ cells ++ map (cell_at (steps - count)) sids → AreLastCells v count cells
+    → AreLastCells v (count + 1) more
 last-turn v laws steps count sids cells more same h row e are =
     let here : more ≡ cells ++ map (cell_at (v.steps - count)) (v.sids_at (v.steps - count)) =
     e ∙ ap (λ (xs : List ℕ). cells ++ map (cell_at (steps - count)) xs) row

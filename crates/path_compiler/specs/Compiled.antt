@@ -49,7 +49,8 @@ pub record IsWithoutList (net : Network) (intent : Intent) : Type 0 where
   pub no_path : (sids : List ℕ) → path_need net intent 0 None sids ≡ None
   pub none_hands_over : (segments : List ℕ) (inner : Packet) (hop : ℕ) → AreSidAddresses net segments → 0 < length segments → 0 < hop
       → ¬ AlwaysHandsOver net intent segments inner hop
-  pub none_realizes : (segments : List ℕ) (need : ℕ) → AreSidAddresses net segments → 0 < length segments → ¬ Realizes net intent segments need
+  pub none_realizes : (segments : List ℕ) (need : ℕ) → AreSidAddresses net segments → 0 < length segments
+      → ¬ Realizes net intent segments need
 
 -- a list is found in a flat network, and both bounds are kept
 pub record IsCompiled (net : Network) (intent : Intent) (c : Compiled) : Type 0 where

@@ -3,7 +3,7 @@ use Rattle.std.specs.Prelude.{◌≡◌, ℕ, ◌+◌, ◌*◌, ◌<◌, ◌≤�
 use Rattle.std.specs.Option.{option_and_then}
 use Rattle.leg_table.specs.Value.{LegsValue}
 use Rattle.leg_table.specs.declared.types.Leg.{Leg}
-use Rattle.leg_table.specs.declared.no_memory.NoMemory.{NoMemory}
+use Rattle.base.specs.declared.no_memory.NoMemory.{NoMemory}
 use Rattle.path_compiler.specs.declared.cells.Cell.{Cell}
 use Rattle.path_compiler.specs.declared.find.Found.{Found}
 use Rattle.path_compiler.specs.Paths.{need_through}

@@ -3,7 +3,8 @@
 ghost use Rattle.std.specs.Prelude.{◌≡◌, ◌++◌, map, OnOk, IfOk};
 ghost use Rattle.path_compiler.specs.Search.{AreCells, cell_at};
 
-use leg_table::{Legs, NoMemory};
+use base::NoMemory;
+use leg_table::Legs;
 use std::alloc::Global;
 
 /// A SID of a position.

@@ -4,7 +4,8 @@ ghost use Rattle.std.specs.Prelude.{◌≡◌, ◌+◌, ◌*◌, ◌≤◌, ◌<
 ghost use Rattle.path_compiler.specs.Search.{Searched, LastHop, Finds, way_into};
 
 use crate::cells::{Cell, cells_of};
-use leg_table::{Legs, NoMemory};
+use base::NoMemory;
+use leg_table::Legs;
 use std::alloc::Global;
 
 /// A path from a state to the end.
@@ -62,7 +63,8 @@ fn way_into<L: Legs>(
 // a path from behind a leg, with the leg put in front of it
 fn behind_leg(found: Found, sid: u32, hops: u32) -> Result<Found, NoMemory>
     requires { hops + found.need < 2 ^ 32 }
-    ensures { IfOk result (λ f. (f.sids.items ≡ sid ∷ found.sids.items) × (f.need ≡ hops + found.need)) }
+    ensures { IfOk result (λ f.
+        (f.sids.items ≡ sid ∷ found.sids.items) × (f.need ≡ hops + found.need)) }
 {
     let Found { mut sids, need } = found;
     sids.insert(0, sid)?;
@@ -72,7 +74,8 @@ fn behind_leg(found: Found, sid: u32, hops: u32) -> Result<Found, NoMemory>
     })
 }
 
-// a path from a state to the end; where there is none, each state that is come to is tried once, and its cell marked
+// a path from a state to the end; where there is none, each state that is come to is tried once,
+// and its cell marked
 fn search<L: Legs>(
     alloc: Global,
     legs: &L,

@@ -10,10 +10,9 @@ ghost use Rattle.path_compiler.specs.Compiled.{CompileAnswers, IsEmptySolution, 
 
 use crate::compiled::{CompileFault, Compiled};
 use crate::find::{Found, find};
+use base::NoMemory;
 use intent_reader::Intent;
-use leg_table::{
-    Container, Legs, NoMemory, PathSteps, Potentials, Prefixes, SidList, Solution, StrictLegs,
-};
+use leg_table::{Container, Legs, PathSteps, Potentials, Prefixes, SidList, Solution, StrictLegs};
 use net_model::{Net, compilable};
 use std::alloc::Global;
 

@@ -159,8 +159,8 @@ pub fn an_execution_names_its_sid()
         gave.outcome ≡ Outcome.Hand n how family → Executes net place content gave n how }
 {}
 
-/// From a place a packet goes on to a place, and from a SID it goes on in a way that there is at the
-/// SID's node.
+/// From a place a packet goes on to a place, and from a SID it goes on in a way that there is at
+/// the SID's node.
 pub fn a_place_leads_to_a_place()
     ensures next { (net : Network) (place : Place) (content : Content) (choice : ℕ) (next : Place) →
         Keeps net → IsPlace net place →

@@ -1,6 +1,5 @@
-use Rattle.net_model.proofs.KeepsLemmas.{keeps_from_network}
 use Rattle.leg_table.proofs.Positions.{are-sids}
 use Rattle.leg_table.proofs.laws.sids_of_a_position_are_in_order.Goals as goal
 
 pub returns : goal.returns
-returns c = λ net intent position network. are-sids net (keeps_from_network net network) intent position
+returns c = λ net intent position keeps. are-sids net keeps intent position

@@ -10,7 +10,8 @@ pub loop-n-preserved : goal.loop-n-preserved
 loop-n-preserved c =
     elim c.if-is_sid_at.branch [
       | then-is_sid_at+in_ok-insert w ↦
-          row-in c.args.net.now c.args.intent.now c.args.position c.loop-n.n w.place_of-at.result c.loop-n.row.items c.if-is_sid_at.row.items c.loop-n.invariant
+          row-in c.args.net.now c.args.intent.now c.args.position c.loop-n.n w.place_of-at.result c.loop-n.row.items
+          c.if-is_sid_at.row.items c.loop-n.invariant
           (sym c.is_sid_at.ensures ∙ w.if-is_sid_at.true)
           (rw w.as_slice.ensures.value at w.place_of-at.ensures.value)
           (ap (λ (v : Vec ℕ _). v.items) w.row-is ∙ w.in_ok-insert.ensures.items)

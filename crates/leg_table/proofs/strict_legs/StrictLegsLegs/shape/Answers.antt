@@ -1,5 +1,4 @@
 use Rattle.std.proofs.Common.{length, arith, ap}
-use Rattle.net_model.proofs.KeepsLemmas.{keeps_from_network}
 use Rattle.leg_table.specs.Table.{LegTable}
 use Rattle.leg_table.proofs.Positions.{sid-within}
 use Rattle.leg_table.proofs.strict_legs.StrictLegsLegs.shape.Goals as goal
@@ -7,7 +6,8 @@ use Rattle.leg_table.proofs.strict_legs.StrictLegsLegs.shape.Goals as goal
 pub sid-sid-requires : goal.sid-sid-requires
 sid-sid-requires c =
     let within =
-    sid-within c.args.self.now.net (keeps_from_network c.args.self.now.net c.keeps_rules.ensures.network) c.args.self.now.intent c.requires.0 c.args.sid
+    sid-within c.args.self.now.net c.keeps_rules.ensures.facts c.args.self.now.intent
+    c.requires.0 c.args.sid
     c.requires.2 in
     let e = ap (λ (t : LegTable). length t.net.sids) c.self.view_is in
     omega arith
