@@ -1,25 +1,59 @@
--- The names that were asked for.
-use Rattle.std.proofs.Common.{◌≡◌, ℕ, List, [], ◌∷◌, ◌++◌, Option, refl, sym, ap, ◌∙◌, append_assoc}
-use Rattle.srx_edge.specs.Edge.{append_name}
-use Rattle.srv6_cli.specs.Early.{AsksAtMost, append_names}
+-- Which files were asked for, by how far the files were judged.
+use Rattle.std.proofs.Common.{◌≡◌, ℕ, Bool, true, false, List, [], ◌∷◌, ◌++◌, Option, None, Some, IfSome, refl, sym, ap, ◌∙◌, subst, append-nil, append_assoc}
+use Rattle.srx_edge.specs.FilesRead.{FilesSeen, asked_for}
+use Rattle.srv6_cli.specs.Outside.{HasName, IsFrontOf, AsksForFront, Asks, AsksAs, asked_for_all, files_left_by}
+use Rattle.srv6_cli.specs.Pieces.{Stop, Never, AtFiles, AtInput, At, Elsewhere}
+use Rattle.srv6_cli.specs.Shape.{Held, Shape, names_of}
 
-pub asks_none : (name : List ℕ) (old new : Option (List (List ℕ))) → new ≡ old → AsksAtMost (name ∷ []) old new
-asks_none name old new h = record { some = []; rest = name ∷ []; whole = refl; asked = h }
+-- what holds of all files holds of those that are told
+pub each : (told : Option Held) (P : Held → Type 0) → ((held : Held) → P held) → IfSome told P
+each None P f = tt
+each (Some held) P f = f held
 
-pub asks_one : (name : List ℕ) (old new : Option (List (List ℕ))) → new ≡ append_name name old → AsksAtMost (name ∷ []) old new
-asks_one name old new h = record { some = name ∷ []; rest = []; whole = refl; asked = h }
+pub each-map : (told : Option Held) (P Q : Held → Type 0) → ((held : Held) → P held → Q held) → IfSome told P → IfSome told Q
+each-map None P Q f p = tt
+each-map (Some held) P Q f p = f held p
 
-pub asks_nothing : (old new : Option (List (List ℕ))) → new ≡ old → AsksAtMost [] old new
-asks_nothing old new h = record { some = []; rest = []; whole = refl; asked = h }
+pub front_whole : (names : List (List ℕ)) → IsFrontOf names names
+front_whole names = record { rest = []; whole = append-nil names }
 
--- one file, and behind it whatever may be asked for
-pub asks_front : (file : List ℕ) (rest : List (List ℕ)) (old new : Option (List (List ℕ))) → AsksAtMost (file ∷ []) old new → AsksAtMost (file ∷ rest) old new
-asks_front file rest old new h =
-    record { some = h.some; rest = h.rest ++ rest; whole = sym (append_assoc h.some h.rest rest) ∙ ap (λ (names : List (List ℕ)). names ++ rest) h.whole; asked = h.asked }
+pub front_longer : (first names rest : List (List ℕ)) → IsFrontOf first names → IsFrontOf (first ++ rest) names
+front_longer first names rest front =
+    record { rest = front.rest ++ rest; whole = sym (append_assoc names front.rest rest) ∙ ap (λ (all : List (List ℕ)). all ++ rest) front.whole }
 
--- one file was asked for, and then at most another
-pub asks_both : (file intent : List ℕ) (old mid new : Option (List (List ℕ))) → mid ≡ append_name file old → AsksAtMost (intent ∷ []) mid new → AsksAtMost (file ∷ intent ∷ []) old new
-asks_both file intent old mid new first h =
-    record { some = file ∷ h.some; rest = h.rest; whole = ap (λ (names : List (List ℕ)). file ∷ names) h.whole; asked = h.asked ∙ ap (append_names h.some) first }
+pub front_after : (name : List ℕ) (wanted names : List (List ℕ)) → IsFrontOf wanted names → IsFrontOf (name ∷ wanted) (name ∷ names)
+front_after name wanted names front = record { rest = front.rest; whole = ap (λ (all : List (List ℕ)). name ∷ all) front.whole }
 
-pub ruleset asking = (asks_none, asks_one, asks_nothing)
+-- all names that are come to were asked for
+
+asks-all : (stop : Stop) (wanted names : List (List ℕ)) → names ≡ wanted → HasName names → AsksAs stop wanted names
+asks-all Never wanted names e some = e
+asks-all AtFiles wanted names e some = (record { rest = []; whole = append-nil names ∙ e }, some)
+asks-all AtInput wanted names e some = e
+asks-all (At sink how) wanted names e some = e
+asks-all Elsewhere wanted names e some = record { rest = []; whole = append-nil names ∙ e }
+
+pub asks_all : (shape : Shape) (stop : Stop) (names : List (List ℕ)) (old new : FilesSeen) → IsFrontOf shape.files names → HasName names
+    → IfSome old.told (λ held. names_of shape held ≡ names) → new ≡ files_left_by stop (asked_for_all names old) → Asks shape stop old new
+asks_all shape stop names old new front some those seen = record {
+  names = names;
+  in_order = front;
+  those = each-map old.told (λ held. names_of shape held ≡ names) (λ held. AsksAs stop (names_of shape held) names)
+      (λ held e. asks-all stop (names_of shape held) names (sym e) some) those;
+  seen = seen;
+}
+
+-- the last of the names that were asked for failed, or memory was wanting
+
+pub asks_fault : (shape : Shape) (names : List (List ℕ)) (old new : FilesSeen) → IsFrontOf shape.files names → HasName names
+    → IfSome old.told (λ held. IsFrontOf (names_of shape held) names) → new ≡ files_left_by AtFiles (asked_for_all names old) → Asks shape AtFiles old new
+asks_fault shape names old new front some those seen = record {
+  names = names;
+  in_order = front;
+  those = each-map old.told (λ held. IsFrontOf (names_of shape held) names) (λ held. AsksAs AtFiles (names_of shape held) names) (λ held f. (f, some)) those;
+  seen = seen;
+}
+
+pub asks_front : (shape : Shape) (names : List (List ℕ)) (old new : FilesSeen) → IsFrontOf shape.files names
+    → IfSome old.told (λ held. IsFrontOf (names_of shape held) names) → new ≡ asked_for_all names old → Asks shape Elsewhere old new
+asks_front shape names old new front those seen = record { names = names; in_order = front; those = those; seen = seen }

@@ -1,73 +1,167 @@
--- From the judgements of `compile` to what is wanted.
-use Rattle.std.proofs.Common.{◌≡◌, ℕ, List, Option, Some, None, IfSome, Result, Ok, Err, refl, sym, subst}
+-- What `compile` leaves, by where it ends.
+use Rattle.std.proofs.Common.{◌≡◌, inl, inr, ℕ, Bool, true, false, List, [], ◌∷◌, ◌++◌, Option, None, Some, IfSome, Result, Ok, Err, refl, sym, ap, ◌∙◌, subst}
+use Rattle.std.specs.Prelude.{IsSomeAnd, if◌then◌else◌}
 use Rattle.srx_edge.specs.Edge.{file_named}
+use Rattle.srx_edge.specs.FilesRead.{FilesSeen, asked_for, failed}
+use Rattle.srx_edge.specs.Sources.{SourceSeen}
+use Rattle.srx_edge.specs.Sinks.{SinkSeen, sent}
+use Rattle.srx_edge.specs.Steps.{Whole, How, Wrote}
 use Rattle.net_model.specs.Network.{Network}
 use Rattle.intent_reader.specs.declared.intent.Intent.{Intent}
 use Rattle.path_compiler.specs.declared.compiled.Compiled.{Compiled}
 use Rattle.path_compiler.specs.declared.compiled.CompileFault.{CompileFault}
 use Rattle.path_compiler.specs.Compiled.{CompileAnswers}
-use Rattle.srv6_cli.specs.declared.answer.Answer.{Answer}
+use Rattle.srv6_cli.specs.declared.compile.Answer.{Answer}
+use Rattle.srv6_cli.specs.declared.halt.Failure.{Failure}
+use Rattle.srv6_cli.specs.declared.halt.Failure.TheVariants as failures
 use Rattle.srv6_cli.specs.declared.halt.Halt.{Halt}
 use Rattle.srv6_cli.specs.declared.halt.Halt.TheVariants as halts
 use Rattle.srv6_cli.specs.declared.refusal.Refusal.{Refusal}
-use Rattle.srv6_cli.specs.Output.{Output, refused, network_in}
-use Rattle.srv6_cli.specs.Halted.{JudgedIf}
-use Rattle.srv6_cli.specs.Compiling.{CompileWants, WantsOfNetwork, WantsOfIntentFile, WantsOfIntent, intent_in}
-use Rattle.srv6_cli.specs.Answers.{output_of_answer, Gives, CompileAnswered}
+use Rattle.srv6_cli.specs.declared.status.Status.{Status}
+use Rattle.srv6_cli.specs.declared.status.Status.TheVariants as statuses
+use Rattle.srv6_cli.specs.Answers.{bytes_of_line, ending_of_failure, JudgesFile, CommandsUnread}
+use Rattle.srv6_cli.specs.Command.{Compile}
+use Rattle.srv6_cli.specs.Compile.{AnswerWants, IntentWants, NetworkWants, asks_for_intent, reported, compile_shape}
+use Rattle.srv6_cli.specs.Compiled.{output_of_answer, Gives}
+use Rattle.srv6_cli.specs.Judgements.{network_in, intent_in, refused}
+use Rattle.srv6_cli.specs.Outside.{IsFrontOf, AsksForFront, Asks, Reads, asked_for_all, files_left_by}
+use Rattle.srv6_cli.specs.Pieces.{Output, Stop, Never, AtFiles, AtInput, At, Elsewhere, ToOut}
+use Rattle.srv6_cli.specs.Serves.{ending_of_status, Takes}
+use Rattle.srv6_cli.specs.Shape.{Held, goes_on_with, names_of, WantedOf, IsOneOf}
+use Rattle.srv6_cli.proofs.Asking.{each, each-map, front_whole, front_longer, front_after, asks_all, asks_fault, asks_front}
+use Rattle.srv6_cli.proofs.Commanding.{refused_commands, files_fault, memory_wants, written_whole, written_cut}
+use Rattle.srv6_cli.proofs.PieceLemmas.{stop_at}
 
--- an output that is wanted once the description gives a network
-wants-network : (text : List ℕ) (intent : Option (List ℕ)) (net : Network) (w : Output) → network_in text ≡ Ok net → WantsOfIntentFile net intent w → CompileWants (Some text) intent w
-wants-network text intent net w h wants = subst (λ (r : Result Network Refusal). WantsOfNetwork r intent w) (sym h) wants
+some-map : (o : Option (List ℕ)) (P Q : List ℕ → Type 0) → ((text : List ℕ) → P text → Q text) → IsSomeAnd o P → IsSomeAnd o Q
+some-map None P Q f p = absurd p
+some-map (Some text) P Q f p = f text p
 
-wants-intent : (net : Network) (text : List ℕ) (judged : Result Intent Refusal) (w : Output) → intent_in net text ≡ judged → WantsOfIntent net judged w → WantsOfIntentFile net (Some text) w
-wants-intent net text judged w h wants = subst (λ (r : Result Intent Refusal). WantsOfIntent net r w) (sym h) wants
+-- the names that are asked for, by the judgement of the description
 
--- the intent was refused
-compile-halt : (net : Network) (halt : Halt) (file intent : Option (List ℕ)) → JudgedIf (λ (n : Network). n) (Ok net) network_in file → JudgedIf (λ (i : Intent). i) (Err halt) (intent_in net) intent
-    → CompileAnswered (Err halt) file intent
-compile-halt net halt None intent f i = absurd f
-compile-halt net (halts.Refused refusal) (Some text) None f i = absurd i
-compile-halt net (halts.Refused refusal) (Some text) (Some other) f i =
-    wants-network text (Some other) net (refused refusal) f (wants-intent net other (Err refusal) (refused refusal) i refl)
-compile-halt net halts.Fault (Some text) intent f i = tt
-compile-halt net halts.NoMemory (Some text) intent f i = tt
+goes-on-ok : (net : Network) (o : Option (List ℕ)) → IsSomeAnd o (λ text. network_in text ≡ Ok net) → goes_on_with asks_for_intent [] o ≡ true
+goes-on-ok net None h = absurd h
+goes-on-ok net (Some text) h = rw h refl
 
--- both were judged well
-compile-gives : (net : Network) (value : Intent) (compiled : Result Compiled CompileFault) (answer : Result Answer Halt) (file intent : Option (List ℕ))
-    → JudgedIf (λ (n : Network). n) (Ok net) network_in file → JudgedIf (λ (i : Intent). i) (Ok value) (intent_in net) intent
-    → CompileAnswers net value compiled → Gives compiled answer → CompileAnswered answer file intent
-compile-gives net value compiled answer None intent f i answers gives = absurd f
-compile-gives net value compiled answer (Some text) None f i answers gives = absurd i
-compile-gives net value compiled (Ok a) (Some text) (Some other) f i answers gives =
-    (wants-network text (Some other) net (output_of_answer a) f (wants-intent net other (Ok value) (output_of_answer a) i (compiled, answers, gives.0, sym gives.1)), gives.2)
-compile-gives net value compiled (Err (halts.Refused refusal)) (Some text) (Some other) f i answers gives =
-    wants-network text (Some other) net (refused refusal) f (wants-intent net other (Ok value) (refused refusal) i (compiled, answers, gives.0, sym gives.1))
-compile-gives net value compiled (Err halts.Fault) (Some text) (Some other) f i answers gives = tt
-compile-gives net value compiled (Err halts.NoMemory) (Some text) (Some other) f i answers gives = tt
+goes-on-refused : (refusal : Refusal) (o : Option (List ℕ)) → IsSomeAnd o (λ text. network_in text ≡ Err refusal) → goes_on_with asks_for_intent [] o ≡ false
+goes-on-refused refusal None h = absurd h
+goes-on-refused refusal (Some text) h = rw h refl
 
-halt-told : (net : Network) (halt : Halt) (told : Option (List (List ℕ × List ℕ))) (file intent : List ℕ)
-    → IfSome told (λ held. JudgedIf (λ (n : Network). n) (Ok net) network_in (file_named held file)) → IfSome told (λ held. JudgedIf (λ (i : Intent). i) (Err halt) (intent_in net) (file_named held intent))
-    → IfSome told (λ held. CompileAnswered (Err halt) (file_named held file) (file_named held intent))
-halt-told net halt None file intent f i = tt
-halt-told net halt (Some held) file intent f i = compile-halt net halt (file_named held file) (file_named held intent) f i
+-- an answer's status is one of a whole call, and one of the command's
+answer-status : (status : Status) → IsOneOf (statuses.Done ∷ statuses.NoAnswer ∷ []) status
+    → (ending_of_status status ≡ Whole) × IsOneOf (statuses.Done ∷ statuses.Refused ∷ statuses.NoAnswer ∷ []) status
+answer-status status (inl e) = (ap ending_of_status e, inl e)
+answer-status status (inr (inl e)) = (ap ending_of_status e, inr (inr (inl e)))
+answer-status status (inr (inr none)) = absurd none
 
-gives-told : (net : Network) (value : Intent) (compiled : Result Compiled CompileFault) (answer : Result Answer Halt) (told : Option (List (List ℕ × List ℕ))) (file intent : List ℕ)
-    → IfSome told (λ held. JudgedIf (λ (n : Network). n) (Ok net) network_in (file_named held file)) → IfSome told (λ held. JudgedIf (λ (i : Intent). i) (Ok value) (intent_in net) (file_named held intent))
-    → CompileAnswers net value compiled → Gives compiled answer
-    → IfSome told (λ held. CompileAnswered answer (file_named held file) (file_named held intent))
-gives-told net value compiled answer None file intent f i answers gives = tt
-gives-told net value compiled answer (Some held) file intent f i answers gives = compile-gives net value compiled answer (file_named held file) (file_named held intent) f i answers gives
+module _ (file intent : List ℕ) where
+  names-ok : (net : Network) (told : Option Held) → IfSome told (λ held. IsSomeAnd (file_named held file) (λ text. network_in text ≡ Ok net))
+      → IfSome told (λ held. names_of (compile_shape file intent) held ≡ file ∷ intent ∷ [])
+  names-ok net told h = each-map told (λ held. IsSomeAnd (file_named held file) (λ text. network_in text ≡ Ok net))
+      (λ held. names_of (compile_shape file intent) held ≡ file ∷ intent ∷ [])
+      (λ held h. rw (goes-on-ok net (file_named held file) h) refl) h
 
--- the intent's file is told as the description's was
-pub halt_answered : (net : Network) (halt : Halt) (told mid : Option (List (List ℕ × List ℕ))) (file intent : List ℕ) → mid ≡ told
-    → IfSome told (λ held. JudgedIf (λ (n : Network). n) (Ok net) network_in (file_named held file)) → IfSome mid (λ held. JudgedIf (λ (i : Intent). i) (Err halt) (intent_in net) (file_named held intent))
-    → IfSome told (λ held. CompileAnswered (Err halt) (file_named held file) (file_named held intent))
-halt_answered net halt told mid file intent same f i =
-    halt-told net halt told file intent f (subst (λ (o : Option (List (List ℕ × List ℕ))). IfSome o (λ held. JudgedIf (λ (j : Intent). j) (Err halt) (intent_in net) (file_named held intent))) same i)
+  names-refused : (refusal : Refusal) (told : Option Held)
+      → IfSome told (λ held. IsSomeAnd (file_named held file) (λ text. network_in text ≡ Err refusal))
+      → IfSome told (λ held. names_of (compile_shape file intent) held ≡ file ∷ [])
+  names-refused refusal told h = each-map told (λ held. IsSomeAnd (file_named held file) (λ text. network_in text ≡ Err refusal))
+      (λ held. names_of (compile_shape file intent) held ≡ file ∷ [])
+      (λ held h. rw (goes-on-refused refusal (file_named held file) h) refl) h
 
-pub gives_answered : (net : Network) (value : Intent) (compiled : Result Compiled CompileFault) (answer : Result Answer Halt) (told mid : Option (List (List ℕ × List ℕ))) (file intent : List ℕ) → mid ≡ told
-    → IfSome told (λ held. JudgedIf (λ (n : Network). n) (Ok net) network_in (file_named held file)) → IfSome mid (λ held. JudgedIf (λ (i : Intent). i) (Ok value) (intent_in net) (file_named held intent))
-    → CompileAnswers net value compiled → Gives compiled answer
-    → IfSome told (λ held. CompileAnswered answer (file_named held file) (file_named held intent))
-gives_answered net value compiled answer told mid file intent same f i answers gives =
-    gives-told net value compiled answer told file intent f (subst (λ (o : Option (List (List ℕ × List ℕ))). IfSome o (λ held. JudgedIf (λ (j : Intent). j) (Ok value) (intent_in net) (file_named held intent))) same i) answers gives
+  -- what is asked for behind the description
+  abbrev behind : Held → List (List ℕ)
+  behind held = if goes_on_with asks_for_intent [] (file_named held file) then intent ∷ [] else []
+
+  -- an output that is wanted of the description's judgement
+  wants : (judged : Result Network Refusal) (told : Option Held) (left : Option (List ℕ)) (output : Output)
+      → IfSome told (λ held. IsSomeAnd (file_named held file) (λ text. network_in text ≡ judged))
+      → IfSome told (λ held. NetworkWants judged (file_named held intent) output) → WantedOf (compile_shape file intent) told left output
+  wants judged None left output h w = tt
+  wants judged (Some held) left output h w = some-map (file_named held file) (λ text. network_in text ≡ judged)
+      (λ text. NetworkWants (network_in text) (file_named held intent) output)
+      (λ text is. subst (λ (j : Result Network Refusal). NetworkWants j (file_named held intent) output) (sym is) w) h
+
+  takes : (stop : Stop) (f g : FilesSeen) (s : SourceSeen) → Asks (compile_shape file intent) stop f g → Reads stop s s
+      → Takes (compile_shape file intent) stop f g s s
+  takes stop f g s asks reads = record { asks = asks; reads = reads; unread = each f.told (λ held. Unit {0} → s ≡ s) (λ held _. refl); reads_none = λ _. refl }
+
+  -- the description was refused, wasn't read, or memory was wanting
+  pub compile_halted_at_file : (f g : FilesSeen) (o : SinkSeen) (halt : Halt) → JudgesFile network_in file (Err halt) f g
+      → CommandsUnread (Compile file intent) (Err halt) f g o o
+  compile_halted_at_file f g o (halts.Refused refusal) h = λ s. refused_commands (Compile file intent) refusal f g s s o
+      (wants (Err refusal) f.told s.left (refused refusal) h.0 (each f.told (λ held. refused refusal ≡ refused refusal) (λ held. refl)))
+      (inr (inl refl))
+      (takes Never f g s (asks_all (compile_shape file intent) Never (file ∷ []) f g (record { rest = intent ∷ []; whole = refl }) tt
+      (names-refused refusal f.told h.0) h.1) refl)
+  compile_halted_at_file f g o (halts.Failed failures.Fault) h = λ s. files_fault (Compile file intent) f g s o
+      (takes AtFiles f g s (asks_fault (compile_shape file intent) (file ∷ []) f g (record { rest = intent ∷ []; whole = refl }) tt
+      (each f.told (λ held. IsFrontOf (names_of (compile_shape file intent) held) (file ∷ [])) (λ held. record { rest = behind held; whole = refl })) h) refl)
+  compile_halted_at_file f g o (halts.Failed failures.NoMemory) h = λ s. memory_wants (Compile file intent) f g s s o
+      (takes Elsewhere f g s (asks_front (compile_shape file intent) h.names f g (front_longer (file ∷ []) h.names (intent ∷ []) h.front)
+      (each f.told (λ held. IsFrontOf (names_of (compile_shape file intent) held) h.names)
+      (λ held. front_longer (file ∷ []) h.names (behind held) h.front)) h.seen) refl)
+
+  module _ (f mid g : FilesSeen) (o p : SinkSeen) (net : Network) (judged : JudgesFile network_in file (Ok net) f mid) where
+    -- what is told is told of the files as they were
+    of-first : (P : Held → Type 0) → IfSome mid.told P → IfSome f.told P
+    of-first P h = subst (λ (files : FilesSeen). IfSome files.told P) judged.1 h
+
+    wants-intent : (read : Result Intent Refusal) (left : Option (List ℕ)) (output : Output)
+        → IfSome mid.told (λ held. IsSomeAnd (file_named held intent) (λ text. intent_in net text ≡ read)) → IntentWants net read output
+        → WantedOf (compile_shape file intent) f.told left output
+    wants-intent read left output h w = wants (Ok net) f.told left output judged.0
+        (of-first (λ held. NetworkWants (Ok net) (file_named held intent) output)
+        (each-map mid.told (λ held. IsSomeAnd (file_named held intent) (λ text. intent_in net text ≡ read))
+        (λ held. NetworkWants (Ok net) (file_named held intent) output)
+        (λ held there. some-map (file_named held intent) (λ text. intent_in net text ≡ read) (λ text. IntentWants net (intent_in net text) output)
+        (λ text is. subst (λ (r : Result Intent Refusal). IntentWants net r output) (sym is) w) there) h))
+
+    -- both files were asked for
+    asks-both : (stop : Stop) → g ≡ files_left_by stop (asked_for intent mid) → Asks (compile_shape file intent) stop f g
+    asks-both stop seen = asks_all (compile_shape file intent) stop (file ∷ intent ∷ []) f g (front_whole (file ∷ intent ∷ [])) tt
+        (names-ok net f.told judged.0) (seen ∙ ap (λ (files : FilesSeen). files_left_by stop (asked_for intent files)) judged.1)
+
+    -- the intent was refused, wasn't read, or memory was wanting
+    pub compile_halted_at_intent : (halt : Halt) → JudgesFile (intent_in net) intent (Err halt) mid g
+        → CommandsUnread (Compile file intent) (Err halt) f g o o
+    compile_halted_at_intent (halts.Refused refusal) h = λ s. refused_commands (Compile file intent) refusal f g s s o
+        (wants-intent (Err refusal) s.left (refused refusal) h.0 refl) (inr (inl refl)) (takes Never f g s (asks-both Never h.1) refl)
+    compile_halted_at_intent (halts.Failed failures.Fault) h = λ s. files_fault (Compile file intent) f g s o
+        (takes AtFiles f g s (asks-both AtFiles h) refl)
+    compile_halted_at_intent (halts.Failed failures.NoMemory) h = λ s. memory_wants (Compile file intent) f g s s o
+        (takes Elsewhere f g s (asks_front (compile_shape file intent) (file ∷ h.names) f g (front_after file (intent ∷ []) h.names h.front)
+        (each-map f.told (λ held. names_of (compile_shape file intent) held ≡ file ∷ intent ∷ [])
+        (λ held. IsFrontOf (names_of (compile_shape file intent) held) (file ∷ h.names))
+        (λ held e. subst (λ (names : List (List ℕ)). IsFrontOf names (file ∷ h.names)) (sym e) (front_after file (intent ∷ []) h.names h.front))
+        (names-ok net f.told judged.0))
+        (h.seen ∙ ap (asked_for_all h.names) judged.1)) refl)
+
+    module _ (value : Intent) (read : JudgesFile (intent_in net) intent (Ok value) mid g) (compiled : Result Compiled CompileFault)
+        (answers : CompileAnswers net value compiled) where
+      wants-answer : (left : Option (List ℕ)) (output : Output) → AnswerWants compiled output → WantedOf (compile_shape file intent) f.told left output
+      wants-answer left output w = wants-intent (Ok value) left output read.0 (compiled, answers, w)
+
+      -- the network isn't flat, or memory was wanting
+      pub compile_halted_at_answer : (halt : Halt) → Gives compiled (Err halt) → CommandsUnread (Compile file intent) (Err halt) f g o o
+      compile_halted_at_answer (halts.Refused refusal) h = λ s. refused_commands (Compile file intent) refusal f g s s o
+          (wants-answer s.left (refused refusal) h) (inr (inl refl)) (takes Never f g s (asks-both Never read.1) refl)
+      compile_halted_at_answer (halts.Failed failures.Fault) h = absurd h
+      compile_halted_at_answer (halts.Failed failures.NoMemory) h = λ s. memory_wants (Compile file intent) f g s s o
+          (takes Elsewhere f g s (asks-both Elsewhere read.1) refl)
+
+      module _ (answer : Answer) (gives : Gives compiled (Ok answer)) where
+        takes-how : (s : SourceSeen) (how : Option How) → Takes (compile_shape file intent) (stop_at ToOut how) f g s s
+        takes-how s None = takes Elsewhere f g s (asks-both Elsewhere read.1) refl
+        takes-how s (Some how) = takes (At ToOut how) f g s (asks-both (At ToOut how) read.1) refl
+
+        -- the report didn't go out whole
+        pub compile_halted_at_out : (failure : Failure) → Wrote (ending_of_failure failure) answer.report.items o p
+            → CommandsUnread (Compile file intent) (Err (halts.Failed failure)) f g o p
+        compile_halted_at_out failure wrote = λ s. written_cut (Compile file intent) failure answer.report.items (bytes_of_line answer.told.line)
+            answer.told.status f g s s o p wrote (wants-answer s.left (output_of_answer answer) gives.0) (takes-how s)
+
+        -- it did
+        pub compile_done : p ≡ sent answer.report.items o → CommandsUnread (Compile file intent) (Ok answer.told) f g o p
+        compile_done went = λ s. written_whole (Compile file intent) answer.told answer.report.items f g s s o p went
+            (wants-answer s.left (output_of_answer answer) gives.0)
+            (answer-status answer.told.status gives.1).0 (answer-status answer.told.status gives.1).1
+            (takes Never f g s (asks-both Never read.1) refl) (λ _ no. cc)

@@ -1,81 +1,125 @@
--- The output of `run` by its judgements.
-use Rattle.std.proofs.Common.{◌≡◌, ℕ, [], IfSome, ◌≤◌, true, false, List, length, nat_lt, Option, Some, None, Result, Ok, Err, refl, subst}
+-- What files and the input give, as they were judged.
+use Rattle.std.proofs.Common.{◌≡◌, ℕ, ◌<◌, ◌≤◌, IsTrue, true, false, List, [], ◌∷◌, ◌++◌, length, nat_lt, Option, None, Some, IfSome, Result, Ok, Err, Vec, refl, sym, ap, subst, rules}
 use Rattle.std.proofs.lemmas.Bool.{le-ltb}
+use Rattle.std.specs.Prelude.{IsSomeAnd}
 use Rattle.srx_edge.specs.Edge.{file_named}
-use Rattle.srx_edge.proofs.Fronts.{front_none}
-use Rattle.srv6_cli.specs.declared.halt.Halt.{Halt}
-use Rattle.srv6_cli.specs.declared.halt.Halt.TheVariants as halts
-use Rattle.srv6_cli.specs.Halted.{Started, HaltedAt}
-use Rattle.net_model.specs.Network.{Network}
+use Rattle.srx_edge.specs.FilesRead.{FilesSeen, asked_for}
+use Rattle.srx_edge.specs.Sources.{SourceSeen, drained, Draws}
+use Rattle.srx_edge.specs.declared.input.DrawFault.{DrawFault}
+use Rattle.srx_edge.specs.declared.input.DrawFault.TheVariants as draws
 use Rattle.srv6_rules.specs.Packet.{Content, entered}
+use Rattle.net_model.specs.Network.{Network}
+use Rattle.net_reader.specs.declared.fault.NetFault.{NetFault}
+use Rattle.net_reader.specs.declared.fault.NetFault.TheVariants as nets
+use Rattle.net_reader.specs.Reading.{ReadsAs}
+use Rattle.intent_reader.specs.declared.intent.Intent.{Intent}
+use Rattle.intent_reader.specs.declared.fault.IntentFault.{IntentFault}
+use Rattle.intent_reader.specs.declared.fault.IntentFault.TheVariants as intents
+use Rattle.intent_reader.specs.Reading.{ReadsAs as ReadsIntentAs}
+use Rattle.srv6_cli.specs.declared.limits.TheConstants.{FILE_LIMIT, INPUT_LIMIT}
 use Rattle.srv6_cli.specs.declared.refusal.Refusal.{Refusal}
-use Rattle.srv6_cli.specs.Early.{EndsEarly, EndsAtNetwork, EndsAtNode}
-use Rattle.srv6_cli.specs.Output.{network_in, node_in, content_in, refused, ran, run_output, with_file, walk_from, no_choices, input_limit, is_bare}
 use Rattle.srv6_cli.specs.declared.refusal.Refusal.TheVariants as refusals
+use Rattle.srv6_cli.specs.Answers.{JudgesFile, JudgesInput}
+use Rattle.srv6_cli.specs.Halts.{halt_of_net, halt_of_intent, halt_of_draw, halt_of_refusal}
+use Rattle.srv6_cli.specs.Judgements.{network_in, intent_in, content_in, is_bare}
+use Rattle.srv6_cli.specs.Outside.{IsFrontOf, AsksForFront}
 
-pub run_output-network : (text name input : List ℕ) (refusal : Refusal) → network_in text ≡ Err refusal → run_output text name input ≡ refused refusal
-run_output-network text name input refusal h = rw h refl
+-- what is told of a text that was read is told of the judgement of it
+judged-text : {A : Type 0} (judge : List ℕ → Result A Refusal) (judged : Result A Refusal) (text name : List ℕ) (told : Option (List (List ℕ × List ℕ)))
+    → IfSome told (λ files. file_named files name ≡ Some text) → judge text ≡ judged
+    → IfSome told (λ held. IsSomeAnd (file_named held name) (λ t. judge t ≡ judged))
+judged-text judge judged text name None reads is = tt
+judged-text judge judged text name (Some held) reads is =
+    subst (λ (o : Option (List ℕ)). IsSomeAnd o (λ t. judge t ≡ judged)) (sym reads) is
 
-pub run_output-node : (text name input : List ℕ) (net : Network) (refusal : Refusal) → network_in text ≡ Ok net → node_in net name ≡ Err refusal
-    → run_output text name input ≡ refused refusal
-run_output-node text name input net refusal h k = rw (h, k) refl
+asks-one : (name : List ℕ) (old new : FilesSeen) → new ≡ asked_for name old → AsksForFront (name ∷ []) old new
+asks-one name old new seen = record { names = name ∷ []; front = record { rest = []; whole = refl }; seen = seen }
 
-pub run_output-content : (text name input : List ℕ) (net : Network) (node : ℕ) (refusal : Refusal) → network_in text ≡ Ok net → node_in net name ≡ Ok node
-    → content_in input ≡ Err refusal → run_output text name input ≡ refused refusal
-run_output-content text name input net node refusal h k l = rw (h, k, l) refl
+-- a text within the limit that was read as the description of a network
 
-pub run_output-ran : (text name input : List ℕ) (net : Network) (node : ℕ) (content : Content) → network_in text ≡ Ok net → node_in net name ≡ Ok node
-    → content_in input ≡ Ok content → run_output text name input ≡ ran net (walk_from net node no_choices content)
-run_output-ran text name input net node content h k l = rw (h, k, l) refl
+network-read : (net : Network) (text : List ℕ) → length text ≤ FILE_LIMIT → ReadsAs text (Ok net) → network_in text ≡ Ok net
+network-read net text fits h =
+    let small : nat_lt FILE_LIMIT (length text) ≡ false = le-ltb FILE_LIMIT (length text) fits in
+    rw (small, h.1, h.2) refl
 
-not_above : (limit n : ℕ) → n ≤ limit → nat_lt limit n ≡ false
-not_above limit n h = le-ltb limit n h
+pub network_judged : (net : Network) (text name : List ℕ) (old new : FilesSeen) → length text ≤ FILE_LIMIT
+    → IfSome old.told (λ files. file_named files name ≡ Some text) → new ≡ asked_for name old → ReadsAs text (Ok net)
+    → JudgesFile network_in name (Ok net) old new
+network_judged net text name old new fits reads seen h =
+    (judged-text network_in (Ok net) text name old.told reads (network-read net text fits h), seen)
+
+pub network_refused : (fault : NetFault) (text name : List ℕ) (old new : FilesSeen) → length text ≤ FILE_LIMIT
+    → IfSome old.told (λ files. file_named files name ≡ Some text) → new ≡ asked_for name old → ReadsAs text (Err fault)
+    → JudgesFile network_in name (Err (halt_of_net fault)) old new
+network_refused nets.NotToml text name old new fits reads seen h =
+    let small : nat_lt FILE_LIMIT (length text) ≡ false = le-ltb FILE_LIMIT (length text) fits in
+    (judged-text network_in (Err refusals.NotToml) text name old.told reads (rw (small, h) refl), seen)
+network_refused nets.NotBuilt text name old new fits reads seen h =
+    let small : nat_lt FILE_LIMIT (length text) ≡ false = le-ltb FILE_LIMIT (length text) fits in
+    (judged-text network_in (Err refusals.NotBuilt) text name old.told reads (rw (small, h.1, h.2) refl), seen)
+network_refused nets.NoMemory text name old new fits reads seen h = asks-one name old new seen
+
+-- the same of an intent
+
+pub intent_judged : (net : Network) (intent : Intent) (text name : List ℕ) (old new : FilesSeen) → length text ≤ FILE_LIMIT
+    → IfSome old.told (λ files. file_named files name ≡ Some text) → new ≡ asked_for name old → ReadsIntentAs net text (Ok intent)
+    → JudgesFile (intent_in net) name (Ok intent) old new
+intent_judged net intent text name old new fits reads seen h =
+    let small : nat_lt FILE_LIMIT (length text) ≡ false = le-ltb FILE_LIMIT (length text) fits in
+    (judged-text (intent_in net) (Ok intent) text name old.told reads (rw (small, h.1, h.2) refl), seen)
+
+pub intent_refused : (net : Network) (fault : IntentFault) (text name : List ℕ) (old new : FilesSeen) → length text ≤ FILE_LIMIT
+    → IfSome old.told (λ files. file_named files name ≡ Some text) → new ≡ asked_for name old → ReadsIntentAs net text (Err fault)
+    → JudgesFile (intent_in net) name (Err (halt_of_intent fault)) old new
+intent_refused net intents.NotToml text name old new fits reads seen h =
+    let small : nat_lt FILE_LIMIT (length text) ≡ false = le-ltb FILE_LIMIT (length text) fits in
+    (judged-text (intent_in net) (Err refusals.IntentNotToml) text name old.told reads (rw (small, h) refl), seen)
+intent_refused net intents.NotBuilt text name old new fits reads seen h =
+    let small : nat_lt FILE_LIMIT (length text) ≡ false = le-ltb FILE_LIMIT (length text) fits in
+    (judged-text (intent_in net) (Err refusals.NotBuilt) text name old.told reads (rw (small, h.1, h.2) refl), seen)
+intent_refused net intents.NoMemory text name old new fits reads seen h = asks-one name old new seen
+
+pub ruleset files = (network_judged, network_refused, intent_judged, intent_refused)
 
 -- what the input makes enter
-pub content_in-bare : (input : List ℕ) → length input ≤ input_limit → is_bare input ≡ true → content_in input ≡ Ok (entered input)
+
+pub content_in-bare : (input : List ℕ) → length input ≤ INPUT_LIMIT → is_bare input ≡ true → content_in input ≡ Ok (entered input)
 content_in-bare input h bare =
-    let small : nat_lt input_limit (length input) ≡ false = not_above input_limit (length input) h in
+    let small : nat_lt INPUT_LIMIT (length input) ≡ false = le-ltb INPUT_LIMIT (length input) h in
     rw (small, bare) refl
 
-pub content_in-other : (input : List ℕ) → length input ≤ input_limit → is_bare input ≡ false → content_in input ≡ Err refusals.NotBuilt
+pub content_in-other : (input : List ℕ) → length input ≤ INPUT_LIMIT → is_bare input ≡ false → content_in input ≡ Err refusals.NotBuilt
 content_in-other input h bare =
-    let small : nat_lt input_limit (length input) ≡ false = not_above input_limit (length input) h in
+    let small : nat_lt INPUT_LIMIT (length input) ≡ false = le-ltb INPUT_LIMIT (length input) h in
     rw (small, bare) refl
 
 pub ruleset contents = (content_in-bare, content_in-other)
 
--- a run whose file and node are judged well comes to the input
-pub reads_on : (file : Option (List ℕ)) (text name : List ℕ) (net : Network) (node : ℕ) → file ≡ Some text → network_in text ≡ Ok net → node_in net name ≡ Ok node → EndsEarly file name → ⊥
-reads_on file text name net node is h k early =
-    let whole : EndsEarly (Some text) name = subst (λ (f : Option (List ℕ)). EndsEarly f name) is early in
-    let judged : EndsAtNetwork (Ok net) name = subst (λ (r : Result Network Refusal). EndsAtNetwork r name) h whole in
-    subst EndsAtNode k judged
-
 -- what was drawn is what was left
-pub input_gives : (left : Option (List ℕ)) (bytes : List ℕ) (judged : Result Content Refusal) → content_in bytes ≡ judged → IfSome left (λ input. bytes ≡ input)
+drawn : (judged : Result Content Refusal) (bytes : List ℕ) (left : Option (List ℕ)) → IfSome left (λ input. bytes ≡ input) → content_in bytes ≡ judged
     → IfSome left (λ input. content_in input ≡ judged)
-input_gives None bytes judged h all = tt
-input_gives (Some input) bytes judged h all = subst (λ (xs : List ℕ). content_in xs ≡ judged) all h
+drawn judged bytes None all is = tt
+drawn judged bytes (Some input) all is = subst (λ (b : List ℕ). content_in b ≡ judged) all is
 
--- a run that ended early, by how it ended
-started-halt : (halt : Halt) (file : Option (List ℕ)) (name input : List ℕ) (held : Option (List ℕ)) → Started (Err halt) file name input
-    → HaltedAt halt (with_file file (λ text. run_output text name input)) held held
-started-halt (halts.Refused refusal) None name input held h = absurd h
-started-halt (halts.Refused refusal) (Some text) name input held h = (h, refl)
-started-halt halts.Fault None name input held h = front_none [] held
-started-halt halts.Fault (Some text) name input held h = front_none (run_output text name input).written held
-started-halt halts.NoMemory None name input held h = front_none [] held
-started-halt halts.NoMemory (Some text) name input held h = front_none (run_output text name input).written held
+pub content_judged : (content : Content) (bytes : List ℕ) (old new : SourceSeen) → IfSome old.left (λ input. bytes ≡ input) → new ≡ drained old
+    → content_in bytes ≡ Ok content → JudgesInput content_in (Ok content) old new
+content_judged content bytes old new all seen is = (drawn (Ok content) bytes old.left all is, seen)
 
-started-input : (halt : Halt) (left : Option (List ℕ)) (file : Option (List ℕ)) (name : List ℕ) (held : Option (List ℕ))
-    → IfSome left (λ input. Started (Err halt) file name input) → IfSome left (λ input. HaltedAt halt (with_file file (λ text. run_output text name input)) held held)
-started-input halt None file name held h = tt
-started-input halt (Some input) file name held h = started-halt halt file name input held h
+pub content_refused : (refusal : Refusal) (bytes : List ℕ) (old new : SourceSeen) → IfSome old.left (λ input. bytes ≡ input) → new ≡ drained old
+    → content_in bytes ≡ Err refusal → JudgesInput content_in (Err (halt_of_refusal refusal)) old new
+content_refused refusal bytes old new all seen is = (drawn (Err refusal) bytes old.left all is, ap (λ (s : SourceSeen). s.faults) seen)
 
-pub started_commanded : (halt : Halt) (told : Option (List (List ℕ × List ℕ))) (left : Option (List ℕ)) (word name : List ℕ) (held : Option (List ℕ))
-    → IfSome told (λ files. IfSome left (λ input. Started (Err halt) (file_named files word) name input))
-    → IfSome told (λ files. IfSome left (λ input. HaltedAt halt (with_file (file_named files word) (λ text. run_output text name input)) held held))
-started_commanded halt None left word name held h = tt
-started_commanded halt (Some files) left word name held h = started-input halt left (file_named files word) name held h
+too-much : (left : Option (List ℕ)) → IfSome left (λ input. INPUT_LIMIT < length input)
+    → IfSome left (λ input. content_in input ≡ Err (refusals.TooBig INPUT_LIMIT))
+too-much None more = tt
+too-much (Some input) more = let many : nat_lt INPUT_LIMIT (length input) ≡ true = search rules in rw many refl
 
-pub ruleset judging = (run_output-network, run_output-node, run_output-content)
+pub input_not_drawn : (fault : DrawFault) (old new : SourceSeen) → Draws INPUT_LIMIT (Err fault) old new
+    → JudgesInput content_in (Err (halt_of_draw fault)) old new
+input_not_drawn draws.Failed old new h = (ap (λ (s : SourceSeen). s.faults) h.seen, ap (λ (s : SourceSeen). s.stopped) h.seen)
+input_not_drawn (draws.TooBig most) old new h =
+    subst (λ (n : ℕ). JudgesInput content_in (Err (halt_of_draw (draws.TooBig n))) old new) (sym h.0)
+    (too-much old.left h.1, ap (λ (s : SourceSeen). s.faults) h.2)
+input_not_drawn draws.NoMemory old new h = ap (λ (s : SourceSeen). s.faults) h.seen
+
+pub ruleset inputs = (content_judged, content_refused, input_not_drawn)

@@ -1,8 +1,10 @@
+pub mod PieceLemmas
 pub mod Asking
 pub mod Judging
+pub mod Writing
 pub mod Walking
 pub mod Writable
-pub mod Serving
+pub mod Commanding
+pub mod Running
 pub mod Compiling
-pub mod Asked
-pub mod Calmly
+pub mod Serving

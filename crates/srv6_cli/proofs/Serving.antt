@@ -1,158 +1,185 @@
--- From what a command leaves to what `serve` leaves.
-use Rattle.std.proofs.Common.{◌≡◌, ℕ, List, [], Option, Some, None, IfSome, Result, Ok, Err, Vec, Global, inl, inr, refl, sym, ap, ◌∙◌, subst}
-use Rattle.srx_edge.specs.Edge.{Rose, append_to, Front}
-use Rattle.srx_edge.proofs.Fronts.{append_to-nil, front_none, front_whole}
-use Rattle.srv6_cli.specs.declared.refusal.Refusal.{Refusal}
-use Rattle.srv6_cli.specs.declared.status.Status.{Status}
-use Rattle.srv6_cli.specs.declared.status.Status.TheVariants as statuses
-use Rattle.srv6_cli.specs.Lines.{refusal_line, usage_line}
-use Rattle.srv6_cli.specs.Output.{Output, refused, usage_output, with_file, run_output}
-use Rattle.srv6_cli.specs.Wants.{Wants, ServedAs, ServedWhere}
-use Rattle.srv6_cli.specs.Answers.{output_of_answer, CompileAnswered}
-use Rattle.srv6_cli.specs.declared.answer.Answer.{Answer}
-use Rattle.srx_edge.specs.Edge.{file_named}
-use Rattle.srv6_cli.specs.Command.{Command, Run, Compile, Unknown}
+-- From what a command leaves, and its last line, to what `serve` leaves.
+use Rattle.std.proofs.Common.{◌≡◌, ◌⊎◌, inl, inr, ℕ, Bool, true, List, [], ◌∷◌, ◌++◌, Option, None, Some, IfSome, IfOk, Result, Ok, Err, refl, sym, ap, ◌∙◌, subst, append-nil}
+use Rattle.srx_edge.specs.FilesRead.{FilesSeen}
+use Rattle.srx_edge.specs.Sources.{SourceSeen, drained}
+use Rattle.srx_edge.specs.Sinks.{SinkSeen, sent}
+use Rattle.srx_edge.specs.Steps.{Ending, Whole, Fault, Memory, How, Failing, Wanting, ending_of as ending_of_how, Cut as CutBytes, Wrote}
+use Rattle.srv6_cli.specs.declared.halt.Failure.TheVariants as failures
 use Rattle.srv6_cli.specs.declared.halt.Halt.{Halt}
 use Rattle.srv6_cli.specs.declared.halt.Halt.TheVariants as halts
-use Rattle.srv6_cli.specs.Halted.{FaultIn, OnFault, Commanded}
-use Rattle.srv6_cli.specs.Served.{IsWhole, IsFront, Served, Told, OnOutsideFault}
+use Rattle.srv6_cli.specs.declared.status.Status.{Status}
+use Rattle.srv6_cli.specs.declared.status.Status.TheVariants as statuses
+use Rattle.srv6_cli.specs.declared.told.Told.{Told}
+use Rattle.srv6_cli.specs.Answers.{bytes_of_line, EndsWith, Commands, Tells, Concludes}
+use Rattle.srv6_cli.specs.Command.{Command, shape_of}
+use Rattle.srv6_cli.specs.Lines.{refusal_line}
+use Rattle.srv6_cli.specs.Outside.{Outside, HasName, IsFrontOf, Asks, AsksAs, Reads, asked_for_all, files_left_by}
+use Rattle.srv6_cli.specs.Pieces.{ForErr, ToErr, Output, Sinks, Stop, Never, AtFiles, AtInput, At, Elsewhere, ending_by, gone, Went}
+use Rattle.srv6_cli.specs.Serves.{ending_of_status, OnWhole, OrNothing, LinesLast, Takes, Serves}
+use Rattle.srv6_cli.specs.Shape.{Shape, names_of, WantedOf, IsOneOf}
+use Rattle.srv6_cli.proofs.PieceLemmas.{gone-append, stop_at, ending_by-stop_at, went_cut}
 
-whole_of : (wanted : Output) (status : Status) (line : List ℕ) (a b c d : Option (List ℕ)) → wanted.status ≡ status → wanted.told ≡ line
-    → b ≡ append_to wanted.written a → d ≡ append_to line c → IsWhole wanted status a b c d
-whole_of wanted status line a b c d s t out err =
-    record { status_wanted = s; out_whole = out; err_whole = err ∙ ap (λ (bytes : List ℕ). append_to bytes c) (sym t) }
+-- the sinks, and what is outside, with another `err`
+abbrev pub with_err : SinkSeen → Outside → Outside
+with_err err outside = record outside { sinks = record outside.sinks { err = err } }
 
-front_of : (wanted : Output) (line : List ℕ) (a b c d : Option (List ℕ)) → wanted.told ≡ line → b ≡ append_to wanted.written a → Front line c d → IsFront wanted a b c d
-front_of wanted line a b c d t out err =
-    record { out_front = front_whole wanted.written a b out; err_front = subst (λ (bytes : List ℕ). Front bytes c d) (sym t) err; in_order = inl out }
+on_whole : (ending : Ending) (P : Type 0) → (ending ≡ Whole → P) → OnWhole ending P
+on_whole Whole P f = f refl
+on_whole Fault P f = tt
+on_whole Memory P f = tt
 
--- once `out` has all that is wanted, the line on `err` decides
-pub told_served : (wanted : Output) (status : Status) (line : List ℕ) (answer : Status) (a b c d : Option (List ℕ)) → wanted.status ≡ status → wanted.told ≡ line
-    → b ≡ append_to wanted.written a → Told status line answer c d → Served wanted answer a b c d
-told_served wanted status line statuses.Done a b c d s t out told = whole_of wanted statuses.Done line a b c d (s ∙ told.0) t out told.1
-told_served wanted status line statuses.Refused a b c d s t out told = whole_of wanted statuses.Refused line a b c d (s ∙ told.0) t out told.1
-told_served wanted status line statuses.Usage a b c d s t out told = whole_of wanted statuses.Usage line a b c d (s ∙ told.0) t out told.1
-told_served wanted status line statuses.NoAnswer a b c d s t out told = whole_of wanted statuses.NoAnswer line a b c d (s ∙ told.0) t out told.1
-told_served wanted status line statuses.OutsideFault a b c d s t out told = front_of wanted line a b c d t out told
-told_served wanted status line statuses.NoMemory a b c d s t out told = front_of wanted line a b c d t out told
+-- only a call that never stopped ended whole
+never-whole : (stop : Stop) → ending_by stop ≡ Whole → stop ≡ Never
+never-whole Never e = refl
+never-whole AtFiles e = cc
+never-whole AtInput e = cc
+never-whole (At sink Failing) e = cc
+never-whole (At sink Wanting) e = cc
+never-whole Elsewhere e = cc
 
--- a refusal writes nothing on `out`
-pub refused_served : (wanted : Output) (refusal : Refusal) (line : List ℕ) (answer : Status) (a b c d : Option (List ℕ)) → wanted ≡ refused refusal → b ≡ a
-    → line ≡ refusal_line refusal → Told statuses.Refused line answer c d → Served wanted answer a b c d
-refused_served wanted refusal line answer a b c d is out l told =
-    told_served wanted statuses.Refused line answer a b c d (ap (λ (w : Output). w.status) is) (ap (λ (w : Output). w.told) is ∙ sym l)
-    (out ∙ (sym (append_to-nil a) ∙ ap (λ (w : Output). append_to w.written a) (sym is))) told
+-- a stop at the last line: what was done before was all that there is
 
--- a fault on the way writes nothing on `err`
-pub halted_served : (wanted : Output) (a b c : Option (List ℕ)) → Front wanted.written a b → IsFront wanted a b c c
-halted_served wanted a b c out = record { out_front = out; err_front = front_none wanted.told c; in_order = inr refl }
+asks-as : (how : Option How) (wanted names : List (List ℕ)) → names ≡ wanted → AsksAs (stop_at ToErr how) wanted names
+asks-as None wanted names e = record { rest = []; whole = append-nil names ∙ e }
+asks-as (Some how) wanted names e = e
 
--- a refusal whose line isn't written
-pub refused_front : (wanted : Output) (refusal : Refusal) (a b c : Option (List ℕ)) → wanted ≡ refused refusal → b ≡ a → IsFront wanted a b c c
-refused_front wanted refusal a b c is out =
-    halted_served wanted a b c (subst (λ (o : Option (List ℕ)). Front wanted.written a o) (sym out) (front_none wanted.written a))
+asks-told : (shape : Shape) (how : Option How) (names : List (List ℕ)) (told : Option (List (List ℕ × List ℕ)))
+    → IfSome told (λ held. AsksAs Never (names_of shape held) names) → IfSome told (λ held. AsksAs (stop_at ToErr how) (names_of shape held) names)
+asks-told shape how names None h = tt
+asks-told shape how names (Some held) h = asks-as how (names_of shape held) names h
 
--- a fault is one of the files, the input, `out` or `err`
+files-left : (how : Option How) (files : FilesSeen) → files_left_by (stop_at ToErr how) files ≡ files
+files-left None files = refl
+files-left (Some how) files = refl
 
-fault-answer : {X : Type 0} (answer : Result X Halt) (P Q R : Type 0) (old new : ℕ) → FaultIn answer old new → OnFault answer (¬ P → ¬ Q → ¬ R → ⊥) → ¬ P → ¬ Q → ¬ R → ¬ Rose old new → ⊥
-fault-answer (Ok x) P Q R old new rose failed p q r e = e rose
-fault-answer (Err (halts.Refused refusal)) P Q R old new rose failed p q r e = e rose
-fault-answer (Err halts.Fault) P Q R old new rose failed p q r e = failed p q r
-fault-answer (Err halts.NoMemory) P Q R old new rose failed p q r e = absurd rose
+reads-on : (how : Option How) (old new : SourceSeen) → Reads Never old new → Reads (stop_at ToErr how) old new
+reads-on None old new h = h
+reads-on (Some how) old new h = h
 
-pub fault_from : (X : Type 0) (answer : Result X Halt) (status : Status) (P Q R : Type 0) (old new : ℕ) → OnOutsideFault status (FaultIn answer old new) → OnFault answer (¬ P → ¬ Q → ¬ R → ⊥)
-    → OnOutsideFault status (¬ P → ¬ Q → ¬ R → ¬ Rose old new → ⊥)
-fault_from X answer statuses.Done P Q R old new rose failed = tt
-fault_from X answer statuses.Refused P Q R old new rose failed = tt
-fault_from X answer statuses.Usage P Q R old new rose failed = tt
-fault_from X answer statuses.NoAnswer P Q R old new rose failed = tt
-fault_from X answer statuses.OutsideFault P Q R old new rose failed = fault-answer answer P Q R old new rose failed
-fault_from X answer statuses.NoMemory P Q R old new rose failed = tt
+takes-on : (shape : Shape) (how : Option How) (f g : FilesSeen) (s t : SourceSeen) → Takes shape Never f g s t → Takes shape (stop_at ToErr how) f g s t
+takes-on shape how f g s t takes = record {
+  asks = record {
+    names = takes.asks.names;
+    in_order = takes.asks.in_order;
+    those = asks-told shape how takes.asks.names f.told takes.asks.those;
+    seen = takes.asks.seen ∙ sym (files-left how (asked_for_all takes.asks.names f));
+  };
+  reads = reads-on how s t takes.reads;
+  unread = takes.unread;
+  reads_none = takes.reads_none;
+}
 
--- words that are no command
+or-nothing : (how : Option How) (output : Output) (P : Type 0) → P → OrNothing (stop_at ToErr how) output P
+or-nothing None output P p = inr p
+or-nothing (Some how) output P p = p
 
-usage-whole : (answer : Status) (a c d : Option (List ℕ)) → Told statuses.Usage usage_line answer c d → Served usage_output answer a a c d
-usage-whole answer a c d told = told_served usage_output statuses.Usage usage_line answer a a c d refl refl (sym (append_to-nil a)) told
+lines-last : (how : Option How) (old new : Sinks) → LinesLast (stop_at ToErr how) old new
+lines-last None old new = tt
+lines-last (Some how) old new = tt
 
--- what is left of one wanted output is what is left of some
+-- all that a command leaves where it ended whole, but for its last line
+record Ended (command : Command) (last : List ℕ) (own : Status) (old mid : Outside) : Type 0 where
+  output : Output
+  wanted : WantedOf (shape_of command) old.files.told old.input.left output
+  ends : EndsWith last own output old.sinks mid.sinks
+  status_own : IsOneOf (shape_of command).statuses own
+  takes : Takes (shape_of command) Never old.files mid.files old.input mid.input
+  read_to_end : own ≡ statuses.Done → (shape_of command).reads ≡ true → mid.input ≡ drained old.input
 
-pub served_as : (command : Command) (files : List (List ℕ × List ℕ)) (input : List ℕ) (w : Output) (status : Status) (a b c d : Option (List ℕ))
-    → Wants command files input w → Served w status a b c d → ServedAs command files input status a b c d
-served_as command files input w statuses.Done a b c d wants served = record { some = w; wanted = wants; whole = served }
-served_as command files input w statuses.Refused a b c d wants served = record { some = w; wanted = wants; whole = served }
-served_as command files input w statuses.Usage a b c d wants served = record { some = w; wanted = wants; whole = served }
-served_as command files input w statuses.NoAnswer a b c d wants served = record { some = w; wanted = wants; whole = served }
-served_as command files input w statuses.OutsideFault a b c d wants served = record { some = w; wanted = inr wants; front = served }
-served_as command files input w statuses.NoMemory a b c d wants served = record { some = w; wanted = inr wants; front = served }
+-- the line went out whole
+line-whole : (command : Command) (last : List ℕ) (own status : Status) (old mid : Outside) (err : SinkSeen) → Ended command last own old mid
+    → ending_of_status status ≡ Whole → status ≡ own → err ≡ sent last mid.sinks.err → Serves command status old (with_err err mid)
+line-whole command last own status old mid err e whole is went = record {
+  stop = Never;
+  ending = sym whole;
+  output = e.output;
+  wanted = e.wanted;
+  went = ap (λ (s : SinkSeen). record mid.sinks { err = s }) went
+      ∙ (ap (gone (ForErr last ∷ [])) e.ends.went ∙ (sym (gone-append e.ends.before (ForErr last ∷ []) old.sinks)
+      ∙ ap (λ (o : Output). gone o.pieces old.sinks) (sym e.ends.is)));
+  lines_last = tt;
+  status_wanted = on_whole (ending_of_status status) (e.output.status ≡ status) (λ _. ap (λ (o : Output). o.status) e.ends.is ∙ sym is);
+  status_own = on_whole (ending_of_status status) (IsOneOf (shape_of command).statuses status)
+      (λ _. subst (IsOneOf (shape_of command).statuses) (sym is) e.status_own);
+  takes = e.takes;
+  read_to_end = λ done. e.read_to_end (sym is ∙ done);
+}
 
--- nothing was written, which is a front of nothing
-abbrev pub nothing : Output
-nothing = record { written = []; told = []; status = statuses.OutsideFault }
+-- only a front of it did, or none
+line-cut : (command : Command) (last : List ℕ) (own status : Status) (old mid : Outside) (err : SinkSeen) (ending : Ending) → Ended command last own old mid
+    → ending_of_status status ≡ ending → (ending ≡ Whole → ⊥) → CutBytes ending last mid.sinks.err err → Serves command status old (with_err err mid)
+line-cut command last own status old mid err ending e is early cut = record {
+  stop = stop_at ToErr cut.how;
+  ending = ending_by-stop_at ToErr cut.how ∙ (cut.ends ∙ sym is);
+  output = e.output;
+  wanted = or-nothing cut.how e.output (WantedOf (shape_of command) old.files.told old.input.left e.output) e.wanted;
+  went = subst (λ (o : Output). Went (stop_at ToErr cut.how) o.pieces old.sinks (record mid.sinks { err = err })) (sym e.ends.is)
+      (went_cut ToErr ending e.ends.before [] last old.sinks mid.sinks err e.ends.went cut);
+  lines_last = lines-last cut.how old.sinks (record mid.sinks { err = err });
+  status_wanted = on_whole (ending_of_status status) (e.output.status ≡ status) (λ whole. absurd (early (sym is ∙ whole)));
+  status_own = on_whole (ending_of_status status) (IsOneOf (shape_of command).statuses status) (λ whole. absurd (early (sym is ∙ whole)));
+  takes = takes-on (shape_of command) cut.how old.files mid.files old.input mid.input e.takes;
+  read_to_end = λ done. absurd (early (sym is ∙ ap ending_of_status done));
+}
 
-nothing-served : (command : Command) (files : List (List ℕ × List ℕ)) (input : List ℕ) (status : Status) (a b c d : Option (List ℕ))
-    → Served nothing status a b c d → ServedAs command files input status a b c d
-nothing-served command files input statuses.Done a b c d served = let e : statuses.OutsideFault ≡ statuses.Done = served.status_wanted in cc
-nothing-served command files input statuses.Refused a b c d served = let e : statuses.OutsideFault ≡ statuses.Refused = served.status_wanted in cc
-nothing-served command files input statuses.Usage a b c d served = let e : statuses.OutsideFault ≡ statuses.Usage = served.status_wanted in cc
-nothing-served command files input statuses.NoAnswer a b c d served = let e : statuses.OutsideFault ≡ statuses.NoAnswer = served.status_wanted in cc
-nothing-served command files input statuses.OutsideFault a b c d served = record { some = nothing; wanted = inl (refl, refl); front = served }
-nothing-served command files input statuses.NoMemory a b c d served = record { some = nothing; wanted = inl (refl, refl); front = served }
+line-ends : (command : Command) (last : List ℕ) (own status : Status) (old mid : Outside) (err : SinkSeen) (ending : Ending) → Ended command last own old mid
+    → ending_of_status status ≡ ending → Wrote ending last mid.sinks.err err → OnWhole ending (status ≡ own) → Serves command status old (with_err err mid)
+line-ends command last own status old mid err Whole e is wrote own' = line-whole command last own status old mid err e is own' wrote
+line-ends command last own status old mid err Fault e is wrote own' = line-cut command last own status old mid err Fault e is (λ no. cc) wrote
+line-ends command last own status old mid err Memory e is wrote own' = line-cut command last own status old mid err Memory e is (λ no. cc) wrote
 
--- what is said of files and of an input that are told
-both : (told : Option (List (List ℕ × List ℕ))) (left : Option (List ℕ)) (P Q : List (List ℕ × List ℕ) → List ℕ → Type 0)
-    → ((held : List (List ℕ × List ℕ)) (bytes : List ℕ) → P held bytes → Q held bytes)
-    → IfSome told (λ held. IfSome left (P held)) → IfSome told (λ held. IfSome left (Q held))
-both None left P Q f h = tt
-both (Some held) None P Q f h = tt
-both (Some held) (Some bytes) P Q f h = f held bytes h
+-- a step wasn't done, so nothing more is written
+failed-serves : (command : Command) (status : Status) (old mid : Outside) (stop : Stop) (output : Output) → ending_by stop ≡ ending_of_status status
+    → (ending_of_status status ≡ Whole → ⊥) → OrNothing stop output (WantedOf (shape_of command) old.files.told old.input.left output)
+    → Went stop output.pieces old.sinks mid.sinks → LinesLast stop old.sinks mid.sinks
+    → Takes (shape_of command) stop old.files mid.files old.input mid.input → Serves command status old mid
+failed-serves command status old mid stop output is early wanted went last takes = record {
+  stop = stop;
+  ending = is;
+  output = output;
+  wanted = wanted;
+  went = went;
+  lines_last = last;
+  status_wanted = on_whole (ending_of_status status) (output.status ≡ status) (λ whole. absurd (early whole));
+  status_own = on_whole (ending_of_status status) (IsOneOf (shape_of command).statuses status) (λ whole. absurd (early whole));
+  takes = takes;
+  read_to_end = λ done. absurd (early (ap ending_of_status done));
+}
 
-pub run_served : (told : Option (List (List ℕ × List ℕ))) (left : Option (List ℕ)) (command : Command) (file name : List ℕ) (answer : Result (Vec ℕ Global) Halt) (status : Status) (a b c d : Option (List ℕ))
-    → Run file name ≡ command
-    → IfSome told (λ held. IfSome left (λ bytes. Commanded answer (with_file (file_named held file) (λ text. run_output text name bytes)) a b))
-    → ((w : Output) (x y : Option (List ℕ)) → Commanded answer w x y → Served w status x y c d)
-    → ServedWhere command told left status a b c d
-run_served told left command file name answer status a b c d is commanded served =
-    subst (λ (k : Command). ServedWhere k told left status a b c d) is
-    (both told left (λ held bytes. Commanded answer (with_file (file_named held file) (λ text. run_output text name bytes)) a b) (λ held bytes. ServedAs (Run file name) held bytes status a b c d)
-    (λ held bytes h. served_as (Run file name) held bytes (with_file (file_named held file) (λ text. run_output text name bytes)) status a b c d refl (served (with_file (file_named held file) (λ text. run_output text name bytes)) a b h))
-    commanded)
+-- with the stop's own facts, of which only those of a whole call can be
+line-serves : (command : Command) (last : List ℕ) (own status : Status) (old mid : Outside) (err : SinkSeen) (stop : Stop) (output : Output)
+    → ending_by stop ≡ Whole → OrNothing stop output (WantedOf (shape_of command) old.files.told old.input.left output)
+    → EndsWith last own output old.sinks mid.sinks → IsOneOf (shape_of command).statuses own
+    → Takes (shape_of command) stop old.files mid.files old.input mid.input
+    → (own ≡ statuses.Done → (shape_of command).reads ≡ true → mid.input ≡ drained old.input)
+    → Tells last own status mid.sinks.err err → Serves command status old (with_err err mid)
+line-serves command last own status old mid err Never output is wanted ends own' takes read tells =
+    line-ends command last own status old mid err (ending_of_status status)
+    (record { output = output; wanted = wanted; ends = ends; status_own = own'; takes = takes; read_to_end = read }) refl tells.wrote tells.whole
+line-serves command last own status old mid err AtFiles output is wanted ends own' takes read tells = cc
+line-serves command last own status old mid err AtInput output is wanted ends own' takes read tells = cc
+line-serves command last own status old mid err (At sink Failing) output is wanted ends own' takes read tells = cc
+line-serves command last own status old mid err (At sink Wanting) output is wanted ends own' takes read tells = cc
+line-serves command last own status old mid err Elsewhere output is wanted ends own' takes read tells = cc
 
-pub usage_served : (told : Option (List (List ℕ × List ℕ))) (left : Option (List ℕ)) (command : Command) (status : Status) (a c d : Option (List ℕ)) → Unknown ≡ command
-    → Told statuses.Usage usage_line status c d → ServedWhere command told left status a a c d
-usage_served told left command status a c d is h =
-    subst (λ (k : Command). ServedWhere k told left status a a c d) is (served_as Unknown [] [] usage_output status a a c d refl (usage-whole status a c d h))
+-- what a command leaves, and then its end, is what `serve` leaves
+pub serves : (command : Command) (answer : Result Told Halt) (status : Status) (old mid : Outside) (err : SinkSeen)
+    → Commands command answer old mid → Concludes answer status mid.sinks.err err → Serves command status old (with_err err mid)
+serves command (Ok told) status old mid err c tells =
+    line-serves command (bytes_of_line told.line) told.status status old mid err c.stop c.output c.ending c.wanted c.went c.status_own c.takes c.read_to_end tells
+serves command (Err (halts.Refused refusal)) status old mid err c tells =
+    line-serves command (refusal_line refusal) statuses.Refused status old mid err c.stop c.output c.ending c.wanted c.went c.status_own c.takes c.read_to_end tells
+serves command (Err (halts.Failed failures.Fault)) status old mid err c is =
+    subst (λ (s : Status). Serves command s old (with_err err mid)) (sym is.0)
+    (subst (λ (e : SinkSeen). Serves command statuses.OutsideFault old (with_err e mid)) (sym is.1)
+    (failed-serves command statuses.OutsideFault old mid c.stop c.output c.ending (λ no. cc) c.wanted c.went c.lines_last c.takes))
+serves command (Err (halts.Failed failures.NoMemory)) status old mid err c is =
+    subst (λ (s : Status). Serves command s old (with_err err mid)) (sym is.0)
+    (subst (λ (e : SinkSeen). Serves command statuses.NoMemory old (with_err e mid)) (sym is.1)
+    (failed-serves command statuses.NoMemory old mid c.stop c.output c.ending (λ no. cc) c.wanted c.went c.lines_last c.takes))
 
--- of files alone
-each-told : (told : Option (List (List ℕ × List ℕ))) (P Q : List (List ℕ × List ℕ) → Type 0) → ((held : List (List ℕ × List ℕ)) → P held → Q held) → IfSome told P → IfSome told Q
-each-told None P Q f h = tt
-each-told (Some held) P Q f h = f held h
-
-pub compile_served : (told : Option (List (List ℕ × List ℕ))) (left : Option (List ℕ)) (command : Command) (file intent : List ℕ) (answer : Answer) (status : Status) (a b c d : Option (List ℕ))
-    → Compile file intent ≡ command
-    → IfSome told (λ held. CompileAnswered (Ok answer) (file_named held file) (file_named held intent))
-    → Served (output_of_answer answer) status a b c d
-    → ServedWhere command told left status a b c d
-compile_served told left command file intent answer status a b c d is answered served =
-    subst (λ (k : Command). ServedWhere k told left status a b c d) is
-    (each-told told (λ held. CompileAnswered (Ok answer) (file_named held file) (file_named held intent)) (λ held. ServedAs (Compile file intent) held [] status a b c d)
-    (λ held h. served_as (Compile file intent) held [] (output_of_answer answer) status a b c d h.0 served) answered)
-
-halted-as : (halt : Halt) (file intent : List ℕ) (held : List (List ℕ × List ℕ)) (bytes : List ℕ) (status : Status) (a c d : Option (List ℕ))
-    → ((w : Output) (x y : Option (List ℕ)) → Commanded (Err halt) w x y → Served w status x y c d)
-    → CompileAnswered (Err halt) (file_named held file) (file_named held intent) → ServedAs (Compile file intent) held bytes status a a c d
-halted-as (halts.Refused refusal) file intent held bytes status a c d served h =
-    served_as (Compile file intent) held bytes (refused refusal) status a a c d h (served (refused refusal) a a (refl, refl))
-halted-as halts.Fault file intent held bytes status a c d served h =
-    nothing-served (Compile file intent) held bytes status a a c d (served nothing a a (front_none [] a))
-halted-as halts.NoMemory file intent held bytes status a c d served h =
-    nothing-served (Compile file intent) held bytes status a a c d (served nothing a a (front_none [] a))
-
-pub halt_served : (told : Option (List (List ℕ × List ℕ))) (left : Option (List ℕ)) (command : Command) (file intent : List ℕ) (halt : Halt) (status : Status) (a c d : Option (List ℕ))
-    → Compile file intent ≡ command
-    → IfSome told (λ held. CompileAnswered (Err halt) (file_named held file) (file_named held intent))
-    → ((w : Output) (x y : Option (List ℕ)) → Commanded (Err halt) w x y → Served w status x y c d)
-    → ServedWhere command told left status a a c d
-halt_served told left command file intent halt status a c d is answered served =
-    subst (λ (k : Command). ServedWhere k told left status a a c d) is
-    (each-told told (λ held. CompileAnswered (Err halt) (file_named held file) (file_named held intent)) (λ held. ServedAs (Compile file intent) held [] status a a c d)
-    (λ held h. halted-as halt file intent held [] status a c d served h) answered)
+-- the status of a command's line is one of a whole call
+pub told_whole : (command : Command) (answer : Result Told Halt) (old mid : Outside) → Commands command answer old mid
+    → IfOk answer (λ told. ending_of_status told.status ≡ Whole)
+told_whole command (Ok told) old mid c = c.went.whole
+told_whole command (Err halt) old mid c = tt

@@ -5,6 +5,7 @@ use Rattle.byteorder.specs.Endian.{little_bytes}
 use Rattle.srv6_rules.specs.Packet.{Content, bytes_of}
 use Rattle.walk_rules.specs.declared.place.Outcome.{Outcome}
 use Rattle.walk_rules.specs.declared.place.Outcome.TheVariants as outcomes
+use Rattle.walk_rules.specs.Treatment.{Gave}
 use Rattle.walk_rules.specs.Walk.{Step}
 
 -- the 4 bytes of a number, the lowest first
@@ -21,21 +22,21 @@ unfoldable pub frame_head : ℕ → ℕ → ℕ → List ℕ
 frame_head seconds micros len =
     four_bytes_low_first seconds ++ (four_bytes_low_first micros ++ (four_bytes_low_first len ++ four_bytes_low_first len))
 
--- the frame of a packet: its number as seconds, the link's number from 1 as microseconds, and its bytes
+-- a frame: the packet's number as seconds, microseconds, and bytes
 abbrev pub frame_of : ℕ → ℕ → List ℕ → List ℕ
-frame_of number link bytes = frame_head number (link + 1) (length bytes) ++ bytes
+frame_of number micros bytes = frame_head number micros (length bytes) ++ bytes
 
--- the frame of a stage: a Send writes the packet after it
-abbrev pub frame_by : ℕ → Outcome → Content → List ℕ
-frame_by number (outcomes.Send link) after = frame_of number link (bytes_of after)
-frame_by number (outcomes.Again sid how) after = []
-frame_by number (outcomes.Hand sid how family) after = []
-frame_by number outcomes.Local after = []
-frame_by number (outcomes.Drop reason) after = []
+-- the frames of a stage: a Send writes the packet after it, with the link's number from 1 as microseconds
+abbrev pub frames_by : ℕ → Outcome → Content → List ℕ
+frames_by number (outcomes.Send link) after = frame_of number (link + 1) (bytes_of after)
+frames_by number (outcomes.Again sid how) after = []
+frames_by number (outcomes.Hand sid how family) after = []
+frames_by number outcomes.Local after = []
+frames_by number (outcomes.Drop reason) after = []
 
-abbrev pub frame_of_step : ℕ → Step → List ℕ
-frame_of_step number s = frame_by number s.gave.outcome s.gave.after
+abbrev pub frames_of_gave : ℕ → Gave → List ℕ
+frames_of_gave number gave = frames_by number gave.outcome gave.after
 
 -- the frames of a packet's walk
 abbrev pub frames_of : ℕ → List Step → List ℕ
-frames_of number steps = flat_map (frame_of_step number) steps
+frames_of number steps = flat_map (λ step. frames_of_gave number step.gave) steps

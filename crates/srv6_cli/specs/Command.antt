@@ -1,9 +1,17 @@
--- The words of the command line (own rules).
-use Rattle.std.specs.Prelude.{ℕ, Bool, ◌&&◌, ◌==◌, not, if◌then◌else◌, List, [], ◌∷◌, length, map, codes, String, string_bytes}
+-- The words of the command line, and the shapes of the commands that they name (own rules).
+use Rattle.std.specs.Prelude.{◌≡◌, ℕ, Bool, false, ◌&&◌, ◌==◌, not, if◌then◌else◌, List, [], ◌∷◌, length, map, codes, String, string_bytes, ⊤}
 use Rattle.std.specs.Str.{bytes_eq}
 use Rattle.std.specs.declared.alloc.Global.{Global}
+use Rattle.srv6_cli.specs.declared.status.Status.TheVariants as statuses
+use Rattle.srv6_cli.specs.declared.commands.Words.{Words}
+use Rattle.srv6_cli.specs.declared.commands.Words.TheVariants as words
+use Rattle.srv6_cli.specs.Lines.{usage_line}
+use Rattle.srv6_cli.specs.Pieces.{ForErr}
+use Rattle.srv6_cli.specs.Shape.{Shape}
+use Rattle.srv6_cli.specs.Run.{run_shape}
+use Rattle.srv6_cli.specs.Compile.{compile_shape}
 
--- what the words ask for: a run from a node of a network, a list for an intent in a network, or nothing that there is
+-- what the words ask for; words outside the grammar ask for nothing that there is
 pub data Command : Type 0 where
   Run : List ℕ → List ℕ → Command
   Compile : List ℕ → List ℕ → Command
@@ -30,8 +38,24 @@ command_of (verb ∷ first ∷ second ∷ third ∷ more) = Unknown
 abbrev pub words_of : List (String Global) → List (List ℕ)
 words_of words = map string_bytes words
 
--- the files that a command reads, in order
-abbrev pub files_of : Command → List (List ℕ)
-files_of (Run file node) = file ∷ []
-files_of (Compile file intent) = file ∷ intent ∷ []
-files_of Unknown = []
+-- words that are no command have the line that says how the program is called
+abbrev pub usage_shape : Shape
+usage_shape = record {
+  files = [];
+  goes_on = λ texts. false;
+  reads = false;
+  leaves_input = λ held. ⊤;
+  statuses = statuses.Usage ∷ [];
+  wants = λ held input output. output ≡ record { pieces = ForErr usage_line ∷ []; status = statuses.Usage };
+}
+
+abbrev pub shape_of : Command → Shape
+shape_of (Run file node) = run_shape file node
+shape_of (Compile file intent) = compile_shape file intent
+shape_of Unknown = usage_shape
+
+-- the command as the code names it
+abbrev pub command_seen : Words → Command
+command_seen (words.Run file node) = Run file.now node.now
+command_seen (words.Compile file intent) = Compile file.now intent.now
+command_seen words.Unknown = Unknown

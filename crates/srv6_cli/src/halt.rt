@@ -1,26 +1,136 @@
 //! Why a command ends before its end.
 
 ghost use Rattle.std.specs.Prelude.{◌≡◌};
-ghost use Rattle.srv6_cli.specs.declared.halt.Halt.TheVariants.{NoMemory as out_of_memory};
 
 use crate::refusal::Refusal;
+use intent_reader::IntentFault;
+use net_reader::NetFault;
+use srx_edge::{DrawFault, FileFault, PourFault};
 use std::alloc::AllocError;
 
-/// Why a command ends before its end.
+/// Why a step was not done, whatever it is given.
 #[derive(Clone, Copy, Debug)]
-pub enum Halt {
-    /// What was judged is refused.
-    Refused(Refusal),
+pub enum Failure {
     /// A fault of the files, the input or a sink.
     Fault,
     /// Want of memory.
     NoMemory,
 }
 
+/// Why a command ends before its end.
+#[derive(Clone, Copy, Debug)]
+pub enum Halt {
+    /// What was judged is refused.
+    Refused(Refusal),
+    /// A step was not done.
+    Failed(Failure),
+}
+
+impl From<AllocError> for Failure {
+    ghost use Rattle.srv6_cli.specs.Halts.{memory_fails};
+
+    ghost from_gives = { λ _ failure. failure ≡ memory_fails };
+
+    fn from(_: AllocError) -> Failure {
+        Failure::NoMemory
+    }
+}
+
+impl From<PourFault> for Failure {
+    ghost use Rattle.srv6_cli.specs.Halts.{failure_of_pour};
+
+    ghost from_gives = { λ fault failure. failure ≡ failure_of_pour fault };
+
+    fn from(fault: PourFault) -> Failure {
+        match fault {
+            PourFault::Failed { .. } => Failure::Fault,
+            PourFault::NoMemory { .. } => Failure::NoMemory,
+        }
+    }
+}
+
+impl From<Failure> for Halt {
+    ghost use Rattle.srv6_cli.specs.Halts.{halt_of_failure};
+
+    ghost from_gives = { λ failure halt. halt ≡ halt_of_failure failure };
+
+    fn from(failure: Failure) -> Halt {
+        Halt::Failed(failure)
+    }
+}
+
 impl From<AllocError> for Halt {
-    ghost from_gives = { λ _ halt. halt ≡ out_of_memory };
+    ghost use Rattle.srv6_cli.specs.Halts.{halt_of_failure, memory_fails};
+
+    ghost from_gives = { λ _ halt. halt ≡ halt_of_failure memory_fails };
 
     fn from(_: AllocError) -> Halt {
-        Halt::NoMemory
+        Halt::Failed(Failure::NoMemory)
+    }
+}
+
+impl From<Refusal> for Halt {
+    ghost use Rattle.srv6_cli.specs.Halts.{halt_of_refusal};
+
+    ghost from_gives = { λ refusal halt. halt ≡ halt_of_refusal refusal };
+
+    fn from(refusal: Refusal) -> Halt {
+        Halt::Refused(refusal)
+    }
+}
+
+impl From<FileFault> for Halt {
+    ghost use Rattle.srv6_cli.specs.Halts.{halt_of_file};
+
+    ghost from_gives = { λ fault halt. halt ≡ halt_of_file fault };
+
+    fn from(fault: FileFault) -> Halt {
+        match fault {
+            FileFault::Failed => Halt::Failed(Failure::Fault),
+            FileFault::TooBig { limit } => Halt::Refused(Refusal::TooBig { limit }),
+            FileFault::NoMemory => Halt::Failed(Failure::NoMemory),
+        }
+    }
+}
+
+impl From<DrawFault> for Halt {
+    ghost use Rattle.srv6_cli.specs.Halts.{halt_of_draw};
+
+    ghost from_gives = { λ fault halt. halt ≡ halt_of_draw fault };
+
+    fn from(fault: DrawFault) -> Halt {
+        match fault {
+            DrawFault::Failed => Halt::Failed(Failure::Fault),
+            DrawFault::TooBig { limit } => Halt::Refused(Refusal::TooBig { limit }),
+            DrawFault::NoMemory => Halt::Failed(Failure::NoMemory),
+        }
+    }
+}
+
+impl From<NetFault> for Halt {
+    ghost use Rattle.srv6_cli.specs.Halts.{halt_of_net};
+
+    ghost from_gives = { λ fault halt. halt ≡ halt_of_net fault };
+
+    fn from(fault: NetFault) -> Halt {
+        match fault {
+            NetFault::NotToml => Halt::Refused(Refusal::NotToml),
+            NetFault::NotBuilt => Halt::Refused(Refusal::NotBuilt),
+            NetFault::NoMemory => Halt::Failed(Failure::NoMemory),
+        }
+    }
+}
+
+impl From<IntentFault> for Halt {
+    ghost use Rattle.srv6_cli.specs.Halts.{halt_of_intent};
+
+    ghost from_gives = { λ fault halt. halt ≡ halt_of_intent fault };
+
+    fn from(fault: IntentFault) -> Halt {
+        match fault {
+            IntentFault::NotToml => Halt::Refused(Refusal::IntentNotToml),
+            IntentFault::NotBuilt => Halt::Refused(Refusal::NotBuilt),
+            IntentFault::NoMemory => Halt::Failed(Failure::NoMemory),
+        }
     }
 }

@@ -1,26 +1,27 @@
 //! The command line of `srv6`: words, files and input to output and a status.
 //!
-//! `specs/Output.antt` says what the program writes and with which status it ends, as a function of
-//! its words, the files and the input; `serve` is proved to do that, over any files, source and
-//! sinks. A capture is written as the packet's walk goes, frame by frame.
+//! What is written is a list of pieces, each for `out` or for `err`, in order, and a status.
+//! `specs/Serves.antt` says what a call of `serve` leaves, and `serve` is proved to do that over any
+//! files, source and sinks. A command is one file here and one in `specs/`, named for it, with its
+//! line in the words' grammar: `specs/Command.antt` has the shape of each, `commands` calls them.
 #![tactic(auto)]
 
-mod answer;
 mod capture;
+mod commands;
+mod compile;
 mod halt;
 mod judge;
+mod limits;
 mod lines;
 mod refusal;
 mod report;
 mod run;
-mod start;
 mod status;
-#[cfg(test)]
-mod tests;
+mod told;
 mod top;
 mod walk;
-mod words;
 
+pub use limits::{FILE_LIMIT, INPUT_LIMIT, STAGES};
 pub use refusal::Refusal;
 pub use status::Status;
 pub use top::serve;

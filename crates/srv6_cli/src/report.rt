@@ -4,7 +4,7 @@ ghost use Rattle.std.specs.Prelude.{◌≡◌, ◌++◌, IfOk, OnOk};
 ghost use Rattle.std.specs.Fmt.{decimal};
 ghost use Rattle.std.specs.List.{flat_map};
 ghost use Rattle.srv6_cli.specs.Lines.{line};
-ghost use Rattle.srv6_cli.specs.Compiling.{container_address, container_line, numbers_lines, report_of, no_report, no_list_line, too_long_line, hop_limit_line};
+ghost use Rattle.srv6_cli.specs.Compile.{container_address, container_line, numbers_lines, report_of, no_report, no_list_line, too_long_line, hop_limit_line};
 
 use crate::lines::joined;
 use arrayvec::ArrayString;
@@ -25,7 +25,7 @@ fn address_of_container(container: &Container) -> Addr
 }
 
 /// A container's line.
-#[tactic(auto, unfolding(crate::specs::Compiling::container_line))]
+#[tactic(auto, unfolding(crate::specs::Compile::container_line))]
 fn line_of_container(alloc: Global, container: &Container) -> Result<Vec<u8>, AllocError>
     ensures { IfOk result (λ bytes. bytes.items ≡ container_line container.now) }
 {
@@ -59,7 +59,7 @@ fn line_of_number(alloc: Global, name: &[u8], number: u32) -> Result<Vec<u8>, Al
 }
 
 /// The lines of the numbers: containers, header bytes and need.
-#[tactic(auto, unfolding(crate::specs::Compiling::numbers_lines))]
+#[tactic(auto, unfolding(crate::specs::Compile::numbers_lines))]
 fn lines_of_numbers(
     alloc: Global,
     containers: u32,
@@ -86,7 +86,7 @@ pub fn report(alloc: Global, compiled: &Compiled) -> Result<Vec<u8>, AllocError>
 }
 
 /// The report where there is no list.
-#[tactic(auto, unfolding(crate::specs::Compiling::no_report))]
+#[tactic(auto, unfolding(crate::specs::Compile::no_report))]
 pub fn report_of_none(alloc: Global) -> Result<Vec<u8>, AllocError>
     ensures { IfOk result (λ bytes. bytes.items ≡ no_report) }
 {
@@ -94,7 +94,7 @@ pub fn report_of_none(alloc: Global) -> Result<Vec<u8>, AllocError>
 }
 
 /// The line where there is no list.
-#[tactic(auto, unfolding(crate::specs::Compiling::no_list_line))]
+#[tactic(auto, unfolding(crate::specs::Compile::no_list_line))]
 pub fn line_of_no_list(alloc: Global) -> Result<Vec<u8>, AllocError>
     ensures { IfOk result (λ bytes. bytes.items ≡ no_list_line) }
 {
@@ -102,7 +102,7 @@ pub fn line_of_no_list(alloc: Global) -> Result<Vec<u8>, AllocError>
 }
 
 /// The line where the list has too many containers.
-#[tactic(auto, unfolding(crate::specs::Compiling::too_long_line))]
+#[tactic(auto, unfolding(crate::specs::Compile::too_long_line))]
 pub fn line_of_too_long(alloc: Global, containers: u32) -> Result<Vec<u8>, AllocError>
     ensures { IfOk result (λ bytes. bytes.items ≡ too_long_line containers) }
 {
@@ -110,7 +110,7 @@ pub fn line_of_too_long(alloc: Global, containers: u32) -> Result<Vec<u8>, Alloc
 }
 
 /// The line where the list needs a greater hop limit.
-#[tactic(auto, unfolding(crate::specs::Compiling::hop_limit_line))]
+#[tactic(auto, unfolding(crate::specs::Compile::hop_limit_line))]
 pub fn line_of_hop_limit(alloc: Global, need: u32) -> Result<Vec<u8>, AllocError>
     ensures { IfOk result (λ bytes. bytes.items ≡ hop_limit_line need) }
 {

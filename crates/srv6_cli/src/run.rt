@@ -1,19 +1,20 @@
-//! The command `run`.
+//! The command `run`: one packet from a node of the network that a file describes.
 
-ghost use Rattle.std.specs.Prelude.{◌≡◌, ◌≢◌, [], ◌∷◌, ◌≤◌, ◌++◌, IfSome, OnOk, IfOk, length, ◌<◌};
-ghost use Rattle.srx_edge.specs.Edge.{Rose, next_count, append_to, append_name, file_named, emptied};
-ghost use Rattle.srv6_cli.specs.Capture.{capture_head, frames_of};
-ghost use Rattle.srv6_cli.specs.Early.{AsksAtMost, EndsEarly};
-ghost use Rattle.srv6_cli.specs.Faults.{Stopped, Untouched};
-ghost use Rattle.srv6_cli.specs.Halted.{Commanded, Poured, OnFault, UnlessFault, UnlessMemory};
-ghost use Rattle.srv6_cli.specs.Lines.{packet_line};
-ghost use Rattle.srv6_cli.specs.Output.{run_output, with_file, walk_from, no_choices};
+ghost use Rattle.std.specs.Prelude.{◌≡◌, ◌<◌, ◌++◌, IfOk, length};
+ghost use Rattle.srx_edge.specs.Steps.{Wrote};
 ghost use Rattle.walk_rules.specs.Walk.{end_of};
+ghost use Rattle.srv6_cli.specs.Answers.{CommandsOut, ending_of_step};
+ghost use Rattle.srv6_cli.specs.Capture.{capture_head, frames_of};
+ghost use Rattle.srv6_cli.specs.Command.{Run};
+ghost use Rattle.srv6_cli.specs.Lines.{packet_line};
+ghost use Rattle.srv6_cli.specs.Run.{walk_from, no_choices};
 
 use crate::capture::HEAD;
-use crate::halt::Halt;
+use crate::halt::{Failure, Halt};
+use crate::judge::{content_of_input, network_of_file, node_of_name};
 use crate::lines::line_of_packet;
-use crate::start::Start;
+use crate::status::Status;
+use crate::told::{Line, Told};
 use crate::walk::{write_all, write_walk};
 use net_model::Net;
 use node_stage::Content;
@@ -24,53 +25,41 @@ use walk_rules::{How, Place};
 
 /// Writes the capture's head.
 #[tactic(auto, unfolding(crate::specs::Capture::capture_head))]
-fn write_head<O: Sink>(out: &mut O) -> Result<(), Halt>
-    ensures poured { Poured result capture_head (O.held out.old) (O.held out.new) }
-    ensures failed { OnFault result (Rose (O.faults out.old) (O.faults out.new)) }
-    ensures no_fault { UnlessFault result (O.faults out.new ≡ O.faults out.old) }
-    ensures stops { O.faults out.new ≢ O.faults out.old → Stopped (O.stopped out.new) (O.faults out.old) (O.faults out.new) }
-    ensures never_falls { O.faults out.old ≤ O.faults out.new }
+fn write_head<O: Sink>(out: &mut O) -> Result<(), Failure>
+    ensures { Wrote (ending_of_step result) capture_head (O.seen out.old) (O.seen out.new) }
 {
     write_all(out, &HEAD)
 }
 
-/// Writes the capture of packet 1 from the node where it enters, and gives its line for `err`.
+/// Writes the capture of packet 1 from the node where it enters, and gives its line.
+#[tactic(auto, using(crate::proofs::Writing::writing))]
 fn walk_packet<O: Sink>(
     alloc: Global,
     net: &Net,
     node: u32,
     content: Content,
     out: &mut O,
-) -> Result<Vec<u8>, Halt>
+) -> Result<Vec<u8>, Failure>
     requires { node < length net.now.nodes }
-    ensures line { IfOk result (λ line. line.items ≡ packet_line net.now 1 (end_of net.now (walk_from net.now node no_choices content))) }
-    ensures poured { Poured result (capture_head ++ frames_of 1 (walk_from net.now node no_choices content)) (O.held out.old) (O.held out.new) }
-    ensures failed { OnFault result (Rose (O.faults out.old) (O.faults out.new)) }
-    ensures no_fault { UnlessFault result (O.faults out.new ≡ O.faults out.old) }
-    ensures stops { O.faults out.new ≢ O.faults out.old → Stopped (O.stopped out.new) (O.faults out.old) (O.faults out.new) }
-    ensures never_falls { O.faults out.old ≤ O.faults out.new }
+    ensures line { IfOk result (λ line. line.items
+        ≡ packet_line net.now 1 (end_of net.now (walk_from net.now node no_choices content))) }
+    ensures wrote { Wrote (ending_of_step result)
+        (capture_head ++ frames_of 1 (walk_from net.now node no_choices content))
+        (O.seen out.old) (O.seen out.new) }
 {
-    match write_head(out) {
-        Ok(()) => {}
-        Err(halt) => return Err(halt),
-    }
+    write_head(out)?;
     let place = Place {
         node,
         how: How::Arrived { table: 0 },
         family: Family::V6,
     };
     let mut frame = Vec::new(alloc);
-    let ended = match write_walk(net, place, content, &[0], &mut frame, out) {
-        Ok(ended) => ended,
-        Err(halt) => return Err(halt),
-    };
-    match line_of_packet(alloc, net, &ended) {
-        Ok(line) => Ok(line),
-        Err(_) => Err(Halt::NoMemory),
-    }
+    let ended = write_walk(net, place, content, &[0], &mut frame, out)?;
+    Ok(line_of_packet(alloc, net, &ended)?)
 }
 
-/// Runs one packet from a node of the network that a file describes, and gives its line for `err`.
+/// Runs one packet from a node of the network that a file describes. The file is judged, then the
+/// node's name, then the input, each before the next is read.
 pub fn run<F: Files, S: Source, O: Sink>(
     alloc: Global,
     file: &str,
@@ -78,27 +67,16 @@ pub fn run<F: Files, S: Source, O: Sink>(
     files: &mut F,
     input: &mut S,
     out: &mut O,
-) -> Result<Vec<u8>, Halt>
-    ensures commanded { IfSome (F.told files.old) (λ held. IfSome (S.left input.old) (λ bytes.
-        Commanded result (with_file (file_named held file.now) (λ text. run_output text node.now bytes)) (O.held out.old) (O.held out.new))) }
-    ensures asks { AsksAtMost (file.now ∷ []) (F.asked files.old) (F.asked files.new) }
-    ensures asked { UnlessMemory result (F.asked files.new ≡ append_name file.now (F.asked files.old)) }
-    ensures failed { OnFault result (¬ Rose (F.faults files.old) (F.faults files.new) → ¬ Rose (S.faults input.old) (S.faults input.new) → ¬ Rose (O.faults out.old) (O.faults out.new) → ⊥) }
-    ensures no_fault { UnlessFault result ((F.faults files.new ≡ F.faults files.old) × (S.faults input.new ≡ S.faults input.old) × (O.faults out.new ≡ O.faults out.old)) }
-    ensures unread { IfSome (F.told files.old) (λ held. EndsEarly (file_named held file.now) node.now →
-        (S.left input.new ≡ S.left input.old) × (S.faults input.new ≡ S.faults input.old)) }
-    ensures after_file_fault { F.faults files.new ≢ F.faults files.old → (F.faults files.new ≡ next_count (F.faults files.old))
-        × Untouched (S.left input.old) (S.left input.new) (S.faults input.old) (S.faults input.new)
-        × Untouched (O.held out.old) (O.held out.new) (O.faults out.old) (O.faults out.new) }
-    ensures after_input_fault { S.faults input.new ≢ S.faults input.old → Stopped (S.stopped input.new) (S.faults input.old) (S.faults input.new)
-        × Untouched (O.held out.old) (O.held out.new) (O.faults out.old) (O.faults out.new) }
-    ensures after_out_fault { O.faults out.new ≢ O.faults out.old → Stopped (O.stopped out.new) (O.faults out.old) (O.faults out.new) }
-    ensures emptied { OnOk result (S.left input.new ≡ emptied (S.left input.old)) }
+) -> Result<Told, Halt>
+    ensures { CommandsOut (Run file.now node.now) result (F.seen files.old) (F.seen files.new)
+        (S.seen input.old) (S.seen input.new) (O.seen out.old) (O.seen out.new) }
 {
-    let start = match Start::read(alloc, file, node, files, input) {
-        Ok(start) => start,
-        Err(halt) => return Err(halt),
-    };
-    let Start { net, node, content } = start;
-    walk_packet(alloc, &net, node, content, out)
+    let net = network_of_file(alloc, files, file)?;
+    let node = node_of_name(&net, node)?;
+    let content = content_of_input(alloc, input)?;
+    let line = walk_packet(alloc, &net, node, content, out)?;
+    Ok(Told {
+        line: Line::Made(line),
+        status: Status::Done,
+    })
 }

@@ -1,65 +1,47 @@
 //! A packet's walk, written as it goes.
 
-ghost use Rattle.std.specs.Prelude.{◌≡◌, ◌≢◌, ◌≤◌, ◌<◌, ◌++◌, IfOk, IfSome, Some, length, ◌+◌};
-ghost use Rattle.srx_edge.specs.Edge.{Rose, append_to};
+ghost use Rattle.std.specs.Prelude.{◌≡◌, ◌≤◌, ◌<◌, IfOk, IfSome, Some, length, ◌+◌};
+ghost use Rattle.srx_edge.specs.Steps.{Wrote};
 ghost use Rattle.srv6_rules.specs.Packet.{bytes_of, most_len};
+ghost use Rattle.srv6_cli.specs.Answers.{ending_of_step};
+ghost use Rattle.srv6_cli.specs.Capture.{frame_of, frames_by, frames_of};
 ghost use Rattle.srv6_cli.specs.Sent.{IsEnd, IsWritable};
-ghost use Rattle.srv6_cli.specs.Capture.{frame_of, frame_by, frames_of};
-ghost use Rattle.srv6_cli.specs.Output.{most_stages};
 ghost use Rattle.walk_rules.specs.Relation.{IsPlace};
 ghost use Rattle.walk_rules.specs.Treatment.{step_of};
 ghost use Rattle.walk_rules.specs.Walk.{next_place as place_after, decisions, walk_of, choice_at, end_by, end_of};
-ghost use Rattle.srv6_cli.specs.Faults.{Stopped};
-ghost use Rattle.srv6_cli.specs.Halted.{Poured, OnFault, UnlessFault};
 
 use crate::capture::head_of_frame;
-use crate::halt::Halt;
+use crate::halt::Failure;
+use crate::limits::STAGES;
 use net_model::Net;
 use node_stage::{Content, ended_by, next_place, stage};
-use srx_edge::{PourFault, Sink, pour};
+use srx_edge::{Sink, pour};
 use walk_rules::{Ended, Outcome, Place};
 
-/// The most stages of a packet.
-pub const STAGES: usize = 10_000;
-
 /// Pours bytes into a sink.
-pub fn write_all<O: Sink>(out: &mut O, bytes: &[u8]) -> Result<(), Halt>
-    ensures poured { Poured result bytes.now (O.held out.old) (O.held out.new) }
-    ensures failed { OnFault result (Rose (O.faults out.old) (O.faults out.new)) }
-    ensures no_fault { UnlessFault result (O.faults out.new ≡ O.faults out.old) }
-    ensures stops { O.faults out.new ≢ O.faults out.old → Stopped (O.stopped out.new) (O.faults out.old) (O.faults out.new) }
-    ensures never_falls { O.faults out.old ≤ O.faults out.new }
+#[tactic(auto, using(crate::proofs::Writing::writing))]
+pub fn write_all<O: Sink>(sink: &mut O, bytes: &[u8]) -> Result<(), Failure>
+    ensures { Wrote (ending_of_step result) bytes.now (O.seen sink.old) (O.seen sink.new) }
 {
-    match pour(out, bytes) {
-        Ok(()) => Ok(()),
-        Err(PourFault::Failed { .. }) => Err(Halt::Fault),
-        Err(PourFault::NoMemory { .. }) => Err(Halt::NoMemory),
-    }
+    Ok(pour(sink, bytes)?)
 }
 
 /// Writes the frame of packet 1 as it is sent on a link, built in a buffer that is used again.
-pub fn write_frame<O: Sink>(
+#[tactic(auto, using(crate::proofs::Writing::writing))]
+fn write_frame<O: Sink>(
     link: u32,
     content: &Content,
     frame: &mut Vec<u8>,
     out: &mut O,
-) -> Result<(), Halt>
+) -> Result<(), Failure>
     requires link { link < 4096 }
     requires small { length (bytes_of content.now) ≤ most_len }
-    ensures poured { Poured result (frame_of 1 link (bytes_of content.now)) (O.held out.old) (O.held out.new) }
-    ensures failed { OnFault result (Rose (O.faults out.old) (O.faults out.new)) }
-    ensures no_fault { UnlessFault result (O.faults out.new ≡ O.faults out.old) }
-    ensures stops { O.faults out.new ≢ O.faults out.old → Stopped (O.stopped out.new) (O.faults out.old) (O.faults out.new) }
-    ensures never_falls { O.faults out.old ≤ O.faults out.new }
+    ensures { Wrote (ending_of_step result) (frame_of 1 (link + 1) (bytes_of content.now))
+        (O.seen out.old) (O.seen out.new) }
 {
     frame.clear();
-    let head = head_of_frame(1, link + 1, content.len() as u32);
-    if frame.extend_from_slice(&head).is_err() {
-        return Err(Halt::NoMemory);
-    }
-    if content.append_to(frame).is_err() {
-        return Err(Halt::NoMemory);
-    }
+    frame.extend_from_slice(&head_of_frame(1, link + 1, content.len() as u32))?;
+    content.append_to(frame)?;
     write_all(out, frame.as_slice())
 }
 
@@ -69,17 +51,16 @@ fn write_outcome<O: Sink>(
     content: &Content,
     frame: &mut Vec<u8>,
     out: &mut O,
-) -> Result<(), Halt>
+) -> Result<(), Failure>
     requires { IsWritable outcome.now content.now }
-    ensures poured { Poured result (frame_by 1 outcome.now content.now) (O.held out.old) (O.held out.new) }
-    ensures failed { OnFault result (Rose (O.faults out.old) (O.faults out.new)) }
-    ensures no_fault { UnlessFault result (O.faults out.new ≡ O.faults out.old) }
-    ensures stops { O.faults out.new ≢ O.faults out.old → Stopped (O.stopped out.new) (O.faults out.old) (O.faults out.new) }
-    ensures never_falls { O.faults out.old ≤ O.faults out.new }
+    ensures { Wrote (ending_of_step result) (frames_by 1 outcome.now content.now)
+        (O.seen out.old) (O.seen out.new) }
 {
     match outcome {
         Outcome::Send { link } => write_frame(*link, content, frame, out),
-        _ => Ok(()),
+        Outcome::Again { .. } | Outcome::Hand { .. } | Outcome::Local | Outcome::Drop { .. } => {
+            Ok(())
+        }
     }
 }
 
@@ -90,14 +71,15 @@ fn decisions_of(outcome: &Outcome) -> usize
 {
     match outcome {
         Outcome::Send { .. } => 1,
-        _ => 0,
+        Outcome::Again { .. } | Outcome::Hand { .. } | Outcome::Local | Outcome::Drop { .. } => 0,
     }
 }
 
 /// One stage, of which what it sends can be written.
 fn staged(net: &Net, place: &Place, content: &mut Content, choice: u32) -> Outcome
     requires { IsPlace net.now place.now }
-    ensures function { step_of net.now place.now content.old choice ≡ record { outcome = result; after = content.new } }
+    ensures function { step_of net.now place.now content.old choice
+        ≡ record { outcome = result; after = content.new } }
     ensures writable { IsWritable result content.new }
     ensures next { IfSome (place_after net.now place.now result) (IsPlace net.now) }
     ensures ends { IsEnd net.now (end_by net.now place.now result) }
@@ -116,16 +98,15 @@ pub fn write_walk<O: Sink>(
     choices: &[u32],
     frame: &mut Vec<u8>,
     out: &mut O,
-) -> Result<Ended, Halt>
+) -> Result<Ended, Failure>
     requires place { IsPlace net.now start }
     requires choices { 0 < length choices.now }
-    ensures ended { IfOk result (λ ended. ended ≡ end_of net.now (walk_of most_stages net.now (Some start) content (choice_at choices.now) 0)) }
+    ensures ended { IfOk result (λ ended. ended ≡ end_of net.now
+        (walk_of STAGES net.now (Some start) content (choice_at choices.now) 0)) }
     ensures within { IfOk result (IsEnd net.now) }
-    ensures poured { Poured result (frames_of 1 (walk_of most_stages net.now (Some start) content (choice_at choices.now) 0)) (O.held out.old) (O.held out.new) }
-    ensures failed { OnFault result (Rose (O.faults out.old) (O.faults out.new)) }
-    ensures no_fault { UnlessFault result (O.faults out.new ≡ O.faults out.old) }
-    ensures stops { O.faults out.new ≢ O.faults out.old → Stopped (O.stopped out.new) (O.faults out.old) (O.faults out.new) }
-    ensures never_falls { O.faults out.old ≤ O.faults out.new }
+    ensures wrote { Wrote (ending_of_step result)
+        (frames_of 1 (walk_of STAGES net.now (Some start) content (choice_at choices.now) 0))
+        (O.seen out.old) (O.seen out.new) }
 {
     let mut content = content;
     let mut place = start;
@@ -133,10 +114,7 @@ pub fn write_walk<O: Sink>(
     for used in 0..STAGES {
         let choice = choices[taken % choices.len()];
         let outcome = staged(net, &place, &mut content, choice);
-        match write_outcome(&outcome, &content, frame, out) {
-            Ok(()) => {}
-            Err(halt) => return Err(halt),
-        }
+        write_outcome(&outcome, &content, frame, out)?;
         taken += decisions_of(&outcome);
         match next_place(net, &place, &outcome) {
             Some(next) => place = next,

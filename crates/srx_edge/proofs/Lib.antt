@@ -1,3 +1,3 @@
-pub mod Fronts
+pub mod Sends
 pub mod Takes
-pub mod Counts
+pub mod PublicLaws

@@ -1,12 +1,8 @@
--- What files, sources and sinks tell of themselves, and how a call changes it. `None` tells nothing.
-use Rattle.std.specs.Prelude.{◌≡◌, ◌≢◌, ℕ, ◌+◌, ◌-◌, ◌^◌, ◌<◌, ◌==◌, List, [], ◌∷◌, ◌++◌, Option, None, Some, if◌then◌else◌}
+-- Words on what files, sources and sinks tell of themselves. `None` tells nothing.
+use Rattle.std.specs.Prelude.{ℕ, ◌+◌, ◌-◌, ◌^◌, ◌==◌, List, [], ◌∷◌, ◌++◌, drop, Option, None, Some, if◌then◌else◌}
 use Rattle.std.specs.Str.{bytes_eq}
 
--- the count rose, or it stands at its last value, 2^64 - 1
-abbrev pub Rose : ℕ → ℕ → Type 0
-Rose old new = new ≢ 2 ^ 64 - 1 → old < new
-
--- a count's next value; it stands still at its last one
+-- a count's next value; it stands still at its last one, 2^64 - 1
 abbrev pub next_count : ℕ → ℕ
 next_count count = if count == 2 ^ 64 - 1 then count else count + 1
 
@@ -19,6 +15,11 @@ append_to bytes (Some held) = Some (held ++ bytes)
 abbrev pub prepend_to : List ℕ → Option (List ℕ) → Option (List ℕ)
 prepend_to bytes None = None
 prepend_to bytes (Some left) = Some (bytes ++ left)
+
+-- what is left of a source once so many bytes are taken
+abbrev pub drop_from : ℕ → Option (List ℕ) → Option (List ℕ)
+drop_from count None = None
+drop_from count (Some left) = Some (drop count left)
 
 -- what is left of a source once it is taken to its end
 abbrev pub emptied : Option (List ℕ) → Option (List ℕ)
@@ -34,10 +35,3 @@ append_name name (Some names) = Some (names ++ name ∷ [])
 abbrev pub file_named : List (List ℕ × List ℕ) → List ℕ → Option (List ℕ)
 file_named [] name = None
 file_named (file ∷ files) name = if bytes_eq file.0 name then Some file.1 else file_named files name
-
--- what a sink has received of the bytes that are wanted: a front of them
-pub record Front (wanted : List ℕ) (first now : Option (List ℕ)) : Type 0 where
-  pub sent : List ℕ
-  pub rest : List ℕ
-  pub whole : sent ++ rest ≡ wanted
-  pub held : now ≡ append_to sent first

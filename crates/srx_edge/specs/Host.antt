@@ -1,28 +1,47 @@
--- What is seen of the adapters: what they stand on, the count of their faults, and whether they are stopped.
-use Rattle.std.specs.Prelude.{ℕ, Bool}
+-- What is seen of the adapters: what they stand on, and what they count. They tell nothing.
+use Rattle.std.specs.Prelude.{◌≡◌, ℕ, ◌<◌, ◌≤◌, false, List, length, None, Result, Ok, Err, ⊤}
+use Rattle.std.specs.Global.{Vec}
+use Rattle.srx_edge.specs.FilesRead.{FilesSeen}
+use Rattle.srx_edge.specs.Sources.{SourceSeen}
+use Rattle.srx_edge.specs.Sinks.{SinkSeen}
+use Rattle.srx_edge.specs.declared.file_access.FileFault.{FileFault}
+use Rattle.srx_edge.specs.declared.file_access.FileFault.TheVariants as faults
+use Rattle.srx_edge.specs.declared.output.SinkFault.{SinkFault}
+use Rattle.srx_edge.specs.declared.output.SinkFault.TheVariants as sinks
 use Rattle.srx_edge.specs.declared.host_files.HostFiles.{HostFiles}
 use Rattle.srx_edge.specs.declared.host_source.HostSource.{HostSource}
 use Rattle.srx_edge.specs.declared.host_sink.HostSink.{HostSink}
 
+abbrev pub host_files_seen : {R : Type 0} → HostFiles R → FilesSeen
+host_files_seen files = record { told = None; asked = None; faults = files.faults; sure = false }
+
 abbrev pub reader_of : {R : Type 0} → HostSource R → R
 reader_of source = source.reader
 
-abbrev pub read_faults : {R : Type 0} → HostSource R → ℕ
-read_faults source = source.faults
-
--- whether the last read into a slice that wasn't empty failed
-abbrev pub read_stopped : {R : Type 0} → HostSource R → Bool
-read_stopped source = source.stopped
+abbrev pub host_source_seen : {R : Type 0} → HostSource R → SourceSeen
+host_source_seen source = record { left = None; faults = source.faults; ends = source.ends; stopped = source.stopped }
 
 abbrev pub writer_of : {W : Type 0} → HostSink W → W
 writer_of sink = sink.writer
 
-abbrev pub write_faults : {W : Type 0} → HostSink W → ℕ
-write_faults sink = sink.faults
+-- an adapter's sink never answers NoMemory
+abbrev pub host_sink_seen : {W : Type 0} → HostSink W → SinkSeen
+host_sink_seen sink = record { held = None; faults = sink.faults; wants = 0; stopped = sink.stopped }
 
--- whether the last write of a piece that wasn't empty failed
-abbrev pub write_stopped : {W : Type 0} → HostSink W → Bool
-write_stopped sink = sink.stopped
+-- what is fetched of a file is within the limit, and a refusal names the limit
+abbrev pub Fetched : ℕ → Result (Vec ℕ) FileFault → Type 0
+Fetched limit (Ok bytes) = length bytes.items ≤ limit
+Fetched limit (Err faults.Failed) = ⊤
+Fetched limit (Err (faults.TooBig most)) = most ≡ limit
+Fetched limit (Err faults.NoMemory) = ⊤
 
-abbrev pub file_faults : {R : Type 0} → HostFiles R → ℕ
-file_faults files = files.faults
+-- a write that takes no byte of a piece that isn't empty isn't answered as one that passed
+abbrev pub NeverStuck : List ℕ → Result ℕ SinkFault → Type 0
+NeverStuck piece (Ok count) = 0 < length piece → 0 < count
+NeverStuck piece (Err fault) = ⊤
+
+-- the answer isn't NoMemory
+abbrev pub NeverWants : Result ℕ SinkFault → Type 0
+NeverWants (Ok count) = ⊤
+NeverWants (Err sinks.Failed) = ⊤
+NeverWants (Err sinks.NoMemory) = ⊥

@@ -1,7 +1,6 @@
 //! The files of the system.
-ghost use Rattle.std.specs.Prelude.{◌≡◌, ◌≤◌, None, IfOk, vec_len};
-ghost use Rattle.srx_edge.specs.FileAnswer.{IfFileTooBig};
-ghost use Rattle.srx_edge.specs.Host.{file_faults};
+ghost use Rattle.std.specs.Prelude.{◌≡◌, false, None};
+ghost use Rattle.srx_edge.specs.Host.{host_files_seen, Fetched};
 
 use crate::file_access::{FileFault, Files};
 use crate::host_source::HostSource;
@@ -19,7 +18,7 @@ pub struct HostFiles<'a, R> {
 impl<'a, R> HostFiles<'a, R> {
     /// No read has failed yet.
     pub fn new(rt: &'a R) -> HostFiles<'a, R>
-        ensures { file_faults result ≡ 0 }
+        ensures { host_files_seen result ≡ record { told = None; asked = None; faults = 0; sure = false } }
     {
         HostFiles { rt, faults: 0 }
     }
@@ -32,8 +31,7 @@ fn fetch<R: fs::Files>(
     name: &str,
     limit: usize,
 ) -> Result<Vec<u8>, FileFault>
-    ensures within { IfOk result (λ bytes. vec_len bytes ≤ limit) }
-    ensures limit { IfFileTooBig result (λ most. most ≡ limit) }
+    ensures { Fetched limit result }
 {
     let Ok(file) = fs::open(rt, name) else {
         return Err(FileFault::Failed);
@@ -48,11 +46,7 @@ fn fetch<R: fs::Files>(
 }
 
 impl<R: fs::Files> Files for HostFiles<'_, R> {
-    ghost told = { λ _. None };
-
-    ghost asked = { λ _. None };
-
-    ghost faults = { file_faults };
+    ghost seen = { host_files_seen };
 
     fn read(&mut self, alloc: Global, name: &str, limit: usize) -> Result<Vec<u8>, FileFault> {
         let answer = fetch(self.rt, alloc, name, limit);

@@ -1,9 +1,8 @@
 //! A writer of std as a sink.
-ghost use Rattle.std.specs.Prelude.{◌≡◌, ◌≤◌, ◌<◌, false, None, Ok, IfOk, OnOk, OnErr, length};
+ghost use Rattle.std.specs.Prelude.{◌≡◌, false, None};
 ghost use Rattle.std.specs.Io.KnownBytes.{WriteAppends};
-ghost use Rattle.srx_edge.specs.Edge.{next_count};
-ghost use Rattle.srx_edge.specs.SinkAnswer.{OnWriteNoMemory, stopped_after};
-ghost use Rattle.srx_edge.specs.Host.{writer_of, write_faults, write_stopped};
+ghost use Rattle.srx_edge.specs.Sinks.{Writes};
+ghost use Rattle.srx_edge.specs.Host.{writer_of, host_sink_seen, NeverStuck, NeverWants};
 
 use crate::output::{Sink, SinkFault};
 use std::io::Write;
@@ -21,8 +20,8 @@ impl<W> HostSink<W> {
     /// No write has failed yet.
     pub fn new(writer: W) -> HostSink<W>
         ensures writer { writer_of result ≡ writer }
-        ensures faults { write_faults result ≡ 0 }
-        ensures stopped { write_stopped result ≡ false }
+        ensures seen { host_sink_seen result
+            ≡ record { held = None; faults = 0; wants = 0; stopped = false } }
     {
         HostSink {
             writer,
@@ -33,25 +32,17 @@ impl<W> HostSink<W> {
 }
 
 impl<W: Write> Sink for HostSink<W> {
-    ghost held = { λ _. None };
-
-    ghost faults = { write_faults };
-
-    ghost stopped = { write_stopped };
+    ghost seen = { host_sink_seen };
 
     fn write(&mut self, piece: &[u8]) -> Result<usize, SinkFault>
         // The writer's own bytes, where it knows them, go exactly as the answer says.
         ensures bytes { WriteAppends (W.contents (writer_of self.old))
             (W.contents (writer_of self.new)) result piece.now }
-        ensures within { IfOk result (λ count. count ≤ length piece.now) }
-        ensures some { IfOk result (λ count. 0 < length piece.now → 0 < count) }
-        ensures empty { length piece.now ≡ 0 → result ≡ Ok 0 }
+        ensures writes { Writes piece.now result (host_sink_seen self.old) (host_sink_seen self.new) }
 
-        ensures no_fault { OnOk result (write_faults self.new ≡ write_faults self.old) }
-        ensures fault { OnErr result (write_faults self.new ≡ next_count (write_faults self.old)) }
-        ensures stopped { write_stopped self.new
-            ≡ stopped_after result (length piece.now) (write_stopped self.old) }
-        ensures memory { OnWriteNoMemory result ⊥ }
+        // A write that takes no byte of a piece that isn't empty is answered as a failure.
+        ensures some { NeverStuck piece.now result }
+        ensures memory { NeverWants result }
     {
         if piece.is_empty() {
             return Ok(0);

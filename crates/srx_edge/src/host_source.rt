@@ -1,9 +1,8 @@
 //! A reader of std as a source.
-ghost use Rattle.std.specs.Prelude.{◌≡◌, ◌≤◌, false, None, IfOk, OnOk, OnErr, drop, length};
+ghost use Rattle.std.specs.Prelude.{◌≡◌, false, None};
 ghost use Rattle.std.specs.Io.KnownBytes.{ReadConsumes};
-ghost use Rattle.srx_edge.specs.Edge.{next_count};
-ghost use Rattle.srx_edge.specs.SourceAnswer.{stopped_after};
-ghost use Rattle.srx_edge.specs.Host.{reader_of, read_faults, read_stopped};
+ghost use Rattle.srx_edge.specs.Sources.{Reads};
+ghost use Rattle.srx_edge.specs.Host.{reader_of, host_source_seen};
 
 use crate::input::{Failed, Source};
 use std::io::Read;
@@ -15,6 +14,7 @@ const PIECE: usize = 4096;
 pub struct HostSource<R> {
     reader: R,
     faults: u64,
+    ends: u64,
     stopped: bool,
 }
 
@@ -22,37 +22,27 @@ impl<R> HostSource<R> {
     /// No read has failed yet.
     pub fn new(reader: R) -> HostSource<R>
         ensures reader { reader_of result ≡ reader }
-        ensures faults { read_faults result ≡ 0 }
-        ensures stopped { read_stopped result ≡ false }
+        ensures seen { host_source_seen result
+            ≡ record { left = None; faults = 0; ends = 0; stopped = false } }
     {
         HostSource {
             reader,
             faults: 0,
+            ends: 0,
             stopped: false,
         }
     }
 }
 
 impl<R: Read> Source for HostSource<R> {
-    ghost left = { λ _. None };
-
-    ghost faults = { read_faults };
-
-    ghost stopped = { read_stopped };
+    ghost seen = { host_source_seen };
 
     fn read(&mut self, into: &mut [u8]) -> Result<usize, Failed>
         // The reader's own bytes, where it knows them, go exactly as the answer says.
         ensures bytes { ReadConsumes (R.remaining (reader_of self.old))
             (R.remaining (reader_of self.new)) result into.new }
-        ensures within { IfOk result (λ count. count ≤ length into.old) }
-        ensures beyond { IfOk result (λ count. drop count into.new ≡ drop count into.old) }
-        ensures slice { OnErr result (into.new ≡ into.old) }
-        ensures empty { length into.old ≡ 0 → result ≡ Ok 0 }
-
-        ensures no_fault { OnOk result (read_faults self.new ≡ read_faults self.old) }
-        ensures fault { OnErr result (read_faults self.new ≡ next_count (read_faults self.old)) }
-        ensures stopped { read_stopped self.new
-            ≡ stopped_after result (length into.old) (read_stopped self.old) }
+        ensures reads { Reads into.old into.new result
+            (host_source_seen self.old) (host_source_seen self.new) }
     {
         if into.is_empty() {
             return Ok(0);
@@ -63,6 +53,9 @@ impl<R: Read> Source for HostSource<R> {
         match self.reader.read(&mut piece[..most]) {
             Ok(count) => {
                 into[..count].copy_from_slice(&piece[..count]);
+                if count == 0 {
+                    self.ends = self.ends.saturating_add(1);
+                }
                 self.stopped = false;
                 Ok(count)
             }

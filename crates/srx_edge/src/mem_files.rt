@@ -1,20 +1,19 @@
 //! Files in memory whose reads fail where they are told to.
-ghost use Rattle.std.specs.Prelude.{◌≡◌, ◌↔◌, ◌≤◌, ◌+◌, ◌++◌, ◌∷◌, [], Some, None, IfOk, OnOk, OnErr, IsTrue, IsSome, Contains, length};
+ghost use Rattle.std.specs.Prelude.{◌≡◌, ◌↔◌, ◌++◌, ◌∷◌, [], None, IfOk, OnOk, OnErr, IsTrue, IsSome};
 ghost use Rattle.std.specs.Option.{option_map};
-ghost use Rattle.srx_edge.specs.Edge.{file_named, next_count};
-ghost use Rattle.srx_edge.specs.FilesFake.{Answers, Leaves, FailsNext, is_sure, after_fault, after_read};
+ghost use Rattle.srx_edge.specs.Edge.{file_named};
+ghost use Rattle.srx_edge.specs.FilesFake.{Answers, Leaves, after_read, files_seen};
 
-use crate::byte_list::Bytes;
 use crate::file_access::{FileFault, Files};
-use crate::no_memory::NoMemory;
+use base::{NoMemory, Seq};
 use std::alloc::Global;
 use std::marker::Model;
 
 /// A name with the bytes of its file.
 #[derive(Drop)]
 struct Held {
-    name: Bytes,
-    bytes: Bytes,
+    name: Seq<u8>,
+    bytes: Seq<u8>,
 }
 
 impl Model for Held {
@@ -31,7 +30,7 @@ impl Model for Held {
 pub struct MemFiles {
     alloc: Global,
     files: Vec<Held>,
-    asked: Vec<Bytes>,
+    asked: Vec<Seq<u8>>,
     fails: Vec<u64>,
     faults: u64,
 }
@@ -87,8 +86,8 @@ impl MemFiles {
         ensures err { OnErr result (self.new ≡ self.old) }
     {
         let held = Held {
-            name: Bytes::new(Vec::from_slice(self.alloc, name.as_bytes())?),
-            bytes: Bytes::new(Vec::from_slice(self.alloc, bytes)?),
+            name: Seq::new(Vec::from_slice(self.alloc, name.as_bytes())?),
+            bytes: Seq::new(Vec::from_slice(self.alloc, bytes)?),
         };
         self.files.push(held)?;
         Ok(())
@@ -114,20 +113,14 @@ impl MemFiles {
         ensures ok { OnOk result (self.new ≡ after_read name.now self.old) }
         ensures err { OnErr result (self.new ≡ self.old) }
     {
-        let asked = Bytes::new(Vec::from_slice(self.alloc, name.as_bytes())?);
+        let asked = Seq::new(Vec::from_slice(self.alloc, name.as_bytes())?);
         self.asked.push(asked)?;
         Ok(())
     }
 }
 
 impl Files for MemFiles {
-    ghost told = { λ f. Some f.files };
-
-    ghost asked = { λ f. Some f.asked };
-
-    ghost faults = { λ f. f.faults };
-
-    ghost sure = { is_sure };
+    ghost seen = { files_seen };
 
     fn read(&mut self, alloc: Global, name: &str, limit: usize) -> Result<Vec<u8>, FileFault>
         ensures answers { Answers name.now limit result self.old }

@@ -1,12 +1,11 @@
 //! A sink in memory whose writes fail where they are told to.
-ghost use Rattle.std.specs.Prelude.{◌≡◌, ◌≤◌, ◌<◌, false, [], Some, Ok, IfOk, OnErr, take, length};
-ghost use Rattle.srx_edge.specs.Edge.{Rose, append_to};
-ghost use Rattle.srx_edge.specs.SinkAnswer.{OnWriteFailed, OnWriteNoMemory};
-ghost use Rattle.srx_edge.specs.SinkFake.{Writes};
+ghost use Rattle.std.specs.Prelude.{◌≡◌, false, [], IfOk};
+ghost use Rattle.srx_edge.specs.Fakes.{sink_seen};
+ghost use Rattle.srx_edge.specs.SinkFake.{MemWrites};
 
-use crate::no_memory::NoMemory;
 use crate::output::{Sink, SinkFault};
 use crate::plan::Plan;
+use base::NoMemory;
 use std::alloc::Global;
 use std::marker::Model;
 
@@ -16,6 +15,7 @@ use std::marker::Model;
 pub struct MemSink {
     bytes: Vec<u8>,
     plan: Plan,
+    wants: u64,
     stopped: bool,
 }
 
@@ -24,18 +24,32 @@ impl Model for MemSink {
 
     ghost Value = { SinkState };
 
-    ghost view = { λ s. record { held = s.bytes.items; fails = s.plan.fails.items; calls = s.plan.calls; faults = s.plan.faults; stopped = s.stopped } };
+    ghost view = { λ s. record {
+      held = s.bytes.items;
+      fails = s.plan.fails.items;
+      calls = s.plan.calls;
+      faults = s.plan.faults;
+      wants = s.wants;
+      stopped = s.stopped;
+    } };
 }
 
 impl MemSink {
     /// An empty sink. `fails` has the numbers of the writes that fail, counted from 1.
     pub fn new(alloc: Global, fails: &[u64]) -> Result<MemSink, NoMemory>
-        ensures { IfOk result (λ sink. sink
-            ≡ record { held = []; fails = fails.now; calls = 0; faults = 0; stopped = false }) }
+        ensures { IfOk result (λ sink. sink ≡ record {
+          held = [];
+          fails = fails.now;
+          calls = 0;
+          faults = 0;
+          wants = 0;
+          stopped = false;
+        }) }
     {
         Ok(MemSink {
             bytes: Vec::new(alloc),
             plan: Plan::new(alloc, fails)?,
+            wants: 0,
             stopped: false,
         })
     }
@@ -49,14 +63,10 @@ impl MemSink {
 }
 
 impl Sink for MemSink {
-    ghost held = { λ s. Some s.held };
-
-    ghost faults = { λ s. s.faults };
-
-    ghost stopped = { λ s. s.stopped };
+    ghost seen = { sink_seen };
 
     fn write(&mut self, piece: &[u8]) -> Result<usize, SinkFault>
-        ensures { Writes piece.now result self.old self.new }
+        ensures { MemWrites piece.now result self.old self.new }
     {
         if piece.is_empty() {
             return Ok(0);
@@ -67,6 +77,8 @@ impl Sink for MemSink {
             return Err(SinkFault::Failed);
         }
         if self.bytes.extend_from_slice(piece).is_err() {
+            self.wants = self.wants.saturating_add(1);
+            self.stopped = true;
             return Err(SinkFault::NoMemory);
         }
         self.plan.pass();

@@ -1,11 +1,12 @@
 //! A source in memory whose reads fail where they are told to.
-ghost use Rattle.std.specs.Prelude.{◌≡◌, false, Some, IfOk};
-ghost use Rattle.srx_edge.specs.SourceFake.{Reads};
+ghost use Rattle.std.specs.Prelude.{◌≡◌, false, IfOk};
+ghost use Rattle.srx_edge.specs.Fakes.{source_seen};
+ghost use Rattle.srx_edge.specs.SourceFake.{MemReads};
 
 use crate::input::{Failed, Source};
-use crate::no_memory::NoMemory;
 use crate::plan::Plan;
 use crate::rest::Rest;
+use base::NoMemory;
 use std::alloc::Global;
 use std::marker::Model;
 
@@ -15,6 +16,7 @@ use std::marker::Model;
 pub struct MemSource {
     rest: Rest,
     plan: Plan,
+    ends: u64,
     stopped: bool,
 }
 
@@ -23,33 +25,43 @@ impl Model for MemSource {
 
     ghost Value = { SourceState };
 
-    ghost view = { λ s. record { left = s.rest; fails = s.plan.fails.items; calls = s.plan.calls; faults = s.plan.faults; stopped = s.stopped } };
+    ghost view = { λ s. record {
+      left = s.rest;
+      fails = s.plan.fails.items;
+      calls = s.plan.calls;
+      faults = s.plan.faults;
+      ends = s.ends;
+      stopped = s.stopped;
+    } };
 }
 
 impl MemSource {
     /// A source that has these bytes left. `fails` has the numbers of the reads that fail, counted
     /// from 1.
     pub fn new(alloc: Global, bytes: &[u8], fails: &[u64]) -> Result<MemSource, NoMemory>
-        ensures { IfOk result (λ source. source
-            ≡ record { left = bytes.now; fails = fails.now; calls = 0; faults = 0; stopped = false }) }
+        ensures { IfOk result (λ source. source ≡ record {
+          left = bytes.now;
+          fails = fails.now;
+          calls = 0;
+          faults = 0;
+          ends = 0;
+          stopped = false;
+        }) }
     {
         Ok(MemSource {
             rest: Rest::new(alloc, bytes)?,
             plan: Plan::new(alloc, fails)?,
+            ends: 0,
             stopped: false,
         })
     }
 }
 
 impl Source for MemSource {
-    ghost left = { λ s. Some s.left };
-
-    ghost faults = { λ s. s.faults };
-
-    ghost stopped = { λ s. s.stopped };
+    ghost seen = { source_seen };
 
     fn read(&mut self, into: &mut [u8]) -> Result<usize, Failed>
-        ensures { Reads result into.old into.new self.old self.new }
+        ensures { MemReads result into.old into.new self.old self.new }
     {
         if into.is_empty() {
             return Ok(0);
@@ -60,7 +72,11 @@ impl Source for MemSource {
             return Err(Failed);
         }
         self.plan.pass();
+        let count = self.rest.take_into(into);
+        if count == 0 {
+            self.ends = self.ends.saturating_add(1);
+        }
         self.stopped = false;
-        Ok(self.rest.take_into(into))
+        Ok(count)
     }
 }

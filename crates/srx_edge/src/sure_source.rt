@@ -1,9 +1,11 @@
 //! A source in memory that never fails.
-ghost use Rattle.std.specs.Prelude.{◌≡◌, ◌++◌, false, Some, Ok, IfOk, IsOkAnd, length, min, take, drop};
+ghost use Rattle.std.specs.Prelude.{◌≡◌, IfOk};
+ghost use Rattle.srx_edge.specs.Fakes.{sure_source_seen};
+ghost use Rattle.srx_edge.specs.SourceFake.{SurelyReads};
 
 use crate::input::{Failed, Source};
-use crate::no_memory::NoMemory;
 use crate::rest::Rest;
+use base::NoMemory;
 use std::alloc::Global;
 use std::marker::Model;
 
@@ -12,39 +14,42 @@ use std::marker::Model;
 #[derive(Drop)]
 pub struct SureSource {
     rest: Rest,
+    ends: u64,
 }
 
 impl Model for SureSource {
-    ghost use Rattle.std.specs.Prelude.{List, ℕ};
+    ghost use Rattle.srx_edge.specs.Fakes.{SureSourceState};
 
-    ghost Value = { List ℕ };
+    ghost Value = { SureSourceState };
 
-    ghost view = { λ s. s.rest };
+    ghost view = { λ s. record { left = s.rest; ends = s.ends } };
 }
 
 impl SureSource {
     /// A source that has these bytes left.
     pub fn new(alloc: Global, bytes: &[u8]) -> Result<SureSource, NoMemory>
-        ensures { IfOk result (λ source. source ≡ bytes.now) }
+        ensures { IfOk result (λ source. source ≡ record { left = bytes.now; ends = 0 }) }
     {
         Ok(SureSource {
             rest: Rest::new(alloc, bytes)?,
+            ends: 0,
         })
     }
 }
 
 impl Source for SureSource {
-    ghost left = { λ s. Some s };
-
-    ghost faults = { λ _. 0 };
-
-    ghost stopped = { λ _. false };
+    ghost seen = { sure_source_seen };
 
     fn read(&mut self, into: &mut [u8]) -> Result<usize, Failed>
-        ensures count { result ≡ Ok (min (length into.old) (length self.old)) }
-        ensures filled { IfOk result (λ count. into.new ≡ take count self.old ++ drop count into.old) }
-        ensures rest { IfOk result (λ count. self.new ≡ drop count self.old) }
+        ensures { SurelyReads result into.old into.new self.old self.new }
     {
-        Ok(self.rest.take_into(into))
+        if into.is_empty() {
+            return Ok(0);
+        }
+        let count = self.rest.take_into(into);
+        if count == 0 {
+            self.ends = self.ends.saturating_add(1);
+        }
+        Ok(count)
     }
 }

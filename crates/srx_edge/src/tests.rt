@@ -1,21 +1,16 @@
-//! Each call once on its happy path, faults in the middle of a run, and the adapters.
+//! Each call once on its happy path, a fault in mid-stream, and the adapters on real files.
 use super::{
-    Bytes, DrawFault, Failed, FileFault, Files, HostFiles, HostSink, HostSource, MemFiles, MemSink,
+    DrawFault, Failed, FileFault, Files, HostFiles, HostSink, HostSource, MemFiles, MemSink,
     MemSource, PourFault, Sink, SinkFault, Source, SureSink, SureSource, draw, pour,
 };
 use std::alloc::Global;
-use std::io::{Read, Write};
+use std::io::Write;
 use std::test::Fail;
 use std::{fs, io};
 
 // A call through the bound, as callers make it.
-fn read_file<F: Files>(
-    files: &mut F,
-    alloc: Global,
-    name: &str,
-    limit: usize,
-) -> Result<Vec<u8>, FileFault> {
-    files.read(alloc, name, limit)
+fn read_file<F: Files>(files: &mut F, alloc: Global, name: &str) -> Result<Vec<u8>, FileFault> {
+    files.read(alloc, name, 4)
 }
 
 fn read_some<S: Source>(source: &mut S, into: &mut [u8]) -> Result<usize, Failed> {
@@ -26,19 +21,19 @@ fn write_some<O: Sink>(sink: &mut O, piece: &[u8]) -> Result<usize, SinkFault> {
     sink.write(piece)
 }
 
-// A stream that is broken both ways.
+// A writer that takes two bytes at a time, of four in all, and then fails.
 #[derive(Drop)]
-struct Broken;
-
-impl Read for Broken {
-    fn read(&mut self, _buf: &mut [u8]) -> io::Result<usize> {
-        Err(io::Error::from(io::ErrorKind::BrokenPipe))
-    }
+struct Narrow {
+    taken: u8,
 }
 
-impl Write for Broken {
-    fn write(&mut self, _buf: &[u8]) -> io::Result<usize> {
-        Err(io::Error::from(io::ErrorKind::BrokenPipe))
+impl Write for Narrow {
+    fn write(&mut self, buf: &[u8]) -> io::Result<usize> {
+        if self.taken >= 4 {
+            return Err(io::Error::from(io::ErrorKind::BrokenPipe));
+        }
+        self.taken += 2;
+        Ok(buf.len().min(2))
     }
 
     fn flush(&mut self) -> io::Result<()> {
@@ -47,71 +42,37 @@ impl Write for Broken {
 }
 
 #[test]
-fn bytes_there_and_back(rt: HostRuntime) -> Result<(), Fail> {
-    let bytes = Bytes::new(b"abc".to_vec(rt.alloc())?);
-    assert!(rt; bytes == Bytes::new(b"abc".to_vec(rt.alloc())?));
-    assert_eq!(rt; bytes.as_slice(), b"abc".as_slice());
-    assert_eq!(rt; bytes.into_vec().as_slice(), b"abc".as_slice());
-    Ok(())
-}
-
-#[test]
-fn files_in_memory(rt: HostRuntime) -> Result<(), Fail> {
-    let mut files = MemFiles::new(rt.alloc(), &[3])?;
+fn a_held_file_is_read(rt: HostRuntime) -> Result<(), Fail> {
+    let mut files = MemFiles::new(rt.alloc(), &[])?;
     if !files.holds("net") {
         files.hold("net", b"four")?;
     }
-    assert!(rt; files.holds("net"));
-    let bytes = read_file(&mut files, rt.alloc(), "net", 4)?;
-    assert_eq!(rt; bytes.as_slice(), b"four".as_slice());
-    let refused = read_file(&mut files, rt.alloc(), "net", 3);
-    assert_eq!(rt; refused.err(), Some(FileFault::TooBig { limit: 3 }));
-    // The third read fails, the fourth asks for a file that isn't there, the fifth passes.
-    let refused = read_file(&mut files, rt.alloc(), "net", 4);
-    assert_eq!(rt; refused.err(), Some(FileFault::Failed));
-    let refused = read_file(&mut files, rt.alloc(), "none", 4);
-    assert_eq!(rt; refused.err(), Some(FileFault::Failed));
-    let bytes = read_file(&mut files, rt.alloc(), "net", 9)?;
+    let bytes = read_file(&mut files, rt.alloc(), "net")?;
     assert_eq!(rt; bytes.as_slice(), b"four".as_slice());
     Ok(())
 }
 
 #[test]
-fn sources_in_memory(rt: HostRuntime) -> Result<(), Fail> {
+fn a_source_in_memory_is_read(rt: HostRuntime) -> Result<(), Fail> {
     let mut piece = [0; 4];
-    let mut source = MemSource::new(rt.alloc(), b"abcdef", &[2])?;
+    let mut source = MemSource::new(rt.alloc(), b"abcdef", &[])?;
     assert_eq!(rt; read_some(&mut source, &mut piece), Ok(4));
     assert_eq!(rt; piece.as_slice(), b"abcd".as_slice());
-    assert_eq!(rt; read_some(&mut source, &mut []), Ok(0));
-    assert_eq!(rt; read_some(&mut source, &mut piece), Err(Failed));
-    assert_eq!(rt; piece.as_slice(), b"abcd".as_slice());
-    assert_eq!(rt; read_some(&mut source, &mut piece), Ok(2));
-    assert_eq!(rt; piece.as_slice(), b"efcd".as_slice());
-    assert_eq!(rt; read_some(&mut source, &mut piece), Ok(0));
-
-    let mut source = SureSource::new(rt.alloc(), b"abcdef")?;
-    assert_eq!(rt; read_some(&mut source, &mut piece), Ok(4));
-    let rest = draw(rt.alloc(), &mut source, 2)?;
-    assert_eq!(rt; rest.as_slice(), b"ef".as_slice());
     Ok(())
 }
 
 #[test]
-fn drawn_to_the_end(rt: HostRuntime) -> Result<(), Fail> {
-    // 5,000 bytes come in two reads, and a third one finds the end.
+fn a_sure_source_is_drawn(rt: HostRuntime) -> Result<(), Fail> {
+    let mut source = SureSource::new(rt.alloc(), b"abcdef")?;
+    let all = draw(rt.alloc(), &mut source, 6)?;
+    assert_eq!(rt; all.as_slice(), b"abcdef".as_slice());
+    Ok(())
+}
+
+#[test]
+fn a_read_fails_in_mid_stream(rt: HostRuntime) -> Result<(), Fail> {
+    // 5,000 bytes come in two reads; of those that the second would have taken none is lost.
     let input = vec![in rt.alloc(); 7u8; 5000]?;
-    let mut source = MemSource::new(rt.alloc(), &input, &[])?;
-    let all = draw(rt.alloc(), &mut source, 5000)?;
-    assert!(rt; all.as_slice() == input.as_slice());
-    let mut source = MemSource::new(rt.alloc(), &input, &[])?;
-    let refused = draw(rt.alloc(), &mut source, 4999);
-    assert_eq!(rt; refused.err(), Some(DrawFault::TooBig { limit: 4999 }));
-    // One byte too many is taken, and no more.
-    let mut source = MemSource::new(rt.alloc(), &input, &[])?;
-    let refused = draw(rt.alloc(), &mut source, 10);
-    assert_eq!(rt; refused.err(), Some(DrawFault::TooBig { limit: 10 }));
-    let rest = draw(rt.alloc(), &mut source, 5000)?;
-    assert_eq!(rt; rest.len(), 4989);
     let mut source = MemSource::new(rt.alloc(), &input, &[2])?;
     let refused = draw(rt.alloc(), &mut source, 5000);
     assert_eq!(rt; refused.err(), Some(DrawFault::Failed));
@@ -121,58 +82,52 @@ fn drawn_to_the_end(rt: HostRuntime) -> Result<(), Fail> {
 }
 
 #[test]
-fn sinks_in_memory(rt: HostRuntime) -> Result<(), Fail> {
-    let mut sink = MemSink::new(rt.alloc(), &[2])?;
-    assert_eq!(rt; write_some(&mut sink, b"abc"), Ok(3));
-    assert_eq!(rt; write_some(&mut sink, b""), Ok(0));
-    assert_eq!(rt;
-        pour(&mut sink, b"de"),
-        Err(PourFault::Failed { written: 0 })
-    );
-    assert_eq!(rt; pour(&mut sink, b"fg"), Ok(()));
-    assert_eq!(rt; sink.held(), b"abcfg".as_slice());
+fn a_sink_in_memory_is_poured_into(rt: HostRuntime) -> Result<(), Fail> {
+    let mut sink = MemSink::new(rt.alloc(), &[])?;
+    assert_eq!(rt; pour(&mut sink, b"abc"), Ok(()));
+    assert_eq!(rt; sink.held(), b"abc".as_slice());
+    Ok(())
+}
 
+#[test]
+fn a_sure_sink_is_written(rt: HostRuntime) -> Result<(), Fail> {
     let mut sink = SureSink::new(rt.alloc())?;
     assert_eq!(rt; write_some(&mut sink, b"abc"), Ok(3));
-    assert_eq!(rt; pour(&mut sink, b"de"), Ok(()));
-    assert_eq!(rt; sink.held(), b"abcde".as_slice());
+    assert_eq!(rt; sink.held(), b"abc".as_slice());
     Ok(())
 }
 
 #[test]
-fn files_of_the_system(rt: HostRuntime) -> Result<(), Fail> {
-    fs::write(&rt, "net", b"four".as_slice())?;
+fn a_write_fails_in_mid_stream(rt: HostRuntime) -> Result<(), Fail> {
+    let mut sink = HostSink::new(Narrow { taken: 0 });
+    let refused = pour(&mut sink, b"abcdef");
+    assert_eq!(rt; refused, Err(PourFault::Failed { written: 4 }));
+    Ok(())
+}
+
+#[test]
+fn a_file_of_the_system_is_read(rt: HostRuntime) -> Result<(), Fail> {
+    fs::write(&rt, "read", b"four".as_slice())?;
     let mut files = HostFiles::new(&rt);
-    let bytes = read_file(&mut files, rt.alloc(), "net", 4)?;
+    let bytes = read_file(&mut files, rt.alloc(), "read")?;
     assert_eq!(rt; bytes.as_slice(), b"four".as_slice());
-    let refused = read_file(&mut files, rt.alloc(), "net", 3);
-    assert_eq!(rt; refused.err(), Some(FileFault::TooBig { limit: 3 }));
-    let refused = read_file(&mut files, rt.alloc(), "none", 4);
-    assert_eq!(rt; refused.err(), Some(FileFault::Failed));
     Ok(())
 }
 
 #[test]
-fn streams_of_the_system(rt: HostRuntime) -> Result<(), Fail> {
-    let mut sink = HostSink::new(fs::create(&rt, "out")?);
-    assert_eq!(rt; write_some(&mut sink, b""), Ok(0));
-    assert_eq!(rt; pour(&mut sink, b"some bytes"), Ok(()));
-    let mut source = HostSource::new(fs::open(&rt, "out")?);
-    assert_eq!(rt; read_some(&mut source, &mut []), Ok(0));
-    let all = draw(rt.alloc(), &mut source, 10)?;
-    assert_eq!(rt; all.as_slice(), b"some bytes".as_slice());
+fn a_stream_of_the_system_is_drawn(rt: HostRuntime) -> Result<(), Fail> {
+    fs::write(&rt, "drawn", b"four".as_slice())?;
+    let mut source = HostSource::new(fs::open(&rt, "drawn")?);
+    let all = draw(rt.alloc(), &mut source, 4)?;
+    assert_eq!(rt; all.as_slice(), b"four".as_slice());
     Ok(())
 }
 
 #[test]
-fn broken_streams(rt: HostRuntime) -> Result<(), Fail> {
-    let mut sink = HostSink::new(Broken);
-    assert_eq!(rt;
-        pour(&mut sink, b"ab"),
-        Err(PourFault::Failed { written: 0 })
-    );
-    let mut source = HostSource::new(Broken);
-    let refused = draw(rt.alloc(), &mut source, 10);
-    assert_eq!(rt; refused.err(), Some(DrawFault::Failed));
+fn a_stream_of_the_system_is_poured_into(rt: HostRuntime) -> Result<(), Fail> {
+    let mut sink = HostSink::new(fs::create(&rt, "poured")?);
+    assert_eq!(rt; pour(&mut sink, b"four"), Ok(()));
+    let bytes = fs::read(&rt, "poured")?;
+    assert_eq!(rt; bytes.as_slice(), b"four".as_slice());
     Ok(())
 }

@@ -1,6 +1,6 @@
 use Rattle.std.proofs.Common.{◌≡◌, ◌++◌, drop}
 use Rattle.std.specs.List.{flat_map}
-use Rattle.srv6_cli.specs.Compiling.{container_line}
+use Rattle.srv6_cli.specs.Compile.{container_line}
 use Rattle.srv6_cli.proofs.report.lines_of_containers.Given as goal
 
 abbrev pub invariant-loop-container : goal.invariant-loop-container

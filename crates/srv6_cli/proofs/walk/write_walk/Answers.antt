@@ -1,70 +1,62 @@
-use Rattle.std.proofs.Common.{◌≡◌, ℕ, suc, ◌+◌, ◌-◌, ◌<◌, Some, IfSome, refl, sym, ◌∙◌, arith, subst, Option}
+use Rattle.std.proofs.Common.{◌≡◌, ℕ, suc, ◌+◌, ◌-◌, ◌<◌, Some, IfSome, sym, ◌∙◌, arith, subst, Option}
+use Rattle.std.proofs.lemmas.Result.{err_from_is_err_and}
 use Rattle.walk_rules.specs.declared.place.Place.{Place}
 use Rattle.walk_rules.specs.Relation.{IsPlace}
 use Rattle.walk_rules.specs.Treatment.{Gave}
 use Rattle.walk_rules.specs.Walk.{walk_of, choice_at}
-use Rattle.srv6_cli.specs.Capture.{frame_by, frames_of}
-use Rattle.srv6_cli.proofs.Walking.{Progress, progress_none, staged_on, staged_end, staged_front, staged_stop, poured_err}
+use Rattle.srv6_cli.specs.declared.limits.TheConstants.{STAGES}
+use Rattle.srv6_cli.proofs.Walking.{Progress, progress_stops, walk_is_over, staged_on, staged_end, staged_cut}
 use Rattle.srv6_cli.proofs.walk.write_walk.Goals as goal
-
-pub loop-used-init : goal.loop-used-init
-loop-used-init g c = record {
-  place = c.requires.place;
-  taken = omega arith;
-  faults = refl;
-  progress = progress_none c.args.net.now _ _;
-}
 
 pub loop-used-preserved : goal.loop-used-preserved
 loop-used-preserved g c =
     let gave : Gave = record { outcome = c.staged-outcome.result; after = c.staged-outcome.new.content } in
-    let first = g.O.Sink.held c.args.out.now in
-    let whole = walk_of 10000 c.args.net.now (Some c.args.start) c.args.content (choice_at c.args.choices.now) 0 in
-    let test : c.loop-used.used < 10000 = omega arith in
-    let left : 10000 - c.loop-used.used ≡ suc (10000 - (c.loop-used.used + 1)) = omega arith in
-    let on = staged_on c.args.net.now (10000 - c.loop-used.used) (10000 - (c.loop-used.used + 1)) c.loop-used.place c.in-Some.next c.loop-used.content (choice_at c.args.choices.now) c.loop-used.taken gave whole first (g.O.Sink.held c.loop-used.out) (g.O.Sink.held c.write_outcome.new.out)
-    left c.staged-outcome.ensures.function c.loop-used.invariant.progress (sym c.in-Some.ensures) c.in-Ok.ensures.poured in
+    let left : STAGES - c.loop-used.used ≡ suc (STAGES - (c.loop-used.used + 1)) = omega arith in
+    let on = staged_on c.args.net.now (STAGES - c.loop-used.used) (STAGES - (c.loop-used.used + 1)) c.loop-used.place c.loop-used.content
+    (choice_at c.args.choices.now) c.loop-used.taken gave _ _ _ (g.O.Sink.seen c.write_outcome.new.out)
+    left c.staged-outcome.ensures.function c.loop-used.invariant.progress c.in-Some.next (sym c.in-Some.ensures) c.in_ok-write_outcome.ensures in
     record {
       place = subst (λ (o : Option Place). IfSome o (IsPlace c.args.net.now)) (sym c.in-Some.ensures) c.staged-outcome.ensures.next;
       taken = omega (arith, c.decisions_of-taken.ensures.few, c.loop-used.invariant.taken);
-      faults = c.in-Ok.ensures.no_fault ∙ c.loop-used.invariant.faults;
-      progress = subst (λ (n : ℕ). Progress c.args.net.now (walk_of (10000 - (c.loop-used.used + 1)) c.args.net.now (Some c.in-Some.next) c.staged-outcome.new.content (choice_at c.args.choices.now) (c.loop-used.taken + n)) whole first (g.O.Sink.held c.write_outcome.new.out)) (sym c.decisions_of-taken.ensures.taken) on;
+      progress = subst (λ (n : ℕ). Progress c.args.net.now
+          (walk_of (STAGES - (c.loop-used.used + 1)) c.args.net.now (Some c.in-Some.next) c.staged-outcome.new.content (choice_at c.args.choices.now) (c.loop-used.taken + n))
+          (walk_of STAGES c.args.net.now (Some c.args.start) c.args.content (choice_at c.args.choices.now) 0)
+          (g.O.Sink.seen c.args.out.now) (g.O.Sink.seen c.write_outcome.new.out)) (sym c.decisions_of-taken.ensures.taken) on;
     }
 
-pub returns-in-Err-clause-poured : goal.returns-in-Err-clause-poured
-returns-in-Err-clause-poured g c =
+pub returns-in_err-write_outcome-clause-wrote : goal.returns-in_err-write_outcome-clause-wrote
+returns-in_err-write_outcome-clause-wrote g c =
     let gave : Gave = record { outcome = c.staged-outcome.result; after = c.staged-outcome.new.content } in
-    let whole = walk_of 10000 c.args.net.now (Some c.args.start) c.args.content (choice_at c.args.choices.now) 0 in
-    let left : 10000 - c.loop-used.used ≡ suc (10000 - (c.loop-used.used + 1)) = omega arith in
-    poured_err c.in-Err.halt (frame_by 1 c.staged-outcome.result c.staged-outcome.new.content) (frames_of 1 whole) (g.O.Sink.held c.args.out.now) (g.O.Sink.held c.loop-used.out) (g.O.Sink.held c.write_outcome.new.out)
-    (staged_front c.args.net.now (10000 - c.loop-used.used) (10000 - (c.loop-used.used + 1)) c.loop-used.place c.loop-used.content (choice_at c.args.choices.now) c.loop-used.taken gave whole (g.O.Sink.held c.args.out.now) (g.O.Sink.held c.loop-used.out) (g.O.Sink.held c.write_outcome.new.out)
-    left c.staged-outcome.ensures.function c.loop-used.invariant.progress)
-    c.in-Err.ensures.poured
+    let left : STAGES - c.loop-used.used ≡ suc (STAGES - (c.loop-used.used + 1)) = omega arith in
+    let p = err_from_is_err_and c.from_residual.result c.from_residual.ensures.1 in
+    rw (p.1, p.2) (staged_cut c.args.net.now (STAGES - c.loop-used.used) (STAGES - (c.loop-used.used + 1)) c.loop-used.place c.loop-used.content
+    (choice_at c.args.choices.now) c.loop-used.taken gave _ _ _ (g.O.Sink.seen c.write_outcome.new.out)
+    left c.staged-outcome.ensures.function c.loop-used.invariant.progress c.in_err-write_outcome.field-0.0 c.in_err-write_outcome.ensures)
 
 pub returns-in-None-clause-ended : goal.returns-in-None-clause-ended
 returns-in-None-clause-ended g c =
     let gave : Gave = record { outcome = c.staged-outcome.result; after = c.staged-outcome.new.content } in
-    let whole = walk_of 10000 c.args.net.now (Some c.args.start) c.args.content (choice_at c.args.choices.now) 0 in
-    let left : 10000 - c.loop-used.used ≡ suc (10000 - (c.loop-used.used + 1)) = omega arith in
-    c.ended_by.ensures ∙ (staged_end c.args.net.now (10000 - c.loop-used.used) (10000 - (c.loop-used.used + 1)) c.loop-used.place c.loop-used.content (choice_at c.args.choices.now) c.loop-used.taken gave whole (g.O.Sink.held c.args.out.now) (g.O.Sink.held c.loop-used.out) (g.O.Sink.held c.write_outcome.new.out)
-    left c.staged-outcome.ensures.function c.loop-used.invariant.progress (sym c.in-None.ensures) c.in-Ok.ensures.poured).1
+    let left : STAGES - c.loop-used.used ≡ suc (STAGES - (c.loop-used.used + 1)) = omega arith in
+    let last = staged_end c.args.net.now (STAGES - c.loop-used.used) (STAGES - (c.loop-used.used + 1)) c.loop-used.place c.loop-used.content
+    (choice_at c.args.choices.now) c.loop-used.taken gave _ _ _ (g.O.Sink.seen c.write_outcome.new.out)
+    left c.staged-outcome.ensures.function c.loop-used.invariant.progress (sym c.in-None.ensures) c.in_ok-write_outcome.ensures in
+    c.ended_by.ensures ∙ last.1
 
-pub returns-in-None-clause-poured : goal.returns-in-None-clause-poured
-returns-in-None-clause-poured g c =
+pub returns-in-None-clause-wrote : goal.returns-in-None-clause-wrote
+returns-in-None-clause-wrote g c =
     let gave : Gave = record { outcome = c.staged-outcome.result; after = c.staged-outcome.new.content } in
-    let whole = walk_of 10000 c.args.net.now (Some c.args.start) c.args.content (choice_at c.args.choices.now) 0 in
-    let left : 10000 - c.loop-used.used ≡ suc (10000 - (c.loop-used.used + 1)) = omega arith in
-    (staged_end c.args.net.now (10000 - c.loop-used.used) (10000 - (c.loop-used.used + 1)) c.loop-used.place c.loop-used.content (choice_at c.args.choices.now) c.loop-used.taken gave whole (g.O.Sink.held c.args.out.now) (g.O.Sink.held c.loop-used.out) (g.O.Sink.held c.write_outcome.new.out)
-    left c.staged-outcome.ensures.function c.loop-used.invariant.progress (sym c.in-None.ensures) c.in-Ok.ensures.poured).0
+    let left : STAGES - c.loop-used.used ≡ suc (STAGES - (c.loop-used.used + 1)) = omega arith in
+    let last = staged_end c.args.net.now (STAGES - c.loop-used.used) (STAGES - (c.loop-used.used + 1)) c.loop-used.place c.loop-used.content
+    (choice_at c.args.choices.now) c.loop-used.taken gave _ _ _ (g.O.Sink.seen c.write_outcome.new.out)
+    left c.staged-outcome.ensures.function c.loop-used.invariant.progress (sym c.in-None.ensures) c.in_ok-write_outcome.ensures in
+    last.0
 
 pub returns-clause-ended : goal.returns-clause-ended
 returns-clause-ended g c =
-    let whole = walk_of 10000 c.args.net.now (Some c.args.start) c.args.content (choice_at c.args.choices.now) 0 in
-    let left : 10000 - c.loop-used.used ≡ 0 = omega arith in
-    (staged_stop c.args.net.now (10000 - c.loop-used.used) (Some c.loop-used.place) c.loop-used.content (choice_at c.args.choices.now) c.loop-used.taken whole (g.O.Sink.held c.args.out.now) (g.O.Sink.held c.loop-used.out) left c.loop-used.invariant.progress).1
+    let left : STAGES - c.loop-used.used ≡ 0 = omega arith in
+    (progress_stops c.args.net.now _ _ _ _ (walk_is_over c.args.net.now (STAGES - c.loop-used.used) _ _ _ _ left) c.loop-used.invariant.progress).1
 
-pub returns-clause-poured : goal.returns-clause-poured
-returns-clause-poured g c =
-    let whole = walk_of 10000 c.args.net.now (Some c.args.start) c.args.content (choice_at c.args.choices.now) 0 in
-    let left : 10000 - c.loop-used.used ≡ 0 = omega arith in
-    (staged_stop c.args.net.now (10000 - c.loop-used.used) (Some c.loop-used.place) c.loop-used.content (choice_at c.args.choices.now) c.loop-used.taken whole (g.O.Sink.held c.args.out.now) (g.O.Sink.held c.loop-used.out) left c.loop-used.invariant.progress).0
+pub returns-clause-wrote : goal.returns-clause-wrote
+returns-clause-wrote g c =
+    let left : STAGES - c.loop-used.used ≡ 0 = omega arith in
+    (progress_stops c.args.net.now _ _ _ _ (walk_is_over c.args.net.now (STAGES - c.loop-used.used) _ _ _ _ left) c.loop-used.invariant.progress).0

@@ -1,16 +1,14 @@
 use Rattle.std.proofs.Common.{◌≡◌, ◌-◌, ◌≤◌, Some}
 use Rattle.walk_rules.specs.Relation.{IsPlace}
 use Rattle.walk_rules.specs.Walk.{walk_of, choice_at}
+use Rattle.srv6_cli.specs.declared.limits.TheConstants.{STAGES}
 use Rattle.srv6_cli.proofs.Walking.{Progress}
 use Rattle.srv6_cli.proofs.walk.write_walk.Given as goal
 
 abbrev pub invariant-loop-used : goal.invariant-loop-used
-invariant-loop-used g l =
-    let held = g.O.Sink.held in
-    record {
-      place : IsPlace l.net l.place;
-      taken : l.taken ≤ l.used;
-      faults : g.O.Sink.faults l.out ≡ g.O.Sink.faults l.fn.out;
-      progress : Progress l.net (walk_of (10000 - l.used) l.net (Some l.place) l.content (choice_at l.choices) l.taken)
-          (walk_of 10000 l.net (Some l.fn.start) l.fn.content (choice_at l.choices) 0) (held l.fn.out) (held l.out);
-    }
+invariant-loop-used g l = record {
+  place : IsPlace l.net l.place;
+  taken : l.taken ≤ l.used;
+  progress : Progress l.net (walk_of (STAGES - l.used) l.net (Some l.place) l.content (choice_at l.choices) l.taken)
+      (walk_of STAGES l.net (Some l.fn.start) l.fn.content (choice_at l.choices) 0) (g.O.Sink.seen l.fn.out) (g.O.Sink.seen l.out);
+}

@@ -1,0 +1,149 @@
+-- What `run` leaves, by where it ends.
+use Rattle.std.proofs.Common.{◌≡◌, inl, inr, ℕ, Bool, true, false, List, [], ◌∷◌, ◌++◌, Option, None, Some, IfSome, Result, Ok, Err, Vec, Global, refl, sym, ap, ◌∙◌, subst}
+use Rattle.std.specs.Prelude.{IsSomeAnd}
+use Rattle.srx_edge.specs.Edge.{file_named}
+use Rattle.srx_edge.specs.FilesRead.{FilesSeen, asked_for, failed}
+use Rattle.srx_edge.specs.Sources.{SourceSeen, drained}
+use Rattle.srx_edge.specs.Sinks.{SinkSeen, sent}
+use Rattle.srx_edge.specs.Steps.{How, Wrote}
+use Rattle.srv6_rules.specs.Packet.{Content}
+use Rattle.net_model.specs.Network.{Network}
+use Rattle.walk_rules.specs.Walk.{Step, end_of}
+use Rattle.srv6_cli.specs.declared.halt.Failure.{Failure}
+use Rattle.srv6_cli.specs.declared.halt.Failure.TheVariants as failures
+use Rattle.srv6_cli.specs.declared.halt.Halt.{Halt}
+use Rattle.srv6_cli.specs.declared.halt.Halt.TheVariants as halts
+use Rattle.srv6_cli.specs.declared.refusal.Refusal.{Refusal}
+use Rattle.srv6_cli.specs.declared.status.Status.TheVariants as statuses
+use Rattle.srv6_cli.specs.declared.told.Line.TheVariants as lines
+use Rattle.srv6_cli.specs.declared.told.Told.{Told}
+use Rattle.srv6_cli.specs.Answers.{ending_of_failure, FileGives, JudgesFile, JudgesInput, CommandsOut}
+use Rattle.srv6_cli.specs.Capture.{capture_head, frames_of}
+use Rattle.srv6_cli.specs.Command.{Run}
+use Rattle.srv6_cli.specs.Judgements.{network_in, node_in, content_in, refused}
+use Rattle.srv6_cli.specs.Lines.{packet_line}
+use Rattle.srv6_cli.specs.Outside.{IsFrontOf, Asks, Reads, files_left_by}
+use Rattle.srv6_cli.specs.Pieces.{Output, Stop, Never, AtFiles, AtInput, At, Elsewhere, ToOut}
+use Rattle.srv6_cli.specs.Run.{walk_from, no_choices, ran, run_output, has_start, reads_input, run_shape}
+use Rattle.srv6_cli.specs.Serves.{Takes}
+use Rattle.srv6_cli.specs.Shape.{Held, names_of, WantedOf}
+use Rattle.srv6_cli.proofs.Asking.{each, front_whole, asks_all, asks_front}
+use Rattle.srv6_cli.proofs.Commanding.{refused_commands, files_fault, input_fault, memory_wants, written, written_whole, written_cut}
+use Rattle.srv6_cli.proofs.PieceLemmas.{stop_at}
+
+some-map : (o : Option (List ℕ)) (P Q : List ℕ → Type 0) → ((text : List ℕ) → P text → Q text) → IsSomeAnd o P → IsSomeAnd o Q
+some-map None P Q f p = absurd p
+some-map (Some text) P Q f p = f text p
+
+-- an output that is wanted of the text, and of the input, that are told
+run-wants : (told : Option Held) (left : Option (List ℕ)) (file name : List ℕ) (P Q : List ℕ → Type 0) (output : Output)
+    → IfSome told (λ held. IsSomeAnd (file_named held file) P) → IfSome left Q
+    → ((text input : List ℕ) → P text → Q input → output ≡ run_output text name input) → WantedOf (run_shape file name) told left output
+run-wants None left file name P Q output p q f = tt
+run-wants (Some held) None file name P Q output p q f = tt
+run-wants (Some held) (Some input) file name P Q output p q f =
+    some-map (file_named held file) P (λ text. output ≡ run_output text name input) (λ text h. f text input h q) p
+
+-- of any input
+any-input : (left : Option (List ℕ)) → IfSome left (λ input. Unit {0})
+any-input None = tt
+any-input (Some input) = tt
+
+asks-file : (file name : List ℕ) (stop : Stop) (f g : FilesSeen) → g ≡ files_left_by stop (asked_for file f) → Asks (run_shape file name) stop f g
+asks-file file name stop f g seen = asks_all (run_shape file name) stop (file ∷ []) f g (front_whole (file ∷ [])) tt
+    (each f.told (λ held. names_of (run_shape file name) held ≡ file ∷ []) (λ held. refl)) seen
+
+-- the input as it was
+takes-unread : (file name : List ℕ) (stop : Stop) (f g : FilesSeen) (s : SourceSeen) → Asks (run_shape file name) stop f g → Reads stop s s
+    → Takes (run_shape file name) stop f g s s
+takes-unread file name stop f g s asks reads = record {
+  asks = asks;
+  reads = reads;
+  unread = each f.told (λ held. reads_input (file_named held file) name ≡ false → s ≡ s) (λ held _. refl);
+  reads_none = λ _. refl;
+}
+
+module _ (file name : List ℕ) (f g : FilesSeen) (s t : SourceSeen) (o p : SinkSeen) where
+  -- the file was refused, wasn't read, or memory was wanting
+  pub run_halted_at_file : (halt : Halt) → JudgesFile network_in file (Err halt) f g → CommandsOut (Run file name) (Err halt) f g s s o o
+  run_halted_at_file (halts.Refused refusal) h = refused_commands (Run file name) refusal f g s s o
+      (run-wants f.told s.left file name (λ text. network_in text ≡ Err refusal) (λ input. Unit {0}) (refused refusal) h.0 (any-input s.left)
+      (λ text input is _. rw is refl))
+      (inr (inl refl)) (takes-unread file name Never f g s (asks-file file name Never f g h.1) refl)
+  run_halted_at_file (halts.Failed failures.Fault) h =
+      files_fault (Run file name) f g s o (takes-unread file name AtFiles f g s (asks-file file name AtFiles f g h) refl)
+  run_halted_at_file (halts.Failed failures.NoMemory) h = memory_wants (Run file name) f g s s o
+      (takes-unread file name Elsewhere f g s (asks_front (run_shape file name) h.names f g h.front
+      (each f.told (λ held. IsFrontOf (names_of (run_shape file name) held) h.names) (λ held. h.front)) h.seen) refl)
+
+  module _ (net : Network) (judged : JudgesFile network_in file (Ok net) f g) where
+    -- the node's name was refused
+    pub run_halted_at_node : (refusal : Refusal) → node_in net name ≡ Err refusal
+        → CommandsOut (Run file name) (Err (halts.Refused refusal)) f g s s o o
+    run_halted_at_node refusal node = refused_commands (Run file name) refusal f g s s o
+        (run-wants f.told s.left file name (λ text. network_in text ≡ Ok net) (λ input. Unit {0}) (refused refusal) judged.0 (any-input s.left)
+        (λ text input is _. rw (is, node) refl))
+        (inr (inl refl)) (takes-unread file name Never f g s (asks-file file name Never f g judged.1) refl)
+
+    module _ (node : ℕ) (found : node_in net name ≡ Ok node) where
+      starts : (o : Option (List ℕ)) → IsSomeAnd o (λ text. network_in text ≡ Ok net) → reads_input o name ≡ false → ⊥
+      starts None h early = absurd h
+      starts (Some text) h early = let begins : has_start (network_in text) name ≡ true = rw (h, found) refl in cc
+
+      unread : (told : Option Held) → IfSome told (λ held. IsSomeAnd (file_named held file) (λ text. network_in text ≡ Ok net))
+          → IfSome told (λ held. reads_input (file_named held file) name ≡ false → t ≡ s)
+      unread None h = tt
+      unread (Some held) h = λ early. absurd (starts (file_named held file) h early)
+
+      takes : (stop : Stop) → g ≡ files_left_by stop (asked_for file f) → Reads stop s t → Takes (run_shape file name) stop f g s t
+      takes stop seen reads = record {
+        asks = asks-file file name stop f g seen;
+        reads = reads;
+        unread = unread f.told judged.0;
+        reads_none = λ no. cc;
+      }
+
+      -- the input was refused, wasn't read, or memory was wanting
+      pub run_halted_at_input : (halt : Halt) → JudgesInput content_in (Err halt) s t → CommandsOut (Run file name) (Err halt) f g s t o o
+      run_halted_at_input (halts.Refused refusal) h = refused_commands (Run file name) refusal f g s t o
+          (run-wants f.told s.left file name (λ text. network_in text ≡ Ok net) (λ input. content_in input ≡ Err refusal) (refused refusal)
+          judged.0 h.0 (λ text input is bad. rw (is, found, bad) refl))
+          (inr (inl refl)) (takes Never judged.1 h.1)
+      run_halted_at_input (halts.Failed failures.Fault) h = input_fault (Run file name) f g s t o (takes AtInput judged.1 h)
+      run_halted_at_input (halts.Failed failures.NoMemory) h = memory_wants (Run file name) f g s t o (takes Elsewhere judged.1 h)
+
+      module _ (content : Content) (drawn : JudgesInput content_in (Ok content) s t) where
+        frames : List ℕ
+        frames = capture_head ++ frames_of 1 (walk_from net node no_choices content)
+
+        line : List ℕ
+        line = packet_line net 1 (end_of net (walk_from net node no_choices content))
+
+        wanted : WantedOf (run_shape file name) f.told s.left (ran net (walk_from net node no_choices content))
+        wanted = run-wants f.told s.left file name (λ text. network_in text ≡ Ok net) (λ input. content_in input ≡ Ok content)
+            (ran net (walk_from net node no_choices content)) judged.0 drawn.0 (λ text input is good. rw (is, found, good) refl)
+
+        reads : Reads Never s t
+        reads = ap (λ (u : SourceSeen). u.faults) drawn.1
+
+        takes-how : (how : Option How) → Takes (run_shape file name) (stop_at ToOut how) f g s t
+        takes-how None = takes Elsewhere judged.1 reads
+        takes-how (Some how) = takes (At ToOut how) judged.1 reads
+
+        -- the walk didn't go out whole, or memory was wanting for its line
+        pub run_halted_at_out : (failure : Failure) → Wrote (ending_of_failure failure) (capture_head ++ frames_of 1 (walk_from net node no_choices content)) o p
+            → CommandsOut (Run file name) (Err (halts.Failed failure)) f g s t o p
+        run_halted_at_out failure wrote =
+            written_cut (Run file name) failure (capture_head ++ frames_of 1 (walk_from net node no_choices content))
+            (packet_line net 1 (end_of net (walk_from net node no_choices content))) statuses.Done f g s t o p wrote wanted takes-how
+
+        -- the walk went out whole
+        pub run_done : (told : Vec ℕ Global) → told.items ≡ packet_line net 1 (end_of net (walk_from net node no_choices content))
+            → p ≡ sent (capture_head ++ frames_of 1 (walk_from net node no_choices content)) o
+            → CommandsOut (Run file name) (Ok (record { line = lines.Made told; status = statuses.Done })) f g s t o p
+        run_done told is went =
+            written_whole (Run file name) (record { line = lines.Made told; status = statuses.Done })
+            (capture_head ++ frames_of 1 (walk_from net node no_choices content)) f g s t o p went
+            (subst (λ (l : List ℕ). WantedOf (run_shape file name) f.told s.left
+            (written (capture_head ++ frames_of 1 (walk_from net node no_choices content)) l statuses.Done)) (sym is) wanted)
+            refl (inl refl) (takes Never judged.1 reads) (λ _ _. drawn.1)

@@ -1,0 +1,10 @@
+//! The limits, each of which the definitions cite.
+
+/// The most bytes of a file. (own rule)
+pub const FILE_LIMIT: usize = 4_194_304;
+
+/// The most bytes of the input. (own rule)
+pub const INPUT_LIMIT: usize = 67_108_864;
+
+/// The most stages of a packet. (own rule)
+pub const STAGES: usize = 10_000;
