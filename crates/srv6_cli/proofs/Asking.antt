@@ -1,7 +1,7 @@
 -- Which files were asked for, by how far the files were judged.
-use Rattle.std.proofs.Common.{◌≡◌, ℕ, Bool, true, false, List, [], ◌∷◌, ◌++◌, Option, None, Some, IfSome, refl, sym, ap, ◌∙◌, subst, append-nil, append_assoc}
-use Rattle.srx_edge.specs.FilesRead.{FilesSeen, asked_for}
-use Rattle.srv6_cli.specs.Outside.{HasName, IsFrontOf, AsksForFront, Asks, AsksAs, asked_for_all, files_left_by}
+use Rattle.std.proofs.Common.{◌≡◌, ℕ, List, [], ◌∷◌, ◌++◌, Option, None, Some, IfSome, sym, ap, ◌∙◌, append-nil, append_assoc}
+use Rattle.srx_edge.specs.FilesRead.{FilesSeen}
+use Rattle.srv6_cli.specs.Outside.{HasName, IsFrontOf, Asks, AsksAs, asked_for_all, files_left_by}
 use Rattle.srv6_cli.specs.Pieces.{Stop, Never, AtFiles, AtInput, At, Elsewhere}
 use Rattle.srv6_cli.specs.Shape.{Held, Shape, names_of}
 
@@ -19,7 +19,10 @@ front_whole names = record { rest = []; whole = append-nil names }
 
 pub front_longer : (first names rest : List (List ℕ)) → IsFrontOf first names → IsFrontOf (first ++ rest) names
 front_longer first names rest front =
-    record { rest = front.rest ++ rest; whole = sym (append_assoc names front.rest rest) ∙ ap (λ (all : List (List ℕ)). all ++ rest) front.whole }
+    record {
+      rest = front.rest ++ rest;
+      whole = sym (append_assoc names front.rest rest) ∙ ap (λ (all : List (List ℕ)). all ++ rest) front.whole;
+    }
 
 pub front_after : (name : List ℕ) (wanted names : List (List ℕ)) → IsFrontOf wanted names → IsFrontOf (name ∷ wanted) (name ∷ names)
 front_after name wanted names front = record { rest = front.rest; whole = ap (λ (all : List (List ℕ)). name ∷ all) front.whole }
@@ -46,11 +49,13 @@ asks_all shape stop names old new front some those seen = record {
 -- the last of the names that were asked for failed, or memory was wanting
 
 pub asks_fault : (shape : Shape) (names : List (List ℕ)) (old new : FilesSeen) → IsFrontOf shape.files names → HasName names
-    → IfSome old.told (λ held. IsFrontOf (names_of shape held) names) → new ≡ files_left_by AtFiles (asked_for_all names old) → Asks shape AtFiles old new
+    → IfSome old.told (λ held. IsFrontOf (names_of shape held) names) → new ≡ files_left_by AtFiles (asked_for_all names old)
+    → Asks shape AtFiles old new
 asks_fault shape names old new front some those seen = record {
   names = names;
   in_order = front;
-  those = each-map old.told (λ held. IsFrontOf (names_of shape held) names) (λ held. AsksAs AtFiles (names_of shape held) names) (λ held f. (f, some)) those;
+  those = each-map old.told (λ held. IsFrontOf (names_of shape held) names) (λ held. AsksAs AtFiles (names_of shape held) names)
+      (λ held f. (f, some)) those;
   seen = seen;
 }
 

@@ -1,8 +1,8 @@
 -- What `compile` leaves, by where it ends.
-use Rattle.std.proofs.Common.{◌≡◌, inl, inr, ℕ, Bool, true, false, List, [], ◌∷◌, ◌++◌, Option, None, Some, IfSome, Result, Ok, Err, refl, sym, ap, ◌∙◌, subst}
+use Rattle.std.proofs.Common.{◌≡◌, inl, inr, ℕ, true, false, List, [], ◌∷◌, Option, None, Some, IfSome, Result, Ok, Err, refl, sym, ap, ◌∙◌, subst}
 use Rattle.std.specs.Prelude.{IsSomeAnd, if◌then◌else◌}
 use Rattle.srx_edge.specs.Edge.{file_named}
-use Rattle.srx_edge.specs.FilesRead.{FilesSeen, asked_for, failed}
+use Rattle.srx_edge.specs.FilesRead.{FilesSeen, asked_for}
 use Rattle.srx_edge.specs.Sources.{SourceSeen}
 use Rattle.srx_edge.specs.Sinks.{SinkSeen, sent}
 use Rattle.srx_edge.specs.Steps.{Whole, How, Wrote}
@@ -19,13 +19,13 @@ use Rattle.srv6_cli.specs.declared.halt.Halt.TheVariants as halts
 use Rattle.srv6_cli.specs.declared.refusal.Refusal.{Refusal}
 use Rattle.srv6_cli.specs.declared.status.Status.{Status}
 use Rattle.srv6_cli.specs.declared.status.Status.TheVariants as statuses
-use Rattle.srv6_cli.specs.Answers.{bytes_of_line, ending_of_failure, JudgesFile, CommandsUnread}
+use Rattle.srv6_cli.specs.Answers.{bytes_of_text, ending_of_failure, JudgesFile, CommandsUnread}
 use Rattle.srv6_cli.specs.Command.{Compile}
-use Rattle.srv6_cli.specs.Compile.{AnswerWants, IntentWants, NetworkWants, asks_for_intent, reported, compile_shape}
+use Rattle.srv6_cli.specs.Compile.{AnswerWants, IntentWants, NetworkWants, asks_for_intent, compile_shape}
 use Rattle.srv6_cli.specs.Compiled.{output_of_answer, Gives}
 use Rattle.srv6_cli.specs.Judgements.{network_in, intent_in, refused}
-use Rattle.srv6_cli.specs.Outside.{IsFrontOf, AsksForFront, Asks, Reads, asked_for_all, files_left_by}
-use Rattle.srv6_cli.specs.Pieces.{Output, Stop, Never, AtFiles, AtInput, At, Elsewhere, ToOut}
+use Rattle.srv6_cli.specs.Outside.{IsFrontOf, Asks, Reads, asked_for_all, files_left_by}
+use Rattle.srv6_cli.specs.Pieces.{Output, Stop, Never, AtFiles, At, Elsewhere, ToOut}
 use Rattle.srv6_cli.specs.Serves.{ending_of_status, Takes}
 use Rattle.srv6_cli.specs.Shape.{Held, goes_on_with, names_of, WantedOf, IsOneOf}
 use Rattle.srv6_cli.proofs.Asking.{each, each-map, front_whole, front_longer, front_after, asks_all, asks_fault, asks_front}
@@ -38,11 +38,13 @@ some-map (Some text) P Q f p = f text p
 
 -- the names that are asked for, by the judgement of the description
 
-goes-on-ok : (net : Network) (o : Option (List ℕ)) → IsSomeAnd o (λ text. network_in text ≡ Ok net) → goes_on_with asks_for_intent [] o ≡ true
+goes-on-ok : (net : Network) (o : Option (List ℕ)) → IsSomeAnd o (λ text. network_in text ≡ Ok net)
+    → goes_on_with asks_for_intent [] o ≡ true
 goes-on-ok net None h = absurd h
 goes-on-ok net (Some text) h = rw h refl
 
-goes-on-refused : (refusal : Refusal) (o : Option (List ℕ)) → IsSomeAnd o (λ text. network_in text ≡ Err refusal) → goes_on_with asks_for_intent [] o ≡ false
+goes-on-refused : (refusal : Refusal) (o : Option (List ℕ)) → IsSomeAnd o (λ text. network_in text ≡ Err refusal)
+    → goes_on_with asks_for_intent [] o ≡ false
 goes-on-refused refusal None h = absurd h
 goes-on-refused refusal (Some text) h = rw h refl
 
@@ -54,7 +56,8 @@ answer-status status (inr (inl e)) = (ap ending_of_status e, inr (inr (inl e)))
 answer-status status (inr (inr none)) = absurd none
 
 module _ (file intent : List ℕ) where
-  names-ok : (net : Network) (told : Option Held) → IfSome told (λ held. IsSomeAnd (file_named held file) (λ text. network_in text ≡ Ok net))
+  names-ok : (net : Network) (told : Option Held)
+      → IfSome told (λ held. IsSomeAnd (file_named held file) (λ text. network_in text ≡ Ok net))
       → IfSome told (λ held. names_of (compile_shape file intent) held ≡ file ∷ intent ∷ [])
   names-ok net told h = each-map told (λ held. IsSomeAnd (file_named held file) (λ text. network_in text ≡ Ok net))
       (λ held. names_of (compile_shape file intent) held ≡ file ∷ intent ∷ [])
@@ -82,7 +85,12 @@ module _ (file intent : List ℕ) where
 
   takes : (stop : Stop) (f g : FilesSeen) (s : SourceSeen) → Asks (compile_shape file intent) stop f g → Reads stop s s
       → Takes (compile_shape file intent) stop f g s s
-  takes stop f g s asks reads = record { asks = asks; reads = reads; unread = each f.told (λ held. Unit {0} → s ≡ s) (λ held _. refl); reads_none = λ _. refl }
+  takes stop f g s asks reads = record {
+    asks = asks;
+    reads = reads;
+    unread = each f.told (λ held. Unit {0} → s ≡ s) (λ held _. refl);
+    reads_none = λ _. refl;
+  }
 
   -- the description was refused, wasn't read, or memory was wanting
   pub compile_halted_at_file : (f g : FilesSeen) (o : SinkSeen) (halt : Halt) → JudgesFile network_in file (Err halt) f g
@@ -94,7 +102,8 @@ module _ (file intent : List ℕ) where
       (names-refused refusal f.told h.0) h.1) refl)
   compile_halted_at_file f g o (halts.Failed failures.Fault) h = λ s. files_fault (Compile file intent) f g s o
       (takes AtFiles f g s (asks_fault (compile_shape file intent) (file ∷ []) f g (record { rest = intent ∷ []; whole = refl }) tt
-      (each f.told (λ held. IsFrontOf (names_of (compile_shape file intent) held) (file ∷ [])) (λ held. record { rest = behind held; whole = refl })) h) refl)
+      (each f.told (λ held. IsFrontOf (names_of (compile_shape file intent) held) (file ∷ []))
+      (λ held. record { rest = behind held; whole = refl })) h) refl)
   compile_halted_at_file f g o (halts.Failed failures.NoMemory) h = λ s. memory_wants (Compile file intent) f g s s o
       (takes Elsewhere f g s (asks_front (compile_shape file intent) h.names f g (front_longer (file ∷ []) h.names (intent ∷ []) h.front)
       (each f.told (λ held. IsFrontOf (names_of (compile_shape file intent) held) h.names)
@@ -112,7 +121,8 @@ module _ (file intent : List ℕ) where
         (of-first (λ held. NetworkWants (Ok net) (file_named held intent) output)
         (each-map mid.told (λ held. IsSomeAnd (file_named held intent) (λ text. intent_in net text ≡ read))
         (λ held. NetworkWants (Ok net) (file_named held intent) output)
-        (λ held there. some-map (file_named held intent) (λ text. intent_in net text ≡ read) (λ text. IntentWants net (intent_in net text) output)
+        (λ held there. some-map (file_named held intent) (λ text. intent_in net text ≡ read)
+        (λ text. IntentWants net (intent_in net text) output)
         (λ text is. subst (λ (r : Result Intent Refusal). IntentWants net r output) (sym is) w) there) h))
 
     -- both files were asked for
@@ -131,13 +141,15 @@ module _ (file intent : List ℕ) where
         (takes Elsewhere f g s (asks_front (compile_shape file intent) (file ∷ h.names) f g (front_after file (intent ∷ []) h.names h.front)
         (each-map f.told (λ held. names_of (compile_shape file intent) held ≡ file ∷ intent ∷ [])
         (λ held. IsFrontOf (names_of (compile_shape file intent) held) (file ∷ h.names))
-        (λ held e. subst (λ (names : List (List ℕ)). IsFrontOf names (file ∷ h.names)) (sym e) (front_after file (intent ∷ []) h.names h.front))
+        (λ held e. subst (λ (names : List (List ℕ)). IsFrontOf names (file ∷ h.names)) (sym e)
+        (front_after file (intent ∷ []) h.names h.front))
         (names-ok net f.told judged.0))
         (h.seen ∙ ap (asked_for_all h.names) judged.1)) refl)
 
     module _ (value : Intent) (read : JudgesFile (intent_in net) intent (Ok value) mid g) (compiled : Result Compiled CompileFault)
         (answers : CompileAnswers net value compiled) where
-      wants-answer : (left : Option (List ℕ)) (output : Output) → AnswerWants compiled output → WantedOf (compile_shape file intent) f.told left output
+      wants-answer : (left : Option (List ℕ)) (output : Output) → AnswerWants compiled output
+          → WantedOf (compile_shape file intent) f.told left output
       wants-answer left output w = wants-intent (Ok value) left output read.0 (compiled, answers, w)
 
       -- the network isn't flat, or memory was wanting
@@ -154,14 +166,15 @@ module _ (file intent : List ℕ) where
         takes-how s (Some how) = takes (At ToOut how) f g s (asks-both (At ToOut how) read.1) refl
 
         -- the report didn't go out whole
-        pub compile_halted_at_out : (failure : Failure) → Wrote (ending_of_failure failure) answer.report.items o p
+        pub compile_halted_at_out : (failure : Failure) → Wrote (ending_of_failure failure) (bytes_of_text answer.report) o p
             → CommandsUnread (Compile file intent) (Err (halts.Failed failure)) f g o p
-        compile_halted_at_out failure wrote = λ s. written_cut (Compile file intent) failure answer.report.items (bytes_of_line answer.told.line)
+        compile_halted_at_out failure wrote = λ s. written_cut (Compile file intent) failure
+            (bytes_of_text answer.report) (bytes_of_text answer.told.line)
             answer.told.status f g s s o p wrote (wants-answer s.left (output_of_answer answer) gives.0) (takes-how s)
 
         -- it did
-        pub compile_done : p ≡ sent answer.report.items o → CommandsUnread (Compile file intent) (Ok answer.told) f g o p
-        compile_done went = λ s. written_whole (Compile file intent) answer.told answer.report.items f g s s o p went
+        pub compile_done : p ≡ sent (bytes_of_text answer.report) o → CommandsUnread (Compile file intent) (Ok answer.told) f g o p
+        compile_done went = λ s. written_whole (Compile file intent) answer.told (bytes_of_text answer.report) f g s s o p went
             (wants-answer s.left (output_of_answer answer) gives.0)
             (answer-status answer.told.status gives.1).0 (answer-status answer.told.status gives.1).1
             (takes Never f g s (asks-both Never read.1) refl) (λ _ no. cc)

@@ -1,5 +1,5 @@
 -- What files and the input give, as they were judged.
-use Rattle.std.proofs.Common.{◌≡◌, ℕ, ◌<◌, ◌≤◌, IsTrue, true, false, List, [], ◌∷◌, ◌++◌, length, nat_lt, Option, None, Some, IfSome, Result, Ok, Err, Vec, refl, sym, ap, subst, rules}
+use Rattle.std.proofs.Common.{◌≡◌, ℕ, ◌<◌, ◌≤◌, true, false, List, [], ◌∷◌, length, nat_lt, Option, None, Some, IfSome, Result, Ok, Err, refl, sym, ap, subst, rules}
 use Rattle.std.proofs.lemmas.Bool.{le-ltb}
 use Rattle.std.specs.Prelude.{IsSomeAnd}
 use Rattle.srx_edge.specs.Edge.{file_named}
@@ -22,10 +22,11 @@ use Rattle.srv6_cli.specs.declared.refusal.Refusal.TheVariants as refusals
 use Rattle.srv6_cli.specs.Answers.{JudgesFile, JudgesInput}
 use Rattle.srv6_cli.specs.Halts.{halt_of_net, halt_of_intent, halt_of_draw, halt_of_refusal}
 use Rattle.srv6_cli.specs.Judgements.{network_in, intent_in, content_in, is_bare}
-use Rattle.srv6_cli.specs.Outside.{IsFrontOf, AsksForFront}
+use Rattle.srv6_cli.specs.Outside.{AsksForFront}
 
 -- what is told of a text that was read is told of the judgement of it
-judged-text : {A : Type 0} (judge : List ℕ → Result A Refusal) (judged : Result A Refusal) (text name : List ℕ) (told : Option (List (List ℕ × List ℕ)))
+judged-text : {A : Type 0} (judge : List ℕ → Result A Refusal) (judged : Result A Refusal) (text name : List ℕ)
+    (told : Option (List (List ℕ × List ℕ)))
     → IfSome told (λ files. file_named files name ≡ Some text) → judge text ≡ judged
     → IfSome told (λ held. IsSomeAnd (file_named held name) (λ t. judge t ≡ judged))
 judged-text judge judged text name None reads is = tt
@@ -96,16 +97,19 @@ content_in-other input h bare =
 pub ruleset contents = (content_in-bare, content_in-other)
 
 -- what was drawn is what was left
-drawn : (judged : Result Content Refusal) (bytes : List ℕ) (left : Option (List ℕ)) → IfSome left (λ input. bytes ≡ input) → content_in bytes ≡ judged
+drawn : (judged : Result Content Refusal) (bytes : List ℕ) (left : Option (List ℕ)) → IfSome left (λ input. bytes ≡ input)
+    → content_in bytes ≡ judged
     → IfSome left (λ input. content_in input ≡ judged)
 drawn judged bytes None all is = tt
 drawn judged bytes (Some input) all is = subst (λ (b : List ℕ). content_in b ≡ judged) all is
 
-pub content_judged : (content : Content) (bytes : List ℕ) (old new : SourceSeen) → IfSome old.left (λ input. bytes ≡ input) → new ≡ drained old
+pub content_judged : (content : Content) (bytes : List ℕ) (old new : SourceSeen) → IfSome old.left (λ input. bytes ≡ input)
+    → new ≡ drained old
     → content_in bytes ≡ Ok content → JudgesInput content_in (Ok content) old new
 content_judged content bytes old new all seen is = (drawn (Ok content) bytes old.left all is, seen)
 
-pub content_refused : (refusal : Refusal) (bytes : List ℕ) (old new : SourceSeen) → IfSome old.left (λ input. bytes ≡ input) → new ≡ drained old
+pub content_refused : (refusal : Refusal) (bytes : List ℕ) (old new : SourceSeen) → IfSome old.left (λ input. bytes ≡ input)
+    → new ≡ drained old
     → content_in bytes ≡ Err refusal → JudgesInput content_in (Err (halt_of_refusal refusal)) old new
 content_refused refusal bytes old new all seen is = (drawn (Err refusal) bytes old.left all is, ap (λ (s : SourceSeen). s.faults) seen)
 

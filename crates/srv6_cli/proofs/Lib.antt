@@ -8,3 +8,5 @@ pub mod Commanding
 pub mod Running
 pub mod Compiling
 pub mod Serving
+pub mod Stops
+pub mod Consequences

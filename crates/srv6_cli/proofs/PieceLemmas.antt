@@ -40,15 +40,18 @@ pub ending_by-stop_at : (sink : Which) (how : Option How) → ending_by (stop_at
 ending_by-stop_at sink None = refl
 ending_by-stop_at sink (Some how) = refl
 
-bytes-piece : (sink : Which) (bytes : List ℕ) (more : List Piece) → bytes_in_order (piece_for sink bytes ∷ more) ≡ marked sink bytes ++ bytes_in_order more
+bytes-piece : (sink : Which) (bytes : List ℕ) (more : List Piece)
+    → bytes_in_order (piece_for sink bytes ∷ more) ≡ marked sink bytes ++ bytes_in_order more
 bytes-piece ToOut bytes more = refl
 bytes-piece ToErr bytes more = refl
 
-gone-piece : (sink : Which) (bytes : List ℕ) (sinks : Sinks) → gone (piece_for sink bytes ∷ []) sinks ≡ with_seen sink (sent bytes (seen_of sink sinks)) sinks
+gone-piece : (sink : Which) (bytes : List ℕ) (sinks : Sinks)
+    → gone (piece_for sink bytes ∷ []) sinks ≡ with_seen sink (sent bytes (seen_of sink sinks)) sinks
 gone-piece ToOut bytes sinks = refl
 gone-piece ToErr bytes sinks = refl
 
-left_by-with_seen : (sink : Which) (how : How) (seen : SinkSeen) (sinks : Sinks) → left_by sink how (with_seen sink seen sinks) ≡ with_seen sink (stopped_by how seen) sinks
+left_by-with_seen : (sink : Which) (how : How) (seen : SinkSeen) (sinks : Sinks)
+    → left_by sink how (with_seen sink seen sinks) ≡ with_seen sink (stopped_by how seen) sinks
 left_by-with_seen ToOut how seen sinks = refl
 left_by-with_seen ToErr how seen sinks = refl
 
@@ -56,17 +59,22 @@ left_by-with_seen ToErr how seen sinks = refl
 gone-front : (sink : Which) (before : List Piece) (first : List ℕ) (old mid : Sinks) → mid ≡ gone before old
     → with_seen sink (sent first (seen_of sink mid)) mid ≡ gone (before ++ piece_for sink first ∷ []) old
 gone-front sink before first old mid went =
-    sym (gone-piece sink first mid) ∙ (ap (gone (piece_for sink first ∷ [])) went ∙ sym (gone-append before (piece_for sink first ∷ []) old))
+    sym (gone-piece sink first mid)
+    ∙ (ap (gone (piece_for sink first ∷ [])) went ∙ sym (gone-append before (piece_for sink first ∷ []) old))
 
 -- of one piece among others only the first bytes went out
 bytes-cut : (sink : Which) (before more : List Piece) (bytes first rest : List ℕ) → first ++ rest ≡ bytes
-    → bytes_in_order (before ++ piece_for sink first ∷ []) ++ (marked sink rest ++ bytes_in_order more) ≡ bytes_in_order (before ++ piece_for sink bytes ∷ more)
+    → bytes_in_order (before ++ piece_for sink first ∷ []) ++ (marked sink rest ++ bytes_in_order more)
+    ≡ bytes_in_order (before ++ piece_for sink bytes ∷ more)
 bytes-cut sink before more bytes first rest whole =
     let front : bytes_in_order (before ++ piece_for sink first ∷ []) ≡ bytes_in_order before ++ (marked sink first ++ []) =
-    bytes_in_order-append before (piece_for sink first ∷ []) ∙ ap (λ (b : List (Which × ℕ)). bytes_in_order before ++ b) (bytes-piece sink first []) in
+    bytes_in_order-append before (piece_for sink first ∷ [])
+    ∙ ap (λ (b : List (Which × ℕ)). bytes_in_order before ++ b) (bytes-piece sink first []) in
     let all : bytes_in_order (before ++ piece_for sink bytes ∷ more) ≡ bytes_in_order before ++ (marked sink bytes ++ bytes_in_order more) =
-    bytes_in_order-append before (piece_for sink bytes ∷ more) ∙ ap (λ (b : List (Which × ℕ)). bytes_in_order before ++ b) (bytes-piece sink bytes more) in
-    let parts : marked sink bytes ≡ marked sink first ++ marked sink rest = ap (marked sink) (sym whole) ∙ map-append (λ byte. (sink, byte)) first rest in
+    bytes_in_order-append before (piece_for sink bytes ∷ more)
+    ∙ ap (λ (b : List (Which × ℕ)). bytes_in_order before ++ b) (bytes-piece sink bytes more) in
+    let parts : marked sink bytes ≡ marked sink first ++ marked sink rest =
+    ap (marked sink) (sym whole) ∙ map-append (λ byte. (sink, byte)) first rest in
     rw (front, all, parts, append-nil) (simp append_assoc)
 
 -- a step on a sink ended early, once the pieces before had gone out
@@ -86,7 +94,8 @@ went-how sink (Some how) before more bytes first (byte ∷ rest) old mid new wen
   whole = bytes-cut sink before more bytes first (byte ∷ rest) whole;
   next = refl;
   sinks = ap (λ (s : SinkSeen). with_seen sink s mid) seen
-      ∙ (sym (left_by-with_seen sink how (sent first (seen_of sink mid)) mid) ∙ ap (left_by sink how) (gone-front sink before first old mid went));
+      ∙ (sym (left_by-with_seen sink how (sent first (seen_of sink mid)) mid)
+      ∙ ap (left_by sink how) (gone-front sink before first old mid went));
 }
 
 pub went_cut : (sink : Which) (ending : Ending) (before more : List Piece) (bytes : List ℕ) (old mid : Sinks) (new : SinkSeen)

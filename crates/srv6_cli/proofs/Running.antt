@@ -1,23 +1,23 @@
 -- What `run` leaves, by where it ends.
-use Rattle.std.proofs.Common.{◌≡◌, inl, inr, ℕ, Bool, true, false, List, [], ◌∷◌, ◌++◌, Option, None, Some, IfSome, Result, Ok, Err, Vec, Global, refl, sym, ap, ◌∙◌, subst}
-use Rattle.std.specs.Prelude.{IsSomeAnd}
+use Rattle.std.proofs.Common.{◌≡◌, inl, inr, ℕ, true, false, List, [], ◌∷◌, ◌++◌, Option, None, Some, IfSome, Ok, Err, refl, sym, ap, subst}
+use Rattle.std.specs.Prelude.{IsSomeAnd, String, string_bytes}
+use Rattle.std.specs.declared.alloc.Global.{Global}
 use Rattle.srx_edge.specs.Edge.{file_named}
-use Rattle.srx_edge.specs.FilesRead.{FilesSeen, asked_for, failed}
-use Rattle.srx_edge.specs.Sources.{SourceSeen, drained}
+use Rattle.srx_edge.specs.FilesRead.{FilesSeen, asked_for}
+use Rattle.srx_edge.specs.Sources.{SourceSeen}
 use Rattle.srx_edge.specs.Sinks.{SinkSeen, sent}
 use Rattle.srx_edge.specs.Steps.{How, Wrote}
 use Rattle.srv6_rules.specs.Packet.{Content}
 use Rattle.net_model.specs.Network.{Network}
-use Rattle.walk_rules.specs.Walk.{Step, end_of}
+use Rattle.walk_rules.specs.Walk.{end_of}
 use Rattle.srv6_cli.specs.declared.halt.Failure.{Failure}
 use Rattle.srv6_cli.specs.declared.halt.Failure.TheVariants as failures
 use Rattle.srv6_cli.specs.declared.halt.Halt.{Halt}
 use Rattle.srv6_cli.specs.declared.halt.Halt.TheVariants as halts
 use Rattle.srv6_cli.specs.declared.refusal.Refusal.{Refusal}
 use Rattle.srv6_cli.specs.declared.status.Status.TheVariants as statuses
-use Rattle.srv6_cli.specs.declared.told.Line.TheVariants as lines
-use Rattle.srv6_cli.specs.declared.told.Told.{Told}
-use Rattle.srv6_cli.specs.Answers.{ending_of_failure, FileGives, JudgesFile, JudgesInput, CommandsOut}
+use Rattle.srv6_cli.specs.declared.told.Text.TheVariants as texts
+use Rattle.srv6_cli.specs.Answers.{ending_of_failure, JudgesFile, JudgesInput, CommandsOut}
 use Rattle.srv6_cli.specs.Capture.{capture_head, frames_of}
 use Rattle.srv6_cli.specs.Command.{Run}
 use Rattle.srv6_cli.specs.Judgements.{network_in, node_in, content_in, refused}
@@ -49,7 +49,8 @@ any-input : (left : Option (List ℕ)) → IfSome left (λ input. Unit {0})
 any-input None = tt
 any-input (Some input) = tt
 
-asks-file : (file name : List ℕ) (stop : Stop) (f g : FilesSeen) → g ≡ files_left_by stop (asked_for file f) → Asks (run_shape file name) stop f g
+asks-file : (file name : List ℕ) (stop : Stop) (f g : FilesSeen) → g ≡ files_left_by stop (asked_for file f)
+    → Asks (run_shape file name) stop f g
 asks-file file name stop f g seen = asks_all (run_shape file name) stop (file ∷ []) f g (front_whole (file ∷ [])) tt
     (each f.told (λ held. names_of (run_shape file name) held ≡ file ∷ []) (λ held. refl)) seen
 
@@ -67,7 +68,8 @@ module _ (file name : List ℕ) (f g : FilesSeen) (s t : SourceSeen) (o p : Sink
   -- the file was refused, wasn't read, or memory was wanting
   pub run_halted_at_file : (halt : Halt) → JudgesFile network_in file (Err halt) f g → CommandsOut (Run file name) (Err halt) f g s s o o
   run_halted_at_file (halts.Refused refusal) h = refused_commands (Run file name) refusal f g s s o
-      (run-wants f.told s.left file name (λ text. network_in text ≡ Err refusal) (λ input. Unit {0}) (refused refusal) h.0 (any-input s.left)
+      (run-wants f.told s.left file name (λ text. network_in text ≡ Err refusal) (λ input. Unit {0}) (refused refusal)
+      h.0 (any-input s.left)
       (λ text input is _. rw is refl))
       (inr (inl refl)) (takes-unread file name Never f g s (asks-file file name Never f g h.1) refl)
   run_halted_at_file (halts.Failed failures.Fault) h =
@@ -81,7 +83,8 @@ module _ (file name : List ℕ) (f g : FilesSeen) (s t : SourceSeen) (o p : Sink
     pub run_halted_at_node : (refusal : Refusal) → node_in net name ≡ Err refusal
         → CommandsOut (Run file name) (Err (halts.Refused refusal)) f g s s o o
     run_halted_at_node refusal node = refused_commands (Run file name) refusal f g s s o
-        (run-wants f.told s.left file name (λ text. network_in text ≡ Ok net) (λ input. Unit {0}) (refused refusal) judged.0 (any-input s.left)
+        (run-wants f.told s.left file name (λ text. network_in text ≡ Ok net) (λ input. Unit {0}) (refused refusal)
+        judged.0 (any-input s.left)
         (λ text input is _. rw (is, node) refl))
         (inr (inl refl)) (takes-unread file name Never f g s (asks-file file name Never f g judged.1) refl)
 
@@ -131,18 +134,19 @@ module _ (file name : List ℕ) (f g : FilesSeen) (s t : SourceSeen) (o p : Sink
         takes-how (Some how) = takes (At ToOut how) judged.1 reads
 
         -- the walk didn't go out whole, or memory was wanting for its line
-        pub run_halted_at_out : (failure : Failure) → Wrote (ending_of_failure failure) (capture_head ++ frames_of 1 (walk_from net node no_choices content)) o p
+        pub run_halted_at_out : (failure : Failure)
+            → Wrote (ending_of_failure failure) (capture_head ++ frames_of 1 (walk_from net node no_choices content)) o p
             → CommandsOut (Run file name) (Err (halts.Failed failure)) f g s t o p
         run_halted_at_out failure wrote =
             written_cut (Run file name) failure (capture_head ++ frames_of 1 (walk_from net node no_choices content))
             (packet_line net 1 (end_of net (walk_from net node no_choices content))) statuses.Done f g s t o p wrote wanted takes-how
 
         -- the walk went out whole
-        pub run_done : (told : Vec ℕ Global) → told.items ≡ packet_line net 1 (end_of net (walk_from net node no_choices content))
+        pub run_done : (told : String Global) → string_bytes told ≡ packet_line net 1 (end_of net (walk_from net node no_choices content))
             → p ≡ sent (capture_head ++ frames_of 1 (walk_from net node no_choices content)) o
-            → CommandsOut (Run file name) (Ok (record { line = lines.Made told; status = statuses.Done })) f g s t o p
+            → CommandsOut (Run file name) (Ok (record { line = texts.Made told; status = statuses.Done })) f g s t o p
         run_done told is went =
-            written_whole (Run file name) (record { line = lines.Made told; status = statuses.Done })
+            written_whole (Run file name) (record { line = texts.Made told; status = statuses.Done })
             (capture_head ++ frames_of 1 (walk_from net node no_choices content)) f g s t o p went
             (subst (λ (l : List ℕ). WantedOf (run_shape file name) f.told s.left
             (written (capture_head ++ frames_of 1 (walk_from net node no_choices content)) l statuses.Done)) (sym is) wanted)

@@ -1,19 +1,19 @@
 -- From what a command leaves, and its last line, to what `serve` leaves.
-use Rattle.std.proofs.Common.{◌≡◌, ◌⊎◌, inl, inr, ℕ, Bool, true, List, [], ◌∷◌, ◌++◌, Option, None, Some, IfSome, IfOk, Result, Ok, Err, refl, sym, ap, ◌∙◌, subst, append-nil}
+use Rattle.std.proofs.Common.{◌≡◌, inr, ℕ, true, List, [], ◌∷◌, Option, None, Some, IfSome, IfOk, Result, Ok, Err, refl, sym, ap, ◌∙◌, subst, append-nil}
 use Rattle.srx_edge.specs.FilesRead.{FilesSeen}
 use Rattle.srx_edge.specs.Sources.{SourceSeen, drained}
 use Rattle.srx_edge.specs.Sinks.{SinkSeen, sent}
-use Rattle.srx_edge.specs.Steps.{Ending, Whole, Fault, Memory, How, Failing, Wanting, ending_of as ending_of_how, Cut as CutBytes, Wrote}
+use Rattle.srx_edge.specs.Steps.{Ending, Whole, Fault, Memory, How, Failing, Wanting, Cut as CutBytes, Wrote}
 use Rattle.srv6_cli.specs.declared.halt.Failure.TheVariants as failures
 use Rattle.srv6_cli.specs.declared.halt.Halt.{Halt}
 use Rattle.srv6_cli.specs.declared.halt.Halt.TheVariants as halts
 use Rattle.srv6_cli.specs.declared.status.Status.{Status}
 use Rattle.srv6_cli.specs.declared.status.Status.TheVariants as statuses
 use Rattle.srv6_cli.specs.declared.told.Told.{Told}
-use Rattle.srv6_cli.specs.Answers.{bytes_of_line, EndsWith, Commands, Tells, Concludes}
+use Rattle.srv6_cli.specs.Answers.{bytes_of_text, EndsWith, Commands, Tells, Concludes}
 use Rattle.srv6_cli.specs.Command.{Command, shape_of}
 use Rattle.srv6_cli.specs.Lines.{refusal_line}
-use Rattle.srv6_cli.specs.Outside.{Outside, HasName, IsFrontOf, Asks, AsksAs, Reads, asked_for_all, files_left_by}
+use Rattle.srv6_cli.specs.Outside.{Outside, AsksAs, Reads, asked_for_all, files_left_by}
 use Rattle.srv6_cli.specs.Pieces.{ForErr, ToErr, Output, Sinks, Stop, Never, AtFiles, AtInput, At, Elsewhere, ending_by, gone, Went}
 use Rattle.srv6_cli.specs.Serves.{ending_of_status, OnWhole, OrNothing, LinesLast, Takes, Serves}
 use Rattle.srv6_cli.specs.Shape.{Shape, names_of, WantedOf, IsOneOf}
@@ -44,7 +44,8 @@ asks-as None wanted names e = record { rest = []; whole = append-nil names ∙ e
 asks-as (Some how) wanted names e = e
 
 asks-told : (shape : Shape) (how : Option How) (names : List (List ℕ)) (told : Option (List (List ℕ × List ℕ)))
-    → IfSome told (λ held. AsksAs Never (names_of shape held) names) → IfSome told (λ held. AsksAs (stop_at ToErr how) (names_of shape held) names)
+    → IfSome told (λ held. AsksAs Never (names_of shape held) names)
+    → IfSome told (λ held. AsksAs (stop_at ToErr how) (names_of shape held) names)
 asks-told shape how names None h = tt
 asks-told shape how names (Some held) h = asks-as how (names_of shape held) names h
 
@@ -56,7 +57,8 @@ reads-on : (how : Option How) (old new : SourceSeen) → Reads Never old new →
 reads-on None old new h = h
 reads-on (Some how) old new h = h
 
-takes-on : (shape : Shape) (how : Option How) (f g : FilesSeen) (s t : SourceSeen) → Takes shape Never f g s t → Takes shape (stop_at ToErr how) f g s t
+takes-on : (shape : Shape) (how : Option How) (f g : FilesSeen) (s t : SourceSeen) → Takes shape Never f g s t
+    → Takes shape (stop_at ToErr how) f g s t
 takes-on shape how f g s t takes = record {
   asks = record {
     names = takes.asks.names;
@@ -106,8 +108,10 @@ line-whole command last own status old mid err e whole is went = record {
 }
 
 -- only a front of it did, or none
-line-cut : (command : Command) (last : List ℕ) (own status : Status) (old mid : Outside) (err : SinkSeen) (ending : Ending) → Ended command last own old mid
-    → ending_of_status status ≡ ending → (ending ≡ Whole → ⊥) → CutBytes ending last mid.sinks.err err → Serves command status old (with_err err mid)
+line-cut : (command : Command) (last : List ℕ) (own status : Status) (old mid : Outside) (err : SinkSeen) (ending : Ending)
+    → Ended command last own old mid
+    → ending_of_status status ≡ ending → (ending ≡ Whole → ⊥) → CutBytes ending last mid.sinks.err err
+    → Serves command status old (with_err err mid)
 line-cut command last own status old mid err ending e is early cut = record {
   stop = stop_at ToErr cut.how;
   ending = ending_by-stop_at ToErr cut.how ∙ (cut.ends ∙ sym is);
@@ -122,14 +126,19 @@ line-cut command last own status old mid err ending e is early cut = record {
   read_to_end = λ done. absurd (early (sym is ∙ ap ending_of_status done));
 }
 
-line-ends : (command : Command) (last : List ℕ) (own status : Status) (old mid : Outside) (err : SinkSeen) (ending : Ending) → Ended command last own old mid
-    → ending_of_status status ≡ ending → Wrote ending last mid.sinks.err err → OnWhole ending (status ≡ own) → Serves command status old (with_err err mid)
+line-ends : (command : Command) (last : List ℕ) (own status : Status) (old mid : Outside) (err : SinkSeen) (ending : Ending)
+    → Ended command last own old mid
+    → ending_of_status status ≡ ending → Wrote ending last mid.sinks.err err → OnWhole ending (status ≡ own)
+    → Serves command status old (with_err err mid)
 line-ends command last own status old mid err Whole e is wrote own' = line-whole command last own status old mid err e is own' wrote
-line-ends command last own status old mid err Fault e is wrote own' = line-cut command last own status old mid err Fault e is (λ no. cc) wrote
-line-ends command last own status old mid err Memory e is wrote own' = line-cut command last own status old mid err Memory e is (λ no. cc) wrote
+line-ends command last own status old mid err Fault e is wrote own' =
+    line-cut command last own status old mid err Fault e is (λ no. cc) wrote
+line-ends command last own status old mid err Memory e is wrote own' =
+    line-cut command last own status old mid err Memory e is (λ no. cc) wrote
 
 -- a step wasn't done, so nothing more is written
-failed-serves : (command : Command) (status : Status) (old mid : Outside) (stop : Stop) (output : Output) → ending_by stop ≡ ending_of_status status
+failed-serves : (command : Command) (status : Status) (old mid : Outside) (stop : Stop) (output : Output)
+    → ending_by stop ≡ ending_of_status status
     → (ending_of_status status ≡ Whole → ⊥) → OrNothing stop output (WantedOf (shape_of command) old.files.told old.input.left output)
     → Went stop output.pieces old.sinks mid.sinks → LinesLast stop old.sinks mid.sinks
     → Takes (shape_of command) stop old.files mid.files old.input mid.input → Serves command status old mid
@@ -155,7 +164,8 @@ line-serves : (command : Command) (last : List ℕ) (own status : Status) (old m
     → Tells last own status mid.sinks.err err → Serves command status old (with_err err mid)
 line-serves command last own status old mid err Never output is wanted ends own' takes read tells =
     line-ends command last own status old mid err (ending_of_status status)
-    (record { output = output; wanted = wanted; ends = ends; status_own = own'; takes = takes; read_to_end = read }) refl tells.wrote tells.whole
+    (record { output = output; wanted = wanted; ends = ends; status_own = own'; takes = takes; read_to_end = read })
+    refl tells.wrote tells.whole
 line-serves command last own status old mid err AtFiles output is wanted ends own' takes read tells = cc
 line-serves command last own status old mid err AtInput output is wanted ends own' takes read tells = cc
 line-serves command last own status old mid err (At sink Failing) output is wanted ends own' takes read tells = cc
@@ -166,9 +176,11 @@ line-serves command last own status old mid err Elsewhere output is wanted ends 
 pub serves : (command : Command) (answer : Result Told Halt) (status : Status) (old mid : Outside) (err : SinkSeen)
     → Commands command answer old mid → Concludes answer status mid.sinks.err err → Serves command status old (with_err err mid)
 serves command (Ok told) status old mid err c tells =
-    line-serves command (bytes_of_line told.line) told.status status old mid err c.stop c.output c.ending c.wanted c.went c.status_own c.takes c.read_to_end tells
+    line-serves command (bytes_of_text told.line) told.status status old mid err
+    c.stop c.output c.ending c.wanted c.went c.status_own c.takes c.read_to_end tells
 serves command (Err (halts.Refused refusal)) status old mid err c tells =
-    line-serves command (refusal_line refusal) statuses.Refused status old mid err c.stop c.output c.ending c.wanted c.went c.status_own c.takes c.read_to_end tells
+    line-serves command (refusal_line refusal) statuses.Refused status old mid err
+    c.stop c.output c.ending c.wanted c.went c.status_own c.takes c.read_to_end tells
 serves command (Err (halts.Failed failures.Fault)) status old mid err c is =
     subst (λ (s : Status). Serves command s old (with_err err mid)) (sym is.0)
     (subst (λ (e : SinkSeen). Serves command statuses.OutsideFault old (with_err e mid)) (sym is.1)

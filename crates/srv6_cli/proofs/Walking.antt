@@ -11,10 +11,10 @@ use Rattle.walk_rules.specs.declared.place.Outcome.TheVariants as outcomes
 use Rattle.walk_rules.specs.declared.place.Ended.TheVariants as ends
 use Rattle.walk_rules.specs.Treatment.{Gave, step_of}
 use Rattle.walk_rules.specs.Walk.{Step, walk_of, far_end, arrival, next_place, decisions, left_or_stages, end_by, end_of}
-use Rattle.walk_rules.proofs.Walks.{walk_of-suc, walk_of-zero, walk_of-none}
+use Rattle.walk_rules.proofs.PublicLaws.{walk_of-suc, walk_of-zero, walk_of-none}
 use Rattle.srv6_cli.specs.declared.halt.Failure.{Failure}
 use Rattle.srv6_cli.specs.Answers.{ending_of_failure}
-use Rattle.srv6_cli.specs.Capture.{frames_of, frames_of_gave}
+use Rattle.srv6_cli.specs.Capture.{frames_of, frame_of_gave}
 use Rattle.srv6_cli.proofs.Writing.{wrote_longer, wrote_after}
 
 -- of a whole walk some stages are left: what went out before is a front of its frames, and its end is theirs
@@ -34,40 +34,43 @@ arrives None place next link h = cc
 arrives (Some node) place next link h = refl
 
 -- a packet that goes on hasn't ended
-goes_on : (net : Network) (place next : Place) (outcome : Outcome) → next_place net place outcome ≡ Some next → end_by net place outcome ≡ ends.Stages
+goes_on : (net : Network) (place next : Place) (outcome : Outcome) → next_place net place outcome ≡ Some next
+    → end_by net place outcome ≡ ends.Stages
 goes_on net place next (outcomes.Again sid how) h = refl
 goes_on net place next (outcomes.Hand sid how family) h = refl
 goes_on net place next (outcomes.Send link) h = arrives (far_end (slice_get net.links link)) place next link h
 goes_on net place next outcomes.Local h = cc
-goes_on net place next (outcomes.Drop reason) h = cc
+goes_on net place next (outcomes.Drop reason told) h = cc
 
 -- the end of a walk that goes on after its first stage is that of the rest
-end_of-cons : (net : Network) (s : Step) (rest : List Step) → end_by net s.place s.gave.outcome ≡ ends.Stages → end_of net (s ∷ rest) ≡ end_of net rest
+end_of-cons : (net : Network) (s : Step) (rest : List Step) → end_by net s.place s.gave.outcome ≡ ends.Stages
+    → end_of net (s ∷ rest) ≡ end_of net rest
 end_of-cons net s [] h = h
 end_of-cons net s (t ∷ rest) h = refl
 
 module _ (net : Network) (left whole rest : List Step) (s : Step) (first now later : SinkSeen) (begins : left ≡ s ∷ rest)
     (p : Progress net left whole first now) where
   -- what went out, and then the stage's frames and those of the rest
-  frames-on : (p.bytes ++ frames_of_gave 1 s.gave) ++ frames_of 1 rest ≡ frames_of 1 whole
-  frames-on = append_assoc p.bytes (frames_of_gave 1 s.gave) (frames_of 1 rest)
+  frames-on : (p.bytes ++ frame_of_gave 1 s.gave) ++ frames_of 1 rest ≡ frames_of 1 whole
+  frames-on = append_assoc p.bytes (frame_of_gave 1 s.gave) (frames_of 1 rest)
       ∙ (ap (λ (steps : List Step). p.bytes ++ frames_of 1 steps) (sym begins) ∙ p.frames)
 
   -- after a stage whose frames went out
-  pub progress_on : end_by net s.place s.gave.outcome ≡ ends.Stages → later ≡ sent (frames_of_gave 1 s.gave) now → Progress net rest whole first later
+  pub progress_on : end_by net s.place s.gave.outcome ≡ ends.Stages → later ≡ sent (frame_of_gave 1 s.gave) now
+      → Progress net rest whole first later
   progress_on goes went = record {
-    bytes = p.bytes ++ frames_of_gave 1 s.gave;
-    seen = sent_both p.bytes (frames_of_gave 1 s.gave) first now later p.seen went;
+    bytes = p.bytes ++ frame_of_gave 1 s.gave;
+    seen = sent_both p.bytes (frame_of_gave 1 s.gave) first now later p.seen went;
     frames = frames-on;
     ends = sym (end_of-cons net s rest goes) ∙ (ap (end_of net) (sym begins) ∙ p.ends);
   }
 
   -- frames that went out in part
-  pub progress_cut : (failure : Failure) → Wrote (ending_of_failure failure) (frames_of_gave 1 s.gave) now later
+  pub progress_cut : (failure : Failure) → Wrote (ending_of_failure failure) (frame_of_gave 1 s.gave) now later
       → Wrote (ending_of_failure failure) (frames_of 1 whole) first later
   progress_cut failure wrote = subst (λ (bytes : List ℕ). Wrote (ending_of_failure failure) bytes first later) frames-on
-      (wrote_longer failure (p.bytes ++ frames_of_gave 1 s.gave) (frames_of 1 rest) first later
-      (wrote_after failure p.bytes (frames_of_gave 1 s.gave) first now later p.seen wrote))
+      (wrote_longer failure (p.bytes ++ frame_of_gave 1 s.gave) (frames_of 1 rest) first later
+      (wrote_after failure p.bytes (frame_of_gave 1 s.gave) first now later p.seen wrote))
 
 -- no stage is left: all went out, and the walk ended as the last stage did
 
@@ -79,12 +82,14 @@ progress_stops net left whole first now none p = (
   ap (end_of net) (sym none) ∙ p.ends,
 )
 
-pub progress_ends : (net : Network) (left whole : List Step) (s : Step) (first now later : SinkSeen) → left ≡ s ∷ [] → Progress net left whole first now
-    → later ≡ sent (frames_of_gave 1 s.gave) now → (later ≡ sent (frames_of 1 whole) first) × (end_by net s.place s.gave.outcome ≡ end_of net whole)
+pub progress_ends : (net : Network) (left whole : List Step) (s : Step) (first now later : SinkSeen) → left ≡ s ∷ []
+    → Progress net left whole first now
+    → later ≡ sent (frame_of_gave 1 s.gave) now
+    → (later ≡ sent (frames_of 1 whole) first) × (end_by net s.place s.gave.outcome ≡ end_of net whole)
 progress_ends net left whole s first now later last p went = (
-  sent_both p.bytes (frames_of_gave 1 s.gave) first now later p.seen went
+  sent_both p.bytes (frame_of_gave 1 s.gave) first now later p.seen went
       ∙ ap (λ (bytes : List ℕ). sent bytes first)
-      (sym (append-nil (p.bytes ++ frames_of_gave 1 s.gave)) ∙ frames-on net left whole [] s first now later last p),
+      (sym (append-nil (p.bytes ++ frame_of_gave 1 s.gave)) ∙ frames-on net left whole [] s first now later last p),
   ap (end_of net) (sym last) ∙ p.ends,
 )
 
@@ -99,11 +104,13 @@ module _ (net : Network) (all more : ℕ) (place : Place) (content : Content) (p
       ≡ step_by ∷ walk_of more net (next_place net place gave.outcome) gave.after pick (taken + decisions gave.outcome)
   walk_begins = ap (λ (n : ℕ). walk_of n net (Some place) content pick taken) is
       ∙ subst (λ (g : Gave). walk_of (suc more) net (Some place) content pick taken
-      ≡ record { place = place; before = content; gave = g } ∷ walk_of more net (next_place net place g.outcome) g.after pick (taken + decisions g.outcome))
+      ≡ record { place = place; before = content; gave = g }
+      ∷ walk_of more net (next_place net place g.outcome) g.after pick (taken + decisions g.outcome))
       gives (walk_of-suc more net place content pick taken)
 
   pub walk_goes_on : (next : Place) → next_place net place gave.outcome ≡ Some next
-      → walk_of all net (Some place) content pick taken ≡ step_by ∷ walk_of more net (Some next) gave.after pick (taken + decisions gave.outcome)
+      → walk_of all net (Some place) content pick taken
+      ≡ step_by ∷ walk_of more net (Some next) gave.after pick (taken + decisions gave.outcome)
   walk_goes_on next goes = walk_begins
       ∙ ap (λ (o : Option Place). step_by ∷ walk_of more net o gave.after pick (taken + decisions gave.outcome)) goes
 
@@ -122,20 +129,20 @@ walk_is_over net left place content pick taken is =
 module _ (net : Network) (all more : ℕ) (place : Place) (content : Content) (pick : ℕ → ℕ) (taken : ℕ) (gave : Gave) (whole : List Step)
     (first now later : SinkSeen) (is : all ≡ suc more) (gives : step_of net place content (pick taken) ≡ gave)
     (p : Progress net (walk_of all net (Some place) content pick taken) whole first now) where
-  pub staged_on : (next : Place) → next_place net place gave.outcome ≡ Some next → later ≡ sent (frames_of_gave 1 gave) now
+  pub staged_on : (next : Place) → next_place net place gave.outcome ≡ Some next → later ≡ sent (frame_of_gave 1 gave) now
       → Progress net (walk_of more net (Some next) gave.after pick (taken + decisions gave.outcome)) whole first later
   staged_on next goes went = progress_on net (walk_of all net (Some place) content pick taken) whole
       (walk_of more net (Some next) gave.after pick (taken + decisions gave.outcome))
       (step_by net all more place content pick taken gave is gives) first now later
       (walk_goes_on net all more place content pick taken gave is gives next goes) p (goes_on net place next gave.outcome goes) went
 
-  pub staged_end : next_place net place gave.outcome ≡ None → later ≡ sent (frames_of_gave 1 gave) now
+  pub staged_end : next_place net place gave.outcome ≡ None → later ≡ sent (frame_of_gave 1 gave) now
       → (later ≡ sent (frames_of 1 whole) first) × (end_by net place gave.outcome ≡ end_of net whole)
   staged_end stops went = progress_ends net (walk_of all net (Some place) content pick taken) whole
       (step_by net all more place content pick taken gave is gives) first now later
       (walk_ends net all more place content pick taken gave is gives stops) p went
 
-  pub staged_cut : (failure : Failure) → Wrote (ending_of_failure failure) (frames_of_gave 1 gave) now later
+  pub staged_cut : (failure : Failure) → Wrote (ending_of_failure failure) (frame_of_gave 1 gave) now later
       → Wrote (ending_of_failure failure) (frames_of 1 whole) first later
   staged_cut failure wrote = progress_cut net (walk_of all net (Some place) content pick taken) whole
       (walk_of more net (next_place net place gave.outcome) gave.after pick (taken + decisions gave.outcome))

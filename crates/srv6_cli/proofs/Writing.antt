@@ -1,7 +1,7 @@
 -- What steps on a sink leave, one after the other.
-use Rattle.std.proofs.Common.{◌≡◌, ℕ, List, [], ◌++◌, Result, Ok, Err, refl}
+use Rattle.std.proofs.Common.{◌≡◌, ℕ, List, ◌++◌, Err}
 use Rattle.srx_edge.specs.Sinks.{SinkSeen, sent, Pours}
-use Rattle.srx_edge.specs.Steps.{Memory, Wrote}
+use Rattle.srx_edge.specs.Steps.{Wrote}
 use Rattle.srx_edge.specs.declared.output.PourFault.{PourFault}
 use Rattle.srx_edge.specs.declared.output.PourFault.TheVariants as pours
 use Rattle.srx_edge.proofs.PublicLaws.{sent_both, cut_longer, cut_after, cut_whole, cut_none, cut_failed, cut_wanting}
@@ -23,7 +23,8 @@ wrote_longer failures.Fault bytes more old new h = cut_longer _ bytes more old n
 wrote_longer failures.NoMemory bytes more old new h = cut_longer _ bytes more old new h
 
 -- nor was one that wasn't done with the others, once the first went out
-pub wrote_after : (failure : Failure) (bytes more : List ℕ) (old mid new : SinkSeen) → mid ≡ sent bytes old → Wrote (ending_of_failure failure) more mid new
+pub wrote_after : (failure : Failure) (bytes more : List ℕ) (old mid new : SinkSeen) → mid ≡ sent bytes old
+    → Wrote (ending_of_failure failure) more mid new
     → Wrote (ending_of_failure failure) (bytes ++ more) old new
 wrote_after failures.Fault bytes more old mid new first h = cut_after _ bytes more old mid new first h
 wrote_after failures.NoMemory bytes more old mid new first h = cut_after _ bytes more old mid new first h

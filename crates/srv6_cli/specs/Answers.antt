@@ -1,5 +1,5 @@
 -- What the steps of a command answer, by cases.
-use Rattle.std.specs.Prelude.{◌≡◌, ℕ, IsTrue, true, List, [], ◌∷◌, ◌++◌, Option, IfSome, IsSomeAnd, Result, Ok, Err, ⊤}
+use Rattle.std.specs.Prelude.{◌≡◌, ℕ, IsTrue, true, List, [], ◌∷◌, ◌++◌, IfSome, IsSomeAnd, Result, Ok, Err, ⊤, string_bytes}
 use Rattle.srx_edge.specs.Edge.{next_count, file_named}
 use Rattle.srx_edge.specs.FilesRead.{FilesSeen, asked_for, failed}
 use Rattle.srx_edge.specs.Sources.{SourceSeen, drained}
@@ -12,8 +12,8 @@ use Rattle.srv6_cli.specs.declared.halt.Halt.TheVariants as halts
 use Rattle.srv6_cli.specs.declared.refusal.Refusal.{Refusal}
 use Rattle.srv6_cli.specs.declared.status.Status.{Status}
 use Rattle.srv6_cli.specs.declared.status.Status.TheVariants as statuses
-use Rattle.srv6_cli.specs.declared.told.Line.{Line}
-use Rattle.srv6_cli.specs.declared.told.Line.TheVariants as lines
+use Rattle.srv6_cli.specs.declared.told.Text.{Text}
+use Rattle.srv6_cli.specs.declared.told.Text.TheVariants as texts
 use Rattle.srv6_cli.specs.declared.told.Told.{Told}
 use Rattle.srv6_cli.specs.Command.{Command, shape_of}
 use Rattle.srv6_cli.specs.Lines.{refusal_line, usage_line}
@@ -22,10 +22,10 @@ use Rattle.srv6_cli.specs.Pieces.{ForErr, Piece, Output, Sinks, Stop, ending_by,
 use Rattle.srv6_cli.specs.Serves.{ending_of_status, OnWhole, OrNothing, LinesLast, Takes}
 use Rattle.srv6_cli.specs.Shape.{WantedOf, IsOneOf}
 
--- the bytes of a line
-abbrev pub bytes_of_line : Line → List ℕ
-bytes_of_line (lines.Fixed bytes) = bytes.now
-bytes_of_line (lines.Made text) = text.items
+-- the bytes of a text
+abbrev pub bytes_of_text : Text → List ℕ
+bytes_of_text (texts.Fixed bytes) = bytes.now
+bytes_of_text (texts.Made text) = string_bytes text
 
 -- how a step ended
 
@@ -69,7 +69,7 @@ pub record EndsWith (last : List ℕ) (status : Status) (output : Output) (old n
 
 -- what a command leaves of the sinks, by its answer
 abbrev pub CommandWent : Result Told Halt → Stop → Output → Sinks → Sinks → Type 0
-CommandWent (Ok told) stop output old new = EndsWith (bytes_of_line told.line) told.status output old new
+CommandWent (Ok told) stop output old new = EndsWith (bytes_of_text told.line) told.status output old new
 CommandWent (Err (halts.Refused refusal)) stop output old new = EndsWith (refusal_line refusal) statuses.Refused output old new
 CommandWent (Err (halts.Failed failure)) stop output old new = Went stop output.pieces old new
 
@@ -108,12 +108,12 @@ pub record Tells (last : List ℕ) (own status : Status) (old new : SinkSeen) : 
 
 -- what the end of a command leaves of `err`, and with which status
 abbrev pub Concludes : Result Told Halt → Status → SinkSeen → SinkSeen → Type 0
-Concludes (Ok told) status old new = Tells (bytes_of_line told.line) told.status status old new
+Concludes (Ok told) status old new = Tells (bytes_of_text told.line) told.status status old new
 Concludes (Err (halts.Refused refusal)) status old new = Tells (refusal_line refusal) statuses.Refused status old new
 Concludes (Err (halts.Failed failures.Fault)) status old new = (status ≡ statuses.OutsideFault) × (new ≡ old)
 Concludes (Err (halts.Failed failures.NoMemory)) status old new = (status ≡ statuses.NoMemory) × (new ≡ old)
 
 -- words that are no command have the line that says how the program is called
 abbrev pub UsageTold : Result Told Halt → Type 0
-UsageTold (Ok told) = (bytes_of_line told.line ≡ usage_line) × (told.status ≡ statuses.Usage)
+UsageTold (Ok told) = (bytes_of_text told.line ≡ usage_line) × (told.status ≡ statuses.Usage)
 UsageTold (Err halt) = ⊥

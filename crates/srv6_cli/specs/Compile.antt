@@ -1,5 +1,5 @@
 -- The command `compile`: a list for the intent of a file in the network that another describes.
-use Rattle.std.specs.Prelude.{◌≡◌, ℕ, Bool, true, false, List, [], ◌∷◌, ◌++◌, codes, Option, Some, None, Result, Ok, Err, IsSomeAnd, is_ok, ⊤}
+use Rattle.std.specs.Prelude.{◌≡◌, ℕ, Bool, false, List, [], ◌∷◌, ◌++◌, codes, Option, Result, Ok, Err, IsSomeAnd, is_ok, ⊤}
 use Rattle.std.specs.List.{flat_map}
 use Rattle.std.specs.Fmt.{decimal}
 use Rattle.v6_addr.specs.Address.{PrefixValue}
@@ -22,7 +22,7 @@ use Rattle.srv6_cli.specs.declared.status.Status.TheVariants as statuses
 use Rattle.srv6_cli.specs.Judgements.{network_in, intent_in, refused}
 use Rattle.srv6_cli.specs.Lines.{line}
 use Rattle.srv6_cli.specs.Pieces.{ForOut, ForErr, Output}
-use Rattle.srv6_cli.specs.Shape.{Held, Shape}
+use Rattle.srv6_cli.specs.Shape.{Shape}
 
 -- the address of a container of one plain SID is the SID's
 
@@ -39,7 +39,8 @@ container_line c = line (codes "# container " ++ address_text (container_address
 -- the report's numbers: containers, header bytes, need
 unfoldable pub numbers_lines : ℕ → ℕ → ℕ → List ℕ
 numbers_lines count header need =
-    line (codes "# containers " ++ decimal count) ++ (line (codes "# header " ++ decimal header) ++ line (codes "# need " ++ decimal need))
+    codes "# containers " ++ (decimal count ++ 10 ∷ (codes "# header " ++ (decimal header ++ 10 ∷ (codes "# need "
+    ++ (decimal need ++ 10 ∷ [])))))
 
 abbrev pub report_of : Compiled → List ℕ
 report_of c = flat_map container_line c.list ++ numbers_lines c.containers c.header c.need
@@ -47,8 +48,8 @@ report_of c = flat_map container_line c.list ++ numbers_lines c.containers c.hea
 unfoldable pub no_report : List ℕ
 no_report = line (codes "# none")
 
-unfoldable pub no_list_line : List ℕ
-no_list_line = line (codes "no answer NoList")
+unfoldable pub none_line : List ℕ
+none_line = line (codes "no answer NoList")
 
 unfoldable pub too_long_line : ℕ → List ℕ
 too_long_line count = line (codes "no answer TooLong " ++ decimal count)
@@ -67,7 +68,7 @@ flat_refusal (flats.Nested outer inner) = refusals.Nested outer inner
 abbrev pub AnswerWants : Result Compiled CompileFault → Output → Type 0
 AnswerWants (Ok c) output = output ≡ reported (report_of c) [] statuses.Done
 AnswerWants (Err (faults.NotFlat why)) output = output ≡ refused (flat_refusal why)
-AnswerWants (Err (faults.NoList solution)) output = output ≡ reported no_report no_list_line statuses.NoAnswer
+AnswerWants (Err (faults.NoList solution)) output = output ≡ reported no_report none_line statuses.NoAnswer
 AnswerWants (Err (faults.TooLong found)) output = output ≡ reported (report_of found) (too_long_line found.containers) statuses.NoAnswer
 AnswerWants (Err (faults.HopLimit found)) output = output ≡ reported (report_of found) (hop_limit_line found.need) statuses.NoAnswer
 AnswerWants (Err faults.NoMemory) output = ⊥

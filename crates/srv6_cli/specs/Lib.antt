@@ -9,6 +9,7 @@ pub mod Run
 pub mod Compile
 pub mod Command
 pub mod Serves
+pub mod Laws
 pub mod Halts
 pub mod Answers
 pub mod Compiled

@@ -3,12 +3,13 @@ use Rattle.std.specs.Prelude.{ℕ, List, [], ◌∷◌, ◌++◌, codes, slice_g
 use Rattle.std.specs.Fmt.{decimal}
 use Rattle.v6_addr.specs.Text.{prefix_text}
 use Rattle.srv6_rules.specs.declared.sid.Reason.{Reason}
-use Rattle.srv6_rules.specs.declared.sid.Reason.TheVariants as reasons
+use Rattle.srv6_rules.specs.Reasons.{reason_name}
 use Rattle.net_model.specs.declared.parts.Node.{Node}
 use Rattle.net_model.specs.declared.parts.Link.{Link}
 use Rattle.net_model.specs.Network.{Network}
 use Rattle.walk_rules.specs.declared.place.Ended.{Ended}
 use Rattle.walk_rules.specs.declared.place.Ended.TheVariants as ends
+use Rattle.srv6_cli.specs.declared.limits.TheConstants.{STAGES}
 use Rattle.srv6_cli.specs.declared.refusal.Refusal.{Refusal}
 use Rattle.srv6_cli.specs.declared.refusal.Refusal.TheVariants as refusals
 
@@ -31,18 +32,6 @@ refusal_text refusals.NotBuilt = codes "refused 90 NotBuilt"
 abbrev pub refusal_line : Refusal → List ℕ
 refusal_line refusal = line (refusal_text refusal)
 
-unfoldable pub reason_name : Reason → List ℕ
-reason_name reasons.Truncated = codes "Truncated"
-reason_name reasons.BadVersion = codes "BadVersion"
-reason_name reasons.Multicast = codes "Multicast"
-reason_name reasons.NoRoute = codes "NoRoute"
-reason_name reasons.HopLimit = codes "HopLimit"
-reason_name reasons.BadChain = codes "BadChain"
-reason_name reasons.BadSegments = codes "BadSegments"
-reason_name reasons.UnknownRouting = codes "UnknownRouting"
-reason_name reasons.UpperLayer = codes "UpperLayer"
-reason_name reasons.NotBuilt = codes "NotBuilt"
-
 abbrev pub name_of_node : Option Node → List ℕ
 name_of_node None = []
 name_of_node (Some n) = n.name
@@ -51,12 +40,23 @@ abbrev pub name_of_link : Option Link → List ℕ
 name_of_link None = []
 name_of_link (Some l) = l.name
 
--- how a packet ended, in words
-unfoldable pub ended_text : Network → Ended → List ℕ
-ended_text net (ends.Left link) = codes "left " ++ name_of_link (slice_get net.links link)
-ended_text net (ends.Delivered node) = codes "delivered at " ++ name_of_node (slice_get net.nodes node)
-ended_text net (ends.Dropped node reason) = codes "dropped " ++ (reason_name reason ++ (codes " at " ++ name_of_node (slice_get net.nodes node)))
-ended_text net ends.Stages = codes "stopped after 10000 stages"
+-- the lines of a packet of a number when it ends: how it ended, with names of links and nodes
+
+unfoldable pub left_line : ℕ → List ℕ → List ℕ
+left_line number name = codes "packet " ++ (decimal number ++ (codes ": left " ++ (name ++ 10 ∷ [])))
+
+unfoldable pub delivered_line : ℕ → List ℕ → List ℕ
+delivered_line number name = codes "packet " ++ (decimal number ++ (codes ": delivered at " ++ (name ++ 10 ∷ [])))
+
+unfoldable pub dropped_line : ℕ → Reason → List ℕ → List ℕ
+dropped_line number reason name =
+    codes "packet " ++ (decimal number ++ (codes ": dropped " ++ (reason_name reason ++ (codes " at " ++ (name ++ 10 ∷ [])))))
+
+unfoldable pub stages_line : ℕ → List ℕ
+stages_line number = codes "packet " ++ (decimal number ++ (codes ": stopped after " ++ (decimal STAGES ++ (codes " stages" ++ 10 ∷ []))))
 
 abbrev pub packet_line : Network → ℕ → Ended → List ℕ
-packet_line net number ended = line (codes "packet " ++ (decimal number ++ (codes ": " ++ ended_text net ended)))
+packet_line net number (ends.Left link) = left_line number (name_of_link (slice_get net.links link))
+packet_line net number (ends.Delivered node) = delivered_line number (name_of_node (slice_get net.nodes node))
+packet_line net number (ends.Dropped node reason) = dropped_line number reason (name_of_node (slice_get net.nodes node))
+packet_line net number ends.Stages = stages_line number

@@ -1,10 +1,10 @@
 -- Files, the input and the sinks round a call, by where it stopped.
-use Rattle.std.specs.Prelude.{◌≡◌, ℕ, IsTrue, List, [], ◌∷◌, ◌++◌, Option, IfSome, ⊤}
+use Rattle.std.specs.Prelude.{◌≡◌, ℕ, IsTrue, List, [], ◌∷◌, ◌++◌, IfSome, ⊤}
 use Rattle.srx_edge.specs.Edge.{next_count}
 use Rattle.srx_edge.specs.FilesRead.{FilesSeen, asked_for, failed}
 use Rattle.srx_edge.specs.Sources.{SourceSeen}
 use Rattle.srx_edge.specs.Sinks.{SinkSeen}
-use Rattle.srv6_cli.specs.Pieces.{Sinks, Which, ToOut, ToErr, Stop, Never, AtFiles, AtInput, At, Elsewhere}
+use Rattle.srv6_cli.specs.Pieces.{Sinks, Stop, Never, AtFiles, AtInput, At, Elsewhere}
 use Rattle.srv6_cli.specs.Shape.{Shape, names_of}
 
 -- what is seen of all that is outside

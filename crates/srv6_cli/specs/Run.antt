@@ -13,7 +13,7 @@ use Rattle.srv6_cli.specs.Capture.{capture_head, frames_of}
 use Rattle.srv6_cli.specs.Judgements.{network_in, node_in, content_in, after}
 use Rattle.srv6_cli.specs.Lines.{packet_line}
 use Rattle.srv6_cli.specs.Pieces.{ForOut, ForErr, Output}
-use Rattle.srv6_cli.specs.Shape.{Held, Shape}
+use Rattle.srv6_cli.specs.Shape.{Shape}
 
 -- the walk of what stands at a node, as it enters there, with a list of choices
 abbrev pub walk_from : Network → ℕ → List ℕ → Content → List Step

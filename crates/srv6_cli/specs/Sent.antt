@@ -13,7 +13,7 @@ IsWritable (outcomes.Send link) content = (link < 4096) × (length (bytes_of con
 IsWritable (outcomes.Again sid how) content = ⊤
 IsWritable (outcomes.Hand sid how family) content = ⊤
 IsWritable outcomes.Local content = ⊤
-IsWritable (outcomes.Drop reason) content = ⊤
+IsWritable (outcomes.Drop reason told) content = ⊤
 
 -- the link or the node that an end names is there
 abbrev pub IsEnd : Network → Ended → Type 0

@@ -1,5 +1,5 @@
 -- What a call of `serve` leaves.
-use Rattle.std.specs.Prelude.{◌≡◌, ◌⊎◌, Bool, true, false, List, [], ◌∷◌, IfSome, ⊤}
+use Rattle.std.specs.Prelude.{◌≡◌, ◌⊎◌, true, false, [], IfSome, ⊤}
 use Rattle.srx_edge.specs.FilesRead.{FilesSeen}
 use Rattle.srx_edge.specs.Sources.{SourceSeen, drained}
 use Rattle.srx_edge.specs.Steps.{Ending, Whole, Fault, Memory}
@@ -7,8 +7,8 @@ use Rattle.srv6_cli.specs.declared.status.Status.{Status}
 use Rattle.srv6_cli.specs.declared.status.Status.TheVariants as statuses
 use Rattle.srv6_cli.specs.Command.{Command, shape_of}
 use Rattle.srv6_cli.specs.Outside.{Outside, Asks, Reads}
-use Rattle.srv6_cli.specs.Pieces.{Output, Sinks, Which, ToOut, ToErr, Stop, Never, AtFiles, AtInput, At, Elsewhere, ending_by, Went}
-use Rattle.srv6_cli.specs.Shape.{Shape, Held, WantedOf, IsOneOf}
+use Rattle.srv6_cli.specs.Pieces.{Output, Sinks, ToOut, ToErr, Stop, Never, AtFiles, AtInput, At, Elsewhere, ending_by, Went}
+use Rattle.srv6_cli.specs.Shape.{Shape, WantedOf, IsOneOf}
 
 -- how a call ended, by its status
 abbrev pub ending_of_status : Status → Ending

@@ -30,7 +30,8 @@ abbrev pub names_from : (List (List ℕ) → Bool) → Held → List (List ℕ) 
 names_from goes_on held texts [] = []
 names_from goes_on held texts (name ∷ []) = name ∷ []
 names_from goes_on held texts (name ∷ next ∷ names) =
-    name ∷ (if goes_on_with goes_on texts (file_named held name) then names_from goes_on held (texts_with texts (file_named held name)) (next ∷ names) else [])
+    name ∷ (if goes_on_with goes_on texts (file_named held name)
+    then names_from goes_on held (texts_with texts (file_named held name)) (next ∷ names) else [])
 
 abbrev pub names_of : Shape → Held → List (List ℕ)
 names_of shape held = names_from shape.goes_on held [] shape.files

@@ -11,7 +11,7 @@ pub const HEAD: [u8; 24] = [
 ];
 
 /// A frame's head: seconds, microseconds and the packet's length, twice, of 4 bytes each.
-#[tactic(auto, unfolding(crate::specs::Capture::frame_head, crate::specs::Capture::four_bytes_low_first))]
+#[tactic(auto, unfolding(crate::specs::Capture::frame_head))]
 pub fn head_of_frame(seconds: u32, micros: u32, len: u32) -> [u8; 16]
     ensures { result ≡ frame_head seconds micros len }
 {

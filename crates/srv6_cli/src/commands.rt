@@ -9,7 +9,7 @@ use crate::halt::Halt;
 use crate::lines::USAGE;
 use crate::run::run;
 use crate::status::Status;
-use crate::told::{Line, Told};
+use crate::told::{Text, Told};
 use srx_edge::{Files, Sink, Source};
 use std::alloc::Global;
 
@@ -62,7 +62,7 @@ fn usage() -> Result<Told, Halt>
     ensures { UsageTold result }
 {
     Ok(Told {
-        line: Line::Fixed(USAGE),
+        line: Text::Fixed(USAGE),
         status: Status::Usage,
     })
 }
@@ -76,8 +76,9 @@ pub fn command<F: Files, S: Source, O: Sink>(
     input: &mut S,
     out: &mut O,
 ) -> Result<Told, Halt>
-    ensures { CommandsOut (command_of (words_of words.now)) result (F.seen files.old) (F.seen files.new)
-        (S.seen input.old) (S.seen input.new) (O.seen out.old) (O.seen out.new) }
+    ensures { CommandsOut (command_of (words_of words.now)) result
+        (F.seen files.old) (F.seen files.new) (S.seen input.old) (S.seen input.new)
+        (O.seen out.old) (O.seen out.new) }
 {
     match read_words(words) {
         Words::Run { file, node } => run(alloc, file, node, files, input, out),

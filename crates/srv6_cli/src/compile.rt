@@ -1,71 +1,140 @@
 //! The command `compile`: a list for the intent of a file in the network that another describes.
 
-ghost use Rattle.std.specs.Prelude.{◌≡◌};
-ghost use Rattle.srv6_cli.specs.Answers.{CommandsUnread};
+ghost use Rattle.std.specs.Prelude.{◌≡◌, IfOk, string_bytes};
+ghost use Rattle.std.specs.List.{flat_map};
+ghost use Rattle.srv6_cli.specs.Answers.{CommandsUnread, bytes_of_text};
 ghost use Rattle.srv6_cli.specs.Command.{Compile};
+ghost use Rattle.srv6_cli.specs.Compile.{container_address, container_line, numbers_lines, report_of};
 
 use crate::halt::{Failure, Halt};
 use crate::judge::{intent_of_file, network_of_file};
 use crate::refusal::Refusal;
-use crate::report::{line_of_hop_limit, line_of_too_long, report, report_of_none};
 use crate::status::Status;
-use crate::told::{Line, Told};
+use crate::told::{Text, Told};
 use crate::walk::write_all;
+use leg_table::Container;
 use net_model::NotFlat;
 use path_compiler::{CompileFault, Compiled};
 use srx_edge::{Files, Sink};
 use std::alloc::{AllocError, Global};
+use v6_addr::Addr;
+
+/// The address of a container.
+fn address_of_container(container: &Container) -> Addr
+    ensures { result.value ≡ container_address container.now }
+{
+    let Container::Full(prefixes) = container;
+    match prefixes.as_slice() {
+        [first, ..] => first.value(),
+        [] => Addr { value: 0 },
+    }
+}
+
+/// A container's line.
+#[tactic(auto, unfolding(crate::specs::Compile::container_line))]
+fn line_of_container(alloc: Global, container: &Container) -> Result<String, AllocError>
+    ensures { IfOk result (λ line. string_bytes line ≡ container_line container.now) }
+{
+    let address = address_of_container(container);
+    format!(in alloc; "# container {address}\n")
+}
+
+/// The lines of containers, in order.
+fn lines_of_containers(alloc: Global, containers: &[Container]) -> Result<String, AllocError>
+    ensures { IfOk result (λ lines. string_bytes lines ≡ flat_map container_line containers.now) }
+{
+    let mut lines = String::new(alloc);
+    for container in containers {
+        let line = line_of_container(alloc, container)?;
+        lines.push_str(&line)?;
+    }
+    Ok(lines)
+}
+
+/// The lines of a list's numbers: containers, header bytes and need.
+#[tactic(auto, unfolding(crate::specs::Compile::numbers_lines))]
+fn lines_of_numbers(
+    alloc: Global,
+    containers: u32,
+    header: u32,
+    need: u32,
+) -> Result<String, AllocError>
+    ensures { IfOk result (λ lines. string_bytes lines ≡ numbers_lines containers header need) }
+{
+    format!(in alloc; "# containers {containers}\n# header {header}\n# need {need}\n")
+}
+
+/// The report of a list.
+fn report_of_list(alloc: Global, compiled: &Compiled) -> Result<String, AllocError>
+    ensures { IfOk result (λ report. string_bytes report ≡ report_of compiled.now) }
+{
+    let mut report = lines_of_containers(alloc, compiled.list.as_slice())?;
+    let numbers = lines_of_numbers(alloc, compiled.containers, compiled.header, compiled.need)?;
+    report.push_str(&numbers)?;
+    Ok(report)
+}
 
 /// What `compile` has to write: its report on `out`, and what it has to say.
 #[derive(Drop)]
 struct Answer {
-    report: Vec<u8>,
+    report: Text,
     told: Told,
 }
 
 impl Answer {
-    ghost use Rattle.std.specs.Prelude.{[], IfOk};
-    ghost use Rattle.srv6_cli.specs.Compile.{reported, report_of, no_report, no_list_line, too_long_line, hop_limit_line};
+    ghost use Rattle.srv6_cli.specs.Compile.{reported, no_report, none_line, too_long_line, hop_limit_line};
     ghost use Rattle.srv6_cli.specs.Compiled.{output_of_answer, Gives};
 
-    /// The answer of a list within the intent's limits.
-    fn of_list(alloc: Global, compiled: &Compiled) -> Result<Answer, AllocError>
-        ensures { IfOk result (λ answer. output_of_answer answer ≡ reported (report_of compiled.now) [] Status.Done) }
+    /// The answer of a list that was found.
+    fn of_list(
+        alloc: Global,
+        found: &Compiled,
+        line: Text,
+        status: Status,
+    ) -> Result<Answer, AllocError>
+        ensures { IfOk result (λ answer. output_of_answer answer
+            ≡ reported (report_of found.now) (bytes_of_text line) status) }
     {
         Ok(Answer {
-            report: report(alloc, compiled)?,
-            told: Told {
-                line: Line::Fixed(b""),
-                status: Status::Done,
-            },
+            report: Text::Made(report_of_list(alloc, found)?),
+            told: Told { line, status },
         })
     }
 
     /// The answer where there is no list.
-    #[tactic(auto, unfolding(crate::specs::Compile::no_list_line))]
-    fn of_none(alloc: Global) -> Result<Answer, AllocError>
-        ensures { IfOk result (λ answer. output_of_answer answer ≡ reported no_report no_list_line Status.NoAnswer) }
+    #[tactic(auto, unfolding(crate::specs::Compile::no_report, crate::specs::Compile::none_line))]
+    fn of_none() -> Answer
+        ensures { output_of_answer result ≡ reported no_report none_line Status.NoAnswer }
     {
-        Ok(Answer {
-            report: report_of_none(alloc)?,
+        Answer {
+            report: Text::Fixed(b"# none\n"),
             told: Told {
-                line: Line::Fixed(b"no answer NoList\n"),
+                line: Text::Fixed(b"no answer NoList\n"),
                 status: Status::NoAnswer,
             },
-        })
+        }
     }
 
-    /// The answer of a list outside the intent's limits.
-    fn outside(alloc: Global, found: &Compiled, line: Vec<u8>) -> Result<Answer, AllocError>
-        ensures { IfOk result (λ answer. output_of_answer answer ≡ reported (report_of found.now) line.items Status.NoAnswer) }
+    /// The answer of a list with too many containers.
+    #[tactic(auto, unfolding(crate::specs::Compile::too_long_line))]
+    fn of_too_long(alloc: Global, found: &Compiled) -> Result<Answer, AllocError>
+        ensures { IfOk result (λ answer. output_of_answer answer
+            ≡ reported (report_of found.now) (too_long_line found.now.containers) Status.NoAnswer) }
     {
-        Ok(Answer {
-            report: report(alloc, found)?,
-            told: Told {
-                line: Line::Made(line),
-                status: Status::NoAnswer,
-            },
-        })
+        let count = found.containers;
+        let line = format!(in alloc; "no answer TooLong {count}\n")?;
+        Answer::of_list(alloc, found, Text::Made(line), Status::NoAnswer)
+    }
+
+    /// The answer of a list that needs a greater hop limit.
+    #[tactic(auto, unfolding(crate::specs::Compile::hop_limit_line))]
+    fn of_hop_limit(alloc: Global, found: &Compiled) -> Result<Answer, AllocError>
+        ensures { IfOk result (λ answer. output_of_answer answer
+            ≡ reported (report_of found.now) (hop_limit_line found.now.need) Status.NoAnswer) }
+    {
+        let need = found.need;
+        let line = format!(in alloc; "no answer HopLimit {need}\n")?;
+        Answer::of_list(alloc, found, Text::Made(line), Status::NoAnswer)
     }
 
     /// What is to be written of the compiler's answer.
@@ -73,29 +142,24 @@ impl Answer {
         ensures { Gives compiled.now result }
     {
         match compiled {
-            Ok(compiled) => Ok(Answer::of_list(alloc, compiled)?),
+            Ok(list) => Ok(Answer::of_list(alloc, list, Text::Fixed(b""), Status::Done)?),
             Err(CompileFault::NotFlat(NotFlat::Nested { outer, inner })) => {
                 Err(Halt::Refused(Refusal::Nested {
                     outer: *outer,
                     inner: *inner,
                 }))
             }
-            Err(CompileFault::NoList { .. }) => Ok(Answer::of_none(alloc)?),
-            Err(CompileFault::TooLong { found }) => {
-                let line = line_of_too_long(alloc, found.containers)?;
-                Ok(Answer::outside(alloc, found, line)?)
-            }
-            Err(CompileFault::HopLimit { found }) => {
-                let line = line_of_hop_limit(alloc, found.need)?;
-                Ok(Answer::outside(alloc, found, line)?)
-            }
+            Err(CompileFault::NoList { .. }) => Ok(Answer::of_none()),
+            Err(CompileFault::TooLong { found }) => Ok(Answer::of_too_long(alloc, found)?),
+            Err(CompileFault::HopLimit { found }) => Ok(Answer::of_hop_limit(alloc, found)?),
             Err(CompileFault::NoMemory) => Err(Halt::Failed(Failure::NoMemory)),
         }
     }
 }
 
 /// Compiles the intent of a file in the network that another describes. The description is judged,
-/// then the intent, each before the next is read; what is written is made before any of it goes out.
+/// then the intent, each before the next is read; what is written is made before any of it goes
+/// out.
 pub fn compile<F: Files, O: Sink>(
     alloc: Global,
     file: &str,
@@ -103,14 +167,14 @@ pub fn compile<F: Files, O: Sink>(
     files: &mut F,
     out: &mut O,
 ) -> Result<Told, Halt>
-    ensures { CommandsUnread (Compile file.now intent.now) result (F.seen files.old) (F.seen files.new)
-        (O.seen out.old) (O.seen out.new) }
+    ensures { CommandsUnread (Compile file.now intent.now) result
+        (F.seen files.old) (F.seen files.new) (O.seen out.old) (O.seen out.new) }
 {
     let net = network_of_file(alloc, files, file)?;
     let intent = intent_of_file(alloc, files, &net, intent)?;
     let compiled = path_compiler::compile(alloc, &net, &intent);
     let answer = Answer::of_compiled(alloc, &compiled)?;
-    write_all(out, answer.report.as_slice())?;
+    write_all(out, answer.report.as_bytes())?;
     let Answer { told, .. } = answer;
     Ok(told)
 }

@@ -32,7 +32,8 @@ pub fn intent_of_file<F: Files>(
     net: &Net,
     name: &str,
 ) -> Result<Intent, Halt>
-    ensures judged { JudgesFile (intent_in net.now) name.now result (F.seen files.old) (F.seen files.new) }
+    ensures judged { JudgesFile (intent_in net.now) name.now result
+        (F.seen files.old) (F.seen files.new) }
     ensures keeps { IfOk result (IsIntent net.now) }
 {
     let text = files.read(alloc, name, FILE_LIMIT)?;

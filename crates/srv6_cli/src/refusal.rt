@@ -1,3 +1,6 @@
+//! Why a command is refused.
+
+use std::fmt;
 use v6_addr::Prefix;
 
 /// Why a command was refused; each has a number of its own in the line on `err`.
@@ -23,4 +26,24 @@ pub enum Refusal {
     },
     /// 90: a form that isn't built yet.
     NotBuilt,
+}
+
+/// The refusal's number, its name, and its fields. (own rule)
+impl fmt::Display for Refusal {
+    ghost use Rattle.std.specs.Prelude.{Some};
+    ghost use Rattle.srv6_cli.specs.Lines.{refusal_text};
+
+    ghost output = { λ refusal. Some (refusal_text refusal) };
+
+    #[tactic(auto, unfolding(crate::specs::Lines::refusal_text))]
+    fn fmt<W: fmt::Write>(&self, f: &mut fmt::Formatter<W>) -> fmt::Result {
+        match self {
+            Refusal::TooBig { limit } => write!(f, "refused 2 TooBig {limit}"),
+            Refusal::NotToml => write!(f, "refused 21 NotToml"),
+            Refusal::IntentNotToml => write!(f, "refused 33 Text NotToml"),
+            Refusal::BadNode => write!(f, "refused 39 BadNode"),
+            Refusal::Nested { outer, inner } => write!(f, "refused 41 Nested {outer} {inner}"),
+            Refusal::NotBuilt => write!(f, "refused 90 NotBuilt"),
+        }
+    }
 }

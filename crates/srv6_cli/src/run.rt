@@ -1,6 +1,6 @@
 //! The command `run`: one packet from a node of the network that a file describes.
 
-ghost use Rattle.std.specs.Prelude.{◌≡◌, ◌<◌, ◌++◌, IfOk, length};
+ghost use Rattle.std.specs.Prelude.{◌≡◌, ◌<◌, ◌++◌, IfOk, length, string_bytes};
 ghost use Rattle.srx_edge.specs.Steps.{Wrote};
 ghost use Rattle.walk_rules.specs.Walk.{end_of};
 ghost use Rattle.srv6_cli.specs.Answers.{CommandsOut, ending_of_step};
@@ -14,7 +14,7 @@ use crate::halt::{Failure, Halt};
 use crate::judge::{content_of_input, network_of_file, node_of_name};
 use crate::lines::line_of_packet;
 use crate::status::Status;
-use crate::told::{Line, Told};
+use crate::told::{Text, Told};
 use crate::walk::{write_all, write_walk};
 use net_model::Net;
 use node_stage::Content;
@@ -39,9 +39,9 @@ fn walk_packet<O: Sink>(
     node: u32,
     content: Content,
     out: &mut O,
-) -> Result<Vec<u8>, Failure>
+) -> Result<String, Failure>
     requires { node < length net.now.nodes }
-    ensures line { IfOk result (λ line. line.items
+    ensures line { IfOk result (λ line. string_bytes line
         ≡ packet_line net.now 1 (end_of net.now (walk_from net.now node no_choices content))) }
     ensures wrote { Wrote (ending_of_step result)
         (capture_head ++ frames_of 1 (walk_from net.now node no_choices content))
@@ -55,7 +55,7 @@ fn walk_packet<O: Sink>(
     };
     let mut frame = Vec::new(alloc);
     let ended = write_walk(net, place, content, &[0], &mut frame, out)?;
-    Ok(line_of_packet(alloc, net, &ended)?)
+    Ok(line_of_packet(alloc, net, 1, &ended)?)
 }
 
 /// Runs one packet from a node of the network that a file describes. The file is judged, then the
@@ -68,15 +68,16 @@ pub fn run<F: Files, S: Source, O: Sink>(
     input: &mut S,
     out: &mut O,
 ) -> Result<Told, Halt>
-    ensures { CommandsOut (Run file.now node.now) result (F.seen files.old) (F.seen files.new)
-        (S.seen input.old) (S.seen input.new) (O.seen out.old) (O.seen out.new) }
+    ensures { CommandsOut (Run file.now node.now) result
+        (F.seen files.old) (F.seen files.new) (S.seen input.old) (S.seen input.new)
+        (O.seen out.old) (O.seen out.new) }
 {
     let net = network_of_file(alloc, files, file)?;
     let node = node_of_name(&net, node)?;
     let content = content_of_input(alloc, input)?;
     let line = walk_packet(alloc, &net, node, content, out)?;
     Ok(Told {
-        line: Line::Made(line),
+        line: Text::Made(line),
         status: Status::Done,
     })
 }

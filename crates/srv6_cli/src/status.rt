@@ -1,9 +1,13 @@
-/// How a call of `serve` ended; its number is the program's exit status.
+//! How a call of `serve` ended.
+
+/// How a call of `serve` ended; its number is the program's exit status. (own rule)
 #[derive(Clone, Copy, Debug, PartialEq, Eq)]
 pub enum Status {
-    /// The command's output was written whole, and what it reads from the input was read to its end.
+    /// The command's output was written whole, and what it reads from the input was read to its
+    /// end.
     Done = 0,
-    /// A file, the input or a node's name is outside its grammar or limit, or the network isn't flat for `compile`.
+    /// A file, the input or a node's name is outside its grammar or limit, or the network isn't
+    /// flat for `compile`.
     Refused = 1,
     /// The words are no command.
     Usage = 2,

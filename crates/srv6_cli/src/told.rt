@@ -4,34 +4,35 @@ ghost use Rattle.std.specs.Prelude.{◌≡◌};
 
 use crate::status::Status;
 
-/// A line for `err`, with its line feed; an empty one is none.
+/// Text that the program has, or that it made.
 #[derive(Drop)]
-pub enum Line {
-    /// A line that the program has.
+pub enum Text {
+    /// Text that the program has.
     Fixed(&'static [u8]),
-    /// A line that was made.
-    Made(Vec<u8>),
+    /// Text that was made.
+    Made(String),
 }
 
-impl Line {
-    ghost use Rattle.srv6_cli.specs.Answers.{bytes_of_line};
+impl Text {
+    ghost use Rattle.srv6_cli.specs.Answers.{bytes_of_text};
 
-    /// The line's bytes.
+    /// The text's bytes.
     pub fn as_bytes(&self) -> &[u8]
-        ensures { result.now ≡ bytes_of_line self.now }
+        ensures { result.now ≡ bytes_of_text self.now }
     {
         match self {
-            Line::Fixed(bytes) => bytes,
-            Line::Made(text) => text.as_slice(),
+            Text::Fixed(bytes) => bytes,
+            Text::Made(text) => text.as_bytes(),
         }
     }
 }
 
-/// What a command has to say at its end: a line for `err`, and its status.
+/// What a command has to say at its end: a line for `err`, with its line feed, or nothing, and its
+/// status.
 #[derive(Drop)]
 pub struct Told {
     /// The line.
-    pub line: Line,
+    pub line: Text,
     /// The status.
     pub status: Status,
 }

@@ -44,8 +44,8 @@ fn conclude<E: Sink>(alloc: Global, answer: Result<Told, Halt>, err: &mut E) -> 
 {
     match answer {
         Ok(told) => tell(err, told.line.as_bytes(), told.status),
-        Err(Halt::Refused(refusal)) => match line_of_refusal(alloc, refusal) {
-            Ok(line) => tell(err, line.as_slice(), Status::Refused),
+        Err(Halt::Refused(refusal)) => match line_of_refusal(alloc, &refusal) {
+            Ok(line) => tell(err, line.as_bytes(), Status::Refused),
             Err(_) => Status::NoMemory,
         },
         Err(Halt::Failed(failure)) => status_of(failure),
@@ -56,8 +56,8 @@ fn conclude<E: Sink>(alloc: Global, answer: Result<Told, Halt>, err: &mut E) -> 
 /// program's name. After a fault of the outside and after want of memory nothing more is written.
 ///
 /// `Serves` says what a call leaves: where it stopped, if it did, and that nothing came after that
-/// place; which output is wanted of what the files and the input tell, and how far it went out; which
-/// files were asked for; and what is left of the input.
+/// place; which output is wanted of what the files and the input tell, and how far it went out;
+/// which files were asked for; and what is left of the input.
 pub fn serve<F: Files, S: Source, O: Sink, E: Sink>(
     alloc: Global,
     words: &[String],

@@ -1,10 +1,10 @@
 //! A packet's walk, written as it goes.
 
-ghost use Rattle.std.specs.Prelude.{◌≡◌, ◌≤◌, ◌<◌, IfOk, IfSome, Some, length, ◌+◌};
+ghost use Rattle.std.specs.Prelude.{◌≡◌, ◌≤◌, ◌<◌, IfOk, IfSome, Some, None, length, ◌+◌};
 ghost use Rattle.srx_edge.specs.Steps.{Wrote};
 ghost use Rattle.srv6_rules.specs.Packet.{bytes_of, most_len};
 ghost use Rattle.srv6_cli.specs.Answers.{ending_of_step};
-ghost use Rattle.srv6_cli.specs.Capture.{frame_of, frames_by, frames_of};
+ghost use Rattle.srv6_cli.specs.Capture.{frame_of, frame_by, frames_of};
 ghost use Rattle.srv6_cli.specs.Sent.{IsEnd, IsWritable};
 ghost use Rattle.walk_rules.specs.Relation.{IsPlace};
 ghost use Rattle.walk_rules.specs.Treatment.{step_of};
@@ -14,9 +14,9 @@ use crate::capture::head_of_frame;
 use crate::halt::Failure;
 use crate::limits::STAGES;
 use net_model::Net;
-use node_stage::{Content, ended_by, next_place, stage};
+use node_stage::{Content, stage};
 use srx_edge::{Sink, pour};
-use walk_rules::{Ended, Outcome, Place};
+use walk_rules::{Ended, Outcome, Place, ended_by, next_place};
 
 /// Pours bytes into a sink.
 #[tactic(auto, using(crate::proofs::Writing::writing))]
@@ -45,7 +45,7 @@ fn write_frame<O: Sink>(
     write_all(out, frame.as_slice())
 }
 
-/// Writes what a stage sends.
+/// Writes what a stage sends; no ICMPv6 error is sent yet.
 fn write_outcome<O: Sink>(
     outcome: &Outcome,
     content: &Content,
@@ -53,7 +53,7 @@ fn write_outcome<O: Sink>(
     out: &mut O,
 ) -> Result<(), Failure>
     requires { IsWritable outcome.now content.now }
-    ensures { Wrote (ending_of_step result) (frames_by 1 outcome.now content.now)
+    ensures { Wrote (ending_of_step result) (frame_by 1 outcome.now content.now None)
         (O.seen out.old) (O.seen out.new) }
 {
     match outcome {
@@ -79,7 +79,7 @@ fn decisions_of(outcome: &Outcome) -> usize
 fn staged(net: &Net, place: &Place, content: &mut Content, choice: u32) -> Outcome
     requires { IsPlace net.now place.now }
     ensures function { step_of net.now place.now content.old choice
-        ≡ record { outcome = result; after = content.new } }
+        ≡ record { outcome = result; after = content.new; error = None } }
     ensures writable { IsWritable result content.new }
     ensures next { IfSome (place_after net.now place.now result) (IsPlace net.now) }
     ensures ends { IsEnd net.now (end_by net.now place.now result) }

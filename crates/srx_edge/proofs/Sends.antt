@@ -6,7 +6,8 @@ use Rattle.srx_edge.specs.Edge.{append_to}
 use Rattle.srx_edge.specs.Sinks.{SinkSeen, sent, failed, wanting, is_stuck}
 use Rattle.srx_edge.specs.Steps.{Ending, Fault, Memory, How, Failing, Wanting, ending_of, stopped_by, left_by, IsStopAt, Cut}
 
-append_to-append_to : (more bytes : List ℕ) (held : Option (List ℕ)) → append_to more (append_to bytes held) ≡ append_to (bytes ++ more) held
+append_to-append_to : (more bytes : List ℕ) (held : Option (List ℕ))
+    → append_to more (append_to bytes held) ≡ append_to (bytes ++ more) held
 append_to-append_to more bytes None = refl
 append_to-append_to more bytes (Some held) = ap Some (append_assoc held bytes more)
 
@@ -21,10 +22,12 @@ pub sent_both : (bytes more : List ℕ) (old mid new : SinkSeen) → mid ≡ sen
 sent_both bytes more old mid new first next = next ∙ ap (sent more) first ∙ sent-sent more bytes old
 
 -- the next part, after the first n bytes
-pub sent_next : (n count : ℕ) (bytes : List ℕ) (old mid new : SinkSeen) → mid ≡ sent (take n bytes) old → new ≡ sent (take count (drop n bytes)) mid
+pub sent_next : (n count : ℕ) (bytes : List ℕ) (old mid new : SinkSeen) → mid ≡ sent (take n bytes) old
+    → new ≡ sent (take count (drop n bytes)) mid
     → new ≡ sent (take (n + count) bytes) old
 sent_next n count bytes old mid new first next =
-    sent_both (take n bytes) (take count (drop n bytes)) old mid new first next ∙ ap (λ (all : List ℕ). sent all old) (sym (take-add n count bytes))
+    sent_both (take n bytes) (take count (drop n bytes)) old mid new first next
+    ∙ ap (λ (all : List ℕ). sent all old) (sym (take-add n count bytes))
 
 -- a write took some bytes behind the first n
 pub pour_next : (n count : ℕ) (bytes : List ℕ) (old mid new : SinkSeen) → mid ≡ sent (take n bytes) old
@@ -46,7 +49,8 @@ stop-some how [] some = absurd (omega arith)
 stop-some how (b ∷ rest) some = tt
 
 -- a step that ended early with its first bytes ended early with all of them
-pub cut_longer : (ending : Ending) (bytes more : List ℕ) (old new : SinkSeen) → Cut ending bytes old new → Cut ending (bytes ++ more) old new
+pub cut_longer : (ending : Ending) (bytes more : List ℕ) (old new : SinkSeen) → Cut ending bytes old new
+    → Cut ending (bytes ++ more) old new
 cut_longer ending bytes more old new cut = record {
   how = cut.how;
   ends = cut.ends;

@@ -4,12 +4,14 @@ use Rattle.std.proofs.Math.Seq.{drop-append_seam}
 use Rattle.srx_edge.specs.Edge.{prepend_to, drop_from}
 use Rattle.srx_edge.specs.Sources.{SourceSeen, passed, taken, Gives, DrawnUpTo}
 
-prepend_to-prepend_to : (bytes more : List ℕ) (left : Option (List ℕ)) → prepend_to bytes (prepend_to more left) ≡ prepend_to (bytes ++ more) left
+prepend_to-prepend_to : (bytes more : List ℕ) (left : Option (List ℕ))
+    → prepend_to bytes (prepend_to more left) ≡ prepend_to (bytes ++ more) left
 prepend_to-prepend_to bytes more None = refl
 prepend_to-prepend_to bytes more (Some left) = ap Some (sym (append_assoc bytes more left))
 
 -- the bytes that were taken, and then more
-pub take_more : (bytes more : List ℕ) (first now later : Option (List ℕ)) → first ≡ prepend_to bytes now → now ≡ prepend_to more later → first ≡ prepend_to (bytes ++ more) later
+pub take_more : (bytes more : List ℕ) (first now later : Option (List ℕ)) → first ≡ prepend_to bytes now → now ≡ prepend_to more later
+    → first ≡ prepend_to (bytes ++ more) later
 take_more bytes more first now later e next = e ∙ ap (prepend_to bytes) next ∙ prepend_to-prepend_to bytes more later
 
 prepended-drop : (bytes : List ℕ) (first later : Option (List ℕ)) → first ≡ prepend_to bytes later → later ≡ drop_from (length bytes) first
@@ -32,15 +34,18 @@ gave_some into filled count mid new gives room some =
     let others = gives.others in rw (wide, moves) at others
 
 -- only what is left changes what a read that passed leaves
-passed-same : (left : Option (List ℕ)) (old mid : SourceSeen) → mid.faults ≡ old.faults → mid.ends ≡ old.ends → passed left false mid ≡ passed left false old
+passed-same : (left : Option (List ℕ)) (old mid : SourceSeen) → mid.faults ≡ old.faults → mid.ends ≡ old.ends
+    → passed left false mid ≡ passed left false old
 passed-same left old mid faults ends =
     ap (λ (n : ℕ). record { left = left; faults = n; ends = mid.ends; stopped = false }) faults
     ∙ ap (λ (n : ℕ). record { left = left; faults = old.faults; ends = n; stopped = false }) ends
 
 -- behind the bytes so far a read took more: what is taken now
-read_more : (into filled bytes : List ℕ) (count : ℕ) (old mid new : SourceSeen) → old.left ≡ prepend_to bytes mid.left → Gives into filled count mid new
+read_more : (into filled bytes : List ℕ) (count : ℕ) (old mid new : SourceSeen) → old.left ≡ prepend_to bytes mid.left
+    → Gives into filled count mid new
     → old.left ≡ prepend_to (bytes ++ take count filled) new.left
-read_more into filled bytes count old mid new before gives = take_more bytes (take count filled) old.left mid.left new.left before gives.taken
+read_more into filled bytes count old mid new before gives =
+    take_more bytes (take count filled) old.left mid.left new.left before gives.taken
 
 -- one byte more than the limit was taken
 pub drawn_too_many : (limit count : ℕ) (into filled bytes : List ℕ) (old mid new : SourceSeen) → old.left ≡ prepend_to bytes mid.left
@@ -53,7 +58,8 @@ drawn_too_many limit count into filled bytes old mid new before faults ends give
     let size : length all ≡ limit + 1 = omega (arith, length-append bytes (take count filled), length-take count filled, gives.within) in
     let left : new.left ≡ drop_from (limit + 1) old.left = rw size at (prepended-drop all old.left new.left whole) in (
       prepended-longer limit all old.left new.left size whole,
-      gave_some into filled count mid new gives room some ∙ (passed-same new.left old mid faults ends ∙ ap (λ (o : Option (List ℕ)). passed o false old) left),
+      gave_some into filled count mid new gives room some
+          ∙ (passed-same new.left old mid faults ends ∙ ap (λ (o : Option (List ℕ)). passed o false old) left),
     )
 
 -- at most the limit was taken, and memory was wanting

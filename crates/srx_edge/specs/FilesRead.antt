@@ -28,5 +28,6 @@ ReadsFile name limit (Ok bytes) old new =
 ReadsFile name limit (Err faults.Failed) old new =
     (IsTrue old.sure → IfSome old.told (λ files. file_named files name ≡ None)) × (new ≡ failed (asked_for name old))
 ReadsFile name limit (Err (faults.TooBig most)) old new =
-    (most ≡ limit) × IfSome old.told (λ files. IsSomeAnd (file_named files name) (λ bytes. limit < length bytes)) × (new ≡ asked_for name old)
+    (most ≡ limit) × IfSome old.told (λ files. IsSomeAnd (file_named files name) (λ bytes. limit < length bytes))
+    × (new ≡ asked_for name old)
 ReadsFile name limit (Err faults.NoMemory) old new = new ≡ old

@@ -34,7 +34,8 @@ is_stuck piece count = (count == 0) && not (length piece == 0)
 -- that isn't empty, appends nothing and is one fault; one for which memory is wanting appends nothing and is one want;
 -- either stops the sink; an empty piece changes nothing
 abbrev pub Writes : List ℕ → Result ℕ SinkFault → SinkSeen → SinkSeen → Type 0
-Writes piece (Ok count) old new = (count ≤ length piece) × (new ≡ (if is_stuck piece count then failed old else sent (take count piece) old))
+Writes piece (Ok count) old new =
+    (count ≤ length piece) × (new ≡ (if is_stuck piece count then failed old else sent (take count piece) old))
 Writes piece (Err faults.Failed) old new = (0 < length piece) × (new ≡ failed old)
 Writes piece (Err faults.NoMemory) old new = (0 < length piece) × (new ≡ wanting old)
 

@@ -14,8 +14,12 @@ ends_after count ends = if count == 0 then next_count ends else ends
 
 -- the source after a read of so many bytes; one into an empty slice isn't counted
 abbrev pub after_read : ℕ → ℕ → SourceState → SourceState
-after_read room count source = if room == 0 then source
-    else record source { left = drop count source.left; calls = next_count source.calls; ends = ends_after count source.ends; stopped = false }
+after_read room count source = if room == 0 then source else record source {
+  left = drop count source.left;
+  calls = next_count source.calls;
+  ends = ends_after count source.ends;
+  stopped = false;
+}
 
 -- the source after a read that failed
 abbrev pub after_fault : SourceState → SourceState

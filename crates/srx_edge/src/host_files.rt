@@ -18,7 +18,8 @@ pub struct HostFiles<'a, R> {
 impl<'a, R> HostFiles<'a, R> {
     /// No read has failed yet.
     pub fn new(rt: &'a R) -> HostFiles<'a, R>
-        ensures { host_files_seen result ≡ record { told = None; asked = None; faults = 0; sure = false } }
+        ensures { host_files_seen result
+            ≡ record { told = None; asked = None; faults = 0; sure = false } }
     {
         HostFiles { rt, faults: 0 }
     }

@@ -38,7 +38,8 @@ impl<W: Write> Sink for HostSink<W> {
         // The writer's own bytes, where it knows them, go exactly as the answer says.
         ensures bytes { WriteAppends (W.contents (writer_of self.old))
             (W.contents (writer_of self.new)) result piece.now }
-        ensures writes { Writes piece.now result (host_sink_seen self.old) (host_sink_seen self.new) }
+        ensures writes { Writes piece.now result
+            (host_sink_seen self.old) (host_sink_seen self.new) }
 
         // A write that takes no byte of a piece that isn't empty is answered as a failure.
         ensures some { NeverStuck piece.now result }

@@ -9,7 +9,8 @@ use std::io::Read;
 
 const PIECE: usize = 4096;
 
-/// A reader of std as a source, with a count of the reads that failed. It tells no bytes. (own rule)
+/// A reader of std as a source, with counts of the reads that failed and that found the end. It
+/// tells no bytes. (own rule)
 #[derive(Drop)]
 pub struct HostSource<R> {
     reader: R,

@@ -15,8 +15,8 @@ pub trait Source {
 
     /// Takes the first bytes of what is left, puts them at the front of the slice, and says how
     /// many they are. The rest of the slice stays. 0 is the end, unless the slice is empty: then
-    /// nothing changes. A read that fails takes and gives nothing, and is one fault, after which the
-    /// source is stopped until a read passes.
+    /// nothing changes. A read that fails takes and gives nothing, and is one fault, after which
+    /// the source is stopped until a read passes.
     fn read(&mut self, into: &mut [u8]) -> Result<usize, Failed>
         ensures { Reads into.old into.new result (seen self.old) (seen self.new) };
 }
@@ -37,10 +37,10 @@ pub enum DrawFault {
 
 const PIECE: usize = 4096;
 
-/// Takes all that is left, at most `limit` bytes, and finds the end once. TooBig comes exactly where
-/// one byte more than `limit` was taken, and no more, Failed only where the source's count of faults
-/// rose. No fault is followed by another read: after Failed the source has one fault more and is
-/// stopped. After a refusal the bytes that were taken stay taken. (own rule)
+/// Takes all that is left, at most `limit` bytes, and finds the end once. TooBig comes exactly
+/// where one byte more than `limit` was taken, and no more, Failed only where the source's count of
+/// faults rose. No fault and no end is followed by another read: after Failed the source has one
+/// fault more and is stopped. After a refusal the bytes that were taken stay taken. (own rule)
 pub fn draw<S: Source>(alloc: Global, source: &mut S, limit: usize) -> Result<Vec<u8>, DrawFault>
     ensures { Draws limit result (S.seen source.old) (S.seen source.new) }
 {

@@ -40,7 +40,12 @@ impl Model for MemFiles {
 
     ghost Value = { FilesState };
 
-    ghost view = { λ f. record { files = f.files.items; asked = f.asked.items; fails = f.fails.items; faults = f.faults } };
+    ghost view = { λ f. record {
+      files = f.files.items;
+      asked = f.asked.items;
+      fails = f.fails.items;
+      faults = f.faults;
+    } };
 }
 
 /// The bytes of the file of this name.

@@ -1,5 +1,4 @@
 use Rattle.srv6_cli.specs.Command.{command_of, words_of}
-use Rattle.srv6_cli.specs.Outside.{outside}
 use Rattle.srv6_cli.proofs.Serving.{serves, told_whole}
 use Rattle.srv6_cli.proofs.top.serve.Goals as goal
 

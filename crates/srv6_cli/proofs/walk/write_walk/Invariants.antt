@@ -1,4 +1,4 @@
-use Rattle.std.proofs.Common.{◌≡◌, ◌-◌, ◌≤◌, Some}
+use Rattle.std.proofs.Common.{◌-◌, ◌≤◌, Some}
 use Rattle.walk_rules.specs.Relation.{IsPlace}
 use Rattle.walk_rules.specs.Walk.{walk_of, choice_at}
 use Rattle.srv6_cli.specs.declared.limits.TheConstants.{STAGES}

@@ -1,0 +1,48 @@
+-- What `Serves` says of each fault and of each want of memory in a sink by itself.
+use Rattle.std.specs.Prelude.{◌≡◌, ◌⊎◌, IsTrue}
+use Rattle.srx_edge.specs.Edge.{next_count}
+use Rattle.srx_edge.specs.Sinks.{SinkSeen}
+use Rattle.srv6_cli.specs.declared.status.Status.{Status}
+use Rattle.srv6_cli.specs.Command.{Command}
+use Rattle.srv6_cli.specs.Outside.{Outside}
+use Rattle.srv6_cli.specs.Serves.{Serves}
+
+-- a sink had one fault, or one want, and no call that did anything came after it
+
+abbrev pub HadFault : SinkSeen → SinkSeen → Type 0
+HadFault old new = (new.faults ≡ next_count old.faults) × (new.wants ≡ old.wants) × IsTrue new.stopped
+
+abbrev pub HadWant : SinkSeen → SinkSeen → Type 0
+HadWant old new = (new.wants ≡ next_count old.wants) × (new.faults ≡ old.faults) × IsTrue new.stopped
+
+-- what follows in the order files, input, `out`, `err` was neither read nor written
+
+abbrev pub AfterFilesFault : Outside → Outside → Type 0
+AfterFilesFault old new = (new.files.faults ≡ next_count old.files.faults) × (new.input ≡ old.input) × (new.sinks ≡ old.sinks)
+
+abbrev pub AfterInputFault : Outside → Outside → Type 0
+AfterInputFault old new = (new.input.faults ≡ next_count old.input.faults) × IsTrue new.input.stopped × (new.sinks ≡ old.sinks)
+
+abbrev pub AfterOutFault : Outside → Outside → Type 0
+AfterOutFault old new = HadFault old.sinks.out new.sinks.out × (new.sinks.err ≡ old.sinks.err)
+
+abbrev pub AfterOutWant : Outside → Outside → Type 0
+AfterOutWant old new = HadWant old.sinks.out new.sinks.out × (new.sinks.err ≡ old.sinks.err)
+
+-- the counts that are as they were
+
+abbrev pub NoFault : Outside → Outside → Type 0
+NoFault old new = (new.files.faults ≡ old.files.faults) × (new.input.faults ≡ old.input.faults)
+    × (new.sinks.out.faults ≡ old.sinks.out.faults) × (new.sinks.err.faults ≡ old.sinks.err.faults)
+
+abbrev pub NoWant : Outside → Outside → Type 0
+NoWant old new = (new.sinks.out.wants ≡ old.sinks.out.wants) × (new.sinks.err.wants ≡ old.sinks.err.wants)
+
+-- one of the four counts of faults went on by one
+abbrev pub OneFault : Outside → Outside → Type 0
+OneFault old new = (new.files.faults ≡ next_count old.files.faults) ⊎ ((new.input.faults ≡ next_count old.input.faults)
+    ⊎ ((new.sinks.out.faults ≡ next_count old.sinks.out.faults) ⊎ (new.sinks.err.faults ≡ next_count old.sinks.err.faults)))
+
+-- of what `serve` leaves
+abbrev pub OfServe : (Command → Status → Outside → Outside → Type 0) → Type 0
+OfServe P = (command : Command) (status : Status) (old new : Outside) → Serves command status old new → P command status old new

@@ -1,0 +1,264 @@
+//! `serve` over files, an input and sinks in memory: one happy path of each command, words that are
+//! no command, and each call of the outside failing in turn. What whole commands write stands in
+//! the rows of the crate `worked_rows`.
+
+use super::{Status, serve};
+use srx_edge::{MemFiles, MemSink, MemSource, SureSink, SureSource};
+use std::alloc::{AllocError, Global};
+use std::process::Abort;
+use std::test::Fail;
+
+/// A, B and C in a row, and a SID of C that hands packets over.
+const NET: &str = r#"
+[[node]]
+name = "A"
+address = "2001:db8::a"
+
+[[node]]
+name = "B"
+address = "2001:db8::b"
+
+[[node]]
+name = "C"
+address = "2001:db8::c"
+
+[[link]]
+name = "ab"
+from = "A"
+to = "B"
+
+[[link]]
+name = "bc"
+from = "B"
+to = "C"
+
+[[link]]
+name = "out"
+from = "C"
+
+[[route]]
+node = "A"
+prefix = "fcbb:bb00::/32"
+via = ["ab"]
+
+[[route]]
+node = "B"
+prefix = "fcbb:bb00::/32"
+via = ["bc"]
+
+[[route]]
+node = "C"
+table = 100
+prefix = "::/0"
+via = ["out"]
+
+[[sid]]
+node = "C"
+prefix = "fcbb:bb00:f001::/48"
+behaviour = "End.DT6"
+title = "vpn"
+table = 100
+"#;
+
+/// Over both links to the SID of C. B lowers the outer hop limit once, so 1 isn't enough.
+const INTENT: &str = r#"
+headend = "A"
+source = "2001:db8::a"
+inner = "ipv6"
+mode = "reduced"
+hop_limit = 1
+
+[[step]]
+links = ["ab"]
+
+[[step]]
+links = ["bc"]
+
+[[step]]
+function = "vpn"
+"#;
+
+/// One segment, and no routing header: 40 bytes of outer header.
+const REPORT: &str = "# container fcbb:bb00:f001::\n# containers 1\n# header 40\n# need 1\n";
+
+/// To the SID of C, with nothing behind the header: hop limit 64, next header 59.
+const PACKET: [u8; 40] = [
+    0x60, 0, 0, 0, 0, 0, 59, 64, 0x20, 0x01, 0x0d, 0xb8, 0, 1, 0, 0, 0, 0, 0, 0, 0, 0, 0, 1, 0xfc,
+    0xbb, 0xbb, 0x00, 0xf0, 0x01, 0, 0, 0, 0, 0, 0, 0, 0, 0, 0,
+];
+
+/// The call that fails of the files, the input, `out` and `err`, counted from 1; 0: none.
+#[derive(Drop)]
+struct Faults {
+    files: u64,
+    input: u64,
+    out: u64,
+    err: u64,
+}
+
+/// Nothing fails.
+const NONE: Faults = Faults {
+    files: 0,
+    input: 0,
+    out: 0,
+    err: 0,
+};
+
+/// What came of a command.
+#[derive(Drop)]
+struct Ran {
+    status: Status,
+    out: Vec<u8>,
+    err: Vec<u8>,
+}
+
+/// The words of a command.
+fn words_of(alloc: Global, words: &[&str]) -> Result<Vec<String>, AllocError> {
+    let mut list = Vec::new(alloc);
+    for word in words {
+        list.push(String::from_str(alloc, *word)?)?;
+    }
+    Ok(list)
+}
+
+/// The two files, of which the read of this number fails.
+fn files_of(alloc: Global, fails: u64) -> Result<MemFiles, Fail> {
+    let mut files = MemFiles::new(alloc, &[fails])?;
+    if !files.holds("net.toml") {
+        files.hold("net.toml", NET.as_bytes())?;
+    }
+    if !files.holds("intent.toml") {
+        files.hold("intent.toml", INTENT.as_bytes())?;
+    }
+    Ok(files)
+}
+
+/// Runs a command where these calls fail.
+fn serve_words(alloc: Global, words: &[&str], faults: &Faults) -> Result<Ran, Fail> {
+    let words = words_of(alloc, words)?;
+    let mut files = files_of(alloc, faults.files)?;
+    let mut input = MemSource::new(alloc, &PACKET, &[faults.input])?;
+    let mut out = MemSink::new(alloc, &[faults.out])?;
+    let mut err = MemSink::new(alloc, &[faults.err])?;
+    let status = serve(
+        alloc,
+        words.as_slice(),
+        &mut files,
+        &mut input,
+        &mut out,
+        &mut err,
+    );
+    Ok(Ran {
+        status,
+        out: out.held().to_vec(alloc)?,
+        err: err.held().to_vec(alloc)?,
+    })
+}
+
+/// Runs a command with each of these faults: it ends with one, and what it wrote is a front of what
+/// it writes without.
+fn expect_fronts(
+    rt: &impl Abort,
+    alloc: Global,
+    words: &[&str],
+    faults: &[Faults],
+) -> Result<(), Fail> {
+    let whole = serve_words(alloc, words, &NONE)?;
+    for fault in faults {
+        let cut = serve_words(alloc, words, fault)?;
+        assert_eq!(rt; cut.status, Status::OutsideFault);
+        assert!(rt; whole.out.starts_with(cut.out.as_slice()));
+        assert!(rt; whole.err.starts_with(cut.err.as_slice()));
+    }
+    Ok(())
+}
+
+const RUN: &[&str] = &["run", "net.toml", "A"];
+
+const COMPILE: &[&str] = &["compile", "net.toml", "intent.toml"];
+
+/// The description is read by one call; the input by one, and a second one finds its end; the head
+/// and each of two frames are written by one, and so is the line.
+const OF_RUN: &[Faults] = &[
+    Faults { files: 1, ..NONE },
+    Faults { input: 1, ..NONE },
+    Faults { input: 2, ..NONE },
+    Faults { out: 1, ..NONE },
+    Faults { out: 2, ..NONE },
+    Faults { out: 3, ..NONE },
+    Faults { err: 1, ..NONE },
+];
+
+/// Each file is read by one call, and the report and the line are written by one.
+const OF_COMPILE: &[Faults] = &[
+    Faults { files: 1, ..NONE },
+    Faults { files: 2, ..NONE },
+    Faults { out: 1, ..NONE },
+    Faults { err: 1, ..NONE },
+];
+
+#[test]
+fn each_call_of_run_fails(rt: HostRuntime) -> Result<(), Fail> {
+    expect_fronts(&rt, rt.alloc(), RUN, OF_RUN)
+}
+
+#[test]
+fn each_call_of_compile_fails(rt: HostRuntime) -> Result<(), Fail> {
+    expect_fronts(&rt, rt.alloc(), COMPILE, OF_COMPILE)
+}
+
+#[test]
+fn no_call_is_left_that_could_fail(rt: HostRuntime) -> Result<(), Fail> {
+    let beyond = Faults {
+        files: 2,
+        input: 3,
+        out: 4,
+        err: 2,
+    };
+    let one = serve_words(rt.alloc(), RUN, &beyond)?;
+    assert_eq!(rt; one.status, Status::Done);
+    let beyond = Faults {
+        files: 3,
+        input: 1,
+        out: 2,
+        err: 2,
+    };
+    let one = serve_words(rt.alloc(), COMPILE, &beyond)?;
+    assert_eq!(rt; one.status, Status::NoAnswer);
+    assert_eq!(rt; one.out.as_slice(), REPORT.as_bytes());
+    assert_eq!(rt; one.err.as_slice(), b"no answer HopLimit 1\n".as_slice());
+    Ok(())
+}
+
+#[test]
+fn words_that_are_no_command(rt: HostRuntime) -> Result<(), Fail> {
+    let one = serve_words(rt.alloc(), &["show", "x"], &NONE)?;
+    assert_eq!(rt; one.status, Status::Usage);
+    let usage = "usage: srv6 compile|check|walk|run|trace|replay|show|gen\n";
+    assert_eq!(rt; one.err.as_slice(), usage.as_bytes());
+    assert_eq!(rt; one.out.len(), 0);
+    Ok(())
+}
+
+#[test]
+fn an_outside_that_never_fails(rt: HostRuntime) -> Result<(), Fail> {
+    let alloc = rt.alloc();
+    let words = words_of(alloc, RUN)?;
+    let mut input = SureSource::new(alloc, &PACKET)?;
+    let mut out = SureSink::new(alloc)?;
+    let mut err = SureSink::new(alloc)?;
+    let status = serve(
+        alloc,
+        words.as_slice(),
+        &mut files_of(alloc, 0)?,
+        &mut input,
+        &mut out,
+        &mut err,
+    );
+    assert_eq!(rt; status, Status::Done);
+    // A head of 24 bytes, and two frames of 16 and 40.
+    assert_eq!(rt; out.held().len(), 136);
+    let line = "packet 1: dropped UpperLayer at C\n";
+    assert_eq!(rt; err.held(), line.as_bytes());
+    Ok(())
+}
