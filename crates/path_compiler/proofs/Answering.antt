@@ -155,7 +155,8 @@ module _ (net : Network) (intent : Intent) (network : IsNetwork net) (flat : IsF
   result-found s (Ok d) is some list = found-is s d is some list
   result-found s (Err e) is some list = tt
 
-  none-path : (s : Solution) → IsSolution (legs_value net intent) s → s.path ≡ [] → (sids : List ℕ) → path_need net intent 0 None sids ≡ None
+  none-path : (s : Solution) → IsSolution (legs_value net intent) s → s.path ≡ [] → (sids : List ℕ)
+      → path_need net intent 0 None sids ≡ None
   none-path s is empty sids = by (path_need net intent 0 None sids) refl
     where
       without : IsWithoutPath (legs_value net intent)

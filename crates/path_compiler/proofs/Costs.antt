@@ -36,8 +36,8 @@ pub record StartsWith (v : LegsValue) (ps : List Potential) (c : Cost) : Type 0 
   pub is : slice_get ps 0 ≡ Some (record { state = start; cost = c })
   pub least : IsLeast v start (Some c)
 
-pub starts-with : (v : LegsValue) (ps : List Potential) (moves : List Move) (c : Cost) → IsListing v ps → cost_of v start moves ≡ Some c
-    → (d : Cost) × StartsWith v ps d
+pub starts-with : (v : LegsValue) (ps : List Potential) (moves : List Move) (c : Cost) → IsListing v ps
+    → cost_of v start moves ≡ Some c → (d : Cost) × StartsWith v ps d
 starts-with v ps moves c listing cost =
     let listed = listing.listed start moves c (refl, refl) cost in
     let among : Contains ps (record { state = start; cost = listed.0 }) = listed.1 in (
@@ -85,7 +85,8 @@ cost-read v ps moves c containers need listing first read =
     let same : list_cost containers need ≡ c = sym its ∙ least in
     (ap (λ (x : Cost). x.containers) same, ap (λ (x : Cost). x.hops) same)
 
-pub cost-parts : (count : ℕ) (o : Option ℕ) (c : Cost) → option_map (list_cost count) o ≡ Some c → (o ≡ Some c.hops) × (count ≡ c.containers)
+pub cost-parts : (count : ℕ) (o : Option ℕ) (c : Cost) → option_map (list_cost count) o ≡ Some c
+    → (o ≡ Some c.hops) × (count ≡ c.containers)
 cost-parts count None c h = absurd (none-some c h)
 cost-parts count (Some need) c h =
     let same : list_cost count need ≡ c = some-same (list_cost count need) c h in

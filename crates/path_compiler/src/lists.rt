@@ -113,10 +113,10 @@ fn judged(net: &Net, intent: &Intent, found: Compiled) -> Result<Compiled, Compi
 }
 
 /// Compiles an intent that keeps the rules in the network to the least list of SIDs, one to a
-/// container, that takes each packet of the intent along exactly its steps, whichever equal next hop
-/// is chosen: no other such list has fewer containers, or as many and a smaller need, and of equal
-/// ones it is the first in the order of paths (own rule; the header is that of RFC 8986 sections 5.1
-/// and 5.2). `NotFlat` comes where the network is not flat; else `NoList` where there is no such
+/// container, that takes each packet of the intent along exactly its steps, whichever equal next
+/// hop is chosen: no other such list has fewer containers, or as many and a smaller need, and of
+/// equal ones it is the first in the order of paths (own rule; the header is that of RFC 8986
+/// sections 5.1 and 5.2). `NotFlat` comes where the network is not flat; else `NoList` where there is no such
 /// list; else `TooLong` where the least list has more than `max_containers` containers; else
 /// `HopLimit` where its need is not below `hop_limit`.
 pub fn compile(alloc: Global, net: &Net, intent: &Intent) -> Result<Compiled, CompileFault>
