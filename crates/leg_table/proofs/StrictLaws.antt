@@ -55,7 +55,8 @@ key-before p q m n h =
     ((p.len == q.len) && (nat_lt m n || ((m == n) && false))) h
 
 before-shapes : (o q : Option SidEntry) (m n : ℕ) → sid_before o q ≡ true
-    → lex_before ((shape_by o).prefix.value ∷ (shape_by o).prefix.len ∷ m ∷ []) ((shape_by q).prefix.value ∷ (shape_by q).prefix.len ∷ n ∷ [])
+    → lex_before ((shape_by o).prefix.value ∷ (shape_by o).prefix.len ∷ m ∷ [])
+    ((shape_by q).prefix.value ∷ (shape_by q).prefix.len ∷ n ∷ [])
     ≡ true
 before-shapes None q m n h = absurd (false≢true h)
 before-shapes (Some s) None m n h = absurd (false≢true h)

@@ -116,9 +116,9 @@ fn judged(net: &Net, intent: &Intent, found: Compiled) -> Result<Compiled, Compi
 /// container, that takes each packet of the intent along exactly its steps, whichever equal next
 /// hop is chosen: no other such list has fewer containers, or as many and a smaller need, and of
 /// equal ones it is the first in the order of paths (own rule; the header is that of RFC 8986
-/// sections 5.1 and 5.2). `NotFlat` comes where the network is not flat; else `NoList` where there is no such
-/// list; else `TooLong` where the least list has more than `max_containers` containers; else
-/// `HopLimit` where its need is not below `hop_limit`.
+/// sections 5.1 and 5.2). `NotFlat` comes where the network is not flat; else `NoList` where there
+/// is no such list; else `TooLong` where the least list has more than `max_containers` containers;
+/// else `HopLimit` where its need is not below `hop_limit`.
 pub fn compile(alloc: Global, net: &Net, intent: &Intent) -> Result<Compiled, CompileFault>
     requires { IsIntent net.now intent.now }
     ensures { CompileAnswers net.now intent.now result }

@@ -56,7 +56,8 @@ next_spells (Some m) c n e few =
     let more = other_cond (eqb m 0) (Some (m * 10 + d)) n parts.1 in
     let same = same_Some (m * 10 + d) n more.1 in
     let some : 1 ≤ m = positive m (eqb-false m 0 more.0) in
-    ap length_text (sym same) ∙ text_more m d some digit (omega (arith, same, few)) ∙ ap (λ x. length_text m ++ (x ∷ [])) (digit_back c digit)
+    ap length_text (sym same) ∙ text_more m d some digit (omega (arith, same, few))
+    ∙ ap (λ x. length_text m ++ (x ∷ [])) (digit_back c digit)
   where
     positive : (m : ℕ) → (m ≡ 0 → ⊥) → 1 ≤ m
     positive m other = elim (cases_lt 0 m) [ inl some ↦ some | inr none ↦ absurd (other (omega arith)) ]

@@ -204,7 +204,8 @@ record Both (rest : List ℕ) (short : Bool) : Type 0 where
 few_more : (c : ℕ) (cs : List ℕ) (left digits : ℕ) (short : Bool) → DigitStep (Group left digits short) c cs → digits + 1 ≤ 4
 unfolding behind_digit
 few_more c cs left digits short h =
-    let below = ltb-true digits 4 (some_cond (ltb digits 4) (Some (Group left (digits + 1) short)) h.next h.is_next).0 in omega (arith, below)
+    let below = ltb-true digits 4 (some_cond (ltb digits 4) (Some (Group left (digits + 1) short)) h.next h.is_next).0 in
+    omega (arith, below)
 
 tails : (short : Bool) → GapsFollow short → (rest : List ℕ) → Both rest short
 unfolding walked

@@ -93,7 +93,8 @@ unfolding behind4
 one_more4 place q c valid e = by_test (eqb c 46) refl e
   where
     by_test : (b : Bool) → eqb c 46 ≡ b
-        → cond b (behind_dot place place.number) (option_map (λ n. place4 place.done place.value (Some n)) (number_behind place.number c)) ≡ Some q
+        → cond b (behind_dot place place.number) (option_map (λ n. place4 place.done place.value (Some n)) (number_behind place.number c))
+        ≡ Some q
         → IsPlace4 q × (spelled4 q ≡ spelled4 place ++ (c ∷ []))
     by_test true test e =
         let P : ℕ → Type 0 = λ n. IsPlace4 q × (spelled4 q ≡ spelled4 place ++ (n ∷ [])) in

@@ -180,7 +180,8 @@ fault_in_address IsText limit texts text at longest none =
 
 -- ---- a set bit
 
-pub text_round_slash : (text : List ℕ) (at : ℕ) → at < length text → get_or text at 0 ≡ 47 → text ≡ take at text ++ (47 ∷ drop (suc at) text)
+pub text_round_slash : (text : List ℕ) (at : ℕ) → at < length text → get_or text at 0 ≡ 47
+    → text ≡ take at text ++ (47 ∷ drop (suc at) text)
 text_round_slash text at inside slash =
     sym (take-append-drop at text) ∙ ap (λ t. take at text ++ t) (drop-cons text at 0 inside)
     ∙ ap (λ c. take at text ++ (c ∷ drop (suc at) text)) slash

@@ -42,7 +42,8 @@ number_no_slash n small =
       | inr more ↦ elim (cases_lt n 100) [
         | inl two ↦ subst NoSlash (sym (length_text-2 n more two))
             (one_no_slash (n / 10) (digit_char (n % 10) ∷ []) (omega arith) (one_no_slash (n % 10) [] (omega arith) nothing))
-        | inr three ↦ subst NoSlash (sym (length_text-3 n three)) (one_no_slash (n / 100) (digit_char (n / 10 % 10) ∷ digit_char (n % 10) ∷ []) (omega arith)
+        | inr three ↦ subst NoSlash (sym (length_text-3 n three))
+            (one_no_slash (n / 100) (digit_char (n / 10 % 10) ∷ digit_char (n % 10) ∷ []) (omega arith)
             (one_no_slash (n / 10 % 10) (digit_char (n % 10) ∷ []) (omega arith) (one_no_slash (n % 10) [] (omega arith) nothing)))
       ]
     ]

@@ -13,7 +13,8 @@ loop-i-init c = refl
 
 pub returns-in-None : goal.returns-in-None
 returns-in-None c =
-    stopped_at (Begins IsAddressText) behind Start c.loop-i.place c.args.text.now c.loop-i.i addresses_reach (omega arith) c.loop-i.invariant
+    stopped_at (Begins IsAddressText) behind Start c.loop-i.place c.args.text.now c.loop-i.i addresses_reach (omega arith)
+    c.loop-i.invariant
     (sym c.in-None.ensures)
 
 pub loop-i-preserved : goal.loop-i-preserved
@@ -23,4 +24,5 @@ loop-i-preserved c =
 
 pub returns : goal.returns
 returns c =
-    walked_all (Begins IsAddressText) behind Start c.loop-i.place c.args.text.now c.loop-i.i addresses_reach (omega arith) c.loop-i.invariant
+    walked_all (Begins IsAddressText) behind Start c.loop-i.place c.args.text.now c.loop-i.i addresses_reach (omega arith)
+    c.loop-i.invariant
