@@ -23,7 +23,7 @@ Goes-map (outcomes.Send link) t E f h = Crosses-map t link f h
 Goes-map (outcomes.Again n how) t E f h = h
 Goes-map (outcomes.Hand n how family) t E f h = h
 Goes-map outcomes.Local t E f h = absurd h
-Goes-map (outcomes.Drop reason) t E f h = absurd h
+Goes-map (outcomes.Drop reason error) t E f h = absurd h
 
 module _ (net : Network) (end : List Step → walks.Step → Bool) where
   -- a row of choices for every list of choices
@@ -56,7 +56,7 @@ module _ (net : Network) (end : List Step → walks.Step → Bool) where
   goes_agree ts more place after pick qick taken uaken (outcomes.Again n how) t E ih h = h
   goes_agree ts more place after pick qick taken uaken (outcomes.Hand n how family) t E ih h = h
   goes_agree ts more place after pick qick taken uaken outcomes.Local t E ih h = absurd h
-  goes_agree ts more place after pick qick taken uaken (outcomes.Drop reason) t E ih h = absurd h
+  goes_agree ts more place after pick qick taken uaken (outcomes.Drop reason error) t E ih h = absurd h
 
   -- rows that agree for as many decisions as there are steps, and one more, give the same
   agree : (fuel : ℕ) (ts : List Step) (o : Option Place) (content : Content) (pick qick : ℕ → ℕ) (taken uaken : ℕ)
@@ -133,7 +133,7 @@ module _ (net : Network) (end : List Step → walks.Step → Bool) where
   every_from ts place after choice (outcomes.Again n how) t E all ih = let first = all (λ _. choice) refl in first.1
   every_from ts place after choice (outcomes.Hand n how family) t E all ih = let first = all (λ _. choice) refl in first.1
   every_from ts place after choice outcomes.Local t E all ih = let first = all (λ _. choice) refl in absurd first.1
-  every_from ts place after choice (outcomes.Drop reason) t E all ih = let first = all (λ _. choice) refl in absurd first.1
+  every_from ts place after choice (outcomes.Drop reason error) t E all ih = let first = all (λ _. choice) refl in absurd first.1
 
   first_end : (place : Place) (content : Content) (pick : ℕ → ℕ) (choice fuel : ℕ) → pick 0 ≡ choice
       → Rides end [] (walk_of fuel net (Some place) content pick 0)

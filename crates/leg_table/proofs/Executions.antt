@@ -1,107 +1,146 @@
 -- What the execution of a SID gives: a packet with a next segment goes on, lowered; a packet inside is exposed.
-use Rattle.std.proofs.Common.{◌≡◌, ℕ, ◌-◌, ◌<◌, ◌≤◌, ◌⊎◌, inl, inr, Bool, true, false, ◌==◌, ◌&&◌, nat_le, if◌then◌else◌, List, [], ◌∷◌, length, drop, Option, Some, None, IsTrue, slice_get, refl, sym, ◌∙◌, ap, subst, eqb-true}
+use Rattle.std.proofs.Common.{◌≡◌, ℕ, ◌-◌, ◌<◌, ◌≤◌, ◌⊎◌, inl, inr, Bool, true, false, ◌==◌, ◌&&◌, nat_le, if◌then◌else◌, List, [], ◌∷◌, length, drop, Option, Some, None, IsTrue, slice_get, refl, sym, ◌∙◌, ap, subst, eqb-true, ◌+◌}
 use Rattle.std.specs.Prelude.{◌↔◌}
 use Rattle.std.proofs.lemmas.Bool.{false≢true, and_parts, and_from, eq-eqb, le-leb, lt-leb}
 use Rattle.std.proofs.lemmas.Bool.Decides.{leb_tells}
 use Rattle.srv6_rules.specs.declared.sid.Behaviour.{Behaviour}
-use Rattle.srv6_rules.specs.declared.sid.Behaviour.TheVariants as behaviours
+use Rattle.srv6_rules.specs.declared.sid.Family.{Family}
 use Rattle.srv6_rules.specs.declared.sid.Family.TheVariants as families
 use Rattle.srv6_rules.specs.declared.sid.Reason.TheVariants as reasons
 use Rattle.srv6_rules.specs.declared.sid.SidEntry.{SidEntry}
-use Rattle.srv6_rules.specs.Packet.{Packet, Content, V6, content_of}
-use Rattle.srv6_rules.specs.Srh.{Srh, srh_of}
-use Rattle.srv6_rules.specs.Chain.{Header, Processed, AtHeader, AtUpper, AtCut, is_segment_routing, processed_of, chain_at, chain_within}
-use Rattle.srv6_rules.specs.Endpoint.{Endpoint, Onward, Exposed, Delivered, Refused, at_sid, processed_at_sid, next_segment, has_bad_segments, advanced, ipv6_inside}
-use Rattle.srv6_rules.specs.Srh.{tlv_bytes}
+use Rattle.srv6_rules.specs.Behaviours.{goes_on, exposes, ipv6_inside}
+use Rattle.srv6_rules.specs.Packet.{Packet, Content, V6, read_as}
+use Rattle.srv6_rules.specs.Srh.{Srh, srh_of, tlv_bytes, segments_left_at}
+use Rattle.srv6_rules.specs.Chain.{Header, ChainEnd, Upper, Cut, is_segment_routing, chain_of, chain_at, chain_within}
+use Rattle.srv6_rules.specs.Endpoint.{Endpoint, Onward, Exposed, Delivered, Refused, at_sid, at_header, at_end, over_headers, upper_layer, in_packet, next_segment, has_bad_segments, advanced}
 use Rattle.net_model.specs.Network.{Network}
 use Rattle.walk_rules.specs.declared.place.Place.{Place}
 use Rattle.walk_rules.specs.declared.place.Outcome.{Outcome}
 use Rattle.walk_rules.specs.declared.place.Outcome.TheVariants as outcomes
-use Rattle.walk_rules.specs.Treatment.{Way, Into, way_of, Gave, treated, treated_in, treated_at_sid, allow_of, step_of, on_from, dropped}
+use Rattle.walk_rules.specs.Way.{Way, Into, way_of}
+use Rattle.walk_rules.specs.Treatment.{Gave, goes, treated, treated_in, treated_at_sid, allow_of, step_of, on_from, dropped}
 use Rattle.intent_reader.specs.declared.intent.Step.{Step}
 use Rattle.leg_table.specs.Tasks.{left_after}
 use Rattle.leg_table.specs.Choices.{Ends, seen_at}
 use Rattle.leg_table.specs.Ride.{with_hop_limit}
-use Rattle.leg_table.specs.Sids.{goes_on}
-use Rattle.leg_table.specs.Leg.{is_onward, is_exposed, has_next_segment, has_packet_inside, is_again, is_hand, is_left, executes, exposes}
+use Rattle.leg_table.specs.Leg.{is_onward, is_exposed, takes_on, takes_out, has_next_segment, has_packet_inside, is_again, is_hand, is_left, stage_executes, stage_exposes}
+
+-- what comes of a packet is that it goes on where its hop limit is above 1, else that it is dropped for its hop limit
+abbrev pub GoesOnAbove : Packet → (Packet → Endpoint) → Type 0
+GoesOnAbove p treat =
+    ((limit : ℕ) → 1 < limit → (q : Packet) × (treat (with_hop_limit limit p) ≡ Onward q) × (q.hop_limit ≡ limit - 1))
+    × ((limit : ℕ) → limit ≤ 1 → treat (with_hop_limit limit p) ≡ Refused reasons.HopLimit 0)
 
 -- where a next segment is there, the step over the header depends on the hop limit alone
 segment_opens : (p : Packet) (at : ℕ) (s : Srh) → is_onward (next_segment (with_hop_limit 2 p) at s) ≡ true
-    → ((limit : ℕ) → 1 < limit → next_segment (with_hop_limit limit p) at s ≡ Onward (advanced (with_hop_limit limit p) at s))
-    × ((limit : ℕ) → limit ≤ 1 → next_segment (with_hop_limit limit p) at s ≡ Refused reasons.HopLimit)
-segment_opens p at s h = by_tests (has_bad_segments s) (length (tlv_bytes s) == 0) refl refl h
+    → GoesOnAbove p (λ q. next_segment q at s)
+segment_opens p at s on = by_tests (has_bad_segments s) (length (tlv_bytes s) == 0) refl refl on
   where
     by_tests : (bad fits : Bool) → has_bad_segments s ≡ bad → (length (tlv_bytes s) == 0) ≡ fits
-        → is_onward (if bad then Refused reasons.BadSegments else if fits then Onward (advanced (with_hop_limit 2 p) at s) else Refused reasons.NotBuilt) ≡ true
-        → ((limit : ℕ) → 1 < limit → next_segment (with_hop_limit limit p) at s ≡ Onward (advanced (with_hop_limit limit p) at s))
-        × ((limit : ℕ) → limit ≤ 1 → next_segment (with_hop_limit limit p) at s ≡ Refused reasons.HopLimit)
-    by_tests true fits e f h = absurd (false≢true h)
-    by_tests false false e f h = absurd (false≢true h)
-    by_tests false true e f h =
-        (λ limit high. rw (lt-leb limit 1 high, e, f) refl, λ limit low. rw (le-leb limit 1 low) refl)
+        → is_onward (if bad then Refused reasons.BadSegments (in_packet (at + segments_left_at))
+        else if fits then Onward (advanced (with_hop_limit 2 p) at s) else Refused reasons.NotBuilt 0) ≡ true
+        → GoesOnAbove p (λ q. next_segment q at s)
+    by_tests true fits e f on = absurd (false≢true on)
+    by_tests false false e f on = absurd (false≢true on)
+    by_tests false true e f on = (
+      λ limit high. (advanced (with_hop_limit limit p) at s, rw (lt-leb limit 1 high, e, f) refl, refl),
+      λ limit low. rw (le-leb limit 1 low) refl,
+    )
 
-abbrev Steps-on : Behaviour → List ℕ → Packet → Processed → Type 0
-Steps-on b allow p x =
-    ((limit : ℕ) → 1 < limit → (q : Packet) × (processed_at_sid b allow (with_hop_limit limit p) x ≡ Onward q) × (q.hop_limit ≡ limit - 1))
-    × ((limit : ℕ) → limit ≤ 1 → processed_at_sid b allow (with_hop_limit limit p) x ≡ Refused reasons.HopLimit)
-
-header_steps : (b : Behaviour) (allow : List ℕ) (p : Packet) (h : Header) → goes_on b ≡ true
-    → is_onward (processed_at_sid behaviours.End [] (with_hop_limit 2 p) (AtHeader h)) ≡ true → Steps-on b allow p (AtHeader h)
-header_steps b allow p h middle on = by_test (is_segment_routing h) refl on
+segment_hides : (p : Packet) (at : ℕ) (s : Srh) → is_exposed (next_segment p at s) ≡ true → ⊥
+segment_hides p at s on = by_tests (nat_le p.hop_limit 1) (has_bad_segments s) (length (tlv_bytes s) == 0) on
   where
-    with_test : (b : Behaviour) → goes_on b ≡ true → is_segment_routing h ≡ true
-        → ((limit : ℕ) → 1 < limit → next_segment (with_hop_limit limit p) h.at (srh_of h.bytes) ≡ Onward (advanced (with_hop_limit limit p) h.at (srh_of h.bytes)))
-        × ((limit : ℕ) → limit ≤ 1 → next_segment (with_hop_limit limit p) h.at (srh_of h.bytes) ≡ Refused reasons.HopLimit)
-        → Steps-on b allow p (AtHeader h)
-    with_test behaviours.End middle e opens =
-        (λ limit high. (advanced (with_hop_limit limit p) h.at (srh_of h.bytes), rw e (opens.0 limit high), refl), λ limit low. rw e (opens.1 limit low))
-    with_test behaviours.EndX middle e opens =
-        (λ limit high. (advanced (with_hop_limit limit p) h.at (srh_of h.bytes), rw e (opens.0 limit high), refl), λ limit low. rw e (opens.1 limit low))
-    with_test (behaviours.Dt6 table) middle e opens = absurd (false≢true middle)
+    by_tests : (low bad fits : Bool)
+        → is_exposed (if low then Refused reasons.HopLimit 0
+        else if bad then Refused reasons.BadSegments (in_packet (at + segments_left_at))
+        else if fits then Onward (advanced p at s) else Refused reasons.NotBuilt 0) ≡ true → ⊥
+    by_tests true bad fits on = false≢true on
+    by_tests false true fits on = false≢true on
+    by_tests false false true on = false≢true on
+    by_tests false false false on = false≢true on
 
-    by_test : (t : Bool) → is_segment_routing h ≡ t
-        → is_onward (if t then next_segment (with_hop_limit 2 p) h.at (srh_of h.bytes) else Refused reasons.NotBuilt) ≡ true
-        → Steps-on b allow p (AtHeader h)
-    by_test true e on = with_test b middle e (segment_opens p h.at (srh_of h.bytes) on)
-    by_test false e on = absurd (false≢true on)
+module _ (s : SidEntry) where
+  -- no packet goes on from the end of its chain
+  end_stays : (p : Packet) (end : ChainEnd) → is_onward (at_end s [] p end) ≡ true → ⊥
+  end_stays p Cut on = false≢true on
+  end_stays p (Upper kind at) on = by_test (exposes s kind) on
+    where
+      by_test : (t : Bool) → is_onward (if t then Exposed families.V6 (drop at p.payload) else upper_layer [] p kind at) ≡ true → ⊥
+      by_test true on = false≢true on
+      by_test false on = false≢true on
 
-processed_steps : (b : Behaviour) (allow : List ℕ) (p : Packet) (x : Processed) → goes_on b ≡ true
-    → is_onward (processed_at_sid behaviours.End [] (with_hop_limit 2 p) x) ≡ true → Steps-on b allow p x
-processed_steps b allow p (AtHeader h) middle on = header_steps b allow p h middle on
-processed_steps b allow p (AtUpper kind at) middle on = absurd (false≢true on)
-processed_steps b allow p AtCut middle on = absurd (false≢true on)
+  header_opens : (p : Packet) (h : Header) (behind : Endpoint) (rest : Packet → Endpoint)
+      → (is_onward behind ≡ true → GoesOnAbove p rest) → is_onward (at_header s (with_hop_limit 2 p) h behind) ≡ true
+      → GoesOnAbove p (λ q. at_header s q h (rest q))
+  header_opens p h behind rest ih on = by_tests (is_segment_routing h) ((srh_of h.bytes).segments_left == 0) (goes_on s) on
+    where
+      by_tests : (routing none goes : Bool)
+          → is_onward (if routing
+          then (if none then behind else if goes then next_segment (with_hop_limit 2 p) h.at (srh_of h.bytes)
+          else Refused reasons.BadSegments (in_packet (h.at + segments_left_at))) else Refused reasons.NotBuilt 0) ≡ true
+          → GoesOnAbove p (λ q. if routing
+          then (if none then rest q else if goes then next_segment q h.at (srh_of h.bytes)
+          else Refused reasons.BadSegments (in_packet (h.at + segments_left_at))) else Refused reasons.NotBuilt 0)
+      by_tests true true goes on = ih on
+      by_tests true false true on = segment_opens p h.at (srh_of h.bytes) on
+      by_tests true false false on = absurd (false≢true on)
+      by_tests false none goes on = absurd (false≢true on)
 
--- at a SID from which packets go on, a packet with a next segment goes on where its hop limit is above 1, else is dropped
-pub steps_on : (b : Behaviour) (allow : List ℕ) (p : Packet) → goes_on b ≡ true → has_next_segment p ≡ true
-    → ((limit : ℕ) → 1 < limit → (q : Packet) × (at_sid b allow (with_hop_limit limit p) ≡ Onward q) × (q.hop_limit ≡ limit - 1))
-    × ((limit : ℕ) → limit ≤ 1 → at_sid b allow (with_hop_limit limit p) ≡ Refused reasons.HopLimit)
-steps_on b allow p middle on = processed_steps b allow p (processed_of p) middle on
+  headers_open : (allow : List ℕ) (p : Packet) (hs : List Header) (end : ChainEnd)
+      → is_onward (over_headers (at_header s (with_hop_limit 2 p)) hs (at_end s [] (with_hop_limit 2 p) end)) ≡ true
+      → GoesOnAbove p (λ q. over_headers (at_header s q) hs (at_end s allow q end))
+  headers_open allow p [] end on = absurd (end_stays (with_hop_limit 2 p) end on)
+  headers_open allow p (h ∷ hs) end on =
+      header_opens p h (over_headers (at_header s (with_hop_limit 2 p)) hs (at_end s [] (with_hop_limit 2 p) end))
+      (λ q. over_headers (at_header s q) hs (at_end s allow q end)) (λ more. headers_open allow p hs end more) on
 
-dt6_exposes : (table : ℕ) (allow : List ℕ) (p : Packet) (limit : ℕ) (x : Processed) → is_exposed (processed_at_sid (behaviours.Dt6 0) [] p x) ≡ true
-    → (content : Content) × (processed_at_sid (behaviours.Dt6 table) allow (with_hop_limit limit p) x ≡ Exposed content)
-    × (processed_at_sid (behaviours.Dt6 0) [] p x ≡ Exposed content)
-dt6_exposes table allow p limit (AtHeader h) on = by_test (is_segment_routing h) on
-  where
-    by_test : (t : Bool) → is_exposed (if t then Refused reasons.BadSegments else Refused reasons.NotBuilt) ≡ true
-        → (content : Content) × (processed_at_sid (behaviours.Dt6 table) allow (with_hop_limit limit p) (AtHeader h) ≡ Exposed content)
-        × (processed_at_sid (behaviours.Dt6 0) [] p (AtHeader h) ≡ Exposed content)
-    by_test true on = absurd (false≢true on)
-    by_test false on = absurd (false≢true on)
-dt6_exposes table allow p limit (AtUpper kind at) on = by_test (kind == ipv6_inside) refl on
-  where
-    by_test : (t : Bool) → (kind == ipv6_inside) ≡ t
-        → is_exposed (if t then Exposed (content_of (drop at p.payload)) else Refused reasons.UpperLayer) ≡ true
-        → (content : Content) × (processed_at_sid (behaviours.Dt6 table) allow (with_hop_limit limit p) (AtUpper kind at) ≡ Exposed content)
-        × (processed_at_sid (behaviours.Dt6 0) [] p (AtUpper kind at) ≡ Exposed content)
-    by_test true e on = (content_of (drop at p.payload), rw e refl, rw e refl)
-    by_test false e on = absurd (false≢true on)
-dt6_exposes table allow p limit AtCut on = absurd (false≢true on)
+  -- a packet that the SID takes on to a next segment goes on where its hop limit is above 1, else is dropped
+  pub steps_on : (allow : List ℕ) (p : Packet) → is_onward (at_sid s [] (with_hop_limit 2 p)) ≡ true → GoesOnAbove p (at_sid s allow)
+  steps_on allow p on = headers_open allow p (chain_of p).headers (chain_of p).end on
 
--- End.DT6 exposes the packet inside, whatever the hop limit
-pub exposes_inside : (table : ℕ) (allow : List ℕ) (p : Packet) (limit : ℕ) → has_packet_inside p ≡ true
-    → (content : Content) × (at_sid (behaviours.Dt6 table) allow (with_hop_limit limit p) ≡ Exposed content)
-    × (at_sid (behaviours.Dt6 0) [] p ≡ Exposed content)
-exposes_inside table allow p limit on = dt6_exposes table allow p limit (processed_of p) on
+  -- a packet inside that comes of a packet, whatever its hop limit
+  abbrev Shows : Endpoint → Type 0
+  Shows e = (family : Family) × (bytes : List ℕ) × (e ≡ Exposed family bytes)
+
+  end_shows : (allow : List ℕ) (p : Packet) (limit : ℕ) (end : ChainEnd) → is_exposed (at_end s [] p end) ≡ true
+      → Shows (at_end s allow (with_hop_limit limit p) end)
+  end_shows allow p limit Cut on = absurd (false≢true on)
+  end_shows allow p limit (Upper kind at) on = by_test (exposes s kind) on
+    where
+      by_test : (t : Bool) → is_exposed (if t then Exposed families.V6 (drop at p.payload) else upper_layer [] p kind at) ≡ true
+          → Shows (if t then Exposed families.V6 (drop at p.payload) else upper_layer allow (with_hop_limit limit p) kind at)
+      by_test true on = (families.V6, drop at p.payload, refl)
+      by_test false on = absurd (false≢true on)
+
+  header_shows : (p q : Packet) (h : Header) (behind rest : Endpoint) → (is_exposed behind ≡ true → Shows rest)
+      → is_exposed (at_header s p h behind) ≡ true → Shows (at_header s q h rest)
+  header_shows p q h behind rest ih on = by_tests (is_segment_routing h) ((srh_of h.bytes).segments_left == 0) (goes_on s) on
+    where
+      by_tests : (routing none goes : Bool)
+          → is_exposed (if routing
+          then (if none then behind else if goes then next_segment p h.at (srh_of h.bytes)
+          else Refused reasons.BadSegments (in_packet (h.at + segments_left_at))) else Refused reasons.NotBuilt 0) ≡ true
+          → Shows (if routing
+          then (if none then rest else if goes then next_segment q h.at (srh_of h.bytes)
+          else Refused reasons.BadSegments (in_packet (h.at + segments_left_at))) else Refused reasons.NotBuilt 0)
+      by_tests true true goes on = ih on
+      by_tests true false true on = absurd (segment_hides p h.at (srh_of h.bytes) on)
+      by_tests true false false on = absurd (false≢true on)
+      by_tests false none goes on = absurd (false≢true on)
+
+  headers_show : (allow : List ℕ) (p : Packet) (limit : ℕ) (hs : List Header) (end : ChainEnd)
+      → is_exposed (over_headers (at_header s p) hs (at_end s [] p end)) ≡ true
+      → Shows (over_headers (at_header s (with_hop_limit limit p)) hs (at_end s allow (with_hop_limit limit p) end))
+  headers_show allow p limit [] end on = end_shows allow p limit end on
+  headers_show allow p limit (h ∷ hs) end on =
+      header_shows p (with_hop_limit limit p) h (over_headers (at_header s p) hs (at_end s [] p end))
+      (over_headers (at_header s (with_hop_limit limit p)) hs (at_end s allow (with_hop_limit limit p) end))
+      (λ more. headers_show allow p limit hs end more) on
+
+  -- the SID exposes the packet inside, whatever the hop limit
+  pub shows_inside : (allow : List ℕ) (p : Packet) (limit : ℕ) → is_exposed (at_sid s [] p) ≡ true
+      → Shows (at_sid s allow (with_hop_limit limit p))
+  shows_inside allow p limit on = headers_show allow p limit (chain_of p).headers (chain_of p).end on
 
 -- a packet with one segment to come, and a packet in which a packet begins
 pub some_packet : ℕ → ℕ → Packet
@@ -116,58 +155,94 @@ some_packet destination limit =
       payload = 41 ∷ 2 ∷ 4 ∷ 1 ∷ 0 ∷ 0 ∷ 0 ∷ 0 ∷ 0 ∷ 0 ∷ 0 ∷ 0 ∷ 0 ∷ 0 ∷ 0 ∷ 0 ∷ 0 ∷ 0 ∷ 0 ∷ 0 ∷ 0 ∷ 0 ∷ 0 ∷ 0 ∷ [];
     }
 
-pub some_packet-has : (destination limit : ℕ)
-    → (has_next_segment (some_packet destination limit) ≡ true) × ((some_packet destination limit).destination ≡ destination)
-    × ((some_packet destination limit).hop_limit ≡ limit)
+some_packet-onward : (s : SidEntry) (destination limit : ℕ) → goes_on s ≡ true
+    → is_onward (at_sid s [] (with_hop_limit 2 (some_packet destination limit))) ≡ true
 unfolding some_packet chain_at chain_within
-some_packet-has destination limit = (refl, refl, refl)
+some_packet-onward s destination limit goes = rw goes refl
+
+some_packet-fields : (destination limit : ℕ)
+    → ((some_packet destination limit).destination ≡ destination) × ((some_packet destination limit).hop_limit ≡ limit)
+unfolding some_packet
+some_packet-fields destination limit = (refl, refl)
+
+pub some_packet-has : (net : Network) (n : ℕ) (s : SidEntry) (destination limit : ℕ) → slice_get net.sids n ≡ Some s → goes_on s ≡ true
+    → (has_next_segment net n (some_packet destination limit) ≡ true) × ((some_packet destination limit).destination ≡ destination)
+    × ((some_packet destination limit).hop_limit ≡ limit)
+some_packet-has net n s destination limit there goes =
+    let fields = some_packet-fields destination limit in (
+      ap (λ (o : Option SidEntry). takes_on o (some_packet destination limit)) there ∙ some_packet-onward s destination limit goes,
+      fields.0,
+      fields.1,
+    )
 
 pub last_packet : ℕ → ℕ → Packet
 last_packet destination limit =
     record { traffic_class = 0; flow_label = 0; next_header = 41; hop_limit = limit; source = 0; destination = destination; payload = [] }
 
-pub last_packet-has : (destination limit : ℕ)
-    → (has_packet_inside (last_packet destination limit) ≡ true) × ((last_packet destination limit).destination ≡ destination)
-    × ((last_packet destination limit).hop_limit ≡ limit)
+last_packet-exposed : (s : SidEntry) (destination limit : ℕ) → exposes s ipv6_inside ≡ true
+    → is_exposed (at_sid s [] (last_packet destination limit)) ≡ true
 unfolding last_packet chain_at chain_within
-last_packet-has destination limit = (refl, refl, refl)
+last_packet-exposed s destination limit shows = rw shows refl
+
+last_packet-fields : (destination limit : ℕ)
+    → ((last_packet destination limit).destination ≡ destination) × ((last_packet destination limit).hop_limit ≡ limit)
+unfolding last_packet
+last_packet-fields destination limit = (refl, refl)
+
+pub last_packet-has : (net : Network) (n : ℕ) (s : SidEntry) (destination limit : ℕ) → slice_get net.sids n ≡ Some s
+    → exposes s ipv6_inside ≡ true
+    → (has_packet_inside net n (last_packet destination limit) ≡ true) × ((last_packet destination limit).destination ≡ destination)
+    × ((last_packet destination limit).hop_limit ≡ limit)
+last_packet-has net n s destination limit there shows =
+    let fields = last_packet-fields destination limit in (
+      ap (λ (o : Option SidEntry). takes_out o (last_packet destination limit)) there ∙ last_packet-exposed s destination limit shows,
+      fields.0,
+      fields.1,
+    )
 
 -- the stage at a place from which a packet comes into SID n
-pub stage_into : (net : Network) (place : Place) (q : Packet) (n : ℕ) (s : SidEntry) (choice : ℕ) → way_of net place q.destination ≡ Into n → slice_get net.sids n ≡ Some s
-    → step_of net place (V6 q) choice ≡ treated_at_sid n s.behaviour q (at_sid s.behaviour (allow_of (slice_get net.nodes place.node)) q)
+pub stage_into : (net : Network) (place : Place) (q : Packet) (n : ℕ) (s : SidEntry) (choice : ℕ)
+    → way_of net place q.destination ≡ Into n → slice_get net.sids n ≡ Some s
+    → step_of net place (V6 q) choice
+    ≡ treated_at_sid net place.node n s.behaviour q (at_sid s (allow_of (slice_get net.nodes place.node)) q)
 stage_into net place q n s choice e f =
     ap (λ (w : Way). treated net place.node w q choice) e ∙ ap (λ (o : Option SidEntry). treated_in net place.node n o q) f
 
 -- what an execution names is the SID that the packet came into
-again_names : (next n : ℕ) (b : Behaviour) (q : Packet) (e : Endpoint) → is_again next (treated_at_sid n b q e).outcome ≡ true → n ≡ next
-again_names next n b q (Onward r) h = eqb-true n next h
-again_names next n b q (Exposed content) h = absurd (false≢true h)
-again_names next n b q Delivered h = absurd (false≢true h)
-again_names next n b q (Refused reason) h = absurd (false≢true h)
+module _ (net : Network) (node : ℕ) where
+  again_names : (next n : ℕ) (b : Behaviour) (q : Packet) (e : Endpoint)
+      → is_again next (treated_at_sid net node n b q e).outcome ≡ true → n ≡ next
+  again_names next n b q (Onward r) h = eqb-true n next h
+  again_names next n b q (Exposed family bytes) h = absurd (false≢true h)
+  again_names next n b q (Delivered r) h = absurd (false≢true h)
+  again_names next n b q (Refused reason at) h = absurd (false≢true h)
 
-hand_names : (next n : ℕ) (b : Behaviour) (q : Packet) (e : Endpoint) → is_hand next (treated_at_sid n b q e).outcome ≡ true → n ≡ next
-hand_names next n b q (Onward r) h = absurd (false≢true h)
-hand_names next n b q (Exposed content) h = eqb-true n next h
-hand_names next n b q Delivered h = absurd (false≢true h)
-hand_names next n b q (Refused reason) h = absurd (false≢true h)
+  hand_names : (next n : ℕ) (b : Behaviour) (q : Packet) (e : Endpoint)
+      → is_hand next (treated_at_sid net node n b q e).outcome ≡ true → n ≡ next
+  hand_names next n b q (Onward r) h = absurd (false≢true h)
+  hand_names next n b q (Exposed family bytes) h = eqb-true n next h
+  hand_names next n b q (Delivered r) h = absurd (false≢true h)
+  hand_names next n b q (Refused reason at) h = absurd (false≢true h)
 
-in-again_names : (net : Network) (node next n : ℕ) (o : Option SidEntry) (q : Packet) → is_again next (treated_in net node n o q).outcome ≡ true → n ≡ next
-in-again_names net node next n None q h = absurd (false≢true h)
-in-again_names net node next n (Some s) q h = again_names next n s.behaviour q (at_sid s.behaviour (allow_of (slice_get net.nodes node)) q) h
+  in-again_names : (next n : ℕ) (o : Option SidEntry) (q : Packet) → is_again next (treated_in net node n o q).outcome ≡ true → n ≡ next
+  in-again_names next n None q h = absurd (false≢true h)
+  in-again_names next n (Some s) q h = again_names next n s.behaviour q (at_sid s (allow_of (slice_get net.nodes node)) q) h
 
-in-hand_names : (net : Network) (node next n : ℕ) (o : Option SidEntry) (q : Packet) → is_hand next (treated_in net node n o q).outcome ≡ true → n ≡ next
-in-hand_names net node next n None q h = absurd (false≢true h)
-in-hand_names net node next n (Some s) q h = hand_names next n s.behaviour q (at_sid s.behaviour (allow_of (slice_get net.nodes node)) q) h
+  in-hand_names : (next n : ℕ) (o : Option SidEntry) (q : Packet) → is_hand next (treated_in net node n o q).outcome ≡ true → n ≡ next
+  in-hand_names next n None q h = absurd (false≢true h)
+  in-hand_names next n (Some s) q h = hand_names next n s.behaviour q (at_sid s (allow_of (slice_get net.nodes node)) q) h
 
 pub step-again_names : (net : Network) (place : Place) (q : Packet) (next n : ℕ) → way_of net place q.destination ≡ Into n
     → is_again next (step_of net place (V6 q) 0).outcome ≡ true → n ≡ next
 step-again_names net place q next n e h =
-    in-again_names net place.node next n (slice_get net.sids n) q (subst (λ (w : Way). is_again next (treated net place.node w q 0).outcome ≡ true) e h)
+    in-again_names net place.node next n (slice_get net.sids n) q
+    (subst (λ (w : Way). is_again next (treated net place.node w q 0).outcome ≡ true) e h)
 
 pub step-hand_names : (net : Network) (place : Place) (q : Packet) (next n : ℕ) → way_of net place q.destination ≡ Into n
     → is_hand next (step_of net place (V6 q) 0).outcome ≡ true → n ≡ next
 step-hand_names net place q next n e h =
-    in-hand_names net place.node next n (slice_get net.sids n) q (subst (λ (w : Way). is_hand next (treated net place.node w q 0).outcome ≡ true) e h)
+    in-hand_names net place.node next n (slice_get net.sids n) q
+    (subst (λ (w : Way). is_hand next (treated net place.node w q 0).outcome ≡ true) e h)
 
 -- what ends a way by a test holds of the stage
 pub Ends-test : (o : Outcome) (t : Bool) → Ends o (IsTrue t) → t ≡ true
@@ -175,91 +250,91 @@ Ends-test (outcomes.Send link) t h = absurd h
 Ends-test (outcomes.Again n how) t h = h
 Ends-test (outcomes.Hand n how family) t h = h
 Ends-test outcomes.Local t h = absurd h
-Ends-test (outcomes.Drop reason) t h = absurd h
+Ends-test (outcomes.Drop reason error) t h = absurd h
 
 is_left-is : (left : ℕ) (o : Option ℕ) → is_left left o ≡ true → o ≡ Some left
 is_left-is left None h = absurd (false≢true h)
 is_left-is left (Some m) h = ap Some (eqb-true m left h)
 
+is_left-from : (left : ℕ) (o : Option ℕ) → o ≡ Some left → is_left left o ≡ true
+is_left-from left o e = ap (is_left left) e ∙ eq-eqb left left refl
+
 module _ (net : Network) (place : Place) (p : Packet) (n : ℕ) (s : SidEntry) (ts : List Step) (limit left behind : ℕ)
     (into : way_of net place p.destination ≡ Into n) (there : slice_get net.sids n ≡ Some s) where
+  abbrev p' : Packet
+  p' = with_hop_limit limit p
+
+  abbrev allow : List ℕ
+  allow = allow_of (slice_get net.nodes place.node)
+
+  abbrev stage : Gave
+  stage = step_of net place (V6 p') 0
+
+  stage-is : stage ≡ treated_at_sid net place.node n s.behaviour p' (at_sid s allow p')
+  stage-is = stage_into net place p' n s 0 into there
+
   abbrev Executes : Gave → Type 0
-  Executes gave = Ends gave.outcome (IsTrue (executes net n left behind ts (seen_at place (V6 (with_hop_limit limit p)) gave)))
+  Executes gave = Ends gave.outcome (IsTrue (stage_executes net n left behind ts (seen_at place (V6 p') gave)))
+
+  drops : has_next_segment net n p ≡ true → limit ≤ 1 → stage ≡ dropped net place.node reasons.HopLimit 0 (V6 p')
+  drops on low =
+      let has = ap (λ (o : Option SidEntry). takes_on o p) (sym there) ∙ on in
+      stage-is ∙ ap (treated_at_sid net place.node n s.behaviour p') ((steps_on s allow p has).1 limit low)
+
+  goes-on : has_next_segment net n p ≡ true → 1 < limit
+      → (q : Packet) × (stage ≡ goes (outcomes.Again n (on_from n s.behaviour)) (V6 q)) × (q.hop_limit ≡ limit - 1)
+  goes-on on high =
+      let has = ap (λ (o : Option SidEntry). takes_on o p) (sym there) ∙ on in
+      let got = (steps_on s allow p has).0 limit high in
+      (got.0, stage-is ∙ ap (treated_at_sid net place.node n s.behaviour p') got.1, got.2)
 
   -- an execution after which the packet goes on
-  pub executes-is : goes_on s.behaviour ≡ true → has_next_segment p ≡ true
-      → Executes (step_of net place (V6 (with_hop_limit limit p)) 0) ↔ (1 < limit) × (left_after net n ts ≡ Some left) × (limit - 1 ≡ behind)
-  executes-is middle on = (λ h. forth h (leb_tells limit 1), λ h. back h)
+  pub executes-is : has_next_segment net n p ≡ true
+      → Executes stage ↔ (1 < limit) × (left_after net n ts ≡ Some left) × (limit - 1 ≡ behind)
+  executes-is on = (λ h. forth h (leb_tells limit 1), λ h. back h)
     where
-      allow : List ℕ
-      allow = allow_of (slice_get net.nodes place.node)
-
-      stage : step_of net place (V6 (with_hop_limit limit p)) 0
-          ≡ treated_at_sid n s.behaviour (with_hop_limit limit p) (at_sid s.behaviour allow (with_hop_limit limit p))
-      stage = stage_into net place (with_hop_limit limit p) n s 0 into there
-
-      drops : limit ≤ 1 → step_of net place (V6 (with_hop_limit limit p)) 0 ≡ dropped reasons.HopLimit (V6 (with_hop_limit limit p))
-      drops low = stage ∙ ap (treated_at_sid n s.behaviour (with_hop_limit limit p)) ((steps_on s.behaviour allow p middle on).1 limit low)
-
-      goes : 1 < limit → (q : Packet) × (step_of net place (V6 (with_hop_limit limit p)) 0 ≡ record { outcome = outcomes.Again n (on_from n s.behaviour); after = V6 q })
-          × (q.hop_limit ≡ limit - 1)
-      goes high =
-          let got = (steps_on s.behaviour allow p middle on).0 limit high in
-          (got.0, stage ∙ ap (treated_at_sid n s.behaviour (with_hop_limit limit p)) got.1, got.2)
-
-      forth : Executes (step_of net place (V6 (with_hop_limit limit p)) 0)
-          → ((nat_le limit 1 ≡ true) × (limit ≤ 1)) ⊎ ((nat_le limit 1 ≡ false) × (1 < limit))
+      forth : Executes stage → ((nat_le limit 1 ≡ true) × (limit ≤ 1)) ⊎ ((nat_le limit 1 ≡ false) × (1 < limit))
           → (1 < limit) × (left_after net n ts ≡ Some left) × (limit - 1 ≡ behind)
-      forth h (inl low) = absurd (subst Executes (drops low.1) h)
+      forth h (inl low) = absurd (subst Executes (drops on low.1) h)
       forth h (inr high) =
-          let got = goes high.1 in
-          let e : executes net n left behind ts (seen_at place (V6 (with_hop_limit limit p)) (record { outcome = outcomes.Again n (on_from n s.behaviour); after = V6 got.0 })) ≡ true
-          = subst Executes got.1 h in
+          let got = goes-on on high.1 in
+          let e : ((n == n) && (is_left left (left_after net n ts) && (got.0.hop_limit == behind))) ≡ true = subst Executes got.1 h in
           let parts = and_parts (n == n) (is_left left (left_after net n ts) && (got.0.hop_limit == behind)) e in
           let more = and_parts (is_left left (left_after net n ts)) (got.0.hop_limit == behind) parts.1 in
           (high.1, is_left-is left (left_after net n ts) more.0, sym got.2 ∙ eqb-true got.0.hop_limit behind more.1)
 
-      back : (1 < limit) × (left_after net n ts ≡ Some left) × (limit - 1 ≡ behind) → Executes (step_of net place (V6 (with_hop_limit limit p)) 0)
+      back : (1 < limit) × (left_after net n ts ≡ Some left) × (limit - 1 ≡ behind) → Executes stage
       back h =
-          let got = goes h.0 in
+          let got = goes-on on h.0 in
           subst Executes (sym got.1)
           (and_from (n == n) (is_left left (left_after net n ts) && (got.0.hop_limit == behind)) (eq-eqb n n refl)
           (and_from (is_left left (left_after net n ts)) (got.0.hop_limit == behind)
-          (ap (is_left left) h.1 ∙ eq-eqb left left refl) (eq-eqb got.0.hop_limit behind (got.2 ∙ h.2))))
+          (is_left-from left (left_after net n ts) h.1) (eq-eqb got.0.hop_limit behind (got.2 ∙ h.2))))
 
   abbrev Exposes : Gave → Type 0
-  Exposes gave = Ends gave.outcome (IsTrue (exposes net n left behind ts (seen_at place (V6 (with_hop_limit limit p)) gave)))
+  Exposes gave = Ends gave.outcome (IsTrue (stage_exposes net n left behind ts (seen_at place (V6 p') gave)))
+
+  hands-out : has_packet_inside net n p ≡ true
+      → (family : Family) × (bytes : List ℕ) × (stage ≡ goes (outcomes.Hand n (on_from n s.behaviour) family) (read_as family bytes))
+  hands-out on =
+      let has = ap (λ (o : Option SidEntry). takes_out o p) (sym there) ∙ on in
+      let got = shows_inside s allow p limit has in
+      (got.0, got.1, stage-is ∙ ap (treated_at_sid net place.node n s.behaviour p') got.2)
 
   -- an execution that exposes the packet inside
-  pub exposes-is : (table : ℕ) → s.behaviour ≡ behaviours.Dt6 table → has_packet_inside p ≡ true
-      → Exposes (step_of net place (V6 (with_hop_limit limit p)) 0) ↔ (left_after net n ts ≡ Some left) × (limit ≡ behind)
-  exposes-is table last on = (λ h. forth h, λ h. back h)
+  pub exposes-is : has_packet_inside net n p ≡ true → Exposes stage ↔ (left_after net n ts ≡ Some left) × (limit ≡ behind)
+  exposes-is on = (λ h. forth h, λ h. back h)
     where
-      allow : List ℕ
-      allow = allow_of (slice_get net.nodes place.node)
-
-      content : Content
-      content = (exposes_inside table allow p limit on).0
-
-      stage : step_of net place (V6 (with_hop_limit limit p)) 0
-          ≡ record { outcome = outcomes.Hand n (on_from n (behaviours.Dt6 table)) families.V6; after = content }
-      stage =
-          stage_into net place (with_hop_limit limit p) n s 0 into there
-          ∙ ap (λ (b : Behaviour). treated_at_sid n b (with_hop_limit limit p) (at_sid b allow (with_hop_limit limit p))) last
-          ∙ ap (treated_at_sid n (behaviours.Dt6 table) (with_hop_limit limit p)) (exposes_inside table allow p limit on).1
-
-      forth : Exposes (step_of net place (V6 (with_hop_limit limit p)) 0) → (left_after net n ts ≡ Some left) × (limit ≡ behind)
+      forth : Exposes stage → (left_after net n ts ≡ Some left) × (limit ≡ behind)
       forth h =
-          let e : exposes net n left behind ts (seen_at place (V6 (with_hop_limit limit p))
-          (record { outcome = outcomes.Hand n (on_from n (behaviours.Dt6 table)) families.V6; after = content })) ≡ true
-          = subst Exposes stage h in
+          let e : ((n == n) && (is_left left (left_after net n ts) && (limit == behind))) ≡ true = subst Exposes (hands-out on).2 h in
           let parts = and_parts (n == n) (is_left left (left_after net n ts) && (limit == behind)) e in
           let more = and_parts (is_left left (left_after net n ts)) (limit == behind) parts.1 in
           (is_left-is left (left_after net n ts) more.0, eqb-true limit behind more.1)
 
-      back : (left_after net n ts ≡ Some left) × (limit ≡ behind) → Exposes (step_of net place (V6 (with_hop_limit limit p)) 0)
+      back : (left_after net n ts ≡ Some left) × (limit ≡ behind) → Exposes stage
       back h =
-          subst Exposes (sym stage)
+          subst Exposes (sym (hands-out on).2)
           (and_from (n == n) (is_left left (left_after net n ts) && (limit == behind)) (eq-eqb n n refl)
           (and_from (is_left left (left_after net n ts)) (limit == behind)
-          (ap (is_left left) h.0 ∙ eq-eqb left left refl) (eq-eqb limit behind h.1)))
+          (is_left-from left (left_after net n ts) h.0) (eq-eqb limit behind h.1)))

@@ -7,21 +7,23 @@ use Rattle.std.proofs.lemmas.Bool.{false≢true, and_parts}
 use Rattle.srv6_rules.specs.Packet.{Packet, Content, V6}
 use Rattle.net_model.specs.Network.{Network}
 use Rattle.net_model.specs.Keeps.{Keeps}
+use Rattle.walk_rules.specs.declared.place.How.{How}
 use Rattle.walk_rules.specs.declared.place.Place.{Place}
 use Rattle.walk_rules.specs.declared.place.Outcome.{Outcome}
 use Rattle.walk_rules.specs.declared.place.Outcome.TheVariants as outcomes
-use Rattle.walk_rules.specs.Treatment.{Way, Away, Over, Own, Into, way_of, Gave, member_of, lowered, treated, step_of}
+use Rattle.walk_rules.specs.Way.{Way, Away, Over, Own, Into, way_of, IsWayFrom}
+use Rattle.walk_rules.specs.Treatment.{Gave, goes, member_of, lowered, treated, step_of}
 use Rattle.walk_rules.specs.Relation.{IsHow}
 use Rattle.walk_rules.specs.Walk as walks
 use Rattle.walk_rules.specs.Walk.{walk_of, next_place, arrival, decisions}
-use Rattle.walk_rules.proofs.Stages.{HasLinks, sent-high}
+use Rattle.walk_rules.proofs.PublicLaws.{sent-high, way-from}
 use Rattle.intent_reader.specs.Rules.{stand_after, first_end, ends_at}
 use Rattle.intent_reader.specs.declared.intent.Step.{Step}
 use Rattle.intent_reader.specs.declared.intent.Step.TheVariants.{Links, Function}
 use Rattle.leg_table.specs.Trace.{Event, Crossed, Executed, is_titled, executed, Handed, after_events, handed_first, handed_over}
 use Rattle.leg_table.specs.Tasks.{has_link, meets, matches}
 use Rattle.leg_table.specs.Ride.{Ride, one_if, more_lowered, ride_on, ride_by, ride_end, ride_of, with_hop_limit}
-use Rattle.leg_table.proofs.Links.{way-links, member-of_all, far_end-is, link_ends, first_end-is, step_opens}
+use Rattle.leg_table.proofs.Links.{member-of_all, far_end-is, link_ends, first_end-is, step_opens}
 use Rattle.leg_table.proofs.Options.{map-some, if-some, some-same}
 use Rattle.leg_table.proofs.Rides.{arrived, same_packet}
 
@@ -42,6 +44,17 @@ module _ (net : Network) where
   unfolding walk_of
   handed-stage more place content pick taken gave e =
       ap (λ (g : Gave). handed_first net g g.outcome (handed_over net (walk_of more net (next_place net place g.outcome) g.after pick (taken + decisions g.outcome)))) e
+
+  -- what is handed over behind an execution, by the stage of the execution
+  pub handed-behind : (fuel : ℕ) (place next : Place) (content after : Content) (pick : ℕ → ℕ) (taken n : ℕ) (how : How) (h : Handed)
+      → step_of net place content (pick taken) ≡ goes (outcomes.Again n how) after
+      → next_place net place (outcomes.Again n how) ≡ Some next
+      → handed_over net (walk_of fuel net (Some next) after pick (taken + 0)) ≡ Some h
+      → handed_over net (walk_of (suc fuel) net (Some place) content pick taken) ≡ Some (after_events (executed net n) h)
+  handed-behind fuel place next content after pick taken n how h stage leads e =
+      handed-stage fuel place content pick taken (goes (outcomes.Again n how) after) stage
+      ∙ ap (λ (o : Option Place). option_map (after_events (executed net n)) (handed_over net (walk_of fuel net o after pick (taken + 0)))) leads
+      ∙ ap (option_map (after_events (executed net n))) e
 
   -- rows that agree from here on give one walk
   pub walk-same : (fuel : ℕ) (o : Option Place) (content : Content) (pick qick : ℕ → ℕ) (taken uaken : ℕ) → ((d : ℕ) → pick (taken + d) ≡ qick (uaken + d))
@@ -75,7 +88,7 @@ module _ (net : Network) where
       let got = map-some (after_events (Crossed link ∷ [])) later h e in
       ap (option_map (after_events (Crossed link ∷ []))) (f got.0 got.1) ∙ ap Some got.2
   first-more gave outcomes.Local later more h f e = absurd (cc)
-  first-more gave (outcomes.Drop reason) later more h f e = absurd (cc)
+  first-more gave (outcomes.Drop reason error) later more h f e = absurd (cc)
 
   -- more fuel hands over the same
   pub handed-more : (m n : ℕ) (o : Option Place) (content : Content) (pick : ℕ → ℕ) (taken : ℕ) (h : Handed)
@@ -120,7 +133,7 @@ module _ (net : Network) where
       let parts = and_parts (meets t (Crossed link)) (matches ts got.0.trace) met in
       ap (option_map (after_events (Crossed link ∷ []))) (f ts got.0 (omega arith) parts.1 got.1) ∙ ap Some got.2
   first-agree gave outcomes.Local ts later other h f m e = absurd (cc)
-  first-agree gave (outcomes.Drop reason) ts later other h f m e = absurd (cc)
+  first-agree gave (outcomes.Drop reason error) ts later other h f m e = absurd (cc)
 
   -- where the trace meets steps, only as many choices matter as there are steps
   pub hands-agree : (fuel : ℕ) (ts : List Step) (o : Option Place) (content : Content) (pick qick : ℕ → ℕ) (taken uaken : ℕ) (h : Handed)
@@ -181,10 +194,10 @@ module _ (net : Network) (keeps : Keeps net) where
 
   -- the stage that sends, in a set whose members lie in the step
   sends : (place : Place) (p : Packet) (set : List ℕ) (lower : Bool) (k : ℕ) → way_of net place p.destination ≡ Over set lower → one_if lower + k < p.hop_limit
-      → (choice : ℕ) → step_of net place (V6 p) choice ≡ record { outcome = outcomes.Send (member_of set choice); after = V6 (lowered lower p) }
+      → (choice : ℕ) → step_of net place (V6 p) choice ≡ goes (outcomes.Send (member_of set choice)) (V6 (lowered lower p))
   sends place p set false k e high choice = ap (λ (w : Way). treated net place.node w p choice) e
   sends place p set true k e high choice =
-      ap (λ (w : Way). treated net place.node w p choice) e ∙ sent-high set p choice (omega arith)
+      ap (λ (w : Way). treated net place.node w p choice) e ∙ sent-high net place.node set p choice (omega arith)
 
   same_left : (p : Packet) (lower : Bool) (k : ℕ)
       → with_hop_limit ((lowered lower p).hop_limit - k) (lowered lower p) ≡ with_hop_limit (p.hop_limit - (one_if lower + k)) p
@@ -229,7 +242,7 @@ module _ (net : Network) (keeps : Keeps net) where
           = ap (λ (o : Option ℕ). arrival o place) (far_end-is (slice_get net.links link) ∙ link_ends net to step link ends here) in
           let count : taken + 1 + w.count ≡ taken + suc w.count = omega arith in
           ap (λ (k : ℕ). handed_over net (walk_of k net (Some place) (V6 p) pick taken)) more
-          ∙ handed-stage net (w.count + fuel) place (V6 p) pick taken (record { outcome = outcomes.Send link; after = V6 q }) (sends place p set lower r.lowered way high (pick taken))
+          ∙ handed-stage net (w.count + fuel) place (V6 p) pick taken (goes (outcomes.Send link) (V6 q)) (sends place p set lower r.lowered way high (pick taken))
           ∙ ap (λ (o : Option Place). option_map (after_events (Crossed link ∷ [])) (handed_over net (walk_of (w.count + fuel) net o (V6 q) pick (taken + 1)))) next
           ∙ ap (option_map (after_events (Crossed link ∷ []))) (w.walk pick (taken + 1) fuel)
           ∙ after-after (Crossed link ∷ []) (w.events pick (taken + 1)) _
@@ -248,10 +261,10 @@ module _ (net : Network) (keeps : Keeps net) where
       by_way (Over set lower) e h = absurd (cc)
       by_way (Into n) e h = subst (RideWalk net [] place p) (some-same _ r h) (walk-here [] place p n)
   ride-walk (t ∷ ts) place p r how stands h high =
-      by_way t (way_of net place p.destination) refl (way-links net keeps place p.destination how) stands h
+      by_way t (way_of net place p.destination) refl (way-from net place p.destination keeps how) stands h
       (λ to q k stands h high. ride-walk ts (arrived to place) q k tt stands h high)
     where
-      by_way : (t : Step) (w : Way) → way_of net place p.destination ≡ w → HasLinks w → is_some (stand_after net place.node (t ∷ ts)) ≡ true
+      by_way : (t : Step) (w : Way) → way_of net place p.destination ≡ w → IsWayFrom net place.node w → is_some (stand_after net place.node (t ∷ ts)) ≡ true
           → ride_by net place (t ∷ ts) t (ride_of net p.destination ts) w ≡ Some r
           → ((to : ℕ) (q : Packet) (k : Ride) → is_some (stand_after net to ts) ≡ true → ride_of net q.destination ts (arrived to place) ≡ Some k → k.lowered < q.hop_limit
           → RideWalk net ts (arrived to place) q k)
@@ -264,11 +277,11 @@ module _ (net : Network) (keeps : Keeps net) where
           let opened = step_opens net place.node step ts stands in
           let all = if-some (list_all (has_link step) set) _ r h in
           let got = map-some (more_lowered lower) _ r all.1 in
-          let at : first_end net set ≡ Some opened.0 = first_end-is net opened.0 step set opened.1 all.0 links in
+          let at : first_end net set ≡ Some opened.0 = first_end-is net opened.0 step set opened.1 all.0 links.some in
           let later : ride_of net p.destination ts (arrived opened.0 place) ≡ Some got.0
           = ap (λ (o : Option ℕ). ride_on (arrival o place) (ride_of net p.destination ts)) (sym at) ∙ got.1 in
           let low : one_if lower + got.0.lowered < p.hop_limit = subst (λ (x : Ride). x.lowered < p.hop_limit) (sym got.2) high in
           subst (RideWalk net (Links step ∷ ts) place p) got.2
-          (walk-later step ts place p set lower opened.0 got.0 e all.0 links opened.1 low
+          (walk-later step ts place p set lower opened.0 got.0 e all.0 links.some opened.1 low
           (ih opened.0 (lowered lower p) got.0 opened.2
           (ap (λ (d : ℕ). ride_of net d ts (arrived opened.0 place)) (same_destination p lower) ∙ later) (high_enough p lower got.0.lowered low)))

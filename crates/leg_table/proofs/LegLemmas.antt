@@ -4,14 +4,14 @@ use Rattle.std.specs.Prelude.{◌↔◌}
 use Rattle.std.specs.Option.{option_map, option_and_then}
 use Rattle.std.proofs.lemmas.Bool.{false≢true, and_parts, and_from, eq-eqb}
 use Rattle.std.proofs.lemmas.List.{length-drop}
-use Rattle.srv6_rules.specs.declared.sid.Behaviour.{Behaviour}
-use Rattle.srv6_rules.specs.declared.sid.Behaviour.TheVariants as behaviours
 use Rattle.srv6_rules.specs.declared.sid.SidEntry.{SidEntry}
+use Rattle.srv6_rules.specs.Behaviours.{goes_on, exposes, ipv6_inside}
 use Rattle.srv6_rules.specs.Packet.{Packet, V6}
 use Rattle.net_model.specs.Network.{Network}
 use Rattle.net_model.specs.Keeps.{Keeps}
 use Rattle.walk_rules.specs.declared.place.Place.{Place}
-use Rattle.walk_rules.specs.Treatment.{Into, way_of, step_of}
+use Rattle.walk_rules.specs.Way.{Into, way_of}
+use Rattle.walk_rules.specs.Treatment.{step_of}
 use Rattle.walk_rules.specs.Walk as walks
 use Rattle.intent_reader.specs.Rules.{IsIntent}
 use Rattle.intent_reader.specs.declared.intent.Step.{Step}
@@ -22,8 +22,8 @@ use Rattle.leg_table.specs.Tasks.{left_after, left_after_function}
 use Rattle.leg_table.specs.Trace.{is_titled}
 use Rattle.leg_table.specs.Choices.{ForAllChoices, seen_at}
 use Rattle.leg_table.specs.Ride.{Ride, ride_of, with_hop_limit, RideEnds}
-use Rattle.leg_table.specs.Sids.{goes_on, sid_goes_on, is_middle, sid_exposes, is_last, sid_address}
-use Rattle.leg_table.specs.Leg.{place_from, is_start, ride_to, left_behind, leg_with, leg_behind, leg_of, if_none_left, finish_behind, finish_of, is_again, is_hand, is_left, has_limit, executes, exposes, IsTaken, IsHanded, FromPlace, IsLeg, IsFinish}
+use Rattle.leg_table.specs.Sids.{sid_goes_on, is_middle, sid_exposes, is_last, sid_address}
+use Rattle.leg_table.specs.Leg.{place_from, is_start, ride_to, left_behind, leg_with, leg_behind, leg_of, if_none_left, finish_behind, finish_of, is_again, is_hand, is_left, has_limit, stage_executes, stage_exposes, IsTaken, IsHanded, FromPlace, IsLeg, IsFinish}
 use Rattle.leg_table.proofs.Options.{map-some, then-some, if-some, some-same}
 use Rattle.leg_table.proofs.Choices.{choices-every}
 use Rattle.leg_table.proofs.Rides.{every-ride}
@@ -41,28 +41,23 @@ pub record NextRide (net : Network) (intent : Intent) (position : ℕ) (via : Op
   pub left : ℕ
   pub left_is : left_after net next ride.left ≡ Some left
 
-pub middle-sid : (net : Network) (n : ℕ) → is_middle net n ≡ true → (s : SidEntry) × (slice_get net.sids n ≡ Some s) × (goes_on s.behaviour ≡ true)
+pub middle-sid : (net : Network) (n : ℕ) → is_middle net n ≡ true
+    → (s : SidEntry) × (slice_get net.sids n ≡ Some s) × (goes_on s ≡ true)
 middle-sid net n h = by_sid (slice_get net.sids n) refl h
   where
     by_sid : (o : Option SidEntry) → slice_get net.sids n ≡ o → sid_goes_on o ≡ true
-        → (s : SidEntry) × (slice_get net.sids n ≡ Some s) × (goes_on s.behaviour ≡ true)
+        → (s : SidEntry) × (slice_get net.sids n ≡ Some s) × (goes_on s ≡ true)
     by_sid None e h = absurd (false≢true h)
     by_sid (Some s) e h = (s, e, h)
 
 pub last-sid : (net : Network) (n : ℕ) → is_last net n ≡ true
-    → (s : SidEntry) × (table : ℕ) × (slice_get net.sids n ≡ Some s) × (s.behaviour ≡ behaviours.Dt6 table)
+    → (s : SidEntry) × (slice_get net.sids n ≡ Some s) × (exposes s ipv6_inside ≡ true)
 last-sid net n h = by_sid (slice_get net.sids n) refl h
   where
-    by_behaviour : (s : SidEntry) (b : Behaviour) → slice_get net.sids n ≡ Some s → s.behaviour ≡ b → not (goes_on b) ≡ true
-        → (s : SidEntry) × (table : ℕ) × (slice_get net.sids n ≡ Some s) × (s.behaviour ≡ behaviours.Dt6 table)
-    by_behaviour s behaviours.End e f h = absurd (false≢true h)
-    by_behaviour s behaviours.EndX e f h = absurd (false≢true h)
-    by_behaviour s (behaviours.Dt6 table) e f h = (s, table, e, f)
-
     by_sid : (o : Option SidEntry) → slice_get net.sids n ≡ o → sid_exposes o ≡ true
-        → (s : SidEntry) × (table : ℕ) × (slice_get net.sids n ≡ Some s) × (s.behaviour ≡ behaviours.Dt6 table)
+        → (s : SidEntry) × (slice_get net.sids n ≡ Some s) × (exposes s ipv6_inside ≡ true)
     by_sid None e h = absurd (false≢true h)
-    by_sid (Some s) e h = by_behaviour s s.behaviour e refl h
+    by_sid (Some s) e h = (s, e, h)
 
 -- how many steps are left behind an execution is at most how many there were
 pub left_after-le : (net : Network) (n : ℕ) (ts : List Step) (left : ℕ) → left_after net n ts ≡ Some left → left ≤ length ts
@@ -197,8 +192,8 @@ module _ (net : Network) (keeps : Keeps net) (intent : Intent) (is_intent : IsIn
       let into : way_of net n.ride.place p.destination ≡ Into next
       = ap (way_of net n.ride.place) to ∙ (f.into ∙ ap Into n.sid) in
       let behind = p.hop_limit - (n.ride.lowered + 1) in
-      let is = executes-is net n.ride.place p next sid.0 n.ride.left (p.hop_limit - n.ride.lowered) n.left behind into sid.1 sid.2 on in
-      let end = executes net next n.left behind in
+      let is = executes-is net n.ride.place p next sid.0 n.ride.left (p.hop_limit - n.ride.lowered) n.left behind into sid.1 on in
+      let end = stage_executes net next n.left behind in
       let all = choices-ride end position n.place p s positive in
       let there : ride_of net p.destination (drop position intent.steps) n.place ≡ Some n.ride
       = ap (λ (d : ℕ). ride_of net d (drop position intent.steps) n.place) to ∙ n.is_ride in
@@ -231,13 +226,14 @@ module _ (net : Network) (keeps : Keeps net) (intent : Intent) (is_intent : IsIn
       → place_from net intent via ≡ Some place → IsTaken net (drop position intent.steps) next left hops place
       → (n : NextRide net intent position via next) × (n.left ≡ left) × (n.ride.lowered + 1 ≡ hops)
   taken-ride position via next left hops place start middle from taken =
-      let has = some_packet-has (sid_address net next) (hops + 1) in
+      let sid = middle-sid net next middle in
+      let has = some_packet-has net next sid.0 (sid_address net next) (hops + 1) sid.1 sid.2 in
       let p = some_packet (sid_address net next) (hops + 1) in
       let s = start-facts net keeps intent is_intent position via place start from in
       let positive : 0 < p.hop_limit = subst (λ (h : ℕ). 0 < h) (sym has.2) (omega arith) in
       let above : hops < p.hop_limit = subst (λ (h : ℕ). hops < h) (sym has.2) (omega arith) in
       let behind = p.hop_limit - hops in
-      let end = executes net next left behind in
+      let end = stage_executes net next left behind in
       let ends = (choices-ride end position place p s positive).0 ((taken p has.1 has.0 positive).0 above) in
       let got = ride-is_there end p (ride_of net p.destination (drop position intent.steps) place) ends in
       let r = got.0 in
@@ -248,12 +244,11 @@ module _ (net : Network) (keeps : Keeps net) (intent : Intent) (is_intent : IsIn
       let into : way_of net r.place p.destination ≡ Into r.sid = ap (way_of net r.place) has.1 ∙ f.into in
       let q = with_hop_limit (p.hop_limit - r.lowered) p in
       let gave = step_of net r.place (V6 q) 0 in
-      let test = Ends-test gave.outcome (executes net next left behind r.left (seen_at r.place (V6 q) gave)) at.1 in
+      let test = Ends-test gave.outcome (stage_executes net next left behind r.left (seen_at r.place (V6 q) gave)) at.1 in
       let first = and_parts (is_again next gave.outcome) (is_left left (left_after net next r.left) && has_limit behind gave.after) test in
       let named : r.sid ≡ next = step-again_names net r.place q next r.sid into first.0 in
-      let sid = middle-sid net next middle in
       let is =
-      executes-is net r.place p next sid.0 r.left (p.hop_limit - r.lowered) left behind (into ∙ ap Into named) sid.1 sid.2 has.0 in
+      executes-is net r.place p next sid.0 r.left (p.hop_limit - r.lowered) left behind (into ∙ ap Into named) sid.1 has.0 in
       let got2 = is.0 at.1 in (
         record { start = start; place = place; from = from; ride = r; is_ride = there; sid = named; left = left; left_is = got2.1 },
         refl,
@@ -290,8 +285,8 @@ module _ (net : Network) (keeps : Keeps net) (intent : Intent) (is_intent : IsIn
       let into : way_of net n.ride.place p.destination ≡ Into next
       = ap (way_of net n.ride.place) to ∙ (f.into ∙ ap Into n.sid) in
       let behind = p.hop_limit - n.ride.lowered in
-      let is = exposes-is net n.ride.place p next sid.0 n.ride.left (p.hop_limit - n.ride.lowered) n.left behind into sid.2 sid.1 sid.3 on in
-      let end = exposes net next n.left behind in
+      let is = exposes-is net n.ride.place p next sid.0 n.ride.left (p.hop_limit - n.ride.lowered) n.left behind into sid.1 on in
+      let end = stage_exposes net next n.left behind in
       let all = choices-ride end position n.place p s positive in
       let there : ride_of net p.destination (drop position intent.steps) n.place ≡ Some n.ride
       = ap (λ (d : ℕ). ride_of net d (drop position intent.steps) n.place) to ∙ n.is_ride in
@@ -316,13 +311,14 @@ module _ (net : Network) (keeps : Keeps net) (intent : Intent) (is_intent : IsIn
       → place_from net intent via ≡ Some place → IsHanded net (drop position intent.steps) next left lowered place
       → (n : NextRide net intent position via next) × (n.left ≡ left) × (n.ride.lowered ≡ lowered)
   handed-ride position via next left lowered place start last from handed =
-      let has = last_packet-has (sid_address net next) (lowered + 1) in
+      let sid = last-sid net next last in
+      let has = last_packet-has net next sid.0 (sid_address net next) (lowered + 1) sid.1 sid.2 in
       let p = last_packet (sid_address net next) (lowered + 1) in
       let s = start-facts net keeps intent is_intent position via place start from in
       let positive : 0 < p.hop_limit = subst (λ (h : ℕ). 0 < h) (sym has.2) (omega arith) in
       let above : lowered < p.hop_limit = subst (λ (h : ℕ). lowered < h) (sym has.2) (omega arith) in
       let behind = p.hop_limit - lowered in
-      let end = exposes net next left behind in
+      let end = stage_exposes net next left behind in
       let ends = (choices-ride end position place p s positive).0 ((handed p has.1 has.0 positive).0 above) in
       let got = ride-is_there end p (ride_of net p.destination (drop position intent.steps) place) ends in
       let r = got.0 in
@@ -333,12 +329,11 @@ module _ (net : Network) (keeps : Keeps net) (intent : Intent) (is_intent : IsIn
       let into : way_of net r.place p.destination ≡ Into r.sid = ap (way_of net r.place) has.1 ∙ f.into in
       let q = with_hop_limit (p.hop_limit - r.lowered) p in
       let gave = step_of net r.place (V6 q) 0 in
-      let test = Ends-test gave.outcome (exposes net next left behind r.left (seen_at r.place (V6 q) gave)) at.1 in
+      let test = Ends-test gave.outcome (stage_exposes net next left behind r.left (seen_at r.place (V6 q) gave)) at.1 in
       let first = and_parts (is_hand next gave.outcome) (is_left left (left_after net next r.left) && has_limit behind (V6 q)) test in
       let named : r.sid ≡ next = step-hand_names net r.place q next r.sid into first.0 in
-      let sid = last-sid net next last in
       let is =
-      exposes-is net r.place p next sid.0 r.left (p.hop_limit - r.lowered) left behind (into ∙ ap Into named) sid.2 sid.1 sid.3 has.0 in
+      exposes-is net r.place p next sid.0 r.left (p.hop_limit - r.lowered) left behind (into ∙ ap Into named) sid.1 has.0 in
       let got2 = is.0 at.1 in (
         record { start = start; place = place; from = from; ride = r; is_ride = there; sid = named; left = left; left_is = got2.0 },
         refl,

@@ -1,65 +1,20 @@
--- Sets of links: the links of a way, of a step, and where they end.
+-- Sets of links: the links of a step, and where they end.
 use Rattle.std.proofs.Common.{◌≡◌, ℕ, zero, suc, ◌%◌, ◌<◌, Bool, true, false, ◌==◌, ◌&&◌, ◌||◌, if◌then◌else◌, List, [], ◌∷◌, length, Option, Some, None, slice_get, slice_index, refl, ap, subst, arith, mod-eq_of_lt, mod-lt, eqb-true}
 use Rattle.std.specs.Prelude.{is_some}
 use Rattle.std.specs.List.{list_all}
 use Rattle.std.specs.Option.{option_and_then}
 use Rattle.std.proofs.lemmas.Bool.{and_parts, and_from, false≢true}
-use Rattle.srv6_rules.specs.declared.sid.SidEntry.{SidEntry}
-use Rattle.srv6_rules.specs.declared.sid.Reason.TheVariants as reasons
 use Rattle.net_model.specs.declared.parts.Link.{Link}
-use Rattle.net_model.specs.declared.parts.Route.{Route}
-use Rattle.net_model.specs.declared.net.Hit.{Hit}
-use Rattle.net_model.specs.declared.net.Hit.TheVariants as hits
 use Rattle.net_model.specs.Network.{Network}
-use Rattle.net_model.specs.Best.{lookup_of}
 use Rattle.net_model.specs.Keeps.{Keeps, IsLinkSet}
 use Rattle.net_model.specs.Rules.{is_link_set}
 use Rattle.net_model.proofs.KeepsLemmas.{link_set_from}
-use Rattle.walk_rules.specs.declared.place.How.{How}
-use Rattle.walk_rules.specs.declared.place.How.TheVariants.{Arrived, Submitted, Through}
-use Rattle.walk_rules.specs.declared.place.Place.{Place}
-use Rattle.walk_rules.specs.Treatment.{Away, way_of, way_by, way_by_hit, route_links, sid_links, is_multicast, member_of}
-use Rattle.walk_rules.specs.Relation.{IsHow, IsThrough}
+use Rattle.walk_rules.specs.Treatment.{member_of}
 use Rattle.walk_rules.specs.Walk.{far_end}
-use Rattle.walk_rules.proofs.Stages.{HasLinks}
-use Rattle.walk_rules.proofs.Lookups.{IsThere, RouteStandsAt, lookup-there}
 use Rattle.intent_reader.specs.Rules.{end_of_link, ends_at, is_at, far_node, first_end, stand_after, node_after}
 use Rattle.intent_reader.specs.declared.intent.Step.{Step}
 use Rattle.intent_reader.specs.declared.intent.Step.TheVariants.{Links}
 use Rattle.leg_table.specs.Tasks.{has_link}
-
-module _ (net : Network) (keeps : Keeps net) where
-  via_some : (node n : ℕ) (o : Option Route) → slice_get net.routes n ≡ o → RouteStandsAt node o → 0 < length (route_links o)
-  via_some node n None e there = absurd there
-  via_some node n (Some r) e there = (keeps.route n r e).via.some
-
-  hit_links : (node : ℕ) (lower : Bool) (h : Hit) → IsThere net node h → HasLinks (way_by_hit net lower h)
-  hit_links node lower (hits.Sid n) there = tt
-  hit_links node lower hits.Address there = tt
-  hit_links node lower (hits.Route n) there = via_some node n (slice_get net.routes n) refl there
-  hit_links node lower hits.Nothing there = tt
-
-  through_links : (node : ℕ) (o : Option SidEntry) → IsThrough node o → 0 < length (sid_links o)
-  through_links node None h = absurd h
-  through_links node (Some s) h = h.1
-
-  how_links : (node : ℕ) (how : How) (destination : ℕ) → IsHow net node how → HasLinks (way_by net node how destination)
-  how_links node (Arrived table) destination h = by_test (is_multicast destination)
-    where
-      by_test : (t : Bool) → HasLinks (if t then Away reasons.Multicast else way_by_hit net true (lookup_of net node table destination))
-      by_test true = tt
-      by_test false = hit_links node true (lookup_of net node table destination) (lookup-there net node table destination)
-  how_links node (Submitted table) destination h = by_test (is_multicast destination)
-    where
-      by_test : (t : Bool) → HasLinks (if t then Away reasons.Multicast else way_by_hit net false (lookup_of net node table destination))
-      by_test true = tt
-      by_test false = hit_links node false (lookup_of net node table destination) (lookup-there net node table destination)
-  how_links node (Through sid lower) destination h = through_links node (slice_get net.sids sid) h
-
-  -- the sets of links that packets go over are not empty
-  pub way-links : (place : Place) (destination : ℕ) → IsHow net place.node place.how → HasLinks (way_of net place destination)
-  unfolding way_of
-  way-links place destination h = how_links place.node place.how destination h
 
 -- tests over a list of numbers, by index
 pub list_all-index : (p : ℕ → Bool) (xs : List ℕ) (i : ℕ) → list_all p xs ≡ true → i < length xs → p (slice_index xs i) ≡ true

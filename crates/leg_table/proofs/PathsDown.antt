@@ -5,22 +5,23 @@ use Rattle.std.specs.List.{All}
 use Rattle.std.specs.Option.{option_map}
 use Rattle.std.proofs.lemmas.Bool.{false≢true, and_parts, and_from, cases_lt, le-leb}
 use Rattle.std.proofs.lemmas.List.{length-drop}
-use Rattle.srv6_rules.specs.declared.sid.Behaviour.{Behaviour}
-use Rattle.srv6_rules.specs.declared.sid.Behaviour.TheVariants as behaviours
 use Rattle.srv6_rules.specs.declared.sid.Reason.TheVariants as reasons
 use Rattle.srv6_rules.specs.declared.sid.SidEntry.{SidEntry}
 use Rattle.srv6_rules.specs.Packet.{Packet, Content, V6}
-use Rattle.srv6_rules.specs.Endpoint.{is_allowed, ipv6_inside, Delivered, Refused}
-use Rattle.srv6_rules.specs.Encapsulation.{Encapsulation, at_segment}
+use Rattle.srv6_rules.specs.Behaviours.{goes_on, exposes, ipv6_inside}
+use Rattle.srv6_rules.specs.Endpoint.{is_allowed, in_packet, Delivered, Refused}
+use Rattle.srv6_rules.specs.Encapsulation.{Encapsulation, at_segment, header_bytes}
 use Rattle.net_model.specs.Network.{Network}
 use Rattle.net_model.specs.Rules.{IsNetwork}
 use Rattle.net_model.specs.Flat.{IsFlat}
 use Rattle.net_model.specs.Keeps.{Keeps}
 use Rattle.net_model.proofs.KeepsLemmas.{keeps_from_network}
+use Rattle.walk_rules.specs.declared.place.How.{How}
 use Rattle.walk_rules.specs.declared.place.Place.{Place}
 use Rattle.walk_rules.specs.declared.place.Outcome.{Outcome}
 use Rattle.walk_rules.specs.declared.place.Outcome.TheVariants as outcomes
-use Rattle.walk_rules.specs.Treatment.{Into, way_of, Gave, dropped, step_of, on_from, treated_at_sid, allow_of}
+use Rattle.walk_rules.specs.Way.{Into, way_of}
+use Rattle.walk_rules.specs.Treatment.{Gave, goes, step_of, on_from, treated_at_sid, allow_of}
 use Rattle.walk_rules.specs.Walk as walks
 use Rattle.walk_rules.specs.Walk.{walk_of, next_place, decisions}
 use Rattle.intent_reader.specs.Rules.{IsIntent}
@@ -31,7 +32,7 @@ use Rattle.leg_table.specs.Trace.{Crossed, executed, Handed, after_events, hande
 use Rattle.leg_table.specs.Tasks.{meets, matches, left_after}
 use Rattle.leg_table.specs.Choices.{Crosses, Goes, Ends, AtNext, EveryWay}
 use Rattle.leg_table.specs.Ride.{Ride, ride_of, with_hop_limit, RideEnds}
-use Rattle.leg_table.specs.Sids.{goes_on, is_sid_at, is_middle, sid_goes_on, is_last, sid_exposes, sid_address}
+use Rattle.leg_table.specs.Sids.{is_sid_at, is_middle, sid_goes_on, is_last, sid_exposes, sid_address}
 use Rattle.leg_table.specs.Leg.{place_behind, place_from, is_start}
 use Rattle.leg_table.specs.Realizes.{with_leg, path_need}
 use Rattle.leg_table.proofs.Options.{map-some, some-same}
@@ -41,7 +42,7 @@ use Rattle.leg_table.proofs.RideFacts.{ride-facts, StartFacts, start-facts}
 use Rattle.leg_table.proofs.LegLemmas.{NextRide, leg-from, finish-from}
 use Rattle.leg_table.proofs.StrictLaws.{into-stands, arrives, at-end}
 use Rattle.leg_table.proofs.Handing.{handed-stage, walk-same, handed-more, RideWalk, ride-walk}
-use Rattle.leg_table.proofs.Segments.{family-v6, into-address, mid-onward, mid-low, mid-exposes, last-exposes, last-stays, LeftBehind, meets-behind, behind-alone}
+use Rattle.leg_table.proofs.Segments.{behind-again, into-address, mid-onward, mid-low, mid-stays, last-exposes, last-keeps, LeftBehind, meets-behind, behind-alone}
 use Rattle.leg_table.proofs.PathsUp.{first-left, rest-is}
 
 abbrev pub yes : List Step → walks.Step → Bool
@@ -70,8 +71,29 @@ module _ (net : Network) where
       by_fuel zero h f m = absurd (cc)
       by_fuel (suc more) h f m = (more, h, sym (handed-stage net more place content pick 0 gave e) ∙ f, m)
 
-  no-local : (place : Place) (ts : List Step) (pick : ℕ → ℕ) (after : Content) → First place ts pick (record { outcome = outcomes.Local; after = after }) → ⊥
-  no-local place ts pick after f = let h = f.2 in absurd (cc)
+  -- a walk whose first stage hands nothing over, nor leaves anything to hand over, does not hand over
+  no-more : (place : Place) (content : Content) (ts : List Step) (gave : Gave) → step_of net place content 0 ≡ gave
+      → ((later : Option Handed) → handed_first net gave gave.outcome later ≡ None) → Hands place content ts → ⊥
+  no-more place content ts gave e none hands =
+      let f = first-of place content ts (λ (d : ℕ). 0) gave e hands in
+      absurd (cc (
+        none (handed_over net (walk_of f.0 net (next_place net place gave.outcome) gave.after (λ (d : ℕ). 0)
+            (0 + decisions gave.outcome))),
+        f.2,
+      ))
+
+  -- a walk whose first stage is an execution hands over behind it
+  behind-hands : (place next : Place) (content after : Content) (ts : List Step) (pick : ℕ → ℕ) (n : ℕ) (how : How)
+      → step_of net place content (pick 0) ≡ goes (outcomes.Again n how) after
+      → next_place net place (outcomes.Again n how) ≡ Some next → Hands place content ts
+      → (more : ℕ) × (h : Handed) × (handed_over net (walk_of more net (Some next) after pick 0) ≡ Some h)
+      × (matches ts (executed net n ++ h.trace) ≡ true)
+  behind-hands place next content after ts pick n how e leads hands =
+      let f = first-of place content ts pick (goes (outcomes.Again n how) after) e hands in
+      let later = ap (λ (o : Option Place). handed_over net (walk_of f.0 net o after pick (0 + 0))) leads in
+      let got = map-some (after_events (executed net n)) (handed_over net (walk_of f.0 net (Some next) after pick (0 + 0))) f.1
+      (sym (ap (option_map (after_events (executed net n))) later) ∙ f.2) in
+      (f.0, got.0, got.1, ap (λ (h : Handed). matches ts h.trace) got.2 ∙ f.3)
 
   walk-none : (fuel : ℕ) (content : Content) (pick : ℕ → ℕ) (taken : ℕ) (h : Handed) → handed_over net (walk_of fuel net None content pick taken) ≡ Some h → ⊥
   unfolding walk_of
@@ -92,7 +114,7 @@ module _ (net : Network) where
   ends-from place ts pick gave (outcomes.Hand n how family) e f = refl
   ends-from place ts pick gave outcomes.Local e f =
       let h = subst (λ (o : Outcome). (later : Option Handed) → handed_first net gave o later ≡ Some f.1 → ⊥) (sym e) (λ later k. absurd (cc)) in h _ f.2
-  ends-from place ts pick gave (outcomes.Drop reason) e f =
+  ends-from place ts pick gave (outcomes.Drop reason error) e f =
       let h = subst (λ (o : Outcome). (later : Option Handed) → handed_first net gave o later ≡ Some f.1 → ⊥) (sym e) (λ later k. absurd (cc)) in h _ f.2
 
   next-hands : (ts : List Step) (o : Option Place) (after : Content) (choice : ℕ)
@@ -141,7 +163,7 @@ module _ (net : Network) where
   goes-from place t ts choice gave outcomes.Local e all ih =
       let f = all (λ _. choice) refl in
       let h = subst (λ (o : Outcome). (later : Option Handed) → handed_first net gave o later ≡ Some f.1 → ⊥) (sym e) (λ later k. absurd (cc)) in h _ f.2
-  goes-from place t ts choice gave (outcomes.Drop reason) e all ih =
+  goes-from place t ts choice gave (outcomes.Drop reason error) e all ih =
       let f = all (λ _. choice) refl in
       let h = subst (λ (o : Outcome). (later : Option Handed) → handed_first net gave o later ≡ Some f.1 → ⊥) (sym e) (λ later k. absurd (cc)) in h _ f.2
 
@@ -194,12 +216,6 @@ module _ (net : Network) (network : IsNetwork net) (flat : IsFlat net) (intent :
   keeps : Keeps net
   keeps = keeps_from_network net network
 
-  no-more : (place : Place) (ts : List Step) (pick : ℕ → ℕ) (gave : Gave) (o : Outcome) → gave.outcome ≡ o → ((later : Option Handed) → handed_first net gave o later ≡ None)
-      → First net place ts pick gave → ⊥
-  no-more place ts pick gave o e none f =
-      let h = subst (λ (o : Outcome). (later : Option Handed) → handed_first net gave o later ≡ None) (sym e) none in
-      absurd (cc (h (handed_over net (walk_of f.0 net (next_place net place gave.outcome) gave.after pick (0 + decisions gave.outcome))), f.2))
-
   -- where a packet that is handed over comes to: the ride to the next SID, and what stands there
   record Comes (position : ℕ) (via : Option ℕ) (i hop : ℕ) (place : Place) : Type 0 where
     ride : Ride
@@ -245,137 +261,107 @@ module _ (net : Network) (network : IsNetwork net) (flat : IsFlat net) (intent :
           }
 
   -- at the last segment
-  last-path : (position : ℕ) (via : Option ℕ) (i hop : ℕ) (place : Place) → is_start net intent position via ≡ true → place_from net intent via ≡ Some place
-      → i + 1 ≡ length e.segments → Comes position via i hop place → PathFrom net intent position via (slice_index e.segments i ∷ []) hop
-  last-path position via i hop place start from last c = by_behaviour c.sid.behaviour refl
+  no-steps : (us : List Step) → matches us [] ≡ true → length us ≡ 0
+  no-steps [] h = refl
+  no-steps (u ∷ us) h = absurd (false≢true h)
+
+  -- a SID that keeps an IPv6 packet inside hands nothing over there
+  keeps-ends : (position : ℕ) (via : Option ℕ) (i hop : ℕ) (place : Place) (c : Comes position via i hop place)
+      → exposes c.sid ipv6_inside ≡ false → i + 1 ≡ length e.segments → ⊥
+  keeps-ends position via i hop place c keeps end =
+      by_test (is_allowed (allow_of (slice_get net.nodes c.ride.place.node)) ipv6_inside)
+      (last-keeps net e bytes c.ride.place c.ride.sid i (hop - c.ride.lowered) 0 c.sid c.into c.there keeps end)
     where
-      n : ℕ
-      n = c.ride.sid
-
-      zeros : ℕ → ℕ
-      zeros d = 0
-
       p : Packet
       p = at_segment e bytes i (hop - c.ride.lowered)
 
-      allow : List ℕ
-      allow = allow_of (slice_get net.nodes c.ride.place.node)
+      at : ℕ
+      at = header_bytes e.reduced (length e.segments) - 40
 
-      stays : goes_on c.sid.behaviour ≡ true → ⊥
-      stays middle =
-          by_test (is_allowed allow ipv6_inside) refl
-        where
-          by_test : (t : Bool) → is_allowed allow ipv6_inside ≡ t → ⊥
-          by_test true f =
-              let gives = last-stays net e bytes c.ride.place n i (hop - c.ride.lowered) 0 c.sid c.into c.there middle last
-              ∙ ap (λ (t : Bool). treated_at_sid n c.sid.behaviour p (if t then Delivered else Refused reasons.UpperLayer)) f in
-              no-more c.ride.place c.ride.left zeros (record { outcome = outcomes.Local; after = V6 p }) outcomes.Local refl (λ later. refl)
-              (first-of net c.ride.place (V6 p) c.ride.left zeros (record { outcome = outcomes.Local; after = V6 p }) gives c.hands)
-          by_test false f =
-              let gives = last-stays net e bytes c.ride.place n i (hop - c.ride.lowered) 0 c.sid c.into c.there middle last
-              ∙ ap (λ (t : Bool). treated_at_sid n c.sid.behaviour p (if t then Delivered else Refused reasons.UpperLayer)) f in
-              no-more c.ride.place c.ride.left zeros (dropped reasons.UpperLayer (V6 p)) (outcomes.Drop reasons.UpperLayer) refl (λ later. refl)
-              (first-of net c.ride.place (V6 p) c.ride.left zeros (dropped reasons.UpperLayer (V6 p)) gives c.hands)
+      by_test : (t : Bool)
+          → step_of net c.ride.place (V6 p) 0
+          ≡ treated_at_sid net c.ride.place.node c.ride.sid c.sid.behaviour p
+          (if t then Delivered p else Refused reasons.UpperLayer (in_packet at)) → ⊥
+      by_test true gives = no-more net c.ride.place (V6 p) c.ride.left _ gives (λ later. refl) c.hands
+      by_test false gives = no-more net c.ride.place (V6 p) c.ride.left _ gives (λ later. refl) c.hands
 
-      exposes : (table : ℕ) → c.sid.behaviour ≡ behaviours.Dt6 table → PathFrom net intent position via (slice_index e.segments i ∷ []) hop
-      exposes table last_sid =
-          let gives = last-exposes net e bytes c.ride.place n i (hop - c.ride.lowered) 0 c.sid c.into c.there table last_sid last in
-          let first = first-of net c.ride.place (V6 p) c.ride.left zeros _ gives c.hands in
-          let trace : executed net n ≡ first.1.trace = ap (λ (h : Handed). h.trace) (some-same _ first.1 first.2) in
-          let met : matches c.ride.left (executed net n) ≡ true = ap (matches c.ride.left) trace ∙ first.3 in
-          let behind = meets-behind net n c.ride.left [] (ap (matches c.ride.left) (append-nil (executed net n)) ∙ met) in
-          let none : matches behind.0 [] ≡ true = sym (behind-alone net n c.ride.left behind.0 behind.1) ∙ met in
-          let left : left_after net n c.ride.left ≡ Some 0 = behind.1.left ∙ ap Some (no-steps behind.0 none) in
-          let nr : NextRide net intent position via n = record { start = start; place = place; from = from; ride = c.ride; is_ride = c.is_ride; sid = refl; left = 0; left_is = left } in
-          let is_last_sid : is_last net n ≡ true = ap sid_exposes c.there ∙ ap (λ (b : Behaviour). not (goes_on b)) last_sid in
-          record {
-            first = n;
-            more = [];
-            need = c.ride.lowered;
-            names = ap (λ (a : ℕ). a ∷ []) c.address;
-            is_path = finish-from net intent position via n nr is_last_sid refl;
-            below = c.low;
-          }
-        where
-          no-steps : (us : List Step) → matches us [] ≡ true → length us ≡ 0
-          no-steps [] h = refl
-          no-steps (u ∷ us) h = absurd (false≢true h)
+  last-path : (position : ℕ) (via : Option ℕ) (i hop : ℕ) (place : Place) → is_start net intent position via ≡ true
+      → place_from net intent via ≡ Some place → i + 1 ≡ length e.segments → (c : Comes position via i hop place)
+      → exposes c.sid ipv6_inside ≡ true → PathFrom net intent position via (slice_index e.segments i ∷ []) hop
+  last-path position via i hop place start from last c shows =
+      let n = c.ride.sid in
+      let zeros : ℕ → ℕ = λ d. 0 in
+      let p = at_segment e bytes i (hop - c.ride.lowered) in
+      let gives = last-exposes net e bytes c.ride.place n i (hop - c.ride.lowered) 0 c.sid c.into c.there shows last in
+      let first = first-of net c.ride.place (V6 p) c.ride.left zeros _ gives c.hands in
+      let trace : executed net n ≡ first.1.trace = ap (λ (h : Handed). h.trace) (some-same _ first.1 first.2) in
+      let met : matches c.ride.left (executed net n) ≡ true = ap (matches c.ride.left) trace ∙ first.3 in
+      let behind = meets-behind net n c.ride.left [] (ap (matches c.ride.left) (append-nil (executed net n)) ∙ met) in
+      let none : matches behind.0 [] ≡ true = sym (behind-alone net n c.ride.left behind.0 behind.1) ∙ met in
+      let left : left_after net n c.ride.left ≡ Some 0 = behind.1.left ∙ ap Some (no-steps behind.0 none) in
+      let nr : NextRide net intent position via n
+      = record { start = start; place = place; from = from; ride = c.ride; is_ride = c.is_ride; sid = refl; left = 0; left_is = left } in
+      record {
+        first = n;
+        more = [];
+        need = c.ride.lowered;
+        names = ap (λ (a : ℕ). a ∷ []) c.address;
+        is_path = finish-from net intent position via n nr (ap sid_exposes c.there ∙ shows) refl;
+        below = c.low;
+      }
 
-      by_behaviour : (b : Behaviour) → c.sid.behaviour ≡ b → PathFrom net intent position via (slice_index e.segments i ∷ []) hop
-      by_behaviour behaviours.End f = absurd (stays (ap goes_on f))
-      by_behaviour behaviours.EndX f = absurd (stays (ap goes_on f))
-      by_behaviour (behaviours.Dt6 table) f = exposes table f
+  end-path : (position : ℕ) (via : Option ℕ) (i hop : ℕ) (place : Place) → is_start net intent position via ≡ true
+      → place_from net intent via ≡ Some place → i + 1 ≡ length e.segments → Comes position via i hop place
+      → PathFrom net intent position via (slice_index e.segments i ∷ []) hop
+  end-path position via i hop place start from last c = by_test (exposes c.sid ipv6_inside) refl
+    where
+      by_test : (t : Bool) → exposes c.sid ipv6_inside ≡ t → PathFrom net intent position via (slice_index e.segments i ∷ []) hop
+      by_test true f = last-path position via i hop place start from last c f
+      by_test false f = absurd (keeps-ends position via i hop place c f last)
 
   -- what follows the execution at a segment that is not the last
   record Goes-on (i hop : ℕ) (ride : Ride) (sid : SidEntry) : Type 0 where
-    middle : goes_on sid.behaviour ≡ true
+    middle : goes_on sid ≡ true
     high : 1 < hop - ride.lowered
     rest : List Step
     behind : LeftBehind net ride.sid ride.left rest
     hands : Hands net (place_behind ride.sid sid) (V6 (at_segment e bytes (suc i) (hop - ride.lowered - 1))) rest
 
-  mid-goes : (position : ℕ) (via : Option ℕ) (i hop : ℕ) (place : Place) → i + 1 < length e.segments → (c : Comes position via i hop place) → Goes-on i hop c.ride c.sid
-  mid-goes position via i hop place below c = by_behaviour c.sid.behaviour refl
+  mid-onwards : (position : ℕ) (via : Option ℕ) (i hop : ℕ) (place : Place) → i + 1 < length e.segments
+      → (c : Comes position via i hop place) → goes_on c.sid ≡ true → 1 < hop - c.ride.lowered → Goes-on i hop c.ride c.sid
+  mid-onwards position via i hop place below c middle high =
+      let n = c.ride.sid in
+      let p = at_segment e bytes i (hop - c.ride.lowered) in
+      let at = λ (pick : ℕ → ℕ). behind-hands net c.ride.place (place_behind n c.sid) (V6 p)
+      (V6 (at_segment e bytes (suc i) (hop - c.ride.lowered - 1))) c.ride.left pick n (on_from n c.sid.behaviour)
+      (mid-onward net e bytes c.ride.place n i (hop - c.ride.lowered) (pick 0) c.sid c.into c.there middle below all high)
+      (behind-again net c.ride.place n c.sid c.stands) c.hands in
+      let zero_row : ℕ → ℕ = λ d. 0 in
+      let zeros = at zero_row in
+      let behind = meets-behind net n c.ride.left zeros.1.trace zeros.3 in
+      record {
+        middle = middle;
+        high = high;
+        rest = behind.0;
+        behind = behind.1;
+        hands = λ pick. let got = at pick in (got.0, got.1, got.2, sym (behind.1.same got.1.trace) ∙ got.3);
+      }
+
+  mid-goes : (position : ℕ) (via : Option ℕ) (i hop : ℕ) (place : Place) → i + 1 < length e.segments
+      → (c : Comes position via i hop place) → Goes-on i hop c.ride c.sid
+  mid-goes position via i hop place below c = by_test (goes_on c.sid) refl (cases_lt 1 (hop - c.ride.lowered))
     where
-      n : ℕ
-      n = c.ride.sid
-
-      zeros : ℕ → ℕ
-      zeros d = 0
-
       p : Packet
       p = at_segment e bytes i (hop - c.ride.lowered)
 
-      onward : goes_on c.sid.behaviour ≡ true → 1 < hop - c.ride.lowered → Goes-on i hop c.ride c.sid
-      onward middle high =
-          let behind = meets-behind net n c.ride.left (at zeros).1.trace (at zeros).3 in
-          record {
-            middle = middle;
-            high = high;
-            rest = behind.0;
-            behind = behind.1;
-            hands = λ pick. let got = at pick in (got.0, got.1, got.2, sym (behind.1.same got.1.trace) ∙ got.3);
-          }
-        where
-          here : Place
-          here = record { node = c.ride.place.node; how = on_from n c.sid.behaviour; family = c.ride.place.family }
-
-          same_place : here ≡ place_behind n c.sid
-          same_place =
-              ap (λ (x : ℕ). record { node = x; how = on_from n c.sid.behaviour; family = c.ride.place.family }) (sym c.stands)
-              ∙ ap (λ x. record { node = c.sid.node; how = on_from n c.sid.behaviour; family = x }) (family-v6 c.ride.place.family)
-
-          at : (pick : ℕ → ℕ) → (more : ℕ) × (h : Handed)
-              × (handed_over net (walk_of more net (Some (place_behind n c.sid)) (V6 (at_segment e bytes (suc i) (hop - c.ride.lowered - 1))) pick 0) ≡ Some h)
-              × (matches c.ride.left (executed net n ++ h.trace) ≡ true)
-          at pick =
-              let gives = mid-onward net e bytes c.ride.place n i (hop - c.ride.lowered) (pick 0) c.sid c.into c.there middle below all high in
-              let first = first-of net c.ride.place (V6 p) c.ride.left pick _ gives c.hands in
-              let one : i + 1 ≡ suc i = omega arith in
-              let got = map-some (after_events (executed net n))
-              (handed_over net (walk_of first.0 net (Some here) (V6 (at_segment e bytes (i + 1) (hop - c.ride.lowered - 1))) pick (0 + 0))) first.1 first.2 in (
-                first.0,
-                got.0,
-                ap (λ (x : Place). handed_over net (walk_of first.0 net (Some x) (V6 (at_segment e bytes (suc i) (hop - c.ride.lowered - 1))) pick 0)) (sym same_place)
-                    ∙ ap (λ (j : ℕ). handed_over net (walk_of first.0 net (Some here) (V6 (at_segment e bytes j (hop - c.ride.lowered - 1))) pick 0)) (sym one)
-                    ∙ got.1,
-                ap (λ (h : Handed). matches c.ride.left h.trace) got.2 ∙ first.3,
-              )
-
-      by_limit : goes_on c.sid.behaviour ≡ true → ((1 < hop - c.ride.lowered) ⊎ (hop - c.ride.lowered ≤ 1)) → Goes-on i hop c.ride c.sid
-      by_limit middle (inl high) = onward middle high
-      by_limit middle (inr low) =
-          let gives = mid-low net e bytes c.ride.place n i (hop - c.ride.lowered) 0 c.sid c.into c.there middle below low in
-          absurd (no-more c.ride.place c.ride.left zeros (dropped reasons.HopLimit (V6 p)) (outcomes.Drop reasons.HopLimit) refl (λ later. refl)
-          (first-of net c.ride.place (V6 p) c.ride.left zeros (dropped reasons.HopLimit (V6 p)) gives c.hands))
-
-      by_behaviour : (b : Behaviour) → c.sid.behaviour ≡ b → Goes-on i hop c.ride c.sid
-      by_behaviour behaviours.End f = by_limit (ap goes_on f) (cases_lt 1 (hop - c.ride.lowered))
-      by_behaviour behaviours.EndX f = by_limit (ap goes_on f) (cases_lt 1 (hop - c.ride.lowered))
-      by_behaviour (behaviours.Dt6 table) f =
-          let gives = mid-exposes net e bytes c.ride.place n i (hop - c.ride.lowered) 0 c.sid c.into c.there table f below in
-          absurd (no-more c.ride.place c.ride.left zeros (dropped reasons.BadSegments (V6 p)) (outcomes.Drop reasons.BadSegments) refl (λ later. refl)
-          (first-of net c.ride.place (V6 p) c.ride.left zeros (dropped reasons.BadSegments (V6 p)) gives c.hands))
+      by_test : (t : Bool) → goes_on c.sid ≡ t → ((1 < hop - c.ride.lowered) ⊎ (hop - c.ride.lowered ≤ 1)) → Goes-on i hop c.ride c.sid
+      by_test true f (inl high) = mid-onwards position via i hop place below c f high
+      by_test true f (inr low) =
+          let gives = mid-low net e bytes c.ride.place c.ride.sid i (hop - c.ride.lowered) 0 c.sid c.into c.there f below low in
+          absurd (no-more net c.ride.place (V6 p) c.ride.left _ gives (λ later. refl) c.hands)
+      by_test false f limit =
+          let gives = mid-stays net e bytes c.ride.place c.ride.sid i (hop - c.ride.lowered) 0 c.sid c.into c.there f below in
+          absurd (no-more net c.ride.place (V6 p) c.ride.left _ gives (λ later. refl) c.hands)
 
   -- a leg in front of a path
   leg-path : (position : ℕ) (via : Option ℕ) (i hop : ℕ) (place : Place) (segments : List ℕ) → is_start net intent position via ≡ true → place_from net intent via ≡ Some place
@@ -419,7 +405,7 @@ module _ (net : Network) (network : IsNetwork net) (flat : IsFlat net) (intent :
       let len = ap length segments in
       let l = length-drop i e.segments in
       subst (λ (x : ℕ). PathFrom net intent position via (x ∷ []) hop) first.0
-      (last-path position via i hop place start from (omega (arith, first.2)) (comes position via i hop place start from first.2 positive hands))
+      (end-path position via i hop place start from (omega (arith, first.2)) (comes position via i hop place start from first.2 positive hands))
   path-from (b ∷ more) a position via i hop place start from segments positive hands =
       let first = first-left e.segments (b ∷ more) i a segments in
       let len = ap length segments in

@@ -9,8 +9,11 @@ use Rattle.srv6_rules.specs.Encapsulation.{Encapsulation, at_segment}
 use Rattle.net_model.specs.Network.{Network}
 use Rattle.net_model.specs.Keeps.{Keeps}
 use Rattle.walk_rules.specs.declared.place.Place.{Place}
-use Rattle.walk_rules.specs.Treatment.{Into, way_of, on_from}
+use Rattle.walk_rules.specs.Way.{Into, way_of}
+use Rattle.walk_rules.specs.Treatment.{goes, on_from}
 use Rattle.walk_rules.specs.Walk.{walk_of}
+use Rattle.walk_rules.specs.declared.place.Outcome.TheVariants as outcomes
+use Rattle.walk_rules.proofs.PublicLaws.{way-into}
 use Rattle.intent_reader.specs.Rules.{IsIntent}
 use Rattle.intent_reader.specs.declared.intent.Step.{Step}
 use Rattle.intent_reader.specs.declared.intent.Intent.{Intent}
@@ -18,15 +21,15 @@ use Rattle.leg_table.specs.declared.types.Leg.{Leg}
 use Rattle.leg_table.specs.Trace.{executed, Handed, after_events, handed_over}
 use Rattle.leg_table.specs.Tasks.{matches}
 use Rattle.leg_table.specs.Ride.{ride_of}
-use Rattle.leg_table.specs.Sids.{sid_address}
+use Rattle.leg_table.specs.Sids.{is_middle, sid_address}
 use Rattle.leg_table.specs.Leg.{place_behind, place_from, leg_of, finish_of}
 use Rattle.leg_table.specs.Realizes.{with_leg, path_need}
 use Rattle.leg_table.proofs.Options.{map-some, some-same}
 use Rattle.leg_table.proofs.RideFacts.{ride-facts, start-facts}
 use Rattle.leg_table.proofs.LegLemmas.{leg-ride, finish-ride, middle-sid, last-sid}
-use Rattle.leg_table.proofs.StrictLaws.{into-stands, drop-drop}
-use Rattle.leg_table.proofs.Handing.{handed-stage, ride-walk}
-use Rattle.leg_table.proofs.Segments.{family-v6, mid-onward, last-exposes, left-behind, behind-alone}
+use Rattle.leg_table.proofs.StrictLaws.{drop-drop}
+use Rattle.leg_table.proofs.Handing.{handed-stage, handed-behind, ride-walk}
+use Rattle.leg_table.proofs.Segments.{behind-again, mid-onward, last-exposes, left-behind, behind-alone}
 
 -- the first of what is left, and what is left behind it
 pub first-left : (xs ys : List ℕ) (i a : ℕ) → drop i xs ≡ a ∷ ys → (slice_index xs i ≡ a) × (drop (suc i) xs ≡ ys) × (i < length xs)
@@ -78,7 +81,7 @@ module _ (net : Network) (keeps : Keeps net) (intent : Intent) (is_intent : IsIn
       let sid = last-sid net next got.1 in
       let into : way_of net n.ride.place (slice_index e.segments i) ≡ Into next
       = ap (way_of net n.ride.place) address ∙ (f.into ∙ ap Into n.sid) in
-      let stage = last-exposes net e bytes n.ride.place next i (hop - n.ride.lowered) (pick (taken + w.count)) sid.0 into sid.2 sid.1 sid.3 last in
+      let stage = last-exposes net e bytes n.ride.place next i (hop - n.ride.lowered) (pick (taken + w.count)) sid.0 into sid.1 sid.2 last in
       let left = left-behind net next n.ride.left 0 (n.left_is ∙ ap Some got.3) in (
         n.place,
         n.from,
@@ -101,9 +104,30 @@ module _ (net : Network) (keeps : Keeps net) (intent : Intent) (is_intent : IsIn
       none-left [] h = refl
       none-left (u ∷ us) h = absurd (omega arith)
 
-  leg-hands : (position : ℕ) (via : Option ℕ) (next i hop k : ℕ) (leg : Leg) (pick : ℕ → ℕ) (taken : ℕ) → leg_of net intent position via next ≡ Some leg
-      → slice_index e.segments i ≡ sid_address net next → i + 1 < length e.segments → leg.hops + k < hop
-      → ((pick : ℕ → ℕ) (taken : ℕ) → (place : Place) × (place_from net intent (Some next) ≡ Some place) × Hands leg.to (suc i) (hop - leg.hops) place pick taken)
+  -- what is handed over behind the execution at a segment that is not the last
+  behind : (at : Place) (next i hop less fuel : ℕ) (pick : ℕ → ℕ) (taken : ℕ) (place : Place) (h : Handed) → is_middle net next ≡ true
+      → way_of net at (slice_index e.segments i) ≡ Into next → i + 1 < length e.segments → 1 < hop → hop - 1 ≡ less
+      → place_from net intent (Some next) ≡ Some place
+      → handed_over net (walk_of fuel net (Some place) (V6 (at_segment e bytes (suc i) less)) pick (taken + 0)) ≡ Some h
+      → handed_over net (walk_of (suc fuel) net (Some at) (V6 (at_segment e bytes i hop)) pick taken)
+      ≡ Some (after_events (executed net next) h)
+  behind at next i hop less fuel pick taken place h middle into below high one from handed =
+      let sid = middle-sid net next middle in
+      let stands = way-into net at (slice_index e.segments i) next into in
+      let same : stands.sid ≡ sid.0 = some-same stands.sid sid.0 (sym stands.is_there ∙ sid.1) in
+      let node : sid.0.node ≡ at.node = ap (λ (x : SidEntry). x.node) (sym same) ∙ stands.stands in
+      let again = outcomes.Again next (on_from next sid.0.behaviour) in
+      handed-behind net fuel at place (V6 (at_segment e bytes i hop)) (V6 (at_segment e bytes (suc i) less)) pick taken next
+      (on_from next sid.0.behaviour) h
+      (mid-onward net e bytes at next i hop (pick taken) sid.0 into sid.1 sid.2 below all high
+      ∙ ap (λ (j : ℕ). goes again (V6 (at_segment e bytes (suc i) j))) one)
+      (behind-again net at next sid.0 node ∙ (sym (ap (option_map (place_behind next)) sid.1) ∙ from)) handed
+
+  leg-hands : (position : ℕ) (via : Option ℕ) (next i hop k : ℕ) (leg : Leg) (pick : ℕ → ℕ) (taken : ℕ)
+      → leg_of net intent position via next ≡ Some leg → slice_index e.segments i ≡ sid_address net next
+      → i + 1 < length e.segments → leg.hops + k < hop
+      → ((pick : ℕ → ℕ) (taken : ℕ)
+      → (place : Place) × (place_from net intent (Some next) ≡ Some place) × Hands leg.to (suc i) (hop - leg.hops) place pick taken)
       → (place : Place) × (place_from net intent via ≡ Some place) × Hands position i hop place pick taken
   leg-hands position via next i hop k leg pick taken h address below high later =
       let got = leg-ride net intent position via next leg h in
@@ -111,40 +135,29 @@ module _ (net : Network) (keeps : Keeps net) (intent : Intent) (is_intent : IsIn
       let s = start-facts net keeps intent is_intent position via n.place n.start n.from in
       let ts = drop position intent.steps in
       let f = ride-facts net keeps (sid_address net next) ts n.place n.ride s.how s.rest n.is_ride in
-      let ridden : ride_of net (slice_index e.segments i) ts n.place ≡ Some n.ride = ap (λ (d : ℕ). ride_of net d ts n.place) address ∙ n.is_ride in
+      let ridden : ride_of net (slice_index e.segments i) ts n.place ≡ Some n.ride
+      = ap (λ (d : ℕ). ride_of net d ts n.place) address ∙ n.is_ride in
       let hops : n.ride.lowered + 1 ≡ leg.hops = ap (λ (l : Leg). l.hops) got.2 in
       let to : length intent.steps - n.left ≡ leg.to = ap (λ (l : Leg). l.to) got.2 in
       let low : n.ride.lowered < hop = omega arith in
       let w = ride-walk net keeps ts n.place (at_segment e bytes i hop) n.ride s.how s.rest ridden low in
-      let sid = middle-sid net next got.1 in
       let into : way_of net n.ride.place (slice_index e.segments i) ≡ Into next
       = ap (way_of net n.ride.place) address ∙ (f.into ∙ ap Into n.sid) in
-      let stands = into-stands net keeps intent is_intent n.ride.place (slice_index e.segments i) next into in
-      let stage = mid-onward net e bytes n.ride.place next i (hop - n.ride.lowered) (pick (taken + w.count)) sid.0 into sid.1 sid.2 below all (omega arith) in
       let left = left-behind net next n.ride.left n.left n.left_is in
       let rest = later pick (taken + w.count + 0) in
       let hand = rest.2 in
-      let same_place : Path (Option Place) (Some (record { node = n.ride.place.node; how = on_from next sid.0.behaviour; family = n.ride.place.family })) (Some rest.0)
-      = place-is n.ride.place next sid.0 stands.0 sid.1 stands.1 stands.2 ∙ rest.1 in
-      let one : i + 1 ≡ suc i = omega arith in
-      let less : hop - n.ride.lowered - 1 ≡ hop - leg.hops = omega arith in
-      let us_rest = rest-is intent.steps n.ride.left left.0 position f.count n.left f.left left.1.rest left.2 f.within s.within left.1.few in (
+      let us_rest =
+      rest-is intent.steps n.ride.left left.0 position f.count n.left f.left left.1.rest left.2 f.within s.within left.1.few in (
         n.place,
         n.from,
         record {
           fuel = w.count + suc hand.fuel;
-          handed = record { trace = w.events pick taken ++ (executed net next ++ hand.handed.trace); content = hand.handed.content };
+          handed = after_events (w.events pick taken) (after_events (executed net next) hand.handed);
           is_handed =
               w.walk pick taken (suc hand.fuel)
               ∙ ap (option_map (after_events (w.events pick taken)))
-              (handed-stage net hand.fuel n.ride.place (V6 (at_segment e bytes i (hop - n.ride.lowered))) pick (taken + w.count) _ stage
-              ∙ ap (λ (o : Option Place). option_map (after_events (executed net next))
-              (handed_over net (walk_of hand.fuel net o (V6 (at_segment e bytes (i + 1) (hop - n.ride.lowered - 1))) pick (taken + w.count + 0)))) same_place
-              ∙ ap (λ (j : ℕ). option_map (after_events (executed net next))
-              (handed_over net (walk_of hand.fuel net (Some rest.0) (V6 (at_segment e bytes j (hop - n.ride.lowered - 1))) pick (taken + w.count + 0)))) one
-              ∙ ap (λ (j : ℕ). option_map (after_events (executed net next))
-              (handed_over net (walk_of hand.fuel net (Some rest.0) (V6 (at_segment e bytes (suc i) j)) pick (taken + w.count + 0)))) less
-              ∙ ap (option_map (after_events (executed net next))) hand.is_handed);
+              (behind n.ride.place next i (hop - n.ride.lowered) (hop - leg.hops) hand.fuel pick (taken + w.count) rest.0 hand.handed
+              got.1 into below (omega arith) (omega arith) rest.1 hand.is_handed);
           meets_steps =
               w.meets_them pick taken (executed net next ++ hand.handed.trace)
               ∙ left.1.same hand.handed.trace
@@ -153,15 +166,6 @@ module _ (net : Network) (keeps : Keeps net) (intent : Intent) (is_intent : IsIn
           content = hand.content;
         },
       )
-    where
-      place-is : (at : Place) (next : ℕ) (s t : SidEntry) → slice_get net.sids next ≡ Some s → slice_get net.sids next ≡ Some t → t.node ≡ at.node
-          → Path (Option Place) (Some (record { node = at.node; how = on_from next s.behaviour; family = at.family })) (place_from net intent (Some next))
-      place-is at next s t hs ht stands =
-          let same : t ≡ s = some-same t s (sym ht ∙ hs) in
-          let node : s.node ≡ at.node = ap (λ (x : SidEntry). x.node) (sym same) ∙ stands in
-          ap (λ (x : ℕ). Some (record { node = x; how = on_from next s.behaviour; family = at.family })) (sym node)
-          ∙ ap (λ x. Some (record { node = s.node; how = on_from next s.behaviour; family = x })) (family-v6 at.family)
-          ∙ sym (ap (option_map (place_behind next)) hs)
 
   -- a path hands over above its need
   pub path-hands : (more : List ℕ) (next position : ℕ) (via : Option ℕ) (i hop need : ℕ) (pick : ℕ → ℕ) (taken : ℕ)

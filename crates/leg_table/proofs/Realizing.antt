@@ -6,8 +6,7 @@ use Rattle.std.proofs.lemmas.Bool.{and_from, le-leb}
 use Rattle.srv6_rules.specs.declared.sid.SidEntry.{SidEntry}
 use Rattle.srv6_rules.specs.Packet.{Packet, V6, IsSpellable, spelling}
 use Rattle.srv6_rules.specs.Encapsulation.{at_segment, inner_lowered}
-use Rattle.srv6_rules.proofs.Packets.{content_of-spelling_alone}
-use Rattle.srv6_rules.proofs.Encapsulations.{lowered-spellable}
+use Rattle.srv6_rules.proofs.PublicLaws.{content_of-spelling_alone, lowered-spellable}
 use Rattle.net_model.specs.Network.{Network}
 use Rattle.net_model.specs.Rules.{IsNetwork}
 use Rattle.net_model.specs.Flat.{IsFlat}
@@ -54,7 +53,7 @@ Are-there net (n ∷ ns) = ((s : SidEntry) × (slice_get net.sids n ≡ Some s))
 path-there : (net : Network) (intent : Intent) (more : List ℕ) (next position : ℕ) (via : Option ℕ) (need : ℕ) → path_need net intent position via (next ∷ more) ≡ Some need
     → Are-there net (next ∷ more)
 path-there net intent [] next position via need h =
-    let got = last-sid net next (finish-ride net intent position via next need h).1 in ((got.0, got.2), tt)
+    let got = last-sid net next (finish-ride net intent position via next need h).1 in ((got.0, got.1), tt)
 path-there net intent (m ∷ more) next position via need h =
     let got = with_leg-some (leg_of net intent position via next) (λ to. path_need net intent to (Some next) (m ∷ more)) need h in
     let s = middle-sid net next (leg-ride net intent position via next got.0 got.1).1 in

@@ -5,17 +5,16 @@ use Rattle.std.specs.List.{list_all}
 use Rattle.std.specs.Option.{option_map, option_and_then}
 use Rattle.std.proofs.lemmas.Bool.{false≢true, and_parts, leb-true, ltb-true}
 use Rattle.std.proofs.lemmas.List.{take-append-drop}
-use Rattle.srv6_rules.specs.declared.sid.Behaviour.{Behaviour}
-use Rattle.srv6_rules.specs.declared.sid.Behaviour.TheVariants as behaviours
 use Rattle.srv6_rules.specs.declared.sid.Family.TheVariants as families
 use Rattle.srv6_rules.specs.declared.sid.SidEntry.{SidEntry}
 use Rattle.net_model.specs.Network.{Network}
 use Rattle.net_model.specs.Keeps.{Keeps, SuitsBehaviour}
 use Rattle.walk_rules.specs.declared.place.Place.{Place}
-use Rattle.walk_rules.specs.Treatment.{Way, Away, Over, Own, Into, way_of, on_from}
+use Rattle.walk_rules.specs.Way.{Way, Away, Over, Own, Into, way_of, IsWayFrom}
+use Rattle.walk_rules.specs.Treatment.{on_from}
 use Rattle.walk_rules.specs.Relation.{IsHow, IsThrough}
 use Rattle.walk_rules.specs.Walk.{arrival}
-use Rattle.walk_rules.proofs.Stages.{HasLinks}
+use Rattle.walk_rules.proofs.PublicLaws.{sid-how, way-from}
 use Rattle.intent_reader.specs.Rules.{stand_after, first_end, node_after, is_at, IsIntent, is_intent, ends_in_function}
 use Rattle.intent_reader.specs.declared.intent.Step.{Step}
 use Rattle.intent_reader.specs.declared.intent.Step.TheVariants.{Links, Function}
@@ -24,7 +23,7 @@ use Rattle.leg_table.specs.Tasks.{has_link}
 use Rattle.leg_table.specs.Ride.{Ride, one_if, more_lowered, ride_on, ride_by, ride_end, ride_of}
 use Rattle.leg_table.specs.Sids.{is_sid_at, sid_suits, title_suits, is_middle, node_at, step_before}
 use Rattle.leg_table.specs.Leg.{place_behind, place_from, is_via, is_start}
-use Rattle.leg_table.proofs.Links.{way-links, first_end-is, step_opens}
+use Rattle.leg_table.proofs.Links.{first_end-is, step_opens}
 use Rattle.leg_table.proofs.Options.{map-some, if-some, some-same}
 use Rattle.leg_table.proofs.Rides.{arrived}
 
@@ -69,10 +68,10 @@ module _ (net : Network) (keeps : Keeps net) (destination : ℕ) where
       by_way (Over set lower) e h = absurd (cc)
       by_way (Into n) e h = subst (RideFacts net destination [] place) (some-same _ r h) (facts_here [] place n e)
   ride-facts (t ∷ ts) place r how stands h =
-      by_way t (way_of net place destination) refl (way-links net keeps place destination how) stands h
+      by_way t (way_of net place destination) refl (way-from net place destination keeps how) stands h
       (λ to q stands h. ride-facts ts (arrived to place) q tt stands h)
     where
-      by_way : (t : Step) (w : Way) → way_of net place destination ≡ w → HasLinks w → is_some (stand_after net place.node (t ∷ ts)) ≡ true
+      by_way : (t : Step) (w : Way) → way_of net place destination ≡ w → IsWayFrom net place.node w → is_some (stand_after net place.node (t ∷ ts)) ≡ true
           → ride_by net place (t ∷ ts) t (ride_of net destination ts) w ≡ Some r
           → ((to : ℕ) (q : Ride) → is_some (stand_after net to ts) ≡ true → ride_of net destination ts (arrived to place) ≡ Some q
           → RideFacts net destination ts (arrived to place) q)
@@ -85,7 +84,7 @@ module _ (net : Network) (keeps : Keeps net) (destination : ℕ) where
           let opened = step_opens net place.node step ts stands in
           let all = if-some (list_all (has_link step) set) _ r h in
           let got = map-some (more_lowered lower) _ r all.1 in
-          let at : first_end net set ≡ Some opened.0 = first_end-is net opened.0 step set opened.1 all.0 links in
+          let at : first_end net set ≡ Some opened.0 = first_end-is net opened.0 step set opened.1 all.0 links.some in
           let later : ride_of net destination ts (arrived opened.0 place) ≡ Some got.0
           = ap (λ (o : Option ℕ). ride_on (arrival o place) (ride_of net destination ts)) (sym at) ∙ got.1 in
           subst (RideFacts net destination (Links step ∷ ts) place) got.2
@@ -152,14 +151,6 @@ intent-stands net intent h =
     (k.0, leb-true (length intent.steps) 48 g.0, leb-true 1 (length intent.steps) f.0, ltb-true intent.headend (length net.nodes) a.0)
 
 module _ (net : Network) (keeps : Keeps net) (intent : Intent) (is_intent : IsIntent net intent) where
-  behind-how : (v : ℕ) (s : SidEntry) → slice_get net.sids v ≡ Some s → IsHow net s.node (on_from v s.behaviour)
-  behind-how v s e = by_behaviour s.behaviour ((keeps.sid v s e).links)
-    where
-      by_behaviour : (b : Behaviour) → SuitsBehaviour net.links s.node b s.links → IsHow net s.node (on_from v b)
-      by_behaviour behaviours.End suits = tt
-      by_behaviour behaviours.EndX suits = subst (IsThrough s.node) (sym e) (refl, suits.some)
-      by_behaviour (behaviours.Dt6 table) suits = tt
-
   start_from : (position : ℕ) (place : Place) → position ≤ length intent.steps → node_at net intent position ≡ Some place.node
       → IsHow net place.node place.how → place.family ≡ families.V6 → StartFacts net intent position place
   start_from position place within stands how family =
@@ -186,4 +177,4 @@ module _ (net : Network) (keeps : Keeps net) (intent : Intent) (is_intent : IsIn
       let e : Path (Option Place) (Some (place_behind v sid.0)) (Some place)
       = ap (option_map (place_behind v)) (sym sid.1) ∙ from in
       subst (StartFacts net intent position) (some-same _ place e)
-      (start_from position (place_behind v sid.0) (leb-true position (length intent.steps) parts.0) sid.2 (behind-how v sid.0 sid.1) refl)
+      (start_from position (place_behind v sid.0) (leb-true position (length intent.steps) parts.0) sid.2 (sid-how net v sid.0 keeps sid.1) refl)

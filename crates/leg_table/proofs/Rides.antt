@@ -9,7 +9,7 @@ use Rattle.srv6_rules.specs.declared.sid.SidEntry.{SidEntry}
 use Rattle.srv6_rules.specs.declared.sid.Behaviour.{Behaviour}
 use Rattle.srv6_rules.specs.declared.sid.Reason.{Reason}
 use Rattle.srv6_rules.specs.declared.sid.Reason.TheVariants as reasons
-use Rattle.srv6_rules.specs.Packet.{Packet, V6}
+use Rattle.srv6_rules.specs.Packet.{Packet, Content, V6}
 use Rattle.srv6_rules.specs.Endpoint.{Endpoint, Onward, Exposed, Delivered, Refused, at_sid, at_address}
 use Rattle.net_model.specs.Network.{Network}
 use Rattle.net_model.specs.Keeps.{Keeps}
@@ -17,83 +17,97 @@ use Rattle.walk_rules.specs.declared.place.How.TheVariants.{Arrived}
 use Rattle.walk_rules.specs.declared.place.Place.{Place}
 use Rattle.walk_rules.specs.declared.place.Outcome.{Outcome}
 use Rattle.walk_rules.specs.declared.place.Outcome.TheVariants as outcomes
-use Rattle.walk_rules.specs.Treatment.{Way, Away, Over, Own, Into, way_of, Gave, dropped, member_of, lowered, sent, treated, treated_in, treated_at_sid, treated_at_address, allow_of, step_of}
+use Rattle.walk_rules.specs.Way.{Way, Away, Over, Own, Into, way_of, IsWayFrom}
+use Rattle.walk_rules.specs.Treatment.{Gave, dropped, goes, member_of, lowered, sent, treated, treated_in, treated_at_sid, treated_at_address, allow_of, step_of}
 use Rattle.walk_rules.specs.Relation.{IsHow}
 use Rattle.walk_rules.specs.Walk as walks
 use Rattle.walk_rules.specs.Walk.{next_place, arrival}
-use Rattle.walk_rules.proofs.Stages.{HasLinks, sent-low, sent-high}
+use Rattle.walk_rules.proofs.PublicLaws.{sent-low, sent-high, way-from}
 use Rattle.intent_reader.specs.Rules.{stand_after, first_end, ends_at}
 use Rattle.intent_reader.specs.declared.intent.Step.{Step}
 use Rattle.intent_reader.specs.declared.intent.Step.TheVariants.{Links, Function}
 use Rattle.leg_table.specs.Tasks.{has_link}
 use Rattle.leg_table.specs.Choices.{Goes, Ends, AtNext, seen_at, EveryWay}
 use Rattle.leg_table.specs.Ride.{Ride, more_lowered, ride_on, ride_over, ride_by, ride_end, ride_of, with_hop_limit, RideEnds}
-use Rattle.leg_table.proofs.Links.{way-links, all-members, member-of_all, far_end-is, link_ends, first_end-is, step_opens}
+use Rattle.leg_table.proofs.Links.{all-members, member-of_all, far_end-is, link_ends, first_end-is, step_opens}
 
 abbrev IsNoSend : Outcome → Type 0
 IsNoSend (outcomes.Send link) = ⊥
 IsNoSend (outcomes.Again n how) = Unit {0}
 IsNoSend (outcomes.Hand n how family) = Unit {0}
 IsNoSend outcomes.Local = Unit {0}
-IsNoSend (outcomes.Drop reason) = Unit {0}
+IsNoSend (outcomes.Drop reason error) = Unit {0}
 
 goes-ends : (o : Outcome) (t : Step) (R E : Type 0) → IsNoSend o → Goes o t R E ↔ Ends o E
 goes-ends (outcomes.Send link) t R E h = absurd h
 goes-ends (outcomes.Again n how) t R E h = (λ x. x, λ x. x)
 goes-ends (outcomes.Hand n how family) t R E h = (λ x. x, λ x. x)
 goes-ends outcomes.Local t R E h = (λ x. x, λ x. x)
-goes-ends (outcomes.Drop reason) t R E h = (λ x. x, λ x. x)
+goes-ends (outcomes.Drop reason error) t R E h = (λ x. x, λ x. x)
 
-at_sid-no_send : (n : ℕ) (b : Behaviour) (p : Packet) (e : Endpoint) → IsNoSend (treated_at_sid n b p e).outcome
-at_sid-no_send n b p (Onward q) = tt
-at_sid-no_send n b p (Exposed content) = tt
-at_sid-no_send n b p Delivered = tt
-at_sid-no_send n b p (Refused reason) = tt
+at_sid-no_send : (net : Network) (node n : ℕ) (b : Behaviour) (p : Packet) (e : Endpoint) → IsNoSend (treated_at_sid net node n b p e).outcome
+at_sid-no_send net node n b p (Onward q) = tt
+at_sid-no_send net node n b p (Exposed family bytes) = tt
+at_sid-no_send net node n b p (Delivered q) = tt
+at_sid-no_send net node n b p (Refused reason at) = tt
 
 in-no_send : (net : Network) (node n : ℕ) (o : Option SidEntry) (p : Packet) → IsNoSend (treated_in net node n o p).outcome
 in-no_send net node n None p = tt
-in-no_send net node n (Some s) p = at_sid-no_send n s.behaviour p (at_sid s.behaviour (allow_of (slice_get net.nodes node)) p)
+in-no_send net node n (Some s) p = at_sid-no_send net node n s.behaviour p (at_sid s (allow_of (slice_get net.nodes node)) p)
 
 -- at the node's own address and away from the network a packet goes no further
-own-never : (p : Packet) (o : Option Reason) (t : Step) (R E : Type 0) → Goes (treated_at_address p o).outcome t R E → ⊥
-own-never p None t R E h = h
-own-never p (Some reason) t R E h = h
+own-never : (net : Network) (node : ℕ) (p : Packet) (x : Endpoint) (t : Step) (R E : Type 0)
+    → Goes (treated_at_address net node p x).outcome t R E → ⊥
+own-never net node p (Onward q) t R E h = h
+own-never net node p (Exposed family bytes) t R E h = h
+own-never net node p (Delivered q) t R E h = h
+own-never net node p (Refused reason at) t R E h = h
 
-own-ends : (p : Packet) (o : Option Reason) (E : Type 0) → Ends (treated_at_address p o).outcome E → ⊥
-own-ends p None E h = h
-own-ends p (Some reason) E h = h
+own-ends : (net : Network) (node : ℕ) (p : Packet) (x : Endpoint) (E : Type 0) → Ends (treated_at_address net node p x).outcome E → ⊥
+own-ends net node p (Onward q) E h = h
+own-ends net node p (Exposed family bytes) E h = h
+own-ends net node p (Delivered q) E h = h
+own-ends net node p (Refused reason at) E h = h
 
-by_limit : (set : List ℕ) (p : Packet) (choice : ℕ)
-    → ((p.hop_limit ≤ 1) × (sent set true p choice ≡ dropped reasons.HopLimit (V6 p)))
-    ⊎ ((1 < p.hop_limit) × (sent set true p choice ≡ record { outcome = outcomes.Send (member_of set choice); after = V6 (lowered true p) }))
-by_limit set p choice = by_test (leb_tells p.hop_limit 1)
+-- over links where the hop limit is lowered: a drop at a low hop limit, else a send
+abbrev IsLow : Network → ℕ → List ℕ → Packet → ℕ → Type 0
+IsLow net node set p choice = (p.hop_limit ≤ 1) × (sent net node set true p choice ≡ dropped net node reasons.HopLimit 0 (V6 p))
+
+abbrev IsHigh : Network → ℕ → List ℕ → Packet → ℕ → Type 0
+IsHigh net node set p choice =
+    (1 < p.hop_limit) × (sent net node set true p choice ≡ goes (outcomes.Send (member_of set choice)) (V6 (lowered true p)))
+
+by_limit : (net : Network) (node : ℕ) (set : List ℕ) (p : Packet) (choice : ℕ)
+    → IsLow net node set p choice ⊎ IsHigh net node set p choice
+by_limit net node set p choice = by_test (leb_tells p.hop_limit 1)
   where
     by_test : ((nat_le p.hop_limit 1 ≡ true) × (p.hop_limit ≤ 1)) ⊎ ((nat_le p.hop_limit 1 ≡ false) × (1 < p.hop_limit))
-        → ((p.hop_limit ≤ 1) × (sent set true p choice ≡ dropped reasons.HopLimit (V6 p)))
-        ⊎ ((1 < p.hop_limit) × (sent set true p choice ≡ record { outcome = outcomes.Send (member_of set choice); after = V6 (lowered true p) }))
-    by_test (inl low) = inl (low.1, sent-low set p choice low.1)
-    by_test (inr high) = inr (high.1, sent-high set p choice high.1)
+        → IsLow net node set p choice ⊎ IsHigh net node set p choice
+    by_test (inl low) = inl (low.1, sent-low net node set p choice low.1)
+    by_test (inr high) = inr (high.1, sent-high net node set p choice high.1)
+
+-- what no send and no drop has, nothing that is given over links has
+sent-never : (P : Gave → Type 0) (net : Network) (node : ℕ) (set : List ℕ) (lower : Bool) (p : Packet)
+    → ((link : ℕ) (after : Content) → P (goes (outcomes.Send link) after) → ⊥)
+    → (P (dropped net node reasons.HopLimit 0 (V6 p)) → ⊥) → P (sent net node set lower p 0) → ⊥
+sent-never P net node set false p sends drops h = sends (member_of set 0) (V6 p) h
+sent-never P net node set true p sends drops h = by (by_limit net node set p 0)
+  where
+    by : IsLow net node set p 0 ⊎ IsHigh net node set p 0 → ⊥
+    by (inl low) = drops (subst P low.1 h)
+    by (inr high) = sends (member_of set 0) (V6 (lowered true p)) (subst P high.1 h)
 
 -- with no step left, a packet is sent nowhere
-over-ends : (set : List ℕ) (lower : Bool) (p : Packet) (E : Gave → Type 0) → Ends (sent set lower p 0).outcome (E (sent set lower p 0)) → ⊥
-over-ends set false p E h = h
-over-ends set true p E h = by (by_limit set p 0)
-  where
-    by : ((p.hop_limit ≤ 1) × (sent set true p 0 ≡ dropped reasons.HopLimit (V6 p)))
-        ⊎ ((1 < p.hop_limit) × (sent set true p 0 ≡ record { outcome = outcomes.Send (member_of set 0); after = V6 (lowered true p) })) → ⊥
-    by (inl low) = subst (λ (g : Gave). Ends g.outcome (E g)) low.1 h
-    by (inr high) = subst (λ (g : Gave). Ends g.outcome (E g)) high.1 h
+over-ends : (net : Network) (node : ℕ) (set : List ℕ) (lower : Bool) (p : Packet) (E : Gave → Type 0)
+    → Ends (sent net node set lower p 0).outcome (E (sent net node set lower p 0)) → ⊥
+over-ends net node set lower p E =
+    sent-never (λ (g : Gave). Ends g.outcome (E g)) net node set lower p (λ link after h. h) (λ h. h)
 
 -- a function is no link
-function-never : (set : List ℕ) (lower : Bool) (p : Packet) (sid : ℕ) (R E : Gave → Type 0)
-    → Goes (sent set lower p 0).outcome (Function sid) (R (sent set lower p 0)) (E (sent set lower p 0)) → ⊥
-function-never set false p sid R E h = h
-function-never set true p sid R E h = by (by_limit set p 0)
-  where
-    by : ((p.hop_limit ≤ 1) × (sent set true p 0 ≡ dropped reasons.HopLimit (V6 p)))
-        ⊎ ((1 < p.hop_limit) × (sent set true p 0 ≡ record { outcome = outcomes.Send (member_of set 0); after = V6 (lowered true p) })) → ⊥
-    by (inl low) = subst (λ (g : Gave). Goes g.outcome (Function sid) (R g) (E g)) low.1 h
-    by (inr high) = subst (λ (g : Gave). Goes g.outcome (Function sid) (R g) (E g)) high.1 h
+function-never : (net : Network) (node : ℕ) (set : List ℕ) (lower : Bool) (p : Packet) (sid : ℕ) (R E : Gave → Type 0)
+    → let gave = sent net node set lower p 0 in Goes gave.outcome (Function sid) (R gave) (E gave) → ⊥
+function-never net node set lower p sid R E =
+    sent-never (λ (g : Gave). Goes g.outcome (Function sid) (R g) (E g)) net node set lower p (λ link after h. h) (λ h. h)
 
 pub same_packet : (p : Packet) → with_hop_limit (p.hop_limit - 0) p ≡ p
 same_packet p = ap (λ (h : ℕ). with_hop_limit h p) (sub-zero p.hop_limit)
@@ -172,7 +186,7 @@ module _ (net : Network) (end : List Step → walks.Step → Bool) where
         by_test false e h = absurd h
 
     abbrev Over-every : Bool → Packet → Type 0
-    Over-every lower p = (choice : ℕ) → let gave = sent set lower p choice in
+    Over-every lower p = (choice : ℕ) → let gave = sent net place.node set lower p choice in
         Goes gave.outcome (Links step) (AtNext (next_place net place gave.outcome) (λ next. EveryWay net end ts next gave.after))
         (IsTrue (end (Links step ∷ ts) (seen_at place (V6 p) gave)))
 
@@ -194,14 +208,13 @@ module _ (net : Network) (end : List Step → walks.Step → Bool) where
 
       over-true : (p : Packet)
           → Over-every true p ↔ RideEnds net end p (ride_over net place (Links step) set true (ride_of net p.destination ts))
-      over-true p = (λ h. to_ride h (by_limit set p 0), λ h. from_ride h)
+      over-true p = (λ h. to_ride h (by_limit net place.node set p 0), λ h. from_ride h)
         where
           high_sends : 1 < p.hop_limit → Over-every true p → Sends (lowered true p)
-          high_sends high h = λ choice. subst (Goes-as p) (sent-high set p choice high) (h choice)
+          high_sends high h = λ choice. subst (Goes-as p) (sent-high net place.node set p choice high) (h choice)
 
           to_ride : Over-every true p
-              → ((p.hop_limit ≤ 1) × (sent set true p 0 ≡ dropped reasons.HopLimit (V6 p)))
-              ⊎ ((1 < p.hop_limit) × (sent set true p 0 ≡ record { outcome = outcomes.Send (member_of set 0); after = V6 (lowered true p) }))
+              → IsLow net place.node set p 0 ⊎ IsHigh net place.node set p 0
               → RideEnds net end p (ride_over net place (Links step) set true (ride_of net p.destination ts))
           to_ride h (inl low) = absurd (subst (Goes-as p) low.1 (h 0))
           to_ride h (inr high) =
@@ -215,9 +228,9 @@ module _ (net : Network) (end : List Step → walks.Step → Bool) where
               let r = subst (RideEnds net end p) (over_is true (ride_of net p.destination ts) all) h in
               let high : 1 < p.hop_limit = falls_high p _ r in
               let sends = rides-sends (lowered true p) all ((ih (lowered true p) (omega (arith, high))).1 ((falls p _ high).1 r)) in
-              λ choice. subst (Goes-as p) (sym (sent-high set p choice high)) (sends choice)
+              λ choice. subst (Goes-as p) (sym (sent-high net place.node set p choice high)) (sends choice)
 
-  by_way : (place : Place) (p : Packet) (t : Step) (ts : List Step) (w : Way) → way_of net place p.destination ≡ w → HasLinks w
+  by_way : (place : Place) (p : Packet) (t : Step) (ts : List Step) (w : Way) → way_of net place p.destination ≡ w → IsWayFrom net place.node w
       → is_some (stand_after net place.node (t ∷ ts)) ≡ true → 0 < p.hop_limit
       → ((to : ℕ) (q : Packet) → is_some (stand_after net to ts) ≡ true → 0 < q.hop_limit
       → EveryWay net end ts (arrived to place) (V6 q) ↔ RideEnds net end q (ride_of net q.destination ts (arrived to place)))
@@ -226,38 +239,38 @@ module _ (net : Network) (end : List Step → walks.Step → Bool) where
       (IsTrue (end (t ∷ ts) (seen_at place (V6 p) gave))))
       ↔ RideEnds net end p (ride_by net place (t ∷ ts) t (ride_of net p.destination ts) w)
   by_way place p t ts (Away reason) e links stands positive ih = (λ h. h 0, λ h. absurd h)
-  by_way place p t ts Own e links stands positive ih = (λ h. own-never p (at_address p) t _ _ (h 0), λ h. absurd h)
+  by_way place p t ts Own e links stands positive ih = (λ h. own-never net place.node p (at_address p) t _ _ (h 0), λ h. absurd h)
   by_way place p t ts (Into n) e links stands positive ih =
       let quiet = in-no_send net place.node n (slice_get net.sids n) p in (
         λ h. (into place (t ∷ ts) p n e positive).0 ((goes-ends _ t _ _ quiet).0 (h 0)),
         λ h choice. (goes-ends _ t _ _ quiet).1 ((into place (t ∷ ts) p n e positive).1 h),
       )
   by_way place p (Function sid) ts (Over set lower) e links stands positive ih = (
-    λ h. function-never set lower p sid
+    λ h. function-never net place.node set lower p sid
         (λ gave. AtNext (next_place net place gave.outcome) (λ next. EveryWay net end ts next gave.after))
         (λ gave. IsTrue (end (Function sid ∷ ts) (seen_at place (V6 p) gave))) (h 0),
     λ h. absurd h,
   )
   by_way place p (Links step) ts (Over set false) e links stands positive ih =
       let opened = step_opens net place.node step ts stands in
-      over-false place step ts set opened.0 opened.1 links (λ q high. ih opened.0 q opened.2 high) p positive
+      over-false place step ts set opened.0 opened.1 links.some (λ q high. ih opened.0 q opened.2 high) p positive
   by_way place p (Links step) ts (Over set true) e links stands positive ih =
       let opened = step_opens net place.node step ts stands in
-      over-true place step ts set opened.0 opened.1 links (λ q high. ih opened.0 q opened.2 high) p
+      over-true place step ts set opened.0 opened.1 links.some (λ q high. ih opened.0 q opened.2 high) p
 
   by_end : (place : Place) (p : Packet) (w : Way) → way_of net place p.destination ≡ w → 0 < p.hop_limit
       → ((choice : ℕ) → let gave = treated net place.node w p choice in Ends gave.outcome (IsTrue (end [] (seen_at place (V6 p) gave))))
       ↔ RideEnds net end p (ride_end place w)
   by_end place p (Away reason) e positive = (λ h. h 0, λ h. absurd h)
-  by_end place p Own e positive = (λ h. own-ends p (at_address p) _ (h 0), λ h. absurd h)
+  by_end place p Own e positive = (λ h. own-ends net place.node p (at_address p) _ (h 0), λ h. absurd h)
   by_end place p (Into n) e positive = (λ h. (into place [] p n e positive).0 (h 0), λ h choice. (into place [] p n e positive).1 h)
   by_end place p (Over set lower) e positive =
-      (λ h. over-ends set lower p (λ gave. IsTrue (end [] (seen_at place (V6 p) gave))) (h 0), λ h. absurd h)
+      (λ h. over-ends net place.node set lower p (λ gave. IsTrue (end [] (seen_at place (V6 p) gave))) (h 0), λ h. absurd h)
 
   pub every-ride : Keeps net → (ts : List Step) (place : Place) (p : Packet) → IsHow net place.node place.how
       → is_some (stand_after net place.node ts) ≡ true → 0 < p.hop_limit
       → EveryWay net end ts place (V6 p) ↔ RideEnds net end p (ride_of net p.destination ts place)
   every-ride keeps [] place p how stands positive = by_end place p (way_of net place p.destination) refl positive
   every-ride keeps (t ∷ ts) place p how stands positive =
-      by_way place p t ts (way_of net place p.destination) refl (way-links net keeps place p.destination how) stands positive
+      by_way place p t ts (way_of net place p.destination) refl (way-from net place p.destination keeps how) stands positive
       (λ to q stands positive. every-ride keeps ts (arrived to place) q tt stands positive)

@@ -1,19 +1,19 @@
 -- Encapsulated packets at the SIDs of their segments.
-use Rattle.std.proofs.Common.{◌≡◌, ℕ, suc, ◌+◌, ◌-◌, ◌^◌, ◌<◌, ◌≤◌, Bool, true, false, ◌==◌, ◌&&◌, if◌then◌else◌, List, [], ◌∷◌, ◌++◌, length, drop, Some, None, slice_get, slice_index, refl, sym, ◌∙◌, ap, arith, eqb-true}
+use Rattle.std.proofs.Common.{◌≡◌, ℕ, suc, ◌+◌, ◌-◌, ◌^◌, ◌<◌, ◌≤◌, Bool, true, false, ◌==◌, ◌&&◌, if◌then◌else◌, List, [], ◌∷◌, ◌++◌, length, drop, Some, None, slice_get, slice_index, refl, sym, ◌∙◌, ap, arith, eqb-true, add-one}
 use Rattle.std.proofs.Common.{append-nil}
 use Rattle.std.specs.List.{All}
 use Rattle.std.proofs.lemmas.Bool.{false≢true, and_parts, eq-eqb}
 use Rattle.v6_addr.specs.Address.{PrefixValue, Holds}
-use Rattle.srv6_rules.specs.declared.sid.Behaviour.{Behaviour}
-use Rattle.srv6_rules.specs.declared.sid.Behaviour.TheVariants as behaviours
 use Rattle.srv6_rules.specs.declared.sid.Family.{Family}
 use Rattle.srv6_rules.specs.declared.sid.Family.TheVariants as families
 use Rattle.srv6_rules.specs.declared.sid.Reason.TheVariants as reasons
 use Rattle.srv6_rules.specs.declared.sid.SidEntry.{SidEntry}
+use Rattle.srv6_rules.specs.Behaviours.{goes_on, exposes, ipv6_inside}
 use Rattle.srv6_rules.specs.Packet.{V6, content_of}
-use Rattle.srv6_rules.specs.Endpoint.{at_sid, upper_layer, ipv6_inside}
-use Rattle.srv6_rules.specs.Encapsulation.{Encapsulation, at_segment, takes_next_segment}
-use Rattle.srv6_rules.proofs.Encapsulations.{at_segment-onward, at_segment-hop_limit, at_segment-bad_segments, at_segment-upper_layer, at_segment-exposed}
+use Rattle.srv6_rules.specs.Endpoint.{Endpoint, at_sid, upper_layer, in_packet}
+use Rattle.srv6_rules.specs.Srh.{segments_left_at}
+use Rattle.srv6_rules.specs.Encapsulation.{Encapsulation, at_segment, header_bytes}
+use Rattle.srv6_rules.proofs.PublicLaws.{at_segment-onward, at_segment-hop_limit, at_segment-bad_segments, at_segment-upper_layer, at_segment-exposed}
 use Rattle.net_model.specs.declared.net.Hit.{Hit}
 use Rattle.net_model.specs.declared.net.Hit.TheVariants as hits
 use Rattle.net_model.specs.Network.{Network}
@@ -25,22 +25,27 @@ use Rattle.walk_rules.specs.declared.place.How.{How}
 use Rattle.walk_rules.specs.declared.place.How.TheVariants.{Arrived, Submitted, Through}
 use Rattle.walk_rules.specs.declared.place.Place.{Place}
 use Rattle.walk_rules.specs.declared.place.Outcome.TheVariants as outcomes
-use Rattle.walk_rules.specs.Treatment.{Away, Into, is_multicast, way_of, way_by, way_by_hit, Gave, treated_at_sid, allow_of, step_of, on_from, dropped}
+use Rattle.walk_rules.specs.Walk.{next_place}
+use Rattle.walk_rules.specs.Way.{Away, Into, is_multicast, way_of, way_by, way_by_hit}
+use Rattle.walk_rules.specs.Treatment.{Gave, goes, treated_at_sid, allow_of, step_of, on_from, dropped}
 use Rattle.intent_reader.specs.declared.intent.Step.{Step}
 use Rattle.intent_reader.specs.declared.intent.Step.TheVariants.{Links, Function}
 use Rattle.leg_table.specs.Trace.{Event, Executed, is_titled, executed}
 use Rattle.leg_table.specs.Tasks.{matches, left_after, left_after_function}
-use Rattle.leg_table.specs.Sids.{goes_on, first_address, sid_address}
+use Rattle.leg_table.specs.Leg.{place_behind}
+use Rattle.leg_table.specs.Sids.{first_address, sid_address}
 use Rattle.leg_table.proofs.Options.{if-some, some-same}
 use Rattle.leg_table.proofs.Executions.{stage_into}
 
-pub goes-takes : (b : Behaviour) → takes_next_segment b ≡ goes_on b
-goes-takes behaviours.End = refl
-goes-takes behaviours.EndX = refl
-goes-takes (behaviours.Dt6 table) = refl
-
 pub family-v6 : (f : Family) → f ≡ families.V6
 family-v6 families.V6 = refl
+
+-- behind an execution the packet stands at the SID's node, and goes on in the SID's way
+pub behind-again : (net : Network) (at : Place) (n : ℕ) (s : SidEntry) → s.node ≡ at.node
+    → next_place net at (outcomes.Again n (on_from n s.behaviour)) ≡ Some (place_behind n s)
+behind-again net at n s stands =
+    ap (λ (x : ℕ). Some (record { node = x; how = on_from n s.behaviour; family = at.family })) (sym stands)
+    ∙ ap (λ x. Some (record { node = s.node; how = on_from n s.behaviour; family = x })) (family-v6 at.family)
 
 -- the way into a SID is by a look-up
 into-lookup : (net : Network) (place : Place) (a n : ℕ) → way_of net place a ≡ Into n → (table : ℕ) × (lookup_of net place.node table a ≡ hits.Sid n)
@@ -81,47 +86,38 @@ module _ (net : Network) (e : Encapsulation) (bytes : List ℕ) (place : Place) 
   abbrev stage : Gave
   stage = step_of net place (V6 (at_segment e bytes i hop)) choice
 
-  stage-is : stage ≡ treated_at_sid n s.behaviour (at_segment e bytes i hop) (at_sid s.behaviour (allow_of (slice_get net.nodes place.node)) (at_segment e bytes i hop))
-  stage-is = stage_into net place (at_segment e bytes i hop) n s choice into there
-
   abbrev allow : List ℕ
   allow = allow_of (slice_get net.nodes place.node)
 
+  abbrev given : Endpoint → Gave
+  given x = treated_at_sid net place.node n s.behaviour (at_segment e bytes i hop) x
+
+  stage-is : stage ≡ given (at_sid s allow (at_segment e bytes i hop))
+  stage-is = stage_into net place (at_segment e bytes i hop) n s choice into there
+
   -- at a segment that is not the last
-  pub mid-onward : goes_on s.behaviour ≡ true → i + 1 < length e.segments → All (λ a. a < 2 ^ 128) e.segments → 1 < hop
-      → stage ≡ record { outcome = outcomes.Again n (on_from n s.behaviour); after = V6 (at_segment e bytes (i + 1) (hop - 1)) }
+  pub mid-onward : goes_on s ≡ true → i + 1 < length e.segments → All (λ a. a < 2 ^ 128) e.segments → 1 < hop
+      → stage ≡ goes (outcomes.Again n (on_from n s.behaviour)) (V6 (at_segment e bytes (suc i) (hop - 1)))
   mid-onward middle below all high =
-      stage-is
-      ∙ ap (treated_at_sid n s.behaviour (at_segment e bytes i hop))
-      (at_segment-onward e bytes i hop s.behaviour allow (goes-takes s.behaviour ∙ middle) below all high)
+      stage-is ∙ ap given (at_segment-onward s allow e bytes i hop middle below all high)
+      ∙ ap (λ (j : ℕ). goes (outcomes.Again n (on_from n s.behaviour)) (V6 (at_segment e bytes j (hop - 1)))) (add-one i)
 
-  pub mid-low : goes_on s.behaviour ≡ true → i + 1 < length e.segments → hop ≤ 1 → stage ≡ dropped reasons.HopLimit (V6 (at_segment e bytes i hop))
-  mid-low middle below low =
-      stage-is
-      ∙ ap (treated_at_sid n s.behaviour (at_segment e bytes i hop))
-      (at_segment-hop_limit e bytes i hop s.behaviour allow (goes-takes s.behaviour ∙ middle) below low)
+  pub mid-low : goes_on s ≡ true → i + 1 < length e.segments → hop ≤ 1
+      → stage ≡ dropped net place.node reasons.HopLimit 0 (V6 (at_segment e bytes i hop))
+  mid-low middle below low = stage-is ∙ ap given (at_segment-hop_limit s allow e bytes i hop middle below low)
 
-  pub mid-exposes : (table : ℕ) → s.behaviour ≡ behaviours.Dt6 table → i + 1 < length e.segments
-      → stage ≡ dropped reasons.BadSegments (V6 (at_segment e bytes i hop))
-  mid-exposes table last below =
-      stage-is
-      ∙ ap (λ (b : Behaviour). treated_at_sid n b (at_segment e bytes i hop) (at_sid b allow (at_segment e bytes i hop))) last
-      ∙ ap (treated_at_sid n (behaviours.Dt6 table) (at_segment e bytes i hop)) (at_segment-bad_segments e bytes i hop table allow below)
+  pub mid-stays : goes_on s ≡ false → i + 1 < length e.segments
+      → stage ≡ dropped net place.node reasons.BadSegments (in_packet segments_left_at) (V6 (at_segment e bytes i hop))
+  mid-stays stays below = stage-is ∙ ap given (at_segment-bad_segments s allow e bytes i hop stays below)
 
   -- at the last segment
-  pub last-exposes : (table : ℕ) → s.behaviour ≡ behaviours.Dt6 table → i + 1 ≡ length e.segments
-      → stage ≡ record { outcome = outcomes.Hand n (on_from n (behaviours.Dt6 table)) families.V6; after = content_of bytes }
-  last-exposes table last end =
-      stage-is
-      ∙ ap (λ (b : Behaviour). treated_at_sid n b (at_segment e bytes i hop) (at_sid b allow (at_segment e bytes i hop))) last
-      ∙ ap (treated_at_sid n (behaviours.Dt6 table) (at_segment e bytes i hop)) (at_segment-exposed e bytes i hop table allow end)
+  pub last-exposes : exposes s ipv6_inside ≡ true → i + 1 ≡ length e.segments
+      → stage ≡ goes (outcomes.Hand n (on_from n s.behaviour) families.V6) (content_of bytes)
+  last-exposes shows end = stage-is ∙ ap given (at_segment-exposed s allow e bytes i hop shows end)
 
-  pub last-stays : goes_on s.behaviour ≡ true → i + 1 ≡ length e.segments
-      → stage ≡ treated_at_sid n s.behaviour (at_segment e bytes i hop) (upper_layer allow ipv6_inside)
-  last-stays middle end =
-      stage-is
-      ∙ ap (treated_at_sid n s.behaviour (at_segment e bytes i hop))
-      (at_segment-upper_layer e bytes i hop s.behaviour allow (goes-takes s.behaviour ∙ middle) end)
+  pub last-keeps : exposes s ipv6_inside ≡ false → i + 1 ≡ length e.segments
+      → stage ≡ given (upper_layer allow (at_segment e bytes i hop) ipv6_inside (header_bytes e.reduced (length e.segments) - 40))
+  last-keeps keeps end = stage-is ∙ ap given (at_segment-upper_layer s allow e bytes i hop keeps end)
 
 -- the steps left behind an execution that meets the steps
 module _ (net : Network) (n : ℕ) where

@@ -13,9 +13,8 @@ use Rattle.net_model.specs.Rules.{IsNetwork}
 use Rattle.net_model.specs.Keeps.{Keeps}
 use Rattle.net_model.proofs.KeepsLemmas.{keeps_from_network}
 use Rattle.walk_rules.specs.declared.place.Place.{Place}
-use Rattle.walk_rules.specs.Treatment.{Into, way_of}
-use Rattle.walk_rules.proofs.Lookups.{SidStandsAt}
-use Rattle.walk_rules.proofs.Executions.{IntoStands, way-stands}
+use Rattle.walk_rules.specs.Way.{Into, way_of}
+use Rattle.walk_rules.proofs.PublicLaws.{way-into}
 use Rattle.intent_reader.specs.Rules.{IsIntent, stand_after, node_after, function_node, is_at}
 use Rattle.intent_reader.specs.declared.intent.Step.{Step}
 use Rattle.intent_reader.specs.declared.intent.Step.TheVariants.{Links, Function}
@@ -24,7 +23,7 @@ use Rattle.leg_table.specs.declared.types.Leg.{Leg}
 use Rattle.leg_table.specs.Trace.{has_title}
 use Rattle.leg_table.specs.Tasks.{left_after, left_after_function}
 use Rattle.leg_table.specs.Ride.{Ride, ride_of}
-use Rattle.leg_table.specs.Sids.{comes_before, goes_on, sid_goes_on, is_middle, sid_exposes, first_address, sid_address, sid_before, in_order, sids_of, is_sid_at, sid_suits, title_suits, step_before, is_function_of, node_at}
+use Rattle.leg_table.specs.Sids.{comes_before, sid_goes_on, is_middle, first_address, sid_address, sid_before, in_order, sids_of, is_sid_at, sid_suits, title_suits, step_before, is_function_of, node_at}
 use Rattle.leg_table.specs.Table.{shape_by, shape_of}
 use Rattle.leg_table.specs.Leg.{is_via, is_start, leg_of, finish_of}
 use Rattle.leg_table.specs.Value.{ascends, IsVia, comes_to, IsLegOf, IsFinishOf, KeepsLaws, legs_value}
@@ -46,15 +45,6 @@ before-shapes : (o q : Option SidEntry) → sid_before o q ≡ true → comes_be
 before-shapes None q h = absurd (false≢true h)
 before-shapes (Some s) None h = absurd (false≢true h)
 before-shapes (Some s) (Some t) h = h
-
--- a SID is not both middle and last
-middle-last : (o : Option SidEntry) → sid_goes_on o ≡ true → sid_exposes o ≡ true → ⊥
-middle-last None h k = false≢true h
-middle-last (Some s) h k = not_both (goes_on s.behaviour) h k
-  where
-    not_both : (t : Bool) → t ≡ true → not t ≡ true → ⊥
-    not_both true h k = false≢true k
-    not_both false h k = false≢true h
 
 ascends-from : (net : Network) (intent : Intent) (xs : List ℕ) → in_order net xs ≡ true → ascends (legs_value net intent) xs ≡ true
 ascends-from net intent [] h = refl
@@ -90,13 +80,9 @@ module _ (net : Network) (keeps : Keeps net) (intent : Intent) (is_intent : IsIn
     pub rest_is : drop done intent.steps ≡ rest
     pub left_is : left_after net next rest ≡ Some left
 
-  pub into-stands : (place : Place) (d n : ℕ) → way_of net place d ≡ Into n → (s : SidEntry) × (slice_get net.sids n ≡ Some s) × (s.node ≡ place.node)
-  into-stands place d n e = by_sid (slice_get net.sids n) refl (subst (IntoStands net place.node) e (way-stands net place d))
-    where
-      by_sid : (o : Option SidEntry) → slice_get net.sids n ≡ o → SidStandsAt place.node o
-          → (s : SidEntry) × (slice_get net.sids n ≡ Some s) × (s.node ≡ place.node)
-      by_sid None f h = absurd h
-      by_sid (Some s) f h = (s, f, h)
+  pub into-stands : (place : Place) (d n : ℕ) → way_of net place d ≡ Into n
+      → (s : SidEntry) × (slice_get net.sids n ≡ Some s) × (s.node ≡ place.node)
+  into-stands place d n e = let at = way-into net place d n e in (at.sid, at.is_there, at.stands)
 
   pub arrives : (position : ℕ) (via : Option ℕ) (next : ℕ) (n : NextRide net intent position via next) → Arrives position next n.left
   arrives position via next n =
@@ -253,26 +239,38 @@ module _ (net : Network) (keeps : Keeps net) (intent : Intent) (is_intent : IsIn
       by_leg None e h = by_finish (finish_of net intent position via next) refl h
       by_leg (Some leg) e h = (leg-ride net intent position via next leg e).0
 
-  law-one : (position : ℕ) (via : Option ℕ) (next other : ℕ) → comes_to (legs_value net intent) position via next ≡ true
-      → comes_to (legs_value net intent) position via other ≡ true → (shape_of net next).prefix ≡ (shape_of net other).prefix → next ≡ other
-  law-one position via next other h k e =
-      let n = comes-ride position via next h in
-      let m = comes-ride position via other k in
+  -- rides to SIDs with one first address are one
+  same-rides : (position : ℕ) (via : Option ℕ) (next other : ℕ) (n : NextRide net intent position via next)
+      → (m : NextRide net intent position via other) → sid_address net next ≡ sid_address net other → n.ride ≡ m.ride
+  same-rides position via next other n m address =
       let place : n.place ≡ m.place = some-same n.place m.place (sym n.from ∙ m.from) in
-      let address : sid_address net next ≡ sid_address net other
-      = sym (shape-address (slice_get net.sids next)) ∙ ap (λ (p : PrefixValue). p.value) e ∙ shape-address (slice_get net.sids other) in
-      let ride : n.ride ≡ m.ride
-      = some-same n.ride m.ride
+      some-same n.ride m.ride
       (sym n.is_ride
       ∙ ap (λ (d : ℕ). ride_of net d (drop position intent.steps) n.place) address
       ∙ ap (ride_of net (sid_address net other) (drop position intent.steps)) place
-      ∙ m.is_ride) in
-      sym n.sid ∙ ap (λ (r : Ride). r.sid) ride ∙ m.sid
+      ∙ m.is_ride)
 
+  law-one : (position : ℕ) (via : Option ℕ) (next other : ℕ) → comes_to (legs_value net intent) position via next ≡ true
+      → comes_to (legs_value net intent) position via other ≡ true → (shape_of net next).prefix ≡ (shape_of net other).prefix
+      → next ≡ other
+  law-one position via next other h k e =
+      let n = comes-ride position via next h in
+      let m = comes-ride position via other k in
+      let address : sid_address net next ≡ sid_address net other
+      = sym (shape-address (slice_get net.sids next)) ∙ ap (λ (p : PrefixValue). p.value) e
+      ∙ shape-address (slice_get net.sids other) in
+      sym n.sid ∙ ap (λ (r : Ride). r.sid) (same-rides position via next other n m address) ∙ m.sid
+
+  -- a leg lowers at the execution too, and a finish on the same ride does not
   law-above : (position : ℕ) (via : Option ℕ) (next : ℕ) (leg : Leg) (lowered : ℕ) → leg_of net intent position via next ≡ Some leg
       → finish_of net intent position via next ≡ Some lowered → lowered < leg.hops
   law-above position via next leg lowered h k =
-      absurd (middle-last (slice_get net.sids next) (leg-ride net intent position via next leg h).1 (finish-ride net intent position via next lowered k).1)
+      let a = leg-ride net intent position via next leg h in
+      let b = finish-ride net intent position via next lowered k in
+      let hops : a.0.ride.lowered + 1 ≡ leg.hops = ap (λ (l : Leg). l.hops) a.2 in
+      let same : a.0.ride.lowered ≡ b.0.ride.lowered
+      = ap (λ (r : Ride). r.lowered) (same-rides position via next next a.0 b.0 refl) in
+      omega (arith, hops, same, b.2)
 
   laws : KeepsLaws (legs_value net intent)
   laws =

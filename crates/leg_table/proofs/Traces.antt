@@ -21,7 +21,7 @@ first-trace net gave (outcomes.Send link) ss later h f e =
     let got = map-some (after_events (Crossed link ∷ [])) later h e in
     sym (ap (λ (k : Handed). k.trace) got.2) ∙ ap (λ (es : List Event). (Crossed link ∷ []) ++ es) (f got.0 got.1)
 first-trace net gave outcomes.Local ss later h f e = absurd (cc)
-first-trace net gave (outcomes.Drop reason) ss later h f e = absurd (cc)
+first-trace net gave (outcomes.Drop reason error) ss later h f e = absurd (cc)
 
 pub handed-trace : (net : Network) (ss : List walks.Step) (h : Handed) → handed_over net ss ≡ Some h → h.trace ≡ trace_of net (through_hand ss)
 handed-trace net [] h e = absurd (cc)

@@ -4,15 +4,15 @@ use Rattle.std.specs.List.{list_any}
 use Rattle.std.specs.Option.{option_map}
 use Rattle.std.proofs.lemmas.Bool.{false≢true, eq-eqb, or_cases, or_left, or_right, false_from_ne_true}
 use Rattle.std.proofs.lemmas.List.{length-drop}
-use Rattle.srv6_rules.specs.declared.sid.Behaviour.{Behaviour}
-use Rattle.srv6_rules.specs.declared.sid.Behaviour.TheVariants as behaviours
 use Rattle.srv6_rules.specs.declared.sid.SidEntry.{SidEntry}
 use Rattle.net_model.specs.Network.{Network}
 use Rattle.net_model.specs.Keeps.{Keeps, SuitsBehaviour}
 use Rattle.walk_rules.specs.declared.place.Place.{Place}
-use Rattle.walk_rules.specs.Treatment.{Way, Away, Over, Own, Into, way_of, on_from}
+use Rattle.walk_rules.specs.Way.{Way, Away, Over, Own, Into, way_of}
+use Rattle.walk_rules.specs.Treatment.{on_from}
 use Rattle.walk_rules.specs.Relation.{IsHow, IsThrough}
 use Rattle.walk_rules.specs.Walk.{arrival}
+use Rattle.walk_rules.proofs.PublicLaws.{sid-how}
 use Rattle.intent_reader.specs.Rules.{first_end}
 use Rattle.intent_reader.specs.declared.intent.Step.{Step}
 use Rattle.intent_reader.specs.declared.intent.Intent.{Intent}
@@ -110,9 +110,4 @@ any-sid net keeps intent position n row e =
 -- a place behind a SID is one of the network
 pub behind-place : (net : Network) (keeps : Keeps net) (v : ℕ) (s : SidEntry) → slice_get net.sids v ≡ Some s
     → (s.node < length net.nodes) × IsHow net s.node (on_from v s.behaviour)
-behind-place net keeps v s e = ((keeps.sid v s e).node, by_behaviour s.behaviour ((keeps.sid v s e).links))
-  where
-    by_behaviour : (b : Behaviour) → SuitsBehaviour net.links s.node b s.links → IsHow net s.node (on_from v b)
-    by_behaviour behaviours.End suits = tt
-    by_behaviour behaviours.EndX suits = subst (IsThrough s.node) (sym e) (refl, suits.some)
-    by_behaviour (behaviours.Dt6 table) suits = tt
+behind-place net keeps v s e = ((keeps.sid v s e).node, sid-how net v s keeps e)

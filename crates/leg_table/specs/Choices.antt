@@ -24,7 +24,7 @@ Goes (outcomes.Send link) t Rest End = Crosses t link Rest
 Goes (outcomes.Again n how) t Rest End = End
 Goes (outcomes.Hand n how family) t Rest End = End
 Goes outcomes.Local t Rest End = ⊥
-Goes (outcomes.Drop reason) t Rest End = ⊥
+Goes (outcomes.Drop reason error) t Rest End = ⊥
 
 -- the same where no step is left, so that no link is crossed any more
 abbrev pub Ends : Outcome → Type 0 → Type 0
@@ -32,7 +32,7 @@ Ends (outcomes.Send link) End = ⊥
 Ends (outcomes.Again n how) End = End
 Ends (outcomes.Hand n how family) End = End
 Ends outcomes.Local End = ⊥
-Ends (outcomes.Drop reason) End = ⊥
+Ends (outcomes.Drop reason error) End = ⊥
 
 -- the stages of a walk cross links along the first steps, up to an execution that a test of the steps left and of the
 -- stage accepts

@@ -1,9 +1,9 @@
 -- Legs and finishes: from the execution of one SID to that of the next.
 use Rattle.std.specs.Prelude.{◌≡◌, ℕ, zero, suc, ◌+◌, ◌-◌, ◌<◌, ◌≤◌, Bool, true, false, ◌==◌, ◌&&◌, nat_le, if◌then◌else◌, List, [], drop, length, slice_get, Option, Some, None, IsTrue, ◌↔◌}
 use Rattle.std.specs.Option.{option_map, option_and_then}
-use Rattle.srv6_rules.specs.declared.sid.Behaviour.TheVariants as behaviours
 use Rattle.srv6_rules.specs.declared.sid.Family.TheVariants as families
 use Rattle.srv6_rules.specs.declared.sid.SidEntry.{SidEntry}
+use Rattle.srv6_rules.specs.Behaviours.{goes_on}
 use Rattle.srv6_rules.specs.Packet.{Packet, Content, V6, Unreadable}
 use Rattle.srv6_rules.specs.Endpoint.{Endpoint, Onward, Exposed, Delivered, Refused, at_sid}
 use Rattle.net_model.specs.Network.{Network}
@@ -19,7 +19,7 @@ use Rattle.leg_table.specs.declared.types.Leg.{Leg}
 use Rattle.leg_table.specs.Tasks.{left_after}
 use Rattle.leg_table.specs.Choices.{ForAllChoices}
 use Rattle.leg_table.specs.Ride.{Ride, ride_of, with_hop_limit}
-use Rattle.leg_table.specs.Sids.{goes_on, is_sid_at, is_middle, is_last, sid_address}
+use Rattle.leg_table.specs.Sids.{is_sid_at, is_middle, is_last, sid_address}
 
 -- from where a packet goes to the next SID: from the headend, which made it, or from the SID that was executed last
 abbrev pub place_behind : ℕ → SidEntry → Place
@@ -75,24 +75,32 @@ finish_of net intent position via next =
     then finish_behind net next (ride_to net intent position via next)
     else None
 
--- packets that End takes on to a next segment, and packets from which End.DT6 exposes a packet
 abbrev pub is_onward : Endpoint → Bool
 is_onward (Onward q) = true
-is_onward (Exposed content) = false
-is_onward Delivered = false
-is_onward (Refused reason) = false
+is_onward (Exposed family bytes) = false
+is_onward (Delivered q) = false
+is_onward (Refused reason at) = false
 
 abbrev pub is_exposed : Endpoint → Bool
 is_exposed (Onward q) = false
-is_exposed (Exposed content) = true
-is_exposed Delivered = false
-is_exposed (Refused reason) = false
+is_exposed (Exposed family bytes) = true
+is_exposed (Delivered q) = false
+is_exposed (Refused reason at) = false
 
-abbrev pub has_next_segment : Packet → Bool
-has_next_segment p = is_onward (at_sid behaviours.End [] (with_hop_limit 2 p))
+-- packets that a SID takes on to a next segment where the hop limit allows it, and packets from which it exposes one
+abbrev pub takes_on : Option SidEntry → Packet → Bool
+takes_on None p = false
+takes_on (Some s) p = is_onward (at_sid s [] (with_hop_limit 2 p))
 
-abbrev pub has_packet_inside : Packet → Bool
-has_packet_inside p = is_exposed (at_sid (behaviours.Dt6 0) [] p)
+abbrev pub takes_out : Option SidEntry → Packet → Bool
+takes_out None p = false
+takes_out (Some s) p = is_exposed (at_sid s [] p)
+
+abbrev pub has_next_segment : Network → ℕ → Packet → Bool
+has_next_segment net n p = takes_on (slice_get net.sids n) p
+
+abbrev pub has_packet_inside : Network → ℕ → Packet → Bool
+has_packet_inside net n p = takes_out (slice_get net.sids n) p
 
 -- SID n was executed, and the packet goes on
 abbrev pub is_again : ℕ → Outcome → Bool
@@ -100,7 +108,7 @@ is_again n (outcomes.Again m how) = m == n
 is_again n (outcomes.Hand m how family) = false
 is_again n (outcomes.Send link) = false
 is_again n outcomes.Local = false
-is_again n (outcomes.Drop reason) = false
+is_again n (outcomes.Drop reason error) = false
 
 -- SID n was executed, and exposed the packet inside
 abbrev pub is_hand : ℕ → Outcome → Bool
@@ -108,7 +116,7 @@ is_hand n (outcomes.Again m how) = false
 is_hand n (outcomes.Hand m how family) = m == n
 is_hand n (outcomes.Send link) = false
 is_hand n outcomes.Local = false
-is_hand n (outcomes.Drop reason) = false
+is_hand n (outcomes.Drop reason error) = false
 
 abbrev pub has_limit : ℕ → Content → Bool
 has_limit limit (V6 p) = p.hop_limit == limit
@@ -119,25 +127,25 @@ is_left left None = false
 is_left left (Some m) = m == left
 
 -- the stage executes SID n, with so many steps left then and this hop limit behind it
-abbrev pub executes : Network → ℕ → ℕ → ℕ → List Step → walks.Step → Bool
-executes net n left limit ts s = is_again n s.gave.outcome && (is_left left (left_after net n ts) && has_limit limit s.gave.after)
+abbrev pub stage_executes : Network → ℕ → ℕ → ℕ → List Step → walks.Step → Bool
+stage_executes net n left limit ts s = is_again n s.gave.outcome && (is_left left (left_after net n ts) && has_limit limit s.gave.after)
 
 -- the stage exposes the packet inside at SID n, with so many steps left then and this hop limit before it
-abbrev pub exposes : Network → ℕ → ℕ → ℕ → List Step → walks.Step → Bool
-exposes net n left limit ts s = is_hand n s.gave.outcome && (is_left left (left_after net n ts) && has_limit limit s.before)
+abbrev pub stage_exposes : Network → ℕ → ℕ → ℕ → List Step → walks.Step → Bool
+stage_exposes net n left limit ts s = is_hand n s.gave.outcome && (is_left left (left_after net n ts) && has_limit limit s.before)
 
--- a packet to the SID's address that has a next segment is taken from a place along the first steps to SID n and executed
+-- a packet to the SID's address that has a next segment there is taken from a place along the first steps to SID n and executed
 -- there, for all choices, with so many steps left; that is so exactly above so many hops, by which its hop limit falls
 abbrev pub IsTaken : Network → List Step → ℕ → ℕ → ℕ → Place → Type 0
 IsTaken net ts n left hops place =
-    (p : Packet) → p.destination ≡ sid_address net n → IsTrue (has_next_segment p) → 0 < p.hop_limit →
-    (hops < p.hop_limit) ↔ ForAllChoices net (executes net n left (p.hop_limit - hops)) ts place (V6 p)
+    (p : Packet) → p.destination ≡ sid_address net n → IsTrue (has_next_segment net n p) → 0 < p.hop_limit →
+    (hops < p.hop_limit) ↔ ForAllChoices net (stage_executes net n left (p.hop_limit - hops)) ts place (V6 p)
 
--- the same of a packet with a packet inside, which SID n exposes
+-- the same of a packet with a packet inside that SID n exposes
 abbrev pub IsHanded : Network → List Step → ℕ → ℕ → ℕ → Place → Type 0
 IsHanded net ts n left lowered place =
-    (p : Packet) → p.destination ≡ sid_address net n → IsTrue (has_packet_inside p) → 0 < p.hop_limit →
-    (lowered < p.hop_limit) ↔ ForAllChoices net (exposes net n left (p.hop_limit - lowered)) ts place (V6 p)
+    (p : Packet) → p.destination ≡ sid_address net n → IsTrue (has_packet_inside net n p) → 0 < p.hop_limit →
+    (lowered < p.hop_limit) ↔ ForAllChoices net (stage_exposes net n left (p.hop_limit - lowered)) ts place (V6 p)
 
 abbrev pub FromPlace : Option Place → (Place → Type 0) → Type 0
 FromPlace None P = ⊥
@@ -163,7 +171,7 @@ start_of net intent position via = if is_start net intent position via then plac
 -- from where a packet goes on behind the execution of a middle SID
 abbrev pub middle_place_by : ℕ → Option SidEntry → Option Place
 middle_place_by v None = None
-middle_place_by v (Some s) = if goes_on s.behaviour then Some (place_behind v s) else None
+middle_place_by v (Some s) = if goes_on s then Some (place_behind v s) else None
 
 abbrev pub middle_place : Network → ℕ → Option Place
 middle_place net v = middle_place_by v (slice_get net.sids v)

@@ -5,7 +5,8 @@ use Rattle.std.specs.Option.{option_map}
 use Rattle.srv6_rules.specs.Packet.{Packet, V6}
 use Rattle.net_model.specs.Network.{Network}
 use Rattle.walk_rules.specs.declared.place.Place.{Place}
-use Rattle.walk_rules.specs.Treatment.{Way, Away, Over, Own, Into, way_of, step_of}
+use Rattle.walk_rules.specs.Way.{Way, Away, Over, Own, Into, way_of}
+use Rattle.walk_rules.specs.Treatment.{step_of}
 use Rattle.walk_rules.specs.Walk as walks
 use Rattle.walk_rules.specs.Walk.{arrival}
 use Rattle.intent_reader.specs.Rules.{first_end}

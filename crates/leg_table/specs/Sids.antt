@@ -1,9 +1,8 @@
 -- The SIDs that may be executed at a position of an intent: after so many of its steps.
-use Rattle.std.specs.Prelude.{ℕ, zero, suc, Bool, true, false, ◌==◌, ◌&&◌, ◌||◌, nat_lt, not, if◌then◌else◌, List, [], ◌∷◌, take, length, slice_get, Option, Some, None, IsTrue, Contains, ◌↔◌}
+use Rattle.std.specs.Prelude.{ℕ, zero, suc, Bool, true, false, ◌==◌, ◌&&◌, ◌||◌, nat_lt, if◌then◌else◌, List, [], ◌∷◌, take, length, slice_get, Option, Some, None, IsTrue, Contains, ◌↔◌}
 use Rattle.v6_addr.specs.Address.{PrefixValue}
-use Rattle.srv6_rules.specs.declared.sid.Behaviour.{Behaviour}
-use Rattle.srv6_rules.specs.declared.sid.Behaviour.TheVariants as behaviours
 use Rattle.srv6_rules.specs.declared.sid.SidEntry.{SidEntry}
+use Rattle.srv6_rules.specs.Behaviours.{goes_on, exposes, ipv6_inside}
 use Rattle.net_model.specs.Network.{Network}
 use Rattle.intent_reader.specs.Rules.{stand_after, is_at}
 use Rattle.intent_reader.specs.declared.intent.Step.{Step}
@@ -11,22 +10,17 @@ use Rattle.intent_reader.specs.declared.intent.Step.TheVariants.{Links, Function
 use Rattle.intent_reader.specs.declared.intent.Intent.{Intent}
 
 -- from a SID that is middle the packet goes on to a next segment
-abbrev pub goes_on : Behaviour → Bool
-goes_on behaviours.End = true
-goes_on behaviours.EndX = true
-goes_on (behaviours.Dt6 table) = false
-
 abbrev pub sid_goes_on : Option SidEntry → Bool
 sid_goes_on None = false
-sid_goes_on (Some s) = goes_on s.behaviour
+sid_goes_on (Some s) = goes_on s
 
 abbrev pub is_middle : Network → ℕ → Bool
 is_middle net n = sid_goes_on (slice_get net.sids n)
 
--- a SID that exposes the packet inside
+-- a SID that exposes an IPv6 packet inside
 abbrev pub sid_exposes : Option SidEntry → Bool
 sid_exposes None = false
-sid_exposes (Some s) = not (goes_on s.behaviour)
+sid_exposes (Some s) = exposes s ipv6_inside
 
 abbrev pub is_last : Network → ℕ → Bool
 is_last net n = sid_exposes (slice_get net.sids n)

@@ -1,12 +1,13 @@
 -- The table of an intent's legs.
 use Rattle.std.specs.Prelude.{◌≡◌, ℕ, ◌+◌, ◌≤◌, false, List, length, slice_get, Option, Some, None}
 use Rattle.srv6_rules.specs.declared.sid.SidEntry.{SidEntry}
+use Rattle.srv6_rules.specs.Behaviours.{goes_on}
 use Rattle.net_model.specs.Network.{Network}
 use Rattle.net_model.specs.Rules.{IsNetwork}
 use Rattle.intent_reader.specs.Rules.{IsIntent}
 use Rattle.intent_reader.specs.declared.intent.Intent.{Intent}
 use Rattle.leg_table.specs.declared.types.Shape.{Shape}
-use Rattle.leg_table.specs.Sids.{sids_of, goes_on}
+use Rattle.leg_table.specs.Sids.{sids_of}
 
 -- a table is that of an intent in a network
 pub record LegTable : Type 0 where
@@ -27,7 +28,7 @@ pub record IsTable (net : Network) (intent : Intent) (rows : List (List ℕ)) : 
 -- what a SID is to the search
 abbrev pub shape_by : Option SidEntry → Shape
 shape_by None = record { prefix = record { value = 0; len = 0 }; middle = false }
-shape_by (Some s) = record { prefix = s.prefix; middle = goes_on s.behaviour }
+shape_by (Some s) = record { prefix = s.prefix; middle = goes_on s }
 
 abbrev pub shape_of : Network → ℕ → Shape
 shape_of net n = shape_by (slice_get net.sids n)

@@ -32,7 +32,7 @@ events_of net (outcomes.Again n how) = executed net n
 events_of net (outcomes.Hand n how family) = executed net n
 events_of net (outcomes.Send link) = Crossed link ∷ []
 events_of net outcomes.Local = []
-events_of net (outcomes.Drop reason) = []
+events_of net (outcomes.Drop reason error) = []
 
 -- the trace of stages
 abbrev pub trace_of : Network → List walks.Step → List Event
@@ -53,7 +53,7 @@ handed_first net gave (outcomes.Hand n how family) later = Some (record { trace 
 handed_first net gave (outcomes.Again n how) later = option_map (after_events (executed net n)) later
 handed_first net gave (outcomes.Send link) later = option_map (after_events (Crossed link ∷ [])) later
 handed_first net gave outcomes.Local later = None
-handed_first net gave (outcomes.Drop reason) later = None
+handed_first net gave (outcomes.Drop reason error) later = None
 
 -- what the stages hand over first, if a stage hands over
 abbrev pub handed_over : Network → List walks.Step → Option Handed
@@ -66,7 +66,7 @@ behind_stage (outcomes.Hand n how family) later = []
 behind_stage (outcomes.Again n how) later = later
 behind_stage (outcomes.Send link) later = later
 behind_stage outcomes.Local later = later
-behind_stage (outcomes.Drop reason) later = later
+behind_stage (outcomes.Drop reason error) later = later
 
 -- the stages up to and with the first hand-over
 abbrev pub through_hand : List walks.Step → List walks.Step

@@ -4,7 +4,6 @@
 
 mod laws;
 mod legs;
-mod no_memory;
 mod ride;
 mod rows;
 mod strict_legs;
@@ -16,7 +15,6 @@ pub use laws::{
     sids_of_a_position_are_in_order, what_is_handed_over_has_its_trace,
 };
 pub use legs::Legs;
-pub use no_memory::NoMemory;
 pub use strict_legs::StrictLegs;
 pub use types::{
     Container, Cost, Leg, PathStep, PathSteps, Potential, Potentials, Prefixes, Shape, SidList,

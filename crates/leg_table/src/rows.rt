@@ -5,35 +5,14 @@ ghost use Rattle.intent_reader.specs.Rules as rules;
 ghost use Rattle.leg_table.specs.Sids as sids;
 ghost use Rattle.leg_table.specs.Table.{AreRows};
 
-use crate::no_memory::NoMemory;
 use crate::ride::first_end;
+use base::{NoMemory, Seq};
 use intent_reader::{Intent, Step};
 use net_model::Net;
 use std::alloc::Global;
-use std::marker::Model;
 
 /// The SIDs of a position, in order.
-#[derive(Debug, Drop)]
-pub struct Row {
-    sids: Vec<u32>,
-}
-
-impl Model for Row {
-    ghost use Rattle.std.specs.Prelude.{List, ℕ};
-
-    ghost Value = { List ℕ };
-
-    ghost view = { λ r. r.sids.items };
-}
-
-impl Row {
-    /// The SIDs, in order.
-    pub fn as_slice(&self) -> &[u32]
-        ensures { result.now ≡ self.now }
-    {
-        self.sids.as_slice()
-    }
-}
+pub type Row = Seq<u32>;
 
 // the step that ends at a position is the function
 fn is_function_at(steps: &[Step], position: u32, n: u32) -> bool
@@ -110,7 +89,7 @@ fn row_of(
             row.insert(at, n)?;
         }
     }
-    Ok(Row { sids: row })
+    Ok(Row::new(row))
 }
 
 // the node where the walk stands behind a step

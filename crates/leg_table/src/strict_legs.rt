@@ -4,7 +4,6 @@ ghost use Rattle.std.specs.Prelude.{◌≡◌, ◌<◌, ◌≤◌, ℕ, length, 
 ghost use Rattle.std.specs.Option.{option_map};
 ghost use Rattle.net_model.specs.Rules.{IsNetwork};
 ghost use Rattle.walk_rules.specs.Relation.{IsPlace};
-ghost use Rattle.walk_rules.specs.Treatment.{on_from};
 ghost use Rattle.intent_reader.specs.Rules.{IsIntent};
 ghost use Rattle.leg_table.specs.Course.{way_behind};
 ghost use Rattle.leg_table.specs.Leg as legs;
@@ -13,16 +12,17 @@ ghost use Rattle.leg_table.specs.Tasks as tasks;
 ghost use Rattle.leg_table.specs.Table.{LegTable, shape_of};
 
 use crate::legs::Legs;
-use crate::no_memory::NoMemory;
 use crate::ride::{Behind, way_to};
 use crate::rows::{Row, rows_of};
 use crate::types::{Leg, Shape};
+use base::NoMemory;
 use intent_reader::Intent;
 use net_model::Net;
-use srv6_rules::{Behaviour, Family};
+use srv6_rules::Family;
+use srv6_rules::numbers::IPV6_INSIDE;
 use std::alloc::Global;
 use std::marker::Model;
-use walk_rules::{How, Place};
+use walk_rules::{How, Place, on_from};
 
 /// The legs of an intent in a network, with the SIDs of each position.
 #[derive(Debug, Drop)]
@@ -144,7 +144,7 @@ impl<'a> Legs for StrictLegs<'a> {
         let sid = self.net.sid(sid);
         Shape {
             prefix: sid.prefix,
-            middle: goes_on(sid.behaviour),
+            middle: sid.goes_on(),
         }
     }
 
@@ -173,25 +173,17 @@ impl<'a> Legs for StrictLegs<'a> {
 }
 
 // from a SID the packet goes on to a next segment
-fn goes_on(behaviour: Behaviour) -> bool
-    ensures { result ≡ sids.goes_on behaviour }
-{
-    match behaviour {
-        Behaviour::End | Behaviour::EndX => true,
-        Behaviour::Dt6 { .. } => false,
-    }
-}
-
 fn is_middle(net: &Net, n: u32) -> bool
     ensures { result ≡ sids.is_middle net.now n }
 {
-    n < net.sids() && goes_on(net.sid(n).behaviour)
+    n < net.sids() && net.sid(n).goes_on()
 }
 
+// a SID exposes an IPv6 packet inside
 fn is_last(net: &Net, n: u32) -> bool
     ensures { result ≡ sids.is_last net.now n }
 {
-    n < net.sids() && !goes_on(net.sid(n).behaviour)
+    n < net.sids() && net.sid(n).exposes(IPV6_INSIDE)
 }
 
 // where the packet stands behind the execution of a middle SID
@@ -200,30 +192,13 @@ fn place_behind(net: &Net, v: u32) -> Option<Place>
     ensures is_place { IfSome result (IsPlace net.now) }
 {
     net.keeps_rules();
-    if v >= net.sids() {
+    if !is_middle(net, v) {
         return None;
     }
     let sid = net.sid(v);
-    if !goes_on(sid.behaviour) {
-        return None;
-    }
     Some(Place {
         node: sid.node,
-        how: how_behind(v, sid.behaviour),
+        how: on_from(v, &sid.behaviour),
         family: Family::V6,
     })
-}
-
-// how the packet goes on from a SID
-fn how_behind(v: u32, behaviour: Behaviour) -> How
-    ensures { result ≡ on_from v behaviour }
-{
-    match behaviour {
-        Behaviour::End => How::Submitted { table: 0 },
-        Behaviour::EndX => How::Through {
-            sid: v,
-            lower: false,
-        },
-        Behaviour::Dt6 { table } => How::Arrived { table },
-    }
 }

@@ -1,8 +1,6 @@
 //! States of the search for a list, legs and their costs, and lists of SIDs.
 
-ghost use Rattle.std.specs.Prelude.{◌≡◌};
-
-use std::marker::Model;
+use base::Seq;
 use v6_addr::Prefix;
 
 /// A state of the search for a list of SIDs.
@@ -54,35 +52,7 @@ pub struct PathStep {
 }
 
 /// The prefixes of a container's SIDs, in order.
-#[derive(Debug, Drop)]
-pub struct Prefixes {
-    prefixes: Vec<Prefix>,
-}
-
-impl Model for Prefixes {
-    ghost use Rattle.std.specs.Prelude.{List};
-    ghost use Rattle.v6_addr.specs.Address.{PrefixValue};
-
-    ghost Value = { List PrefixValue };
-
-    ghost view = { λ p. p.prefixes.items };
-}
-
-impl Prefixes {
-    /// These prefixes, in this order.
-    pub fn new(prefixes: Vec<Prefix>) -> Prefixes
-        ensures { result ≡ prefixes.items }
-    {
-        Prefixes { prefixes }
-    }
-
-    /// The prefixes, in order.
-    pub fn as_slice(&self) -> &[Prefix]
-        ensures { result.now ≡ self.now }
-    {
-        self.prefixes.as_slice()
-    }
-}
+pub type Prefixes = Seq<Prefix>;
 
 /// 16 bytes of a segment list.
 #[derive(Debug, Drop)]
@@ -92,35 +62,7 @@ pub enum Container {
 }
 
 /// A list of SIDs as containers, the first to be executed first.
-#[derive(Debug, Drop)]
-pub struct SidList {
-    containers: Vec<Container>,
-}
-
-impl Model for SidList {
-    ghost use Rattle.std.specs.Prelude.{List};
-    ghost use Rattle.leg_table.specs.declared.types.Container.{Container};
-
-    ghost Value = { List Container };
-
-    ghost view = { λ l. l.containers.items };
-}
-
-impl SidList {
-    /// The list of these containers, in this order.
-    pub fn new(containers: Vec<Container>) -> SidList
-        ensures { result ≡ containers.items }
-    {
-        SidList { containers }
-    }
-
-    /// The containers, in order.
-    pub fn as_slice(&self) -> &[Container]
-        ensures { result.now ≡ self.now }
-    {
-        self.containers.as_slice()
-    }
-}
+pub type SidList = Seq<Container>;
 
 /// The least cost from a state to the end.
 #[derive(Clone, Copy, Debug, PartialEq, Eq)]
@@ -132,66 +74,10 @@ pub struct Potential {
 }
 
 /// Potentials, in order.
-#[derive(Debug, Drop)]
-pub struct Potentials {
-    potentials: Vec<Potential>,
-}
-
-impl Model for Potentials {
-    ghost use Rattle.std.specs.Prelude.{List};
-    ghost use Rattle.leg_table.specs.declared.types.Potential.{Potential};
-
-    ghost Value = { List Potential };
-
-    ghost view = { λ p. p.potentials.items };
-}
-
-impl Potentials {
-    /// These potentials, in this order.
-    pub fn new(potentials: Vec<Potential>) -> Potentials
-        ensures { result ≡ potentials.items }
-    {
-        Potentials { potentials }
-    }
-
-    /// The potentials, in order.
-    pub fn as_slice(&self) -> &[Potential]
-        ensures { result.now ≡ self.now }
-    {
-        self.potentials.as_slice()
-    }
-}
+pub type Potentials = Seq<Potential>;
 
 /// The steps of a path of states, in order.
-#[derive(Debug, Drop)]
-pub struct PathSteps {
-    steps: Vec<PathStep>,
-}
-
-impl Model for PathSteps {
-    ghost use Rattle.std.specs.Prelude.{List};
-    ghost use Rattle.leg_table.specs.declared.types.PathStep.{PathStep};
-
-    ghost Value = { List PathStep };
-
-    ghost view = { λ p. p.steps.items };
-}
-
-impl PathSteps {
-    /// These steps, in this order.
-    pub fn new(steps: Vec<PathStep>) -> PathSteps
-        ensures { result ≡ steps.items }
-    {
-        PathSteps { steps }
-    }
-
-    /// The steps, in order.
-    pub fn as_slice(&self) -> &[PathStep]
-        ensures { result.now ≡ self.now }
-    {
-        self.steps.as_slice()
-    }
-}
+pub type PathSteps = Seq<PathStep>;
 
 /// What a search found.
 #[derive(Debug, Drop)]

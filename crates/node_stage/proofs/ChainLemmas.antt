@@ -1,44 +1,46 @@
--- What is done at one place of a chain, by the tests of the bytes there.
-use Rattle.std.proofs.Common.{◌≡◌, ℕ, ◌+◌, ◌≤◌, true, false, nat_le, List, length, drop, slice_index, refl, ◌∙◌, arith, length-drop}
-use Rattle.std.proofs.lemmas.List.{get_or-take}
+-- What comes of a chain from each place on, and what stands there, by the tests of the bytes.
+use Rattle.std.proofs.Common.{◌≡◌, ℕ, ◌+◌, true, false, nat_le, List, length, drop, slice_index, refl, sym, ap, ◌∙◌, arith, length-drop}
 use Rattle.std.proofs.lemmas.Bool.{and_parts, leb-true}
-use Rattle.srv6_rules.specs.Chain.{is_extension, is_whole, is_passed, extension_bytes, header_at}
-use Rattle.srv6_rules.proofs.Chains.{processed-goes_on, extension_bytes-least, header_at-lies}
-use Rattle.node_stage.specs.declared.chain.Found.TheVariants.{Header, Upper, Cut}
-use Rattle.node_stage.specs.Stepping.{IsFound, GoesOn, passes}
+use Rattle.srv6_rules.specs.Chain.{Header, ChainEnd, Upper, Cut, is_extension, is_whole, extension_bytes, chain_at, header_at}
+use Rattle.srv6_rules.specs.Endpoint.{Endpoint, over_chain}
+use Rattle.srv6_rules.proofs.PublicLaws.{over-goes_on, extension_bytes-least, header_at-lies}
+use Rattle.node_stage.specs.Stepping.{IsHeader}
 
--- the test of the bytes is that of the header
-passes-is_passed : (payload : List ℕ) (kind at : ℕ) → is_passed (header_at payload kind at) ≡ passes kind (drop at payload)
-passes-is_passed payload kind at =
-    let bytes : List ℕ = drop at payload in
-    let n : ℕ = extension_bytes kind bytes in
-    let least = extension_bytes-least kind bytes in
-    rw (get_or-take n bytes 2 0 (omega arith), get_or-take n bytes 3 0 (omega arith)) refl
-
-pub found_upper : (payload : List ℕ) (kind at : ℕ) → at ≤ length payload → is_extension kind ≡ false → IsFound payload kind at (Upper kind at)
-found_upper payload kind at within e =
-    record { processed = processed-goes_on payload kind at ∙ rw e refl; stands = within }
-
-pub found_cut : (payload : List ℕ) (kind at : ℕ) → is_extension kind ≡ true → is_whole kind (drop at payload) ≡ false → IsFound payload kind at Cut
-found_cut payload kind at e w = record { processed = processed-goes_on payload kind at ∙ rw (e, w) refl; stands = tt }
-
-pub found_header : (payload : List ℕ) (kind at : ℕ) → is_extension kind ≡ true → is_whole kind (drop at payload) ≡ true → passes kind (drop at payload) ≡ false
-    → IsFound payload kind at (Header kind at)
-found_header payload kind at e w p =
-    let stays = passes-is_passed payload kind at ∙ p in
-    record { processed = processed-goes_on payload kind at ∙ rw (e, w, stays) refl; stands = record { lies = header_at-lies payload kind at e w; stays = stays } }
-
-pub goes_on : (payload : List ℕ) (kind at : ℕ) → is_extension kind ≡ true → is_whole kind (drop at payload) ≡ true → passes kind (drop at payload) ≡ true
-    → GoesOn payload kind at (slice_index (drop at payload) 0) (at + extension_bytes kind (drop at payload))
-goes_on payload kind at e w p =
-    let passed = passes-is_passed payload kind at ∙ p in
+-- a whole header stands at a place
+pub header-stands : (payload : List ℕ) (kind at : ℕ) → is_extension kind ≡ true → is_whole kind (drop at payload) ≡ true
+    → IsHeader payload kind at (slice_index (drop at payload) 0) (at + extension_bytes kind (drop at payload))
+header-stands payload kind at e w =
     let bytes : List ℕ = drop at payload in
     let parts = and_parts (nat_le 8 (length bytes)) (nat_le (extension_bytes kind bytes) (length bytes)) w in
     let whole = leb-true (extension_bytes kind bytes) (length bytes) parts.1 in
     let all = length-drop at payload in
     let least = extension_bytes-least kind bytes in
     record {
-      processed = processed-goes_on payload kind at ∙ rw (e, w, passed) refl;
+      extension = e;
+      whole = w;
+      lies = header_at-lies payload kind at e w;
+      named = refl;
+      ends = refl;
       further = omega arith;
       within = omega arith;
     }
+
+module _ (treat : Header → Endpoint → Endpoint) (end : ChainEnd → Endpoint) (payload : List ℕ) (kind at : ℕ) where
+  pub over-upper : is_extension kind ≡ false → over_chain treat end (chain_at payload kind at) ≡ end (Upper kind at)
+  over-upper e = over-goes_on treat end payload kind at ∙ rw e refl
+
+  pub over-cut : is_extension kind ≡ true → is_whole kind (drop at payload) ≡ false
+      → over_chain treat end (chain_at payload kind at) ≡ end Cut
+  over-cut e w = over-goes_on treat end payload kind at ∙ rw (e, w) refl
+
+  -- at a whole header what comes of it, given what came of the chain behind it
+  pub over-header : (next behind : ℕ) → IsHeader payload kind at next behind
+      → over_chain treat end (chain_at payload kind at)
+      ≡ treat (header_at payload kind at) (over_chain treat end (chain_at payload next behind))
+  over-header next behind h =
+      let whole = h.whole in
+      over-goes_on treat end payload kind at
+      ∙ rw (h.extension, whole) refl
+      ∙ ap (λ n. treat (header_at payload kind at)
+      (over_chain treat end (chain_at payload n (at + extension_bytes kind (drop at payload))))) (sym h.named)
+      ∙ ap (λ n. treat (header_at payload kind at) (over_chain treat end (chain_at payload next n))) (sym h.ends)

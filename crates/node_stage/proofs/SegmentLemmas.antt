@@ -1,14 +1,12 @@
 -- The segment routing header at a place of a payload, by the payload's bytes.
-use Rattle.std.proofs.Common.{◌≡◌, ℕ, ◌+◌, ◌-◌, ◌*◌, ◌/◌, ◌<◌, ◌≤◌, true, false, ◌==◌, nat_lt, nat_le, List, length, take, drop, slice_index, refl, sym, ap, ◌∙◌, arith, length-drop, inl, inr}
-use Rattle.std.proofs.lemmas.Bool.{cases_Bool, or_parts, ltb-false, eqb-false, eq-eqb, lt-leb, false≢true}
+use Rattle.std.proofs.Common.{◌≡◌, ℕ, ◌+◌, ◌-◌, ◌*◌, ◌/◌, ◌<◌, ◌≤◌, true, false, ◌==◌, nat_lt, nat_le, List, length, take, drop, slice_index, refl, sym, ap, ◌∙◌, arith, length-drop}
+use Rattle.std.proofs.lemmas.Bool.{or_parts, ltb-false, eq-eqb, lt-leb}
 use Rattle.std.proofs.lemmas.List.{drop-drop, drop-take, take-append-drop, length-take-le, take_all}
 use Rattle.srv6_rules.specs.Packet.{Packet, address_number}
 use Rattle.srv6_rules.specs.Srh.{Srh, entry_of, tlv_bytes}
-use Rattle.srv6_rules.specs.Chain.{header_at, is_segment_routing, routing}
+use Rattle.srv6_rules.specs.Chain.{LiesIn, header_at, routing}
 use Rattle.srv6_rules.specs.Endpoint.{Onward, advanced, has_bad_segments, next_segment}
-use Rattle.srv6_rules.proofs.Bytes.{address_number-append}
-use Rattle.srv6_rules.proofs.Chains.{lies-at}
-use Rattle.node_stage.specs.Stepping.{IsHeaderOf}
+use Rattle.srv6_rules.proofs.PublicLaws.{address_number-append, lies-at}
 use Rattle.node_stage.specs.Judging.{srh_at, passes_entries, has_values, moved_on}
 
 -- what stands behind the first 16 bytes makes no difference
@@ -38,27 +36,21 @@ address_number-inside xs m j long inside =
     ∙ address_number-take (m - j) (drop j (drop 8 xs)) (omega arith) (omega arith)
     ∙ ap address_number (drop-drop j 8 xs)
 
-module _ (payload : List ℕ) (at : ℕ) (h : IsHeaderOf payload routing at) where
+module _ (payload : List ℕ) (at : ℕ) (lies : LiesIn payload (header_at payload routing at)) where
   byte_at : (k : ℕ) → k < 8 → slice_index (header_at payload routing at).bytes k ≡ slice_index payload (at + k)
-  byte_at k lt = let least = h.lies.least in lies-at payload (header_at payload routing at) k h.lies (omega arith)
+  byte_at k lt = let least = lies.least in lies-at payload (header_at payload routing at) k lies (omega arith)
 
   header_len : length (header_at payload routing at).bytes ≡ 8 + 8 * slice_index payload (at + 1)
-  header_len = let e = byte_at 1 (omega arith) in h.lies.stated ∙ ap (λ n. 8 * (n + 1)) e ∙ (omega arith)
+  header_len = let e = byte_at 1 (omega arith) in lies.stated ∙ ap (λ n. 8 * (n + 1)) e ∙ (omega arith)
 
-pub left_above : (payload : List ℕ) (at : ℕ) → IsHeaderOf payload routing at → is_segment_routing (header_at payload routing at) ≡ true → 1 ≤ slice_index payload (at + 3)
-left_above payload at h s =
-    let e = byte_at payload at h 3 (omega arith) in
-    elim (cases_Bool (slice_index (header_at payload routing at).bytes 3 == 0)) [
-      | inl zero ↦ absurd (false≢true (sym h.stays ∙ rw (s, zero) refl))
-      | inr above ↦ let ne = eqb-false (slice_index (header_at payload routing at).bytes 3) 0 above in omega arith
-    ]
-
-next_segment-by : (p : Packet) (at : ℕ) (s : Srh) → nat_le p.hop_limit 1 ≡ false → has_bad_segments s ≡ false → (length (tlv_bytes s) == 0) ≡ true
+next_segment-by : (p : Packet) (at : ℕ) (s : Srh) → nat_le p.hop_limit 1 ≡ false → has_bad_segments s ≡ false
+    → (length (tlv_bytes s) == 0) ≡ true
     → next_segment p at s ≡ Onward (advanced p at s)
 next_segment-by p at s hop bad values = rw (hop, bad, values) refl
 
 -- nothing stands behind the last entry
-tlv-none : (s : Srh) → length s.body ≤ 8 * s.extension_len → has_values s.extension_len s.last_entry ≡ false → (length (tlv_bytes s) == 0) ≡ true
+tlv-none : (s : Srh) → length s.body ≤ 8 * s.extension_len → has_values s.extension_len s.last_entry ≡ false
+    → (length (tlv_bytes s) == 0) ≡ true
 tlv-none s body none =
     let fits = ltb-false (2 * (s.last_entry + 1)) s.extension_len none in
     let len = length-drop (16 * (s.last_entry + 1)) s.body in
@@ -88,13 +80,14 @@ entry_at payload at m i long inside =
     address_number-inside (drop at payload) m (16 * i) (omega arith) inside
     ∙ ap address_number (drop-drop (8 + 16 * i) at payload) ∙ ap (λ k. address_number (drop k payload)) sum
 
-fields_at : (payload : List ℕ) (at : ℕ) → IsHeaderOf payload routing at → Fields payload at (srh_at payload at)
+fields_at : (payload : List ℕ) (at : ℕ) → LiesIn payload (header_at payload routing at) → Fields payload at (srh_at payload at)
 fields_at payload at h =
     let x : ℕ = slice_index payload (at + 1) in
     let e1 = byte_at payload at h 1 (omega arith) in
     let len = header_len payload at h in
-    let within = h.lies.within in
-    let whole : (header_at payload routing at).bytes ≡ take (8 + 8 * x) (drop at payload) = h.lies.bytes ∙ ap (λ n. take n (drop at payload)) len in
+    let within = h.within in
+    let whole : (header_at payload routing at).bytes ≡ take (8 + 8 * x) (drop at payload) = h.bytes
+    ∙ ap (λ n. take n (drop at payload)) len in
     let body : (srh_at payload at).body ≡ take (8 * x) (drop 8 (take (8 + 8 * x) (drop at payload))) =
     ap (λ n. take (8 * n) (drop 8 (header_at payload routing at).bytes)) e1 ∙ ap (λ bs. take (8 * x) (drop 8 bs)) whole in
     record {
@@ -109,7 +102,9 @@ fields_at payload at h =
 next_segment-fields : (p : Packet) (at : ℕ) (s : Srh) → Fields p.payload at s → 1 ≤ slice_index p.payload (at + 3) → 1 < p.hop_limit
     → passes_entries (slice_index p.payload (at + 1)) (slice_index p.payload (at + 4)) (slice_index p.payload (at + 3)) ≡ false
     → has_values (slice_index p.payload (at + 1)) (slice_index p.payload (at + 4)) ≡ false
-    → next_segment p at s ≡ Onward (moved_on p at (slice_index p.payload (at + 3) - 1) (address_number (drop (at + 8 + 16 * (slice_index p.payload (at + 3) - 1)) p.payload)))
+    → next_segment p at s ≡ Onward
+    (moved_on p at (slice_index p.payload (at + 3) - 1)
+    (address_number (drop (at + 8 + 16 * (slice_index p.payload (at + 3) - 1)) p.payload)))
 next_segment-fields p at s f above hop bad values =
     let x : ℕ = slice_index p.payload (at + 1) in
     let l : ℕ = slice_index p.payload (at + 3) in
@@ -128,9 +123,12 @@ next_segment-fields p at s f above hop bad values =
     ∙ ap (λ n. Onward (moved_on p at (n - 1) (entry_of s (n - 1)))) f.segments_left
     ∙ ap (λ a. Onward (moved_on p at (l - 1) a)) entry
 
-pub next_segment-moves : (p : Packet) (at : ℕ) → IsHeaderOf p.payload routing at → is_segment_routing (header_at p.payload routing at) ≡ true → 1 < p.hop_limit
+pub next_segment-moves : (p : Packet) (at : ℕ) → LiesIn p.payload (header_at p.payload routing at)
+    → 0 < slice_index p.payload (at + 3) → 1 < p.hop_limit
     → passes_entries (slice_index p.payload (at + 1)) (slice_index p.payload (at + 4)) (slice_index p.payload (at + 3)) ≡ false
     → has_values (slice_index p.payload (at + 1)) (slice_index p.payload (at + 4)) ≡ false
-    → next_segment p at (srh_at p.payload at) ≡ Onward (moved_on p at (slice_index p.payload (at + 3) - 1) (address_number (drop (at + 8 + 16 * (slice_index p.payload (at + 3) - 1)) p.payload)))
-next_segment-moves p at h s hop bad values =
-    next_segment-fields p at (srh_at p.payload at) (fields_at p.payload at h) (left_above p.payload at h s) hop bad values
+    → next_segment p at (srh_at p.payload at)
+    ≡ Onward (moved_on p at (slice_index p.payload (at + 3) - 1)
+    (address_number (drop (at + 8 + 16 * (slice_index p.payload (at + 3) - 1)) p.payload)))
+next_segment-moves p at lies left hop bad values =
+    next_segment-fields p at (srh_at p.payload at) (fields_at p.payload at lies) (omega arith) hop bad values

@@ -1,7 +1,7 @@
 -- Bytes that begin with others: the same bytes, and more behind.
 use Rattle.std.proofs.Common.{◌≡◌, ℕ, List, [], ◌++◌, length, take, refl, sym, ap, ◌∙◌}
 use Rattle.std.proofs.lemmas.List.{append-nil, append_assoc, take_at}
-use Rattle.srv6_rules.proofs.Packets.{length-spelling}
+use Rattle.srv6_rules.proofs.PublicLaws.{length-spelling}
 use Rattle.node_stage.specs.Fronts.{IsFront}
 
 pub front_same : (xs : List ℕ) → IsFront xs xs

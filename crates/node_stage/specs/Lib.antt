@@ -4,5 +4,4 @@ pub mod Reading
 pub mod Fronts
 pub mod Stepping
 pub mod Judging
-pub mod Leading
 pub mod Staging

@@ -1,35 +1,21 @@
 //! The chain of extension headers behind an IPv6 header (RFC 8200 section 4), taken apart in place.
 
 ghost use Rattle.std.specs.Prelude.{◌≡◌, ◌≤◌, length};
-ghost use Rattle.srv6_rules.specs.Chain.{is_extension, is_whole, extension_bytes, chain_at, processed_in};
-ghost use Rattle.node_stage.specs.Stepping.{IsTurn, IsFound, passes};
+ghost use Rattle.srv6_rules.specs.Chain.{is_extension, is_whole, extension_bytes};
+ghost use Rattle.node_stage.specs.Stepping.{IsStanding};
 
-/// The values that name Hop-by-Hop Options, Routing, Fragment and Destination Options.
-const HOP_BY_HOP: u8 = 0;
+use srv6_rules::numbers::{
+    DESTINATION_OPTIONS, EXTENSION_LEN_AT, EXTENSION_UNIT, FRAGMENT, HOP_BY_HOP, ROUTING,
+};
 
-pub(crate) const ROUTING: u8 = 43;
-
-const FRAGMENT: u8 = 44;
-
-const DESTINATION_OPTIONS: u8 = 60;
-
-/// The routing type of a segment routing header (RFC 8754 section 2).
-pub(crate) const SEGMENT_ROUTING: u8 = 4;
-
-/// What is processed of a chain: a header, an upper layer, or a header that is cut; each with the
-/// value that names it and its place in the payload in bytes from 0.
+/// What stands at a place of a payload: a whole extension header, whose first byte names what
+/// stands behind it, at a place in bytes from 0; an upper layer; or an extension header that is
+/// cut.
 #[derive(Clone, Copy, Debug)]
-pub(crate) enum Found {
-    Header { kind: u8, at: usize },
-    Upper { kind: u8, at: usize },
+pub(crate) enum Stands {
+    Header { next: u8, behind: usize },
+    Upper,
     Cut,
-}
-
-/// Where the chain goes on, or what is processed of it.
-#[derive(Clone, Copy, Debug)]
-pub(crate) enum Turn {
-    On { kind: u8, at: usize },
-    Stop { found: Found },
 }
 
 /// The value names an extension header.
@@ -41,13 +27,13 @@ fn is_extension(kind: u8) -> bool
 
 /// The length in bytes of the header that these bytes begin with.
 fn extension_len(kind: u8, bytes: &[u8]) -> usize
-    requires { 8 ≤ length bytes.now }
+    requires { EXTENSION_UNIT ≤ length bytes.now }
     ensures { result ≡ extension_bytes kind bytes.now }
 {
     if kind == FRAGMENT {
-        8
+        EXTENSION_UNIT
     } else {
-        8 * (usize::from(bytes[1]) + 1)
+        EXTENSION_UNIT * (usize::from(bytes[EXTENSION_LEN_AT]) + 1)
     }
 }
 
@@ -55,59 +41,23 @@ fn extension_len(kind: u8, bytes: &[u8]) -> usize
 fn is_whole(kind: u8, bytes: &[u8]) -> bool
     ensures { result ≡ is_whole kind bytes.now }
 {
-    bytes.len() >= 8 && bytes.len() >= extension_len(kind, bytes)
+    bytes.len() >= EXTENSION_UNIT && bytes.len() >= extension_len(kind, bytes)
 }
 
-/// The header that these bytes begin with is a segment routing header with no segments left.
-fn is_passed(kind: u8, bytes: &[u8]) -> bool
-    requires { 8 ≤ length bytes.now }
-    ensures { result ≡ passes kind bytes.now }
-{
-    kind == ROUTING && bytes[2] == SEGMENT_ROUTING && bytes[3] == 0
-}
-
-/// What is done at a place of the chain: it goes on behind a header that is passed over.
-fn step(payload: &[u8], kind: u8, at: usize) -> Turn
+/// What stands at a place of a payload, that a value names.
+pub(crate) fn stands_at(payload: &[u8], kind: u8, at: usize) -> Stands
     requires { at ≤ length payload.now }
-    ensures { IsTurn payload.now kind at result }
+    ensures { IsStanding payload.now kind at result }
 {
     if !is_extension(kind) {
-        return Turn::Stop {
-            found: Found::Upper { kind, at },
-        };
+        return Stands::Upper;
     }
     let rest = payload.split_at(at).1;
     if !is_whole(kind, rest) {
-        return Turn::Stop { found: Found::Cut };
+        return Stands::Cut;
     }
-    if is_passed(kind, rest) {
-        return Turn::On {
-            kind: rest[0],
-            at: at + extension_len(kind, rest),
-        };
-    }
-    Turn::Stop {
-        found: Found::Header { kind, at },
-    }
-}
-
-/// What is processed of a payload whose first header or upper layer `next_header` names
-/// (RFC 8754 section 4.3.1.1): the first header that is not passed over, else the chain's end.
-pub(crate) fn first_processed(payload: &[u8], next_header: u8) -> Found
-    ensures { IsFound payload.now next_header 0 result }
-{
-    let mut kind = next_header;
-    let mut at = 0;
-    loop {
-        match step(payload, kind, at) {
-            Turn::On {
-                kind: next,
-                at: behind,
-            } => {
-                kind = next;
-                at = behind;
-            }
-            Turn::Stop { found } => return found,
-        }
+    Stands::Header {
+        next: rest[0],
+        behind: at + extension_len(kind, rest),
     }
 }

@@ -30,7 +30,17 @@ impl Model for Content {
 
 impl Content {
     ghost use Rattle.std.specs.Option.{option_copied};
+    ghost use Rattle.srv6_rules.specs.Packet.{V6};
     ghost use Rattle.node_stage.specs.ContentView.{packet_in};
+
+    /// The content that a packet is.
+    pub(crate) fn of(packet: Packet) -> Content
+        ensures { result ≡ V6 packet }
+    {
+        Content {
+            held: Held::V6(packet),
+        }
+    }
 
     /// The packet, if it is one.
     pub fn packet(&self) -> Option<&Packet>

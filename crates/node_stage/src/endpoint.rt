@@ -1,25 +1,40 @@
 //! What a node does with a packet that came to one of its SIDs or to its own address.
 
-ghost use Rattle.std.specs.Prelude.{◌≡◌, true, ◌+◌, ◌<◌, ◌≤◌, length, drop};
-ghost use Rattle.std.specs.List.{list_any};
-ghost use Rattle.srv6_rules.specs.Packet.{content_of};
-ghost use Rattle.srv6_rules.specs.Chain.{header_at, is_segment_routing, routing};
-ghost use Rattle.srv6_rules.specs.Endpoint.{at_address, at_sid, header_at_sid, upper_at_sid, next_segment, is_allowed};
-ghost use Rattle.node_stage.specs.Stepping.{IsHeaderOf};
-ghost use Rattle.node_stage.specs.Judging.{IsJudged, srh_at, passes_entries, has_values};
+ghost use Rattle.std.specs.Prelude.{◌≡◌, ◌==◌, ◌+◌, ◌<◌, ◌≤◌, length, drop, slice_index};
+ghost use Rattle.srv6_rules.specs.Chain.{LiesIn, header_at, is_segment_routing, routing};
+ghost use Rattle.srv6_rules.specs.Endpoint.{at_address, at_address_header, at_header, at_sid, at_upper, in_packet, is_allowed, next_segment};
+ghost use Rattle.node_stage.specs.Judging.{IsFaultOf, IsHeaderFault, IsJudged, IsJudgedHeader, srh_at, passes_entries, has_values};
 
-use crate::chain::{Found, ROUTING, SEGMENT_ROUTING, first_processed};
+use crate::chain::{Stands, stands_at};
 use crate::numbers::address_at;
 use crate::packet::Packet;
-use srv6_rules::{Behaviour, Reason};
+use srv6_rules::numbers::{
+    EXTENSION_LEN_AT, LAST_ENTRY_AT, ROUTING, ROUTING_TYPE_AT, SEGMENT_LEN, SEGMENT_LIST_AT,
+    SEGMENT_ROUTING, SEGMENTS_LEFT_AT,
+};
+use srv6_rules::{Family, Reason, SidEntry};
 use v6_addr::Addr;
 
-/// The upper layer of an IPv6 packet inside a packet.
-const IPV6_INSIDE: u8 = 41;
+/// Why a packet is dropped, and the place of the fault in bytes from the packet's first, 0 where
+/// the reason has no place.
+#[derive(Clone, Copy, Debug)]
+pub(crate) struct Fault {
+    pub(crate) reason: Reason,
+    pub(crate) at: usize,
+}
+
+impl Fault {
+    /// A fault that has no place.
+    pub(crate) fn of(reason: Reason) -> Fault
+        ensures { result ≡ record { reason = reason; at = 0 } }
+    {
+        Fault { reason, at: 0 }
+    }
+}
 
 /// What comes of a packet at a SID: its segment routing header at a place of the payload makes
-/// another segment the destination, the packet inside from a place on is exposed, the upper layer
-/// takes it, or it is dropped.
+/// another segment the destination, the packet inside of a family from a place of the payload on is
+/// exposed, the upper layer takes it, or it is dropped.
 #[derive(Clone, Copy, Debug)]
 pub(crate) enum Judged {
     Advance {
@@ -28,20 +43,43 @@ pub(crate) enum Judged {
         destination: Addr,
     },
     Expose {
+        family: Family,
         at: usize,
     },
     Deliver,
     Refuse {
-        reason: Reason,
+        fault: Fault,
     },
 }
 
 /// The header at a place of the payload is a segment routing header.
 fn is_segment_routing(payload: &[u8], kind: u8, at: usize) -> bool
-    requires { IsHeaderOf payload.now kind at }
+    requires { LiesIn payload.now (header_at payload.now kind at) }
     ensures { result ≡ is_segment_routing (header_at payload.now kind at) }
 {
-    kind == ROUTING && payload[at + 2] == SEGMENT_ROUTING
+    kind == ROUTING && payload[at + ROUTING_TYPE_AT] == SEGMENT_ROUTING
+}
+
+/// The segment routing header at a place of the payload has no segments left.
+fn is_finished(payload: &[u8], at: usize) -> bool
+    requires { at + SEGMENTS_LEFT_AT < length payload.now }
+    ensures { result ≡ (slice_index payload.now (at + SEGMENTS_LEFT_AT) == 0) }
+{
+    payload[at + SEGMENTS_LEFT_AT] == 0
+}
+
+/// The segments of the segment routing header at a place of the payload are out of range, which is
+/// a fault in Segments Left (RFC 8754 section 4.3.1.1, RFC 8986 section 4.6).
+fn bad_segments(packet: &Packet, at: usize) -> Fault
+    requires { at + SEGMENTS_LEFT_AT ≤ length packet.now.payload }
+    ensures { result
+        ≡ record { reason = Reason.BadSegments; at = in_packet (at + SEGMENTS_LEFT_AT) } }
+{
+    prove!(at < packet.payload().len());
+    Fault {
+        reason: Reason::BadSegments,
+        at: packet.place_of(at + SEGMENTS_LEFT_AT),
+    }
 }
 
 /// Last Entry passes the entries that are there, or Segments Left passes Last Entry by more than 1.
@@ -69,102 +107,151 @@ fn is_allowed(allow: &[u8], kind: u8) -> bool
 /// The step over the segment routing header at a place of the payload, with segments left: the hop
 /// limit is judged, then the segments, then the type-length-value area (RFC 8986 section 4.1).
 fn judge_segment(packet: &Packet, at: usize) -> Judged
-    requires header { IsHeaderOf packet.now.payload routing at }
-    requires segments { is_segment_routing (header_at packet.now.payload routing at) ≡ true }
-    ensures { IsJudged packet.now (next_segment packet.now at (srh_at packet.now.payload at)) result }
+    requires header { LiesIn packet.now.payload (header_at packet.now.payload routing at) }
+    requires left { 0 < slice_index packet.now.payload (at + SEGMENTS_LEFT_AT) }
+    ensures { IsJudged packet.now
+        (next_segment packet.now at (srh_at packet.now.payload at)) result }
 {
     if packet.hop_limit() <= 1 {
         return Judged::Refuse {
-            reason: Reason::HopLimit,
+            fault: Fault::of(Reason::HopLimit),
         };
     }
     let payload = packet.payload();
-    let extension_len = payload[at + 1];
-    let segments_left = payload[at + 3];
-    let last_entry = payload[at + 4];
+    let extension_len = payload[at + EXTENSION_LEN_AT];
+    let segments_left = payload[at + SEGMENTS_LEFT_AT];
+    let last_entry = payload[at + LAST_ENTRY_AT];
     if passes_entries(extension_len, last_entry, segments_left) {
         return Judged::Refuse {
-            reason: Reason::BadSegments,
+            fault: bad_segments(packet, at),
         };
     }
     if has_values(extension_len, last_entry) {
         return Judged::Refuse {
-            reason: Reason::NotBuilt,
+            fault: Fault::of(Reason::NotBuilt),
         };
     }
     let left = segments_left - 1;
     Judged::Advance {
         at,
         left,
-        destination: address_at(payload, at + 8 + 16 * usize::from(left)),
+        destination: address_at(
+            payload,
+            at + SEGMENT_LIST_AT + SEGMENT_LEN * usize::from(left),
+        ),
     }
 }
 
-/// A header that is processed at a SID.
-fn judge_header(behaviour: &Behaviour, packet: &Packet, kind: u8, at: usize) -> Judged
-    requires { IsHeaderOf packet.now.payload kind at }
-    ensures { IsJudged packet.now (header_at_sid behaviour.now packet.now (header_at packet.now.payload kind at)) result }
+/// A header at a place of the payload at a SID, or none where it is passed over: a segment routing
+/// header with no segments left (RFC 8754 section 4.3.1.1). A SID that goes on takes the step over
+/// one with segments left.
+fn judge_header(entry: &SidEntry, packet: &Packet, kind: u8, at: usize) -> Option<Judged>
+    requires { LiesIn packet.now.payload (header_at packet.now.payload kind at) }
+    ensures { IsJudgedHeader packet.now
+        (at_header entry.now packet.now (header_at packet.now.payload kind at)) result }
 {
-    if !is_segment_routing(packet.payload(), kind, at) {
-        return Judged::Refuse {
-            reason: Reason::NotBuilt,
+    let payload = packet.payload();
+    if !is_segment_routing(payload, kind, at) {
+        return Some(Judged::Refuse {
+            fault: Fault::of(Reason::NotBuilt),
+        });
+    }
+    if is_finished(payload, at) {
+        return None;
+    }
+    if !entry.goes_on() {
+        return Some(Judged::Refuse {
+            fault: bad_segments(packet, at),
+        });
+    }
+    Some(judge_segment(packet, at))
+}
+
+/// The upper layer at a SID: a SID that exposes it exposes the packet inside.
+fn judge_upper(entry: &SidEntry, allow: &[u8], packet: &Packet, kind: u8, at: usize) -> Judged
+    requires { at ≤ length packet.now.payload }
+    ensures { IsJudged packet.now (at_upper entry.now allow.now packet.now kind at) result }
+{
+    if entry.exposes(kind) {
+        return Judged::Expose {
+            family: Family::V6,
+            at,
         };
     }
-    match behaviour {
-        Behaviour::Dt6 { .. } => Judged::Refuse {
-            reason: Reason::BadSegments,
+    if is_allowed(allow, kind) {
+        return Judged::Deliver;
+    }
+    Judged::Refuse {
+        fault: Fault {
+            reason: Reason::UpperLayer,
+            at: packet.place_of(at),
         },
-        Behaviour::End | Behaviour::EndX => judge_segment(packet, at),
     }
 }
 
-/// The upper layer at a SID: a decapsulating SID exposes the packet inside.
-fn judge_upper(behaviour: &Behaviour, allow: &[u8], packet: &Packet, kind: u8, at: usize) -> Judged
-    requires { at ≤ length packet.now.payload }
-    ensures { IsJudged packet.now (upper_at_sid behaviour.now allow.now packet.now kind at) result }
+/// A packet at a SID of a node that takes some upper layers at its SIDs (RFC 8986 sections 4.1, 4.2
+/// and 4.6).
+pub(crate) fn judge_at_sid(entry: &SidEntry, allow: &[u8], packet: &Packet) -> Judged
+    ensures { IsJudged packet.now (at_sid entry.now allow.now packet.now) result }
 {
-    if let Behaviour::Dt6 { .. } = behaviour
-        && kind == IPV6_INSIDE
-    {
-        return Judged::Expose { at };
-    }
-    if is_allowed(allow, kind) {
-        Judged::Deliver
-    } else {
-        Judged::Refuse {
-            reason: Reason::UpperLayer,
+    let mut kind = packet.next_header();
+    let mut at = 0;
+    'headers: loop {
+        match stands_at(packet.payload(), kind, at) {
+            Stands::Upper => return judge_upper(entry, allow, packet, kind, at),
+            Stands::Cut => {
+                return Judged::Refuse {
+                    fault: Fault::of(Reason::BadChain),
+                };
+            }
+            Stands::Header { next, behind } => {
+                if let Some(judged) = judge_header(entry, packet, kind, at) {
+                    return judged;
+                }
+                kind = next;
+                at = behind;
+            }
         }
     }
 }
 
-/// A packet at a SID with a behaviour, at a node that takes some upper layers at its SIDs
-/// (RFC 8986 sections 4.1, 4.2 and 4.6).
-pub(crate) fn judge_at_sid(behaviour: &Behaviour, allow: &[u8], packet: &Packet) -> Judged
-    ensures { IsJudged packet.now (at_sid behaviour.now allow.now packet.now) result }
+/// Why a header at a place of the payload is refused at the node's own address, or none where it is
+/// passed over.
+fn header_fault(packet: &Packet, kind: u8, at: usize) -> Option<Fault>
+    requires { LiesIn packet.now.payload (header_at packet.now.payload kind at) }
+    ensures { IsHeaderFault (at_address_header (header_at packet.now.payload kind at)) result }
 {
-    match first_processed(packet.payload(), packet.next_header()) {
-        Found::Header { kind, at } => judge_header(behaviour, packet, kind, at),
-        Found::Upper { kind, at } => judge_upper(behaviour, allow, packet, kind, at),
-        Found::Cut => Judged::Refuse {
-            reason: Reason::BadChain,
-        },
+    let payload = packet.payload();
+    if !is_segment_routing(payload, kind, at) {
+        return Some(Fault::of(Reason::NotBuilt));
     }
+    if is_finished(payload, at) {
+        return None;
+    }
+    Some(Fault {
+        reason: Reason::UnknownRouting,
+        at: packet.place_of(at + ROUTING_TYPE_AT),
+    })
 }
 
 /// A packet at the node's own address: why it is dropped, or none where its upper layer takes it
 /// (RFC 8200 section 4.4).
-pub(crate) fn refused_at_address(packet: &Packet) -> Option<Reason>
-    ensures { result ≡ at_address packet.now }
+pub(crate) fn fault_at_address(packet: &Packet) -> Option<Fault>
+    ensures { IsFaultOf packet.now (at_address packet.now) result }
 {
-    match first_processed(packet.payload(), packet.next_header()) {
-        Found::Header { kind, at } => {
-            if is_segment_routing(packet.payload(), kind, at) {
-                Some(Reason::UnknownRouting)
-            } else {
-                Some(Reason::NotBuilt)
+    let mut kind = packet.next_header();
+    let mut at = 0;
+    'headers: loop {
+        match stands_at(packet.payload(), kind, at) {
+            Stands::Upper => return None,
+            Stands::Cut => return Some(Fault::of(Reason::BadChain)),
+            Stands::Header { next, behind } => {
+                if let Some(fault) = header_fault(packet, kind, at) {
+                    return Some(fault);
+                }
+                kind = next;
+                at = behind;
             }
         }
-        Found::Upper { .. } => None,
-        Found::Cut => Some(Reason::BadChain),
     }
 }

@@ -7,7 +7,6 @@
 mod chain;
 mod content;
 mod endpoint;
-mod next;
 mod numbers;
 mod packet;
 mod reading;
@@ -15,9 +14,7 @@ mod spelling;
 #[cfg(test)]
 mod tests;
 mod treatment;
-mod way;
 
 pub use content::Content;
-pub use next::{ended_by, next_place};
 pub use packet::Packet;
 pub use treatment::stage;

@@ -1,12 +1,17 @@
 //! The packet: the fields of its IPv6 header, and the bytes behind that header.
 
 ghost use Rattle.std.specs.Prelude.{◌≡◌, ◌-◌, ◌<◌, ◌≤◌, length, drop, slice_set};
-ghost use Rattle.srv6_rules.specs.Packet.{content_of, packet_at, first_word, IsSpellable};
+ghost use Rattle.srv6_rules.specs.Packet.{read_as, packet_at, first_word, IsSpellable};
+ghost use Rattle.srv6_rules.specs.Endpoint.{in_packet};
 ghost use Rattle.node_stage.specs.Reading.{HoldsPacket};
 
 use crate::content::Content;
 use crate::numbers::{address_at, four_at};
 use crate::reading::{drop_front, stated_len};
+use srv6_rules::Family;
+use srv6_rules::numbers::{
+    DESTINATION_AT, HOP_LIMIT_AT, IPV6_HEADER_LEN, NEXT_HEADER_AT, SOURCE_AT,
+};
 use std::marker::Model;
 use v6_addr::Addr;
 
@@ -42,12 +47,12 @@ impl Packet {
     {
         let header = bytes.as_slice();
         let word = four_at(header, 0);
-        let next_header = header[6];
-        let hop_limit = header[7];
-        let source = address_at(header, 8);
-        let destination = address_at(header, 24);
+        let next_header = header[NEXT_HEADER_AT];
+        let hop_limit = header[HOP_LIMIT_AT];
+        let source = address_at(header, SOURCE_AT);
+        let destination = address_at(header, DESTINATION_AT);
         let len = stated_len(header);
-        drop_front(&mut bytes, 40);
+        drop_front(&mut bytes, IPV6_HEADER_LEN);
         bytes.truncate(usize::from(len));
         Packet {
             traffic_class: (word / 0x10_0000 % 0x100) as u8,
@@ -154,18 +159,27 @@ impl Packet {
         self.payload[at] = byte;
     }
 
+    /// The place in the packet's bytes of a place in the payload, both counted from 0.
+    pub(crate) fn place_of(&self, at: usize) -> usize
+        requires { at ≤ length self.now.payload }
+        ensures { result ≡ in_packet at }
+    {
+        prove!(at <= self.payload.len());
+        IPV6_HEADER_LEN + at
+    }
+
     /// No bytes, of the payload's allocator.
     pub(crate) fn no_bytes(&self) -> Vec<u8> {
         Vec::new(*self.payload.allocator())
     }
 
-    /// What the payload's bytes from a place on read as, in place.
-    pub(crate) fn exposed(self, at: usize) -> Content
+    /// What the payload's bytes from a place on read as, as a packet of a family, in place.
+    pub(crate) fn exposed(self, family: Family, at: usize) -> Content
         requires { at ≤ length self.payload }
-        ensures { result ≡ content_of (drop at self.payload) }
+        ensures { result ≡ read_as family (drop at self.payload) }
     {
         let mut bytes = self.payload;
         drop_front(&mut bytes, at);
-        Content::read(bytes)
+        Content::read_as(family, bytes)
     }
 }

@@ -1,19 +1,14 @@
 //! Bytes read as a packet (RFC 8200 section 3), in place.
 
 ghost use Rattle.std.specs.Prelude.{◌≡◌, ◌+◌, ◌≤◌, length, drop, vec_len};
-ghost use Rattle.srv6_rules.specs.Packet.{V6, Unreadable, content_of, entered, stated_len, packet_at};
+ghost use Rattle.srv6_rules.specs.Packet.{content_of, read_as, entered, stated_len};
 ghost use Rattle.node_stage.specs.Reading.{IsFault, HoldsPacket};
 
 use crate::content::{Content, Held};
 use crate::numbers::two_at;
 use crate::packet::Packet;
-use srv6_rules::Reason;
-
-/// The length of an IPv6 header in bytes.
-const HEADER_LEN: usize = 40;
-
-/// The length of the longest packet in bytes.
-const MOST_LEN: usize = 65575;
+use srv6_rules::numbers::{IPV6_HEADER_LEN, IPV6_VERSION, MOST_LEN, PAYLOAD_LEN_AT};
+use srv6_rules::{Family, Reason};
 
 /// Drops the first n bytes, in place.
 pub(crate) fn drop_front(bytes: &mut Vec<u8>, n: usize)
@@ -26,10 +21,10 @@ pub(crate) fn drop_front(bytes: &mut Vec<u8>, n: usize)
 /// The payload length that a header states.
 #[tactic(auto, unfolding(srv6_rules::specs::Packet::stated_len))]
 pub(crate) fn stated_len(bytes: &[u8]) -> u16
-    requires { 40 ≤ length bytes.now }
+    requires { IPV6_HEADER_LEN ≤ length bytes.now }
     ensures { result ≡ stated_len bytes.now }
 {
-    two_at(bytes, 4)
+    two_at(bytes, PAYLOAD_LEN_AT)
 }
 
 /// Why the bytes do not read as a packet, if they do not: the version is judged before the lengths
@@ -40,13 +35,13 @@ fn fault_of(bytes: &[u8]) -> Option<Reason>
     if bytes.is_empty() {
         return Some(Reason::Truncated);
     }
-    if bytes[0] / 16 != 6 {
+    if bytes[0] / 16 != IPV6_VERSION {
         return Some(Reason::BadVersion);
     }
-    if bytes.len() < HEADER_LEN {
+    if bytes.len() < IPV6_HEADER_LEN {
         return Some(Reason::Truncated);
     }
-    if bytes.len() < HEADER_LEN + usize::from(stated_len(bytes)) {
+    if bytes.len() < IPV6_HEADER_LEN + usize::from(stated_len(bytes)) {
         return Some(Reason::Truncated);
     }
     None
@@ -61,9 +56,16 @@ impl Content {
             Some(reason) => Content {
                 held: Held::Unreadable(bytes, reason),
             },
-            None => Content {
-                held: Held::V6(Packet::at_front(bytes)),
-            },
+            None => Content::of(Packet::at_front(bytes)),
+        }
+    }
+
+    /// How bytes read as a packet of a family, in place.
+    pub(crate) fn read_as(family: Family, bytes: Vec<u8>) -> Content
+        ensures { result ≡ read_as family bytes.items }
+    {
+        match family {
+            Family::V6 => Content::read(bytes),
         }
     }
 

@@ -6,6 +6,7 @@ ghost use Rattle.node_stage.specs.Fronts.{IsFront};
 
 use crate::content::{Content, Held};
 use crate::packet::Packet;
+use srv6_rules::numbers::IPV6_HEADER_LEN;
 use std::alloc::AllocError;
 use v6_addr::Addr;
 
@@ -98,7 +99,7 @@ impl Packet {
         ensures spelled { result ≡ length (spelling self.now) }
         ensures value { result ≡ 40 + length self.now.payload }
     {
-        40 + self.payload().len()
+        IPV6_HEADER_LEN + self.payload().len()
     }
 }
 

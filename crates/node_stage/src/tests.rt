@@ -1,13 +1,13 @@
 //! A packet at a node of two; its bytes are laid out by hand.
 
-use crate::{Content, ended_by, next_place, stage};
+use crate::{Content, stage};
 use net_model::{Link, Name, Net, NetParts, Node, Route, TypeList};
 use srv6_rules::{Behaviour, Family, LinkSet, SidEntry};
 use std::alloc::{AllocError, Global};
 use std::process::Abort;
 use std::test::Fail;
 use v6_addr::{Addr, Prefix};
-use walk_rules::{Ended, How, Outcome, Place};
+use walk_rules::{Ended, How, Outcome, Place, ended_by, next_place};
 
 /// From 2001:db8::1 to fc00:b::1, hop limit 63, payload of 80 bytes.
 const HEADER: [u8; 40] = [
@@ -85,8 +85,8 @@ fn sid_at_b(alloc: Global, prefix: Prefix, behaviour: Behaviour) -> SidEntry {
     }
 }
 
-/// A has a route to B over ab. B has the SIDs `end` and `decapsulation` (End.DT6 of table 5), and in
-/// table 5 a route to `inside` out of the network.
+/// A has a route to B over ab. B has the SIDs `end` and `decapsulation` (End.DT6 of table 5), and
+/// in table 5 a route to `inside` out of the network.
 fn two_nodes(
     alloc: Global,
     end: Prefix,

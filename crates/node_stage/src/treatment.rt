@@ -1,23 +1,24 @@
 //! The stage: what one node does with what stands at a place.
 
-ghost use Rattle.std.specs.Prelude.{◌≡◌, Bool, true, ◌+◌, ◌<◌, ◌≤◌, length, drop, slice_get, IfSome};
-ghost use Rattle.srv6_rules.specs.Packet.{V6, content_of};
+ghost use Rattle.std.specs.Prelude.{◌≡◌, ℕ, Bool, true, ◌+◌, ◌<◌, ◌≤◌, length, slice_get, IfSome, None};
 ghost use Rattle.srv6_rules.specs.Endpoint.{at_address, at_sid};
-ghost use Rattle.walk_rules.specs.Treatment.{dropped, lowered, on_from, sent, step_of, treated_at_address, treated_at_sid, treated_in, treated, route_links, sid_links};
+ghost use Rattle.srv6_rules.specs.Packet.{V6};
+ghost use Rattle.net_model.specs.Network.{Network};
 ghost use Rattle.walk_rules.specs.Relation.{IsPlace, Stage};
+ghost use Rattle.walk_rules.specs.Treatment.{dropped, lowered, sent, step_of, treated, treated_at_address, treated_at_sid, treated_in};
 ghost use Rattle.walk_rules.specs.Walk.{next_place};
+ghost use Rattle.walk_rules.specs.Way.{IsWayFrom, StandsAt, way_in};
 ghost use Rattle.node_stage.specs.Judging.{moved_on};
 ghost use Rattle.node_stage.specs.Staging.{gave_of};
-ghost use Rattle.node_stage.specs.Leading.{StandsFor, HasLinks, way_in};
 
 use crate::content::{Content, Held};
-use crate::endpoint::{Judged, judge_at_sid, refused_at_address};
+use crate::endpoint::{Fault, Judged, fault_at_address, judge_at_sid};
 use crate::packet::Packet;
-use crate::way::{Way, way_of};
 use net_model::Net;
-use srv6_rules::{Behaviour, Family, Reason};
+use srv6_rules::numbers::SEGMENTS_LEFT_AT;
+use srv6_rules::{Reason, SidEntry};
 use v6_addr::Addr;
-use walk_rules::{How, Outcome, Place};
+use walk_rules::{Outcome, Place, Way, on_from, way_of};
 
 /// What a stage gives: its outcome, and what stands there after it.
 #[derive(Debug, Drop)]
@@ -26,16 +27,27 @@ pub(crate) struct Staged {
     after: Content,
 }
 
-/// The packet is dropped as it is.
-fn dropped(reason: Reason, packet: Packet) -> Staged
-    ensures { gave_of result ≡ dropped reason (V6 packet) }
+/// What stands at a node is dropped as it is, and no ICMPv6 error is sent about it, since none is
+/// built yet.
+#[tactic(auto, unfolding(walk_rules::specs::Treatment::error_of))]
+fn dropped(fault: Fault, after: Content) -> Staged
+    ensures { (net : Network) (node : ℕ)
+        → gave_of result ≡ dropped net node fault.reason fault.at after }
 {
     Staged {
-        outcome: Outcome::Drop { reason },
-        after: Content {
-            held: Held::V6(packet),
+        outcome: Outcome::Drop {
+            reason: fault.reason,
+            error: false,
         },
+        after,
     }
+}
+
+/// The packet is dropped for a reason that has no place.
+fn dropped_for(reason: Reason, packet: Packet) -> Staged
+    ensures { (net : Network) (node : ℕ) → gave_of result ≡ dropped net node reason 0 (V6 packet) }
+{
+    dropped(Fault::of(reason), Content::of(packet))
 }
 
 /// The packet, with its hop limit lowered or not.
@@ -52,93 +64,72 @@ fn lowered(lower: bool, mut packet: Packet) -> Packet
 /// Over one of a set of equal next hops (RFC 8200 section 3).
 fn sent(links: &[u32], lower: bool, packet: Packet, choice: u32) -> Staged
     requires { 0 < length links.now }
-    ensures { gave_of result ≡ sent links.now lower packet choice }
+    ensures { (net : Network) (node : ℕ)
+        → gave_of result ≡ sent net node links.now lower packet choice }
 {
     if lower && packet.hop_limit() <= 1 {
-        return dropped(Reason::HopLimit, packet);
+        return dropped_for(Reason::HopLimit, packet);
     }
     Staged {
         outcome: Outcome::Send {
             link: links[choice as usize % links.len()],
         },
-        after: Content {
-            held: Held::V6(lowered(lower, packet)),
-        },
+        after: Content::of(lowered(lower, packet)),
     }
 }
 
 /// At the node's own address.
 fn treated_at_address(packet: Packet) -> Staged
-    ensures { gave_of result ≡ treated_at_address packet (at_address packet) }
+    ensures { (net : Network) (node : ℕ)
+        → gave_of result ≡ treated_at_address net node packet (at_address packet) }
 {
-    match refused_at_address(&packet) {
-        Some(reason) => dropped(reason, packet),
+    match fault_at_address(&packet) {
+        Some(fault) => dropped(fault, Content::of(packet)),
         None => Staged {
             outcome: Outcome::Local,
-            after: Content {
-                held: Held::V6(packet),
-            },
+            after: Content::of(packet),
         },
-    }
-}
-
-/// How a packet goes on from a SID: after End by table 0, after End.X over the SID's links, after
-/// End.DT6 by its table.
-fn on_from(sid: u32, behaviour: &Behaviour) -> How
-    ensures { result ≡ on_from sid behaviour.now }
-{
-    match behaviour {
-        Behaviour::End => How::Submitted { table: 0 },
-        Behaviour::EndX => How::Through { sid, lower: false },
-        Behaviour::Dt6 { table } => How::Arrived { table: *table },
     }
 }
 
 /// The packet with a lower hop limit, another destination and other Segments Left.
 fn moved_on(mut packet: Packet, at: usize, left: u8, destination: Addr) -> Packet
-    requires place { at + 3 < length packet.payload }
+    requires place { at + SEGMENTS_LEFT_AT < length packet.payload }
     requires hop_limit { 1 ≤ packet.hop_limit }
     ensures { result ≡ moved_on packet at left destination.value }
 {
     packet.lower_hop_limit();
     packet.set_destination(destination);
-    packet.set_payload_byte(at + 3, left);
+    packet.set_payload_byte(at + SEGMENTS_LEFT_AT, left);
     packet
 }
 
-/// At a SID of a node that takes some upper layers at its SIDs.
-fn treated_at_sid(sid: u32, behaviour: &Behaviour, allow: &[u8], packet: Packet) -> Staged
-    ensures { gave_of result ≡ treated_at_sid sid behaviour.now packet (at_sid behaviour.now allow.now packet) }
+/// At a SID with a number, of a node that takes some upper layers at its SIDs.
+fn treated_at_sid(sid: u32, entry: &SidEntry, allow: &[u8], packet: Packet) -> Staged
+    ensures { (net : Network) (node : ℕ)
+        → gave_of result
+        ≡ treated_at_sid net node sid entry.now.behaviour packet
+        (at_sid entry.now allow.now packet) }
 {
-    match judge_at_sid(behaviour, allow, &packet) {
+    let how = on_from(sid, &entry.behaviour);
+    match judge_at_sid(entry, allow, &packet) {
         Judged::Advance {
             at,
             left,
             destination,
         } => Staged {
-            outcome: Outcome::Again {
-                sid,
-                how: on_from(sid, behaviour),
-            },
-            after: Content {
-                held: Held::V6(moved_on(packet, at, left, destination)),
-            },
+            outcome: Outcome::Again { sid, how },
+            after: Content::of(moved_on(packet, at, left, destination)),
         },
-        Judged::Expose { at } => Staged {
-            outcome: Outcome::Hand {
-                sid,
-                how: on_from(sid, behaviour),
-                family: Family::V6,
-            },
-            after: packet.exposed(at),
+        Judged::Expose { family, at } => Staged {
+            outcome: Outcome::Hand { sid, how, family },
+            after: packet.exposed(family, at),
         },
         Judged::Deliver => Staged {
             outcome: Outcome::Local,
-            after: Content {
-                held: Held::V6(packet),
-            },
+            after: Content::of(packet),
         },
-        Judged::Refuse { reason } => dropped(reason, packet),
+        Judged::Refuse { fault } => dropped(fault, Content::of(packet)),
     }
 }
 
@@ -146,42 +137,22 @@ fn treated_at_sid(sid: u32, behaviour: &Behaviour, allow: &[u8], packet: Packet)
 fn treated_in(net: &Net, node: u32, sid: u32, packet: Packet) -> Staged
     requires node { node < length net.now.nodes }
     requires sid { sid < length net.now.sids }
-    ensures { gave_of result ≡ treated_in net.now node sid (slice_get net.now.sids sid) packet }
+    ensures { gave_of result
+        ≡ treated_in net.now node sid (slice_get net.now.sids sid) packet }
 {
-    let entry = net.sid(sid);
     let allow = net.node(node).allow.as_slice();
-    treated_at_sid(sid, &entry.behaviour, allow, packet)
-}
-
-/// Over the links of a route.
-fn sent_by_route(net: &Net, n: u32, lower: bool, packet: Packet, choice: u32) -> Staged
-    requires route { n < length net.now.routes }
-    requires links { 0 < length (route_links (slice_get net.now.routes n)) }
-    ensures { gave_of result ≡ sent (route_links (slice_get net.now.routes n)) lower packet choice }
-{
-    sent(net.route(n).via.as_slice(), lower, packet, choice)
-}
-
-/// Over the links of a SID.
-fn sent_by_sid(net: &Net, sid: u32, lower: bool, packet: Packet, choice: u32) -> Staged
-    requires sid { sid < length net.now.sids }
-    requires links { 0 < length (sid_links (slice_get net.now.sids sid)) }
-    ensures { gave_of result ≡ sent (sid_links (slice_get net.now.sids sid)) lower packet choice }
-{
-    sent(net.sid(sid).links.as_slice(), lower, packet, choice)
+    treated_at_sid(sid, net.sid(sid), allow, packet)
 }
 
 /// The packet on a way.
-fn treated(net: &Net, node: u32, way: Way, packet: Packet, choice: u32) -> Staged
+fn treated(net: &Net, node: u32, way: Way<'_>, packet: Packet, choice: u32) -> Staged
     requires node { node < length net.now.nodes }
-    requires there { StandsFor net.now way }
-    requires links { HasLinks (way_in net.now way) }
-    ensures { gave_of result ≡ treated net.now node (way_in net.now way) packet choice }
+    requires leads { IsWayFrom net.now node (way_in way) }
+    ensures { gave_of result ≡ treated net.now node (way_in way.entry) packet choice }
 {
     match way {
-        Way::Away { reason } => dropped(reason, packet),
-        Way::Route { n, lower } => sent_by_route(net, n, lower, packet, choice),
-        Way::Links { sid, lower } => sent_by_sid(net, sid, lower, packet, choice),
+        Way::Away { reason } => dropped_for(reason, packet),
+        Way::Over { links, lower } => sent(links, lower, packet, choice),
         Way::Own => treated_at_address(packet),
         Way::Into { sid } => treated_in(net, node, sid, packet),
     }
@@ -192,18 +163,17 @@ fn treat(net: &Net, place: &Place, content: Content, choice: u32) -> Staged
     requires { IsPlace net.now place.now }
     ensures { gave_of result ≡ step_of net.now place.now content choice }
 {
-    net.keeps_rules();
     match content.held {
         Held::V6(packet) => {
             let way = way_of(net, place, packet.destination());
             treated(net, place.node, way, packet, choice)
         }
-        Held::Unreadable(bytes, reason) => Staged {
-            outcome: Outcome::Drop { reason },
-            after: Content {
+        Held::Unreadable(bytes, reason) => {
+            let after = Content {
                 held: Held::Unreadable(bytes, reason),
-            },
-        },
+            };
+            dropped(Fault::of(reason), after)
+        }
     }
 }
 
@@ -214,8 +184,10 @@ fn treat(net: &Net, place: &Place, content: Content, choice: u32) -> Staged
 pub fn stage(net: &Net, place: &Place, content: &mut Content, choice: u32) -> Outcome
     requires { IsPlace net.now place.now }
 
-    ensures function { record { outcome = result; after = content.new } ≡ step_of net.now place.now content.old choice }
-    ensures relation { Stage net.now place.now content.old result content.new }
+    // No ICMPv6 error is sent yet.
+    ensures function { record { outcome = result; after = content.new; error = None }
+        ≡ step_of net.now place.now content.old choice }
+    ensures relation { Stage net.now place.now content.old result content.new None }
 
     // Where the packet stands next is a place too.
     ensures next { IfSome (next_place net.now place.now result) (IsPlace net.now) }

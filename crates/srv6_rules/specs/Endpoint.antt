@@ -2,6 +2,7 @@
 -- and 4.6 with the processing of RFC 8754 section 4.3.1.1, and RFC 8200 section 4.4 at an address.
 use Rattle.std.specs.Prelude.{◌≡◌, ◌≢◌, ◌⊎◌, ℕ, ◌+◌, ◌-◌, ◌<◌, ◌≤◌, Bool, true, ◌==◌, ◌||◌, nat_lt, nat_le, if◌then◌else◌, List, [], ◌∷◌, ◌++◌, length, drop, slice_index, slice_set, All}
 use Rattle.std.specs.List.{list_any}
+use Rattle.srv6_rules.specs.declared.numbers.TheConstants.{HOP_LIMIT_AT, DESTINATION_AT}
 use Rattle.srv6_rules.specs.declared.sid.Family.{Family}
 use Rattle.srv6_rules.specs.declared.sid.Family.TheVariants as families
 use Rattle.srv6_rules.specs.declared.sid.Reason.{Reason}
@@ -151,16 +152,17 @@ pub record StepsTo (s : SidEntry) (p q : Packet) : Type 0 where
   pub payload : q.payload ≡ slice_set p.payload (header.place.at + segments_left_at - header_len) left
   pub others : q ≡ record p { hop_limit = q.hop_limit; destination = q.destination; payload = q.payload }
 
--- bytes before and after a step: the hop limit, byte 7, and one byte behind the IPv6 header are one lower, and but for
--- these and the destination, bytes 24 to 39, each byte is as it was
+-- bytes before and after a step: the hop limit and one byte behind the IPv6 header are one lower, and but for these and
+-- the destination, the IPv6 header's last bytes, each byte is as it was
 pub record ChangesFewBytes (before after : List ℕ) : Type 0 where
   pub place : ℕ
-  pub behind_header : 40 ≤ place
+  pub behind_header : header_len ≤ place
   pub within : place < length before
   pub same_length : length after ≡ length before
-  pub hop_limit : slice_index before 7 ≡ slice_index after 7 + 1
+  pub hop_limit : slice_index before HOP_LIMIT_AT ≡ slice_index after HOP_LIMIT_AT + 1
   pub segments_left : slice_index before place ≡ slice_index after place + 1
-  pub same : (k : ℕ) → k ≢ 7 → k ≢ place → (k < 24) ⊎ (40 ≤ k) → slice_index after k ≡ slice_index before k
+  pub same : (k : ℕ) → k ≢ HOP_LIMIT_AT → k ≢ place → (k < DESTINATION_AT) ⊎ (header_len ≤ k)
+      → slice_index after k ≡ slice_index before k
 
 -- the packet inside that a SID exposes: the upper layer, behind headers that are all passed over, is one that the SID
 -- exposes, and the bytes are those of the packet from there on

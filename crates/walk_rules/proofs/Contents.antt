@@ -1,25 +1,32 @@
--- What stands at a place after a stage can be spelled, and reads again from its bytes.
-use Rattle.std.proofs.Common.{◌≡◌, ℕ, ◌⊎◌, inl, inr, Bool, true, false, List, Option, Some, None, slice_get, refl, sym, subst, arith}
-use Rattle.srv6_rules.specs.declared.sid.Behaviour.{Behaviour}
-use Rattle.srv6_rules.specs.declared.sid.Reason.{Reason}
-use Rattle.srv6_rules.specs.declared.sid.Reason.TheVariants as reasons
+-- What stands at a place after a stage can be spelled, and reads again from its bytes as a packet of its family.
+use Rattle.std.proofs.Common.{◌≡◌, ℕ, Bool, true, false, List, Option, Some, None, slice_get, refl, sym, ◌∙◌, ap, subst, arith}
+use Rattle.srv6_rules.specs.declared.sid.Family.{Family}
+use Rattle.srv6_rules.specs.declared.sid.Family.TheVariants as families
 use Rattle.srv6_rules.specs.declared.sid.SidEntry.{SidEntry}
-use Rattle.srv6_rules.specs.Packet.{Packet, Content, V6, Unreadable, IsSpellable, IsContent, content_of, bytes_of}
+use Rattle.srv6_rules.specs.Packet.{Packet, Content, V6, Unreadable, IsSpellable, IsContent, read_as, bytes_of}
 use Rattle.srv6_rules.specs.Endpoint.{Endpoint, Onward, Exposed, Delivered, Refused, at_sid, at_address}
-use Rattle.srv6_rules.proofs.Packets.{content_of-spelling_alone}
-use Rattle.srv6_rules.proofs.Endpoints.{at_sid-spellable, at_sid-content, at_sid-exposed_back}
+use Rattle.srv6_rules.proofs.PublicLaws.{content_of-spelling_alone, at_sid-spellable, at_sid-content, at_sid-exposed_back, at_sid-delivered, at_address-delivered}
 use Rattle.net_model.specs.Network.{Network}
+use Rattle.walk_rules.specs.declared.place.How.TheVariants.{Arrived}
 use Rattle.walk_rules.specs.declared.place.Place.{Place}
+use Rattle.walk_rules.specs.declared.place.Outcome.{Outcome}
 use Rattle.walk_rules.specs.declared.place.Outcome.TheVariants as outcomes
-use Rattle.walk_rules.specs.Treatment.{Way, Away, Over, Own, Into, way_of, Gave, dropped, member_of, lowered, sent, treated_at_address, treated_at_sid, treated_in, treated, step_of, allow_of}
-use Rattle.walk_rules.proofs.Choices.{sent-cases}
+use Rattle.walk_rules.specs.Way.{way_of}
+use Rattle.walk_rules.specs.Treatment.{Gave, lowered, treated_at_address, treated_at_sid, step_of, allow_of}
+use Rattle.walk_rules.specs.Walk.{far_end, arrival, next_place}
+use Rattle.walk_rules.specs.Laws.{family_after}
+use Rattle.walk_rules.proofs.Outcomes.{treated-each}
 
--- a content that can be spelled and reads again from its bytes
-abbrev IsBack : Content → Type 0
-IsBack content = IsContent content × (content_of (bytes_of content) ≡ content)
+-- a content that can be spelled and reads again from its bytes as a packet of a family
+abbrev IsBack : Family → Content → Type 0
+IsBack family content = IsContent content × (read_as family (bytes_of content) ≡ content)
 
-packet-back : (p : Packet) → IsSpellable p → IsBack (V6 p)
-packet-back p ok = (ok, content_of-spelling_alone p ok)
+abbrev GaveBack : Place → Gave → Type 0
+GaveBack place gave = IsBack (family_after place gave.outcome) gave.after
+
+-- an IPv6 packet reads again as one
+packet-back : (family : Family) (p : Packet) → IsSpellable p → IsBack family (V6 p)
+packet-back families.V6 p ok = (ok, content_of-spelling_alone p ok)
 
 lowered-spellable : (lower : Bool) (p : Packet) → IsSpellable p → IsSpellable (lowered lower p)
 lowered-spellable false p ok = ok
@@ -35,46 +42,64 @@ lowered-spellable true p ok =
       payload = ok.payload;
     }
 
-sent-back : (set : List ℕ) (lower : Bool) (p : Packet) (choice : ℕ) → IsSpellable p → IsBack (sent set lower p choice).after
-sent-back set lower p choice ok = by_case (sent-cases set lower p)
-  where
-    by_case : ((c : ℕ) → sent set lower p c ≡ dropped reasons.HopLimit (V6 p))
-        ⊎ ((c : ℕ) → sent set lower p c ≡ record { outcome = outcomes.Send (member_of set c); after = V6 (lowered lower p) })
-        → IsBack (sent set lower p choice).after
-    by_case (inl drops) = let B : Gave → Type 0 = λ g. IsBack g.after in subst B (sym (drops choice)) (packet-back p ok)
-    by_case (inr sends) =
-        let B : Gave → Type 0 = λ g. IsBack g.after in
-        subst B (sym (sends choice)) (packet-back (lowered lower p) (lowered-spellable lower p ok))
+same-back : (family : Family) (p q : Packet) → q ≡ p → IsSpellable p → IsBack family (V6 q)
+same-back family p q same ok = packet-back family q (subst IsSpellable (sym same) ok)
 
-address-back : (p : Packet) (refused : Option Reason) → IsSpellable p → IsBack (treated_at_address p refused).after
-address-back p None ok = packet-back p ok
-address-back p (Some reason) ok = packet-back p ok
+address-back : (net : Network) (place : Place) (p : Packet) (e : Endpoint) → IsSpellable p → at_address p ≡ e
+    → GaveBack place (treated_at_address net place.node p e)
+address-back net place p (Onward q) ok same = packet-back place.family p ok
+address-back net place p (Exposed family bytes) ok same = packet-back place.family p ok
+address-back net place p (Delivered q) ok same = same-back place.family p q (at_address-delivered p q same) ok
+address-back net place p (Refused reason at) ok same = packet-back place.family p ok
 
-endpoint-back : (n : ℕ) (b : Behaviour) (allow : List ℕ) (p : Packet) (e : Endpoint) → IsSpellable p → at_sid b allow p ≡ e → IsBack (treated_at_sid n b p e).after
-endpoint-back n b allow p (Onward q) ok same = packet-back q (at_sid-spellable b allow p q ok same)
-endpoint-back n b allow p (Exposed content) ok same = (at_sid-content b allow p content ok same, at_sid-exposed_back b allow p content ok same)
-endpoint-back n b allow p Delivered ok same = packet-back p ok
-endpoint-back n b allow p (Refused reason) ok same = packet-back p ok
+endpoint-back : (net : Network) (place : Place) (n : ℕ) (s : SidEntry) (allow : List ℕ) (p : Packet) (e : Endpoint) → IsSpellable p
+    → at_sid s allow p ≡ e → GaveBack place (treated_at_sid net place.node n s.behaviour p e)
+endpoint-back net place n s allow p (Onward q) ok same = packet-back place.family q (at_sid-spellable s allow p q ok same)
+endpoint-back net place n s allow p (Exposed family bytes) ok same =
+    (at_sid-content s allow p family bytes ok same, at_sid-exposed_back s allow p family bytes ok same)
+endpoint-back net place n s allow p (Delivered q) ok same = same-back place.family p q (at_sid-delivered s allow p q same) ok
+endpoint-back net place n s allow p (Refused reason at) ok same = packet-back place.family p ok
 
-sid-back : (net : Network) (node n : ℕ) (o : Option SidEntry) (p : Packet) → IsSpellable p → IsBack (treated_in net node n o p).after
-sid-back net node n None p ok = packet-back p ok
-sid-back net node n (Some s) p ok =
-    let allow : List ℕ = allow_of (slice_get net.nodes node) in
-    endpoint-back n s.behaviour allow p (at_sid s.behaviour allow p) ok refl
-
-treated-back : (net : Network) (node : ℕ) (w : Way) (p : Packet) (choice : ℕ) → IsSpellable p → IsBack (treated net node w p choice).after
-treated-back net node (Away reason) p choice ok = packet-back p ok
-treated-back net node (Over set lower) p choice ok = sent-back set lower p choice ok
-treated-back net node Own p choice ok = address-back p (at_address p) ok
-treated-back net node (Into n) p choice ok = sid-back net node n (slice_get net.sids n) p ok
+step-packet : (net : Network) (place : Place) (p : Packet) (choice : ℕ) → IsSpellable p
+    → GaveBack place (step_of net place (V6 p) choice)
+step-packet net place p choice ok =
+    let allow : List ℕ = allow_of (slice_get net.nodes place.node) in
+    treated-each (GaveBack place) net place.node (way_of net place p.destination) p choice
+    (record {
+      drop = λ reason at. packet-back place.family p ok;
+      send = λ set lower over. packet-back place.family (lowered lower p) (lowered-spellable lower p ok);
+      own = address-back net place p (at_address p) ok refl;
+      sid = λ n s into there. endpoint-back net place n s allow p (at_sid s allow p) ok refl;
+    })
 
 -- what stands there stays a content that bytes can spell
-pub step-content : (net : Network) (place : Place) (content : Content) (choice : ℕ) → IsContent content → IsContent (step_of net place content choice).after
+pub step-content : (net : Network) (place : Place) (content : Content) (choice : ℕ) → IsContent content
+    → IsContent (step_of net place content choice).after
 step-content net place (Unreadable bytes reason) choice is = is
-step-content net place (V6 p) choice is = (treated-back net place.node (way_of net place p.destination) p choice is).0
+step-content net place (V6 p) choice is = (step-packet net place p choice is).0
 
 -- what reads again from its bytes does so after the stage
-pub step-back : (net : Network) (place : Place) (content : Content) (choice : ℕ) → IsContent content → content_of (bytes_of content) ≡ content
-    → let after = (step_of net place content choice).after in content_of (bytes_of after) ≡ after
+pub step-back : (net : Network) (place : Place) (content : Content) (choice : ℕ) → IsContent content
+    → read_as place.family (bytes_of content) ≡ content
+    → let gave = step_of net place content choice in read_as (family_after place gave.outcome) (bytes_of gave.after) ≡ gave.after
 step-back net place (Unreadable bytes reason) choice is same = same
-step-back net place (V6 p) choice is same = (treated-back net place.node (way_of net place p.destination) p choice is).1
+step-back net place (V6 p) choice is same = (step-packet net place p choice is).1
+
+-- the next place has the family of what stands there
+next-family : (place next : Place) (family : Family) → place.family ≡ family → Some place ≡ Some next → next.family ≡ family
+next-family place next family of e = let same : place ≡ next = cc in sym (ap (λ (q : Place). q.family) same) ∙ of
+
+arrival-family : (place next : Place) (to : Option ℕ) → arrival to place ≡ Some next → next.family ≡ place.family
+arrival-family place next None e = cc
+arrival-family place next (Some node) e =
+    next-family (record { node = node; how = Arrived 0; family = place.family }) next place.family refl e
+
+pub next_place-family : (net : Network) (place next : Place) (outcome : Outcome) → next_place net place outcome ≡ Some next
+    → next.family ≡ family_after place outcome
+next_place-family net place next (outcomes.Again n how) e =
+    next-family (record { node = place.node; how = how; family = place.family }) next place.family refl e
+next_place-family net place next (outcomes.Hand n how family) e =
+    next-family (record { node = place.node; how = how; family = family }) next family refl e
+next_place-family net place next (outcomes.Send link) e = arrival-family place next (far_end (slice_get net.links link)) e
+next_place-family net place next outcomes.Local e = cc
+next_place-family net place next (outcomes.Drop reason error) e = cc

@@ -20,13 +20,13 @@ abbrev IfPlace : Network → Option Place → Type 0
 IfPlace net None = Unit {0}
 IfPlace net (Some place) = IsPlace net place
 
-next-place : (net : Network) (place : Place) (content : Content) (choice : ℕ) (next : Option Place) → Keeps net → IsPlace net place
-    → next_place net place (step_of net place content choice).outcome ≡ next → IfPlace net next
+next-place : (net : Network) (place : Place) (content : Content) (choice : ℕ) (next : Option Place) → Keeps net
+    → IsPlace net place → next_place net place (step_of net place content choice).outcome ≡ next → IfPlace net next
 next-place net place content choice None keeps is e = tt
 next-place net place content choice (Some next) keeps is e = step-place net place content choice next keeps is e
 
-stages-from : (fuel : ℕ) (net : Network) (place : Option Place) (content : Content) (pick : ℕ → ℕ) (taken : ℕ) → Keeps net → IfPlace net place
-    → AreStages net (walk_of fuel net place content pick taken)
+stages-from : (fuel : ℕ) (net : Network) (place : Option Place) (content : Content) (pick : ℕ → ℕ) (taken : ℕ) → Keeps net
+    → IfPlace net place → AreStages net (walk_of fuel net place content pick taken)
 unfolding walk_of
 stages-from zero net place content pick taken keeps is = tt
 stages-from (suc more) net None content pick taken keeps is = tt
@@ -38,9 +38,10 @@ stages-from (suc more) net (Some place) content pick taken keeps is =
           (next-place net place content (pick taken) (next_place net place s.gave.outcome) keeps is refl),
     )
 
-pub walk_of-stages : (fuel : ℕ) (net : Network) (place : Place) (content : Content) (pick : ℕ → ℕ) (taken : ℕ) → Keeps net → IsPlace net place
-    → AreStages net (walk_of fuel net (Some place) content pick taken)
-walk_of-stages fuel net place content pick taken keeps is = stages-from fuel net (Some place) content pick taken keeps is
+pub walk_of-stages : (fuel : ℕ) (net : Network) (place : Place) (content : Content) (pick : ℕ → ℕ) (taken : ℕ) → Keeps net
+    → IsPlace net place → AreStages net (walk_of fuel net (Some place) content pick taken)
+walk_of-stages fuel net place content pick taken keeps is =
+    stages-from fuel net (Some place) content pick taken keeps is
 
 -- the last stage goes on exactly where the end is that the stages were used
 abbrev EndsOrGoesOn : Ended → Option Place → Type 0
@@ -55,7 +56,7 @@ outcome-ends net place (outcomes.Again n how) = (λ e. refl, λ some. refl)
 outcome-ends net place (outcomes.Hand n how family) = (λ e. refl, λ some. refl)
 outcome-ends net place (outcomes.Send link) = link-ends link place (far_end (slice_get net.links link))
 outcome-ends net place outcomes.Local = (λ e. cc, λ some. cc)
-outcome-ends net place (outcomes.Drop reason) = (λ e. cc, λ some. cc)
+outcome-ends net place (outcomes.Drop reason error) = (λ e. cc, λ some. cc)
 
 pub end_of-goes_on : (net : Network) (place : Option Place) (s : Step) (more : List Step)
     → (end_of net (s ∷ more) ≡ ends.Stages) ↔ IsSome (place_after net place (s ∷ more))
@@ -63,15 +64,18 @@ end_of-goes_on net place s [] = outcome-ends net s.place s.gave.outcome
 end_of-goes_on net place s (t ∷ more) = end_of-goes_on net (next_place net s.place s.gave.outcome) t more
 
 -- stages that begin at a place and ended have another end
-ended-end : (net : Network) (place : Place) (steps : List Step) → place_after net (Some place) steps ≡ None → end_of net steps ≢ ends.Stages
+ended-end : (net : Network) (place : Place) (steps : List Step) → place_after net (Some place) steps ≡ None
+    → end_of net steps ≢ ends.Stages
 ended-end net place [] none e = cc
-ended-end net place (s ∷ more) none e = no_some (place_after net (Some place) (s ∷ more)) none ((end_of-goes_on net (Some place) s more).0 e)
+ended-end net place (s ∷ more) none e =
+    no_some (place_after net (Some place) (s ∷ more)) none ((end_of-goes_on net (Some place) s more).0 e)
   where
     no_some : (o : Option Place) → o ≡ None → IsSome o → ⊥
     no_some None same some = cc
     no_some (Some p) same some = cc
 
 pub walk_of-short_end : (fuel : ℕ) (net : Network) (place : Place) (content : Content) (pick : ℕ → ℕ) (taken : ℕ)
-    → length (walk_of fuel net (Some place) content pick taken) < fuel → end_of net (walk_of fuel net (Some place) content pick taken) ≢ ends.Stages
+    → let w = walk_of fuel net (Some place) content pick taken in length w < fuel → end_of net w ≢ ends.Stages
 walk_of-short_end fuel net place content pick taken short =
-    ended-end net place (walk_of fuel net (Some place) content pick taken) (walk_of-short fuel net (Some place) content pick taken short)
+    ended-end net place (walk_of fuel net (Some place) content pick taken)
+    (walk_of-short fuel net (Some place) content pick taken short)

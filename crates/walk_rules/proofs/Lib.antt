@@ -1,9 +1,12 @@
 pub mod Walks
+pub mod Lookups
+pub mod Routing
 pub mod Stages
 pub mod Choices
-pub mod Lookups
+pub mod Outcomes
 pub mod Executions
 pub mod Places
-pub mod Ends
 pub mod Contents
+pub mod Ends
 pub mod Picks
+pub mod PublicLaws

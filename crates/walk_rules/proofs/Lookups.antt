@@ -1,5 +1,6 @@
 -- What a look-up gives is there: its SID or route has that number, and is the node's.
-use Rattle.std.proofs.Common.{◌≡◌, ℕ, suc, ◌+◌, Bool, true, false, ◌==◌, ◌&&◌, nat_lt, if◌then◌else◌, List, [], ◌∷◌, ◌++◌, Option, Some, None, slice_get, refl, arith, add-zero, eqb-true}
+use Rattle.std.proofs.Common.{◌≡◌, ℕ, suc, ◌+◌, Bool, true, false, ◌==◌, ◌&&◌, nat_lt, if◌then◌else◌, List, [], ◌∷◌, ◌++◌, Option, Some, None, slice_get, refl, arith, add-zero, eqb-true, subst, sym}
+use Rattle.std.proofs.lemmas.Option.{slice_get_within}
 use Rattle.v6_addr.specs.Address.{holds_address}
 use Rattle.srv6_rules.specs.declared.sid.SidEntry.{SidEntry}
 use Rattle.net_model.specs.declared.parts.Node.{Node}
@@ -8,21 +9,7 @@ use Rattle.net_model.specs.declared.net.Hit.{Hit}
 use Rattle.net_model.specs.declared.net.Hit.TheVariants as hits
 use Rattle.net_model.specs.Network.{Network}
 use Rattle.net_model.specs.Best.{Entry, sid_entries, route_entries, address_entries, entries_of, longer, longest, hit_of, lookup_of}
-
-abbrev pub SidStandsAt : ℕ → Option SidEntry → Type 0
-SidStandsAt node None = ⊥
-SidStandsAt node (Some s) = s.node ≡ node
-
-abbrev pub RouteStandsAt : ℕ → Option Route → Type 0
-RouteStandsAt node None = ⊥
-RouteStandsAt node (Some r) = r.node ≡ node
-
--- what is hit is there, and the node's
-abbrev pub IsThere : Network → ℕ → Hit → Type 0
-IsThere net node (hits.Sid n) = SidStandsAt node (slice_get net.sids n)
-IsThere net node hits.Address = Unit {0}
-IsThere net node (hits.Route n) = RouteStandsAt node (slice_get net.routes n)
-IsThere net node hits.Nothing = Unit {0}
+use Rattle.walk_rules.specs.Way.{StandsAt, IsRouteOf, IsNumbered, IsThere}
 
 abbrev Each : (Entry → Type 0) → List Entry → Type 0
 Each P [] = Unit {0}
@@ -68,23 +55,36 @@ IsFrom-whole xs = λ k. let e : 0 + k ≡ k = omega arith in rw e
 abbrev EntryIsThere : Network → ℕ → Entry → Type 0
 EntryIsThere net node e = IsThere net node e.hit
 
+stands-at : (net : Network) (node n : ℕ) (s : SidEntry) → slice_get net.sids n ≡ Some s → (s.node == node) ≡ true → StandsAt net node n
+stands-at net node n s there e =
+    record { within = slice_get_within net.sids n s there; sid = s; is_there = there; stands = eqb-true s.node node e }
+
+route-of : (net : Network) (node n : ℕ) (r : Route) → slice_get net.routes n ≡ Some r → (r.node == node) ≡ true → IsRouteOf net node n
+route-of net node n r there e =
+    record { within = slice_get_within net.routes n r there; route = r; is_there = there; stands = eqb-true r.node node e }
+
 sids-there : (net : Network) (node n : ℕ) (ss : List SidEntry) → IsFrom net.sids n ss → Each (EntryIsThere net node) (sid_entries node n ss)
 sids-there net node n [] same = tt
-sids-there net node n (s ∷ ss) same = by_test (s.node == node) refl (sids-there net node (n + 1) ss (IsFrom-tail net.sids n s ss same))
+sids-there net node n (s ∷ ss) same =
+    by_test (s.node == node) refl (sids-there net node (n + 1) ss (IsFrom-tail net.sids n s ss same))
   where
     by_test : (t : Bool) → (s.node == node) ≡ t → Each (EntryIsThere net node) (sid_entries node (n + 1) ss)
-        → Each (EntryIsThere net node) (if t then record { hit = hits.Sid n; prefix = s.prefix } ∷ sid_entries node (n + 1) ss else sid_entries node (n + 1) ss)
-    by_test true e rest = (rw (IsFrom-head net.sids n s ss same) (eqb-true s.node node e), rest)
+        → Each (EntryIsThere net node)
+        (if t then record { hit = hits.Sid n; prefix = s.prefix } ∷ sid_entries node (n + 1) ss else sid_entries node (n + 1) ss)
+    by_test true e rest = (stands-at net node n s (IsFrom-head net.sids n s ss same) e, rest)
     by_test false e rest = rest
 
-routes-there : (net : Network) (node table n : ℕ) (rs : List Route) → IsFrom net.routes n rs → Each (EntryIsThere net node) (route_entries node table n rs)
+routes-there : (net : Network) (node table n : ℕ) (rs : List Route) → IsFrom net.routes n rs
+    → Each (EntryIsThere net node) (route_entries node table n rs)
 routes-there net node table n [] same = tt
-routes-there net node table n (r ∷ rs) same = by_test (r.node == node) (r.table == table) refl (routes-there net node table (n + 1) rs (IsFrom-tail net.routes n r rs same))
+routes-there net node table n (r ∷ rs) same =
+    by_test (r.node == node) (r.table == table) refl (routes-there net node table (n + 1) rs (IsFrom-tail net.routes n r rs same))
   where
     by_test : (t u : Bool) → (r.node == node) ≡ t → Each (EntryIsThere net node) (route_entries node table (n + 1) rs)
         → Each (EntryIsThere net node)
-        (if t && u then record { hit = hits.Route n; prefix = r.prefix } ∷ route_entries node table (n + 1) rs else route_entries node table (n + 1) rs)
-    by_test true true e rest = (rw (IsFrom-head net.routes n r rs same) (eqb-true r.node node e), rest)
+        (if t && u then record { hit = hits.Route n; prefix = r.prefix } ∷ route_entries node table (n + 1) rs
+        else route_entries node table (n + 1) rs)
+    by_test true true e rest = (route-of net node n r (IsFrom-head net.routes n r rs same) e, rest)
     by_test true false e rest = rest
     by_test false u e rest = rest
 
@@ -100,7 +100,8 @@ entries-there net node table = by_test (table == 0)
         else route_entries node table 0 net.routes)
     by_test true =
         Each-append (EntryIsThere net node) _ _ (sids-there net node 0 net.sids (IsFrom-whole net.sids))
-        (Each-append (EntryIsThere net node) _ _ (address-there net node (slice_get net.nodes node)) (routes-there net node 0 0 net.routes (IsFrom-whole net.routes)))
+        (Each-append (EntryIsThere net node) _ _ (address-there net node (slice_get net.nodes node))
+        (routes-there net node 0 0 net.routes (IsFrom-whole net.routes)))
     by_test false = routes-there net node table 0 net.routes (IsFrom-whole net.routes)
 
 hit-there : (net : Network) (node : ℕ) (found : Option Entry) → IfEntry (EntryIsThere net node) found → IsThere net node (hit_of found)
@@ -111,4 +112,16 @@ hit-there net node (Some e) there = there
 pub lookup-there : (net : Network) (node table a : ℕ) → IsThere net node (lookup_of net node table a)
 unfolding lookup_of
 lookup-there net node table a =
-    hit-there net node (longest a (entries_of net node table)) (longest-one (EntryIsThere net node) a (entries_of net node table) (entries-there net node table))
+    hit-there net node (longest a (entries_of net node table))
+    (longest-one (EntryIsThere net node) a (entries_of net node table) (entries-there net node table))
+
+-- so its number is one of the network's
+numbered : (net : Network) (node : ℕ) (hit : Hit) → IsThere net node hit → IsNumbered net hit
+numbered net node (hits.Sid n) there = there.within
+numbered net node hits.Address there = tt
+numbered net node (hits.Route n) there = there.within
+numbered net node hits.Nothing there = tt
+
+pub lookup-numbered : (net : Network) (node table a : ℕ) (hit : Hit) → hit ≡ lookup_of net node table a → IsNumbered net hit
+lookup-numbered net node table a hit e =
+    subst (IsNumbered net) (sym e) (numbered net node (lookup_of net node table a) (lookup-there net node table a))

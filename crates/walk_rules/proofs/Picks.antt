@@ -12,13 +12,14 @@ decisions-few (outcomes.Send link) = omega arith
 decisions-few (outcomes.Again n how) = omega arith
 decisions-few (outcomes.Hand n how family) = omega arith
 decisions-few outcomes.Local = omega arith
-decisions-few (outcomes.Drop reason) = omega arith
+decisions-few (outcomes.Drop reason error) = omega arith
 
 -- the choices of the decisions from one on, so many of them, are the same
 abbrev pub SamePicks : (ℕ → ℕ) → (ℕ → ℕ) → ℕ → ℕ → Type 0
 SamePicks pick other taken fuel = (d : ℕ) → taken ≤ d → d < taken + fuel → pick d ≡ other d
 
-later-picks : (pick other : ℕ → ℕ) (taken more few : ℕ) → few ≤ 1 → SamePicks pick other taken (suc more) → SamePicks pick other (taken + few) more
+later-picks : (pick other : ℕ → ℕ) (taken more few : ℕ) → few ≤ 1 → SamePicks pick other taken (suc more)
+    → SamePicks pick other (taken + few) more
 later-picks pick other taken more few low same = λ d from to. same d (omega arith) (omega arith)
 
 pub walk_of-picks : (fuel : ℕ) (net : Network) (place : Option Place) (content : Content) (pick other : ℕ → ℕ) (taken : ℕ)
@@ -61,8 +62,10 @@ picks-same pick fuel d low =
     sym (ap (slice_index choices) place ∙ picks_from-at pick 0 (suc fuel) d inside ∙ ap pick whole)
 
 pub walk_of-list : (fuel : ℕ) (net : Network) (place : Option Place) (content : Content) (pick : ℕ → ℕ)
-    → (choices : List ℕ) × (0 < length choices) × (walk_of fuel net place content pick 0 ≡ walk_of fuel net place content (choice_at choices) 0)
+    → (choices : List ℕ) × (0 < length choices)
+    × (walk_of fuel net place content pick 0 ≡ walk_of fuel net place content (choice_at choices) 0)
 walk_of-list fuel net place content pick =
     let choices : List ℕ = picks_from pick 0 (suc fuel) in
     let long : length choices ≡ suc fuel = length-picks_from pick 0 (suc fuel) in
-    (choices, omega (arith, long), walk_of-picks fuel net place content pick (choice_at choices) 0 (λ d from to. picks-same pick fuel d to))
+    let same = walk_of-picks fuel net place content pick (choice_at choices) 0 (λ d from to. picks-same pick fuel d to) in
+    (choices, omega (arith, long), same)

@@ -115,13 +115,14 @@ walk_of-follows (suc more) net (Some place) content pick taken =
 
 -- a walk of fewer stages than it may have has ended
 pub walk_of-short : (fuel : ℕ) (net : Network) (place : Option Place) (content : Content) (pick : ℕ → ℕ) (taken : ℕ)
-    → length (walk_of fuel net place content pick taken) < fuel → place_after net place (walk_of fuel net place content pick taken) ≡ None
+    → let w = walk_of fuel net place content pick taken in length w < fuel → place_after net place w ≡ None
 unfolding walk_of
 walk_of-short zero net place content pick taken short = absurd (omega (arith, short))
 walk_of-short (suc more) net None content pick taken short = refl
 walk_of-short (suc more) net (Some place) content pick taken short =
     let s : Step = stage_of net place content (pick taken) in
-    walk_of-short more net (next_place net place s.gave.outcome) s.gave.after pick (taken + decisions s.gave.outcome) (le_of_suc-le-suc short)
+    walk_of-short more net (next_place net place s.gave.outcome) s.gave.after pick (taken + decisions s.gave.outcome)
+    (le_of_suc-le-suc short)
 
 pub walk_of-is : (fuel : ℕ) (net : Network) (place : Option Place) (content : Content) (pick : ℕ → ℕ) (taken : ℕ)
     → IsWalk fuel net place content pick taken (walk_of fuel net place content pick taken)

@@ -1,5 +1,6 @@
 -- What the laws about stages and walks say, in words.
-use Rattle.std.specs.Prelude.{◌≡◌, ◌≢◌, ℕ, ◌+◌, ◌<◌, List, [], ◌∷◌, slice_get, Some, Contains}
+use Rattle.std.specs.Prelude.{◌≡◌, ◌≢◌, ℕ, ◌+◌, ◌<◌, List, [], ◌∷◌, slice_get, Option, Some, None, is_some, Contains}
+use Rattle.srv6_rules.specs.declared.sid.Family.{Family}
 use Rattle.srv6_rules.specs.declared.sid.SidEntry.{SidEntry}
 use Rattle.srv6_rules.specs.Packet.{Packet, Content, V6, Unreadable}
 use Rattle.srv6_rules.specs.Endpoint.{at_sid}
@@ -8,7 +9,8 @@ use Rattle.walk_rules.specs.declared.place.How.{How}
 use Rattle.walk_rules.specs.declared.place.Place.{Place}
 use Rattle.walk_rules.specs.declared.place.Outcome.{Outcome}
 use Rattle.walk_rules.specs.declared.place.Outcome.TheVariants as outcomes
-use Rattle.walk_rules.specs.Treatment.{Way, Away, Over, Own, Into, way_of, Gave, allow_of, on_from, treated_at_sid}
+use Rattle.walk_rules.specs.Way.{Way, Away, Over, Own, Into, way_of}
+use Rattle.walk_rules.specs.Treatment.{Gave, allow_of, on_from, treated_at_sid}
 use Rattle.walk_rules.specs.Relation.{Stage, IsPlace}
 use Rattle.walk_rules.specs.Walk.{Step, decisions}
 
@@ -34,6 +36,14 @@ pub record SendsApart (set : List ℕ) (one other : Outcome) : Type 0 where
   pub other_member : Contains set other_link
   pub apart : one_link ≢ other_link
 
+-- the family of what stands there after an outcome: the exposed packet's, else as before
+abbrev pub family_after : Place → Outcome → Family
+family_after place (outcomes.Again n how) = place.family
+family_after place (outcomes.Hand n how family) = family
+family_after place (outcomes.Send link) = place.family
+family_after place outcomes.Local = place.family
+family_after place (outcomes.Drop reason error) = place.family
+
 -- a packet whose hop limit was above 1, and is one less
 abbrev pub IsLoweredByOne : Content → Content → Type 0
 IsLoweredByOne (V6 p) (V6 q) = (1 < p.hop_limit) × (q.hop_limit + 1 ≡ p.hop_limit)
@@ -50,15 +60,26 @@ pub record Executes (net : Network) (place : Place) (content : Content) (gave : 
   pub is_there : slice_get net.sids n ≡ Some sid
   pub stands : sid.node ≡ place.node
   pub goes_on : how ≡ on_from n sid.behaviour
-  pub gives : gave ≡ treated_at_sid n sid.behaviour packet (at_sid sid.behaviour (allow_of (slice_get net.nodes place.node)) packet)
+  pub gives : gave
+      ≡ treated_at_sid net place.node n sid.behaviour packet (at_sid sid (allow_of (slice_get net.nodes place.node)) packet)
 
 -- two answers that differ at most in the link on which they send
 pub record DifferAtMostInLink (one other : Gave) : Type 0 where
   pub after : other.after ≡ one.after
+  pub error : other.error ≡ one.error
   pub decisions_taken : decisions other.outcome ≡ decisions one.outcome
   pub outcome : decisions one.outcome ≡ 0 → other.outcome ≡ one.outcome
+
+-- a drop tells whether an error is sent, and with another outcome none is
+abbrev pub TellsOfError : Outcome → Option Packet → Type 0
+TellsOfError (outcomes.Drop reason told) error = told ≡ is_some error
+TellsOfError (outcomes.Again n how) error = error ≡ None
+TellsOfError (outcomes.Hand n how family) error = error ≡ None
+TellsOfError (outcomes.Send link) error = error ≡ None
+TellsOfError outcomes.Local error = error ≡ None
 
 -- each of these stages is at a place of the network, and gives an outcome that there is there
 abbrev pub AreStages : Network → List Step → Type 0
 AreStages net [] = Unit {0}
-AreStages net (s ∷ more) = IsPlace net s.place × Stage net s.place s.before s.gave.outcome s.gave.after × AreStages net more
+AreStages net (s ∷ more) =
+    IsPlace net s.place × Stage net s.place s.before s.gave.outcome s.gave.after s.gave.error × AreStages net more

@@ -1,3 +1,4 @@
+pub mod Way
 pub mod Treatment
 pub mod Relation
 pub mod Walk

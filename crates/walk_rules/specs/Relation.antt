@@ -1,5 +1,7 @@
--- One node's treatment of one packet, as a relation by cases: which outcomes there are, and the packet after each.
-use Rattle.std.specs.Prelude.{◌≡◌, ℕ, ◌<◌, ◌≤◌, Bool, true, false, List, length, slice_get, Option, Some, None, Contains}
+-- One node's treatment of one packet, as a relation by cases: which outcomes there are, and the packet and the error
+-- after each.
+use Rattle.std.specs.Prelude.{◌≡◌, ℕ, ◌<◌, ◌≤◌, Bool, true, false, is_some, List, length, slice_get, Option, Some, None, Contains}
+use Rattle.srv6_rules.specs.declared.sid.Reason.{Reason}
 use Rattle.srv6_rules.specs.declared.sid.Reason.TheVariants as reasons
 use Rattle.srv6_rules.specs.declared.sid.SidEntry.{SidEntry}
 use Rattle.srv6_rules.specs.Packet.{Packet, Content, V6, Unreadable}
@@ -10,29 +12,42 @@ use Rattle.walk_rules.specs.declared.place.How.TheVariants.{Arrived, Submitted, 
 use Rattle.walk_rules.specs.declared.place.Place.{Place}
 use Rattle.walk_rules.specs.declared.place.Outcome.{Outcome}
 use Rattle.walk_rules.specs.declared.place.Outcome.TheVariants as outcomes
-use Rattle.walk_rules.specs.Treatment.{Way, Away, Over, Own, Into, way_of, lowered, treated_at_address, treated_in}
+use Rattle.walk_rules.specs.Way.{Way, Away, Over, Own, Into, way_of}
+use Rattle.walk_rules.specs.Treatment.{Gave, error_of, lowered, treated_at_address, treated_in}
+
+-- an outcome, the packet after it and the error are those that were given
+abbrev pub Gives : Gave → Outcome → Content → Option Packet → Type 0
+Gives gave outcome after error = (outcome ≡ gave.outcome) × (after ≡ gave.after) × (error ≡ gave.error)
+
+-- what stood at a node is dropped as it was, for a reason and a fault's place, and the drop tells whether an error is sent
+abbrev pub Drops : Network → ℕ → Reason → ℕ → Content → Outcome → Content → Option Packet → Type 0
+Drops net node reason at content outcome after error =
+    (outcome ≡ outcomes.Drop reason (is_some error)) × (after ≡ content) × (error ≡ error_of net node reason at content)
 
 -- over a set of links: one outcome for each member; a drop where the hop limit would have to fall and can't
-abbrev pub Sends : List ℕ → Bool → Packet → Outcome → Content → Type 0
-Sends set true p (outcomes.Send link) after = Contains set link × (1 < p.hop_limit) × (after ≡ V6 (lowered true p))
-Sends set false p (outcomes.Send link) after = Contains set link × (after ≡ V6 p)
-Sends set true p (outcomes.Drop reason) after = (reason ≡ reasons.HopLimit) × (p.hop_limit ≤ 1) × (after ≡ V6 p)
-Sends set false p (outcomes.Drop reason) after = ⊥
-Sends set lower p (outcomes.Again sid how) after = ⊥
-Sends set lower p (outcomes.Hand sid how family) after = ⊥
-Sends set lower p outcomes.Local after = ⊥
+abbrev pub Sends : Network → ℕ → List ℕ → Bool → Packet → Outcome → Content → Option Packet → Type 0
+Sends net node set true p (outcomes.Send link) after error =
+    Contains set link × (1 < p.hop_limit) × (after ≡ V6 (lowered true p)) × (error ≡ None)
+Sends net node set false p (outcomes.Send link) after error = Contains set link × (after ≡ V6 p) × (error ≡ None)
+Sends net node set true p (outcomes.Drop reason told) after error =
+    (p.hop_limit ≤ 1) × Drops net node reasons.HopLimit 0 (V6 p) (outcomes.Drop reason told) after error
+Sends net node set false p (outcomes.Drop reason told) after error = ⊥
+Sends net node set lower p (outcomes.Again sid how) after error = ⊥
+Sends net node set lower p (outcomes.Hand sid how family) after error = ⊥
+Sends net node set lower p outcomes.Local after error = ⊥
 
 -- at an address and at a SID there is one outcome
-abbrev pub Treats : Network → ℕ → Way → Packet → Outcome → Content → Type 0
-Treats net node (Away reason) p outcome after = (outcome ≡ outcomes.Drop reason) × (after ≡ V6 p)
-Treats net node (Over set lower) p outcome after = Sends set lower p outcome after
-Treats net node Own p outcome after = let gave = treated_at_address p (at_address p) in (outcome ≡ gave.outcome) × (after ≡ gave.after)
-Treats net node (Into n) p outcome after = let gave = treated_in net node n (slice_get net.sids n) p in (outcome ≡ gave.outcome) × (after ≡ gave.after)
+abbrev pub Treats : Network → ℕ → Way → Packet → Outcome → Content → Option Packet → Type 0
+Treats net node (Away reason) p outcome after error = Drops net node reason 0 (V6 p) outcome after error
+Treats net node (Over set lower) p outcome after error = Sends net node set lower p outcome after error
+Treats net node Own p outcome after error = Gives (treated_at_address net node p (at_address p)) outcome after error
+Treats net node (Into n) p outcome after error = Gives (treated_in net node n (slice_get net.sids n) p) outcome after error
 
--- the stage: an outcome that there is at a place, and what stands there after it
-abbrev pub Stage : Network → Place → Content → Outcome → Content → Type 0
-Stage net place (Unreadable bytes reason) outcome after = (outcome ≡ outcomes.Drop reason) × (after ≡ Unreadable bytes reason)
-Stage net place (V6 p) outcome after = Treats net place.node (way_of net place p.destination) p outcome after
+-- the stage: an outcome that there is at a place, what stands there after it, and the error that is sent, if one is
+abbrev pub Stage : Network → Place → Content → Outcome → Content → Option Packet → Type 0
+Stage net place (Unreadable bytes reason) outcome after error =
+    Drops net place.node reason 0 (Unreadable bytes reason) outcome after error
+Stage net place (V6 p) outcome after error = Treats net place.node (way_of net place p.destination) p outcome after error
 
 -- the links of a SID through which a packet goes: the SID is the node's and has links
 abbrev pub IsThrough : ℕ → Option SidEntry → Type 0

@@ -27,7 +27,7 @@ next_place net place (outcomes.Again sid how) = Some (record { node = place.node
 next_place net place (outcomes.Hand sid how family) = Some (record { node = place.node; how = how; family = family })
 next_place net place (outcomes.Send link) = arrival (far_end (slice_get net.links link)) place
 next_place net place outcomes.Local = None
-next_place net place (outcomes.Drop reason) = None
+next_place net place (outcomes.Drop reason error) = None
 
 -- the decisions that an outcome takes: a Send is one
 abbrev pub decisions : Outcome → ℕ
@@ -35,7 +35,7 @@ decisions (outcomes.Again sid how) = 0
 decisions (outcomes.Hand sid how family) = 0
 decisions (outcomes.Send link) = 1
 decisions outcomes.Local = 0
-decisions (outcomes.Drop reason) = 0
+decisions (outcomes.Drop reason error) = 0
 
 -- a stage of a walk: where the packet stood, what stood there, and what the stage gave
 pub record Step : Type 0 where
@@ -59,7 +59,8 @@ walk_of (suc more) net (Some place) content pick taken =
 
 -- at most so many stages after a stage
 abbrev pub walk_on : ℕ → Network → Step → (ℕ → ℕ) → ℕ → List Step
-walk_on more net s pick taken = walk_of more net (next_place net s.place s.gave.outcome) s.gave.after pick (taken + decisions s.gave.outcome)
+walk_on more net s pick taken =
+    walk_of more net (next_place net s.place s.gave.outcome) s.gave.after pick (taken + decisions s.gave.outcome)
 
 -- a list of choices, which begins anew at its end
 abbrev pub choice_at : List ℕ → ℕ → ℕ
@@ -75,7 +76,7 @@ end_by net place (outcomes.Again sid how) = ends.Stages
 end_by net place (outcomes.Hand sid how family) = ends.Stages
 end_by net place (outcomes.Send link) = left_or_stages link (far_end (slice_get net.links link))
 end_by net place outcomes.Local = ends.Delivered place.node
-end_by net place (outcomes.Drop reason) = ends.Dropped place.node reason
+end_by net place (outcomes.Drop reason error) = ends.Dropped place.node reason
 
 abbrev pub end_of : Network → List Step → Ended
 end_of net [] = ends.Stages
@@ -116,7 +117,8 @@ BeginsAt place content [] = Unit {0}
 BeginsAt place content (s ∷ more) = (place ≡ Some s.place) × (s.before ≡ content)
 
 -- a walk: stages that begin there and follow one another, so many at most, and fewer only where they ended
-pub record IsWalk (fuel : ℕ) (net : Network) (place : Option Place) (content : Content) (pick : ℕ → ℕ) (taken : ℕ) (steps : List Step) : Type 0 where
+pub record IsWalk (fuel : ℕ) (net : Network) (place : Option Place) (content : Content) (pick : ℕ → ℕ) (taken : ℕ)
+    (steps : List Step) : Type 0 where
   pub begins : BeginsAt place content steps
   pub follows : Follows net pick taken steps
   pub at_most : length steps ≤ fuel

@@ -1,61 +1,105 @@
 //! Laws about the definitions, each the contract of a function that does nothing.
 
-ghost use Rattle.std.specs.Prelude.{◌≡◌, ◌≢◌, ℕ, ◌+◌, ◌<◌, ◌≤◌, ◌⊎◌, ◌↔◌, List, Option, ◌∷◌, ◌++◌, length, take, Contains, IsSome};
-ghost use Rattle.net_model.specs.Keeps.{StartsAt};
+ghost use Rattle.std.specs.Prelude.{◌≡◌, ◌≢◌, ℕ, ◌+◌, ◌<◌, ◌≤◌, ◌⊎◌, ◌↔◌, Bool, true, is_some, List, [], Option, ◌∷◌, ◌++◌, length, slice_get, take, Contains, IsSome};
+ghost use Rattle.net_model.specs.Best.{lookup_of};
+ghost use Rattle.net_model.specs.Keeps.{Keeps, StartsAt};
 ghost use Rattle.net_model.specs.Network.{Network};
-ghost use Rattle.net_model.specs.Rules.{IsNetwork};
-ghost use Rattle.srv6_rules.specs.Packet.{Content, IsContent, bytes_of, content_of};
+ghost use Rattle.srv6_rules.specs.Packet.{Content, IsContent, Packet, V6, bytes_of, read_as};
 ghost use Rattle.srv6_rules.specs.declared.sid.Family.{Family};
 ghost use Rattle.srv6_rules.specs.declared.sid.Reason.{Reason};
-ghost use Rattle.walk_rules.specs.Laws.{AreStages, DifferAtMostInLink, Executes, IsLoweredByOne, SendsApart, hops_at};
-ghost use Rattle.walk_rules.specs.Relation.{IsPlace, Stage};
-ghost use Rattle.walk_rules.specs.Treatment.{member_of, step_of};
+ghost use Rattle.srv6_rules.specs.declared.sid.SidEntry.{SidEntry};
+ghost use Rattle.walk_rules.specs.Laws.{AreStages, DifferAtMostInLink, Executes, IsLoweredByOne, SendsApart, TellsOfError, family_after, hops_at};
+ghost use Rattle.walk_rules.specs.Relation.{IsHow, IsPlace, Stage};
+ghost use Rattle.walk_rules.specs.Treatment.{dropped, goes, lowered, member_of, on_from, sent, step_of};
 ghost use Rattle.walk_rules.specs.Walk.{IsWalk, Step, choice_at, content_after, decisions, end_of, next_place, place_after, stage_of, taken_after, walk_of, walk_on};
+ghost use Rattle.walk_rules.specs.Way.{Into, IsThere, IsWayFrom, StandsAt, way_of};
 ghost use Rattle.walk_rules.specs.declared.place.Ended.{Ended};
 ghost use Rattle.walk_rules.specs.declared.place.How.{How};
 ghost use Rattle.walk_rules.specs.declared.place.Outcome.{Outcome};
 ghost use Rattle.walk_rules.specs.declared.place.Place.{Place};
 
-/// A walk from a place is the stage there, and then the walk from the next place.
+/// What a look-up finds is there, and the node's; the SID that a way leads into stands at the node,
+/// and from a place of a network the links that it goes over are a set of the node's.
+pub fn a_way_leads_from_its_place()
+    ensures hit { (net : Network) (node table destination : ℕ) →
+        IsThere net node (lookup_of net node table destination) }
+    ensures into { (net : Network) (place : Place) (destination n : ℕ) →
+        way_of net place destination ≡ Into n → StandsAt net place.node n }
+    ensures way { (net : Network) (place : Place) (destination : ℕ) →
+        Keeps net → IsHow net place.node place.how →
+        IsWayFrom net place.node (way_of net place destination) }
+{}
+
+/// Where the hop limit is lowered, a packet whose hop limit is at most 1 is dropped, and each other
+/// is sent on the member that the choice names (RFC 8200 section 3).
+pub fn a_low_hop_limit_is_not_sent()
+    ensures low { (net : Network) (node : ℕ) (set : List ℕ) (p : Packet) (choice : ℕ) →
+        p.hop_limit ≤ 1 →
+        sent net node set true p choice ≡ dropped net node Reason.HopLimit 0 (V6 p) }
+    ensures high { (net : Network) (node : ℕ) (set : List ℕ) (p : Packet) (choice : ℕ) →
+        1 < p.hop_limit →
+        sent net node set true p choice
+        ≡ goes (Outcome.Send (member_of set choice)) (V6 (lowered true p)) }
+{}
+
+/// A walk from a place is the stage there, and then the walk from the next place; a walk from no
+/// place, and one that may have no stages, has none.
 pub fn a_walk_unfolds()
-    ensures { (more : ℕ) (net : Network) (place : Place) (content : Content) (pick : ℕ → ℕ) (taken : ℕ) →
+    ensures stage { (more : ℕ) (net : Network) (place : Place) (content : Content) →
+        (pick : ℕ → ℕ) (taken : ℕ) →
         let s = stage_of net place content (pick taken) in
         walk_of (more + 1) net (Some place) content pick taken ≡ s ∷ walk_on more net s pick taken }
+    ensures nowhere { (fuel : ℕ) (net : Network) (content : Content) (pick : ℕ → ℕ) (taken : ℕ) →
+        walk_of fuel net None content pick taken ≡ [] }
+    ensures none { (net : Network) (place : Option Place) (content : Content) →
+        (pick : ℕ → ℕ) (taken : ℕ) →
+        walk_of 0 net place content pick taken ≡ [] }
 {}
 
 /// Each outcome that there is at a place is the one of some choice.
 pub fn an_outcome_has_a_choice()
-    ensures { (net : Network) (place : Place) (content : Content) (outcome : Outcome) (after : Content) →
-        Stage net place content outcome after →
-        (choice : ℕ) × (step_of net place content choice ≡ record { outcome = outcome; after = after }) }
+    ensures { (net : Network) (place : Place) (content : Content) →
+        (outcome : Outcome) (after : Content) (error : Option Packet) →
+        Stage net place content outcome after error →
+        (choice : ℕ) ×
+        (step_of net place content choice
+        ≡ record { outcome = outcome; after = after; error = error }) }
 {}
 
 /// Each choice has an outcome that there is at the place.
 pub fn a_choice_has_an_outcome()
-    ensures { (net : Network) (place : Place) (content : Content) (choice : ℕ) → IsNetwork net → IsPlace net place →
+    ensures { (net : Network) (place : Place) (content : Content) (choice : ℕ) →
+        Keeps net → IsPlace net place →
         let gave = step_of net place content choice in
-        Stage net place content gave.outcome gave.after }
+        Stage net place content gave.outcome gave.after gave.error }
 {}
 
 /// A stage sends on members of its set of equal next hops alone, on each of them where it sends on
 /// one, and each of them is there and starts at the node.
 pub fn each_next_hop_is_an_outcome()
-    ensures member { (net : Network) (place : Place) (content : Content) (link : ℕ) (after : Content) →
-        Stage net place content (Outcome.Send link) after → Contains (hops_at net place content) link }
-    ensures each { (net : Network) (place : Place) (content : Content) (link other : ℕ) (after : Content) →
-        Stage net place content (Outcome.Send link) after → Contains (hops_at net place content) other →
-        Stage net place content (Outcome.Send other) after }
-    ensures starts { (net : Network) (place : Place) (content : Content) (link : ℕ) → IsNetwork net → IsPlace net place →
-        Contains (hops_at net place content) link → StartsAt net.links place.node link }
+    ensures member { (net : Network) (place : Place) (content : Content) (link : ℕ) →
+        (after : Content) (error : Option Packet) →
+        Stage net place content (Outcome.Send link) after error →
+        Contains (hops_at net place content) link }
+    ensures each { (net : Network) (place : Place) (content : Content) (link other : ℕ) →
+        (after : Content) (error : Option Packet) →
+        Stage net place content (Outcome.Send link) after error →
+        Contains (hops_at net place content) other →
+        Stage net place content (Outcome.Send other) after error }
+    ensures starts { (net : Network) (place : Place) (content : Content) (link : ℕ) →
+        Keeps net → IsPlace net place → Contains (hops_at net place content) link →
+        StartsAt net.links place.node link }
 {}
 
 /// A stage has several outcomes only where a set of equal next hops has several members, and they
-/// leave the same packet.
+/// leave the same packet and send the same error.
 pub fn outcomes_differ_in_the_link()
     ensures { (net : Network) (place : Place) (content : Content) →
-        (one : Outcome) (after : Content) (other : Outcome) (later : Content) →
-        Stage net place content one after → Stage net place content other later →
-        (after ≡ later) × ((one ≡ other) ⊎ SendsApart (hops_at net place content) one other) }
+        (one : Outcome) (after : Content) (error : Option Packet) →
+        (other : Outcome) (later : Content) (told : Option Packet) →
+        Stage net place content one after error → Stage net place content other later told →
+        (after ≡ later) × (error ≡ told) ×
+        ((one ≡ other) ⊎ SendsApart (hops_at net place content) one other) }
 {}
 
 /// The choice tells at most the link on which a stage sends, which is the member that it names.
@@ -69,70 +113,97 @@ pub fn only_a_send_depends_on_the_choice()
 
 /// A Send is one decision, and nothing else is one.
 pub fn a_send_is_one_decision()
-    ensures one { (outcome : Outcome) → (decisions outcome ≡ 1) ↔ ((link : ℕ) × (outcome ≡ Outcome.Send link)) }
-    ensures zero { (outcome : Outcome) → ((link : ℕ) → outcome ≢ Outcome.Send link) → decisions outcome ≡ 0 }
+    ensures one { (outcome : Outcome) →
+        (decisions outcome ≡ 1) ↔ ((link : ℕ) × (outcome ≡ Outcome.Send link)) }
+    ensures zero { (outcome : Outcome) →
+        ((link : ℕ) → outcome ≢ Outcome.Send link) → decisions outcome ≡ 0 }
 {}
 
 /// An execution after which the packet stays at the node lowers its hop limit by one, from above 1
 /// (RFC 8986 section 4.1).
 pub fn an_execution_lowers_the_hop_limit()
-    ensures { (net : Network) (place : Place) (content : Content) (choice : ℕ) (n : ℕ) (how : How) →
+    ensures { (net : Network) (place : Place) (content : Content) (choice n : ℕ) (how : How) →
         let gave = step_of net place content choice in
         gave.outcome ≡ Outcome.Again n how → IsLoweredByOne content gave.after }
 {}
 
 /// After a drop, and where an upper layer took it, what stands there is what stood there before.
 pub fn an_end_leaves_what_stood_there()
-    ensures dropped { (net : Network) (place : Place) (content : Content) (choice : ℕ) (reason : Reason) →
+    ensures dropped { (net : Network) (place : Place) (content : Content) (choice : ℕ) →
+        (reason : Reason) (error : Bool) →
         let gave = step_of net place content choice in
-        gave.outcome ≡ Outcome.Drop reason → gave.after ≡ content }
+        gave.outcome ≡ Outcome.Drop reason error → gave.after ≡ content }
     ensures local { (net : Network) (place : Place) (content : Content) (choice : ℕ) →
         let gave = step_of net place content choice in
         gave.outcome ≡ Outcome.Local → gave.after ≡ content }
 {}
 
-/// Where a SID was executed, the outcome names it: the way leads into it, it stands at the node, and
-/// the packet goes on in its way.
+/// A drop tells whether an ICMPv6 error is sent about it, and none is sent about anything else
+/// (RFC 4443 section 2.4).
+pub fn a_drop_tells_of_its_error()
+    ensures { (net : Network) (place : Place) (content : Content) (choice : ℕ) →
+        let gave = step_of net place content choice in
+        TellsOfError gave.outcome gave.error }
+{}
+
+/// Where a SID was executed, the outcome names it: the way leads into it, it stands at the node,
+/// and the packet goes on in its way.
 pub fn an_execution_names_its_sid()
-    ensures again { (net : Network) (place : Place) (content : Content) (choice : ℕ) (n : ℕ) (how : How) →
+    ensures again { (net : Network) (place : Place) (content : Content) (choice : ℕ) →
+        (n : ℕ) (how : How) →
         let gave = step_of net place content choice in
         gave.outcome ≡ Outcome.Again n how → Executes net place content gave n how }
-    ensures hand { (net : Network) (place : Place) (content : Content) (choice : ℕ) (n : ℕ) (how : How) (family : Family) →
+    ensures hand { (net : Network) (place : Place) (content : Content) (choice : ℕ) →
+        (n : ℕ) (how : How) (family : Family) →
         let gave = step_of net place content choice in
         gave.outcome ≡ Outcome.Hand n how family → Executes net place content gave n how }
 {}
 
-/// From a place a packet goes on to a place.
+/// From a place a packet goes on to a place, and from a SID it goes on in a way that there is at the
+/// SID's node.
 pub fn a_place_leads_to_a_place()
-    ensures { (net : Network) (place : Place) (content : Content) (choice : ℕ) (next : Place) →
-        IsNetwork net → IsPlace net place →
-        next_place net place (step_of net place content choice).outcome ≡ Some next → IsPlace net next }
+    ensures next { (net : Network) (place : Place) (content : Content) (choice : ℕ) (next : Place) →
+        Keeps net → IsPlace net place →
+        next_place net place (step_of net place content choice).outcome ≡ Some next →
+        IsPlace net next }
+    ensures sid { (net : Network) (n : ℕ) (s : SidEntry) → Keeps net →
+        slice_get net.sids n ≡ Some s → IsHow net s.node (on_from n s.behaviour) }
 {}
 
-/// What bytes can spell stays so in a stage, and what reads as itself from its bytes does so after it.
+/// What bytes can spell stays so in a stage, and what reads as itself from its bytes, as a
+/// packet of the place's family, does so after it; the next place has the family of what stands
+/// there then.
 pub fn a_stage_keeps_a_content()
-    ensures content { (net : Network) (place : Place) (content : Content) (choice : ℕ) → IsContent content →
-        IsContent (step_of net place content choice).after }
-    ensures back { (net : Network) (place : Place) (content : Content) (choice : ℕ) → IsContent content →
-        let after = (step_of net place content choice).after in
-        content_of (bytes_of content) ≡ content → content_of (bytes_of after) ≡ after }
+    ensures content { (net : Network) (place : Place) (content : Content) (choice : ℕ) →
+        IsContent content → IsContent (step_of net place content choice).after }
+    ensures back { (net : Network) (place : Place) (content : Content) (choice : ℕ) →
+        IsContent content → read_as place.family (bytes_of content) ≡ content →
+        let gave = step_of net place content choice in
+        read_as (family_after place gave.outcome) (bytes_of gave.after) ≡ gave.after }
+    ensures family { (net : Network) (place next : Place) (outcome : Outcome) →
+        next_place net place outcome ≡ Some next → next.family ≡ family_after place outcome }
 {}
 
 /// The stages of a walk begin at its place and follow one another, and are fewer than they may be
 /// only where they ended; no other stages do so.
 pub fn a_walk_follows_its_stages()
-    ensures is { (fuel : ℕ) (net : Network) (place : Option Place) (content : Content) (pick : ℕ → ℕ) (taken : ℕ) →
+    ensures is { (fuel : ℕ) (net : Network) (place : Option Place) (content : Content) →
+        (pick : ℕ → ℕ) (taken : ℕ) →
         IsWalk fuel net place content pick taken (walk_of fuel net place content pick taken) }
-    ensures one { (fuel : ℕ) (net : Network) (place : Option Place) (content : Content) (pick : ℕ → ℕ) (taken : ℕ) →
-        (steps : List Step) → IsWalk fuel net place content pick taken steps →
+    ensures one { (fuel : ℕ) (net : Network) (place : Option Place) (content : Content) →
+        (pick : ℕ → ℕ) (taken : ℕ) (steps : List Step) →
+        IsWalk fuel net place content pick taken steps →
         steps ≡ walk_of fuel net place content pick taken }
 {}
 
 /// A walk of fewer stages is the beginning of one of more, which goes on from where it stopped.
 pub fn a_walk_is_a_beginning()
-    ensures front { (m n : ℕ) (net : Network) (place : Option Place) (content : Content) (pick : ℕ → ℕ) (taken : ℕ) →
-        take m (walk_of (m + n) net place content pick taken) ≡ walk_of m net place content pick taken }
-    ensures rest { (m n : ℕ) (net : Network) (place : Option Place) (content : Content) (pick : ℕ → ℕ) (taken : ℕ) →
+    ensures front { (m n : ℕ) (net : Network) (place : Option Place) (content : Content) →
+        (pick : ℕ → ℕ) (taken : ℕ) →
+        take m (walk_of (m + n) net place content pick taken)
+        ≡ walk_of m net place content pick taken }
+    ensures rest { (m n : ℕ) (net : Network) (place : Option Place) (content : Content) →
+        (pick : ℕ → ℕ) (taken : ℕ) →
         let w = walk_of m net place content pick taken in
         let next = place_after net place w in
         walk_of (m + n) net place content pick taken
@@ -141,42 +212,51 @@ pub fn a_walk_is_a_beginning()
 
 /// A walk that ended stays as it is, however many stages it may have more.
 pub fn an_ended_walk_stays()
-    ensures { (m n : ℕ) (net : Network) (place : Option Place) (content : Content) (pick : ℕ → ℕ) (taken : ℕ) →
+    ensures { (m n : ℕ) (net : Network) (place : Option Place) (content : Content) →
+        (pick : ℕ → ℕ) (taken : ℕ) →
         let w = walk_of m net place content pick taken in
         place_after net place w ≡ None → walk_of (m + n) net place content pick taken ≡ w }
 {}
 
-/// A walk depends on the choices of the decisions that it may take alone, so each walk is that of some
-/// list of choices.
+/// A walk depends on the choices of the decisions that it may take alone, so each walk is that of
+/// some list of choices.
 pub fn a_walk_is_of_some_list()
-    ensures same { (fuel : ℕ) (net : Network) (place : Option Place) (content : Content) (pick other : ℕ → ℕ) →
-        (taken : ℕ) → ((d : ℕ) → taken ≤ d → d < taken + fuel → pick d ≡ other d) →
+    ensures same { (fuel : ℕ) (net : Network) (place : Option Place) (content : Content) →
+        (pick other : ℕ → ℕ) (taken : ℕ) →
+        ((d : ℕ) → taken ≤ d → d < taken + fuel → pick d ≡ other d) →
         walk_of fuel net place content pick taken ≡ walk_of fuel net place content other taken }
-    ensures list { (fuel : ℕ) (net : Network) (place : Option Place) (content : Content) (pick : ℕ → ℕ) →
+    ensures list { (fuel : ℕ) (net : Network) (place : Option Place) (content : Content) →
+        (pick : ℕ → ℕ) →
         (choices : List ℕ) × (0 < length choices) ×
-        (walk_of fuel net place content pick 0 ≡ walk_of fuel net place content (choice_at choices) 0) }
+        (walk_of fuel net place content pick 0
+        ≡ walk_of fuel net place content (choice_at choices) 0) }
 {}
 
 /// A walk has no more stages than it may have, so a run has at most 10,000 (own rule).
 pub fn a_run_has_few_stages()
-    ensures each { (fuel : ℕ) (net : Network) (place : Option Place) (content : Content) (pick : ℕ → ℕ) (taken : ℕ) →
+    ensures each { (fuel : ℕ) (net : Network) (place : Option Place) (content : Content) →
+        (pick : ℕ → ℕ) (taken : ℕ) →
         length (walk_of fuel net place content pick taken) ≤ fuel }
-    ensures run { (fuel : ℕ) (net : Network) (place : Option Place) (content : Content) (pick : ℕ → ℕ) (taken : ℕ) →
+    ensures run { (fuel : ℕ) (net : Network) (place : Option Place) (content : Content) →
+        (pick : ℕ → ℕ) (taken : ℕ) →
         fuel ≤ 10000 → length (walk_of fuel net place content pick taken) ≤ 10000 }
 {}
 
-/// Each stage of a walk from a place of a network is at a place, and gives an outcome that there is.
+/// Each stage of a walk from a place of a network is at a place, and gives an outcome that there
+/// is.
 pub fn a_walk_stays_at_places()
-    ensures { (fuel : ℕ) (net : Network) (place : Place) (content : Content) (pick : ℕ → ℕ) (taken : ℕ) →
-        IsNetwork net → IsPlace net place → AreStages net (walk_of fuel net (Some place) content pick taken) }
+    ensures { (fuel : ℕ) (net : Network) (place : Place) (content : Content) →
+        (pick : ℕ → ℕ) (taken : ℕ) → Keeps net → IsPlace net place →
+        AreStages net (walk_of fuel net (Some place) content pick taken) }
 {}
 
-/// Where the packet could go on after the last stage the stages were used, and only there; a walk of
-/// fewer stages than it may have has another end.
+/// Where the packet could go on after the last stage the stages were used, and only there; a walk
+/// of fewer stages than it may have has another end.
 pub fn a_walk_that_could_go_on_used_its_stages()
     ensures goes_on { (net : Network) (place : Option Place) (s : Step) (more : List Step) →
         (end_of net (s ∷ more) ≡ Ended.Stages) ↔ IsSome (place_after net place (s ∷ more)) }
-    ensures short { (fuel : ℕ) (net : Network) (place : Place) (content : Content) (pick : ℕ → ℕ) (taken : ℕ) →
+    ensures short { (fuel : ℕ) (net : Network) (place : Place) (content : Content) →
+        (pick : ℕ → ℕ) (taken : ℕ) →
         let w = walk_of fuel net (Some place) content pick taken in
         length w < fuel → end_of net w ≢ Ended.Stages }
 {}

@@ -65,6 +65,8 @@ pub enum Outcome {
     Drop {
         /// Why.
         reason: Reason,
+        /// Whether the node sends an ICMPv6 error about it.
+        error: bool,
     },
 }
 

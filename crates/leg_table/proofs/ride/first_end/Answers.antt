@@ -1,8 +1,9 @@
-use Rattle.leg_table.proofs.Courses.{first-within, end-within}
+use Rattle.std.proofs.Common.{◌∙◌}
+use Rattle.leg_table.proofs.Courses.{first_end-far, end-within}
 use Rattle.leg_table.proofs.ride.first_end.Goals as goal
 
-pub link-requires : goal.link-requires
-link-requires c = first-within c.args.net.now c.args.node c.args.set.now c.requires
+pub returns-clause-value : goal.returns-clause-value
+returns-clause-value c = c.far_end.ensures ∙ first_end-far c.args.net.now c.args.set.now c.requires.some
 
 pub returns-clause-is_there : goal.returns-clause-is_there
-returns-clause-is_there c = end-within c.args.net.now c.keeps_rules.ensures.facts _ c.link.result.now c.link.ensures
+returns-clause-is_there c = end-within c.args.net.now c.keeps_rules.ensures.facts _ c.far_end.result c.far_end.ensures

@@ -1,4 +1,5 @@
-use Rattle.walk_rules.proofs.Choices.{step-member, step-same}
+use Rattle.walk_rules.proofs.Choices.{step-same}
+use Rattle.walk_rules.proofs.Outcomes.{step-member}
 use Rattle.walk_rules.proofs.laws.only_a_send_depends_on_the_choice.Goals as goal
 
 pub returns : goal.returns

@@ -1,0 +1,27 @@
+use Rattle.node_stage.specs.Stepping.{IsHeader}
+use Rattle.node_stage.proofs.EndpointLemmas.{delivered-at_address, cut-at_address, fault-at_address, passed-at_address}
+use Rattle.node_stage.proofs.endpoint.fault_at_address.Goals as goal
+
+pub returns-in-Upper : goal.returns-in-Upper
+returns-in-Upper c = delivered-at_address c.args.packet.now c.headers.kind c.headers.at c.headers.invariant.same c.in-Upper.ensures
+
+pub returns-in-Cut : goal.returns-in-Cut
+returns-in-Cut c =
+    let cut = rw c.payload.ensures at c.in-Cut.ensures in
+    rw c.of.ensures (cut-at_address c.args.packet.now c.headers.kind c.headers.at c.headers.invariant.same cut.0 cut.1)
+
+pub returns-in-Some : goal.returns-in-Some
+returns-in-Some c =
+    fault-at_address c.args.packet.now c.headers.kind c.headers.at c.headers.invariant.same c.in-Header.next c.in-Header.behind
+    c.in-Some.fault (rw c.payload.ensures at c.in-Header.ensures) c.in-Some.ensures
+
+pub headers-preserved : goal.headers-preserved
+headers-preserved c =
+    let h : IsHeader c.args.packet.now.payload c.headers.kind c.headers.at c.in-Header.next c.in-Header.behind =
+    rw c.payload.ensures at c.in-Header.ensures in
+    record {
+      same =
+          passed-at_address c.args.packet.now c.headers.kind c.headers.at c.headers.invariant.same c.in-Header.next c.in-Header.behind h
+          c.in_default.ensures;
+      within = h.within;
+    }

@@ -1,0 +1,212 @@
+-- What holds of each outcome of a stage: what its ends leave, the error that it tells of, and the link that it names.
+use Rattle.std.proofs.Common.{◌≡◌, ℕ, Bool, true, false, List, Option, Some, None, slice_get, Contains, refl, sym, ◌∙◌, ap, subst}
+use Rattle.srv6_rules.specs.declared.sid.Behaviour.{Behaviour}
+use Rattle.srv6_rules.specs.declared.sid.Reason.{Reason}
+use Rattle.srv6_rules.specs.declared.sid.Reason.TheVariants as reasons
+use Rattle.srv6_rules.specs.declared.sid.SidEntry.{SidEntry}
+use Rattle.srv6_rules.specs.Packet.{Packet, Content, V6, Unreadable}
+use Rattle.srv6_rules.specs.Endpoint.{Endpoint, Onward, Exposed, Delivered, Refused, at_sid, at_address}
+use Rattle.srv6_rules.proofs.PublicLaws.{at_sid-delivered, at_address-delivered}
+use Rattle.net_model.specs.Network.{Network}
+use Rattle.walk_rules.specs.declared.place.Place.{Place}
+use Rattle.walk_rules.specs.declared.place.Outcome.{Outcome}
+use Rattle.walk_rules.specs.declared.place.Outcome.TheVariants as outcomes
+use Rattle.walk_rules.specs.Way.{Way, Away, Over, Own, Into, way_of}
+use Rattle.walk_rules.specs.Treatment.{Gave, dropped, goes, member_of, lowered, treated_at_address, treated_at_sid, treated_in, treated, step_of, allow_of}
+use Rattle.walk_rules.specs.Relation.{Sends, Treats, Stage}
+use Rattle.walk_rules.specs.Laws.{set_of, hops_at, TellsOfError}
+use Rattle.walk_rules.proofs.Choices.{sent-either}
+
+-- what is given at SID n of a node, whose entry is this one
+abbrev pub at_entry : Network → ℕ → ℕ → SidEntry → Packet → Gave
+at_entry net node n s p = treated_at_sid net node n s.behaviour p (at_sid s (allow_of (slice_get net.nodes node)) p)
+
+-- what is to be shown of each thing that a node may do with a packet, so that it holds of what the node does
+pub record EachWay (P : Gave → Type 0) (net : Network) (node : ℕ) (w : Way) (p : Packet) (choice : ℕ) : Type 0 where
+  pub drop : (reason : Reason) (at : ℕ) → P (dropped net node reason at (V6 p))
+  pub send : (set : List ℕ) (lower : Bool) → w ≡ Over set lower
+      → P (goes (outcomes.Send (member_of set choice)) (V6 (lowered lower p)))
+  pub own : P (treated_at_address net node p (at_address p))
+  pub sid : (n : ℕ) (s : SidEntry) → w ≡ Into n → slice_get net.sids n ≡ Some s → P (at_entry net node n s p)
+
+pub treated-each : (P : Gave → Type 0) (net : Network) (node : ℕ) (w : Way) (p : Packet) (choice : ℕ) → EachWay P net node w p choice
+    → P (treated net node w p choice)
+treated-each P net node w p choice each = by_way w refl
+  where
+    by_sid : (n : ℕ) (o : Option SidEntry) → w ≡ Into n → slice_get net.sids n ≡ o → P (treated_in net node n o p)
+    by_sid n None e there = each.drop reasons.NoRoute 0
+    by_sid n (Some s) e there = each.sid n s e there
+
+    by_way : (v : Way) → w ≡ v → P (treated net node v p choice)
+    by_way (Away reason) e = each.drop reason 0
+    by_way (Over set lower) e = sent-either P net node set lower p choice (each.drop reasons.HopLimit 0) (each.send set lower e)
+    by_way Own e = each.own
+    by_way (Into n) e = by_sid n (slice_get net.sids n) e refl
+
+-- what stands after an outcome that ends a packet here is what stood before
+abbrev Leaves : Content → Outcome → Content → Type 0
+Leaves content (outcomes.Send link) after = Unit {0}
+Leaves content (outcomes.Again n how) after = Unit {0}
+Leaves content (outcomes.Hand n how family) after = Unit {0}
+Leaves content outcomes.Local after = after ≡ content
+Leaves content (outcomes.Drop reason error) after = after ≡ content
+
+abbrev GaveLeaves : Content → Gave → Type 0
+GaveLeaves content gave = Leaves content gave.outcome gave.after
+
+address-leaves : (net : Network) (node : ℕ) (p : Packet) (e : Endpoint) → at_address p ≡ e
+    → GaveLeaves (V6 p) (treated_at_address net node p e)
+address-leaves net node p (Onward q) same = refl
+address-leaves net node p (Exposed family bytes) same = refl
+address-leaves net node p (Delivered q) same = ap V6 (at_address-delivered p q same)
+address-leaves net node p (Refused reason at) same = refl
+
+endpoint-leaves : (net : Network) (node n : ℕ) (s : SidEntry) (allow : List ℕ) (p : Packet) (e : Endpoint) → at_sid s allow p ≡ e
+    → GaveLeaves (V6 p) (treated_at_sid net node n s.behaviour p e)
+endpoint-leaves net node n s allow p (Onward q) same = tt
+endpoint-leaves net node n s allow p (Exposed family bytes) same = tt
+endpoint-leaves net node n s allow p (Delivered q) same = ap V6 (at_sid-delivered s allow p q same)
+endpoint-leaves net node n s allow p (Refused reason at) same = refl
+
+step-leaves : (net : Network) (place : Place) (content : Content) (choice : ℕ) → GaveLeaves content (step_of net place content choice)
+step-leaves net place (Unreadable bytes reason) choice = refl
+step-leaves net place (V6 p) choice =
+    treated-each (GaveLeaves (V6 p)) net place.node (way_of net place p.destination) p choice
+    (record {
+      drop = λ reason at. refl;
+      send = λ set lower e. tt;
+      own = address-leaves net place.node p (at_address p) refl;
+      sid = λ n s into there.
+          let allow = allow_of (slice_get net.nodes place.node) in
+          endpoint-leaves net place.node n s allow p (at_sid s allow p) refl;
+    })
+
+pub step-drop : (net : Network) (place : Place) (content : Content) (choice : ℕ) (reason : Reason) (error : Bool)
+    → (step_of net place content choice).outcome ≡ outcomes.Drop reason error → (step_of net place content choice).after ≡ content
+step-drop net place content choice reason error e =
+    subst (λ (o : Outcome). Leaves content o (step_of net place content choice).after) e (step-leaves net place content choice)
+
+pub step-local : (net : Network) (place : Place) (content : Content) (choice : ℕ)
+    → (step_of net place content choice).outcome ≡ outcomes.Local → (step_of net place content choice).after ≡ content
+step-local net place content choice e =
+    subst (λ (o : Outcome). Leaves content o (step_of net place content choice).after) e (step-leaves net place content choice)
+
+-- a drop tells whether an error is sent, and with another outcome none is
+abbrev GaveTells : Gave → Type 0
+GaveTells gave = TellsOfError gave.outcome gave.error
+
+address-tells : (net : Network) (node : ℕ) (p : Packet) (e : Endpoint) → GaveTells (treated_at_address net node p e)
+address-tells net node p (Onward q) = refl
+address-tells net node p (Exposed family bytes) = refl
+address-tells net node p (Delivered q) = refl
+address-tells net node p (Refused reason at) = refl
+
+endpoint-tells : (net : Network) (node n : ℕ) (b : Behaviour) (p : Packet) (e : Endpoint) → GaveTells (treated_at_sid net node n b p e)
+endpoint-tells net node n b p (Onward q) = refl
+endpoint-tells net node n b p (Exposed family bytes) = refl
+endpoint-tells net node n b p (Delivered q) = refl
+endpoint-tells net node n b p (Refused reason at) = refl
+
+pub step-tells : (net : Network) (place : Place) (content : Content) (choice : ℕ) → GaveTells (step_of net place content choice)
+step-tells net place (Unreadable bytes reason) choice = refl
+step-tells net place (V6 p) choice =
+    treated-each GaveTells net place.node (way_of net place p.destination) p choice
+    (record {
+      drop = λ reason at. refl;
+      send = λ set lower e. refl;
+      own = address-tells net place.node p (at_address p);
+      sid = λ n s e there. endpoint-tells net place.node n s.behaviour p (at_sid s (allow_of (slice_get net.nodes place.node)) p);
+    })
+
+-- a choice sends on the member that it names, and else nothing is sent
+abbrev Names : List ℕ → ℕ → Gave → Type 0
+Names set choice gave = (link : ℕ) → outcomes.Send link ≡ gave.outcome → link ≡ member_of set choice
+
+-- a SID or an address sends nothing
+address-quiet : (net : Network) (node : ℕ) (p : Packet) (x : Endpoint) (link : ℕ)
+    → outcomes.Send link ≡ (treated_at_address net node p x).outcome → ⊥
+address-quiet net node p (Onward q) link e = cc
+address-quiet net node p (Exposed family bytes) link e = cc
+address-quiet net node p (Delivered q) link e = cc
+address-quiet net node p (Refused reason at) link e = cc
+
+endpoint-quiet : (net : Network) (node n : ℕ) (b : Behaviour) (p : Packet) (x : Endpoint) (link : ℕ)
+    → outcomes.Send link ≡ (treated_at_sid net node n b p x).outcome → ⊥
+endpoint-quiet net node n b p (Onward q) link e = cc
+endpoint-quiet net node n b p (Exposed family bytes) link e = cc
+endpoint-quiet net node n b p (Delivered q) link e = cc
+endpoint-quiet net node n b p (Refused reason at) link e = cc
+
+sid-quiet : (net : Network) (node n : ℕ) (o : Option SidEntry) (p : Packet) (link : ℕ)
+    → outcomes.Send link ≡ (treated_in net node n o p).outcome → ⊥
+sid-quiet net node n None p link e = cc
+sid-quiet net node n (Some s) p link e =
+    endpoint-quiet net node n s.behaviour p (at_sid s (allow_of (slice_get net.nodes node)) p) link e
+
+drop-quiet : (reason : Reason) (error : Bool) (link : ℕ) → outcomes.Send link ≡ outcomes.Drop reason error → ⊥
+drop-quiet reason error link e = cc
+
+module _ (net : Network) (node : ℕ) where
+  sends-member : (set : List ℕ) (lower : Bool) (p : Packet) (link : ℕ) (after : Content) (error : Option Packet)
+      → Sends net node set lower p (outcomes.Send link) after error → Contains set link
+  sends-member set true p link after error h = h.0
+  sends-member set false p link after error h = h.0
+
+  sends-each : (set : List ℕ) (lower : Bool) (p : Packet) (link other : ℕ) (after : Content) (error : Option Packet)
+      → Sends net node set lower p (outcomes.Send link) after error → Contains set other
+      → Sends net node set lower p (outcomes.Send other) after error
+  sends-each set true p link other after error h there = (there, h.1, h.2, h.3)
+  sends-each set false p link other after error h there = (there, h.1, h.2)
+
+  treats-member : (w : Way) (p : Packet) (link : ℕ) (after : Content) (error : Option Packet)
+      → Treats net node w p (outcomes.Send link) after error → Contains (set_of w) link
+  treats-member (Away reason) p link after error h = absurd (drop-quiet reason _ link h.0)
+  treats-member (Over set lower) p link after error h = sends-member set lower p link after error h
+  treats-member Own p link after error h = absurd (address-quiet net node p (at_address p) link h.0)
+  treats-member (Into n) p link after error h = absurd (sid-quiet net node n (slice_get net.sids n) p link h.0)
+
+  treats-each : (w : Way) (p : Packet) (link other : ℕ) (after : Content) (error : Option Packet)
+      → Treats net node w p (outcomes.Send link) after error → Contains (set_of w) other
+      → Treats net node w p (outcomes.Send other) after error
+  treats-each (Away reason) p link other after error h there = absurd (drop-quiet reason _ link h.0)
+  treats-each (Over set lower) p link other after error h there = sends-each set lower p link other after error h there
+  treats-each Own p link other after error h there = absurd (address-quiet net node p (at_address p) link h.0)
+  treats-each (Into n) p link other after error h there = absurd (sid-quiet net node n (slice_get net.sids n) p link h.0)
+
+-- a stage sends on members of its set of equal next hops alone, and on each of them where it sends on one
+pub stage-member : (net : Network) (place : Place) (content : Content) (link : ℕ) (after : Content) (error : Option Packet)
+    → Stage net place content (outcomes.Send link) after error → Contains (hops_at net place content) link
+stage-member net place (Unreadable bytes reason) link after error h = absurd (drop-quiet reason _ link h.0)
+stage-member net place (V6 p) link after error h =
+    treats-member net place.node (way_of net place p.destination) p link after error h
+
+pub stage-each : (net : Network) (place : Place) (content : Content) (link other : ℕ) (after : Content) (error : Option Packet)
+    → Stage net place content (outcomes.Send link) after error → Contains (hops_at net place content) other
+    → Stage net place content (outcomes.Send other) after error
+stage-each net place (Unreadable bytes reason) link other after error h there = absurd (drop-quiet reason _ link h.0)
+stage-each net place (V6 p) link other after error h there =
+    treats-each net place.node (way_of net place p.destination) p link other after error h there
+
+-- a choice sends on the member that it names
+named : (set other : List ℕ) (choice link : ℕ) → set ≡ other → outcomes.Send link ≡ outcomes.Send (member_of set choice)
+    → link ≡ member_of other choice
+named set other choice link same e =
+    let here : link ≡ member_of set choice = cc in here ∙ ap (λ (links : List ℕ). member_of links choice) same
+
+step-names : (net : Network) (place : Place) (content : Content) (choice : ℕ)
+    → Names (hops_at net place content) choice (step_of net place content choice)
+step-names net place (Unreadable bytes reason) choice = λ link e. absurd (drop-quiet reason _ link e)
+step-names net place (V6 p) choice =
+    let node = place.node in
+    let w = way_of net place p.destination in
+    treated-each (Names (set_of w) choice) net node w p choice
+    (record {
+      drop = λ reason at link e. absurd (drop-quiet reason _ link e);
+      send = λ set lower over link e. named set (set_of w) choice link (ap set_of (sym over)) e;
+      own = λ link e. absurd (address-quiet net node p (at_address p) link e);
+      sid = λ n s into there link e. absurd (endpoint-quiet net node n s.behaviour p _ link e);
+    })
+
+pub step-member : (net : Network) (place : Place) (content : Content) (choice link : ℕ)
+    → (step_of net place content choice).outcome ≡ outcomes.Send link → link ≡ member_of (hops_at net place content) choice
+step-member net place content choice link e = step-names net place content choice link (sym e)
