@@ -1,7 +1,7 @@
 -- The chain of extension headers behind an IPv6 header (RFC 8200 section 4). Places count from the packet's first byte.
-use Rattle.std.specs.Prelude.{◌≡◌, ℕ, zero, suc, ◌+◌, ◌-◌, ◌*◌, ◌≤◌, Bool, true, ◌==◌, ◌&&◌, ◌||◌, nat_le, if◌then◌else◌, List, [], ◌∷◌, ◌++◌, length, take, drop, slice_index, slice_set}
+use Rattle.std.specs.Prelude.{◌≡◌, ◌⊎◌, ℕ, zero, suc, ◌+◌, ◌-◌, ◌*◌, ◌<◌, ◌≤◌, Bool, true, false, ◌==◌, ◌&&◌, ◌||◌, nat_le, if◌then◌else◌, List, [], ◌∷◌, ◌++◌, length, take, drop, slice_index, slice_set}
 use Rattle.srv6_rules.specs.declared.numbers.TheConstants.{HOP_BY_HOP, ROUTING, FRAGMENT, DESTINATION_OPTIONS, EXTENSION_UNIT, EXTENSION_LEN_AT, NEXT_HEADER_AT}
-use Rattle.srv6_rules.specs.Packet.{Packet, header_len}
+use Rattle.srv6_rules.specs.Packet.{Packet, header_len, spelling}
 use Rattle.srv6_rules.specs.Srh.{segment_routing, routing_type_at, segments_left_at}
 
 -- where a chain has come to: a place, the next-header value that names what stands there, and the place of the field that
@@ -93,6 +93,34 @@ chain_at p place = chain_from 0 place (from_place p place.at)
 -- the first of a packet's headers: the IPv6 header itself names it
 abbrev pub is_first : ChainPlace → Bool
 is_first place = place.named_at == NEXT_HEADER_AT
+
+-- the place where a chain ends
+abbrev pub place_of : ChainEnd → ChainPlace
+place_of (Upper place) = place
+place_of (Cut place) = place
+
+-- where a chain goes on behind a header: at its end, and its first byte names what stands there
+abbrev pub place_behind : Header → ChainPlace
+place_behind h = record { at = h.place.at + length h.bytes; kind = slice_index h.bytes 0; named_at = h.place.at }
+
+-- headers follow one another from a place up to another: each stands where the chain goes on behind the one before it
+abbrev pub Follow : ChainPlace → List Header → ChainPlace → Type 0
+Follow place [] last = place ≡ last
+Follow place (h ∷ hs) last = (h.place ≡ place) × Follow (place_behind h) hs last
+
+-- a place of a chain stands behind the IPv6 header, in the packet or at its end, and an earlier byte of the packet names
+-- it: the next header of the IPv6 header, or one behind that header
+pub record StandsIn (p : Packet) (place : ChainPlace) : Type 0 where
+  pub behind_header : header_len ≤ place.at
+  pub within : place.at ≤ header_len + length p.payload
+  pub earlier : place.named_at < place.at
+  pub field : (place.named_at ≡ NEXT_HEADER_AT) ⊎ (header_len ≤ place.named_at)
+  pub named : slice_index (spelling p) place.named_at ≡ place.kind
+
+-- an upper layer is what no extension header's value names; an extension header that is cut lacks bytes of its length
+abbrev pub EndsIn : Packet → ChainEnd → Type 0
+EndsIn p (Upper place) = is_extension place.kind ≡ false
+EndsIn p (Cut place) = (is_extension place.kind ≡ true) × (is_whole place.kind (from_place p place.at) ≡ false)
 
 -- a header lies whole in a packet, behind the IPv6 header, with the length that it states
 pub record LiesIn (p : Packet) (h : Header) : Type 0 where

@@ -1,6 +1,6 @@
 -- What a node does with a packet that came to one of its SIDs or to its own address: RFC 8986 sections 4.1, 4.2
 -- and 4.6 with the processing of RFC 8754 section 4.3.1.1, and RFC 8200 section 4.4 at an address.
-use Rattle.std.specs.Prelude.{◌≡◌, ◌≢◌, ◌⊎◌, ℕ, ◌+◌, ◌-◌, ◌<◌, ◌≤◌, Bool, true, ◌==◌, ◌||◌, nat_lt, nat_le, if◌then◌else◌, List, [], ◌∷◌, ◌++◌, length, drop, slice_index, slice_set, All}
+use Rattle.std.specs.Prelude.{◌≡◌, ◌≢◌, ◌⊎◌, ℕ, ◌+◌, ◌-◌, ◌<◌, ◌≤◌, Bool, true, ◌==◌, ◌||◌, nat_lt, nat_le, if◌then◌else◌, List, [], ◌∷◌, ◌++◌, length, slice_index, slice_set, All, Option, Some, None}
 use Rattle.std.specs.List.{list_any}
 use Rattle.srv6_rules.specs.declared.numbers.TheConstants.{HOP_LIMIT_AT, DESTINATION_AT}
 use Rattle.srv6_rules.specs.declared.sid.Family.{Family}
@@ -12,7 +12,7 @@ use Rattle.srv6_rules.specs.Behaviours.{goes_on, exposes, ipv6_inside}
 use Rattle.srv6_rules.specs.Packet.{Packet, header_len}
 use Rattle.srv6_rules.specs.Srh.{Srh, srh_of, entries_of, entry_of, segments_left_at, routing_type_at}
 use Rattle.srv6_rules.specs.Areas.{Fault, options_fault, tlvs_fault}
-use Rattle.srv6_rules.specs.Chain.{Header, ChainEnd, Upper, Cut, Chain, LiesIn, is_segment_routing, chain_of}
+use Rattle.srv6_rules.specs.Chain.{ChainPlace, Header, ChainEnd, Upper, Cut, Chain, LiesIn, hop_by_hop, fragment, destination_options, is_first, segments_left, is_segment_routing, from_place, chain_of}
 
 -- what came of a packet at a SID or an address: it goes on with another destination; the packet inside it, of a family
 -- and with the bytes from there on, is exposed; it is handed to the upper layer here; or it is dropped, for a fault at a
@@ -128,6 +128,10 @@ at_address p = let c = chain_of p in over_headers at_address_header c.headers (a
 -- a header is passed over: what comes of the packet is what comes of those behind it
 abbrev pub IsPassed : (Header → Endpoint → Endpoint) → Header → Type 0
 IsPassed treat h = (behind : Endpoint) → treat h behind ≡ behind
+
+-- a header decides: what comes of the packet there does not depend on those behind it
+abbrev pub Decides : (Header → Endpoint → Endpoint) → Header → Type 0
+Decides treat h = (one two : Endpoint) → treat h one ≡ treat h two
 
 -- a header stands in a chain behind headers that are passed over
 pub record IsReached (treat : Header → Endpoint → Endpoint) (headers : List Header) (h : Header) : Type 0 where
