@@ -236,7 +236,8 @@ lies-stated p h lies =
 -- ---- how places follow one another
 
 -- where a chain goes on behind a whole header
-pub behind-header_in : (q : ChainPlace) (bytes : List ℕ) → is_whole q.kind bytes ≡ true → place_behind (header_in q bytes) ≡ behind_in q bytes
+pub behind-header_in : (q : ChainPlace) (bytes : List ℕ) → is_whole q.kind bytes ≡ true
+    → place_behind (header_in q bytes) ≡ behind_in q bytes
 behind-header_in q bytes w =
     let n : ℕ = extension_bytes q.kind bytes in
     let parts = is_whole-parts q.kind bytes w in
