@@ -404,8 +404,8 @@ pub fn header_is_passed_over_or_refused_by_its_kind()
 
 /// A routing header with no segments left is passed over, whatever its type. One with segments
 /// left: a SID that goes on takes the step over a segment routing header, another SID refuses it
-/// for Segments Left, and any other routing header is unknown, at an address each (RFC 8754 section
-/// 4.3.1.1, RFC 8986 sections 4.1, 4.2 and 4.6, RFC 8200 section 4.4).
+/// for Segments Left, and any other routing header is unknown; at an address every one is (RFC 8754
+/// section 4.3.1.1, RFC 8986 sections 4.1, 4.2 and 4.6, RFC 8200 section 4.4).
 pub fn routing_header_is_passed_over_stepped_over_or_refused()
     ensures passed { (s : SidEntry) (p : Packet) (h : Header) → h.place.kind ≡ routing
         → segments_left h ≡ 0 → IsPassed (at_header s p) h }
