@@ -10,9 +10,10 @@ use Rattle.srv6_rules.specs.declared.sid.Reason.TheVariants as reasons
 use Rattle.srv6_rules.specs.declared.sid.SidEntry.{SidEntry}
 use Rattle.srv6_rules.specs.Behaviours.{goes_on, exposes, ipv6_inside}
 use Rattle.srv6_rules.specs.Packet.{Packet, V6, read_as}
-use Rattle.srv6_rules.specs.Srh.{Srh, srh_of, tlv_bytes, segments_left_at}
-use Rattle.srv6_rules.specs.Chain.{Header, ChainEnd, Upper, Cut, is_segment_routing, chain_of, chain_at, chain_within}
-use Rattle.srv6_rules.specs.Endpoint.{Endpoint, Onward, Exposed, Delivered, Refused, at_sid, at_header, at_end, over_headers, upper_layer, in_packet, next_segment, has_bad_segments, advanced}
+use Rattle.srv6_rules.specs.Srh.{Srh, srh_of, segments_left_at, routing_type_at}
+use Rattle.srv6_rules.specs.Areas.{Fault, options_fault, tlvs_fault}
+use Rattle.srv6_rules.specs.Chain.{Header, ChainEnd, Upper, Cut, hop_by_hop, fragment, destination_options, is_first, segments_left, is_segment_routing, from_place, chain_of, chain_from}
+use Rattle.srv6_rules.specs.Endpoint.{Endpoint, Onward, Exposed, Delivered, Refused, at_sid, at_header, at_end, over_headers, upper_layer, unless_fault, next_segment, has_bad_segments, advanced}
 use Rattle.net_model.specs.Network.{Network}
 use Rattle.walk_rules.specs.declared.place.Place.{Place}
 use Rattle.walk_rules.specs.declared.place.Outcome.{Outcome}
@@ -34,57 +35,73 @@ GoesOnAbove p treat =
 -- where a next segment is there, the step over the header depends on the hop limit alone
 segment_opens : (p : Packet) (at : ℕ) (s : Srh) → is_onward (next_segment (with_hop_limit 2 p) at s) ≡ true
     → GoesOnAbove p (λ q. next_segment q at s)
-segment_opens p at s on = by_tests (has_bad_segments s) (length (tlv_bytes s) == 0) refl refl on
+segment_opens p at s on = by_tests (has_bad_segments s) (tlvs_fault at s) refl refl on
   where
-    by_tests : (bad fits : Bool) → has_bad_segments s ≡ bad → (length (tlv_bytes s) == 0) ≡ fits
-        → is_onward (if bad then Refused reasons.BadSegments (in_packet (at + segments_left_at))
-        else if fits then Onward (advanced (with_hop_limit 2 p) at s) else Refused reasons.NotBuilt 0) ≡ true
+    by_tests : (bad : Bool) (fault : Option Fault) → has_bad_segments s ≡ bad → tlvs_fault at s ≡ fault
+        → is_onward (if bad then Refused reasons.BadSegments (at + segments_left_at)
+        else unless_fault fault (Onward (advanced (with_hop_limit 2 p) at s))) ≡ true
         → GoesOnAbove p (λ q. next_segment q at s)
-    by_tests true fits e f on = absurd (false≢true on)
-    by_tests false false e f on = absurd (false≢true on)
-    by_tests false true e f on = (
+    by_tests true fault e f on = absurd (false≢true on)
+    by_tests false (Some x) e f on = absurd (false≢true on)
+    by_tests false None e f on = (
       λ limit high. (advanced (with_hop_limit limit p) at s, rw (lt-leb limit 1 high, e, f) refl, refl),
       λ limit low. rw (le-leb limit 1 low) refl,
     )
 
 segment_hides : (p : Packet) (at : ℕ) (s : Srh) → is_exposed (next_segment p at s) ≡ true → ⊥
-segment_hides p at s on = by_tests (nat_le p.hop_limit 1) (has_bad_segments s) (length (tlv_bytes s) == 0) on
+segment_hides p at s on = by_tests (nat_le p.hop_limit 1) (has_bad_segments s) (tlvs_fault at s) on
   where
-    by_tests : (low bad fits : Bool)
+    by_tests : (low bad : Bool) (fault : Option Fault)
         → is_exposed (if low then Refused reasons.HopLimit 0
-        else if bad then Refused reasons.BadSegments (in_packet (at + segments_left_at))
-        else if fits then Onward (advanced p at s) else Refused reasons.NotBuilt 0) ≡ true → ⊥
-    by_tests true bad fits on = false≢true on
-    by_tests false true fits on = false≢true on
-    by_tests false false true on = false≢true on
-    by_tests false false false on = false≢true on
+        else if bad then Refused reasons.BadSegments (at + segments_left_at)
+        else unless_fault fault (Onward (advanced p at s))) ≡ true → ⊥
+    by_tests true bad fault on = false≢true on
+    by_tests false true fault on = false≢true on
+    by_tests false false (Some x) on = false≢true on
+    by_tests false false None on = false≢true on
+
+-- what comes of a header at a SID, by its tests, the step over it and what came of those behind it
+abbrev chosen : Bool → Bool → Bool → Bool → Option Fault → Bool → Bool → Bool → Header → Endpoint → Endpoint → Endpoint
+chosen hop first options part fault known none goes h step behind =
+    if hop then (if first then behind else Refused reasons.LateHopByHop h.place.named_at)
+    else if options then unless_fault fault behind
+    else if part then Refused reasons.Fragment h.place.at
+    else if known
+    then (if none then behind else if goes then step else Refused reasons.BadSegments (h.place.at + segments_left_at))
+    else (if none then behind else Refused reasons.UnknownRouting (h.place.at + routing_type_at))
 
 module _ (s : SidEntry) where
   -- no packet goes on from the end of its chain
   end_stays : (p : Packet) (end : ChainEnd) → is_onward (at_end s [] p end) ≡ true → ⊥
-  end_stays p Cut on = false≢true on
-  end_stays p (Upper kind at) on = by_test (exposes s kind) on
+  end_stays p (Cut place) on = false≢true on
+  end_stays p (Upper place) on = by_test (exposes s place.kind) on
     where
-      by_test : (t : Bool) → is_onward (if t then Exposed families.V6 (drop at p.payload) else upper_layer [] p kind at) ≡ true → ⊥
+      by_test : (t : Bool) → is_onward (if t then Exposed families.V6 (from_place p place.at) else upper_layer [] p place) ≡ true → ⊥
       by_test true on = false≢true on
       by_test false on = false≢true on
 
   header_opens : (p : Packet) (h : Header) (behind : Endpoint) (rest : Packet → Endpoint)
       → (is_onward behind ≡ true → GoesOnAbove p rest) → is_onward (at_header s (with_hop_limit 2 p) h behind) ≡ true
       → GoesOnAbove p (λ q. at_header s q h (rest q))
-  header_opens p h behind rest ih on = by_tests (is_segment_routing h) ((srh_of h.bytes).segments_left == 0) (goes_on s) on
+  header_opens p h behind rest ih on =
+      by_tests (h.place.kind == hop_by_hop) (is_first h.place) (h.place.kind == destination_options) (h.place.kind == fragment)
+      (options_fault h) (is_segment_routing h) (segments_left h == 0) (goes_on s) on
     where
-      by_tests : (routing none goes : Bool)
-          → is_onward (if routing
-          then (if none then behind else if goes then next_segment (with_hop_limit 2 p) h.at (srh_of h.bytes)
-          else Refused reasons.BadSegments (in_packet (h.at + segments_left_at))) else Refused reasons.NotBuilt 0) ≡ true
-          → GoesOnAbove p (λ q. if routing
-          then (if none then rest q else if goes then next_segment q h.at (srh_of h.bytes)
-          else Refused reasons.BadSegments (in_packet (h.at + segments_left_at))) else Refused reasons.NotBuilt 0)
-      by_tests true true goes on = ih on
-      by_tests true false true on = segment_opens p h.at (srh_of h.bytes) on
-      by_tests true false false on = absurd (false≢true on)
-      by_tests false none goes on = absurd (false≢true on)
+      by_tests : (hop first options part : Bool) (fault : Option Fault) (known none goes : Bool)
+          → is_onward (chosen hop first options part fault known none goes h
+          (next_segment (with_hop_limit 2 p) h.place.at (srh_of h.bytes)) behind) ≡ true
+          → GoesOnAbove p (λ q. chosen hop first options part fault known none goes h
+          (next_segment q h.place.at (srh_of h.bytes)) (rest q))
+      by_tests true true options part fault known none goes on = ih on
+      by_tests true false options part fault known none goes on = absurd (false≢true on)
+      by_tests false first true part None known none goes on = ih on
+      by_tests false first true part (Some x) known none goes on = absurd (false≢true on)
+      by_tests false first false true fault known none goes on = absurd (false≢true on)
+      by_tests false first false false fault true true goes on = ih on
+      by_tests false first false false fault true false true on = segment_opens p h.place.at (srh_of h.bytes) on
+      by_tests false first false false fault true false false on = absurd (false≢true on)
+      by_tests false first false false fault false true goes on = ih on
+      by_tests false first false false fault false false goes on = absurd (false≢true on)
 
   headers_open : (allow : List ℕ) (p : Packet) (hs : List Header) (end : ChainEnd)
       → is_onward (over_headers (at_header s (with_hop_limit 2 p)) hs (at_end s [] (with_hop_limit 2 p) end)) ≡ true
@@ -104,29 +121,34 @@ module _ (s : SidEntry) where
 
   end_shows : (allow : List ℕ) (p : Packet) (limit : ℕ) (end : ChainEnd) → is_exposed (at_end s [] p end) ≡ true
       → Shows (at_end s allow (with_hop_limit limit p) end)
-  end_shows allow p limit Cut on = absurd (false≢true on)
-  end_shows allow p limit (Upper kind at) on = by_test (exposes s kind) on
+  end_shows allow p limit (Cut place) on = absurd (false≢true on)
+  end_shows allow p limit (Upper place) on = by_test (exposes s place.kind) on
     where
-      by_test : (t : Bool) → is_exposed (if t then Exposed families.V6 (drop at p.payload) else upper_layer [] p kind at) ≡ true
-          → Shows (if t then Exposed families.V6 (drop at p.payload) else upper_layer allow (with_hop_limit limit p) kind at)
-      by_test true on = (families.V6, drop at p.payload, refl)
+      by_test : (t : Bool) → is_exposed (if t then Exposed families.V6 (from_place p place.at) else upper_layer [] p place) ≡ true
+          → Shows (if t then Exposed families.V6 (from_place p place.at) else upper_layer allow (with_hop_limit limit p) place)
+      by_test true on = (families.V6, from_place p place.at, refl)
       by_test false on = absurd (false≢true on)
 
   header_shows : (p q : Packet) (h : Header) (behind rest : Endpoint) → (is_exposed behind ≡ true → Shows rest)
       → is_exposed (at_header s p h behind) ≡ true → Shows (at_header s q h rest)
-  header_shows p q h behind rest ih on = by_tests (is_segment_routing h) ((srh_of h.bytes).segments_left == 0) (goes_on s) on
+  header_shows p q h behind rest ih on =
+      by_tests (h.place.kind == hop_by_hop) (is_first h.place) (h.place.kind == destination_options) (h.place.kind == fragment)
+      (options_fault h) (is_segment_routing h) (segments_left h == 0) (goes_on s) on
     where
-      by_tests : (routing none goes : Bool)
-          → is_exposed (if routing
-          then (if none then behind else if goes then next_segment p h.at (srh_of h.bytes)
-          else Refused reasons.BadSegments (in_packet (h.at + segments_left_at))) else Refused reasons.NotBuilt 0) ≡ true
-          → Shows (if routing
-          then (if none then rest else if goes then next_segment q h.at (srh_of h.bytes)
-          else Refused reasons.BadSegments (in_packet (h.at + segments_left_at))) else Refused reasons.NotBuilt 0)
-      by_tests true true goes on = ih on
-      by_tests true false true on = absurd (segment_hides p h.at (srh_of h.bytes) on)
-      by_tests true false false on = absurd (false≢true on)
-      by_tests false none goes on = absurd (false≢true on)
+      by_tests : (hop first options part : Bool) (fault : Option Fault) (known none goes : Bool)
+          → is_exposed (chosen hop first options part fault known none goes h
+          (next_segment p h.place.at (srh_of h.bytes)) behind) ≡ true
+          → Shows (chosen hop first options part fault known none goes h (next_segment q h.place.at (srh_of h.bytes)) rest)
+      by_tests true true options part fault known none goes on = ih on
+      by_tests true false options part fault known none goes on = absurd (false≢true on)
+      by_tests false first true part None known none goes on = ih on
+      by_tests false first true part (Some x) known none goes on = absurd (false≢true on)
+      by_tests false first false true fault known none goes on = absurd (false≢true on)
+      by_tests false first false false fault true true goes on = ih on
+      by_tests false first false false fault true false true on = absurd (segment_hides p h.place.at (srh_of h.bytes) on)
+      by_tests false first false false fault true false false on = absurd (false≢true on)
+      by_tests false first false false fault false true goes on = ih on
+      by_tests false first false false fault false false goes on = absurd (false≢true on)
 
   headers_show : (allow : List ℕ) (p : Packet) (limit : ℕ) (hs : List Header) (end : ChainEnd)
       → is_exposed (over_headers (at_header s p) hs (at_end s [] p end)) ≡ true
@@ -157,7 +179,7 @@ some_packet destination limit =
 
 some_packet-onward : (s : SidEntry) (destination limit : ℕ) → goes_on s ≡ true
     → is_onward (at_sid s [] (with_hop_limit 2 (some_packet destination limit))) ≡ true
-unfolding some_packet chain_at chain_within
+unfolding some_packet chain_from
 some_packet-onward s destination limit goes = rw goes refl
 
 some_packet-fields : (destination limit : ℕ)
@@ -181,7 +203,7 @@ last_packet destination limit =
 
 last_packet-exposed : (s : SidEntry) (destination limit : ℕ) → exposes s ipv6_inside ≡ true
     → is_exposed (at_sid s [] (last_packet destination limit)) ≡ true
-unfolding last_packet chain_at chain_within
+unfolding last_packet chain_from
 last_packet-exposed s destination limit shows = rw shows refl
 
 last_packet-fields : (destination limit : ℕ)

@@ -9,7 +9,7 @@ use Rattle.srv6_rules.specs.declared.sid.Reason.TheVariants as reasons
 use Rattle.srv6_rules.specs.declared.sid.SidEntry.{SidEntry}
 use Rattle.srv6_rules.specs.Packet.{Packet, Content, V6}
 use Rattle.srv6_rules.specs.Behaviours.{goes_on, exposes, ipv6_inside}
-use Rattle.srv6_rules.specs.Endpoint.{is_allowed, in_packet, Delivered, Refused}
+use Rattle.srv6_rules.specs.Endpoint.{is_allowed, Delivered, Refused}
 use Rattle.srv6_rules.specs.Encapsulation.{Encapsulation, at_segment, header_bytes}
 use Rattle.net_model.specs.Network.{Network}
 use Rattle.net_model.specs.Rules.{IsNetwork}
@@ -292,12 +292,12 @@ module _ (net : Network) (network : IsNetwork net) (flat : IsFlat net) (intent :
       p = at_segment e bytes i (hop - c.ride.lowered)
 
       at : ℕ
-      at = header_bytes e.reduced (length e.segments) - 40
+      at = header_bytes e.reduced (length e.segments)
 
       by_test : (t : Bool)
           → step_of net c.ride.place (V6 p) 0
           ≡ treated_at_sid net c.ride.place.node c.ride.sid c.sid.behaviour p
-          (if t then Delivered p else Refused reasons.UpperLayer (in_packet at)) → ⊥
+          (if t then Delivered p else Refused reasons.UpperLayer at) → ⊥
       by_test true gives = no-more net c.ride.place (V6 p) c.ride.left _ gives (λ later. refl) c.hands
       by_test false gives = no-more net c.ride.place (V6 p) c.ride.left _ gives (λ later. refl) c.hands
 

@@ -9,10 +9,10 @@ use Rattle.srv6_rules.specs.declared.sid.Family.TheVariants as families
 use Rattle.srv6_rules.specs.declared.sid.Reason.TheVariants as reasons
 use Rattle.srv6_rules.specs.declared.sid.SidEntry.{SidEntry}
 use Rattle.srv6_rules.specs.Behaviours.{goes_on, exposes, ipv6_inside}
-use Rattle.srv6_rules.specs.Packet.{V6, content_of}
-use Rattle.srv6_rules.specs.Endpoint.{Endpoint, at_sid, upper_layer, in_packet}
+use Rattle.srv6_rules.specs.Packet.{V6, header_len, content_of}
+use Rattle.srv6_rules.specs.Endpoint.{Endpoint, at_sid, upper_layer}
 use Rattle.srv6_rules.specs.Srh.{segments_left_at}
-use Rattle.srv6_rules.specs.Encapsulation.{Encapsulation, at_segment, header_bytes}
+use Rattle.srv6_rules.specs.Encapsulation.{Encapsulation, inner_place, at_segment}
 use Rattle.srv6_rules.proofs.PublicLaws.{at_segment-onward, at_segment-hop_limit, at_segment-bad_segments, at_segment-upper_layer, at_segment-exposed}
 use Rattle.net_model.specs.declared.net.Hit.{Hit}
 use Rattle.net_model.specs.declared.net.Hit.TheVariants as hits
@@ -109,7 +109,7 @@ module _ (net : Network) (e : Encapsulation) (bytes : List ℕ) (place : Place) 
   mid-low middle below low = stage-is ∙ ap given (at_segment-hop_limit s allow e bytes i hop middle below low)
 
   pub mid-stays : goes_on s ≡ false → i + 1 < length e.segments
-      → stage ≡ dropped net place.node reasons.BadSegments (in_packet segments_left_at) (V6 (at_segment e bytes i hop))
+      → stage ≡ dropped net place.node reasons.BadSegments (header_len + segments_left_at) (V6 (at_segment e bytes i hop))
   mid-stays stays below = stage-is ∙ ap given (at_segment-bad_segments s allow e bytes i hop stays below)
 
   -- at the last segment
@@ -118,7 +118,7 @@ module _ (net : Network) (e : Encapsulation) (bytes : List ℕ) (place : Place) 
   last-exposes shows end = stage-is ∙ ap given (at_segment-exposed s allow e bytes i hop shows end)
 
   pub last-keeps : exposes s ipv6_inside ≡ false → i + 1 ≡ length e.segments
-      → stage ≡ given (upper_layer allow (at_segment e bytes i hop) ipv6_inside (header_bytes e.reduced (length e.segments) - 40))
+      → stage ≡ given (upper_layer allow (at_segment e bytes i hop) (inner_place e))
   last-keeps keeps end = stage-is ∙ ap given (at_segment-upper_layer s allow e bytes i hop keeps end)
 
 -- the steps left behind an execution that meets the steps
