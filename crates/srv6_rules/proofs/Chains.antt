@@ -1,26 +1,16 @@
 -- The chain of extension headers: how it goes on from each place, and where its headers lie.
-use Rattle.std.proofs.Common.{◌≡◌, ℕ, zero, suc, ◌+◌, ◌*◌, ◌^◌, ◌<◌, ◌≤◌, Bool, true, false, ◌==◌, nat_le, if◌then◌else◌, List, [], ◌++◌, length, take, drop, slice_index, All, refl, sym, ap, subst, ◌∙◌, arith, ◌⊎◌, ◌||◌, inl, inr, length-drop}
+use Rattle.std.proofs.Common.{◌≡◌, ℕ, zero, suc, ◌+◌, ◌-◌, ◌*◌, ◌^◌, ◌<◌, ◌≤◌, Bool, true, false, ◌==◌, nat_le, if◌then◌else◌, List, [], ◌∷◌, ◌++◌, length, take, drop, slice_index, All, refl, sym, ap, subst, ◌∙◌, arith, ◌⊎◌, ◌||◌, inl, inr, length-drop}
 use Rattle.std.proofs.lemmas.List.{drop-drop, get_or-drop, get_or-take, length-append, length-take-le, take_at}
-use Rattle.std.proofs.lemmas.List.Elements.{All-nil, All-cons, All-take, All-drop}
-use Rattle.std.proofs.lemmas.Bool.{cases_Bool, or_cases, and_parts, and_from, eqb-true, leb-true, lt-leb, le-leb}
+use Rattle.std.proofs.lemmas.List.Elements.{All-nil, All-cons, All-head, All-tail, All-take, All-drop}
+use Rattle.std.proofs.lemmas.Bool.{cases_Bool, or_cases, and_parts, and_from, eqb-true, leb-true, le-leb}
+use Rattle.srv6_rules.specs.Packet.{Packet, header_len, spelling}
 use Rattle.srv6_rules.specs.Srh.{Srh, srh_spelling}
+use Rattle.srv6_rules.specs.Chain.{ChainPlace, Header, ChainEnd, Upper, Cut, Chain, LiesIn, StandsIn, EndsIn, Follow, hop_by_hop, routing, fragment, destination_options, is_extension, extension_bytes, is_whole, header_in, behind_in, behind, place_of, place_behind, chain_from, start_of, chain_of, chain_at, from_place}
+use Rattle.srv6_rules.proofs.Packets.{spelling-payload}
+use Rattle.srv6_rules.proofs.Edits.{spelling-next_header}
 use Rattle.srv6_rules.proofs.Headers.{length-srh_spelling}
-use Rattle.srv6_rules.specs.Chain.{Header, Chain, Upper, Cut, LiesIn, hop_by_hop, routing, fragment, destination_options, is_extension, extension_bytes, is_whole, behind, chain_within, chain_at, chain_behind, header_at}
 
 -- ---- one header and what follows
-
--- the chain where a header may stand, by the two tests, the header and the chain behind it
-went_on : Bool → Bool → Header → ℕ → ℕ → Chain → Chain
-went_on ext whole h kind at tail =
-    if ext then (if whole then behind h tail else record { headers = []; end = Cut }) else record { headers = []; end = Upper kind at }
-
-within-suc : (more kind at : ℕ) (bytes : List ℕ)
-    → chain_within (suc more) kind at bytes
-    ≡ went_on (is_extension kind) (is_whole kind bytes)
-    (record { kind = kind; at = at; bytes = take (extension_bytes kind bytes) bytes }) kind at
-    (chain_within more (slice_index bytes 0) (at + extension_bytes kind bytes) (drop (extension_bytes kind bytes) bytes))
-unfolding chain_within went_on
-within-suc more kind at bytes = refl
 
 -- the values that name extension headers
 pub extension-kinds : (kind : ℕ) → is_extension kind ≡ true → (kind ≡ 0) ⊎ ((kind ≡ 43) ⊎ ((kind ≡ 44) ⊎ (kind ≡ 60)))
@@ -43,270 +33,359 @@ extension_bytes-least kind bytes = elim (cases_Bool (kind == fragment)) [
   | inr other ↦ rw other (omega arith)
 ]
 
--- nothing is whole in fewer than 8 bytes
-short : (kind : ℕ) (bytes : List ℕ) → length bytes < 8 → is_whole kind bytes ≡ false
-short kind bytes h = rw (lt-leb 8 (length bytes) h) refl
-
 is_whole-parts : (kind : ℕ) (bytes : List ℕ) → is_whole kind bytes ≡ true → (8 ≤ length bytes) × (extension_bytes kind bytes ≤ length bytes)
 is_whole-parts kind bytes e =
     let both = and_parts (nat_le 8 (length bytes)) (nat_le (extension_bytes kind bytes) (length bytes)) e in
     (leb-true 8 (length bytes) both.0, leb-true (extension_bytes kind bytes) (length bytes) both.1)
 
--- ---- more steps than bytes make no difference
-
-went_on-not_whole : (ext whole : Bool) (h : Header) (kind at : ℕ) (tail : Chain) → whole ≡ false
-    → went_on ext whole h kind at tail ≡ record { headers = []; end = if ext then Cut else Upper kind at }
-unfolding went_on
-went_on-not_whole true true h kind at tail e = cc
-went_on-not_whole true false h kind at tail e = refl
-went_on-not_whole false whole h kind at tail e = refl
-
-went_on-tails : (ext whole : Bool) (h : Header) (kind at : ℕ) (one two : Chain) → (whole ≡ true → one ≡ two)
-    → went_on ext whole h kind at one ≡ went_on ext whole h kind at two
-unfolding went_on
-went_on-tails true true h kind at one two same = ap (λ t. behind h t) (same refl)
-went_on-tails true false h kind at one two same = refl
-went_on-tails false whole h kind at one two same = refl
-
-within-zero : (kind at : ℕ) (bytes : List ℕ)
-    → chain_within zero kind at bytes ≡ record { headers = []; end = if is_extension kind then Cut else Upper kind at }
-unfolding chain_within
-within-zero kind at bytes = refl
-
-within-at_end : (n kind at : ℕ) (bytes : List ℕ) → length bytes ≤ 0 → chain_within zero kind at bytes ≡ chain_within (suc n) kind at bytes
-within-at_end n kind at bytes h =
-    within-zero kind at bytes
-    ∙ sym (within-suc n kind at bytes
-    ∙ went_on-not_whole (is_extension kind) (is_whole kind bytes)
-    (record { kind = kind; at = at; bytes = take (extension_bytes kind bytes) bytes }) kind at
-    (chain_within n (slice_index bytes 0) (at + extension_bytes kind bytes) (drop (extension_bytes kind bytes) bytes))
-    (short kind bytes (omega arith)))
-
-pub within-enough : (m n kind at : ℕ) (bytes : List ℕ) → length bytes ≤ m → length bytes ≤ n
-    → chain_within m kind at bytes ≡ chain_within n kind at bytes
-within-enough zero zero kind at bytes hm hn = refl
-within-enough zero (suc n) kind at bytes hm hn = within-at_end n kind at bytes hm
-within-enough (suc m) zero kind at bytes hm hn = sym (within-at_end m kind at bytes hn)
-within-enough (suc m) (suc n) kind at bytes hm hn =
-    let k : ℕ = extension_bytes kind bytes in
-    let h : Header = record { kind = kind; at = at; bytes = take k bytes } in
-    let tails : is_whole kind bytes ≡ true
-    → chain_within m (slice_index bytes 0) (at + k) (drop k bytes) ≡ chain_within n (slice_index bytes 0) (at + k) (drop k bytes) =
-    λ e. let parts = is_whole-parts kind bytes e in
+is_whole-from : (kind : ℕ) (bytes : List ℕ) → extension_bytes kind bytes ≤ length bytes → is_whole kind bytes ≡ true
+is_whole-from kind bytes h =
     let least = extension_bytes-least kind bytes in
-    let len = length-drop k bytes in
-    within-enough m n (slice_index bytes 0) (at + k) (drop k bytes) (omega arith) (omega arith) in
-    within-suc m kind at bytes
-    ∙ went_on-tails (is_extension kind) (is_whole kind bytes) h kind at
-    (chain_within m (slice_index bytes 0) (at + k) (drop k bytes)) (chain_within n (slice_index bytes 0) (at + k) (drop k bytes)) tails
-    ∙ sym (within-suc n kind at bytes)
+    and_from (nat_le 8 (length bytes)) (nat_le (extension_bytes kind bytes) (length bytes))
+    (le-leb 8 (length bytes) (omega arith)) (le-leb (extension_bytes kind bytes) (length bytes) h)
 
--- the chain with any number of steps that is enough is the chain
-pub chain_at-within : (payload : List ℕ) (kind at n : ℕ) → length (drop at payload) ≤ n
-    → chain_at payload kind at ≡ chain_within n kind at (drop at payload)
+-- the chain behind so many bytes is the chain of those that are left
+chain_from-skip : (n : ℕ) (q : ChainPlace) (bytes : List ℕ) → chain_from n q bytes ≡ chain_from 0 q (drop n bytes)
+unfolding chain_from
+chain_from-skip zero q bytes = refl
+chain_from-skip (suc n) q [] = refl
+chain_from-skip (suc n) q (b ∷ bytes) = chain_from-skip n q bytes
+
+-- the chain where a header may stand, by the two tests, the header and the chain behind it
+went_on : Bool → Bool → ChainPlace → Header → Chain → Chain
+went_on ext whole q h tail =
+    if ext then (if whole then behind h tail else record { headers = []; end = Cut q }) else record { headers = []; end = Upper q }
+
+went_on-ended : (ext : Bool) (q : ChainPlace) (h : Header) (tail : Chain)
+    → record { headers = []; end = if ext then Cut q else Upper q } ≡ went_on ext false q h tail
+unfolding went_on
+went_on-ended true q h tail = refl
+went_on-ended false q h tail = refl
+
+chain_from-went_on : (q : ChainPlace) (bytes : List ℕ)
+    → chain_from 0 q bytes
+    ≡ went_on (is_extension q.kind) (is_whole q.kind bytes) q (header_in q bytes)
+    (chain_from 0 (behind_in q bytes) (drop (extension_bytes q.kind bytes) bytes))
+unfolding chain_from went_on
+chain_from-went_on q [] =
+    went_on-ended (is_extension q.kind) q (header_in q [])
+    (chain_from 0 (behind_in q []) (drop (extension_bytes q.kind []) []))
+chain_from-went_on q (b ∷ bytes) =
+    let n : ℕ = extension_bytes q.kind (b ∷ bytes) in
+    let least = extension_bytes-least q.kind (b ∷ bytes) in
+    let sum : suc (n - 1) ≡ n = omega arith in
+    let tail : chain_from (n - 1) (behind_in q (b ∷ bytes)) bytes ≡ chain_from 0 (behind_in q (b ∷ bytes)) (drop n (b ∷ bytes)) =
+    chain_from-skip (n - 1) (behind_in q (b ∷ bytes)) bytes
+    ∙ ap (λ k. chain_from 0 (behind_in q (b ∷ bytes)) (drop k (b ∷ bytes))) sum in
+    ap (went_on (is_extension q.kind) (is_whole q.kind (b ∷ bytes)) q (header_in q (b ∷ bytes))) tail
+
+-- what stands a header's length behind a place of a packet
+from_place-behind : (p : Packet) (at n : ℕ) → header_len ≤ at → drop n (from_place p at) ≡ from_place p (at + n)
+from_place-behind p at n start =
+    let sum : at - header_len + n ≡ at + n - header_len = omega arith in
+    drop-drop n (at - header_len) p.payload ∙ ap (λ k. drop k p.payload) sum
+
+chain_at-went_on : (p : Packet) (q : ChainPlace) → header_len ≤ q.at
+    → chain_at p q
+    ≡ went_on (is_extension q.kind) (is_whole q.kind (from_place p q.at)) q (header_in q (from_place p q.at))
+    (chain_at p (behind_in q (from_place p q.at)))
 unfolding chain_at
-chain_at-within payload kind at n h = within-enough (length (drop at payload)) n kind at (drop at payload) (omega arith) h
-
--- ---- how a chain goes on
-
-chain_at-went_on : (payload : List ℕ) (kind at : ℕ)
-    → chain_at payload kind at
-    ≡ went_on (is_extension kind) (is_whole kind (drop at payload)) (header_at payload kind at) kind at
-    (chain_behind payload kind at)
-chain_at-went_on payload kind at =
-    let bytes : List ℕ = drop at payload in
-    let k : ℕ = extension_bytes kind bytes in
-    let moved : drop k bytes ≡ drop (at + k) payload = drop-drop k at payload in
-    let len = length-drop k bytes in
-    let tail : chain_within (length bytes) (slice_index bytes 0) (at + k) (drop k bytes) ≡ chain_at payload (slice_index bytes 0) (at + k) =
-    ap (chain_within (length bytes) (slice_index bytes 0) (at + k)) moved
-    ∙ sym (chain_at-within payload (slice_index bytes 0) (at + k) (length bytes) (rw (← moved) (omega arith))) in
-    chain_at-within payload kind at (suc (length bytes)) (omega arith)
-    ∙ within-suc (length bytes) kind at bytes
-    ∙ ap (went_on (is_extension kind) (is_whole kind bytes) (header_at payload kind at) kind at) tail
+chain_at-went_on p q start =
+    let bytes : List ℕ = from_place p q.at in
+    chain_from-went_on q bytes
+    ∙ ap (λ xs. went_on (is_extension q.kind) (is_whole q.kind bytes) q (header_in q bytes) (chain_from 0 (behind_in q bytes) xs))
+    (from_place-behind p q.at (extension_bytes q.kind bytes) start)
 
 -- one equation for all cases
-pub chain_at-goes_on : (payload : List ℕ) (kind at : ℕ)
-    → chain_at payload kind at
-    ≡ (if is_extension kind
-    then (if is_whole kind (drop at payload)
-    then behind (header_at payload kind at) (chain_behind payload kind at)
-    else record { headers = []; end = Cut })
-    else record { headers = []; end = Upper kind at })
+pub chain_at-goes_on : (p : Packet) (q : ChainPlace) → header_len ≤ q.at
+    → chain_at p q
+    ≡ (if is_extension q.kind
+    then (if is_whole q.kind (from_place p q.at)
+    then behind (header_in q (from_place p q.at)) (chain_at p (behind_in q (from_place p q.at)))
+    else record { headers = []; end = Cut q })
+    else record { headers = []; end = Upper q })
 unfolding went_on
-chain_at-goes_on payload kind at = chain_at-went_on payload kind at
+chain_at-goes_on p q start = chain_at-went_on p q start
 
 -- a chain ends at an upper layer
-pub chain_at-upper : (payload : List ℕ) (kind at : ℕ) → is_extension kind ≡ false
-    → chain_at payload kind at ≡ record { headers = []; end = Upper kind at }
-chain_at-upper payload kind at e = chain_at-goes_on payload kind at ∙ rw e refl
+pub chain_at-upper : (p : Packet) (q : ChainPlace) → header_len ≤ q.at → is_extension q.kind ≡ false
+    → chain_at p q ≡ record { headers = []; end = Upper q }
+chain_at-upper p q start e = chain_at-goes_on p q start ∙ rw e refl
 
 -- a chain ends at a header that is cut
-pub chain_at-cut : (payload : List ℕ) (kind at : ℕ) → is_extension kind ≡ true → is_whole kind (drop at payload) ≡ false
-    → chain_at payload kind at ≡ record { headers = []; end = Cut }
-chain_at-cut payload kind at e w = chain_at-goes_on payload kind at ∙ rw (e, w) refl
+pub chain_at-cut : (p : Packet) (q : ChainPlace) → header_len ≤ q.at → is_extension q.kind ≡ true
+    → is_whole q.kind (from_place p q.at) ≡ false → chain_at p q ≡ record { headers = []; end = Cut q }
+chain_at-cut p q start e w = chain_at-goes_on p q start ∙ rw (e, w) refl
 
 -- a chain goes on behind a whole header
-pub chain_at-header : (payload : List ℕ) (kind at : ℕ) → is_extension kind ≡ true → is_whole kind (drop at payload) ≡ true
-    → chain_at payload kind at
-    ≡ behind (header_at payload kind at) (chain_behind payload kind at)
-chain_at-header payload kind at e w = chain_at-goes_on payload kind at ∙ rw (e, w) refl
+pub chain_at-header : (p : Packet) (q : ChainPlace) → header_len ≤ q.at → is_extension q.kind ≡ true
+    → is_whole q.kind (from_place p q.at) ≡ true
+    → chain_at p q ≡ behind (header_in q (from_place p q.at)) (chain_at p (behind_in q (from_place p q.at)))
+chain_at-header p q start e w = chain_at-goes_on p q start ∙ rw (e, w) refl
+
+-- a packet's chain starts behind its IPv6 header
+pub chain_of-start : (p : Packet) → chain_of p ≡ chain_at p (start_of p)
+unfolding chain_at
+chain_of-start p = refl
+
+-- ---- what is so of each chain
+
+-- what holds at an upper layer and at a header that is cut, and in front of each whole header if it holds behind it,
+-- holds of the chain of a packet from each place
+module _ (p : Packet) (P : ChainPlace → Chain → Type 0)
+    (cut : (q : ChainPlace) → is_extension q.kind ≡ true → is_whole q.kind (from_place p q.at) ≡ false
+    → P q (record { headers = []; end = Cut q }))
+    (upper : (q : ChainPlace) → is_extension q.kind ≡ false → P q (record { headers = []; end = Upper q }))
+    (more : (q : ChainPlace) (c : Chain) → header_len ≤ q.at → is_extension q.kind ≡ true
+    → is_whole q.kind (from_place p q.at) ≡ true → P (behind_in q (from_place p q.at)) c
+    → P q (behind (header_in q (from_place p q.at)) c)) where
+  went_on-by : (q : ChainPlace) (tail : Chain) (ext whole : Bool) → header_len ≤ q.at → is_extension q.kind ≡ ext
+      → is_whole q.kind (from_place p q.at) ≡ whole → (whole ≡ true → P (behind_in q (from_place p q.at)) tail)
+      → P q (went_on ext whole q (header_in q (from_place p q.at)) tail)
+  unfolding went_on
+  went_on-by q tail true true start e w rest = more q tail start e w (rest refl)
+  went_on-by q tail true false start e w rest = cut q e w
+  went_on-by q tail false whole start e w rest = upper q e
+
+  by_length : (n : ℕ) (q : ChainPlace) → header_len ≤ q.at → length (from_place p q.at) ≤ n → P q (chain_at p q)
+  by_length zero q start short =
+      let Q : Chain → Type 0 = λ c. P q c in
+      let bytes : List ℕ = from_place p q.at in
+      subst Q (sym (chain_at-went_on p q start))
+      (went_on-by q (chain_at p (behind_in q bytes)) (is_extension q.kind) (is_whole q.kind bytes) start refl refl
+      (λ w. let parts = is_whole-parts q.kind bytes w in absurd (omega arith)))
+  by_length (suc n) q start short =
+      let Q : Chain → Type 0 = λ c. P q c in
+      let bytes : List ℕ = from_place p q.at in
+      let k : ℕ = extension_bytes q.kind bytes in
+      let least = extension_bytes-least q.kind bytes in
+      let len : length (from_place p (q.at + k)) ≡ length bytes - k = ap length (sym (from_place-behind p q.at k start))
+      ∙ length-drop k bytes in
+      subst Q (sym (chain_at-went_on p q start))
+      (went_on-by q (chain_at p (behind_in q bytes)) (is_extension q.kind) (is_whole q.kind bytes) start refl refl
+      (λ w. let parts = is_whole-parts q.kind bytes w in by_length n (behind_in q bytes) (omega arith) (omega arith)))
+
+  chain_at-by : (q : ChainPlace) → header_len ≤ q.at → P q (chain_at p q)
+  chain_at-by q start = by_length (length (from_place p q.at)) q start (omega arith)
 
 -- ---- where headers lie
-
-went_on-all : (P : Header → Type 0) (ext whole : Bool) (h : Header) (kind at : ℕ) (tail : Chain)
-    → (ext ≡ true → whole ≡ true → P h) → (ext ≡ true → whole ≡ true → All P tail.headers)
-    → All P (went_on ext whole h kind at tail).headers
-unfolding went_on
-went_on-all P true true h kind at tail first more = All-cons P h tail.headers (first refl refl) (more refl refl)
-went_on-all P true false h kind at tail first more = All-nil P
-went_on-all P false whole h kind at tail first more = All-nil P
 
 -- a header's length is stated in its own bytes
 extension_bytes-take : (kind n : ℕ) (bytes : List ℕ) → 1 < n → extension_bytes kind (take n bytes) ≡ extension_bytes kind bytes
 extension_bytes-take kind n bytes h = rw (get_or-take n bytes 1 0 h) refl
 
--- the header at a place lies in the payload
-pub header_at-lies : (payload : List ℕ) (kind at : ℕ) → is_extension kind ≡ true → is_whole kind (drop at payload) ≡ true
-    → LiesIn payload (header_at payload kind at)
-header_at-lies payload kind at e w =
-    let bytes : List ℕ = drop at payload in
-    let n : ℕ = extension_bytes kind bytes in
-    let parts = is_whole-parts kind bytes w in
-    let least = extension_bytes-least kind bytes in
+-- a whole header at a place lies in the packet
+pub header_in-lies : (p : Packet) (q : ChainPlace) → header_len ≤ q.at → is_extension q.kind ≡ true
+    → is_whole q.kind (from_place p q.at) ≡ true → LiesIn p (header_in q (from_place p q.at))
+header_in-lies p q start e w =
+    let bytes : List ℕ = from_place p q.at in
+    let n : ℕ = extension_bytes q.kind bytes in
+    let parts = is_whole-parts q.kind bytes w in
+    let least = extension_bytes-least q.kind bytes in
     let len : length (take n bytes) ≡ n = length-take-le n bytes parts.1 in
-    let all = length-drop at payload in
+    let all = length-drop (q.at - header_len) p.payload in
     record {
       extension = e;
+      behind_header = start;
       within = omega arith;
       bytes = ap (λ k. take k bytes) (sym len);
       least = omega arith;
-      stated = len ∙ sym (extension_bytes-take kind n bytes (omega arith));
+      stated = len ∙ sym (extension_bytes-take q.kind n bytes (omega arith));
     }
 
-within-lies : (fuel kind at : ℕ) (payload : List ℕ) → All (LiesIn payload) (chain_within fuel kind at (drop at payload)).headers
-within-lies zero kind at payload =
-    let Q : Chain → Type 0 = λ c. All (LiesIn payload) c.headers in
-    subst Q (sym (within-zero kind at (drop at payload))) (All-nil (LiesIn payload))
-within-lies (suc more) kind at payload =
-    let bytes : List ℕ = drop at payload in
-    let k : ℕ = extension_bytes kind bytes in
-    let Q : Chain → Type 0 = λ c. All (LiesIn payload) c.headers in
-    let R : List ℕ → Type 0 = λ xs. All (LiesIn payload) (chain_within more (slice_index bytes 0) (at + k) xs).headers in
-    let tail = subst R (sym (drop-drop k at payload)) (within-lies more (slice_index bytes 0) (at + k) payload) in
-    subst Q (sym (within-suc more kind at bytes))
-    (went_on-all (LiesIn payload) (is_extension kind) (is_whole kind bytes) (header_at payload kind at) kind at
-    (chain_within more (slice_index bytes 0) (at + k) (drop k bytes)) (header_at-lies payload kind at) (λ e w. tail))
-
--- each header of a chain lies in the payload
-pub chain_at-lies : (payload : List ℕ) (kind at : ℕ) → All (LiesIn payload) (chain_at payload kind at).headers
-unfolding chain_at
-chain_at-lies payload kind at = within-lies (length (drop at payload)) kind at payload
+-- each header of a chain lies in the packet
+pub chain_at-lies : (p : Packet) (q : ChainPlace) → header_len ≤ q.at → All (LiesIn p) (chain_at p q).headers
+chain_at-lies p q start =
+    chain_at-by p (λ k c. All (LiesIn p) c.headers) (λ k e w. All-nil (LiesIn p)) (λ k e. All-nil (LiesIn p))
+    (λ k c from e w rest. All-cons (LiesIn p) (header_in k (from_place p k.at)) c.headers (header_in-lies p k from e w) rest) q start
 
 -- each byte of a header is one of the payload
-pub lies-bytes : (payload : List ℕ) (h : Header) → LiesIn payload h → All (λ b. b < 2 ^ 8) payload → All (λ b. b < 2 ^ 8) h.bytes
-lies-bytes payload h lies all =
+pub lies-bytes : (p : Packet) (h : Header) → LiesIn p h → All (λ b. b < 2 ^ 8) p.payload → All (λ b. b < 2 ^ 8) h.bytes
+lies-bytes p h lies all =
     let P : ℕ → Type 0 = λ b. b < 2 ^ 8 in
     let Q : List ℕ → Type 0 = λ xs. All P xs in
-    subst Q (sym lies.bytes) (All-take P (length h.bytes) (drop h.at payload) (All-drop P h.at payload all))
+    let n : ℕ = h.place.at - header_len in
+    subst Q (sym lies.bytes) (All-take P (length h.bytes) (drop n p.payload) (All-drop P n p.payload all))
 
 -- a byte of a header is the payload's at its place
-pub lies-at : (payload : List ℕ) (h : Header) (k : ℕ) → LiesIn payload h → k < length h.bytes
-    → slice_index h.bytes k ≡ slice_index payload (h.at + k)
-lies-at payload h k lies below =
-    ap (λ xs. slice_index xs k) lies.bytes ∙ get_or-take (length h.bytes) (drop h.at payload) k 0 below ∙ get_or-drop h.at payload k 0
+pub lies-at : (p : Packet) (h : Header) (k : ℕ) → LiesIn p h → k < length h.bytes
+    → slice_index h.bytes k ≡ slice_index p.payload (h.place.at + k - header_len)
+lies-at p h k lies below =
+    let n : ℕ = h.place.at - header_len in
+    let start = lies.behind_header in
+    let sum : n + k ≡ h.place.at + k - header_len = omega arith in
+    ap (λ xs. slice_index xs k) lies.bytes ∙ get_or-take (length h.bytes) (drop n p.payload) k 0 below ∙ get_or-drop n p.payload k 0
+    ∙ ap (slice_index p.payload) sum
 
--- a header's length is stated where it stands in the payload
-pub lies-stated : (payload : List ℕ) (h : Header) → LiesIn payload h → length h.bytes ≡ extension_bytes h.kind (drop h.at payload)
-lies-stated payload h lies =
+-- and the packet's
+pub lies-spelled : (p : Packet) (h : Header) (k : ℕ) → LiesIn p h → k < length h.bytes
+    → slice_index h.bytes k ≡ slice_index (spelling p) (h.place.at + k)
+lies-spelled p h k lies below =
+    let start = lies.behind_header in
+    let sum : 40 + (h.place.at + k - header_len) ≡ h.place.at + k = omega arith in
+    lies-at p h k lies below ∙ sym (spelling-payload p (h.place.at + k - header_len)) ∙ ap (slice_index (spelling p)) sum
+
+-- a header's length is stated where it stands in the packet
+pub lies-stated : (p : Packet) (h : Header) → LiesIn p h → length h.bytes ≡ extension_bytes h.place.kind (from_place p h.place.at)
+lies-stated p h lies =
     let least = lies.least in
     lies.stated
-    ∙ ap (λ xs. extension_bytes h.kind xs) lies.bytes
-    ∙ extension_bytes-take h.kind (length h.bytes) (drop h.at payload) (omega arith)
+    ∙ ap (λ xs. extension_bytes h.place.kind xs) lies.bytes
+    ∙ extension_bytes-take h.place.kind (length h.bytes) (from_place p h.place.at) (omega arith)
 
--- ---- where an upper layer stands
+-- ---- how places follow one another
 
--- an upper layer behind a place: no extension header's value names it, and it stands in the payload or at its end
-StandsFrom : List ℕ → ℕ → ℕ → ℕ → Type 0
-StandsFrom payload from kind at = (is_extension kind ≡ false) × (from ≤ at) × (at ≤ length payload)
+-- where a chain goes on behind a whole header
+behind-header_in : (q : ChainPlace) (bytes : List ℕ) → is_whole q.kind bytes ≡ true → place_behind (header_in q bytes) ≡ behind_in q bytes
+behind-header_in q bytes w =
+    let n : ℕ = extension_bytes q.kind bytes in
+    let parts = is_whole-parts q.kind bytes w in
+    let least = extension_bytes-least q.kind bytes in
+    let len : length (take n bytes) ≡ n = length-take-le n bytes parts.1 in
+    let first : slice_index (take n bytes) 0 ≡ slice_index bytes 0 = get_or-take n bytes 0 0 (omega arith) in
+    let one : ChainPlace = record { at = q.at + n; kind = slice_index (take n bytes) 0; named_at = q.at } in
+    let same_at : place_behind (header_in q bytes) ≡ one =
+    ap (λ k. record { at = q.at + k; kind = slice_index (take n bytes) 0; named_at = q.at }) len in
+    same_at ∙ ap (λ k. record { at = q.at + n; kind = k; named_at = q.at }) first
 
-went_on-upper : (payload : List ℕ) (ext whole : Bool) (h : Header) (kind at k a : ℕ) (tail : Chain) → is_extension kind ≡ ext
-    → at ≤ length payload
-    → (ext ≡ true → whole ≡ true → tail.end ≡ Upper k a → StandsFrom payload at k a) → (went_on ext whole h kind at tail).end ≡ Upper k a
-    → StandsFrom payload at k a
-unfolding went_on StandsFrom
-went_on-upper payload true true h kind at k a tail e start more is = more refl refl is
-went_on-upper payload true false h kind at k a tail e start more is = cc
-went_on-upper payload false whole h kind at k a tail e start more is =
-    let named : kind ≡ k = cc in
-    let place : at ≡ a = cc in
-    (ap (λ n. is_extension n) (sym named) ∙ e, omega arith, omega arith)
+-- the headers of a chain follow one another from its place to its end
+pub chain_at-follow : (p : Packet) (q : ChainPlace) → header_len ≤ q.at → Follow q (chain_at p q).headers (place_of (chain_at p q).end)
+chain_at-follow p q start =
+    chain_at-by p (λ k c. Follow k c.headers (place_of c.end)) (λ k e w. refl) (λ k e. refl)
+    (λ k c from e w rest.
+    let Q : ChainPlace → Type 0 = λ x. Follow x c.headers (place_of c.end) in
+    (refl, subst Q (sym (behind-header_in k (from_place p k.at) w)) rest)) q start
 
-ended-upper : (payload : List ℕ) (ext : Bool) (kind at k a : ℕ) → is_extension kind ≡ ext → at ≤ length payload
-    → (if ext then Cut else Upper kind at) ≡ Upper k a → StandsFrom payload at k a
-unfolding StandsFrom
-ended-upper payload true kind at k a e start is = cc
-ended-upper payload false kind at k a e start is =
-    let named : kind ≡ k = cc in
-    let place : at ≡ a = cc in
-    (ap (λ n. is_extension n) (sym named) ∙ e, omega arith, omega arith)
+-- places ascend
+pub follow-ascends : (q : ChainPlace) (hs : List Header) (last : ChainPlace) → Follow q hs last
+    → All (λ h. q.at ≤ h.place.at) hs × (q.at ≤ last.at)
+follow-ascends q [] last same =
+    let at : q.at ≡ last.at = ap (λ (x : ChainPlace). x.at) same in
+    (All-nil (λ h. q.at ≤ h.place.at), omega arith)
+follow-ascends q (h ∷ hs) last both =
+    let at : h.place.at ≡ q.at = ap (λ (x : ChainPlace). x.at) both.0 in
+    let rest = follow-ascends (place_behind h) hs last both.1 in
+    let behind = rest.1 in (
+      All-cons (λ x. q.at ≤ x.place.at) h hs (omega arith)
+          (λ k d below. let later = rest.0 k d below in omega arith),
+      omega arith,
+    )
 
-stands-before : (payload : List ℕ) (from later kind at : ℕ) → from ≤ later → StandsFrom payload later kind at
-    → StandsFrom payload from kind at
-unfolding StandsFrom
-stands-before payload from later kind at h s = (s.0, omega arith, s.2)
+-- ---- where headers and ends stand
 
-within-upper : (fuel kind at k a : ℕ) (payload : List ℕ) → at ≤ length payload
-    → (chain_within fuel kind at (drop at payload)).end ≡ Upper k a → StandsFrom payload at k a
-within-upper zero kind at k a payload start is =
-    ended-upper payload (is_extension kind) kind at k a refl start
-    (sym (ap (λ (c : Chain). c.end) (within-zero kind at (drop at payload))) ∙ is)
-within-upper (suc more) kind at k a payload start is =
-    let bytes : List ℕ = drop at payload in
-    let n : ℕ = extension_bytes kind bytes in
-    let moved : drop n bytes ≡ drop (at + n) payload = drop-drop n at payload in
-    let tail : is_extension kind ≡ true → is_whole kind bytes ≡ true
-    → (chain_within more (slice_index bytes 0) (at + n) (drop n bytes)).end ≡ Upper k a → StandsFrom payload at k a =
-    λ e w t.
-    let lies = header_at-lies payload kind at e w in
-    let parts = is_whole-parts kind bytes w in
-    let all = length-drop at payload in
-    let ends : (chain_within more (slice_index bytes 0) (at + n) (drop (at + n) payload)).end ≡ Upper k a =
-    sym (ap (λ xs. (chain_within more (slice_index bytes 0) (at + n) xs).end) moved) ∙ t in
-    stands-before payload at (at + n) k a (omega arith) (within-upper more (slice_index bytes 0) (at + n) k a payload (omega arith) ends) in
-    went_on-upper payload (is_extension kind) (is_whole kind bytes) (header_at payload kind at) kind at k a
-    (chain_within more (slice_index bytes 0) (at + n) (drop n bytes)) refl start tail
-    (sym (ap (λ (c : Chain). c.end) (within-suc more kind at bytes)) ∙ is)
+-- a chain starts at a place of the packet
+pub start-stands : (p : Packet) → StandsIn p (start_of p)
+start-stands p =
+    record {
+      behind_header = omega arith;
+      within = omega arith;
+      earlier = omega arith;
+      field = inl refl;
+      named = spelling-next_header p;
+    }
 
--- the upper layer of a chain that starts in the payload stands in the payload or at its end
-pub chain_at-upper_stands : (payload : List ℕ) (kind at k a : ℕ) → at ≤ length payload → (chain_at payload kind at).end ≡ Upper k a
-    → (is_extension k ≡ false) × (at ≤ a) × (a ≤ length payload)
-unfolding chain_at StandsFrom
-chain_at-upper_stands payload kind at k a start is = within-upper (length (drop at payload)) kind at k a payload start is
+-- and goes on at one
+pub behind-stands : (p : Packet) (q : ChainPlace) → StandsIn p q → is_whole q.kind (from_place p q.at) ≡ true
+    → StandsIn p (behind_in q (from_place p q.at))
+behind-stands p q s w =
+    let bytes : List ℕ = from_place p q.at in
+    let parts = is_whole-parts q.kind bytes w in
+    let least = extension_bytes-least q.kind bytes in
+    let start = s.behind_header in
+    let all = length-drop (q.at - header_len) p.payload in
+    let sum : 40 + (q.at - header_len + 0) ≡ q.at = omega arith in
+    let named : slice_index bytes 0 ≡ slice_index (spelling p) q.at =
+    get_or-drop (q.at - header_len) p.payload 0 0 ∙ sym (spelling-payload p (q.at - header_len + 0)) ∙ ap (slice_index (spelling p)) sum in
+    record {
+      behind_header = omega arith;
+      within = omega arith;
+      earlier = omega arith;
+      field = inr start;
+      named = sym named;
+    }
+
+-- each header of a chain and its end stand at places of the packet
+pub chain_at-stand : (p : Packet) (q : ChainPlace) → StandsIn p q
+    → All (λ h. StandsIn p h.place) (chain_at p q).headers × StandsIn p (place_of (chain_at p q).end)
+chain_at-stand p q s =
+    chain_at-by p (λ k c. StandsIn p k → All (λ h. StandsIn p h.place) c.headers × StandsIn p (place_of c.end))
+    (λ k e w is. (All-nil (λ h. StandsIn p h.place), is)) (λ k e is. (All-nil (λ h. StandsIn p h.place), is))
+    (λ k c from e w rest is.
+    let more = rest (behind-stands p k is w) in
+    (All-cons (λ h. StandsIn p h.place) (header_in k (from_place p k.at)) c.headers is more.0, more.1)) q s.behind_header s
+
+-- what stands where a chain ends
+pub chain_at-ends : (p : Packet) (q : ChainPlace) → header_len ≤ q.at → EndsIn p (chain_at p q).end
+chain_at-ends p q start = chain_at-by p (λ k c. EndsIn p c.end) (λ k e w. (e, w)) (λ k e. e) (λ k c from e w rest. rest) q start
+
+-- the upper layer of a chain that starts in the packet stands in the packet or at its end
+pub chain_at-upper_stands : (p : Packet) (q k : ChainPlace) → StandsIn p q → (chain_at p q).end ≡ Upper k
+    → (is_extension k.kind ≡ false) × (q.at ≤ k.at) × (k.at ≤ header_len + length p.payload)
+chain_at-upper_stands p q k s is =
+    let E : ChainEnd → Type 0 = λ e. EndsIn p e in
+    let F : ChainEnd → Type 0 = λ e. q.at ≤ (place_of e).at in
+    let S : ChainEnd → Type 0 = λ e. StandsIn p (place_of e) in
+    let order = (follow-ascends q (chain_at p q).headers (place_of (chain_at p q).end) (chain_at-follow p q s.behind_header)).1 in
+    let stands = subst S is (chain_at-stand p q s).1 in
+    (subst E is (chain_at-ends p q s.behind_header), subst F is order, stands.within)
+
+-- ---- headers that follow one another are the chain
+
+-- a header that lies in a packet is what its chain has at its place
+lies-whole : (p : Packet) (h : Header) → LiesIn p h → is_whole h.place.kind (from_place p h.place.at) ≡ true
+lies-whole p h lies =
+    let stated = lies-stated p h lies in
+    let start = lies.behind_header in
+    let within = lies.within in
+    let all = length-drop (h.place.at - header_len) p.payload in
+    is_whole-from h.place.kind (from_place p h.place.at) (omega arith)
+
+lies-header_in : (p : Packet) (h : Header) → LiesIn p h → header_in h.place (from_place p h.place.at) ≡ h
+lies-header_in p h lies =
+    let bytes : take (extension_bytes h.place.kind (from_place p h.place.at)) (from_place p h.place.at) ≡ h.bytes =
+    ap (λ n. take n (from_place p h.place.at)) (sym (lies-stated p h lies)) ∙ sym lies.bytes in
+    ap (λ xs. record { place = h.place; bytes = xs }) bytes
+
+-- the chain from the place of a header that lies in the packet
+pub lies-chain : (p : Packet) (h : Header) → LiesIn p h → chain_at p h.place ≡ behind h (chain_at p (place_behind h))
+lies-chain p h lies =
+    let bytes : List ℕ = from_place p h.place.at in
+    let w = lies-whole p h lies in
+    let same = lies-header_in p h lies in
+    chain_at-header p h.place lies.behind_header lies.extension w
+    ∙ ap (λ q. behind (header_in h.place bytes) (chain_at p q)) (sym (behind-header_in h.place bytes w))
+    ∙ ap (λ x. behind x (chain_at p (place_behind x))) same
+
+-- headers that lie in the packet and follow one another from a place are those that the chain has from there
+pub follow-chain : (p : Packet) (q : ChainPlace) (hs : List Header) (last : ChainPlace) → Follow q hs last → All (LiesIn p) hs
+    → chain_at p q ≡ record { headers = hs ++ (chain_at p last).headers; end = (chain_at p last).end }
+follow-chain p q [] last same all = ap (chain_at p) same
+follow-chain p q (h ∷ hs) last both all =
+    ap (chain_at p) (sym both.0)
+    ∙ lies-chain p h (All-head (LiesIn p) h hs all)
+    ∙ ap (behind h) (follow-chain p (place_behind h) hs last both.1 (All-tail (LiesIn p) h hs all))
 
 -- ---- a header that was spelled
 
 -- the chain from a place where a segment routing header was spelled
-pub chain_at-spelled : (payload : List ℕ) (at : ℕ) (s : Srh) (rest : List ℕ) → length s.body ≡ 8 * s.extension_len
-    → drop at payload ≡ srh_spelling s ++ rest
-    → chain_at payload routing at ≡ behind (record { kind = routing; at = at; bytes = srh_spelling s })
-    (chain_at payload s.next_header (at + length (srh_spelling s)))
-chain_at-spelled payload at s rest body there =
+pub chain_at-spelled : (p : Packet) (at named_at : ℕ) (s : Srh) (rest : List ℕ) → header_len ≤ at → length s.body ≡ 8 * s.extension_len
+    → from_place p at ≡ srh_spelling s ++ rest
+    → chain_at p (record { at = at; kind = routing; named_at = named_at })
+    ≡ behind (record { place = record { at = at; kind = routing; named_at = named_at }; bytes = srh_spelling s })
+    (chain_at p (record { at = at + length (srh_spelling s); kind = s.next_header; named_at = at }))
+chain_at-spelled p at named_at s rest start body there =
     let len = length-srh_spelling s in
-    let whole_len = length-append (srh_spelling s) rest in
-    let stated : extension_bytes routing (drop at payload) ≡ length (srh_spelling s) = ap (extension_bytes routing) there ∙ omega arith in
-    let all : length (drop at payload) ≡ length (srh_spelling s) + length rest = ap length there ∙ whole_len in
-    let whole : is_whole routing (drop at payload) ≡ true =
-    and_from (nat_le 8 (length (drop at payload))) (nat_le (extension_bytes routing (drop at payload)) (length (drop at payload)))
-    (le-leb 8 (length (drop at payload)) (omega arith))
-    (le-leb (extension_bytes routing (drop at payload)) (length (drop at payload)) (omega arith)) in
-    let bytes : take (extension_bytes routing (drop at payload)) (drop at payload) ≡ srh_spelling s =
-    ap (λ n. take n (drop at payload)) stated ∙ ap (take (length (srh_spelling s))) there
-    ∙ take_at (srh_spelling s) rest (length (srh_spelling s)) refl in
-    let next : slice_index (drop at payload) 0 ≡ s.next_header = ap (λ xs. slice_index xs 0) there in
-    chain_at-header payload routing at refl whole
-    ∙ ap (λ xs. behind (record { kind = routing; at = at; bytes = xs })
-    (chain_at payload (slice_index (drop at payload) 0) (at + extension_bytes routing (drop at payload)))) bytes
-    ∙ ap (λ k. behind (record { kind = routing; at = at; bytes = srh_spelling s })
-    (chain_at payload k (at + extension_bytes routing (drop at payload)))) next
-    ∙ ap (λ n. behind (record { kind = routing; at = at; bytes = srh_spelling s }) (chain_at payload s.next_header (at + n))) stated
+    let parts = length-append (srh_spelling s) rest in
+    let n : ℕ = length (srh_spelling s) in
+    let all : length (from_place p at) ≡ n + length rest = ap length there ∙ parts in
+    let room = length-drop (at - header_len) p.payload in
+    let h : Header = record { place = record { at = at; kind = routing; named_at = named_at }; bytes = srh_spelling s } in
+    let front : srh_spelling s ≡ take n (from_place p at) = sym (ap (take n) there ∙ take_at (srh_spelling s) rest n refl) in
+    lies-chain p h (record {
+      extension = refl;
+      behind_header = start;
+      within = omega arith;
+      bytes = front;
+      least = omega arith;
+      stated = len ∙ omega arith;
+    })

@@ -1,24 +1,27 @@
 -- A packet in an outer header with a segment list: its chain, and what SIDs do with it.
-use Rattle.std.proofs.Common.{◌≡◌, ℕ, ◌+◌, ◌-◌, ◌*◌, ◌/◌, ◌^◌, ◌<◌, ◌≤◌, Bool, true, false, not, ◌==◌, ◌||◌, nat_lt, nat_le, if◌then◌else◌, List, [], ◌∷◌, ◌++◌, length, take, drop, reverse, slice_index, slice_set, All, flat_map, refl, sym, ap, subst, ◌∙◌, arith, inl, inr, length-append, length-drop}
+use Rattle.std.proofs.Common.{◌≡◌, ℕ, ◌+◌, ◌-◌, ◌*◌, ◌/◌, ◌^◌, ◌<◌, ◌≤◌, Bool, true, false, not, ◌||◌, nat_lt, nat_le, if◌then◌else◌, List, [], ◌∷◌, ◌++◌, length, take, drop, reverse, slice_index, slice_set, All, flat_map, refl, sym, ap, subst, ◌∙◌, arith, inl, inr, length-append, length-drop}
 use Rattle.std.proofs.Math.Bool.{or-true}
-use Rattle.std.proofs.lemmas.Bool.{cases_Bool, cases_lt, or_from, lt-ltb, ltb-true, ltb-false, le-ltb, le-leb, lt-leb, eq-eqb}
+use Rattle.std.proofs.lemmas.Bool.{cases_Bool, cases_lt, or_from, lt-ltb, ltb-true, ltb-false, le-ltb, le-leb, lt-leb}
 use Rattle.std.proofs.lemmas.List.{append-nil, drop_all, drop_at, take_at, get_or-drop, get_or_past, get_or-reverse, length-reverse}
 use Rattle.std.proofs.lemmas.List.Elements.{All-nil, All-append, All-drop}
 use Rattle.srv6_rules.specs.declared.sid.Family.TheVariants as families
 use Rattle.srv6_rules.specs.declared.sid.Reason.TheVariants as reasons
 use Rattle.srv6_rules.specs.declared.sid.SidEntry.{SidEntry}
 use Rattle.srv6_rules.specs.Behaviours.{goes_on, exposes, ipv6_inside}
-use Rattle.srv6_rules.specs.Packet.{Packet, IsSpellable, most_len, spelling, two_bytes, two_number, address_bytes, address_number}
-use Rattle.srv6_rules.specs.Srh.{Srh, IsSrhSpellable, srh_of, srh_spelling, entry_of, tlv_bytes}
-use Rattle.srv6_rules.specs.Chain.{Header, Chain, Upper, routing, is_extension, behind, chain_at, chain_of}
+use Rattle.srv6_rules.specs.declared.numbers.TheConstants.{NEXT_HEADER_AT}
+use Rattle.std.specs.Prelude.{None}
+use Rattle.srv6_rules.specs.Packet.{Packet, IsSpellable, most_len, header_len, spelling, two_bytes, two_number, address_bytes, address_number}
+use Rattle.srv6_rules.specs.Srh.{Srh, IsSrhSpellable, srh_of, srh_spelling, entry_of, tlv_bytes, segments_left_at}
+use Rattle.srv6_rules.specs.Areas.{area_fault, tlv_fault, tlvs_fault}
+use Rattle.srv6_rules.specs.Chain.{ChainPlace, Header, Chain, Upper, routing, is_extension, behind, from_place, chain_at, chain_of}
 use Rattle.srv6_rules.specs.Endpoint.{Endpoint, Onward, Exposed, Refused, upper_layer, has_bad_segments, advanced, next_segment, over_headers, at_header, at_upper, at_end, at_sid}
-use Rattle.srv6_rules.specs.Encapsulation.{Encapsulation, segment_list, has_segment_routing, segment_routing_of, header_of, outer, at_segment, header_bytes, IsSpellableEncapsulation, inner_lowered, encapsulated}
+use Rattle.srv6_rules.specs.Encapsulation.{Encapsulation, segment_list, has_segment_routing, segment_routing_of, header_of, inner_place, outer, at_segment, header_bytes, IsSpellableEncapsulation, inner_lowered, encapsulated}
 use Rattle.srv6_rules.proofs.Bytes.{all-address_bytes, length-two_bytes, two_number-bytes}
 use Rattle.srv6_rules.proofs.Packets.{length-spelling, all-spelling}
 use Rattle.srv6_rules.proofs.Edits.{edit-hop_limit}
 use Rattle.srv6_rules.proofs.Headers.{length-srh_spelling, all-srh_spelling, entry-at, length-entries}
 use Rattle.srv6_rules.proofs.Chains.{chain_at-spelled, chain_at-upper}
-use Rattle.srv6_rules.proofs.Reached.{at_header-passed, at_header-steps, at_header-refuses}
+use Rattle.srv6_rules.proofs.Treatments.{at_header-passed, at_header-steps, at_header-refuses}
 
 -- ---- a segment routing header at the start of a payload
 
@@ -31,27 +34,39 @@ srh_of-spelled s tag body =
     ap (take (8 * s.extension_len)) (behind ∙ sym (append-nil s.body)) ∙ take_at s.body [] (8 * s.extension_len) body in
     rw (number, whole) refl
 
+-- where an outer packet's first header stands
+abbrev outer_start : ℕ → ChainPlace
+outer_start kind = record { at = header_len; kind = kind; named_at = NEXT_HEADER_AT }
+
 -- the chain of a segment routing header and the upper layer behind it
-pub spelled-chain : (s : Srh) (inner : List ℕ) → length s.body ≡ 8 * s.extension_len → is_extension s.next_header ≡ false
-    → chain_at (srh_spelling s ++ inner) routing 0
+pub spelled-chain : (p : Packet) (s : Srh) (inner : List ℕ) → p.next_header ≡ routing → p.payload ≡ srh_spelling s ++ inner
+    → length s.body ≡ 8 * s.extension_len → is_extension s.next_header ≡ false
+    → chain_of p
     ≡ record {
-      headers = record { kind = routing; at = 0; bytes = srh_spelling s } ∷ [];
-      end = Upper s.next_header (length (srh_spelling s));
+      headers = record { place = outer_start routing; bytes = srh_spelling s } ∷ [];
+      end = Upper (record { at = header_len + length (srh_spelling s); kind = s.next_header; named_at = header_len });
     }
-spelled-chain s inner body upper =
-    let h : Header = record { kind = routing; at = 0; bytes = srh_spelling s } in
-    let place : 0 + length (srh_spelling s) ≡ length (srh_spelling s) = omega arith in
-    chain_at-spelled (srh_spelling s ++ inner) 0 s inner body refl
-    ∙ ap (λ c. behind h c) (chain_at-upper (srh_spelling s ++ inner) s.next_header (0 + length (srh_spelling s)) upper)
-    ∙ ap (λ n. behind h (record { headers = []; end = Upper s.next_header n })) place
+unfolding chain_at
+spelled-chain p s inner kind whole body upper =
+    let h : Header = record { place = outer_start routing; bytes = srh_spelling s } in
+    let q : ChainPlace = record { at = header_len + length (srh_spelling s); kind = s.next_header; named_at = header_len } in
+    ap (λ k. chain_at p (outer_start k)) kind
+    ∙ chain_at-spelled p header_len NEXT_HEADER_AT s inner (omega arith) body whole
+    ∙ ap (behind h) (chain_at-upper p q (omega arith) upper)
+
+-- the chain of an upper layer alone
+pub bare-upper : (p : Packet) → is_extension p.next_header ≡ false
+    → chain_of p ≡ record { headers = []; end = Upper (outer_start p.next_header) }
+unfolding chain_at
+bare-upper p upper = chain_at-upper p (outer_start p.next_header) (omega arith) upper
 
 -- the step over a header with good segments and nothing behind its entries
-step-onward : (p : Packet) (at : ℕ) (s : Srh) → 1 < p.hop_limit → has_bad_segments s ≡ false → length (tlv_bytes s) ≡ 0
+step-onward : (p : Packet) (at : ℕ) (s : Srh) → 1 < p.hop_limit → has_bad_segments s ≡ false → tlv_bytes s ≡ []
     → next_segment p at s ≡ Onward (advanced p at s)
 step-onward p at s hop good none =
     let high : nat_le p.hop_limit 1 ≡ false = lt-leb p.hop_limit 1 hop in
-    let empty : (length (tlv_bytes s) == 0) ≡ true = eq-eqb (length (tlv_bytes s)) 0 none in
-    rw (high, good, empty) refl
+    let no_fault : tlvs_fault at s ≡ None = ap (area_fault tlv_fault 0 (at + 8 + 16 * (s.last_entry + 1))) none in
+    rw (high, good, no_fault) refl
 
 step-hop_limit : (p : Packet) (at : ℕ) (s : Srh) → p.hop_limit ≤ 1 → next_segment p at s ≡ Refused reasons.HopLimit 0
 step-hop_limit p at s hop =
@@ -130,10 +145,10 @@ module _ (e : Encapsulation) (left : ℕ) where
   pub length-header : length (srh_spelling (segment_routing_of e left)) ≡ 8 + 16 * length (segment_list e)
   length-header = length-srh_spelling (segment_routing_of e left) ∙ ap (λ n. 8 + n) (length-entries (segment_list e))
 
-  no_tlv_bytes : 0 < length (segment_list e) → length (tlv_bytes (segment_routing_of e left)) ≡ 0
+  no_tlv_bytes : 0 < length (segment_list e) → tlv_bytes (segment_routing_of e left) ≡ []
   no_tlv_bytes some =
       let all : length (flat_map address_bytes (segment_list e)) ≡ 16 * length (segment_list e) = length-entries (segment_list e) in
-      ap length (drop_all (16 * (length (segment_list e) - 1 + 1)) (flat_map address_bytes (segment_list e)) (omega arith))
+      drop_all (16 * (length (segment_list e) - 1 + 1)) (flat_map address_bytes (segment_list e)) (omega arith)
 
   good_segments : 0 < length (segment_list e) → left ≤ length (segment_list e) → has_bad_segments (segment_routing_of e left) ≡ false
   good_segments some within =
@@ -204,12 +219,18 @@ module _ (e : Encapsulation) (inner : List ℕ) (left hop destination : ℕ) whe
   routed-chain : chain_of (framed e routing (srh_spelling (segment_routing_of e left) ++ inner) hop destination)
       ≡ record {
         headers = header_of e left ∷ [];
-        end = Upper ipv6_inside (length (srh_spelling (segment_routing_of e left)));
+        end = Upper (record {
+          at = header_len + length (srh_spelling (segment_routing_of e left));
+          kind = ipv6_inside;
+          named_at = header_len;
+        });
       }
-  routed-chain = spelled-chain (segment_routing_of e left) inner (length-body e left) refl
+  routed-chain =
+      spelled-chain (framed e routing (srh_spelling (segment_routing_of e left) ++ inner) hop destination) (segment_routing_of e left)
+      inner refl refl (length-body e left) refl
 
-  bare-chain : chain_of (framed e ipv6_inside inner hop destination) ≡ record { headers = []; end = Upper ipv6_inside 0 }
-  bare-chain = chain_at-upper inner ipv6_inside 0 refl
+  bare-chain : chain_of (framed e ipv6_inside inner hop destination) ≡ record { headers = []; end = Upper (outer_start ipv6_inside) }
+  bare-chain = bare-upper (framed e ipv6_inside inner hop destination) refl
 
 -- ---- the length, and the place of the packet inside
 
@@ -240,7 +261,7 @@ length-outer e inner left hop destination = elim (cases_Bool (has_segment_routin
 
 -- behind the headers the packet is the inner one
 pub outer-inner : (e : Encapsulation) (inner : List ℕ) (left hop destination : ℕ)
-    → drop (header_bytes e.reduced (length e.segments) - 40) (outer e inner left hop destination).payload ≡ inner
+    → from_place (outer e inner left hop destination) (inner_place e).at ≡ inner
 outer-inner e inner left hop destination = elim (cases_Bool (has_segment_routing e)) [
   | inl has ↦
       let size = header-size e left has in
@@ -261,31 +282,31 @@ outer-inner e inner left hop destination = elim (cases_Bool (has_segment_routing
 abbrev outer_headers : Encapsulation → ℕ → Bool → List Header
 outer_headers e left has = if has then header_of e left ∷ [] else []
 
+-- the place of the inner packet behind so many bytes, where there is a segment routing header and where there is none
+abbrev place_behind_outer : ℕ → Bool → ChainPlace
+place_behind_outer at has = record { at = at; kind = ipv6_inside; named_at = if has then header_len else NEXT_HEADER_AT }
+
+abbrev outer_chain : Encapsulation → ℕ → ℕ → Bool → Chain
+outer_chain e left at has = record { headers = outer_headers e left has; end = Upper (place_behind_outer at has) }
+
 -- the segment routing header where the form has one, and the packet inside behind the header bytes
 pub outer-chain : (e : Encapsulation) (inner : List ℕ) (left hop destination : ℕ)
     → chain_of (outer e inner left hop destination)
-    ≡ record {
-      headers = if has_segment_routing e then header_of e left ∷ []
-          else [];
-      end = Upper ipv6_inside (header_bytes e.reduced (length e.segments) - 40);
-    }
+    ≡ record { headers = if has_segment_routing e then header_of e left ∷ [] else []; end = Upper (inner_place e) }
 outer-chain e inner left hop destination = elim (cases_Bool (has_segment_routing e)) [
   | inl has ↦
-      let size = header-size e left has in
-      let place : length (srh_spelling (segment_routing_of e left)) ≡ header_bytes e.reduced (length e.segments) - 40 = omega arith in
+      let size : header_len + length (srh_spelling (segment_routing_of e left)) ≡ header_bytes e.reduced (length e.segments) =
+      header-size e left has in
       ap (λ (p : Packet). chain_of p) (outer-routed e inner left hop destination has)
       ∙ routed-chain e inner left hop destination
-      ∙ ap (λ n. record { headers = outer_headers e left true; end = Upper ipv6_inside n }) place
-      ∙ ap (λ b. record { headers = outer_headers e left b; end = Upper ipv6_inside (header_bytes e.reduced (length e.segments) - 40) })
-      (sym has)
+      ∙ ap (λ n. outer_chain e left n true) size
+      ∙ ap (outer_chain e left (header_bytes e.reduced (length e.segments))) (sym has)
   | inr not ↦
-      let size = bare-size e not in
-      let place : 0 ≡ header_bytes e.reduced (length e.segments) - 40 = omega arith in
+      let size : header_len ≡ header_bytes e.reduced (length e.segments) = bare-size e not in
       ap (λ (p : Packet). chain_of p) (outer-bare e inner left hop destination not)
       ∙ bare-chain e inner left hop destination
-      ∙ ap (λ n. record { headers = outer_headers e left false; end = Upper ipv6_inside n }) place
-      ∙ ap (λ b. record { headers = outer_headers e left b; end = Upper ipv6_inside (header_bytes e.reduced (length e.segments) - 40) })
-      (sym not)
+      ∙ ap (λ n. outer_chain e left n false) size
+      ∙ ap (outer_chain e left (header_bytes e.reduced (length e.segments))) (sym not)
 ]
 
 -- ---- at a SID
@@ -298,23 +319,23 @@ over-one treat false h end passed = refl
 module _ (s : SidEntry) (allow : List ℕ) (e : Encapsulation) (inner : List ℕ) (left hop destination : ℕ) where
   outer-at_sid : at_sid s allow (outer e inner left hop destination)
       ≡ over_headers (at_header s (outer e inner left hop destination)) (outer_headers e left (has_segment_routing e))
-      (at_upper s allow (outer e inner left hop destination) ipv6_inside (header_bytes e.reduced (length e.segments) - 40))
+      (at_upper s allow (outer e inner left hop destination) (inner_place e))
   outer-at_sid =
       let p : Packet = outer e inner left hop destination in
       ap (λ (c : Chain). over_headers (at_header s p) c.headers (at_end s allow p c.end)) (outer-chain e inner left hop destination)
 
   -- with no segments left the packet inside is the upper layer
   pub outer-at_upper : left ≡ 0 → at_sid s allow (outer e inner left hop destination)
-      ≡ at_upper s allow (outer e inner left hop destination) ipv6_inside (header_bytes e.reduced (length e.segments) - 40)
+      ≡ at_upper s allow (outer e inner left hop destination) (inner_place e)
   outer-at_upper none =
       let p : Packet = outer e inner left hop destination in
-      let end : Endpoint = at_upper s allow p ipv6_inside (header_bytes e.reduced (length e.segments) - 40) in
+      let end : Endpoint = at_upper s allow p (inner_place e) in
       outer-at_sid
       ∙ over-one (at_header s p) (has_segment_routing e) (header_of e left) end
-      (at_header-passed s p (header_of e left) end (refl, none))
+      (at_header-passed s p (header_of e left) refl none end)
 
   pub outer-upper_layer : left ≡ 0 → exposes s ipv6_inside ≡ false → at_sid s allow (outer e inner left hop destination)
-      ≡ upper_layer allow (outer e inner left hop destination) ipv6_inside (header_bytes e.reduced (length e.segments) - 40)
+      ≡ upper_layer allow (outer e inner left hop destination) (inner_place e)
   outer-upper_layer none keeps = outer-at_upper none ∙ rw keeps refl
 
   pub outer-exposed : left ≡ 0 → exposes s ipv6_inside ≡ true
@@ -324,35 +345,36 @@ module _ (s : SidEntry) (allow : List ℕ) (e : Encapsulation) (inner : List ℕ
   -- with segments left
   outer-at_header : has_segment_routing e ≡ true → at_sid s allow (outer e inner left hop destination)
       ≡ at_header s (outer e inner left hop destination) (header_of e left)
-      (at_upper s allow (outer e inner left hop destination) ipv6_inside (header_bytes e.reduced (length e.segments) - 40))
+      (at_upper s allow (outer e inner left hop destination) (inner_place e))
   outer-at_header has =
       let p : Packet = outer e inner left hop destination in
-      let end : Endpoint = at_upper s allow p ipv6_inside (header_bytes e.reduced (length e.segments) - 40) in
+      let end : Endpoint = at_upper s allow p (inner_place e) in
       outer-at_sid ∙ ap (λ b. over_headers (at_header s p) (outer_headers e left b) end) has
 
   -- a SID that does not go on takes no segment routing header with segments left
   pub outer-bad_segments : has_segment_routing e ≡ true → 0 < left → goes_on s ≡ false
-      → at_sid s allow (outer e inner left hop destination) ≡ Refused reasons.BadSegments 43
+      → at_sid s allow (outer e inner left hop destination) ≡ Refused reasons.BadSegments (header_len + segments_left_at)
   outer-bad_segments has some stays =
       let p : Packet = outer e inner left hop destination in
-      let end : Endpoint = at_upper s allow p ipv6_inside (header_bytes e.reduced (length e.segments) - 40) in
+      let end : Endpoint = at_upper s allow p (inner_place e) in
       outer-at_header has ∙ at_header-refuses s p (header_of e left) end refl some stays
 
   step-at_sid : has_segment_routing e ≡ true → 0 < left → goes_on s ≡ true → at_sid s allow (outer e inner left hop destination)
-      ≡ next_segment (framed e routing (srh_spelling (segment_routing_of e left) ++ inner) hop destination) 0 (segment_routing_of e left)
+      ≡ next_segment (framed e routing (srh_spelling (segment_routing_of e left) ++ inner) hop destination) header_len
+      (segment_routing_of e left)
   step-at_sid has some goes =
       let p : Packet = outer e inner left hop destination in
-      let end : Endpoint = at_upper s allow p ipv6_inside (header_bytes e.reduced (length e.segments) - 40) in
+      let end : Endpoint = at_upper s allow p (inner_place e) in
       outer-at_header has
       ∙ at_header-steps s p (header_of e left) end refl some goes
-      ∙ ap (next_segment p 0) (read_back e left)
-      ∙ ap (λ (x : Packet). next_segment x 0 (segment_routing_of e left)) (outer-routed e inner left hop destination has)
+      ∙ ap (next_segment p header_len) (read_back e left)
+      ∙ ap (λ (x : Packet). next_segment x header_len (segment_routing_of e left)) (outer-routed e inner left hop destination has)
 
   pub outer-hop_limit : has_segment_routing e ≡ true → 0 < left → goes_on s ≡ true → hop ≤ 1
       → at_sid s allow (outer e inner left hop destination) ≡ Refused reasons.HopLimit 0
   outer-hop_limit has some goes low =
       step-at_sid has some goes
-      ∙ step-hop_limit (framed e routing (srh_spelling (segment_routing_of e left) ++ inner) hop destination) 0
+      ∙ step-hop_limit (framed e routing (srh_spelling (segment_routing_of e left) ++ inner) hop destination) header_len
       (segment_routing_of e left) low
 
   -- a SID that goes on makes the next segment the active one
@@ -366,7 +388,7 @@ module _ (s : SidEntry) (allow : List ℕ) (e : Encapsulation) (inner : List ℕ
       let p : Packet = framed e routing (srh_spelling header ++ inner) hop destination in
       let entry = next-entry e left some below all in
       step-at_sid has some goes
-      ∙ step-onward p 0 header high (good_segments e left (omega arith) (omega arith)) (no_tlv_bytes e left (omega arith))
+      ∙ step-onward p header_len header high (good_segments e left (omega arith) (omega arith)) (no_tlv_bytes e left (omega arith))
       ∙ ap (λ a. Onward (framed e routing (srh_spelling (segment_routing_of e (left - 1)) ++ inner) (hop - 1) a)) entry
       ∙ ap (λ (x : Packet). Onward x)
       (sym (outer-routed e inner (left - 1) (hop - 1) (slice_index e.segments (length e.segments - left)) has))
@@ -392,13 +414,13 @@ module _ (s : SidEntry) (allow : List ℕ) (e : Encapsulation) (inner : List ℕ
       (omega arith) goes low
 
   pub at_segment-bad_segments : goes_on s ≡ false → i + 1 < length e.segments
-      → at_sid s allow (at_segment e inner i hop) ≡ Refused reasons.BadSegments 43
+      → at_sid s allow (at_segment e inner i hop) ≡ Refused reasons.BadSegments (header_len + segments_left_at)
   at_segment-bad_segments stays below =
       outer-bad_segments s allow e inner (length e.segments - 1 - i) hop (slice_index e.segments i) (more-routing e (omega arith))
       (omega arith) stays
 
   pub at_segment-upper_layer : exposes s ipv6_inside ≡ false → i + 1 ≡ length e.segments → at_sid s allow (at_segment e inner i hop)
-      ≡ upper_layer allow (at_segment e inner i hop) ipv6_inside (header_bytes e.reduced (length e.segments) - 40)
+      ≡ upper_layer allow (at_segment e inner i hop) (inner_place e)
   at_segment-upper_layer keeps last =
       outer-upper_layer s allow e inner (length e.segments - 1 - i) hop (slice_index e.segments i) (omega arith) keeps
 

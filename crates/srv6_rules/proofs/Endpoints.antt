@@ -3,6 +3,7 @@ use Rattle.std.proofs.Common.{◌≡◌, ℕ, ◌+◌, ◌-◌, ◌*◌, ◌^◌
 use Rattle.std.proofs.lemmas.Bool.{leb-false, eqb-true, eqb-false}
 use Rattle.std.proofs.lemmas.List.{get_or-set_other, get_or-set_same, length-set}
 use Rattle.std.proofs.lemmas.List.Elements.{All-drop, All-set, All-take}
+use Rattle.std.specs.Prelude.{Option, None}
 use Rattle.srv6_rules.specs.declared.sid.Behaviour.{Behaviour}
 use Rattle.srv6_rules.specs.declared.sid.Behaviour.TheVariants.{End, EndX, Dt6}
 use Rattle.srv6_rules.specs.declared.sid.Family.{Family}
@@ -11,14 +12,17 @@ use Rattle.srv6_rules.specs.declared.sid.Reason.{Reason}
 use Rattle.srv6_rules.specs.declared.sid.Reason.TheVariants as reasons
 use Rattle.srv6_rules.specs.declared.sid.SidEntry.{SidEntry}
 use Rattle.srv6_rules.specs.Behaviours.{behaviour_goes_on, behaviour_exposes, goes_on, exposes, ipv6_inside}
-use Rattle.srv6_rules.specs.Packet.{Packet, V6, Unreadable, IsSpellable, IsContent, spelling, read_as, bytes_of}
-use Rattle.srv6_rules.specs.Srh.{srh_of, entry_of, tlv_bytes}
-use Rattle.srv6_rules.specs.Chain.{Header, ChainEnd, Upper, Cut, LiesIn, is_segment_routing, chain_of}
-use Rattle.srv6_rules.specs.Endpoint.{Endpoint, Onward, Exposed, Delivered, Refused, StepsTo, ChangesFewBytes, ExposesFrom, IsPassed, IsReached, in_packet, is_allowed, has_bad_segments, advanced, at_header, at_end, at_sid, at_address_header, at_address_end, at_address}
+use Rattle.srv6_rules.specs.Packet.{Packet, V6, Unreadable, IsSpellable, IsContent, header_len, spelling, read_as, bytes_of}
+use Rattle.srv6_rules.specs.Srh.{srh_of, entry_of, segments_left_at, routing_type_at}
+use Rattle.srv6_rules.specs.Areas.{Fault, tlvs_fault}
+use Rattle.srv6_rules.specs.Chain.{ChainPlace, Header, ChainEnd, Upper, Cut, LiesIn, StandsIn, segments_left, is_segment_routing, start_of, place_of, from_place, chain_at, chain_of}
+use Rattle.srv6_rules.specs.Endpoint.{Endpoint, Onward, Exposed, Delivered, Refused, StepsTo, ChangesFewBytes, ExposesFrom, IsPassed, IsReached, unless_fault, is_allowed, has_bad_segments, advanced, next_segment, at_segment_routing, unknown_routing, at_sid_routing, at_header, at_end, at_sid, at_address_header, at_address_end, at_address}
 use Rattle.srv6_rules.proofs.Bytes.{address_number-below, byte_below}
 use Rattle.srv6_rules.proofs.Packets.{content_of-is_content, content_of-bytes_of, length-spelling, reads-spelled, unreadable, spelling-agrees, spelling-hop_limit, spelling-payload}
-use Rattle.srv6_rules.proofs.Chains.{chain_at-upper_stands, lies-at, lies-bytes}
-use Rattle.srv6_rules.proofs.Reached.{over-reached, reached-lies}
+use Rattle.srv6_rules.proofs.AreaItems.{tlvs_fault-within}
+use Rattle.srv6_rules.proofs.Chains.{start-stands, chain_at-stand, lies-at, lies-bytes}
+use Rattle.srv6_rules.proofs.Reached.{over-reached, reached-lies, reached-stands}
+use Rattle.srv6_rules.proofs.Treatments.{fault_cases, by-kind}
 
 -- ---- the behaviours
 
@@ -58,101 +62,127 @@ goes_on-exposes s kind e = goes_on-exposes_by s.behaviour kind e
 -- ---- what is so of each outcome at a SID
 
 abbrev AtSid : SidEntry → Packet → Endpoint → Type 0
-AtSid s p (Onward q) = StepsTo p q
+AtSid s p (Onward q) = StepsTo s p q
 AtSid s p (Exposed family bytes) = ExposesFrom s p family bytes
 AtSid s p (Delivered q) = q ≡ p
-AtSid s p (Refused reason at) = at ≤ 40 + length p.payload
+AtSid s p (Refused reason at) = at ≤ header_len + length p.payload
+
+-- the chain of a packet ends at a place of it
+end-stands : (p : Packet) → StandsIn p (place_of (chain_of p).end)
+unfolding chain_at
+end-stands p = (chain_at-stand p (start_of p) (start-stands p)).1
 
 module _ (s : SidEntry) (p : Packet) where
-  steps : (h : Header) → IsReached (chain_of p).headers h → LiesIn p.payload h → is_segment_routing h ≡ true
-      → ((srh_of h.bytes).segments_left ≡ 0 → ⊥) → 1 < p.hop_limit → StepsTo p (advanced p h.at (srh_of h.bytes))
-  steps h reached lies routing some above =
-      let least = lies.least in
-      let read = lies-at p.payload h 3 lies (omega arith) in
-      let positive : 0 < slice_index h.bytes 3 = omega arith in
+  steps : (h : Header) → IsReached (at_header s p) (chain_of p).headers h → LiesIn p h → is_segment_routing h ≡ true
+      → (segments_left h ≡ 0 → ⊥) → 1 < p.hop_limit → tlvs_fault h.place.at (srh_of h.bytes) ≡ None
+      → StepsTo s p (advanced p h.place.at (srh_of h.bytes))
+  steps h reached lies routing some above good =
       record {
         header = h;
-        left = slice_index h.bytes 3 - 1;
+        left = segments_left h - 1;
         reached = reached;
         routing = routing;
         lies = lies;
         above_one = above;
         hop_limit = omega arith;
-        was_left = sym read ∙ omega arith;
+        was_left = omega arith;
+        no_fault = good;
         destination = refl;
         payload = refl;
         others = refl;
       }
 
-  header-by : (h : Header) → IsReached (chain_of p).headers h → LiesIn p.payload h
-      → (rest : Endpoint) → (IsPassed h → AtSid s p rest) → (routing none goes low bad empty : Bool)
-      → is_segment_routing h ≡ routing → ((srh_of h.bytes).segments_left == 0) ≡ none → nat_le p.hop_limit 1 ≡ low
-      → AtSid s p (if routing
-      then (if none then rest
-      else if goes
-      then (if low then Refused reasons.HopLimit 0
-      else if bad then Refused reasons.BadSegments (in_packet (h.at + 3))
-      else if empty then Onward (advanced p h.at (srh_of h.bytes))
-      else Refused reasons.NotBuilt 0)
-      else Refused reasons.BadSegments (in_packet (h.at + 3)))
-      else Refused reasons.NotBuilt 0)
-  header-by h reached lies rest more false none goes low bad empty er en el = omega arith
-  header-by h reached lies rest more true true goes low bad empty er en el = more (er, eqb-true (srh_of h.bytes).segments_left 0 en)
-  header-by h reached lies rest more true false false low bad empty er en el =
+  next-by : (h : Header) → LiesIn p h → (low bad : Bool)
+      → nat_le p.hop_limit 1 ≡ low
+      → (1 < p.hop_limit → tlvs_fault h.place.at (srh_of h.bytes) ≡ None → AtSid s p (Onward (advanced p h.place.at (srh_of h.bytes))))
+      → AtSid s p (if low then Refused reasons.HopLimit 0
+      else if bad then Refused reasons.BadSegments (h.place.at + segments_left_at)
+      else unless_fault (tlvs_fault h.place.at (srh_of h.bytes)) (Onward (advanced p h.place.at (srh_of h.bytes))))
+  next-by h lies true bad el onward = omega arith
+  next-by h lies false true el onward =
       let within = lies.within in
       let least = lies.least in
       omega arith
-  header-by h reached lies rest more true false true true bad empty er en el = omega arith
-  header-by h reached lies rest more true false true false true empty er en el =
+  next-by h lies false false el onward =
       let within = lies.within in
-      let least = lies.least in
-      omega arith
-  header-by h reached lies rest more true false true false false false er en el = omega arith
-  header-by h reached lies rest more true false true false false true er en el =
-      steps h reached lies er (eqb-false (srh_of h.bytes).segments_left 0 en) (leb-false p.hop_limit 1 el)
+      let P : Option Fault → Type 0 = λ f. AtSid s p (unless_fault f (Onward (advanced p h.place.at (srh_of h.bytes)))) in
+      elim (fault_cases (tlvs_fault h.place.at (srh_of h.bytes))) [
+        | inl good ↦ subst P (sym good) (onward (leb-false p.hop_limit 1 el) good)
+        | inr (f, bad) ↦ let place = tlvs_fault-within p h f lies bad in subst P (sym bad) (omega arith)
+      ]
 
-  at_header-is : (h : Header) → IsReached (chain_of p).headers h → (rest : Endpoint) → (IsPassed h → AtSid s p rest)
-      → AtSid s p (at_header s p h rest)
+  known-by : (h : Header) → LiesIn p h → (rest : Endpoint) → (none goes : Bool) → (segments_left h == 0) ≡ none
+      → (none ≡ true → AtSid s p rest)
+      → ((segments_left h ≡ 0 → ⊥) → AtSid s p (next_segment p h.place.at (srh_of h.bytes)))
+      → AtSid s p (if none then rest
+      else if goes then next_segment p h.place.at (srh_of h.bytes)
+      else Refused reasons.BadSegments (h.place.at + segments_left_at))
+  known-by h lies rest true goes en more next = more refl
+  known-by h lies rest false true en more next = next (eqb-false (segments_left h) 0 en)
+  known-by h lies rest false false en more next =
+      let within = lies.within in
+      let least = lies.least in
+      omega arith
+
+  routing-by_type : (h : Header) → IsReached (at_header s p) (chain_of p).headers h → LiesIn p h
+      → (rest : Endpoint) → (IsPassed (at_sid_routing s p) h → AtSid s p rest) → (known none : Bool)
+      → is_segment_routing h ≡ known → (segments_left h == 0) ≡ none
+      → AtSid s p (if known then at_segment_routing s p h.place.at (srh_of h.bytes) rest
+      else if none then rest else Refused reasons.UnknownRouting (h.place.at + routing_type_at))
+  routing-by_type h reached lies rest more true none er en =
+      known-by h lies rest (segments_left h == 0) (goes_on s) refl (λ zero. more (λ x. rw (er, zero) refl))
+      (λ some. next-by h lies (nat_le p.hop_limit 1) (has_bad_segments (srh_of h.bytes)) refl
+      (λ above good. steps h reached lies er some above good))
+  routing-by_type h reached lies rest more false true er en = more (λ x. rw (er, en) refl)
+  routing-by_type h reached lies rest more false false er en =
+      let within = lies.within in
+      let least = lies.least in
+      omega arith
+
+  at_header-is : (h : Header) → IsReached (at_header s p) (chain_of p).headers h → (rest : Endpoint)
+      → (IsPassed (at_header s p) h → AtSid s p rest) → AtSid s p (at_header s p h rest)
+  unfolding chain_at
   at_header-is h reached rest more =
-      header-by h reached (reached-lies p.payload p.next_header 0 h reached) rest more
-      (is_segment_routing h) ((srh_of h.bytes).segments_left == 0) (goes_on s) (nat_le p.hop_limit 1)
-      (has_bad_segments (srh_of h.bytes)) (length (tlv_bytes (srh_of h.bytes)) == 0) refl refl refl
+      let lies = reached-lies (at_header s p) p (start_of p) h (omega arith) reached in
+      let stands = reached-stands (at_header s p) p (start_of p) h (start-stands p) reached in
+      let within = lies.within in
+      by-kind (at_sid_routing s p) h p (AtSid s p) rest lies stands more (λ reason at below. omega arith)
+      (λ same. routing-by_type h reached lies rest (λ passed. more (λ x. same x ∙ passed x))
+      (is_segment_routing h) (segments_left h == 0) refl refl)
 
-  upper-by : (kind at : ℕ) → (chain_of p).end ≡ Upper kind at → All IsPassed (chain_of p).headers → at ≤ length p.payload
-      → (exposed allowed : Bool) → exposes s kind ≡ exposed
-      → AtSid s p (if exposed then Exposed families.V6 (drop at p.payload)
-      else if allowed then Delivered p else Refused reasons.UpperLayer (in_packet at))
-  upper-by kind at upper passed within true allowed e =
+  upper-by : (place : ChainPlace) → (chain_of p).end ≡ Upper place → All (IsPassed (at_header s p)) (chain_of p).headers
+      → StandsIn p place → (exposed allowed : Bool) → exposes s place.kind ≡ exposed
+      → AtSid s p (if exposed then Exposed families.V6 (from_place p place.at)
+      else if allowed then Delivered p else Refused reasons.UpperLayer place.at)
+  upper-by place upper passed stands true allowed e =
       record {
-        kind = kind;
-        at = at;
+        place = place;
         upper = upper;
         passed = passed;
         exposed = e;
-        is_family = ((exposes-is s kind e).0, refl);
-        within = within;
+        is_family = ((exposes-is s place.kind e).0, refl);
+        within = stands.within;
         inside = refl;
       }
-  upper-by kind at upper passed within false true e = refl
-  upper-by kind at upper passed within false false e = omega arith
+  upper-by place upper passed stands false true e = refl
+  upper-by place upper passed stands false false e = stands.within
 
-  at_end-is : (allow : List ℕ) (end : ChainEnd) → (chain_of p).end ≡ end → All IsPassed (chain_of p).headers
-      → AtSid s p (at_end s allow p end)
-  at_end-is allow (Upper kind at) upper passed =
-      upper-by kind at upper passed (chain_at-upper_stands p.payload p.next_header 0 kind at (omega arith) upper).2
-      (exposes s kind) (is_allowed allow kind) refl
-  at_end-is allow Cut upper passed = omega arith
+  at_end-is : (allow : List ℕ) (end : ChainEnd) → (chain_of p).end ≡ end → StandsIn p (place_of end)
+      → All (IsPassed (at_header s p)) (chain_of p).headers → AtSid s p (at_end s allow p end)
+  at_end-is allow (Upper place) upper stands passed =
+      upper-by place upper passed stands (exposes s place.kind) (is_allowed allow place.kind) refl
+  at_end-is allow (Cut place) upper stands passed = stands.within
 
   at_sid-is : (allow : List ℕ) → AtSid s p (at_sid s allow p)
   at_sid-is allow =
-      over-reached (AtSid s p) (at_header s p) (chain_of p).headers (at_end s allow p (chain_of p).end)
-      (λ passed. at_end-is allow (chain_of p).end refl passed)
+      over-reached (at_header s p) (AtSid s p) (chain_of p).headers (at_end s allow p (chain_of p).end)
+      (λ passed. at_end-is allow (chain_of p).end refl (end-stands p) passed)
       (λ h rest reached more. at_header-is h reached rest more)
 
 -- ---- the step
 
 -- a packet that goes on from a SID has taken the step
-pub at_sid-steps : (s : SidEntry) (allow : List ℕ) (p q : Packet) → at_sid s allow p ≡ Onward q → StepsTo p q
+pub at_sid-steps : (s : SidEntry) (allow : List ℕ) (p q : Packet) → at_sid s allow p ≡ Onward q → StepsTo s p q
 at_sid-steps s allow p q e = let P : Endpoint → Type 0 = λ x. AtSid s p x in subst P e (at_sid-is s p allow)
 
 entry_of-below : (h : Header) (i : ℕ) → All (λ b. b < 2 ^ 8) h.bytes → entry_of (srh_of h.bytes) i < 2 ^ 128
@@ -162,78 +192,98 @@ entry_of-below h i all =
     address_number-below (drop (16 * i) (take n (drop 8 h.bytes)))
     (All-drop P (16 * i) (take n (drop 8 h.bytes)) (All-take P n (drop 8 h.bytes) (All-drop P 8 h.bytes all)))
 
--- the step keeps a packet spellable
-pub steps-spellable : (p q : Packet) → IsSpellable p → StepsTo p q → IsSpellable q
-steps-spellable p q ok s =
-    let P : ℕ → Type 0 = λ b. b < 2 ^ 8 in
-    let class : q.traffic_class ≡ p.traffic_class = ap (λ (x : Packet). x.traffic_class) s.others in
-    let label : q.flow_label ≡ p.flow_label = ap (λ (x : Packet). x.flow_label) s.others in
-    let next : q.next_header ≡ p.next_header = ap (λ (x : Packet). x.next_header) s.others in
-    let source : q.source ≡ p.source = ap (λ (x : Packet). x.source) s.others in
-    let was = byte_below p.payload (s.header.at + 3) ok.payload in
-    let had = s.was_left in
-    let hop = s.hop_limit in
-    let len : length q.payload ≡ length p.payload = ap length s.payload ∙ length-set p.payload (s.header.at + 3) s.left in
-    let entry = entry_of-below s.header s.left (lies-bytes p.payload s.header s.lies ok.payload) in
-    let Q : List ℕ → Type 0 = λ xs. All P xs in
-    let hop_below : p.hop_limit < 2 ^ 8 = ok.hop_limit in
-    let len_below : length p.payload < 2 ^ 16 = ok.payload_len in
-    let dest = s.destination in
-    record {
-      traffic_class = rw class ok.traffic_class;
-      flow_label = rw label ok.flow_label;
-      next_header = rw next ok.next_header;
-      hop_limit = omega arith;
-      source = rw source ok.source;
-      destination = rw dest entry;
-      payload_len = omega arith;
-      payload = subst Q (sym s.payload) (All-set P p.payload (s.header.at + 3) s.left (omega arith) ok.payload);
-    }
+module _ (s : SidEntry) (p q : Packet) (step : StepsTo s p q) where
+  step-length : length q.payload ≡ length p.payload
+  step-length = ap length step.payload ∙ length-set p.payload (step.header.place.at + segments_left_at - header_len) step.left
+
+  -- the step keeps a packet spellable
+  pub steps-spellable : IsSpellable p → IsSpellable q
+  steps-spellable ok =
+      let P : ℕ → Type 0 = λ b. b < 2 ^ 8 in
+      let class : q.traffic_class ≡ p.traffic_class = ap (λ (x : Packet). x.traffic_class) step.others in
+      let label : q.flow_label ≡ p.flow_label = ap (λ (x : Packet). x.flow_label) step.others in
+      let next : q.next_header ≡ p.next_header = ap (λ (x : Packet). x.next_header) step.others in
+      let source : q.source ≡ p.source = ap (λ (x : Packet). x.source) step.others in
+      let bytes = lies-bytes p step.header step.lies ok.payload in
+      let was = byte_below step.header.bytes 3 bytes in
+      let had = step.was_left in
+      let hop = step.hop_limit in
+      let len = step-length in
+      let entry = entry_of-below step.header step.left bytes in
+      let Q : List ℕ → Type 0 = λ xs. All P xs in
+      let hop_below : p.hop_limit < 2 ^ 8 = ok.hop_limit in
+      let len_below : length p.payload < 2 ^ 16 = ok.payload_len in
+      let dest = step.destination in
+      record {
+        traffic_class = rw class ok.traffic_class;
+        flow_label = rw label ok.flow_label;
+        next_header = rw next ok.next_header;
+        hop_limit = omega arith;
+        source = rw source ok.source;
+        destination = rw dest entry;
+        payload_len = omega arith;
+        payload = subst Q (sym step.payload)
+            (All-set P p.payload (step.header.place.at + segments_left_at - header_len) step.left (omega arith) ok.payload);
+      }
+
+  -- ---- the bytes before and after the step
+
+  payload-same : (k : ℕ) → k ≢ step.header.place.at + 3 → 40 ≤ k → slice_index q.payload (k - 40) ≡ slice_index p.payload (k - 40)
+  payload-same k other far =
+      let start = step.lies.behind_header in
+      let n : ℕ = step.header.place.at + segments_left_at - header_len in
+      let apart : k - 40 ≡ n → ⊥ = λ e. other (omega arith) in
+      ap (λ xs. slice_index xs (k - 40)) step.payload ∙ get_or-set_other p.payload n (k - 40) step.left 0 apart
+
+  payload-stepped : slice_index p.payload (step.header.place.at + segments_left_at - header_len)
+      ≡ slice_index q.payload (step.header.place.at + segments_left_at - header_len) + 1
+  payload-stepped =
+      let start = step.lies.behind_header in
+      let within = step.lies.within in
+      let least = step.lies.least in
+      let n : ℕ = step.header.place.at + segments_left_at - header_len in
+      let set : slice_index q.payload n ≡ step.left =
+      ap (λ xs. slice_index xs n) step.payload ∙ get_or-set_same p.payload n step.left 0 (omega arith) in
+      sym (lies-at p step.header 3 step.lies (omega arith)) ∙ step.was_left ∙ ap (λ k. k + 1) (sym set)
+
+  bytes-stepped : slice_index (spelling p) (step.header.place.at + segments_left_at)
+      ≡ slice_index (spelling q) (step.header.place.at + segments_left_at) + 1
+  bytes-stepped =
+      let start = step.lies.behind_header in
+      let n : ℕ = step.header.place.at + segments_left_at - header_len in
+      let sum : 40 + n ≡ step.header.place.at + segments_left_at = omega arith in
+      ap (slice_index (spelling p)) (sym sum) ∙ spelling-payload p n ∙ payload-stepped
+      ∙ ap (λ k. k + 1) (sym (spelling-payload q n) ∙ ap (slice_index (spelling q)) sum)
+
+  steps-bytes : ChangesFewBytes (spelling p) (spelling q)
+  steps-bytes =
+      let class : q.traffic_class ≡ p.traffic_class = ap (λ (x : Packet). x.traffic_class) step.others in
+      let label : q.flow_label ≡ p.flow_label = ap (λ (x : Packet). x.flow_label) step.others in
+      let next : q.next_header ≡ p.next_header = ap (λ (x : Packet). x.next_header) step.others in
+      let source : q.source ≡ p.source = ap (λ (x : Packet). x.source) step.others in
+      let len = step-length in
+      let start = step.lies.behind_header in
+      let within = step.lies.within in
+      let least = step.lies.least in
+      let before = length-spelling p in
+      let after = length-spelling q in
+      record {
+        place = step.header.place.at + segments_left_at;
+        behind_header = omega arith;
+        within = omega arith;
+        same_length = after ∙ ap (λ n. 40 + n) len ∙ sym before;
+        hop_limit = spelling-hop_limit p ∙ step.hop_limit ∙ ap (λ n. n + 1) (sym (spelling-hop_limit q));
+        segments_left = bytes-stepped;
+        same = λ k not_seven not_there side. spelling-agrees p q class label next source len k not_seven side
+            (payload-same k not_there);
+      }
 
 pub at_sid-spellable : (s : SidEntry) (allow : List ℕ) (p q : Packet) → IsSpellable p → at_sid s allow p ≡ Onward q → IsSpellable q
-at_sid-spellable s allow p q ok e = steps-spellable p q ok (at_sid-steps s allow p q e)
-
--- ---- the bytes before and after the step
-
-payload-same : (p q : Packet) (s : StepsTo p q) (k : ℕ) → k ≢ 40 + (s.header.at + 3) → 40 ≤ k
-    → slice_index q.payload (k - 40) ≡ slice_index p.payload (k - 40)
-payload-same p q s k other far =
-    let apart : k - 40 ≡ s.header.at + 3 → ⊥ = λ e. other (omega arith) in
-    ap (λ xs. slice_index xs (k - 40)) s.payload ∙ get_or-set_other p.payload (s.header.at + 3) (k - 40) s.left 0 apart
-
-payload-stepped : (p q : Packet) (s : StepsTo p q) → slice_index p.payload (s.header.at + 3) ≡ slice_index q.payload (s.header.at + 3) + 1
-payload-stepped p q s =
-    let within = s.lies.within in
-    let least = s.lies.least in
-    let set : slice_index q.payload (s.header.at + 3) ≡ s.left =
-    ap (λ xs. slice_index xs (s.header.at + 3)) s.payload ∙ get_or-set_same p.payload (s.header.at + 3) s.left 0 (omega arith) in
-    s.was_left ∙ ap (λ n. n + 1) (sym set)
-
-steps-bytes : (p q : Packet) → StepsTo p q → ChangesFewBytes (spelling p) (spelling q)
-steps-bytes p q s =
-    let class : q.traffic_class ≡ p.traffic_class = ap (λ (x : Packet). x.traffic_class) s.others in
-    let label : q.flow_label ≡ p.flow_label = ap (λ (x : Packet). x.flow_label) s.others in
-    let next : q.next_header ≡ p.next_header = ap (λ (x : Packet). x.next_header) s.others in
-    let source : q.source ≡ p.source = ap (λ (x : Packet). x.source) s.others in
-    let len : length q.payload ≡ length p.payload = ap length s.payload ∙ length-set p.payload (s.header.at + 3) s.left in
-    let within = s.lies.within in
-    let least = s.lies.least in
-    let before = length-spelling p in
-    let after = length-spelling q in
-    record {
-      place = s.header.at + 3;
-      within = omega arith;
-      same_length = after ∙ ap (λ n. 40 + n) len ∙ sym before;
-      hop_limit = spelling-hop_limit p ∙ s.hop_limit ∙ ap (λ n. n + 1) (sym (spelling-hop_limit q));
-      segments_left = spelling-payload p (s.header.at + 3) ∙ payload-stepped p q s
-          ∙ ap (λ n. n + 1) (sym (spelling-payload q (s.header.at + 3)));
-      same = λ k not_seven not_there side. spelling-agrees p q class label next source len k not_seven side
-          (payload-same p q s k not_there);
-    }
+at_sid-spellable s allow p q ok e = steps-spellable s p q (at_sid-steps s allow p q e) ok
 
 -- but for the hop limit, Segments Left and the destination all bytes are as they were
 pub at_sid-bytes : (s : SidEntry) (allow : List ℕ) (p q : Packet) → at_sid s allow p ≡ Onward q → ChangesFewBytes (spelling p) (spelling q)
-at_sid-bytes s allow p q e = steps-bytes p q (at_sid-steps s allow p q e)
+at_sid-bytes s allow p q e = steps-bytes s p q (at_sid-steps s allow p q e)
 
 -- ---- what is exposed
 
@@ -248,7 +298,7 @@ pub at_sid-exposed_bytes : (s : SidEntry) (allow : List ℕ) (p : Packet) (famil
 at_sid-exposed_bytes s allow p family bytes ok e =
     let x = at_sid-exposes s allow p family bytes e in
     let Q : List ℕ → Type 0 = λ xs. All (λ b. b < 2 ^ 8) xs in
-    subst Q (sym x.inside) (All-drop (λ b. b < 2 ^ 8) x.at p.payload ok.payload)
+    subst Q (sym x.inside) (All-drop (λ b. b < 2 ^ 8) (x.place.at - header_len) p.payload ok.payload)
 
 -- what bytes of a family read as is a content that bytes can spell
 pub read_as-is_content : (family : Family) (bytes : List ℕ) → All (λ b. b < 2 ^ 8) bytes → IsContent (read_as family bytes)
@@ -289,7 +339,7 @@ at_sid-delivered s allow p q e = let P : Endpoint → Type 0 = λ x. AtSid s p x
 
 -- the place of a fault lies in the packet or at its end
 pub at_sid-place : (s : SidEntry) (allow : List ℕ) (p : Packet) (reason : Reason) (at : ℕ) → at_sid s allow p ≡ Refused reason at
-    → at ≤ 40 + length p.payload
+    → at ≤ header_len + length p.payload
 at_sid-place s allow p reason at e = let P : Endpoint → Type 0 = λ x. AtSid s p x in subst P e (at_sid-is s p allow)
 
 -- ---- what is so of each outcome at an address
@@ -298,35 +348,42 @@ abbrev AtAddress : Packet → Endpoint → Type 0
 AtAddress p (Onward q) = ⊥
 AtAddress p (Exposed family bytes) = ⊥
 AtAddress p (Delivered q) = q ≡ p
-AtAddress p (Refused reason at) = at ≤ 40 + length p.payload
+AtAddress p (Refused reason at) = at ≤ header_len + length p.payload
 
 module _ (p : Packet) where
-  address_header-by : (h : Header) → LiesIn p.payload h → (rest : Endpoint) → (IsPassed h → AtAddress p rest) → (routing none : Bool)
-      → is_segment_routing h ≡ routing → ((srh_of h.bytes).segments_left == 0) ≡ none
-      → AtAddress p (if routing then (if none then rest else Refused reasons.UnknownRouting (in_packet (h.at + 2)))
-      else Refused reasons.NotBuilt 0)
-  address_header-by h lies rest more false none er en = omega arith
-  address_header-by h lies rest more true true er en = more (er, eqb-true (srh_of h.bytes).segments_left 0 en)
-  address_header-by h lies rest more true false er en =
+  address_routing-by : (h : Header) → LiesIn p h → (rest : Endpoint) → (IsPassed unknown_routing h → AtAddress p rest) → (none : Bool)
+      → (segments_left h == 0) ≡ none
+      → AtAddress p (if none then rest else Refused reasons.UnknownRouting (h.place.at + routing_type_at))
+  address_routing-by h lies rest more true en = more (λ x. rw en refl)
+  address_routing-by h lies rest more false en =
       let within = lies.within in
       let least = lies.least in
       omega arith
 
-  address_end-is : (end : ChainEnd) → AtAddress p (at_address_end p end)
-  address_end-is (Upper kind at) = refl
-  address_end-is Cut = omega arith
+  address_header-is : (h : Header) → IsReached at_address_header (chain_of p).headers h → (rest : Endpoint)
+      → (IsPassed at_address_header h → AtAddress p rest) → AtAddress p (at_address_header h rest)
+  unfolding chain_at
+  address_header-is h reached rest more =
+      let lies = reached-lies at_address_header p (start_of p) h (omega arith) reached in
+      let stands = reached-stands at_address_header p (start_of p) h (start-stands p) reached in
+      let within = lies.within in
+      by-kind unknown_routing h p (AtAddress p) rest lies stands more (λ reason at below. omega arith)
+      (λ same. address_routing-by h lies rest (λ passed. more (λ x. same x ∙ passed x)) (segments_left h == 0) refl)
+
+  address_end-is : (end : ChainEnd) → StandsIn p (place_of end) → AtAddress p (at_address_end p end)
+  address_end-is (Upper place) stands = refl
+  address_end-is (Cut place) stands = stands.within
 
   at_address-is : AtAddress p (at_address p)
   at_address-is =
-      over-reached (AtAddress p) at_address_header (chain_of p).headers (at_address_end p (chain_of p).end)
-      (λ passed. address_end-is (chain_of p).end)
-      (λ h rest reached more. address_header-by h (reached-lies p.payload p.next_header 0 h reached) rest more
-      (is_segment_routing h) ((srh_of h.bytes).segments_left == 0) refl refl)
+      over-reached at_address_header (AtAddress p) (chain_of p).headers (at_address_end p (chain_of p).end)
+      (λ passed. address_end-is (chain_of p).end (end-stands p))
+      (λ h rest reached more. address_header-is h reached rest more)
 
 pub at_address-delivered : (p q : Packet) → at_address p ≡ Delivered q → q ≡ p
 at_address-delivered p q e = let P : Endpoint → Type 0 = λ x. AtAddress p x in subst P e (at_address-is p)
 
-pub at_address-place : (p : Packet) (reason : Reason) (at : ℕ) → at_address p ≡ Refused reason at → at ≤ 40 + length p.payload
+pub at_address-place : (p : Packet) (reason : Reason) (at : ℕ) → at_address p ≡ Refused reason at → at ≤ header_len + length p.payload
 at_address-place p reason at e = let P : Endpoint → Type 0 = λ x. AtAddress p x in subst P e (at_address-is p)
 
 -- at an address no packet goes on, and none is exposed

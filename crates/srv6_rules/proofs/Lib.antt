@@ -3,7 +3,9 @@ pub mod Packets
 pub mod Edits
 pub mod Headers
 pub mod Chains
+pub mod AreaItems
 pub mod Reached
+pub mod Treatments
 pub mod Endpoints
 pub mod Encapsulations
 pub mod PublicLaws

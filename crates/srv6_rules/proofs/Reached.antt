@@ -1,176 +1,116 @@
 -- Headers one by one: what comes of them is decided by the first that is not passed over, or by the chain's end.
-use Rattle.std.proofs.Common.{◌≡◌, ℕ, ◌+◌, ◌<◌, Bool, true, false, ◌==◌, if◌then◌else◌, List, [], ◌∷◌, ◌++◌, drop, All, Contains, refl, sym, ap, subst, ◌∙◌, ◌⊎◌, arith, inl, inr}
-use Rattle.std.proofs.lemmas.Bool.{true≢false, cases_Bool, cases_eq, eq-eqb, ne_eqb}
+use Rattle.std.proofs.Common.{◌≡◌, ◌≤◌, Bool, true, false, if◌then◌else◌, List, [], ◌∷◌, ◌++◌, All, Contains, refl, sym, ap, subst, ◌∙◌, ◌⊎◌, arith, inl, inr}
 use Rattle.std.proofs.lemmas.List.{append-nil}
 use Rattle.std.proofs.lemmas.List.Elements.{All-nil, All-cons, All-head, All-tail, All-contains, Contains-get_or, Contains-append_right}
-use Rattle.srv6_rules.specs.declared.sid.Reason.TheVariants as reasons
-use Rattle.srv6_rules.specs.declared.sid.SidEntry.{SidEntry}
-use Rattle.srv6_rules.specs.Behaviours.{goes_on}
-use Rattle.srv6_rules.specs.Packet.{Packet}
-use Rattle.srv6_rules.specs.Srh.{srh_of}
-use Rattle.srv6_rules.specs.Chain.{Header, ChainEnd, Upper, Cut, Chain, LiesIn, is_extension, is_whole, behind, chain_at, chain_behind, header_at, is_segment_routing}
-use Rattle.srv6_rules.specs.Endpoint.{Endpoint, Refused, in_packet, next_segment, over_headers, over_chain, at_header, at_address_header, IsPassed, IsReached, FirstNotPassed}
-use Rattle.srv6_rules.proofs.Chains.{chain_at-goes_on, chain_at-lies}
+use Rattle.srv6_rules.specs.Packet.{Packet, header_len}
+use Rattle.srv6_rules.specs.Chain.{ChainPlace, Header, ChainEnd, Upper, Cut, Chain, LiesIn, StandsIn, is_extension, is_whole, header_in, behind_in, behind, chain_at, from_place}
+use Rattle.srv6_rules.specs.Endpoint.{Endpoint, over_headers, over_chain, IsPassed, IsReached, Decides}
+use Rattle.srv6_rules.proofs.Chains.{chain_at-goes_on, chain_at-lies, chain_at-stand}
 
 -- ---- headers that are reached
 
-reached-first : (h : Header) (hs : List Header) → IsReached (h ∷ hs) h
-reached-first h hs = record { before = []; after = hs; split = refl; passed = All-nil IsPassed }
+module _ (treat : Header → Endpoint → Endpoint) where
+  reached-first : (h : Header) (hs : List Header) → IsReached treat (h ∷ hs) h
+  reached-first h hs = record { before = []; after = hs; split = refl; passed = All-nil (IsPassed treat) }
 
-reached-behind : (x : Header) (hs : List Header) (h : Header) → IsPassed x → IsReached hs h → IsReached (x ∷ hs) h
-reached-behind x hs h is r =
-    record {
-      before = x ∷ r.before;
-      after = r.after;
-      split = ap (λ xs. x ∷ xs) r.split;
-      passed = All-cons IsPassed x r.before is r.passed;
-    }
+  reached-behind : (x : Header) (hs : List Header) (h : Header) → IsPassed treat x → IsReached treat hs h → IsReached treat (x ∷ hs) h
+  reached-behind x hs h is r =
+      record {
+        before = x ∷ r.before;
+        after = r.after;
+        split = ap (λ xs. x ∷ xs) r.split;
+        passed = All-cons (IsPassed treat) x r.before is r.passed;
+      }
 
--- a header that is reached is one of the headers
-pub reached-contained : (hs : List Header) (h : Header) → IsReached hs h → Contains hs h
-reached-contained hs h r =
-    let here : Contains (h ∷ r.after) h = Contains-get_or (h ∷ r.after) 0 h (omega arith) in
-    let Q : List Header → Type 0 = λ xs. Contains xs h in
-    subst Q (sym r.split) (Contains-append_right r.before (h ∷ r.after) h here)
+  -- a header that is reached is one of the headers
+  pub reached-contained : (hs : List Header) (h : Header) → IsReached treat hs h → Contains hs h
+  reached-contained hs h r =
+      let here : Contains (h ∷ r.after) h = Contains-get_or (h ∷ r.after) 0 h (omega arith) in
+      let Q : List Header → Type 0 = λ xs. Contains xs h in
+      subst Q (sym r.split) (Contains-append_right r.before (h ∷ r.after) h here)
 
--- a header that is reached in a payload's chain lies in the payload
-pub reached-lies : (payload : List ℕ) (kind at : ℕ) (h : Header) → IsReached (chain_at payload kind at).headers h → LiesIn payload h
-reached-lies payload kind at h r =
-    let headers : List Header = (chain_at payload kind at).headers in
-    All-contains (LiesIn payload) headers h (chain_at-lies payload kind at) (reached-contained headers h r)
+  -- a header that is reached in a packet's chain lies in the packet
+  pub reached-lies : (p : Packet) (q : ChainPlace) (h : Header) → header_len ≤ q.at → IsReached treat (chain_at p q).headers h → LiesIn p h
+  reached-lies p q h start r =
+      All-contains (LiesIn p) (chain_at p q).headers h (chain_at-lies p q start) (reached-contained (chain_at p q).headers h r)
 
-passed-cases : (h : Header) → IsPassed h ⊎ (IsPassed h → ⊥)
-passed-cases h = elim (cases_Bool (is_segment_routing h)) [
-  | inl is ↦ elim (cases_eq (srh_of h.bytes).segments_left 0) [
-    | inl none ↦ inl (is, none)
-    | inr some ↦ inr (λ passed. let none = passed.1 in omega arith)
+  -- and stands at a place of the packet
+  pub reached-stands : (p : Packet) (q : ChainPlace) (h : Header) → StandsIn p q → IsReached treat (chain_at p q).headers h
+      → StandsIn p h.place
+  reached-stands p q h s r =
+      All-contains (λ x. StandsIn p x.place) (chain_at p q).headers h (chain_at-stand p q s).0
+      (reached-contained (chain_at p q).headers h r)
+
+  -- ---- what comes of headers
+
+  -- what holds at the end where all headers are passed over, and at a header that is reached if it holds of what
+  -- comes of those behind it where it is passed over, holds of what comes of the headers
+  pub over-reached : (P : Endpoint → Type 0) (hs : List Header) (end : Endpoint)
+      → (All (IsPassed treat) hs → P end)
+      → ((h : Header) (rest : Endpoint) → IsReached treat hs h → (IsPassed treat h → P rest) → P (treat h rest))
+      → P (over_headers treat hs end)
+  over-reached P [] end last each = last (All-nil (IsPassed treat))
+  over-reached P (h ∷ hs) end last each =
+      each h (over_headers treat hs end) (reached-first h hs)
+      (λ is. over-reached P hs end
+      (λ all. last (All-cons (IsPassed treat) h hs is all))
+      (λ k rest r more. each k rest (reached-behind h hs k is r) more))
+
+  -- behind headers that are passed over what comes of headers is what comes of those behind
+  pub over-passed : (before after : List Header) (end : Endpoint) → All (IsPassed treat) before
+      → over_headers treat (before ++ after) end ≡ over_headers treat after end
+  over-passed [] after end all = refl
+  over-passed (h ∷ before) after end all =
+      All-head (IsPassed treat) h before all (over_headers treat (before ++ after) end)
+      ∙ over-passed before after end (All-tail (IsPassed treat) h before all)
+
+  pub over-all_passed : (headers : List Header) (end : Endpoint) → All (IsPassed treat) headers → over_headers treat headers end ≡ end
+  over-all_passed headers end all =
+      ap (λ hs. over_headers treat hs end) (sym (append-nil headers)) ∙ over-passed headers [] end all
+
+  -- a header that decides and is reached decides what comes of the headers
+  pub over-decides : (headers : List Header) (h : Header) (end behind : Endpoint) → IsReached treat headers h → Decides treat h
+      → over_headers treat headers end ≡ treat h behind
+  over-decides headers h end behind r decides =
+      ap (λ hs. over_headers treat hs end) r.split
+      ∙ over-passed r.before (h ∷ r.after) end r.passed
+      ∙ decides (over_headers treat r.after end) behind
+
+  -- ---- the first header that is not passed over
+
+  first-behind : (x : Header) (hs : List Header) → IsPassed treat x
+      → All (IsPassed treat) hs ⊎ ((h : Header) × IsReached treat hs h × Decides treat h)
+      → All (IsPassed treat) (x ∷ hs) ⊎ ((h : Header) × IsReached treat (x ∷ hs) h × Decides treat h)
+  first-behind x hs is (inl all) = inl (All-cons (IsPassed treat) x hs is all)
+  first-behind x hs is (inr (h, reached, decides)) = inr (h, reached-behind x hs h is reached, decides)
+
+  -- where each header is passed over or decides, all are passed over, or there is a first that decides
+  pub first-there : (hs : List Header) → ((h : Header) → IsPassed treat h ⊎ Decides treat h)
+      → All (IsPassed treat) hs ⊎ ((h : Header) × IsReached treat hs h × Decides treat h)
+  first-there [] each = inl (All-nil (IsPassed treat))
+  first-there (x ∷ hs) each = elim (each x) [
+    | inl is ↦ first-behind x hs is (first-there hs each)
+    | inr decides ↦ inr (x, reached-first x hs, decides)
   ]
-  | inr other ↦ inr (λ passed. true≢false (sym passed.0 ∙ other))
-]
 
-first-behind : (x : Header) (hs : List Header) → IsPassed x → All IsPassed hs ⊎ ((h : Header) × FirstNotPassed hs h)
-    → All IsPassed (x ∷ hs) ⊎ ((h : Header) × FirstNotPassed (x ∷ hs) h)
-first-behind x hs is (inl all) = inl (All-cons IsPassed x hs is all)
-first-behind x hs is (inr (h, first)) = inr (h, record { reached = reached-behind x hs h is first.reached; stays = first.stays })
-
--- all headers are passed over, or there is a first that is not
-pub first-there : (hs : List Header) → All IsPassed hs ⊎ ((h : Header) × FirstNotPassed hs h)
-first-there [] = inl (All-nil IsPassed)
-first-there (x ∷ hs) = elim (passed-cases x) [
-  | inl is ↦ first-behind x hs is (first-there hs)
-  | inr stays ↦ inr (x, record { reached = reached-first x hs; stays = stays })
-]
-
--- ---- what comes of headers
-
--- what holds at the end where all headers are passed over, and at a header that is reached if it holds of what
--- comes of those behind it where it is passed over, holds of what comes of the headers
-pub over-reached : (P : Endpoint → Type 0) (treat : Header → Endpoint → Endpoint) (hs : List Header) (end : Endpoint)
-    → (All IsPassed hs → P end)
-    → ((h : Header) (rest : Endpoint) → IsReached hs h → (IsPassed h → P rest) → P (treat h rest))
-    → P (over_headers treat hs end)
-over-reached P treat [] end last each = last (All-nil IsPassed)
-over-reached P treat (h ∷ hs) end last each =
-    each h (over_headers treat hs end) (reached-first h hs)
-    (λ is. over-reached P treat hs end
-    (λ all. last (All-cons IsPassed h hs is all))
-    (λ k rest r more. each k rest (reached-behind h hs k is r) more))
-
--- behind headers that are passed over what comes of headers is what comes of those behind
-pub over-passed : (treat : Header → Endpoint → Endpoint) (before after : List Header) (end : Endpoint)
-    → ((h : Header) (rest : Endpoint) → IsPassed h → treat h rest ≡ rest) → All IsPassed before
-    → over_headers treat (before ++ after) end ≡ over_headers treat after end
-over-passed treat [] after end pass all = refl
-over-passed treat (h ∷ before) after end pass all =
-    pass h (over_headers treat (before ++ after) end) (All-head IsPassed h before all)
-    ∙ over-passed treat before after end pass (All-tail IsPassed h before all)
-
-pub over-all_passed : (treat : Header → Endpoint → Endpoint) (headers : List Header) (end : Endpoint)
-    → ((h : Header) (rest : Endpoint) → IsPassed h → treat h rest ≡ rest) → All IsPassed headers
-    → over_headers treat headers end ≡ end
-over-all_passed treat headers end pass all =
-    ap (λ hs. over_headers treat hs end) (sym (append-nil headers)) ∙ over-passed treat headers [] end pass all
-
-over-went_on : (treat : Header → Endpoint → Endpoint) (end : ChainEnd → Endpoint) (ext whole : Bool) (h : Header) (kind at : ℕ)
+over-went_on : (treat : Header → Endpoint → Endpoint) (end : ChainEnd → Endpoint) (ext whole : Bool) (h : Header) (q : ChainPlace)
     (tail : Chain)
     → over_chain treat end
-    (if ext then (if whole then behind h tail else record { headers = []; end = Cut }) else record { headers = []; end = Upper kind at })
-    ≡ (if ext then (if whole then treat h (over_chain treat end tail) else end Cut) else end (Upper kind at))
-over-went_on treat end true true h kind at tail = refl
-over-went_on treat end true false h kind at tail = refl
-over-went_on treat end false whole h kind at tail = refl
+    (if ext then (if whole then behind h tail else record { headers = []; end = Cut q }) else record { headers = []; end = Upper q })
+    ≡ (if ext then (if whole then treat h (over_chain treat end tail) else end (Cut q)) else end (Upper q))
+over-went_on treat end true true h q tail = refl
+over-went_on treat end true false h q tail = refl
+over-went_on treat end false whole h q tail = refl
 
--- how the outcome goes on from each place of a payload
-pub over-goes_on : (treat : Header → Endpoint → Endpoint) (end : ChainEnd → Endpoint) (payload : List ℕ) (kind at : ℕ)
-    → over_chain treat end (chain_at payload kind at)
-    ≡ (if is_extension kind
-    then (if is_whole kind (drop at payload)
-    then treat (header_at payload kind at) (over_chain treat end (chain_behind payload kind at))
-    else end Cut)
-    else end (Upper kind at))
-over-goes_on treat end payload kind at =
-    ap (λ c. over_chain treat end c) (chain_at-goes_on payload kind at)
-    ∙ over-went_on treat end (is_extension kind) (is_whole kind (drop at payload)) (header_at payload kind at) kind at
-    (chain_behind payload kind at)
-
--- ---- at a SID and at an address
-
--- a header that is passed over changes nothing
-pub at_header-passed : (s : SidEntry) (p : Packet) (h : Header) (rest : Endpoint) → IsPassed h → at_header s p h rest ≡ rest
-at_header-passed s p h rest is =
-    let none : ((srh_of h.bytes).segments_left == 0) ≡ true = eq-eqb (srh_of h.bytes).segments_left 0 is.1 in
-    rw (is.0, none) refl
-
-pub at_address_header-passed : (h : Header) (rest : Endpoint) → IsPassed h → at_address_header h rest ≡ rest
-at_address_header-passed h rest is =
-    let none : ((srh_of h.bytes).segments_left == 0) ≡ true = eq-eqb (srh_of h.bytes).segments_left 0 is.1 in
-    rw (is.0, none) refl
-
--- what comes of a header that is not passed over does not depend on those behind it
-pub at_header-stays : (s : SidEntry) (p : Packet) (h : Header) (one two : Endpoint) → (IsPassed h → ⊥)
-    → at_header s p h one ≡ at_header s p h two
-at_header-stays s p h one two stays = elim (cases_Bool (is_segment_routing h)) [
-  | inl is ↦
-      let some : ((srh_of h.bytes).segments_left == 0) ≡ false = ne_eqb (srh_of h.bytes).segments_left 0 (λ none. stays (is, none)) in
-      rw (is, some) refl
-  | inr other ↦ rw other refl
-]
-
-pub at_address_header-stays : (h : Header) (one two : Endpoint) → (IsPassed h → ⊥) → at_address_header h one ≡ at_address_header h two
-at_address_header-stays h one two stays = elim (cases_Bool (is_segment_routing h)) [
-  | inl is ↦
-      let some : ((srh_of h.bytes).segments_left == 0) ≡ false = ne_eqb (srh_of h.bytes).segments_left 0 (λ none. stays (is, none)) in
-      rw (is, some) refl
-  | inr other ↦ rw other refl
-]
-
--- a segment routing header with segments left at a SID that goes on, and at one that does not
-pub at_header-steps : (s : SidEntry) (p : Packet) (h : Header) (rest : Endpoint) → is_segment_routing h ≡ true
-    → 0 < (srh_of h.bytes).segments_left
-    → goes_on s ≡ true → at_header s p h rest ≡ next_segment p h.at (srh_of h.bytes)
-at_header-steps s p h rest is left goes =
-    let some : ((srh_of h.bytes).segments_left == 0) ≡ false = ne_eqb (srh_of h.bytes).segments_left 0 (omega arith) in
-    rw (is, some, goes) refl
-
-pub at_header-refuses : (s : SidEntry) (p : Packet) (h : Header) (rest : Endpoint) → is_segment_routing h ≡ true
-    → 0 < (srh_of h.bytes).segments_left
-    → goes_on s ≡ false → at_header s p h rest ≡ Refused reasons.BadSegments (in_packet (h.at + 3))
-at_header-refuses s p h rest is left stays =
-    let some : ((srh_of h.bytes).segments_left == 0) ≡ false = ne_eqb (srh_of h.bytes).segments_left 0 (omega arith) in
-    rw (is, some, stays) refl
-
--- and at an address
-pub at_address_header-refuses : (h : Header) (rest : Endpoint) → is_segment_routing h ≡ true → 0 < (srh_of h.bytes).segments_left
-    → at_address_header h rest ≡ Refused reasons.UnknownRouting (in_packet (h.at + 2))
-at_address_header-refuses h rest is left =
-    let some : ((srh_of h.bytes).segments_left == 0) ≡ false = ne_eqb (srh_of h.bytes).segments_left 0 (omega arith) in
-    rw (is, some) refl
-
--- other headers are not built
-pub at_header-not_built : (s : SidEntry) (p : Packet) (h : Header) (rest : Endpoint) → is_segment_routing h ≡ false
-    → at_header s p h rest ≡ Refused reasons.NotBuilt 0
-at_header-not_built s p h rest other = rw other refl
-
-pub at_address_header-not_built : (h : Header) (rest : Endpoint) → is_segment_routing h ≡ false
-    → at_address_header h rest ≡ Refused reasons.NotBuilt 0
-at_address_header-not_built h rest other = rw other refl
+-- how the outcome goes on from each place of a packet
+pub over-goes_on : (treat : Header → Endpoint → Endpoint) (end : ChainEnd → Endpoint) (p : Packet) (q : ChainPlace) → header_len ≤ q.at
+    → over_chain treat end (chain_at p q)
+    ≡ (if is_extension q.kind
+    then (if is_whole q.kind (from_place p q.at)
+    then treat (header_in q (from_place p q.at)) (over_chain treat end (chain_at p (behind_in q (from_place p q.at))))
+    else end (Cut q))
+    else end (Upper q))
+over-goes_on treat end p q start =
+    ap (λ c. over_chain treat end c) (chain_at-goes_on p q start)
+    ∙ over-went_on treat end (is_extension q.kind) (is_whole q.kind (from_place p q.at)) (header_in q (from_place p q.at)) q
+    (chain_at p (behind_in q (from_place p q.at)))

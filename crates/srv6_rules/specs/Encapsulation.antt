@@ -1,9 +1,10 @@
 -- Encapsulation of a packet behind an outer IPv6 header and a segment list: H.Encaps and its reduced form (RFC 8986
 -- sections 5.1 and 5.2, RFC 8754 sections 2, 4.1 and 4.1.1).
 use Rattle.std.specs.Prelude.{ℕ, ◌+◌, ◌-◌, ◌*◌, ◌^◌, ◌<◌, ◌≤◌, Bool, not, ◌||◌, nat_lt, if◌then◌else◌, List, ◌++◌, length, drop, reverse, slice_index, flat_map, All}
-use Rattle.srv6_rules.specs.Packet.{Packet, spelling, address_bytes}
+use Rattle.srv6_rules.specs.declared.numbers.TheConstants.{NEXT_HEADER_AT}
+use Rattle.srv6_rules.specs.Packet.{Packet, header_len, spelling, address_bytes}
 use Rattle.srv6_rules.specs.Srh.{Srh, srh_spelling}
-use Rattle.srv6_rules.specs.Chain.{Header, routing}
+use Rattle.srv6_rules.specs.Chain.{ChainPlace, Header, routing}
 use Rattle.srv6_rules.specs.Behaviours.{ipv6_inside}
 
 -- what a packet is encapsulated with, but for the hop limit: the outer header's fields; the segments, at least one, in
@@ -39,7 +40,11 @@ segment_routing_of e left =
 
 -- that header as the first of the outer packet's chain
 abbrev pub header_of : Encapsulation → ℕ → Header
-header_of e left = record { kind = routing; at = 0; bytes = srh_spelling (segment_routing_of e left) }
+header_of e left =
+    record {
+      place = record { at = header_len; kind = routing; named_at = NEXT_HEADER_AT };
+      bytes = srh_spelling (segment_routing_of e left);
+    }
 
 -- the packet round the bytes of the inner one, with these Segments Left, hop limit and destination
 abbrev pub outer : Encapsulation → List ℕ → ℕ → ℕ → ℕ → Packet
@@ -66,6 +71,15 @@ pushed e inner hop = at_segment e inner 0 hop
 -- the header bytes in front of the inner packet, by the form and the number of segments, at least one
 abbrev pub header_bytes : Bool → ℕ → ℕ
 header_bytes reduced count = if reduced then (if nat_lt 1 count then 32 + 16 * count else 40) else 48 + 16 * count
+
+-- where the inner packet stands: behind the header bytes, and the last of the headers in front of it names it
+abbrev pub inner_place : Encapsulation → ChainPlace
+inner_place e =
+    record {
+      at = header_bytes e.reduced (length e.segments);
+      kind = ipv6_inside;
+      named_at = if has_segment_routing e then header_len else NEXT_HEADER_AT;
+    }
 
 -- an inner packet before it is encapsulated: the hop limit is one less (RFC 8986 section 5.1)
 abbrev pub inner_lowered : Packet → Packet

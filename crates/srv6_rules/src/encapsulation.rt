@@ -2,10 +2,10 @@
 
 ghost use Rattle.std.specs.Prelude.{◌≡◌, ◌<◌, ◌≤◌, ◌+◌, ◌-◌, ◌*◌, ◌^◌, Bool, true, false, if◌then◌else◌, List, [], ℕ, ◌∷◌, ◌++◌, length, drop, reverse, slice_index, slice_set, flat_map, All};
 ghost use Rattle.srv6_rules.specs.Behaviours.{ipv6_inside, goes_on, exposes};
-ghost use Rattle.srv6_rules.specs.Chain.{Upper, routing, chain_of};
-ghost use Rattle.srv6_rules.specs.Encapsulation.{Encapsulation, IsSpellableEncapsulation, segment_list, has_segment_routing, segment_routing_of, header_of, outer, at_segment, pushed, header_bytes, inner_lowered, encapsulated};
-ghost use Rattle.srv6_rules.specs.Endpoint.{Onward, Exposed, Refused, in_packet, upper_layer, at_sid};
-ghost use Rattle.srv6_rules.specs.Packet.{Packet, V6 as V6Content, IsSpellable, most_len, spelling, read_as, address_bytes};
+ghost use Rattle.srv6_rules.specs.Chain.{Upper, routing, from_place, chain_of};
+ghost use Rattle.srv6_rules.specs.Encapsulation.{Encapsulation, IsSpellableEncapsulation, segment_list, has_segment_routing, segment_routing_of, header_of, inner_place, outer, at_segment, pushed, header_bytes, inner_lowered, encapsulated};
+ghost use Rattle.srv6_rules.specs.Endpoint.{Onward, Exposed, Refused, upper_layer, at_sid};
+ghost use Rattle.srv6_rules.specs.Packet.{Packet, V6 as V6Content, IsSpellable, most_len, header_len, spelling, read_as, address_bytes};
 ghost use Rattle.srv6_rules.specs.Srh.{srh_spelling, segments_left_at};
 ghost use Rattle.srv6_rules.specs.declared.sid.Family.TheVariants.{V6};
 ghost use Rattle.srv6_rules.specs.declared.sid.Reason.TheVariants.{HopLimit, BadSegments};
@@ -64,11 +64,12 @@ pub fn outer_packet_has_its_chain()
         → chain_of (outer e inner left hop destination)
         ≡ record {
           headers = if has_segment_routing e then header_of e left ∷ [] else [];
-          end = Upper ipv6_inside (header_bytes e.reduced (length e.segments) - 40);
+          end = Upper (inner_place e);
         } }
     ensures inner { (e : Encapsulation) (inner : List ℕ) (left hop destination : ℕ)
-        → drop (header_bytes e.reduced (length e.segments) - 40)
-        (outer e inner left hop destination).payload ≡ inner }
+        → from_place (outer e inner left hop destination) (inner_place e).at ≡ inner }
+    ensures place { (e : Encapsulation)
+        → (inner_place e).at ≡ header_bytes e.reduced (length e.segments) }
 {}
 
 /// A SID that goes on, as End and End.X do, makes at a segment that is not the last the next
@@ -93,8 +94,7 @@ pub fn last_segment_has_the_packet_inside()
     ensures upper_layer { (s : SidEntry) (allow : List ℕ) (e : Encapsulation) (inner : List ℕ)
         (i hop : ℕ) → exposes s ipv6_inside ≡ false → i + 1 ≡ length e.segments
         → at_sid s allow (at_segment e inner i hop)
-        ≡ upper_layer allow (at_segment e inner i hop) ipv6_inside
-        (header_bytes e.reduced (length e.segments) - 40) }
+        ≡ upper_layer allow (at_segment e inner i hop) (inner_place e) }
     ensures exposed { (s : SidEntry) (allow : List ℕ) (e : Encapsulation) (inner : List ℕ)
         (i hop : ℕ) → exposes s ipv6_inside ≡ true → i + 1 ≡ length e.segments
         → at_sid s allow (at_segment e inner i hop) ≡ Exposed V6 inner }
@@ -107,7 +107,7 @@ pub fn decapsulation_is_at_the_last_segment()
     ensures { (s : SidEntry) (allow : List ℕ) (e : Encapsulation) (inner : List ℕ) (i hop : ℕ)
         → goes_on s ≡ false → i + 1 < length e.segments
         → at_sid s allow (at_segment e inner i hop)
-        ≡ Refused BadSegments (in_packet segments_left_at) }
+        ≡ Refused BadSegments (header_len + segments_left_at) }
 {}
 
 /// A packet with an outer header is as long as the inner bytes and the header bytes, whichever

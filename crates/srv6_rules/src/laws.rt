@@ -1,15 +1,17 @@
 //! Laws about the definitions, each the contract of a function that does nothing.
 
-ghost use Rattle.std.specs.Prelude.{◌≡◌, ◌⊎◌, ◌↔◌, ◌<◌, ◌≤◌, ◌+◌, ◌*◌, ◌^◌, true, false, if◌then◌else◌, List, [], ℕ, ◌++◌, length, take, drop, slice_index, slice_set, All, flat_map, Contains};
+ghost use Rattle.std.specs.Prelude.{◌≡◌, ◌≢◌, ◌⊎◌, ◌↔◌, ◌<◌, ◌≤◌, ◌+◌, ◌-◌, ◌*◌, ◌^◌, true, false, if◌then◌else◌, List, [], ℕ, ◌++◌, length, take, drop, slice_index, slice_set, All, flat_map, Contains, Option, Some, None};
 ghost use Rattle.srv6_rules.specs.Behaviours.{ipv6_inside, goes_on, exposes};
-ghost use Rattle.srv6_rules.specs.Chain.{Header, ChainEnd, Upper, Cut, LiesIn, is_extension, routing, is_whole, extension_bytes, behind, chain_at, chain_behind, header_at, is_segment_routing};
-ghost use Rattle.srv6_rules.specs.Endpoint.{Endpoint, Onward, Exposed, Delivered, Refused, StepsTo, ChangesFewBytes, ExposesFrom, IsPassed, IsReached, FirstNotPassed, in_packet, next_segment, over_headers, over_chain, at_header, at_sid, at_address_header, at_address};
+ghost use Rattle.srv6_rules.specs.declared.numbers.TheConstants.{PAD1, HMAC, OPTIONS_AT, SEGMENT_LIST_AT, SEGMENT_LEN};
+ghost use Rattle.srv6_rules.specs.Areas.{Fault, item_bytes, first_of, area_fault, option_fault, options_fault, tlv_fault, tlvs_fault};
+ghost use Rattle.srv6_rules.specs.Chain.{ChainPlace, Header, ChainEnd, Upper, Cut, LiesIn, StandsIn, EndsIn, Follow, is_extension, hop_by_hop, routing, fragment, destination_options, is_first, is_whole, extension_bytes, header_in, behind_in, behind, place_of, start_of, chain_of, chain_at, from_place, segments_left, is_segment_routing};
+ghost use Rattle.srv6_rules.specs.Endpoint.{Endpoint, Onward, Exposed, Delivered, Refused, StepsTo, ChangesFewBytes, ExposesFrom, IsPassed, IsReached, Decides, next_segment, over_headers, over_chain, at_header_by, at_header, at_sid, at_address_header, at_address};
 ghost use Rattle.srv6_rules.specs.Packet.{Packet, V6, Unreadable, IsSpellable, IsContent, Spells, spelling, content_of, read_as, entered, bytes_of, header_len, stated_len, packet_at, two_bytes, four_bytes, first_word, address_bytes, two_number, four_number, address_number};
 ghost use Rattle.srv6_rules.specs.Srh.{Srh, IsSrhSpellable, srh_of, srh_spelling, segment_routing, segments_left_at, routing_type_at};
 ghost use Rattle.srv6_rules.specs.declared.sid.Behaviour.TheVariants.{End, EndX, Dt6};
 ghost use Rattle.srv6_rules.specs.declared.sid.Family.{Family};
 ghost use Rattle.srv6_rules.specs.declared.sid.Reason.{Reason};
-ghost use Rattle.srv6_rules.specs.declared.sid.Reason.TheVariants.{BadSegments, UnknownRouting, NotBuilt};
+ghost use Rattle.srv6_rules.specs.declared.sid.Reason.TheVariants.{BadChain, LateHopByHop, OptionDiscard, OptionUnknown, Fragment, BadSegments, HmacTlv, BadTlv, UnknownRouting};
 ghost use Rattle.srv6_rules.specs.declared.sid.SidEntry.{SidEntry};
 
 /// A number has 2, 4 or 16 bytes, each below 256.
@@ -150,131 +152,266 @@ pub fn extension_headers_have_their_values()
         → (kind ≡ 0) ⊎ ((kind ≡ 43) ⊎ ((kind ≡ 44) ⊎ (kind ≡ 60))) }
 {}
 
-/// How a chain goes on from each place of a payload: it ends at an upper layer or at a header that
-/// is cut, and goes on behind a whole header with the value in that header's first byte (RFC 8200
-/// section 4).
+/// How a chain goes on from each place at or behind the end of the IPv6 header: it ends at an upper
+/// layer or at a header that is cut, and goes on behind a whole header with the value in that
+/// header's first byte. A packet's chain starts behind its IPv6 header, which names what stands
+/// there (RFC 8200 section 4).
 pub fn chain_goes_on()
-    ensures each { (payload : List ℕ) (kind at : ℕ)
-        → chain_at payload kind at
-        ≡ (if is_extension kind
-        then (if is_whole kind (drop at payload)
-        then behind (header_at payload kind at) (chain_behind payload kind at)
-        else record { headers = []; end = Cut })
-        else record { headers = []; end = Upper kind at }) }
-    ensures upper { (payload : List ℕ) (kind at : ℕ) → is_extension kind ≡ false
-        → chain_at payload kind at ≡ record { headers = []; end = Upper kind at } }
-    ensures cut { (payload : List ℕ) (kind at : ℕ) → is_extension kind ≡ true
-        → is_whole kind (drop at payload) ≡ false
-        → chain_at payload kind at ≡ record { headers = []; end = Cut } }
-    ensures header { (payload : List ℕ) (kind at : ℕ) → is_extension kind ≡ true
-        → is_whole kind (drop at payload) ≡ true
-        → chain_at payload kind at
-        ≡ behind (header_at payload kind at) (chain_behind payload kind at) }
+    ensures start { (p : Packet) → chain_of p ≡ chain_at p (start_of p) }
+    ensures each { (p : Packet) (place : ChainPlace) → header_len ≤ place.at
+        → chain_at p place
+        ≡ (if is_extension place.kind
+        then (if is_whole place.kind (from_place p place.at)
+        then behind (header_in place (from_place p place.at))
+        (chain_at p (behind_in place (from_place p place.at)))
+        else record { headers = []; end = Cut place })
+        else record { headers = []; end = Upper place }) }
+    ensures upper { (p : Packet) (place : ChainPlace) → header_len ≤ place.at
+        → is_extension place.kind ≡ false
+        → chain_at p place ≡ record { headers = []; end = Upper place } }
+    ensures cut { (p : Packet) (place : ChainPlace) → header_len ≤ place.at
+        → is_extension place.kind ≡ true → is_whole place.kind (from_place p place.at) ≡ false
+        → chain_at p place ≡ record { headers = []; end = Cut place } }
+    ensures header { (p : Packet) (place : ChainPlace) → header_len ≤ place.at
+        → is_extension place.kind ≡ true → is_whole place.kind (from_place p place.at) ≡ true
+        → chain_at p place ≡ behind (header_in place (from_place p place.at))
+        (chain_at p (behind_in place (from_place p place.at))) }
 {}
 
-/// The chain from a place of a payload where a segment routing header was spelled: that header, and
+/// The chain from a place of a packet where a segment routing header was spelled: that header, and
 /// the chain behind it (RFC 8200 section 4, RFC 8754 section 2).
 pub fn chain_goes_on_behind_a_spelled_header()
-    ensures { (payload : List ℕ) (at : ℕ) (s : Srh) (rest : List ℕ)
-        → length s.body ≡ 8 * s.extension_len → drop at payload ≡ srh_spelling s ++ rest
-        → chain_at payload routing at
-        ≡ behind (record { kind = routing; at = at; bytes = srh_spelling s })
-        (chain_at payload s.next_header (at + length (srh_spelling s))) }
+    ensures { (p : Packet) (at named_at : ℕ) (s : Srh) (rest : List ℕ) → header_len ≤ at
+        → length s.body ≡ 8 * s.extension_len → from_place p at ≡ srh_spelling s ++ rest
+        → chain_at p (record { at = at; kind = routing; named_at = named_at })
+        ≡ behind (record {
+          place = record { at = at; kind = routing; named_at = named_at };
+          bytes = srh_spelling s;
+        })
+        (chain_at p (record {
+          at = at + length (srh_spelling s);
+          kind = s.next_header;
+          named_at = at;
+        })) }
 {}
 
-/// A whole header, of at least 8 bytes, lies in the payload, and so does each header of a chain; an
-/// upper layer stands in the payload or at its end, at or behind the place where the chain started
-/// (RFC 8200 section 4).
-pub fn chain_is_in_the_payload()
-    ensures header { (payload : List ℕ) (kind at : ℕ) → is_extension kind ≡ true
-        → is_whole kind (drop at payload) ≡ true → LiesIn payload (header_at payload kind at) }
+/// A whole header, of at least 8 bytes, lies in the packet, and so does each header of a chain. A
+/// chain ends at a value that names no extension header, or at an extension header that is not
+/// whole; an upper layer stands in the packet or at its end, at or behind the place where the chain
+/// started (RFC 8200 section 4).
+pub fn chain_is_in_the_packet()
+    ensures header { (p : Packet) (place : ChainPlace) → header_len ≤ place.at
+        → is_extension place.kind ≡ true → is_whole place.kind (from_place p place.at) ≡ true
+        → LiesIn p (header_in place (from_place p place.at)) }
     ensures least { (kind : ℕ) (bytes : List ℕ) → 8 ≤ extension_bytes kind bytes }
-    ensures headers { (payload : List ℕ) (kind at : ℕ)
-        → All (LiesIn payload) (chain_at payload kind at).headers }
-    ensures upper { (payload : List ℕ) (kind at upper place : ℕ) → at ≤ length payload
-        → (chain_at payload kind at).end ≡ Upper upper place
-        → (is_extension upper ≡ false) × (at ≤ place) × (place ≤ length payload) }
+    ensures headers { (p : Packet) (place : ChainPlace) → header_len ≤ place.at
+        → All (LiesIn p) (chain_at p place).headers }
+    ensures ends { (p : Packet) (place : ChainPlace) → header_len ≤ place.at
+        → EndsIn p (chain_at p place).end }
+    ensures upper { (p : Packet) (place upper : ChainPlace) → StandsIn p place
+        → (chain_at p place).end ≡ Upper upper
+        → (is_extension upper.kind ≡ false) × (place.at ≤ upper.at)
+        × (upper.at ≤ header_len + length p.payload) }
 {}
 
-/// The bytes of a header that lies in a payload are the payload's at the header's place, and as
-/// many as are stated there.
-pub fn header_has_bytes_of_the_payload()
-    ensures each { (payload : List ℕ) (h : Header) (k : ℕ) → LiesIn payload h → k < length h.bytes
-        → slice_index h.bytes k ≡ slice_index payload (h.at + k) }
-    ensures stated { (payload : List ℕ) (h : Header) → LiesIn payload h
-        → length h.bytes ≡ extension_bytes h.kind (drop h.at payload) }
-    ensures below { (payload : List ℕ) (h : Header) → LiesIn payload h
-        → All (λ b. b < 2 ^ 8) payload → All (λ b. b < 2 ^ 8) h.bytes }
+/// The headers of a chain follow one another: each stands where the one before it ends, and the
+/// first byte of that one names it; the IPv6 header names the first. So places ascend, each lies in
+/// the packet or at its end, and the byte at the place that named it holds its kind. Headers that
+/// lie in a packet and follow one another from a place are those that the chain has from there (RFC
+/// 8200 section 4).
+pub fn headers_of_a_chain_follow_one_another()
+    ensures follow { (p : Packet) (place : ChainPlace) → header_len ≤ place.at
+        → Follow place (chain_at p place).headers (place_of (chain_at p place).end) }
+    ensures ascend { (place : ChainPlace) (headers : List Header) (last : ChainPlace)
+        → Follow place headers last
+        → All (λ h. place.at ≤ h.place.at) headers × (place.at ≤ last.at) }
+    ensures start { (p : Packet) → StandsIn p (start_of p) }
+    ensures behind { (p : Packet) (place : ChainPlace) → StandsIn p place
+        → is_whole place.kind (from_place p place.at) ≡ true
+        → StandsIn p (behind_in place (from_place p place.at)) }
+    ensures stand { (p : Packet) (place : ChainPlace) → StandsIn p place
+        → All (λ h. StandsIn p h.place) (chain_at p place).headers
+        × StandsIn p (place_of (chain_at p place).end) }
+    ensures only { (p : Packet) (place : ChainPlace) (headers : List Header) (last : ChainPlace)
+        → Follow place headers last → All (LiesIn p) headers
+        → chain_at p place
+        ≡ record {
+          headers = headers ++ (chain_at p last).headers;
+          end = (chain_at p last).end;
+        } }
 {}
 
-/// A header that is passed over, a segment routing header with no segments left, changes nothing at
-/// a SID and at an address: behind such headers the outcome is that of the headers behind them, and
-/// where all are passed over it is that of the chain's end (RFC 8754 section 4.3.1.1).
+/// The bytes of a header that lies in a packet are the packet's at the header's place, and as many
+/// as are stated there.
+pub fn header_has_bytes_of_the_packet()
+    ensures each { (p : Packet) (h : Header) (k : ℕ) → LiesIn p h → k < length h.bytes
+        → slice_index h.bytes k ≡ slice_index p.payload (h.place.at + k - header_len) }
+    ensures spelled { (p : Packet) (h : Header) (k : ℕ) → LiesIn p h → k < length h.bytes
+        → slice_index h.bytes k ≡ slice_index (spelling p) (h.place.at + k) }
+    ensures stated { (p : Packet) (h : Header) → LiesIn p h
+        → length h.bytes ≡ extension_bytes h.place.kind (from_place p h.place.at) }
+    ensures below { (p : Packet) (h : Header) → LiesIn p h → All (λ b. b < 2 ^ 8) p.payload
+        → All (λ b. b < 2 ^ 8) h.bytes }
+{}
+
+/// An area of items has the first fault of its items: that of its first item, or else that of the
+/// area behind that item, whose length is its own; an area of no bytes has none (RFC 8200 section
+/// 4.2, RFC 8754 section 2.1).
+pub fn area_is_judged_item_by_item()
+    ensures empty { (judge : ℕ → List ℕ → Option Fault) (at : ℕ)
+        → area_fault judge 0 at [] ≡ None }
+    ensures item { (judge : ℕ → List ℕ → Option Fault) (at : ℕ) (item : List ℕ) → 0 < length item
+        → area_fault judge 0 at item
+        ≡ first_of (judge at item)
+        (area_fault judge 0 (at + item_bytes item) (drop (item_bytes item) item)) }
+{}
+
+/// An option that passes its header's end makes the chain bad, whatever its type. Pad1 and PadN are
+/// skipped, and of other types the two highest bits decide: 00 is skipped, 01 discarded, and 10 and
+/// 11 are discarded and the sender is told (RFC 8200 section 4.2).
+pub fn options_are_judged_by_type_and_length()
+    ensures pad1 { (item : List ℕ) (at : ℕ) → 0 < length item → slice_index item 0 ≡ PAD1
+        → option_fault at item ≡ None }
+    ensures skipped { (item : List ℕ) (at : ℕ) → 2 + slice_index item 1 ≤ length item
+        → slice_index item 0 < 64 → option_fault at item ≡ None }
+    ensures discarded { (item : List ℕ) (at : ℕ) → 2 + slice_index item 1 ≤ length item
+        → 64 ≤ slice_index item 0 → slice_index item 0 < 128
+        → option_fault at item ≡ Some (record { reason = OptionDiscard; at = at }) }
+    ensures told { (item : List ℕ) (at : ℕ) → 2 + slice_index item 1 ≤ length item
+        → 128 ≤ slice_index item 0
+        → option_fault at item ≡ Some (record { reason = OptionUnknown; at = at }) }
+    ensures bad { (item : List ℕ) (at : ℕ) → slice_index item 0 ≢ PAD1
+        → length item < 2 + slice_index item 1
+        → option_fault at item ≡ Some (record { reason = BadChain; at = at }) }
+{}
+
+/// An HMAC in a segment routing header is refused, also where it passes its area's end. Any other
+/// item that passes it is bad, and one that does not is skipped (own rule; RFC 8754 section 2.1).
+pub fn segment_routing_items_are_judged_by_type_and_length()
+    ensures hmac { (item : List ℕ) (at : ℕ) → slice_index item 0 ≡ HMAC
+        → tlv_fault at item ≡ Some (record { reason = HmacTlv; at = at }) }
+    ensures bad { (item : List ℕ) (at : ℕ) → slice_index item 0 ≢ PAD1
+        → slice_index item 0 ≢ HMAC → length item < 2 + slice_index item 1
+        → tlv_fault at item ≡ Some (record { reason = BadTlv; at = at }) }
+    ensures pad1 { (item : List ℕ) (at : ℕ) → 0 < length item → slice_index item 0 ≡ PAD1
+        → tlv_fault at item ≡ None }
+    ensures skipped { (item : List ℕ) (at : ℕ) → slice_index item 0 ≢ HMAC
+        → 2 + slice_index item 1 ≤ length item → tlv_fault at item ≡ None }
+{}
+
+/// A fault among items stands in their area: of options in their header, behind its first two
+/// bytes, and of a segment routing header's area in that header, behind the entry at Last Entry
+/// (own rule).
+pub fn fault_of_an_item_has_its_place_in_the_header()
+    ensures area { (judge : ℕ → List ℕ → Option Fault)
+        → ((at : ℕ) (item : List ℕ) (f : Fault) → judge at item ≡ Some f → f.at ≡ at)
+        → (skip at : ℕ) (bytes : List ℕ) (f : Fault) → area_fault judge skip at bytes ≡ Some f
+        → (at ≤ f.at) × (f.at < at + length bytes) }
+    ensures options { (p : Packet) (h : Header) (f : Fault) → LiesIn p h → options_fault h ≡ Some f
+        → (h.place.at + OPTIONS_AT ≤ f.at) × (f.at < h.place.at + length h.bytes) }
+    ensures segment_routing { (p : Packet) (h : Header) (f : Fault) → LiesIn p h
+        → tlvs_fault h.place.at (srh_of h.bytes) ≡ Some f
+        → (h.place.at + SEGMENT_LIST_AT + SEGMENT_LEN * ((srh_of h.bytes).last_entry + 1) ≤ f.at)
+        × (f.at < h.place.at + length h.bytes) }
+{}
+
+/// Headers that are passed over change nothing: behind them the outcome is that of the headers
+/// behind them, and where all are passed over it is that of the chain's end (RFC 8200 section 4).
 pub fn headers_that_are_passed_over_change_nothing()
-    ensures at_sid { (s : SidEntry) (p : Packet) (before after : List Header) (end : Endpoint)
-        → All IsPassed before → over_headers (at_header s p) (before ++ after) end
-        ≡ over_headers (at_header s p) after end }
-    ensures at_address { (before after : List Header) (end : Endpoint) → All IsPassed before
-        → over_headers at_address_header (before ++ after) end
-        ≡ over_headers at_address_header after end }
-    ensures end_at_sid { (s : SidEntry) (p : Packet) (headers : List Header) (end : Endpoint)
-        → All IsPassed headers → over_headers (at_header s p) headers end ≡ end }
-    ensures end_at_address { (headers : List Header) (end : Endpoint) → All IsPassed headers
-        → over_headers at_address_header headers end ≡ end }
+    ensures before { (treat : Header → Endpoint → Endpoint) (before after : List Header)
+        (end : Endpoint) → All (IsPassed treat) before
+        → over_headers treat (before ++ after) end ≡ over_headers treat after end }
+    ensures end { (treat : Header → Endpoint → Endpoint) (headers : List Header) (end : Endpoint)
+        → All (IsPassed treat) headers → over_headers treat headers end ≡ end }
 {}
 
-/// The outcome at a SID and at an address is decided by the first header that is not passed over:
-/// what stands behind it makes no difference. Where there is no such header, all are passed over,
-/// and the chain's end decides (RFC 8754 section 4.3.1.1).
+/// At a SID and at an address each header is passed over, or decides: then what stands behind it
+/// makes no difference. So the first header that is not passed over decides the outcome, and where
+/// there is none the chain's end does (RFC 8200 section 4, RFC 8754 section 4.3.1.1).
 pub fn first_header_that_is_not_passed_over_decides()
-    ensures at_sid { (s : SidEntry) (p : Packet) (h : Header) (one two : Endpoint)
-        → (IsPassed h → ⊥) → at_header s p h one ≡ at_header s p h two }
-    ensures at_address { (h : Header) (one two : Endpoint) → (IsPassed h → ⊥)
-        → at_address_header h one ≡ at_address_header h two }
-    ensures first { (headers : List Header)
-        → All IsPassed headers ⊎ ((h : Header) × FirstNotPassed headers h) }
+    ensures at_sid { (s : SidEntry) (p : Packet) (h : Header)
+        → IsPassed (at_header s p) h ⊎ Decides (at_header s p) h }
+    ensures at_address { (h : Header)
+        → IsPassed at_address_header h ⊎ Decides at_address_header h }
+    ensures first { (treat : Header → Endpoint → Endpoint) (headers : List Header)
+        → ((h : Header) → IsPassed treat h ⊎ Decides treat h)
+        → All (IsPassed treat) headers
+        ⊎ ((h : Header) × IsReached treat headers h × Decides treat h) }
+    ensures decides { (treat : Header → Endpoint → Endpoint) (headers : List Header) (h : Header)
+        (end behind : Endpoint) → IsReached treat headers h → Decides treat h
+        → over_headers treat headers end ≡ treat h behind }
 {}
 
-/// A segment routing header with segments left: a SID that goes on takes the step over it, another
-/// refuses it for Segments Left, and at an address its routing type is unknown. Other headers are
-/// not built (RFC 8754 section 4.3.1.1, RFC 8986 sections 4.1, 4.2 and 4.6, RFC 8200 section 4.4).
-pub fn header_with_segments_left_is_stepped_over_or_refused()
+/// What comes of a header that is no routing header, at a SID and at an address: Hop-by-Hop Options
+/// are passed over where the IPv6 header names them, and refused elsewhere, at the field that named
+/// them; Destination Options are passed over where no option has a fault, and refused at the first
+/// fault; a Fragment header is refused (RFC 8200 sections 4.1, 4.2, 4.5 and 4.6; that a Fragment
+/// header is not processed is an own rule).
+pub fn header_is_passed_over_or_refused_by_its_kind()
+    ensures first { (route : Header → Endpoint → Endpoint) (h : Header)
+        → h.place.kind ≡ hop_by_hop → is_first h.place ≡ true → IsPassed (at_header_by route) h }
+    ensures late { (route : Header → Endpoint → Endpoint) (h : Header) (rest : Endpoint)
+        → h.place.kind ≡ hop_by_hop → is_first h.place ≡ false
+        → at_header_by route h rest ≡ Refused LateHopByHop h.place.named_at }
+    ensures options { (route : Header → Endpoint → Endpoint) (h : Header)
+        → h.place.kind ≡ destination_options → options_fault h ≡ None
+        → IsPassed (at_header_by route) h }
+    ensures fault { (route : Header → Endpoint → Endpoint) (h : Header) (f : Fault)
+        (rest : Endpoint) → h.place.kind ≡ destination_options → options_fault h ≡ Some f
+        → at_header_by route h rest ≡ Refused f.reason f.at }
+    ensures fragment { (route : Header → Endpoint → Endpoint) (h : Header) (rest : Endpoint)
+        → h.place.kind ≡ fragment → at_header_by route h rest ≡ Refused Fragment h.place.at }
+{}
+
+/// A routing header with no segments left is passed over, whatever its type. One with segments
+/// left: a SID that goes on takes the step over a segment routing header, another SID refuses it
+/// for Segments Left, and any other routing header is unknown, at an address each (RFC 8754 section
+/// 4.3.1.1, RFC 8986 sections 4.1, 4.2 and 4.6, RFC 8200 section 4.4).
+pub fn routing_header_is_passed_over_stepped_over_or_refused()
+    ensures passed { (s : SidEntry) (p : Packet) (h : Header) → h.place.kind ≡ routing
+        → segments_left h ≡ 0 → IsPassed (at_header s p) h }
     ensures steps { (s : SidEntry) (p : Packet) (h : Header) (rest : Endpoint)
-        → is_segment_routing h ≡ true → 0 < (srh_of h.bytes).segments_left → goes_on s ≡ true
-        → at_header s p h rest ≡ next_segment p h.at (srh_of h.bytes) }
+        → is_segment_routing h ≡ true → 0 < segments_left h → goes_on s ≡ true
+        → at_header s p h rest ≡ next_segment p h.place.at (srh_of h.bytes) }
     ensures refuses { (s : SidEntry) (p : Packet) (h : Header) (rest : Endpoint)
-        → is_segment_routing h ≡ true → 0 < (srh_of h.bytes).segments_left → goes_on s ≡ false
-        → at_header s p h rest ≡ Refused BadSegments (in_packet (h.at + segments_left_at)) }
-    ensures at_address { (h : Header) (rest : Endpoint) → is_segment_routing h ≡ true
-        → 0 < (srh_of h.bytes).segments_left
-        → at_address_header h rest ≡ Refused UnknownRouting (in_packet (h.at + routing_type_at)) }
-    ensures other_at_sid { (s : SidEntry) (p : Packet) (h : Header) (rest : Endpoint)
-        → is_segment_routing h ≡ false → at_header s p h rest ≡ Refused NotBuilt 0 }
-    ensures other_at_address { (h : Header) (rest : Endpoint) → is_segment_routing h ≡ false
-        → at_address_header h rest ≡ Refused NotBuilt 0 }
+        → is_segment_routing h ≡ true → 0 < segments_left h → goes_on s ≡ false
+        → at_header s p h rest ≡ Refused BadSegments (h.place.at + segments_left_at) }
+    ensures unknown { (s : SidEntry) (p : Packet) (h : Header) (rest : Endpoint)
+        → h.place.kind ≡ routing → is_segment_routing h ≡ false → 0 < segments_left h
+        → at_header s p h rest ≡ Refused UnknownRouting (h.place.at + routing_type_at) }
+    ensures passed_at_address { (h : Header) → h.place.kind ≡ routing → segments_left h ≡ 0
+        → IsPassed at_address_header h }
+    ensures at_address { (h : Header) (rest : Endpoint) → h.place.kind ≡ routing
+        → 0 < segments_left h
+        → at_address_header h rest ≡ Refused UnknownRouting (h.place.at + routing_type_at) }
 {}
 
-/// A header that is reached is one of the chain's, and lies in the payload (RFC 8200 section 4).
-pub fn header_that_is_reached_is_in_the_payload()
-    ensures contained { (headers : List Header) (h : Header) → IsReached headers h
-        → Contains headers h }
-    ensures lies { (payload : List ℕ) (kind at : ℕ) (h : Header)
-        → IsReached (chain_at payload kind at).headers h → LiesIn payload h }
+/// A header that is reached is one of the chain's, lies in the packet, and stands at a place of it
+/// (RFC 8200 section 4).
+pub fn header_that_is_reached_is_in_the_packet()
+    ensures contained { (treat : Header → Endpoint → Endpoint) (headers : List Header) (h : Header)
+        → IsReached treat headers h → Contains headers h }
+    ensures lies { (treat : Header → Endpoint → Endpoint) (p : Packet) (place : ChainPlace)
+        (h : Header) → header_len ≤ place.at → IsReached treat (chain_at p place).headers h
+        → LiesIn p h }
+    ensures stands { (treat : Header → Endpoint → Endpoint) (p : Packet) (place : ChainPlace)
+        (h : Header) → StandsIn p place → IsReached treat (chain_at p place).headers h
+        → StandsIn p h.place }
 {}
 
-/// How the outcome goes on from each place of a payload: at an upper layer, and at a header that is
+/// How the outcome goes on from each place of a packet: at an upper layer, and at a header that is
 /// cut, it is that of the chain's end; at a whole header it is made of what came of those behind it
 /// (RFC 8200 section 4).
 pub fn outcome_goes_on()
-    ensures { (treat : Header → Endpoint → Endpoint) (end : ChainEnd → Endpoint)
-        (payload : List ℕ) (kind at : ℕ)
-        → over_chain treat end (chain_at payload kind at)
-        ≡ (if is_extension kind
-        then (if is_whole kind (drop at payload)
-        then treat (header_at payload kind at)
-        (over_chain treat end (chain_behind payload kind at))
-        else end Cut)
-        else end (Upper kind at)) }
+    ensures { (treat : Header → Endpoint → Endpoint) (end : ChainEnd → Endpoint) (p : Packet)
+        (place : ChainPlace) → header_len ≤ place.at
+        → over_chain treat end (chain_at p place)
+        ≡ (if is_extension place.kind
+        then (if is_whole place.kind (from_place p place.at)
+        then treat (header_in place (from_place p place.at))
+        (over_chain treat end (chain_at p (behind_in place (from_place p place.at))))
+        else end (Cut place))
+        else end (Upper place)) }
 {}
 
 /// Which behaviours go on to the next segment, and which expose the packet inside: End and End.X go
@@ -297,14 +434,14 @@ pub fn behaviours_go_on_or_expose()
 /// sections 4.1 and 4.2).
 pub fn onward_is_one_step()
     ensures step { (s : SidEntry) (allow : List ℕ) (p q : Packet) → at_sid s allow p ≡ Onward q
-        → StepsTo p q }
+        → StepsTo s p q }
     ensures spellable { (s : SidEntry) (allow : List ℕ) (p q : Packet) → IsSpellable p
         → at_sid s allow p ≡ Onward q → IsSpellable q }
     ensures bytes { (s : SidEntry) (allow : List ℕ) (p q : Packet) → at_sid s allow p ≡ Onward q
         → ChangesFewBytes (spelling p) (spelling q) }
 {}
 
-/// Decapsulation changes no byte: what is exposed are the payload's bytes from the place of the
+/// Decapsulation changes no byte: what is exposed are the packet's bytes from the place of the
 /// packet inside on. What they read as is a content that bytes can spell and that reads back; of a
 /// packet they begin with its spelling, and bytes that do not read are kept as they are (RFC 8986
 /// section 4.6).
@@ -338,7 +475,7 @@ pub fn delivered_packet_is_as_it_was()
 /// The place of a fault lies in the packet or at its end (own rule).
 pub fn fault_has_its_place_in_the_packet()
     ensures at_sid { (s : SidEntry) (allow : List ℕ) (p : Packet) (reason : Reason) (at : ℕ)
-        → at_sid s allow p ≡ Refused reason at → at ≤ 40 + length p.payload }
+        → at_sid s allow p ≡ Refused reason at → at ≤ header_len + length p.payload }
     ensures at_address { (p : Packet) (reason : Reason) (at : ℕ) → at_address p ≡ Refused reason at
-        → at ≤ 40 + length p.payload }
+        → at ≤ header_len + length p.payload }
 {}

@@ -72,3 +72,17 @@ pub const SEGMENT_LIST_AT: usize = 8;
 
 /// The length of an entry of the segment list, an address: 16 (RFC 8754 section 2).
 pub const SEGMENT_LEN: usize = 16;
+
+/// The place of the options in a Hop-by-Hop or Destination Options header: 2 (RFC 8200 section
+/// 4.2).
+pub const OPTIONS_AT: usize = 2;
+
+/// The type of Pad1, which has neither length nor data: 0 (RFC 8200 section 4.2, RFC 8754 section
+/// 2.1.1.1).
+pub const PAD1: u8 = 0;
+
+/// The type of the option PadN: 1 (RFC 8200 section 4.2).
+pub const PADN: u8 = 1;
+
+/// The type of an HMAC in a segment routing header: 5 (RFC 8754 section 2.1.2).
+pub const HMAC: u8 = 5;

@@ -57,9 +57,22 @@ pub enum Reason {
     HopLimit,
     /// An extension header is cut.
     BadChain,
+    /// A Hop-by-Hop Options header that the IPv6 header does not name.
+    LateHopByHop,
+    /// An option of an unknown type whose two highest bits are 01.
+    OptionDiscard,
+    /// An option of an unknown type whose highest bit is 1.
+    OptionUnknown,
+    /// A Fragment header that would have to be processed.
+    Fragment,
     /// Segments Left or Last Entry is out of range.
     BadSegments,
-    /// A segment routing header with segments left, at the node's own address.
+    /// An HMAC in a segment routing header.
+    HmacTlv,
+    /// An item of a segment routing header's type-length-value area passes the area's end.
+    BadTlv,
+    /// A routing header with segments left that the node does not know; at its own address it knows
+    /// none.
     UnknownRouting,
     /// An upper layer that the node does not allow at a SID.
     UpperLayer,
@@ -79,7 +92,13 @@ impl Display for Reason {
             Reason::NoRoute => "NoRoute",
             Reason::HopLimit => "HopLimit",
             Reason::BadChain => "BadChain",
+            Reason::LateHopByHop => "LateHopByHop",
+            Reason::OptionDiscard => "OptionDiscard",
+            Reason::OptionUnknown => "OptionUnknown",
+            Reason::Fragment => "Fragment",
             Reason::BadSegments => "BadSegments",
+            Reason::HmacTlv => "HmacTlv",
+            Reason::BadTlv => "BadTlv",
             Reason::UnknownRouting => "UnknownRouting",
             Reason::UpperLayer => "UpperLayer",
             Reason::NotBuilt => "NotBuilt",

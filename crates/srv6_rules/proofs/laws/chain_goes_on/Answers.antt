@@ -1,5 +1,8 @@
-use Rattle.srv6_rules.proofs.Chains.{chain_at-goes_on, chain_at-upper, chain_at-cut, chain_at-header}
+use Rattle.srv6_rules.proofs.Chains.{chain_of-start, chain_at-goes_on, chain_at-upper, chain_at-cut, chain_at-header}
 use Rattle.srv6_rules.proofs.laws.chain_goes_on.Goals as goal
+
+pub returns-clause-start : goal.returns-clause-start
+returns-clause-start c = chain_of-start
 
 pub returns-clause-each : goal.returns-clause-each
 returns-clause-each c = chain_at-goes_on

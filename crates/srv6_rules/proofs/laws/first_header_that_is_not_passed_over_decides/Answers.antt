@@ -1,11 +1,15 @@
-use Rattle.srv6_rules.proofs.Reached.{at_header-stays, at_address_header-stays, first-there}
+use Rattle.srv6_rules.proofs.Reached.{first-there, over-decides}
+use Rattle.srv6_rules.proofs.Treatments.{at_header-either, at_address_header-either}
 use Rattle.srv6_rules.proofs.laws.first_header_that_is_not_passed_over_decides.Goals as goal
 
 pub returns-clause-at_sid : goal.returns-clause-at_sid
-returns-clause-at_sid c = at_header-stays
+returns-clause-at_sid c = at_header-either
 
 pub returns-clause-at_address : goal.returns-clause-at_address
-returns-clause-at_address c = at_address_header-stays
+returns-clause-at_address c = at_address_header-either
 
 pub returns-clause-first : goal.returns-clause-first
 returns-clause-first c = first-there
+
+pub returns-clause-decides : goal.returns-clause-decides
+returns-clause-decides c = over-decides

@@ -1,8 +1,11 @@
-use Rattle.srv6_rules.proofs.Chains.{lies-at, lies-stated, lies-bytes}
-use Rattle.srv6_rules.proofs.laws.header_has_bytes_of_the_payload.Goals as goal
+use Rattle.srv6_rules.proofs.Chains.{lies-at, lies-spelled, lies-stated, lies-bytes}
+use Rattle.srv6_rules.proofs.laws.header_has_bytes_of_the_packet.Goals as goal
 
 pub returns-clause-each : goal.returns-clause-each
 returns-clause-each c = lies-at
+
+pub returns-clause-spelled : goal.returns-clause-spelled
+returns-clause-spelled c = lies-spelled
 
 pub returns-clause-stated : goal.returns-clause-stated
 returns-clause-stated c = lies-stated

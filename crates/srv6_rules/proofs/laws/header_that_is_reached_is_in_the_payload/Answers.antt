@@ -1,8 +1,0 @@
-use Rattle.srv6_rules.proofs.Reached.{reached-contained, reached-lies}
-use Rattle.srv6_rules.proofs.laws.header_that_is_reached_is_in_the_payload.Goals as goal
-
-pub returns-clause-contained : goal.returns-clause-contained
-returns-clause-contained c = reached-contained
-
-pub returns-clause-lies : goal.returns-clause-lies
-returns-clause-lies c = reached-lies
