@@ -1,46 +1,110 @@
--- What comes of a chain from each place on, and what stands there, by the tests of the bytes.
-use Rattle.std.proofs.Common.{◌≡◌, ℕ, ◌+◌, true, false, nat_le, List, length, drop, slice_index, refl, sym, ap, ◌∙◌, arith, length-drop}
-use Rattle.std.proofs.lemmas.Bool.{and_parts, leb-true}
-use Rattle.srv6_rules.specs.Chain.{Header, ChainEnd, Upper, Cut, is_extension, is_whole, extension_bytes, chain_at, header_at}
+-- What comes of a chain from each place on, header by header.
+use Rattle.std.proofs.Common.{◌≡◌, ℕ, ◌+◌, ◌-◌, ◌≤◌, true, false, List, length, take, drop, slice_index, refl, sym, ap, subst, ◌∙◌, arith, length-drop}
+use Rattle.std.proofs.lemmas.List.{drop-drop, get_or-take, length-take-le}
+use Rattle.srv6_rules.specs.Packet.{Packet, header_len}
+use Rattle.srv6_rules.specs.Chain.{ChainPlace, Header, ChainEnd, Upper, Cut, is_extension, is_whole, extension_bytes, behind_in, place_behind, from_place, start_of, chain_of, chain_at}
 use Rattle.srv6_rules.specs.Endpoint.{Endpoint, over_chain}
-use Rattle.srv6_rules.proofs.PublicLaws.{over-goes_on, extension_bytes-least, header_at-lies}
-use Rattle.node_stage.specs.Stepping.{IsHeader}
+use Rattle.srv6_rules.proofs.PublicLaws.{chain_of-start, over-goes_on}
+use Rattle.node_stage.specs.Stepping.{IsHeader, first_place}
 
--- a whole header stands at a place
-pub header-stands : (payload : List ℕ) (kind at : ℕ) → is_extension kind ≡ true → is_whole kind (drop at payload) ≡ true
-    → IsHeader payload kind at (slice_index (drop at payload) 0) (at + extension_bytes kind (drop at payload))
-header-stands payload kind at e w =
-    let bytes : List ℕ = drop at payload in
-    let parts = and_parts (nat_le 8 (length bytes)) (nat_le (extension_bytes kind bytes) (length bytes)) w in
-    let whole = leb-true (extension_bytes kind bytes) (length bytes) parts.1 in
-    let all = length-drop at payload in
-    let least = extension_bytes-least kind bytes in
-    record {
-      extension = e;
-      whole = w;
-      lies = header_at-lies payload kind at e w;
-      named = refl;
-      ends = refl;
-      further = omega arith;
-      within = omega arith;
-    }
+-- where the chain goes on behind a whole header
+behind-same : (q : ChainPlace) (bytes : List ℕ) (len : ℕ) → IsHeader q.kind bytes len
+    → behind_in q bytes ≡ place_behind (record { place = q; bytes = take len bytes })
+behind-same q bytes len is =
+    let least = is.least in
+    let taken : length (take len bytes) ≡ len = length-take-le len bytes is.within in
+    let first : slice_index (take len bytes) 0 ≡ slice_index bytes 0 = get_or-take len bytes 0 0 (omega arith) in
+    let n : extension_bytes q.kind bytes ≡ length (take len bytes) = sym is.stated ∙ sym taken in
+    let one : ChainPlace = record { at = q.at + extension_bytes q.kind bytes; kind = slice_index bytes 0; named_at = q.at } in
+    let two : ChainPlace = record { at = q.at + length (take len bytes); kind = slice_index bytes 0; named_at = q.at } in
+    let three : ChainPlace = record { at = q.at + length (take len bytes); kind = slice_index (take len bytes) 0; named_at = q.at } in
+    let e : one ≡ two = ap (λ k. record { at = q.at + k; kind = slice_index bytes 0; named_at = q.at }) n in
+    let f : two ≡ three = ap (λ k. record { at = q.at + length (take len bytes); kind = k; named_at = q.at }) (sym first) in
+    e ∙ f
 
-module _ (treat : Header → Endpoint → Endpoint) (end : ChainEnd → Endpoint) (payload : List ℕ) (kind at : ℕ) where
-  pub over-upper : is_extension kind ≡ false → over_chain treat end (chain_at payload kind at) ≡ end (Upper kind at)
-  over-upper e = over-goes_on treat end payload kind at ∙ rw e refl
+-- what comes of a packet is what comes of its chain from a place on, where these bytes stand
+pub record ComesTo (treat : Header → Endpoint → Endpoint) (end : ChainEnd → Endpoint) (p : Packet) (e : Endpoint) (q : ChainPlace)
+    (rest : List ℕ) : Type 0 where
+  pub same : e ≡ over_chain treat end (chain_at p q)
+  pub bytes : rest ≡ from_place p q.at
+  pub behind : header_len ≤ q.at
+  pub ends : q.at + length rest ≡ header_len + length p.payload
 
-  pub over-cut : is_extension kind ≡ true → is_whole kind (drop at payload) ≡ false
-      → over_chain treat end (chain_at payload kind at) ≡ end Cut
-  over-cut e w = over-goes_on treat end payload kind at ∙ rw (e, w) refl
+module _ (treat : Header → Endpoint → Endpoint) (end : ChainEnd → Endpoint) (p : Packet) where
+  pub comes-start : (q : ChainPlace) (rest : List ℕ) (kind : ℕ) → q ≡ first_place kind → kind ≡ p.next_header → rest ≡ p.payload
+      → ComesTo treat end p (over_chain treat end (chain_of p)) q rest
+  comes-start q rest kind is named all =
+      let first : q ≡ start_of p = is ∙ ap first_place named in
+      let at : q.at ≡ header_len = ap (λ k. k.at) first in
+      let long : length rest ≡ length p.payload = ap length all in
+      let none : q.at - header_len ≡ 0 = omega arith in
+      record {
+        same = ap (over_chain treat end) (chain_of-start p ∙ ap (chain_at p) (sym first));
+        bytes = all ∙ ap (λ n. drop n p.payload) (sym none);
+        behind = omega arith;
+        ends = omega arith;
+      }
 
-  -- at a whole header what comes of it, given what came of the chain behind it
-  pub over-header : (next behind : ℕ) → IsHeader payload kind at next behind
-      → over_chain treat end (chain_at payload kind at)
-      ≡ treat (header_at payload kind at) (over_chain treat end (chain_at payload next behind))
-  over-header next behind h =
-      let whole = h.whole in
-      over-goes_on treat end payload kind at
-      ∙ rw (h.extension, whole) refl
-      ∙ ap (λ n. treat (header_at payload kind at)
-      (over_chain treat end (chain_at payload n (at + extension_bytes kind (drop at payload))))) (sym h.named)
-      ∙ ap (λ n. treat (header_at payload kind at) (over_chain treat end (chain_at payload next n))) (sym h.ends)
+  module _ (e : Endpoint) (q : ChainPlace) (rest : List ℕ) (c : ComesTo treat end p e q rest) where
+    pub comes-upper : is_extension q.kind ≡ false → e ≡ end (Upper q)
+    comes-upper upper = c.same ∙ over-goes_on treat end p q c.behind ∙ rw upper refl
+
+    pub comes-cut : is_extension q.kind ≡ true → is_whole q.kind rest ≡ false → e ≡ end (Cut q)
+    comes-cut is cut =
+        let there : is_whole q.kind (from_place p q.at) ≡ false = ap (is_whole q.kind) (sym c.bytes) ∙ cut in
+        c.same ∙ over-goes_on treat end p q c.behind ∙ rw (is, there) refl
+
+    module _ (len : ℕ) (is : IsHeader q.kind rest len) where
+      there : IsHeader q.kind (from_place p q.at) len
+      there = let P : List ℕ → Type 0 = λ xs. IsHeader q.kind xs len in subst P c.bytes is
+
+      went_on : e ≡ treat (record { place = q; bytes = take len (from_place p q.at) })
+          (over_chain treat end (chain_at p (place_behind (record { place = q; bytes = take len (from_place p q.at) }))))
+      went_on =
+          let bytes : List ℕ = from_place p q.at in
+          let extension = is.extension in
+          let whole : is_whole q.kind bytes ≡ true = there.whole in
+          c.same ∙ over-goes_on treat end p q c.behind ∙ rw (extension, whole) refl
+          ∙ ap (λ n. treat (record { place = q; bytes = take n bytes }) (over_chain treat end (chain_at p (behind_in q bytes))))
+          (sym there.stated)
+          ∙ ap (λ k. treat (record { place = q; bytes = take len bytes }) (over_chain treat end (chain_at p k)))
+          (behind-same q bytes len there)
+
+      module _ (header : List ℕ) (taken : header ≡ take len rest) where
+        taken_there : header ≡ take len (from_place p q.at)
+        taken_there = taken ∙ ap (take len) c.bytes
+
+        pub comes-header : e ≡ treat (record { place = q; bytes = header })
+            (over_chain treat end (chain_at p (place_behind (record { place = q; bytes = header }))))
+        comes-header =
+            let P : List ℕ → Type 0 = λ xs. e ≡ treat (record { place = q; bytes = xs })
+            (over_chain treat end (chain_at p (place_behind (record { place = q; bytes = xs })))) in
+            subst P (sym taken_there) went_on
+
+        -- a header that decides
+        pub comes-decided : (P : Endpoint → Type 0) → ((x : Endpoint) → P (treat (record { place = q; bytes = header }) x)) → P e
+        comes-decided P is_so =
+            subst P (sym comes-header)
+            (is_so (over_chain treat end (chain_at p (place_behind (record { place = q; bytes = header })))))
+
+        -- a header that is passed over
+        pub comes-behind : (more : List ℕ) (next : ChainPlace) → more ≡ drop len rest
+            → next ≡ place_behind (record { place = q; bytes = header })
+            → ((x : Endpoint) → treat (record { place = q; bytes = header }) x ≡ x)
+            → ComesTo treat end p e next more
+        comes-behind more next left goes passed =
+            let least = is.least in
+            let within = is.within in
+            let ends = c.ends in
+            let behind = c.behind in
+            let long : length header ≡ len = ap length taken ∙ length-take-le len rest is.within in
+            let at : next.at ≡ q.at + length header = ap (λ k. k.at) goes in
+            let gone : length more ≡ length rest - len = ap length left ∙ length-drop len rest in
+            let sum : q.at - header_len + len ≡ next.at - header_len = omega arith in
+            record {
+              same = comes-header ∙ passed (over_chain treat end (chain_at p (place_behind (record { place = q; bytes = header }))))
+                  ∙ ap (λ k. over_chain treat end (chain_at p k)) (sym goes);
+              bytes = left ∙ ap (drop len) c.bytes ∙ drop-drop len (q.at - header_len) p.payload ∙ ap (λ k. drop k p.payload) sum;
+              behind = omega arith;
+              ends = omega arith;
+            }

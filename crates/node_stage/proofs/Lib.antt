@@ -1,5 +1,5 @@
 pub mod SpellingLemmas
 pub mod ChainLemmas
-pub mod SegmentLemmas
+pub mod AreaLemmas
 pub mod EndpointLemmas
 pub mod StageLemmas

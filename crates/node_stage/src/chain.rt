@@ -1,19 +1,54 @@
-//! The chain of extension headers behind an IPv6 header (RFC 8200 section 4), taken apart in place.
+//! The chain of extension headers behind an IPv6 header (RFC 8200 section 4), header by header.
 
-ghost use Rattle.std.specs.Prelude.{◌≡◌, ◌≤◌, length};
-ghost use Rattle.srv6_rules.specs.Chain.{is_extension, is_whole, extension_bytes};
-ghost use Rattle.node_stage.specs.Stepping.{IsStanding};
+ghost use Rattle.std.specs.Prelude.{◌≡◌, ◌+◌, ◌≤◌, length};
+ghost use Rattle.srv6_rules.specs.Chain.{is_extension, is_whole, extension_bytes, place_behind};
+ghost use Rattle.node_stage.specs.Stepping.{IsStanding, first_place, place_view, header_at};
 
 use srv6_rules::numbers::{
-    DESTINATION_OPTIONS, EXTENSION_LEN_AT, EXTENSION_UNIT, FRAGMENT, HOP_BY_HOP, ROUTING,
+    DESTINATION_OPTIONS, EXTENSION_LEN_AT, EXTENSION_UNIT, FRAGMENT, HOP_BY_HOP, IPV6_HEADER_LEN,
+    MOST_LEN, NEXT_HEADER_AT, ROUTING,
 };
 
-/// What stands at a place of a payload: a whole extension header, whose first byte names what
-/// stands behind it, at a place in bytes from 0; an upper layer; or an extension header that is
-/// cut.
+/// Where a chain has come to: a place, the next-header value that names what stands there, and the
+/// place of the field that held that value. Places are in bytes from the packet's first.
+#[derive(Clone, Copy, Debug)]
+pub(crate) struct ChainPlace {
+    pub(crate) at: usize,
+    pub(crate) kind: u8,
+    pub(crate) named_at: usize,
+}
+
+impl ChainPlace {
+    /// Where the chain of a packet starts: behind its IPv6 header, which names what stands there.
+    pub(crate) fn first(next_header: u8) -> ChainPlace
+        ensures { place_view result ≡ first_place next_header }
+    {
+        ChainPlace {
+            at: IPV6_HEADER_LEN,
+            kind: next_header,
+            named_at: NEXT_HEADER_AT,
+        }
+    }
+
+    /// Where the chain goes on behind the header that stands here.
+    pub(crate) fn behind(self, header: &[u8]) -> ChainPlace
+        requires least { EXTENSION_UNIT ≤ length header.now }
+        requires fits { self.at + length header.now ≤ MOST_LEN }
+        ensures { place_view result ≡ place_behind (header_at self header.now) }
+    {
+        ChainPlace {
+            at: self.at + header.len(),
+            kind: header[0],
+            named_at: self.at,
+        }
+    }
+}
+
+/// What stands at a place: a whole extension header of a length in bytes; an upper layer; or an
+/// extension header that is cut.
 #[derive(Clone, Copy, Debug)]
 pub(crate) enum Stands {
-    Header { next: u8, behind: usize },
+    Header { len: usize },
     Upper,
     Cut,
 }
@@ -25,7 +60,7 @@ fn is_extension(kind: u8) -> bool
     kind == HOP_BY_HOP || kind == ROUTING || kind == FRAGMENT || kind == DESTINATION_OPTIONS
 }
 
-/// The length in bytes of the header that these bytes begin with.
+/// The length in bytes of the header that these bytes begin with; a Fragment header states none.
 fn extension_len(kind: u8, bytes: &[u8]) -> usize
     requires { EXTENSION_UNIT ≤ length bytes.now }
     ensures { result ≡ extension_bytes kind bytes.now }
@@ -44,20 +79,17 @@ fn is_whole(kind: u8, bytes: &[u8]) -> bool
     bytes.len() >= EXTENSION_UNIT && bytes.len() >= extension_len(kind, bytes)
 }
 
-/// What stands at a place of a payload, that a value names.
-pub(crate) fn stands_at(payload: &[u8], kind: u8, at: usize) -> Stands
-    requires { at ≤ length payload.now }
-    ensures { IsStanding payload.now kind at result }
+/// What these bytes, which a value names, begin with.
+pub(crate) fn stands_at(kind: u8, bytes: &[u8]) -> Stands
+    ensures { IsStanding kind bytes.now result }
 {
     if !is_extension(kind) {
         return Stands::Upper;
     }
-    let rest = payload.split_at(at).1;
-    if !is_whole(kind, rest) {
+    if !is_whole(kind, bytes) {
         return Stands::Cut;
     }
     Stands::Header {
-        next: rest[0],
-        behind: at + extension_len(kind, rest),
+        len: extension_len(kind, bytes),
     }
 }

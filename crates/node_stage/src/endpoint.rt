@@ -1,40 +1,28 @@
 //! What a node does with a packet that came to one of its SIDs or to its own address.
 
-ghost use Rattle.std.specs.Prelude.{◌≡◌, ◌==◌, ◌+◌, ◌<◌, ◌≤◌, length, drop, slice_index};
-ghost use Rattle.srv6_rules.specs.Chain.{LiesIn, header_at, is_segment_routing, routing};
-ghost use Rattle.srv6_rules.specs.Endpoint.{at_address, at_address_header, at_header, at_sid, at_upper, in_packet, is_allowed, next_segment};
-ghost use Rattle.node_stage.specs.Judging.{IsFaultOf, IsHeaderFault, IsJudged, IsJudgedHeader, srh_at, passes_entries, has_values};
+ghost use Rattle.std.specs.Prelude.{◌≡◌, ◌+◌, ◌*◌, ◌<◌, ◌≤◌, true, length, slice_index};
+ghost use Rattle.srv6_rules.specs.Packet.{Packet as PacketValue};
+ghost use Rattle.srv6_rules.specs.Srh.{srh_of};
+ghost use Rattle.srv6_rules.specs.Chain.{LiesIn, is_extension};
+ghost use Rattle.srv6_rules.specs.Endpoint.{Endpoint, at_address, at_address_header, at_header, at_sid, at_sid_routing, at_upper, is_allowed, next_segment};
+ghost use Rattle.node_stage.specs.Judging.{IsFaultOf, IsHeaderFault, IsJudged, IsJudgedHeader, passes_entries};
+ghost use Rattle.node_stage.specs.Stepping.{header_at, place_view};
 
-use crate::chain::{Stands, stands_at};
+use crate::areas::Fault;
+use crate::chain::{ChainPlace, Stands, stands_at};
+use crate::headers::{header_fault, segment_routing_fault, unknown_routing_fault};
 use crate::numbers::address_at;
 use crate::packet::Packet;
 use srv6_rules::numbers::{
-    EXTENSION_LEN_AT, LAST_ENTRY_AT, ROUTING, ROUTING_TYPE_AT, SEGMENT_LEN, SEGMENT_LIST_AT,
-    SEGMENT_ROUTING, SEGMENTS_LEFT_AT,
+    EXTENSION_LEN_AT, EXTENSION_UNIT, IPV6_HEADER_LEN, LAST_ENTRY_AT, MOST_LEN, ROUTING,
+    ROUTING_TYPE_AT, SEGMENT_LEN, SEGMENT_LIST_AT, SEGMENT_ROUTING, SEGMENTS_LEFT_AT,
 };
 use srv6_rules::{Family, Reason, SidEntry};
 use v6_addr::Addr;
 
-/// Why a packet is dropped, and the place of the fault in bytes from the packet's first, 0 where
-/// the reason has no place.
-#[derive(Clone, Copy, Debug)]
-pub(crate) struct Fault {
-    pub(crate) reason: Reason,
-    pub(crate) at: usize,
-}
-
-impl Fault {
-    /// A fault that has no place.
-    pub(crate) fn of(reason: Reason) -> Fault
-        ensures { result ≡ record { reason = reason; at = 0 } }
-    {
-        Fault { reason, at: 0 }
-    }
-}
-
-/// What comes of a packet at a SID: its segment routing header at a place of the payload makes
-/// another segment the destination, the packet inside of a family from a place of the payload on is
-/// exposed, the upper layer takes it, or it is dropped.
+/// What comes of a packet at a SID: its segment routing header at a place makes another segment the
+/// destination, the packet inside of a family from a place on is exposed, the upper layer takes it,
+/// or it is dropped. Places are in bytes from the packet's first.
 #[derive(Clone, Copy, Debug)]
 pub(crate) enum Judged {
     Advance {
@@ -52,33 +40,25 @@ pub(crate) enum Judged {
     },
 }
 
-/// The header at a place of the payload is a segment routing header.
-fn is_segment_routing(payload: &[u8], kind: u8, at: usize) -> bool
-    requires { LiesIn payload.now (header_at payload.now kind at) }
-    ensures { result ≡ is_segment_routing (header_at payload.now kind at) }
+/// The segments of the segment routing header at a place are out of range, which is a fault in
+/// Segments Left (RFC 8754 section 4.3.1.1, RFC 8986 section 4.6).
+fn bad_segments(at: usize) -> Fault
+    requires { at ≤ MOST_LEN }
+    ensures { result ≡ record { reason = Reason.BadSegments; at = at + SEGMENTS_LEFT_AT } }
 {
-    kind == ROUTING && payload[at + ROUTING_TYPE_AT] == SEGMENT_ROUTING
-}
-
-/// The segment routing header at a place of the payload has no segments left.
-fn is_finished(payload: &[u8], at: usize) -> bool
-    requires { at + SEGMENTS_LEFT_AT < length payload.now }
-    ensures { result ≡ (slice_index payload.now (at + SEGMENTS_LEFT_AT) == 0) }
-{
-    payload[at + SEGMENTS_LEFT_AT] == 0
-}
-
-/// The segments of the segment routing header at a place of the payload are out of range, which is
-/// a fault in Segments Left (RFC 8754 section 4.3.1.1, RFC 8986 section 4.6).
-fn bad_segments(packet: &Packet, at: usize) -> Fault
-    requires { at + SEGMENTS_LEFT_AT ≤ length packet.now.payload }
-    ensures { result
-        ≡ record { reason = Reason.BadSegments; at = in_packet (at + SEGMENTS_LEFT_AT) } }
-{
-    prove!(at < packet.payload().len());
     Fault {
         reason: Reason::BadSegments,
-        at: packet.place_of(at + SEGMENTS_LEFT_AT),
+        at: at + SEGMENTS_LEFT_AT,
+    }
+}
+
+/// An extension header at a place is cut.
+fn cut_fault(place: ChainPlace) -> Fault
+    ensures { result ≡ record { reason = Reason.BadChain; at = place.at } }
+{
+    Fault {
+        reason: Reason::BadChain,
+        at: place.at,
     }
 }
 
@@ -90,13 +70,6 @@ fn passes_entries(extension_len: u8, last_entry: u8, segments_left: u8) -> bool
         || u16::from(last_entry) + 1 < u16::from(segments_left)
 }
 
-/// Bytes stand between the last entry and the header's end.
-fn has_values(extension_len: u8, last_entry: u8) -> bool
-    ensures { result ≡ has_values extension_len last_entry }
-{
-    2 * (u16::from(last_entry) + 1) < u16::from(extension_len)
-}
-
 /// The upper layer is one that the node takes at its SIDs.
 fn is_allowed(allow: &[u8], kind: u8) -> bool
     ensures { result ≡ is_allowed allow.now kind }
@@ -104,134 +77,165 @@ fn is_allowed(allow: &[u8], kind: u8) -> bool
     allow.iter().any(|k| *k == kind)
 }
 
-/// The step over the segment routing header at a place of the payload, with segments left: the hop
-/// limit is judged, then the segments, then the type-length-value area (RFC 8986 section 4.1).
-fn judge_segment(packet: &Packet, at: usize) -> Judged
-    requires header { LiesIn packet.now.payload (header_at packet.now.payload routing at) }
-    requires left { 0 < slice_index packet.now.payload (at + SEGMENTS_LEFT_AT) }
-    ensures { IsJudged packet.now
-        (next_segment packet.now at (srh_at packet.now.payload at)) result }
+/// The step over a segment routing header at a place, with segments left: the hop limit is judged,
+/// then the segments, then the type-length-value area (RFC 8754 section 4.3.1.1).
+fn judge_segment(packet: &Packet, at: usize, header: &[u8]) -> Judged
+    requires behind { IPV6_HEADER_LEN ≤ at }
+    requires within { at + length header.now ≤ IPV6_HEADER_LEN + length packet.now.payload }
+    requires stated { length header.now
+        ≡ EXTENSION_UNIT * (slice_index header.now EXTENSION_LEN_AT + 1) }
+    requires left { 0 < slice_index header.now SEGMENTS_LEFT_AT }
+    ensures { IsJudged packet.now (next_segment packet.now at (srh_of header.now)) result }
 {
+    packet.keeps_rules();
     if packet.hop_limit() <= 1 {
         return Judged::Refuse {
             fault: Fault::of(Reason::HopLimit),
         };
     }
-    let payload = packet.payload();
-    let extension_len = payload[at + EXTENSION_LEN_AT];
-    let segments_left = payload[at + SEGMENTS_LEFT_AT];
-    let last_entry = payload[at + LAST_ENTRY_AT];
-    if passes_entries(extension_len, last_entry, segments_left) {
+    let segments_left = header[SEGMENTS_LEFT_AT];
+    if passes_entries(
+        header[EXTENSION_LEN_AT],
+        header[LAST_ENTRY_AT],
+        segments_left,
+    ) {
         return Judged::Refuse {
-            fault: bad_segments(packet, at),
+            fault: bad_segments(at),
         };
     }
-    if has_values(extension_len, last_entry) {
-        return Judged::Refuse {
-            fault: Fault::of(Reason::NotBuilt),
-        };
+    if let Some(fault) = segment_routing_fault(at, header) {
+        return Judged::Refuse { fault };
     }
     let left = segments_left - 1;
     Judged::Advance {
         at,
         left,
-        destination: address_at(
-            payload,
-            at + SEGMENT_LIST_AT + SEGMENT_LEN * usize::from(left),
-        ),
+        destination: address_at(header, SEGMENT_LIST_AT + SEGMENT_LEN * usize::from(left)),
     }
 }
 
-/// A header at a place of the payload at a SID, or none where it is passed over: a segment routing
-/// header with no segments left (RFC 8754 section 4.3.1.1). A SID that goes on takes the step over
-/// one with segments left.
-fn judge_header(entry: &SidEntry, packet: &Packet, kind: u8, at: usize) -> Option<Judged>
-    requires { LiesIn packet.now.payload (header_at packet.now.payload kind at) }
-    ensures { IsJudgedHeader packet.now
-        (at_header entry.now packet.now (header_at packet.now.payload kind at)) result }
+/// A header that a fault refuses.
+fn refused(fault: Option<Fault>) -> Option<Judged>
+    ensures { (p : PacketValue) (treat : Endpoint → Endpoint) → IsHeaderFault treat fault
+        → IsJudgedHeader p treat result }
 {
-    let payload = packet.payload();
-    if !is_segment_routing(payload, kind, at) {
-        return Some(Judged::Refuse {
-            fault: Fault::of(Reason::NotBuilt),
-        });
+    match fault {
+        Some(fault) => Some(Judged::Refuse { fault }),
+        None => None,
     }
-    if is_finished(payload, at) {
+}
+
+/// A routing header at a SID, or none where it is passed over: one with no segments left. A SID
+/// that goes on takes the step over a segment routing header with segments left, and other routing
+/// headers are unknown (RFC 8754 section 4.3.1.1, RFC 8200 section 4.4).
+fn judge_routing(
+    entry: &SidEntry,
+    packet: &Packet,
+    place: ChainPlace,
+    header: &[u8],
+) -> Option<Judged>
+    requires routing { place.kind ≡ ROUTING }
+    requires lies { LiesIn packet.now (header_at place header.now) }
+    ensures { IsJudgedHeader packet.now
+        (at_sid_routing entry.now packet.now (header_at place header.now)) result }
+{
+    packet.keeps_rules();
+    if header[ROUTING_TYPE_AT] != SEGMENT_ROUTING {
+        return refused(unknown_routing_fault(place, header));
+    }
+    if header[SEGMENTS_LEFT_AT] == 0 {
         return None;
     }
     if !entry.goes_on() {
         return Some(Judged::Refuse {
-            fault: bad_segments(packet, at),
+            fault: bad_segments(place.at),
         });
     }
-    Some(judge_segment(packet, at))
+    Some(judge_segment(packet, place.at, header))
+}
+
+/// A header at a SID, or none where it is passed over.
+fn judge_header(
+    entry: &SidEntry,
+    packet: &Packet,
+    place: ChainPlace,
+    header: &[u8],
+) -> Option<Judged>
+    requires { LiesIn packet.now (header_at place header.now) }
+    ensures { IsJudgedHeader packet.now
+        (at_header entry.now packet.now (header_at place header.now)) result }
+{
+    packet.keeps_rules();
+    if place.kind == ROUTING {
+        return judge_routing(entry, packet, place, header);
+    }
+    refused(header_fault(place, header))
 }
 
 /// The upper layer at a SID: a SID that exposes it exposes the packet inside.
-fn judge_upper(entry: &SidEntry, allow: &[u8], packet: &Packet, kind: u8, at: usize) -> Judged
-    requires { at ≤ length packet.now.payload }
-    ensures { IsJudged packet.now (at_upper entry.now allow.now packet.now kind at) result }
+fn judge_upper(entry: &SidEntry, allow: &[u8], packet: &Packet, place: ChainPlace) -> Judged
+    requires behind { IPV6_HEADER_LEN ≤ place.at }
+    requires within { place.at ≤ IPV6_HEADER_LEN + length packet.now.payload }
+    ensures { IsJudged packet.now (at_upper entry.now allow.now packet.now (place_view place))
+        result }
 {
-    if entry.exposes(kind) {
+    if entry.exposes(place.kind) {
         return Judged::Expose {
             family: Family::V6,
-            at,
+            at: place.at,
         };
     }
-    if is_allowed(allow, kind) {
+    if is_allowed(allow, place.kind) {
         return Judged::Deliver;
     }
     Judged::Refuse {
         fault: Fault {
             reason: Reason::UpperLayer,
-            at: packet.place_of(at),
+            at: place.at,
         },
     }
 }
 
 /// A packet at a SID of a node that takes some upper layers at its SIDs (RFC 8986 sections 4.1, 4.2
-/// and 4.6).
+/// and 4.6). The first header that is not passed over decides, and else the chain's end.
 pub(crate) fn judge_at_sid(entry: &SidEntry, allow: &[u8], packet: &Packet) -> Judged
     ensures { IsJudged packet.now (at_sid entry.now allow.now packet.now) result }
 {
-    let mut kind = packet.next_header();
-    let mut at = 0;
+    packet.keeps_rules();
+    let mut place = ChainPlace::first(packet.next_header());
+    let mut rest = packet.payload();
     'headers: loop {
-        match stands_at(packet.payload(), kind, at) {
-            Stands::Upper => return judge_upper(entry, allow, packet, kind, at),
+        match stands_at(place.kind, rest) {
+            Stands::Upper => return judge_upper(entry, allow, packet, place),
             Stands::Cut => {
                 return Judged::Refuse {
-                    fault: Fault::of(Reason::BadChain),
+                    fault: cut_fault(place),
                 };
             }
-            Stands::Header { next, behind } => {
-                if let Some(judged) = judge_header(entry, packet, kind, at) {
+            Stands::Header { len } => {
+                let (header, behind) = rest.split_at(len);
+                if let Some(judged) = judge_header(entry, packet, place, header) {
                     return judged;
                 }
-                kind = next;
-                at = behind;
+                place = place.behind(header);
+                rest = behind;
             }
         }
     }
 }
 
-/// Why a header at a place of the payload is refused at the node's own address, or none where it is
-/// passed over.
-fn header_fault(packet: &Packet, kind: u8, at: usize) -> Option<Fault>
-    requires { LiesIn packet.now.payload (header_at packet.now.payload kind at) }
-    ensures { IsHeaderFault (at_address_header (header_at packet.now.payload kind at)) result }
+/// Why a header is refused at the node's own address, where every routing header is unknown, or
+/// none where it is passed over (RFC 8200 section 4).
+fn fault_of_header(place: ChainPlace, header: &[u8]) -> Option<Fault>
+    requires extension { is_extension place.kind ≡ true }
+    requires least { EXTENSION_UNIT ≤ length header.now }
+    requires fits { place.at + length header.now ≤ MOST_LEN }
+    ensures { IsHeaderFault (at_address_header (header_at place header.now)) result }
 {
-    let payload = packet.payload();
-    if !is_segment_routing(payload, kind, at) {
-        return Some(Fault::of(Reason::NotBuilt));
+    if place.kind == ROUTING {
+        return unknown_routing_fault(place, header);
     }
-    if is_finished(payload, at) {
-        return None;
-    }
-    Some(Fault {
-        reason: Reason::UnknownRouting,
-        at: packet.place_of(at + ROUTING_TYPE_AT),
-    })
+    header_fault(place, header)
 }
 
 /// A packet at the node's own address: why it is dropped, or none where its upper layer takes it
@@ -239,18 +243,20 @@ fn header_fault(packet: &Packet, kind: u8, at: usize) -> Option<Fault>
 pub(crate) fn fault_at_address(packet: &Packet) -> Option<Fault>
     ensures { IsFaultOf packet.now (at_address packet.now) result }
 {
-    let mut kind = packet.next_header();
-    let mut at = 0;
+    packet.keeps_rules();
+    let mut place = ChainPlace::first(packet.next_header());
+    let mut rest = packet.payload();
     'headers: loop {
-        match stands_at(packet.payload(), kind, at) {
+        match stands_at(place.kind, rest) {
             Stands::Upper => return None,
-            Stands::Cut => return Some(Fault::of(Reason::BadChain)),
-            Stands::Header { next, behind } => {
-                if let Some(fault) = header_fault(packet, kind, at) {
+            Stands::Cut => return Some(cut_fault(place)),
+            Stands::Header { len } => {
+                let (header, behind) = rest.split_at(len);
+                if let Some(fault) = fault_of_header(place, header) {
                     return Some(fault);
                 }
-                kind = next;
-                at = behind;
+                place = place.behind(header);
+                rest = behind;
             }
         }
     }

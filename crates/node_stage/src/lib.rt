@@ -4,9 +4,11 @@
 //! node does with it at a place under a choice among equal next hops; it takes no memory.
 #![tactic(auto)]
 
+mod areas;
 mod chain;
 mod content;
 mod endpoint;
+mod headers;
 mod numbers;
 mod packet;
 mod reading;

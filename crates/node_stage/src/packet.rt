@@ -2,7 +2,6 @@
 
 ghost use Rattle.std.specs.Prelude.{◌≡◌, ◌-◌, ◌<◌, ◌≤◌, length, drop, slice_set};
 ghost use Rattle.srv6_rules.specs.Packet.{read_as, packet_at, first_word, IsSpellable};
-ghost use Rattle.srv6_rules.specs.Endpoint.{in_packet};
 ghost use Rattle.node_stage.specs.Reading.{HoldsPacket};
 
 use crate::content::Content;
@@ -157,15 +156,6 @@ impl Packet {
         ensures { self.new ≡ record self.old { payload = slice_set self.old.payload at byte } }
     {
         self.payload[at] = byte;
-    }
-
-    /// The place in the packet's bytes of a place in the payload, both counted from 0.
-    pub(crate) fn place_of(&self, at: usize) -> usize
-        requires { at ≤ length self.now.payload }
-        ensures { result ≡ in_packet at }
-    {
-        prove!(at <= self.payload.len());
-        IPV6_HEADER_LEN + at
     }
 
     /// No bytes, of the payload's allocator.

@@ -1,8 +1,10 @@
 //! A packet at a node of two; its bytes are laid out by hand.
 
+ghost use Rattle.std.specs.Prelude.{◌≡◌, ◌<◌, length};
+
 use crate::{Content, stage};
 use net_model::{Link, Name, Net, NetParts, Node, Route, TypeList};
-use srv6_rules::{Behaviour, Family, LinkSet, SidEntry};
+use srv6_rules::{Behaviour, Family, LinkSet, Reason, SidEntry};
 use std::alloc::{AllocError, Global};
 use std::process::Abort;
 use std::test::Fail;
@@ -42,6 +44,41 @@ const INSIDE: [u8; 40] = [
     0x60, 0x00, 0x00, 0x00, 0x00, 0x00, 0x3b, 0x02, 0x20, 0x01, 0x0d, 0xb8, 0x00, 0x00, 0x00, 0x00,
     0x00, 0x00, 0x00, 0x00, 0x00, 0x00, 0x00, 0x01, 0x20, 0x01, 0x0d, 0xb8, 0x00, 0x00, 0x00, 0x00,
     0x00, 0x00, 0x00, 0x00, 0x00, 0x00, 0x00, 0x02,
+];
+
+/// Destination Options of a PadN, before Hop-by-Hop Options of a PadN.
+const LATE_HOP_BY_HOP: [u8; 16] = [
+    0x00, 0x00, 0x01, 0x04, 0x00, 0x00, 0x00, 0x00, 0x3b, 0x00, 0x01, 0x04, 0x00, 0x00, 0x00, 0x00,
+];
+
+/// Destination Options of a Pad1, a PadN of no bytes, and an option of type 0x9e, of 1 byte.
+const UNKNOWN_OPTION: [u8; 8] = [0x3b, 0x00, 0x00, 0x01, 0x00, 0x9e, 0x01, 0x00];
+
+/// Destination Options of an option of type 0x5e, of 4 bytes.
+const DISCARDED_OPTION: [u8; 8] = [0x3b, 0x00, 0x5e, 0x04, 0x00, 0x00, 0x00, 0x00];
+
+/// Destination Options of an option of type 0x1e, of 5 bytes where 4 are left.
+const LONG_OPTION: [u8; 8] = [0x3b, 0x00, 0x1e, 0x05, 0x00, 0x00, 0x00, 0x00];
+
+/// A Fragment header, whose second byte is no length.
+const FRAGMENT: [u8; 8] = [0x3b, 0xff, 0x00, 0x00, 0x00, 0x00, 0x00, 0x01];
+
+/// A routing header of type 3 with Segments Left 1.
+const OTHER_ROUTING: [u8; 8] = [0x3b, 0x00, 0x03, 0x01, 0x00, 0x00, 0x00, 0x00];
+
+/// The same with Segments Left 0.
+const OTHER_ROUTING_BEHIND_END: [u8; 8] = [0x3b, 0x00, 0x03, 0x00, 0x00, 0x00, 0x00, 0x00];
+
+/// Segments Left 1 of the segment list fc00:b:1::, and an HMAC, which passes the header's end.
+const SEGMENT_AND_HMAC: [u8; 32] = [
+    0x3b, 0x03, 0x04, 0x01, 0x00, 0x00, 0x00, 0x00, 0xfc, 0x00, 0x00, 0x0b, 0x00, 0x01, 0x00, 0x00,
+    0x00, 0x00, 0x00, 0x00, 0x00, 0x00, 0x00, 0x00, 0x05, 0x26, 0x00, 0x00, 0x00, 0x00, 0x00, 0x00,
+];
+
+/// The same with a Pad1, and an item of type 6, of 6 bytes where 5 are left.
+const SEGMENT_AND_CUT_ITEM: [u8; 32] = [
+    0x3b, 0x03, 0x04, 0x01, 0x00, 0x00, 0x00, 0x00, 0xfc, 0x00, 0x00, 0x0b, 0x00, 0x01, 0x00, 0x00,
+    0x00, 0x00, 0x00, 0x00, 0x00, 0x00, 0x00, 0x00, 0x00, 0x06, 0x06, 0x00, 0x00, 0x00, 0x00, 0x00,
 ];
 
 fn prefix(rt: &impl Abort, value: u128, len: u8) -> Prefix {
@@ -225,5 +262,72 @@ fn the_packet_inside_leaves(rt: HostRuntime) -> Result<(), Fail> {
     assert_eq!(rt; outcome, Outcome::Send { link: 1 });
     assert_eq!(rt; next_place(&net, &place, &outcome), None);
     assert_eq!(rt; ended_by(&net, &place, &outcome), Ended::Left { link: 1 });
+    Ok(())
+}
+
+/// What comes at B of a packet to its End, with a next header and what stands behind the IPv6
+/// header.
+fn outcome_at_b(
+    alloc: Global,
+    net: &Net,
+    next_header: u8,
+    payload: &[u8],
+) -> Result<Outcome, AllocError>
+    requires nodes { length net.now.nodes ≡ 2 }
+    requires payload { length payload.now < 256 }
+{
+    let mut header = HEADER;
+    header[5] = payload.len() as u8;
+    header[6] = next_header;
+    let mut bytes = header.to_vec(alloc)?;
+    bytes.extend_from_slice(payload)?;
+    let mut content = Content::enter(bytes);
+    let place = Place {
+        node: 1,
+        how: How::Arrived { table: 0 },
+        family: Family::V6,
+    };
+    Ok(stage(net, &place, &mut content, 0))
+}
+
+fn drop_for(reason: Reason) -> Outcome {
+    Outcome::Drop {
+        reason,
+        error: false,
+    }
+}
+
+/// Options are judged one by one.
+#[test]
+fn options_refuse_at_b(rt: HostRuntime) -> Result<(), Fail> {
+    let net = net(&rt, rt.alloc())?;
+    assert_eq!(rt; net.nodes(), 2);
+    let late = outcome_at_b(rt.alloc(), &net, 60, &LATE_HOP_BY_HOP)?;
+    assert_eq!(rt; late, drop_for(Reason::LateHopByHop));
+    let unknown = outcome_at_b(rt.alloc(), &net, 60, &UNKNOWN_OPTION)?;
+    assert_eq!(rt; unknown, drop_for(Reason::OptionUnknown));
+    let discarded = outcome_at_b(rt.alloc(), &net, 60, &DISCARDED_OPTION)?;
+    assert_eq!(rt; discarded, drop_for(Reason::OptionDiscard));
+    let long = outcome_at_b(rt.alloc(), &net, 60, &LONG_OPTION)?;
+    assert_eq!(rt; long, drop_for(Reason::BadChain));
+    Ok(())
+}
+
+/// A Fragment header, routing headers and type-length-value areas; behind a routing header with no
+/// segments left the upper layer is judged.
+#[test]
+fn headers_refuse_at_b(rt: HostRuntime) -> Result<(), Fail> {
+    let net = net(&rt, rt.alloc())?;
+    assert_eq!(rt; net.nodes(), 2);
+    let fragment = outcome_at_b(rt.alloc(), &net, 44, &FRAGMENT)?;
+    assert_eq!(rt; fragment, drop_for(Reason::Fragment));
+    let other = outcome_at_b(rt.alloc(), &net, 43, &OTHER_ROUTING)?;
+    assert_eq!(rt; other, drop_for(Reason::UnknownRouting));
+    let behind = outcome_at_b(rt.alloc(), &net, 43, &OTHER_ROUTING_BEHIND_END)?;
+    assert_eq!(rt; behind, drop_for(Reason::UpperLayer));
+    let hmac = outcome_at_b(rt.alloc(), &net, 43, &SEGMENT_AND_HMAC)?;
+    assert_eq!(rt; hmac, drop_for(Reason::HmacTlv));
+    let cut = outcome_at_b(rt.alloc(), &net, 43, &SEGMENT_AND_CUT_ITEM)?;
+    assert_eq!(rt; cut, drop_for(Reason::BadTlv));
     Ok(())
 }

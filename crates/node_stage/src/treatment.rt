@@ -11,11 +11,12 @@ ghost use Rattle.walk_rules.specs.Way.{IsWayFrom, StandsAt, way_in};
 ghost use Rattle.node_stage.specs.Judging.{moved_on};
 ghost use Rattle.node_stage.specs.Staging.{gave_of};
 
+use crate::areas::Fault;
 use crate::content::{Content, Held};
-use crate::endpoint::{Fault, Judged, fault_at_address, judge_at_sid};
+use crate::endpoint::{Judged, fault_at_address, judge_at_sid};
 use crate::packet::Packet;
 use net_model::Net;
-use srv6_rules::numbers::SEGMENTS_LEFT_AT;
+use srv6_rules::numbers::{IPV6_HEADER_LEN, SEGMENTS_LEFT_AT};
 use srv6_rules::{Reason, SidEntry};
 use v6_addr::Addr;
 use walk_rules::{Outcome, Place, Way, on_from, way_of};
@@ -94,13 +95,14 @@ fn treated_at_address(packet: Packet) -> Staged
 
 /// The packet with a lower hop limit, another destination and other Segments Left.
 fn moved_on(mut packet: Packet, at: usize, left: u8, destination: Addr) -> Packet
-    requires place { at + SEGMENTS_LEFT_AT < length packet.payload }
+    requires behind { IPV6_HEADER_LEN ≤ at }
+    requires within { at + SEGMENTS_LEFT_AT < IPV6_HEADER_LEN + length packet.payload }
     requires hop_limit { 1 ≤ packet.hop_limit }
     ensures { result ≡ moved_on packet at left destination.value }
 {
     packet.lower_hop_limit();
     packet.set_destination(destination);
-    packet.set_payload_byte(at + SEGMENTS_LEFT_AT, left);
+    packet.set_payload_byte(at - IPV6_HEADER_LEN + SEGMENTS_LEFT_AT, left);
     packet
 }
 
@@ -123,7 +125,7 @@ fn treated_at_sid(sid: u32, entry: &SidEntry, allow: &[u8], packet: Packet) -> S
         },
         Judged::Expose { family, at } => Staged {
             outcome: Outcome::Hand { sid, how, family },
-            after: packet.exposed(family, at),
+            after: packet.exposed(family, at - IPV6_HEADER_LEN),
         },
         Judged::Deliver => Staged {
             outcome: Outcome::Local,

@@ -1,27 +1,44 @@
-use Rattle.node_stage.specs.Stepping.{IsHeader}
-use Rattle.node_stage.proofs.EndpointLemmas.{delivered-at_address, cut-at_address, fault-at_address, passed-at_address}
+use Rattle.std.proofs.Common.{◌≡◌}
+use Rattle.srv6_rules.specs.Endpoint.{Endpoint, Refused, at_address, at_address_end, at_address_header}
+use Rattle.node_stage.specs.Stepping.{place_view}
+use Rattle.node_stage.proofs.ChainLemmas.{comes-start, comes-upper, comes-cut, comes-decided, comes-behind}
 use Rattle.node_stage.proofs.endpoint.fault_at_address.Goals as goal
 
+pub headers-init : goal.headers-init
+headers-init c =
+    let p = c.args.packet.now in
+    comes-start at_address_header (at_address_end p) p (place_view c.first-place.result) c.payload-rest.result.now c.next_header.result
+    c.first-place.ensures c.next_header.ensures c.payload-rest.ensures
+
 pub returns-in-Upper : goal.returns-in-Upper
-returns-in-Upper c = delivered-at_address c.args.packet.now c.headers.kind c.headers.at c.headers.invariant.same c.in-Upper.ensures
+returns-in-Upper c =
+    let p = c.args.packet.now in
+    let q = place_view c.headers.place in
+    let rest = c.headers.rest.now in
+    comes-upper at_address_header (at_address_end p) p (at_address p) q rest c.headers.invariant c.in-Upper.ensures
 
 pub returns-in-Cut : goal.returns-in-Cut
 returns-in-Cut c =
-    let cut = rw c.payload.ensures at c.in-Cut.ensures in
-    rw c.of.ensures (cut-at_address c.args.packet.now c.headers.kind c.headers.at c.headers.invariant.same cut.0 cut.1)
+    let p = c.args.packet.now in
+    let q = place_view c.headers.place in
+    let rest = c.headers.rest.now in
+    rw c.cut_fault.ensures
+    (comes-cut at_address_header (at_address_end p) p (at_address p) q rest c.headers.invariant c.in-Cut.ensures.0 c.in-Cut.ensures.1)
 
 pub returns-in-Some : goal.returns-in-Some
 returns-in-Some c =
-    fault-at_address c.args.packet.now c.headers.kind c.headers.at c.headers.invariant.same c.in-Header.next c.in-Header.behind
-    c.in-Some.fault (rw c.payload.ensures at c.in-Header.ensures) c.in-Some.ensures
+    let p = c.args.packet.now in
+    let q = place_view c.headers.place in
+    let rest = c.headers.rest.now in
+    let P : Endpoint → Type 0 = λ x. x ≡ Refused c.in-Some.fault.reason c.in-Some.fault.at in
+    comes-decided at_address_header (at_address_end p) p (at_address p) q rest c.headers.invariant c.in-Header.len c.in-Header.ensures
+    c.split_at.result.0.now c.split_at.ensures.front P c.in-Some.ensures
 
 pub headers-preserved : goal.headers-preserved
 headers-preserved c =
-    let h : IsHeader c.args.packet.now.payload c.headers.kind c.headers.at c.in-Header.next c.in-Header.behind =
-    rw c.payload.ensures at c.in-Header.ensures in
-    record {
-      same =
-          passed-at_address c.args.packet.now c.headers.kind c.headers.at c.headers.invariant.same c.in-Header.next c.in-Header.behind h
-          c.in_default.ensures;
-      within = h.within;
-    }
+    let p = c.args.packet.now in
+    let q = place_view c.headers.place in
+    let rest = c.headers.rest.now in
+    comes-behind at_address_header (at_address_end p) p (at_address p) q rest c.headers.invariant c.in-Header.len c.in-Header.ensures
+    c.split_at.result.0.now c.split_at.ensures.front c.split_at.result.1.now (place_view c.behind-place.result)
+    c.split_at.ensures.back c.behind-place.ensures c.in_default.ensures

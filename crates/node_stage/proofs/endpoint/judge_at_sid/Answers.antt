@@ -1,30 +1,57 @@
-use Rattle.node_stage.specs.Stepping.{IsHeader}
-use Rattle.node_stage.proofs.EndpointLemmas.{judged-upper, refused-cut, judged-header, passed-header}
+use Rattle.srv6_rules.specs.Chain.{Upper}
+use Rattle.srv6_rules.specs.Endpoint.{Endpoint, at_end, at_header, at_sid}
+use Rattle.node_stage.specs.Judging.{IsJudged}
+use Rattle.node_stage.specs.Stepping.{place_view}
+use Rattle.node_stage.proofs.ChainLemmas.{comes-start, comes-upper, comes-cut, comes-decided, comes-behind}
+use Rattle.node_stage.proofs.EndpointLemmas.{judged-at}
 use Rattle.node_stage.proofs.endpoint.judge_at_sid.Goals as goal
+
+pub headers-init : goal.headers-init
+headers-init c =
+    let s = c.args.entry.now in
+    let allow = c.args.allow.now in
+    let p = c.args.packet.now in
+    comes-start (at_header s p) (at_end s allow p) p (place_view c.first-place.result) c.payload-rest.result.now c.next_header.result
+    c.first-place.ensures c.next_header.ensures c.payload-rest.ensures
 
 pub returns-in-Upper : goal.returns-in-Upper
 returns-in-Upper c =
-    judged-upper c.args.entry.now c.args.allow.now c.args.packet.now c.headers.kind c.headers.at c.headers.invariant.same
-    c.judge_upper.result c.in-Upper.ensures c.judge_upper.ensures
+    let s = c.args.entry.now in
+    let allow = c.args.allow.now in
+    let p = c.args.packet.now in
+    let q = place_view c.headers.place in
+    let rest = c.headers.rest.now in
+    let same = comes-upper (at_header s p) (at_end s allow p) p (at_sid s allow p) q rest c.headers.invariant c.in-Upper.ensures in
+    judged-at p (at_sid s allow p) (at_end s allow p (Upper q)) c.judge_upper.result same c.judge_upper.ensures
 
 pub returns-in-Cut : goal.returns-in-Cut
 returns-in-Cut c =
-    let cut = rw c.payload.ensures at c.in-Cut.ensures in
-    rw c.of.ensures
-    (refused-cut c.args.entry.now c.args.allow.now c.args.packet.now c.headers.kind c.headers.at c.headers.invariant.same cut.0 cut.1)
+    let s = c.args.entry.now in
+    let allow = c.args.allow.now in
+    let p = c.args.packet.now in
+    let q = place_view c.headers.place in
+    let rest = c.headers.rest.now in
+    rw c.cut_fault.ensures
+    (comes-cut (at_header s p) (at_end s allow p) p (at_sid s allow p) q rest c.headers.invariant c.in-Cut.ensures.0 c.in-Cut.ensures.1)
 
 pub returns-in-Some : goal.returns-in-Some
 returns-in-Some c =
-    judged-header c.args.entry.now c.args.allow.now c.args.packet.now c.headers.kind c.headers.at c.headers.invariant.same
-    c.in-Header.next c.in-Header.behind c.in-Some.judged (rw c.payload.ensures at c.in-Header.ensures) c.in-Some.ensures
+    let s = c.args.entry.now in
+    let allow = c.args.allow.now in
+    let p = c.args.packet.now in
+    let q = place_view c.headers.place in
+    let rest = c.headers.rest.now in
+    let P : Endpoint → Type 0 = λ x. IsJudged p x c.in-Some.judged in
+    comes-decided (at_header s p) (at_end s allow p) p (at_sid s allow p) q rest c.headers.invariant c.in-Header.len c.in-Header.ensures
+    c.split_at.result.0.now c.split_at.ensures.front P c.in-Some.ensures
 
 pub headers-preserved : goal.headers-preserved
 headers-preserved c =
-    let h : IsHeader c.args.packet.now.payload c.headers.kind c.headers.at c.in-Header.next c.in-Header.behind =
-    rw c.payload.ensures at c.in-Header.ensures in
-    record {
-      same =
-          passed-header c.args.entry.now c.args.allow.now c.args.packet.now c.headers.kind c.headers.at c.headers.invariant.same
-          c.in-Header.next c.in-Header.behind h c.in_default.ensures;
-      within = h.within;
-    }
+    let s = c.args.entry.now in
+    let allow = c.args.allow.now in
+    let p = c.args.packet.now in
+    let q = place_view c.headers.place in
+    let rest = c.headers.rest.now in
+    comes-behind (at_header s p) (at_end s allow p) p (at_sid s allow p) q rest c.headers.invariant c.in-Header.len c.in-Header.ensures
+    c.split_at.result.0.now c.split_at.ensures.front c.split_at.result.1.now (place_view c.behind-place.result)
+    c.split_at.ensures.back c.behind-place.ensures c.in_default.ensures

@@ -1,0 +1,78 @@
+//! What is done with an extension header, whatever comes behind it.
+
+ghost use Rattle.std.specs.Prelude.{◌≡◌, ◌≢◌, ◌+◌, ◌*◌, ◌/◌, ◌≤◌, true, length, slice_index};
+ghost use Rattle.srv6_rules.specs.Areas.{tlvs_fault};
+ghost use Rattle.srv6_rules.specs.Chain.{Header, is_extension};
+ghost use Rattle.srv6_rules.specs.Endpoint.{Endpoint, at_header_by, unknown_routing};
+ghost use Rattle.srv6_rules.specs.Srh.{srh_of};
+ghost use Rattle.node_stage.specs.Items.{fault_in};
+ghost use Rattle.node_stage.specs.Judging.{IsHeaderFault};
+ghost use Rattle.node_stage.specs.Stepping.{header_at};
+
+use crate::areas::{Fault, options_fault, tlvs_fault};
+use crate::chain::ChainPlace;
+use srv6_rules::Reason;
+use srv6_rules::numbers::{
+    DESTINATION_OPTIONS, EXTENSION_LEN_AT, EXTENSION_UNIT, HOP_BY_HOP, LAST_ENTRY_AT, MOST_LEN,
+    NEXT_HEADER_AT, OPTIONS_AT, ROUTING, ROUTING_TYPE_AT, SEGMENT_LEN, SEGMENT_LIST_AT,
+    SEGMENTS_LEFT_AT,
+};
+
+/// Why a header that is no routing header is refused, or none where it is passed over: Hop-by-Hop
+/// Options where the IPv6 header names them, and Destination Options without a fault (RFC 8200
+/// sections 4.1, 4.2 and 4.6); a Fragment header is not processed (own rule).
+pub(crate) fn header_fault(place: ChainPlace, header: &[u8]) -> Option<Fault>
+    requires extension { is_extension place.kind ≡ true }
+    requires other { place.kind ≢ ROUTING }
+    requires least { EXTENSION_UNIT ≤ length header.now }
+    requires fits { place.at + length header.now ≤ MOST_LEN }
+    ensures { (route : Header → Endpoint → Endpoint)
+        → IsHeaderFault (at_header_by route (header_at place header.now)) result }
+{
+    if place.kind == HOP_BY_HOP && place.named_at == NEXT_HEADER_AT {
+        return None;
+    }
+    if place.kind == HOP_BY_HOP {
+        return Some(Fault {
+            reason: Reason::LateHopByHop,
+            at: place.named_at,
+        });
+    }
+    if place.kind == DESTINATION_OPTIONS {
+        return options_fault(header.split_at(OPTIONS_AT).1, place.at + OPTIONS_AT);
+    }
+    Some(Fault {
+        reason: Reason::Fragment,
+        at: place.at,
+    })
+}
+
+/// Why a routing header that the node does not know is refused, or none where no segments are left
+/// (RFC 8200 section 4.4).
+pub(crate) fn unknown_routing_fault(place: ChainPlace, header: &[u8]) -> Option<Fault>
+    requires least { EXTENSION_UNIT ≤ length header.now }
+    requires fits { place.at + length header.now ≤ MOST_LEN }
+    ensures { IsHeaderFault (unknown_routing (header_at place header.now)) result }
+{
+    if header[SEGMENTS_LEFT_AT] == 0 {
+        return None;
+    }
+    Some(Fault {
+        reason: Reason::UnknownRouting,
+        at: place.at + ROUTING_TYPE_AT,
+    })
+}
+
+/// The first fault in the type-length-value area of a segment routing header at a place: the bytes
+/// behind the entry at Last Entry, which is there.
+pub(crate) fn segment_routing_fault(at: usize, header: &[u8]) -> Option<Fault>
+    requires stated { length header.now
+        ≡ EXTENSION_UNIT * (slice_index header.now EXTENSION_LEN_AT + 1) }
+    requires entry { slice_index header.now LAST_ENTRY_AT + 1
+        ≤ slice_index header.now EXTENSION_LEN_AT / 2 }
+    requires fits { at + length header.now ≤ MOST_LEN }
+    ensures { fault_in result ≡ tlvs_fault at (srh_of header.now) }
+{
+    let start = SEGMENT_LIST_AT + SEGMENT_LEN * (usize::from(header[LAST_ENTRY_AT]) + 1);
+    tlvs_fault(header.split_at(start).1, at + start)
+}
