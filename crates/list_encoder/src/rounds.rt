@@ -1,9 +1,8 @@
 //! The costs of a position, lowered until no link lowers them.
 
-ghost use Rattle.std.specs.Prelude.{◌≡◌, ℕ, ◌+◌, ◌*◌, ◌^◌, ◌≤◌, ◌<◌, true, false, slice_get, length, replicate, Some, None, IfSome, OnOk, IfOk, Contains, ◌==◌, if◌then◌else◌};
-ghost use Rattle.std.specs.Option.{option_map};
+ghost use Rattle.std.specs.Prelude.{◌≡◌, ◌+◌, ◌*◌, ◌≤◌, ◌<◌, true, false, length, replicate, Some, None, OnOk, IfOk, ◌==◌, if◌then◌else◌};
 ghost use Rattle.list_pack.specs.Value.{KeepsLaws};
-ghost use Rattle.list_encoder.specs.Cells.{AreCells, IsFirst, IsCell};
+ghost use Rattle.list_encoder.specs.Cells.{AreCells};
 ghost use Rattle.list_encoder.specs.Table as tables;
 
 use crate::cells::{Cell, first_of, shape_of};
