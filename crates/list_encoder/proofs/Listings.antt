@@ -82,6 +82,21 @@ module _ (v : LegsValue) (laws : KeepsLaws v) (cells : List Cell) (are : AreCell
             (rooms-rise v b.position b.via p q (omega (arith, h, same)) top_b)
       ]
 
+  -- of one place there is one potential
+  same-potential : (k j room r : ℕ) (cell other : Cell) (c d : Cost) → slice_get cells k ≡ Some cell → slice_get cells j ≡ Some other
+      → room ≤ top_at v cell → r ≤ top_at v other → 8 * j + r ≡ 8 * k + room → entry t k room ≡ Some c → entry t j r ≡ Some d
+      → ◌≡◌ {A = Potential} (record { state = state_at cell room; cost = c }) (record { state = state_at other r; cost = d })
+  same-potential k j room r cell other c d here at top below h e f =
+      let few = top-at-few v laws cell (are.real k cell here) in
+      let rare = top-at-few v laws other (are.real j other at) in
+      let place : j ≡ k = omega (arith, h, few, rare, top, below) in
+      let rooms : r ≡ room = omega (arith, h, few, rare, top, below) in
+      let cells_same : cell ≡ other = some-same cell other (sym here ∙ ap (slice_get cells) (sym place) ∙ at) in
+      let costs : c ≡ d = some-same c d (sym e ∙ ap (λ (x : ℕ). entry t x room) (sym place) ∙ ap (entry t j) (sym rooms) ∙ f) in
+      ap (λ (x : Cell). let y : Potential = record { state = state_at x room; cost = c } in y) cells_same
+      ∙ ap (λ (x : ℕ). let y : Potential = record { state = state_at other x; cost = c } in y) (sym rooms)
+      ∙ ap (λ (x : Cost). let y : Potential = record { state = state_at other r; cost = x } in y) costs
+
   -- one more cost is listed
   pub listed-more : (k room : ℕ) (cell : Cell) (c : Cost) (ps after : List Potential) → slice_get cells k ≡ Some cell → room ≤ top_at v cell
       → entry t k room ≡ Some c → after ≡ ps ++ record { state = state_at cell room; cost = c } ∷ [] → IsListed v cells t (8 * k + room) ps
@@ -94,21 +109,8 @@ module _ (v : LegsValue) (laws : KeepsLaws v) (cells : List Cell) (are : AreCell
               | inl less ↦
                   Contains-append_left ps (new ∷ []) (record { state = state_at other r; cost = d }) (so.all j r other d at below less f)
               | inr more ↦
-                  let few = top-at-few v laws cell (are.real k cell here) in
-                  let rare = top-at-few v laws other (are.real j other at) in
-                  let places : (j ≡ k) × (r ≡ room) = (
-                    omega (arith, h, more, few, rare, top, below),
-                    omega
-                        (arith, h, more, few, rare, top, below),
-                  ) in
-                  let cells_same : cell ≡ other = some-same cell other (sym here ∙ ap (slice_get cells) (sym places.0) ∙ at) in
-                  let costs : c ≡ d =
-                  some-same c d (sym e ∙ ap (λ (x : ℕ). entry t x room) (sym places.0) ∙ ap (entry t j) (sym places.1) ∙ f) in
-                  let same : new ≡ record { state = state_at other r; cost = d } =
-                  ap (λ (x : Cell). let y : Potential = record { state = state_at x room; cost = c } in y) cells_same
-                  ∙ ap (λ (x : ℕ). let y : Potential = record { state = state_at other x; cost = c } in y) (sym places.1)
-                  ∙ ap (λ (x : Cost). let y : Potential = record { state = state_at other r; cost = x } in y) costs in
-                  subst (λ (x : Potential). Contains (ps ++ new ∷ []) x) same (Contains-push ps new)
+                  subst (λ (x : Potential). Contains (ps ++ new ∷ []) x)
+                  (same-potential k j room r cell other c d here at top below (omega (arith, h, more)) e f) (Contains-push ps new)
             ];
         only = λ q among.
             elim (Contains-push_cases ps new q among) as (λ w. IsOfPlace v cells t (8 * k + room + 1) q) [

@@ -1,15 +1,17 @@
 -- Lowering by a link room by room, by the finishes and by the legs of a cell, and by all links within a position.
-use Rattle.std.proofs.Common.{◌≡◌, ℕ, ◌+◌, ◌*◌, ◌<◌, ◌≤◌, inl, inr, Bool, true, false, ◌||◌, List, [], ◌∷◌, ◌++◌, length, Option, Some, None, slice_get, Contains, refl, sym, ◌∙◌, ap, subst, arith}
+use Rattle.std.proofs.Common.{◌≡◌, ℕ, zero, suc, ◌+◌, ◌*◌, ◌<◌, ◌≤◌, inl, inr, Bool, true, false, ◌||◌, ◌==◌, cond, List, [], ◌∷◌, ◌++◌, length, Option, Some, None, slice_get, Contains, refl, sym, ◌∙◌, ap, subst, arith}
 use Rattle.std.specs.Prelude.{nat_lt, MatchBool}
 use Rattle.std.specs.Option.{option_map}
-use Rattle.std.proofs.lemmas.Bool.{cases_lt, lt-ltb, le-ltb}
+use Rattle.std.proofs.lemmas.Bool.{cases_lt, lt-ltb, le-ltb, cond-false, ne_eqb}
 use Rattle.std.proofs.lemmas.List.Elements.{Contains-append_left, Contains-push, Contains-push_cases}
 use Rattle.std.proofs.lemmas.Option.{none-some, slice_get_within}
 use Rattle.list_pack.specs.declared.types.Cost.{Cost}
 use Rattle.list_pack.specs.declared.types.Leg.{Leg}
 use Rattle.list_pack.specs.declared.types.Shape.{Shape}
 use Rattle.list_pack.specs.Value.{LegsValue, KeepsLaws}
-use Rattle.list_pack.specs.Rooms.{room_behind}
+use Rattle.list_pack.specs.Rooms.{room_behind, new_room_by}
+use Rattle.srv6_rules.specs.declared.sid.Csid.{Csid}
+use Rattle.srv6_rules.specs.declared.sid.Csid.TheVariants.{Plain, Next, Replace}
 use Rattle.list_pack.specs.Costs.{nothing, move_cost, Under}
 use Rattle.list_pack.proofs.Costing.{under-itself, under-trans, under-plus}
 use Rattle.list_encoder.specs.declared.cells.Cell.{Cell}
@@ -458,3 +460,28 @@ ends-all v laws cells k t0 t sids steps count changed e is h so =
           let w = slice_get_within sids place.0 link.sid place.1 in
           so.holds link place.0 f to is_link (omega (arith, h, w)) place.1;
     }
+
+-- with some room left in front of it, a SID opens the same container
+opens-by : (s : Shape) (room : ℕ) (next : Shape) (c : Csid) → new_room_by c s 1 next ≡ new_room_by c s (suc room) next
+opens-by s room next Plain = refl
+opens-by s room next Next = refl
+opens-by s room next Replace = refl
+
+opens-alike : (from : Option Shape) (room : ℕ) (next : Shape) → room_behind false from 1 next ≡ room_behind false from (suc room) next
+opens-alike None room next = refl
+opens-alike (Some s) room next = opens-by s room next s.csid
+
+pub opened-at : (from : Option Shape) (room : ℕ) (next : Shape)
+    → cond (room == 0) (room_behind false from 0 next) (room_behind false from 1 next) ≡ room_behind false from room next
+opened-at from zero next = refl
+opened-at from (suc room) next =
+    cond-false (suc room == 0) (room_behind false from 0 next) (room_behind false from 1 next)
+    (ne_eqb (suc room) 0 (λ e. absurd (omega (arith, e))))
+    ∙ opens-alike from room next
+
+pub opened-is : (from : Option Shape) (room : ℕ) (next : Shape) (o p q : Option ℕ) → o ≡ cond (room == 0) p q
+    → p ≡ room_behind false from 0 next
+    → q ≡ room_behind false from 1 next → o ≡ room_behind false from room next
+opened-is from room next o p q e f h =
+    e ∙ ap (λ (x : Option ℕ). cond (room == 0) x q) f ∙ ap (λ (y : Option ℕ). cond (room == 0) (room_behind false from 0 next) y) h
+    ∙ opened-at from room next

@@ -1,8 +1,8 @@
 //! The listing of a table's costs.
 
-ghost use Rattle.std.specs.Prelude.{◌≡◌, ◌+◌, ◌*◌, ◌≤◌, ◌<◌, length, slice_get, Some, OnOk, IfOk};
+ghost use Rattle.std.specs.Prelude.{◌≡◌, ◌+◌, ◌*◌, ◌≤◌, ◌<◌, length, Some, OnOk, IfOk};
 ghost use Rattle.list_pack.specs.Least.{IsListing};
-ghost use Rattle.list_encoder.specs.Cells.{AreCells, top_at};
+ghost use Rattle.list_encoder.specs.Cells.{AreCells};
 ghost use Rattle.list_encoder.specs.Table.{AreLeast};
 ghost use Rattle.list_encoder.specs.Listing as listings;
 

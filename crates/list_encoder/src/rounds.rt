@@ -1,8 +1,8 @@
 //! The costs of a position, lowered until no link lowers them.
 
-ghost use Rattle.std.specs.Prelude.{◌≡◌, ℕ, ◌+◌, ◌*◌, ◌^◌, ◌≤◌, ◌<◌, true, false, slice_get, length, replicate, Some, None, IfSome, OnOk, IfOk, Contains};
-ghost use Rattle.std.specs.Option.{option_map};
-ghost use Rattle.list_encoder.specs.Cells.{AreCells, IsFirst, IsCell};
+ghost use Rattle.std.specs.Prelude.{◌≡◌, ◌+◌, ◌*◌, ◌≤◌, ◌<◌, true, false, length, replicate, Some, None, OnOk, IfOk, ◌==◌, if◌then◌else◌};
+ghost use Rattle.list_pack.specs.Value.{KeepsLaws};
+ghost use Rattle.list_encoder.specs.Cells.{AreCells};
 ghost use Rattle.list_encoder.specs.Table as tables;
 
 use crate::cells::{Cell, first_of, shape_of};
@@ -21,6 +21,7 @@ fn relax_room<L: Legs>(
     room: u8,
     left: Option<u8>,
 ) -> bool
+    requires laws { KeepsLaws (L.seen legs.now) }
     requires cells { AreCells (L.seen legs.now) cells.now }
     requires link { tables.IsLink (L.seen legs.now) cells.now link }
     requires sound { tables.IsSound (L.seen legs.now) cells.now table.old }
@@ -29,7 +30,6 @@ fn relax_room<L: Legs>(
     ensures { tables.RoomRelaxed (L.seen legs.now) cells.now link table.old table.new stays room
         left result }
 {
-    legs.steps();
     let Some(behind) = left else {
         return false;
     };
@@ -38,6 +38,13 @@ fn relax_room<L: Legs>(
     };
     let cost = plus(move_cost(stays, link.hops), rest);
     lower(table, 8 * link.from + room as usize, cost)
+}
+
+// the room behind a SID that opens a container: in front of it no room is left, or some is
+fn opened_room(room: u8, packed: Option<u8>, full: Option<u8>) -> Option<u8>
+    ensures { result ≡ (if room == 0 then packed else full) }
+{
+    if room == 0 { packed } else { full }
 }
 
 // the rooms of a link's first cell, whose SID's shape is given, are lowered by the link
@@ -56,12 +63,14 @@ fn relax<L: Legs>(
 {
     legs.steps();
     let next = legs.shape(link.sid);
+    let packed = room_behind(false, from, 0, &next);
+    let full = room_behind(false, from, 1, &next);
     let mut changed = false;
     for room in 0..8 {
         let left = room_behind(true, from, room, &next);
         let stays = relax_room(legs, cells, table, link, true, room, left);
-        let full = room_behind(false, from, room, &next);
-        let opens = relax_room(legs, cells, table, link, false, room, full);
+        let opened = opened_room(room, packed, full);
+        let opens = relax_room(legs, cells, table, link, false, room, opened);
         changed = either(changed, either(stays, opens));
     }
     changed
@@ -197,8 +206,8 @@ fn round<L: Legs>(
     let mut changed = false;
     for link in links {
         let from = shape_of(legs, cells[link.from]);
-        let lowered = relax(legs, cells, table, &from, *link);
-        changed = either(changed, lowered);
+        let moved = relax(legs, cells, table, &from, *link);
+        changed = either(changed, moved);
     }
     changed
 }

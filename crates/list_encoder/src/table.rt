@@ -1,15 +1,9 @@
 //! A table of costs, eight rooms to a cell, and what lowers it.
 
-ghost use Rattle.std.specs.Prelude.{◌≡◌, ℕ, ◌+◌, ◌*◌, ◌^◌, ◌≤◌, ◌<◌, ◌||◌, length, slice_get, Some, IfSome};
-ghost use Rattle.std.specs.Option.{option_map};
-ghost use Rattle.list_pack.specs.Costs.{plus, move_cost};
-ghost use Rattle.list_pack.specs.Rooms.{room_behind};
-ghost use Rattle.list_pack.specs.Value.{IsShape};
-ghost use Rattle.list_encoder.specs.Cells.{AreCells};
-ghost use Rattle.list_encoder.specs.Table.{entry, rest_at, at, Lowers, IsLink, IsSound, Relaxed, RoomRelaxed, AreInRange};
+ghost use Rattle.std.specs.Prelude.{◌≡◌, ◌+◌, ◌*◌, ◌<◌, ◌||◌, length, Some};
+ghost use Rattle.list_encoder.specs.Table.{entry, rest_at, Lowers, AreInRange};
 
-use crate::cells::{Cell, shape_of};
-use list_pack::{Cost, Legs, Shape, is_below, move_cost, plus, room_behind};
+use list_pack::{Cost, is_below};
 
 /// A way from the states of a cell to the end, by a finish, or to those of another cell, by a leg.
 #[derive(Clone, Copy, Debug, PartialEq, Eq)]

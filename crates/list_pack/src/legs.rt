@@ -1,6 +1,6 @@
 //! Legs as a search sees them.
 
-ghost use Rattle.std.specs.Prelude.{◌≡◌, ℕ, ◌≤◌};
+ghost use Rattle.std.specs.Prelude.{◌≡◌, ◌≤◌};
 ghost use Rattle.list_pack.specs.Value.{LegsValue, IsSid, KeepsLaws};
 
 use crate::types::{Leg, Shape};

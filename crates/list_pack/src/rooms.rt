@@ -2,7 +2,7 @@
 
 ghost use Rattle.std.specs.Prelude.{◌≡◌};
 ghost use Rattle.list_pack.specs.Value.{IsShape, same_block, units_of};
-ghost use Rattle.list_pack.specs.Rooms.{full_room, packed_room, kept_room, stay_room, pack_room, new_room, room_behind, top_room};
+ghost use Rattle.list_pack.specs.Rooms.{full_room, packed_room, kept_room, stay_room, new_room, room_behind, top_room};
 
 use crate::types::Shape;
 use srv6_rules::Csid;

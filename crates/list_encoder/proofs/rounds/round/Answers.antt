@@ -20,8 +20,8 @@ shape_of-from-requires-in-loop-link g c =
     c.loop-link-test.true in
     c.requires.cells.real _ _ (cell-read c.args.cells.now _ w)
 
-pub relax-lowered-requires-clause-from : goal.relax-lowered-requires-clause-from
-relax-lowered-requires-clause-from g c =
+pub relax-moved-requires-clause-from : goal.relax-moved-requires-clause-from
+relax-moved-requires-clause-from g c =
     let w = from-read (g.L.Legs.seen c.args.legs.now) c.args.cells.now c.args.later c.args.links.now c.loop-link.link-index c.requires.links
     c.loop-link-test.true in
     shape-read (g.L.Legs.seen c.args.legs.now) c.args.cells.now _ c.shape_of-from.result w c.shape_of-from.ensures
@@ -32,10 +32,10 @@ loop-link-preserved g c =
     let here = link-read c.args.links.now c.loop-link.link-index c.loop-link-test.true in
     let among = c.requires.links _ (link-among c.args.links.now c.loop-link.link-index c.loop-link-test.true) in
     subst (λ (b : Bool). RoundSoFar v c.args.cells.now c.args.later c.args.links.now (c.loop-link.link-index + 1) c.args.table.now
-    c.relax-lowered.new.table b) (sym c.either-changed.ensures)
+    c.relax-moved.new.table b) (sym c.either-changed.ensures)
     (round-more v c.args.cells.now c.args.later c.args.links.now c.loop-link.link-index c.args.table.now c.loop-link.table
-    c.relax-lowered.new.table
-    c.loop-link.changed c.relax-lowered.result _ here among.1 c.loop-link.invariant c.relax-lowered.ensures)
+    c.relax-moved.new.table
+    c.loop-link.changed c.relax-moved.result _ here among.1 c.loop-link.invariant c.relax-moved.ensures)
 
 pub returns : goal.returns
 returns g c =
