@@ -165,7 +165,7 @@ module _ (p : Packet) (P : ChainPlace → Chain → Type 0)
       (went_on-by q (chain_at p (behind_in q bytes)) (is_extension q.kind) (is_whole q.kind bytes) start refl refl
       (λ w. let parts = is_whole-parts q.kind bytes w in by_length n (behind_in q bytes) (omega arith) (omega arith)))
 
-  chain_at-by : (q : ChainPlace) → header_len ≤ q.at → P q (chain_at p q)
+  pub chain_at-by : (q : ChainPlace) → header_len ≤ q.at → P q (chain_at p q)
   chain_at-by q start = by_length (length (from_place p q.at)) q start (omega arith)
 
 -- ---- where headers lie
@@ -236,7 +236,8 @@ lies-stated p h lies =
 -- ---- how places follow one another
 
 -- where a chain goes on behind a whole header
-behind-header_in : (q : ChainPlace) (bytes : List ℕ) → is_whole q.kind bytes ≡ true → place_behind (header_in q bytes) ≡ behind_in q bytes
+pub behind-header_in : (q : ChainPlace) (bytes : List ℕ) → is_whole q.kind bytes ≡ true
+    → place_behind (header_in q bytes) ≡ behind_in q bytes
 behind-header_in q bytes w =
     let n : ℕ = extension_bytes q.kind bytes in
     let parts = is_whole-parts q.kind bytes w in

@@ -8,4 +8,5 @@ pub mod Reached
 pub mod Treatments
 pub mod Endpoints
 pub mod Encapsulations
+pub mod Without
 pub mod PublicLaws

@@ -3,6 +3,7 @@ pub use Rattle.srv6_rules.proofs.Bytes.{two_number-append, four_number-append, a
 pub use Rattle.srv6_rules.proofs.Packets.{content_of-spelling, content_of-spelling_alone, length-spelling, all-spelling, packet_at-spellable, reads-spellable, reads-spelled, entered-is_content, entered-back}
 pub use Rattle.srv6_rules.proofs.Edits.{edit-hop_limit, edit-destination, edit-payload}
 pub use Rattle.srv6_rules.proofs.Chains.{chain_of-start, chain_at-goes_on, chain_at-upper, chain_at-cut, chain_at-header, chain_at-lies, chain_at-follow, chain_at-stand, chain_at-ends, chain_at-upper_stands, chain_at-spelled, follow-ascends, follow-chain, start-stands, behind-stands, extension_bytes-least, header_in-lies, lies-at, lies-spelled, lies-bytes, lies-stated}
+pub use Rattle.srv6_rules.proofs.Without.{without-others, without-length, without-behind, without-front, without-spellable, without-first_chain, without-later_chain, chain_at-split, chain_at-lowered}
 pub use Rattle.srv6_rules.proofs.AreaItems.{area_fault-empty, area_fault-item, area_fault-within, options_fault-within, tlvs_fault-within, pad1-skipped, option-skipped, option-discarded, option-told, option-bad, tlv-hmac, tlv-bad, tlv-pad1, tlv-skipped}
 pub use Rattle.srv6_rules.proofs.Reached.{over-goes_on, over-passed, over-all_passed, over-decides, reached-contained, reached-lies, reached-stands, first-there}
 pub use Rattle.srv6_rules.proofs.Treatments.{first-passed, late-refused, options-judged, options-passed, options-refused, fragment-refused, routing-by, unknown-passed, unknown-refused, at_header-either, at_header-passed, at_header-steps, at_header-refuses, at_header-unknown, at_address_header-either, at_address_header-passed, at_address_header-refuses}

@@ -153,3 +153,24 @@ without p h =
     if is_first h.place
     then record p { next_header = next; payload = cut_out at (length h.bytes) p.payload }
     else record p { payload = cut_out at (length h.bytes) (slice_set p.payload (h.place.named_at - header_len) next) }
+
+-- a place so many bytes lower, which the field at a place names
+abbrev pub lowered_to : ℕ → ℕ → ChainPlace → ChainPlace
+lowered_to n named place = record { at = place.at - n; kind = place.kind; named_at = named }
+
+abbrev pub lowered_end : ℕ → ℕ → ChainEnd → ChainEnd
+lowered_end n named (Upper place) = Upper (lowered_to n named place)
+lowered_end n named (Cut place) = Cut (lowered_to n named place)
+
+-- headers and their end so many bytes lower: the field at a place names the first, and each header what stands behind it
+abbrev pub lowered : ℕ → ℕ → List Header → ChainEnd → Chain
+lowered n named [] end = record { headers = []; end = lowered_end n named end }
+lowered n named (h ∷ hs) end = behind (record { place = lowered_to n named h.place; bytes = h.bytes }) (lowered n (h.place.at - n) hs end)
+
+-- a header that names something else
+abbrev pub renamed : ℕ → Header → Header
+renamed next h = record { place = h.place; bytes = slice_set h.bytes 0 next }
+
+-- headers in front of a chain
+abbrev pub in_front : List Header → Chain → Chain
+in_front hs c = record { headers = hs ++ c.headers; end = c.end }

@@ -1,10 +1,10 @@
 //! Laws about the definitions, each the contract of a function that does nothing.
 
-ghost use Rattle.std.specs.Prelude.{◌≡◌, ◌≢◌, ◌⊎◌, ◌↔◌, ◌<◌, ◌≤◌, ◌+◌, ◌-◌, ◌*◌, ◌^◌, true, false, if◌then◌else◌, List, [], ℕ, ◌++◌, length, take, drop, slice_index, slice_set, All, flat_map, Contains, Option, Some, None};
+ghost use Rattle.std.specs.Prelude.{◌≡◌, ◌≢◌, ◌⊎◌, ◌↔◌, ◌<◌, ◌≤◌, ◌+◌, ◌-◌, ◌*◌, ◌^◌, true, false, if◌then◌else◌, List, [], ℕ, ◌∷◌, ◌++◌, length, take, drop, slice_index, slice_set, All, flat_map, Contains, Option, Some, None};
 ghost use Rattle.srv6_rules.specs.Behaviours.{ipv6_inside, goes_on, exposes};
-ghost use Rattle.srv6_rules.specs.declared.numbers.TheConstants.{PAD1, HMAC, OPTIONS_AT, SEGMENT_LIST_AT, SEGMENT_LEN};
+ghost use Rattle.srv6_rules.specs.declared.numbers.TheConstants.{NEXT_HEADER_AT, PAD1, HMAC, OPTIONS_AT, SEGMENT_LIST_AT, SEGMENT_LEN};
 ghost use Rattle.srv6_rules.specs.Areas.{Fault, item_bytes, first_of, area_fault, option_fault, options_fault, tlv_fault, tlvs_fault};
-ghost use Rattle.srv6_rules.specs.Chain.{ChainPlace, Header, ChainEnd, Upper, Cut, LiesIn, StandsIn, EndsIn, Follow, is_extension, hop_by_hop, routing, fragment, destination_options, is_first, is_whole, extension_bytes, header_in, behind_in, behind, place_of, start_of, chain_of, chain_at, from_place, segments_left, is_segment_routing};
+ghost use Rattle.srv6_rules.specs.Chain.{ChainPlace, Header, ChainEnd, Upper, Cut, LiesIn, StandsIn, EndsIn, Follow, is_extension, hop_by_hop, routing, fragment, destination_options, is_first, is_whole, extension_bytes, header_in, behind_in, behind, place_of, place_behind, without, lowered, renamed, in_front, start_of, chain_of, chain_at, from_place, segments_left, is_segment_routing};
 ghost use Rattle.srv6_rules.specs.Endpoint.{Endpoint, Onward, Exposed, Delivered, Refused, StepsTo, ChangesFewBytes, ExposesFrom, IsPassed, IsReached, Decides, next_segment, over_headers, over_chain, at_header_by, at_header, at_sid, at_address_header, at_address};
 ghost use Rattle.srv6_rules.specs.Packet.{Packet, V6, Unreadable, IsSpellable, IsContent, Spells, spelling, content_of, read_as, entered, bytes_of, header_len, stated_len, packet_at, two_bytes, four_bytes, first_word, address_bytes, two_number, four_number, address_number};
 ghost use Rattle.srv6_rules.specs.Srh.{Srh, IsSrhSpellable, srh_of, srh_spelling, segment_routing, segments_left_at, routing_type_at};
@@ -254,6 +254,45 @@ pub fn header_has_bytes_of_the_packet()
         → All (λ b. b < 2 ^ 8) h.bytes }
 {}
 
+/// A packet without a header: but for the next header of the IPv6 header, where that named it, and
+/// the payload nothing changes. The payload is shorter by the header; the bytes behind the header
+/// stand so many places lower, those in front of the field that named it are as they were, and
+/// bytes can spell what is left. The chain is the chain without that header: the field that named
+/// the header names what stood behind it, and each later place is lower by the header's length (RFC
+/// 8200 section 4, RFC 8986 section 4.16.1).
+pub fn header_taken_out_leaves_the_chain()
+    ensures others { (p : Packet) (h : Header)
+        → without p h
+        ≡ record p {
+          next_header = (without p h).next_header;
+          payload = (without p h).payload;
+        } }
+    ensures length { (p : Packet) (h : Header) → LiesIn p h
+        → length (without p h).payload + length h.bytes ≡ length p.payload }
+    ensures behind { (p : Packet) (h : Header) → LiesIn p h → StandsIn p h.place → (at : ℕ)
+        → h.place.at + length h.bytes ≤ at
+        → from_place (without p h) (at - length h.bytes) ≡ from_place p at }
+    ensures front { (p : Packet) (h : Header) (at : ℕ) → LiesIn p h → StandsIn p h.place
+        → header_len ≤ at → at ≤ (if is_first h.place then h.place.at else h.place.named_at)
+        → take (at - header_len) (without p h).payload ≡ take (at - header_len) p.payload }
+    ensures spellable { (p : Packet) (h : Header) → IsSpellable p → LiesIn p h
+        → IsSpellable (without p h) }
+    ensures first { (p : Packet) (h : Header) (after : List Header)
+        → (chain_of p).headers ≡ h ∷ after
+        → chain_of (without p h)
+        ≡ lowered (length h.bytes) NEXT_HEADER_AT after (chain_of p).end }
+    ensures later { (p : Packet) (before after : List Header) (g h : Header)
+        → (chain_of p).headers ≡ before ++ g ∷ h ∷ after
+        → chain_of (without p h)
+        ≡ in_front before (behind (renamed (slice_index h.bytes 0) g)
+        (lowered (length h.bytes) g.place.at after (chain_of p).end)) }
+    ensures split { (p : Packet) (place : ChainPlace) → header_len ≤ place.at
+        → (before after : List Header) (h : Header)
+        → (chain_at p place).headers ≡ before ++ h ∷ after
+        → chain_at p (place_behind h)
+        ≡ record { headers = after; end = (chain_at p place).end } }
+{}
+
 /// An area of items has the first fault of its items: that of its first item, or else that of the
 /// area behind that item, whose length is its own; an area of no bytes has none (RFC 8200 section
 /// 4.2, RFC 8754 section 2.1).
@@ -365,8 +404,8 @@ pub fn header_is_passed_over_or_refused_by_its_kind()
 
 /// A routing header with no segments left is passed over, whatever its type. One with segments
 /// left: a SID that goes on takes the step over a segment routing header, another SID refuses it
-/// for Segments Left, and any other routing header is unknown, at an address each (RFC 8754 section
-/// 4.3.1.1, RFC 8986 sections 4.1, 4.2 and 4.6, RFC 8200 section 4.4).
+/// for Segments Left, and any other routing header is unknown; at an address every one is (RFC 8754
+/// section 4.3.1.1, RFC 8986 sections 4.1, 4.2 and 4.6, RFC 8200 section 4.4).
 pub fn routing_header_is_passed_over_stepped_over_or_refused()
     ensures passed { (s : SidEntry) (p : Packet) (h : Header) → h.place.kind ≡ routing
         → segments_left h ≡ 0 → IsPassed (at_header s p) h }
