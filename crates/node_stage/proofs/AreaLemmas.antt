@@ -1,6 +1,6 @@
 -- The first fault of an area, item by item.
 use Rattle.std.proofs.Common.{◌≡◌, ℕ, ◌+◌, ◌<◌, false, ◌==◌, List, length, drop, slice_index, sym, ap, ◌∙◌, refl}
-use Rattle.std.specs.Prelude.{◌≢◌, Option, Some, None}
+use Rattle.std.specs.Prelude.{◌≢◌, Option, None}
 use Rattle.std.proofs.lemmas.Bool.{ne_eqb}
 use Rattle.srv6_rules.specs.declared.numbers.TheConstants.{HMAC}
 use Rattle.srv6_rules.specs.Areas.{Fault, item_bytes, passes_end, first_of, area_fault, tlv_fault}
