@@ -1,5 +1,5 @@
 -- From the least path over an intent's legs to the intent's least list.
-use Rattle.std.proofs.Common.{◌≡◌, ℕ, ◌+◌, ◌<◌, ◌≤◌, lit<, lit≤, arith, Bool, true, false, ◌==◌, eqb-true, List, [], ◌∷◌, length, map, Option, Some, None, Result, Ok, Err, refl, sym, ◌∙◌, ap, subst}
+use Rattle.std.proofs.Common.{◌≡◌, ℕ, ◌+◌, ◌<◌, ◌≤◌, lit<, lit≤, arith, true, false, ◌==◌, eqb-true, List, [], ◌∷◌, length, map, Option, Some, None, Result, Ok, Err, refl, sym, ◌∙◌, ap, subst}
 use Rattle.std.specs.Prelude.{IfOk}
 use Rattle.std.specs.Option.{option_map}
 use Rattle.std.proofs.lemmas.List.{length-map}
@@ -14,7 +14,7 @@ use Rattle.list_pack.specs.declared.types.PathStep.{PathStep}
 use Rattle.list_pack.specs.declared.types.Solution.{Solution}
 use Rattle.list_pack.specs.Value.{LegsValue}
 use Rattle.list_pack.specs.Costs.{Move, AtMost, cost_of, Under, start}
-use Rattle.list_pack.specs.Least.{IsFirstLeast, IsPath, IsPathOrNone, IsSolution, IsWithoutPath, step_of, path_before}
+use Rattle.list_pack.specs.Least.{IsFirstLeast, IsPathOrNone, IsSolution, IsWithoutPath, step_of, path_before}
 use Rattle.leg_table.specs.declared.types.Container.{Container}
 use Rattle.leg_table.specs.Realizes.{path_need, Realizes, AlwaysHandsOver, AreSidAddresses}
 use Rattle.leg_table.specs.Sids.{sid_address}
@@ -22,7 +22,7 @@ use Rattle.leg_table.specs.Value.{legs_value}
 use Rattle.leg_table.proofs.PublicLaws.{path-realizes, list-path}
 use Rattle.base.specs.declared.no_memory.NoMemory.{NoMemory}
 use Rattle.path_compiler.specs.declared.compiled.Compiled.{Compiled}
-use Rattle.path_compiler.specs.Compiled.{container_of, containers_of, container_in, opening, path_of, list_cost, IsListIn, IsListOf, IsLeastList, IsFirstPath, IsFound, IsWithoutList, IsNoList}
+use Rattle.path_compiler.specs.Compiled.{container_of, containers_of, container_in, opening, path_of, list_cost, IsListIn, IsLeastList, IsFirstPath, IsFound, IsWithoutList, IsNoList}
 use Rattle.path_compiler.proofs.Plain.{cost-is, sids_in, all-open}
 use Rattle.path_compiler.proofs.Costs.{is-path, cost-read, cost-parts}
 

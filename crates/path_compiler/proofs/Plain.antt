@@ -1,5 +1,5 @@
 -- Plain SIDs stand alone in their containers: what a path over the legs of an intent costs is how many SIDs it has, and its need.
-use Rattle.std.proofs.Common.{◌≡◌, ℕ, ◌+◌, Bool, true, false, List, [], ◌∷◌, length, map, Option, Some, None, slice_get, suc, refl, sym, ◌∙◌, ap, subst, arith}
+use Rattle.std.proofs.Common.{◌≡◌, ℕ, ◌+◌, Bool, true, false, List, [], ◌∷◌, length, map, Option, Some, None, slice_get, suc, refl, sym, ◌∙◌, ap, arith}
 use Rattle.std.specs.Option.{option_map, option_and_then}
 use Rattle.std.proofs.lemmas.Option.{none-some}
 use Rattle.srv6_rules.specs.declared.sid.SidEntry.{SidEntry}
@@ -10,7 +10,7 @@ use Rattle.list_pack.specs.declared.types.State.{State}
 use Rattle.list_pack.specs.declared.types.Leg.{Leg}
 use Rattle.list_pack.specs.declared.types.Shape.{Shape}
 use Rattle.list_pack.specs.Rooms.{full_room, new_room, stay_room, room_behind}
-use Rattle.list_pack.specs.Costs.{Move, Edge, plus, move_cost, room_of, edge_by, edge_of, last_of, behind, cost_of}
+use Rattle.list_pack.specs.Costs.{Move, Edge, plus, move_cost, edge_by, edge_of, last_of, behind, cost_of}
 use Rattle.leg_table.specs.Leg.{leg_of, finish_of}
 use Rattle.leg_table.specs.Realizes.{with_leg, path_need}
 use Rattle.leg_table.specs.Table.{shape_by, shape_of}

@@ -1,5 +1,5 @@
 -- What an intent is compiled to, and when it is refused.
-use Rattle.std.specs.Prelude.{◌≡◌, ℕ, ◌<◌, ◌≤◌, Bool, false, List, [], ◌∷◌, length, map, slice_get, Option, Some, None, Result, Ok, Err}
+use Rattle.std.specs.Prelude.{◌≡◌, ℕ, ◌<◌, ◌≤◌, Bool, false, List, [], ◌∷◌, length, map, slice_get, Some, None, Result, Ok, Err}
 use Rattle.std.specs.Option.{option_map}
 use Rattle.srv6_rules.specs.Encapsulation.{header_bytes}
 use Rattle.srv6_rules.specs.Packet.{Packet}
@@ -18,7 +18,6 @@ use Rattle.leg_table.specs.declared.types.Container.{Container}
 use Rattle.leg_table.specs.declared.types.Container.TheVariants.{Full}
 use Rattle.leg_table.specs.Realizes.{path_need, Realizes, AlwaysHandsOver, AreSidAddresses}
 use Rattle.leg_table.specs.Sids.{sid_address}
-use Rattle.leg_table.specs.Table.{shape_of}
 use Rattle.leg_table.specs.Value.{legs_value}
 use Rattle.path_compiler.specs.declared.compiled.Compiled.{Compiled}
 use Rattle.path_compiler.specs.declared.compiled.CompileFault.{CompileFault}

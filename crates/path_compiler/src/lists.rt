@@ -1,10 +1,9 @@
 //! Path intents compiled to least lists of segments.
 
-ghost use Rattle.std.specs.Prelude.{◌≡◌, ◌<◌, ◌++◌, length, map, slice_get, [], Some, IfOk, Ok};
+ghost use Rattle.std.specs.Prelude.{◌≡◌, ◌<◌, length, map, slice_get, Some, IfOk, Ok};
 ghost use Rattle.std.specs.Option.{option_map};
 ghost use Rattle.srv6_rules.specs.Encapsulation as encapsulation;
 ghost use Rattle.net_model.specs.Flat.{IsFlat, flatness_of};
-ghost use Rattle.net_model.specs.Rules.{IsNetwork};
 ghost use Rattle.intent_reader.specs.Rules.{IsIntent};
 ghost use Rattle.leg_table.specs.Value.{legs_value};
 ghost use Rattle.list_pack.specs.Least.{IsSolution};
