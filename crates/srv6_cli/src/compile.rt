@@ -56,7 +56,7 @@ fn lines_of_containers(alloc: Global, containers: &[Container]) -> Result<String
 fn lines_of_numbers(
     alloc: Global,
     containers: u32,
-    header: u32,
+    header: u64,
     need: u32,
 ) -> Result<String, AllocError>
     ensures { IfOk result (λ lines. string_bytes lines ≡ numbers_lines containers header need) }
