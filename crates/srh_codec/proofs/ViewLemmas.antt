@@ -1,11 +1,11 @@
 -- A segment routing header in the bytes that begin with it, and in its own.
-use Rattle.std.proofs.Common.{◌≡◌, ℕ, ◌+◌, ◌*◌, ◌/◌, ◌^◌, ◌<◌, ◌≤◌, true, false, nat_le, List, ◌++◌, length, take, drop, slice_index, slice_set, All, refl, sym, ap, ◌∙◌, arith, Result, Ok, Err}
+use Rattle.std.proofs.Common.{◌≡◌, ℕ, ◌+◌, ◌*◌, ◌^◌, ◌<◌, ◌≤◌, true, nat_le, List, ◌++◌, length, take, drop, slice_index, slice_set, All, refl, sym, ap, ◌∙◌, arith, Result, Ok, Err}
 use Rattle.std.proofs.lemmas.Bool.{le-leb, leb-true, and_parts}
 use Rattle.std.proofs.lemmas.List.Elements.{All-set}
 use Rattle.std.proofs.lemmas.List.{length-append, length-take, length-drop, get_or-take, length-set, get_or-set_same, get_or-set_other, take-append-drop, drop-take, drop-set-lt, take-take, take_all}
-use Rattle.srv6_rules.specs.Packet.{two_bytes, two_number, address_number}
-use Rattle.srv6_rules.specs.Chain.{routing, extension_bytes, is_whole}
-use Rattle.srv6_rules.specs.Srh.{Srh, IsSrhSpellable, srh_of, srh_spelling, entry_of, tlv_bytes, segment_routing, routing_type_at}
+use Rattle.srv6_rules.specs.Packet.{two_bytes, two_number}
+use Rattle.srv6_rules.specs.Chain.{routing, is_whole}
+use Rattle.srv6_rules.specs.Srh.{Srh, IsSrhSpellable, srh_of, srh_spelling, segment_routing}
 use Rattle.srv6_rules.proofs.PublicLaws.{two_number-append, srh_of-spelling, srh_of-spellable, srh_spelling-srh_of, length-two_bytes}
 use Rattle.ip6_headers.specs.declared.chain.BadChain.{BadChain}
 use Rattle.ip6_headers.specs.Stepping.{IsHeader}

@@ -1,5 +1,5 @@
 -- A segment routing header written over its entries.
-use Rattle.std.proofs.Common.{◌≡◌, ℕ, ◌+◌, ◌-◌, ◌*◌, ◌/◌, ◌^◌, ◌<◌, ◌≤◌, List, [], ◌∷◌, ◌++◌, length, take, drop, slice_index, get_or, All, flat_map, refl, sym, ap, subst, ◌∙◌, arith}
+use Rattle.std.proofs.Common.{◌≡◌, ℕ, ◌+◌, ◌-◌, ◌*◌, ◌/◌, ◌^◌, ◌<◌, ◌≤◌, List, [], ◌∷◌, ◌++◌, length, take, drop, slice_index, get_or, All, flat_map, sym, ap, subst, ◌∙◌, arith}
 use Rattle.std.proofs.lemmas.List.{append-nil, append_assoc, length-append, length-take-le, take_at, drop_all, reverse-reverse, map_more, flat_map_more}
 use Rattle.v6_addr.specs.declared.address.Addr.{Addr}
 use Rattle.srv6_rules.specs.Behaviours.{ipv6_inside}
@@ -8,7 +8,7 @@ use Rattle.srv6_rules.specs.Srh.{Srh, IsSrhSpellable, srh_spelling, entries_of, 
 use Rattle.srv6_rules.specs.Encapsulation.{Encapsulation, segment_list, segment_routing_of}
 use Rattle.srv6_rules.proofs.PublicLaws.{length-address_bytes, all-address_bytes, entry-at, length-entries}
 use Rattle.std.proofs.lemmas.List.Elements.{All-nil, All-append}
-use Rattle.srh_codec.specs.Writing.{numbers_of, listing, header_over}
+use Rattle.srh_codec.specs.Writing.{numbers_of, header_over}
 
 -- the header over entries, field by field
 abbrev over : ℕ → ℕ → List ℕ → Srh
