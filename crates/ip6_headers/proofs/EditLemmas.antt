@@ -1,0 +1,317 @@
+-- What the bytes of a packet read as where those of one field are others.
+use Rattle.std.proofs.Common.{◌≡◌, ℕ, ◌+◌, ◌-◌, ◌^◌, ◌<◌, ◌≤◌, Bool, true, false, cond, List, [], ◌∷◌, ◌++◌, length, take, drop, slice_index, slice_set, refl, sym, ap, ◌∙◌, arith, length-append, length-drop}
+use Rattle.std.proofs.lemmas.Bool.{eq-eqb, ne_eqb, eqb-true, le-ltb, lt-ltb, ltb-false}
+use Rattle.std.proofs.lemmas.List.{append-nil, append_assoc, drop_at, drop-drop, drop_more, get_or-drop, get_or-take, get_or_append_left, length-take-le, set-append_right, take_at, take-append-drop}
+use Rattle.std.specs.Prelude.{◌/◌, ◌%◌, ◌==◌, nat_lt}
+use Rattle.byteorder.specs.Endian.{big_number, big_bytes}
+use Rattle.byteorder.specs.Numbers.{big_number-reads_back, length-bytes_high_first}
+use Rattle.srv6_rules.specs.declared.sid.Reason.TheVariants.{Truncated, BadVersion}
+use Rattle.srv6_rules.specs.Packet.{Packet, V6, Unreadable, content_of, packet_at, stated_len, header_len, two_bytes, address_bytes, two_number, four_number, address_number}
+use Rattle.srv6_rules.proofs.PublicLaws.{two_number-append, four_number-append, address_number-append}
+
+-- ---- the parts of at least 40 bytes: of 4, 2, 1, 1, 16 and 16 bytes, and what stands behind them
+
+unfoldable laid : List ℕ → List ℕ → ℕ → ℕ → List ℕ → List ℕ → List ℕ → List ℕ
+laid a b n h s d r = a ++ (b ++ (n ∷ h ∷ (s ++ (d ++ r))))
+
+record AreParts (a b s d : List ℕ) : Type 0 where
+  word : length a ≡ 4
+  stated : length b ≡ 2
+  source : length s ≡ 16
+  destination : length d ≡ 16
+
+module _ (a b : List ℕ) (n h : ℕ) (s d r : List ℕ) (are : AreParts a b s d) where
+  drop4-laid : drop 4 (laid a b n h s d r) ≡ b ++ (n ∷ h ∷ (s ++ (d ++ r)))
+  unfolding laid
+  drop4-laid = drop_at a (b ++ (n ∷ h ∷ (s ++ (d ++ r)))) 4 are.word
+
+  drop6-laid : drop 6 (laid a b n h s d r) ≡ n ∷ h ∷ (s ++ (d ++ r))
+  drop6-laid = sym (drop-drop 2 4 (laid a b n h s d r)) ∙ ap (drop 2) drop4-laid ∙ drop_at b (n ∷ h ∷ (s ++ (d ++ r))) 2 are.stated
+
+  drop8-laid : drop 8 (laid a b n h s d r) ≡ s ++ (d ++ r)
+  drop8-laid = sym (drop-drop 2 6 (laid a b n h s d r)) ∙ ap (drop 2) drop6-laid
+
+  drop24-laid : drop 24 (laid a b n h s d r) ≡ d ++ r
+  drop24-laid = sym (drop-drop 16 8 (laid a b n h s d r)) ∙ ap (drop 16) drop8-laid ∙ drop_at s (d ++ r) 16 are.source
+
+  drop40-laid : drop 40 (laid a b n h s d r) ≡ r
+  drop40-laid = sym (drop-drop 16 24 (laid a b n h s d r)) ∙ ap (drop 16) drop24-laid ∙ drop_at d r 16 are.destination
+
+  take4-laid : take 4 (laid a b n h s d r) ≡ a
+  unfolding laid
+  take4-laid = take_at a (b ++ (n ∷ h ∷ (s ++ (d ++ r)))) 4 are.word
+
+  six-laid : slice_index (laid a b n h s d r) 6 ≡ n
+  six-laid = sym (get_or-drop 6 (laid a b n h s d r) 0 0) ∙ ap (λ xs. slice_index xs 0) drop6-laid
+
+  seven-laid : slice_index (laid a b n h s d r) 7 ≡ h
+  seven-laid = sym (get_or-drop 6 (laid a b n h s d r) 1 0) ∙ ap (λ xs. slice_index xs 1) drop6-laid
+
+  first-laid : slice_index (laid a b n h s d r) 0 ≡ slice_index a 0
+  unfolding laid
+  first-laid = let word = are.word in get_or_append_left a (b ++ (n ∷ h ∷ (s ++ (d ++ r)))) 0 0 (omega arith)
+
+  length-laid : length (laid a b n h s d r) ≡ 40 + length r
+  unfolding laid
+  length-laid =
+      let word = are.word in let stated = are.stated in let source = are.source in let destination = are.destination in
+      simp length-append (omega arith)
+
+  four-laid : four_number (laid a b n h s d r) ≡ four_number a
+  unfolding laid
+  four-laid = let word = are.word in four_number-append a (b ++ (n ∷ h ∷ (s ++ (d ++ r)))) (omega arith)
+
+  stated-laid : stated_len (laid a b n h s d r) ≡ two_number b
+  unfolding stated_len
+  stated-laid = let stated = are.stated in ap two_number drop4-laid ∙ two_number-append b (n ∷ h ∷ (s ++ (d ++ r))) (omega arith)
+
+  source-laid : address_number (drop 8 (laid a b n h s d r)) ≡ address_number s
+  source-laid = let source = are.source in ap address_number drop8-laid ∙ address_number-append s (d ++ r) (omega arith)
+
+  destination-laid : address_number (drop 24 (laid a b n h s d r)) ≡ address_number d
+  destination-laid = let destination = are.destination in ap address_number drop24-laid ∙ address_number-append d r (omega arith)
+
+  -- ---- one part changed
+
+  set6-laid : (x : ℕ) → slice_set (laid a b n h s d r) 6 x ≡ laid a b x h s d r
+  unfolding laid
+  set6-laid x =
+      set-append_right a (b ++ (n ∷ h ∷ (s ++ (d ++ r)))) 4 6 x are.word (omega arith)
+      ∙ ap (λ ys. a ++ ys) (set-append_right b (n ∷ h ∷ (s ++ (d ++ r))) 2 2 x are.stated (omega arith))
+
+  set7-laid : (x : ℕ) → slice_set (laid a b n h s d r) 7 x ≡ laid a b n x s d r
+  unfolding laid
+  set7-laid x =
+      set-append_right a (b ++ (n ∷ h ∷ (s ++ (d ++ r)))) 4 7 x are.word (omega arith)
+      ∙ ap (λ ys. a ++ ys) (set-append_right b (n ∷ h ∷ (s ++ (d ++ r))) 2 3 x are.stated (omega arith))
+
+  put4-laid : (w : List ℕ) → take 4 (laid a b n h s d r) ++ (w ++ drop 6 (laid a b n h s d r)) ≡ laid a w n h s d r
+  unfolding laid
+  put4-laid w = ap (λ xs. take 4 (laid a b n h s d r) ++ (w ++ xs)) drop6-laid
+      ∙ ap (λ xs. xs ++ (w ++ (n ∷ h ∷ (s ++ (d ++ r))))) take4-laid
+
+  front24-laid : laid a b n h s d r ≡ (a ++ (b ++ (n ∷ h ∷ s))) ++ (d ++ r)
+  unfolding laid
+  front24-laid = simp append_assoc
+
+  put24-laid : (w : List ℕ) → take 24 (laid a b n h s d r) ++ (w ++ drop 40 (laid a b n h s d r)) ≡ laid a b n h s w r
+  unfolding laid
+  put24-laid w =
+      let word = are.word in let stated = are.stated in let source = are.source in
+      let front : take 24 (laid a b n h s d r) ≡ a ++ (b ++ (n ∷ h ∷ s)) =
+      ap (take 24) front24-laid ∙ take_at (a ++ (b ++ (n ∷ h ∷ s))) (d ++ r) 24 (simp length-append (omega arith)) in
+      ap (λ xs. take 24 (laid a b n h s d r) ++ (w ++ xs)) drop40-laid
+      ∙ ap (λ xs. xs ++ (w ++ r)) front
+      ∙ simp append_assoc
+
+  -- ---- what the parts read as
+
+  packet_of : Packet
+  packet_of = record {
+    traffic_class = four_number a / 2 ^ 20 % 2 ^ 8;
+    flow_label = four_number a % 2 ^ 20;
+    next_header = n;
+    hop_limit = h;
+    source = address_number s;
+    destination = address_number d;
+    payload = take (two_number b) r;
+  }
+
+  packet-laid : packet_at (laid a b n h s d r) ≡ packet_of
+  unfolding packet_at packet_of
+  packet-laid = rw (four-laid, six-laid, seven-laid, source-laid, destination-laid, stated-laid, drop40-laid) refl
+
+  first_is : slice_index a 0 / 16 ≡ 6 → ((slice_index (laid a b n h s d r) 0 / 16) == 6) ≡ true
+  first_is version = eq-eqb (slice_index (laid a b n h s d r) 0 / 16) 6 (ap (λ k. k / 16) first-laid ∙ version)
+
+  content-laid : slice_index a 0 / 16 ≡ 6 → two_number b ≤ length r → content_of (laid a b n h s d r) ≡ V6 packet_of
+  content-laid version fits =
+      let long = length-laid in
+      let stated = stated-laid in
+      let some : (length (laid a b n h s d r) == 0) ≡ false = ne_eqb (length (laid a b n h s d r)) 0 (λ e. omega arith) in
+      let six = first_is version in
+      let header : nat_lt (length (laid a b n h s d r)) 40 ≡ false = le-ltb (length (laid a b n h s d r)) 40 (omega arith) in
+      let all : nat_lt (length (laid a b n h s d r)) (40 + stated_len (laid a b n h s d r)) ≡ false =
+      le-ltb (length (laid a b n h s d r)) (40 + stated_len (laid a b n h s d r)) (omega arith) in
+      rw (some, six, header, all) (ap V6 packet-laid)
+
+  short-laid : slice_index a 0 / 16 ≡ 6 → length r < two_number b
+      → content_of (laid a b n h s d r) ≡ Unreadable (laid a b n h s d r) Truncated
+  short-laid version short =
+      let long = length-laid in
+      let stated = stated-laid in
+      let some : (length (laid a b n h s d r) == 0) ≡ false = ne_eqb (length (laid a b n h s d r)) 0 (λ e. omega arith) in
+      let six = first_is version in
+      let header : nat_lt (length (laid a b n h s d r)) 40 ≡ false = le-ltb (length (laid a b n h s d r)) 40 (omega arith) in
+      let cut : nat_lt (length (laid a b n h s d r)) (40 + stated_len (laid a b n h s d r)) ≡ true =
+      lt-ltb (length (laid a b n h s d r)) (40 + stated_len (laid a b n h s d r)) (omega arith) in
+      rw (some, six, header, cut) refl
+
+-- ---- bytes in their parts
+
+split : (i n : ℕ) (xs : List ℕ) → drop i xs ≡ take n (drop i xs) ++ drop (i + n) xs
+split i n xs = sym (take-append-drop n (drop i xs)) ∙ ap (λ ys. take n (drop i xs) ++ ys) (drop-drop n i xs)
+
+are-parts : (xs : List ℕ) → 40 ≤ length xs → AreParts (take 4 xs) (take 2 (drop 4 xs)) (take 16 (drop 8 xs)) (take 16 (drop 24 xs))
+are-parts xs long = record {
+  word = length-take-le 4 xs (omega arith);
+  stated = length-take-le 2 (drop 4 xs) (omega (arith, length-drop 4 xs));
+  source = length-take-le 16 (drop 8 xs) (omega (arith, length-drop 8 xs));
+  destination = length-take-le 16 (drop 24 xs) (omega (arith, length-drop 24 xs));
+}
+
+laid-parts : (xs : List ℕ) → 40 ≤ length xs
+    → xs
+    ≡ laid (take 4 xs) (take 2 (drop 4 xs)) (slice_index xs 6) (slice_index xs 7) (take 16 (drop 8 xs)) (take 16 (drop 24 xs)) (drop 40 xs)
+unfolding laid
+laid-parts xs long =
+    let e8 = split 8 16 xs ∙ ap (λ ys. take 16 (drop 8 xs) ++ ys) (split 24 16 xs) in
+    let e7 = drop_more xs 7 0 (omega arith) ∙ ap (λ ys. slice_index xs 7 ∷ ys) e8 in
+    let e6 = drop_more xs 6 0 (omega arith) ∙ ap (λ ys. slice_index xs 6 ∷ ys) e7 in
+    let e4 = split 4 2 xs ∙ ap (λ ys. take 2 (drop 4 xs) ++ ys) e6 in
+    sym (take-append-drop 4 xs) ∙ ap (λ ys. take 4 xs ++ ys) e4
+
+-- bytes that read hold what their header states, and the packet is what stands there
+record Reads (bytes : List ℕ) (p : Packet) : Type 0 where
+  version : slice_index bytes 0 / 16 ≡ 6
+  whole : 40 + stated_len bytes ≤ length bytes
+  packet : packet_at bytes ≡ p
+
+reads-by_tests : (bytes : List ℕ) (p : Packet) (empty six short cut : Bool)
+    → length bytes == 0 ≡ empty → (slice_index bytes 0 / 16) == 6 ≡ six → nat_lt (length bytes) 40 ≡ short
+    → nat_lt (length bytes) (40 + stated_len bytes) ≡ cut
+    → cond empty (Unreadable bytes Truncated)
+    (cond six (cond short (Unreadable bytes Truncated) (cond cut (Unreadable bytes Truncated) (V6 (packet_at bytes))))
+    (Unreadable bytes BadVersion)) ≡ V6 p
+    → Reads bytes p
+reads-by_tests bytes p true six short cut e1 e2 e3 e4 e = cc
+reads-by_tests bytes p false false short cut e1 e2 e3 e4 e = cc
+reads-by_tests bytes p false true true cut e1 e2 e3 e4 e = cc
+reads-by_tests bytes p false true false true e1 e2 e3 e4 e = cc
+reads-by_tests bytes p false true false false e1 e2 e3 e4 e =
+    record { version = eqb-true (slice_index bytes 0 / 16) 6 e2; whole = ltb-false (length bytes) (40 + stated_len bytes) e4; packet = cc }
+
+reads : (bytes : List ℕ) (p : Packet) → content_of bytes ≡ V6 p → Reads bytes p
+reads bytes p e = reads-by_tests bytes p (length bytes == 0) ((slice_index bytes 0 / 16) == 6) (nat_lt (length bytes) 40)
+    (nat_lt (length bytes) (40 + stated_len bytes)) refl refl refl refl e
+
+-- ---- numbers
+
+length-two_bytes : (n : ℕ) → length (two_bytes n) ≡ 2
+unfolding two_bytes
+length-two_bytes n = length-bytes_high_first 2 n
+
+length-address_bytes : (a : ℕ) → length (address_bytes a) ≡ 16
+unfolding address_bytes
+length-address_bytes a = length-bytes_high_first 16 a
+
+two-back : (n : ℕ) → n < 2 ^ 16 → two_number (two_bytes n) ≡ n
+unfolding two_number two_bytes
+two-back n h = ap (λ xs. big_number 2 xs) (sym (append-nil (big_bytes 2 n))) ∙ big_number-reads_back 2 n [] h
+
+address-back : (a : ℕ) → a < 2 ^ 128 → address_number (address_bytes a) ≡ a
+unfolding address_number address_bytes
+address-back a h = ap (λ xs. big_number 16 xs) (sym (append-nil (big_bytes 16 a))) ∙ big_number-reads_back 16 a [] h
+
+-- ---- a packet in bytes, one field changed
+
+module _ (xs : List ℕ) (p : Packet) (e : content_of xs ≡ V6 p) where
+  long : 40 ≤ length xs
+  long = let r = reads xs p e in let whole = r.whole in omega arith
+
+  are : AreParts (take 4 xs) (take 2 (drop 4 xs)) (take 16 (drop 8 xs)) (take 16 (drop 24 xs))
+  are = are-parts xs long
+
+  version : slice_index (take 4 xs) 0 / 16 ≡ 6
+  version = ap (λ k. k / 16) (get_or-take 4 xs 0 0 (omega arith)) ∙ (reads xs p e).version
+
+  stated : stated_len xs ≡ two_number (take 2 (drop 4 xs))
+  stated =
+      ap stated_len (laid-parts xs long)
+      ∙ stated-laid (take 4 xs) (take 2 (drop 4 xs)) (slice_index xs 6) (slice_index xs 7) (take 16 (drop 8 xs)) (take 16 (drop 24 xs))
+      (drop 40 xs) are
+
+  fits : two_number (take 2 (drop 4 xs)) ≤ length (drop 40 xs)
+  fits = let r = reads xs p e in let whole = r.whole in let is = stated in omega (arith, length-drop 40 xs)
+
+  packet : packet_of (take 4 xs) (take 2 (drop 4 xs)) (slice_index xs 6) (slice_index xs 7) (take 16 (drop 8 xs)) (take 16 (drop 24 xs))
+      (drop 40 xs) are ≡ p
+  packet =
+      sym (packet-laid (take 4 xs) (take 2 (drop 4 xs)) (slice_index xs 6) (slice_index xs 7) (take 16 (drop 8 xs)) (take 16 (drop 24 xs))
+      (drop 40 xs) are)
+      ∙ ap packet_at (sym (laid-parts xs long)) ∙ (reads xs p e).packet
+
+  -- another next header
+  pub read-next_header : (x : ℕ) → content_of (slice_set xs 6 x) ≡ V6 (record p { next_header = x })
+  unfolding packet_of
+  read-next_header x =
+      let a : List ℕ = take 4 xs in let b : List ℕ = take 2 (drop 4 xs) in
+      let s : List ℕ = take 16 (drop 8 xs) in let d : List ℕ = take 16 (drop 24 xs) in let r : List ℕ = drop 40 xs in
+      let h : ℕ = slice_index xs 7 in
+      ap (λ ys. content_of (slice_set ys 6 x)) (laid-parts xs long)
+      ∙ ap content_of (set6-laid a b (slice_index xs 6) h s d r are x)
+      ∙ content-laid a b x h s d r are version fits
+      ∙ ap (λ (q : Packet). V6 (record q { next_header = x })) packet
+
+  -- another hop limit
+  pub read-hop_limit : (x : ℕ) → content_of (slice_set xs 7 x) ≡ V6 (record p { hop_limit = x })
+  unfolding packet_of
+  read-hop_limit x =
+      let a : List ℕ = take 4 xs in let b : List ℕ = take 2 (drop 4 xs) in
+      let s : List ℕ = take 16 (drop 8 xs) in let d : List ℕ = take 16 (drop 24 xs) in let r : List ℕ = drop 40 xs in
+      let n : ℕ = slice_index xs 6 in
+      ap (λ ys. content_of (slice_set ys 7 x)) (laid-parts xs long)
+      ∙ ap content_of (set7-laid a b n (slice_index xs 7) s d r are x)
+      ∙ content-laid a b n x s d r are version fits
+      ∙ ap (λ (q : Packet). V6 (record q { hop_limit = x })) packet
+
+  -- another destination
+  pub read-destination : (x : ℕ) → x < 2 ^ 128
+      → content_of (take 24 xs ++ (address_bytes x ++ drop 40 xs)) ≡ V6 (record p { destination = x })
+  unfolding packet_of
+  read-destination x below =
+      let a : List ℕ = take 4 xs in let b : List ℕ = take 2 (drop 4 xs) in
+      let s : List ℕ = take 16 (drop 8 xs) in let d : List ℕ = take 16 (drop 24 xs) in let r : List ℕ = drop 40 xs in
+      let n : ℕ = slice_index xs 6 in let h : ℕ = slice_index xs 7 in let w : List ℕ = address_bytes x in
+      let parts : AreParts a b s w =
+      record { word = are.word; stated = are.stated; source = are.source; destination = length-address_bytes x } in
+      ap (λ ys. content_of (take 24 ys ++ (w ++ drop 40 ys))) (laid-parts xs long)
+      ∙ ap content_of (put24-laid a b n h s d r are w)
+      ∙ content-laid a b n h s w r parts version fits
+      ∙ ap (λ k. V6 (record (packet_of a b n h s d r are) { destination = k })) (address-back x below)
+      ∙ ap (λ (q : Packet). V6 (record q { destination = x })) packet
+
+  -- another payload length: so many of the bytes behind the header are the payload, where they are there
+  pub read-payload_len : (x : ℕ) → x < 2 ^ 16 → header_len + x ≤ length xs
+      → content_of (take 4 xs ++ (two_bytes x ++ drop 6 xs)) ≡ V6 (record p { payload = take x (drop header_len xs) })
+  unfolding packet_of
+  read-payload_len x below room =
+      let a : List ℕ = take 4 xs in let b : List ℕ = take 2 (drop 4 xs) in
+      let s : List ℕ = take 16 (drop 8 xs) in let d : List ℕ = take 16 (drop 24 xs) in let r : List ℕ = drop 40 xs in
+      let n : ℕ = slice_index xs 6 in let h : ℕ = slice_index xs 7 in let w : List ℕ = two_bytes x in
+      let parts : AreParts a w s d =
+      record { word = are.word; stated = length-two_bytes x; source = are.source; destination = are.destination } in
+      let back : two_number w ≡ x = two-back x below in
+      let here : two_number w ≤ length r = omega (arith, length-drop 40 xs) in
+      ap (λ ys. content_of (take 4 ys ++ (w ++ drop 6 ys))) (laid-parts xs long)
+      ∙ ap content_of (put4-laid a b n h s d r are w)
+      ∙ content-laid a w n h s d r parts version here
+      ∙ ap (λ k. V6 (record (packet_of a b n h s d r are) { payload = take k r })) back
+      ∙ ap (λ (q : Packet). V6 (record q { payload = take x r })) packet
+
+  pub read-payload_cut : (x : ℕ) → x < 2 ^ 16 → length xs < header_len + x
+      → content_of (take 4 xs ++ (two_bytes x ++ drop 6 xs)) ≡ Unreadable (take 4 xs ++ (two_bytes x ++ drop 6 xs)) Truncated
+  read-payload_cut x below room =
+      let a : List ℕ = take 4 xs in let b : List ℕ = take 2 (drop 4 xs) in
+      let s : List ℕ = take 16 (drop 8 xs) in let d : List ℕ = take 16 (drop 24 xs) in let r : List ℕ = drop 40 xs in
+      let n : ℕ = slice_index xs 6 in let h : ℕ = slice_index xs 7 in let w : List ℕ = two_bytes x in
+      let parts : AreParts a w s d =
+      record { word = are.word; stated = length-two_bytes x; source = are.source; destination = are.destination } in
+      let back : two_number w ≡ x = two-back x below in
+      let whole : 40 ≤ length xs = long in
+      let short : length r < two_number w = omega (arith, length-drop 40 xs) in
+      let same : take 4 xs ++ (w ++ drop 6 xs) ≡ laid a w n h s d r =
+      ap (λ ys. take 4 ys ++ (w ++ drop 6 ys)) (laid-parts xs long) ∙ put4-laid a b n h s d r are w in
+      ap content_of same ∙ short-laid a w n h s d r parts version short ∙ ap (λ ys. Unreadable ys Truncated) (sym same)
+
+pub ruleset behinds = (drop-drop)

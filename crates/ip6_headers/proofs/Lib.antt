@@ -1,0 +1,5 @@
+pub mod AreaLemmas
+pub mod ChainSteps
+pub mod PacketBytes
+pub mod EditLemmas
+pub mod PublicLaws

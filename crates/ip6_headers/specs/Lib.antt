@@ -1,0 +1,4 @@
+pub mod Items
+pub mod Stepping
+pub mod Reading
+pub mod Editing

@@ -1,0 +1,28 @@
+//! Why bytes do not read as a packet.
+
+use srv6_rules::Reason;
+
+/// Why bytes do not read as an IPv6 packet (RFC 8200 section 3).
+#[derive(Clone, Copy, Debug, PartialEq, Eq)]
+pub enum ReadFault {
+    /// Fewer bytes than a header has, or than it states.
+    Truncated,
+    /// The first half byte is not 6.
+    BadVersion,
+}
+
+impl ReadFault {
+    ghost use Rattle.std.specs.Prelude.{◌≡◌, ℕ, List};
+    ghost use Rattle.srv6_rules.specs.Packet.{Unreadable};
+    ghost use Rattle.ip6_headers.specs.Reading.{unreadable};
+
+    /// The reason for which a node drops bytes that do not read.
+    pub fn reason(self) -> Reason
+        ensures { (bytes : List ℕ) → Unreadable bytes result ≡ unreadable bytes self }
+    {
+        match self {
+            ReadFault::Truncated => Reason::Truncated,
+            ReadFault::BadVersion => Reason::BadVersion,
+        }
+    }
+}

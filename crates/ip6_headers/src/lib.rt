@@ -1,0 +1,27 @@
+//! Views and edits of IPv6 headers, and what stands behind them: the chain of extension headers,
+//! and areas of options (RFC 8200 sections 3 and 4).
+//!
+//! A view reads bytes as a packet, an edit writes a field in its place, and a step goes from one
+//! header of the chain to the next. Nothing here takes memory. Places and lengths are in bytes, and
+//! a place in a chain is counted from the packet's first byte.
+#![tactic(auto)]
+
+mod areas;
+mod chain;
+mod edit;
+mod faults;
+mod laws;
+mod numbers;
+mod parts;
+#[cfg(test)]
+mod tests;
+mod view;
+
+pub use areas::{Fault, item_len, options};
+pub use chain::{BadChain, ChainPlace, ChainStep, Stands, chain_start, chain_step, stands_at};
+pub use edit::Ip6Edit;
+pub use faults::ReadFault;
+pub use laws::edit_changes_its_field;
+pub use numbers::{address_at, four_at, two_at};
+pub use parts::halves;
+pub use view::{Ip6View, read_fault};
