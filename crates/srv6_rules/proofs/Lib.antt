@@ -9,4 +9,6 @@ pub mod Treatments
 pub mod Endpoints
 pub mod Encapsulations
 pub mod Without
+pub mod Checksums
+pub mod ErrorLaws
 pub mod PublicLaws

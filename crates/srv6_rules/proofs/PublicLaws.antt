@@ -1,7 +1,7 @@
 -- The laws of this crate as lemmas, each the proof of a clause of `laws` or `encapsulation`: what crates above cite.
-pub use Rattle.srv6_rules.proofs.Bytes.{length-two_bytes, length-address_bytes, all-address_bytes, two_number-append, four_number-append, address_number-append}
+pub use Rattle.srv6_rules.proofs.Bytes.{length-two_bytes, length-four_bytes, length-address_bytes, all-two_bytes, all-four_bytes, all-address_bytes, two_number-append, four_number-append, address_number-append}
 pub use Rattle.srv6_rules.proofs.Packets.{content_of-spelling, content_of-spelling_alone, length-spelling, all-spelling, packet_at-spellable, reads-spellable, reads-spelled, entered-is_content, entered-back}
-pub use Rattle.srv6_rules.proofs.Edits.{edit-hop_limit, edit-destination, edit-payload}
+pub use Rattle.srv6_rules.proofs.Edits.{spelling-behind, edit-hop_limit, edit-destination, edit-payload}
 pub use Rattle.srv6_rules.proofs.Headers.{srh_of-spelling, srh_of-spellable, srh_spelling-srh_of, entry-at, length-entries}
 pub use Rattle.srv6_rules.proofs.Chains.{chain_of-start, chain_at-goes_on, chain_at-upper, chain_at-cut, chain_at-header, chain_at-lies, chain_at-follow, chain_at-stand, chain_at-ends, chain_at-upper_stands, chain_at-spelled, follow-ascends, follow-chain, start-stands, behind-stands, extension_bytes-least, header_in-lies, lies-at, lies-spelled, lies-bytes, lies-stated}
 pub use Rattle.srv6_rules.proofs.Without.{without-others, without-length, without-behind, without-front, without-spellable, without-first_chain, without-later_chain, chain_at-split, chain_at-lowered}
@@ -10,3 +10,5 @@ pub use Rattle.srv6_rules.proofs.Reached.{over-goes_on, over-passed, over-all_pa
 pub use Rattle.srv6_rules.proofs.Treatments.{first-passed, late-refused, options-judged, options-passed, options-refused, fragment-refused, routing-by, unknown-passed, unknown-refused, at_header-either, at_header-passed, at_header-steps, at_header-refuses, at_header-unknown, at_address_header-either, at_address_header-passed, at_address_header-refuses}
 pub use Rattle.srv6_rules.proofs.Endpoints.{goes_on-is, exposes-is, dt6-exposes, goes_on-exposes, at_sid-steps, at_sid-spellable, at_sid-bytes, at_sid-exposes, at_sid-exposed_packet, at_sid-content, at_sid-exposed_back, read_as-unreadable, at_sid-delivered, at_sid-place, at_address-delivered, at_address-not_onward, at_address-not_exposed, at_address-place}
 pub use Rattle.srv6_rules.proofs.Encapsulations.{at_segment-onward, at_segment-hop_limit, at_segment-bad_segments, at_segment-upper_layer, at_segment-exposed, at_segment-spellable, outer-chain, outer-inner, lowered-spellable, lowered-spelling, encapsulated-spellable}
+pub use Rattle.srv6_rules.proofs.Checksums.{ones_sum-carried, word_sum-append, carried-again, carried-small}
+pub use Rattle.srv6_rules.proofs.ErrorLaws.{upper_layer_sum-carried, error_checksum-parts, error-start, error-goes_on, error-behind, error-none, error-is_error, error-once, error-most, error-length, quote-short, kind_of-fits, error-spellable, error-verifies}

@@ -6,3 +6,5 @@ pub mod Areas
 pub mod Endpoint
 pub mod Encapsulation
 pub mod Reasons
+pub mod Checksum
+pub mod Errors

@@ -2,14 +2,16 @@
 //!
 //! `specs/` has the IPv6 packet and the segment routing header as values with their one spelling
 //! each, how bytes are read, how the chain of extension headers is taken apart, what an endpoint
-//! does with a packet that came to one of its SIDs, and how a packet is encapsulated behind a
-//! segment list. The code here has the types that these definitions speak of, and the laws about
-//! the definitions.
+//! does with a packet that came to one of its SIDs, how a packet is encapsulated behind a segment
+//! list, and which ICMPv6 error is made about a packet that is dropped. The code here has the types
+//! that these definitions speak of, and the laws about the definitions.
 #![tactic(auto)]
 
 pub mod encapsulation;
+pub mod icmp;
 pub mod laws;
 pub mod numbers;
 mod sid;
 
+pub use icmp::IcmpKind;
 pub use sid::{Behaviour, Csid, Family, LinkSet, Reason, SidEntry};

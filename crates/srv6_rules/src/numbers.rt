@@ -86,3 +86,54 @@ pub const PADN: u8 = 1;
 
 /// The type of an HMAC in a segment routing header: 5 (RFC 8754 section 2.1.2).
 pub const HMAC: u8 = 5;
+
+/// The place of the fragment offset in a Fragment header, two bytes whose lowest 3 bits are not of
+/// it: 2 (RFC 8200 section 4.5).
+pub const FRAGMENT_OFFSET_AT: usize = 2;
+
+/// The number of values of the 3 bits below a fragment offset: 8 (RFC 8200 section 4.5).
+pub const FRAGMENT_OFFSET_UNIT: u16 = 8;
+
+/// The least size of packets that every link carries, in bytes: 1,280 (RFC 8200 section 5).
+pub const LEAST_MTU: usize = 1280;
+
+/// The next header that names ICMPv6: 58 (RFC 4443 section 2.1).
+pub const ICMPV6: u8 = 58;
+
+/// The length of an ICMPv6 error message in front of what it quotes: 8 (RFC 4443 section 3).
+pub const ICMPV6_HEADER_LEN: usize = 8;
+
+/// The most bytes that an ICMPv6 error quotes of a packet, so that the error goes over every link:
+/// 1,232 (RFC 4443 section 3).
+pub const MOST_QUOTE_LEN: usize = LEAST_MTU - IPV6_HEADER_LEN - ICMPV6_HEADER_LEN;
+
+/// The hop limit of an ICMPv6 error: 64 (own rule).
+pub const ICMPV6_HOP_LIMIT: u8 = 64;
+
+/// The type of Destination Unreachable: 1 (RFC 4443 section 3.1).
+pub const DESTINATION_UNREACHABLE: u8 = 1;
+
+/// The type of Time Exceeded: 3 (RFC 4443 section 3.3).
+pub const TIME_EXCEEDED: u8 = 3;
+
+/// The type of Parameter Problem: 4 (RFC 4443 section 3.4).
+pub const PARAMETER_PROBLEM: u8 = 4;
+
+/// The lowest type of an ICMPv6 message that is no error: 128 (RFC 4443 section 2.1).
+pub const FIRST_INFORMATIONAL: u8 = 128;
+
+/// The type of Redirect: 137 (RFC 4861 section 4.5).
+pub const REDIRECT: u8 = 137;
+
+/// The code of Parameter Problem for a field that is wrong: 0 (RFC 4443 section 3.4).
+pub const WRONG_FIELD: u8 = 0;
+
+/// The code of Parameter Problem for a next header that is wrong: 1 (RFC 4443 section 3.4).
+pub const WRONG_NEXT_HEADER: u8 = 1;
+
+/// The code of Parameter Problem for an unknown option: 2 (RFC 4443 section 3.4).
+pub const UNKNOWN_OPTION: u8 = 2;
+
+/// The code of Parameter Problem for an upper layer that a SID does not take: 4 (RFC 8986 section
+/// 4.1.1).
+pub const WRONG_UPPER_LAYER: u8 = 4;

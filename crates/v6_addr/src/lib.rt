@@ -10,6 +10,7 @@ mod bits;
 mod display;
 mod errors;
 mod groups;
+mod kind;
 mod laws;
 mod length;
 mod parse;

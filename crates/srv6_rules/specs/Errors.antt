@@ -1,0 +1,123 @@
+-- ICMPv6 errors: which one a drop gives, where none is made, and the packet that it is (RFC 4443 sections 2 and 3).
+use Rattle.std.specs.Prelude.{ℕ, ◌/◌, ◌^◌, ◌<◌, Bool, false, not, ◌==◌, ◌&&◌, ◌||◌, nat_lt, if◌then◌else◌, List, ◌∷◌, ◌++◌, take, drop, slice_get, Option, Some, None}
+use Rattle.std.specs.List.{list_any}
+use Rattle.v6_addr.specs.Kinds.{is_unspecified, is_multicast}
+use Rattle.srv6_rules.specs.declared.numbers.TheConstants.{ICMPV6, ICMPV6_HOP_LIMIT, MOST_QUOTE_LEN, DESTINATION_UNREACHABLE, TIME_EXCEEDED, PARAMETER_PROBLEM, FIRST_INFORMATIONAL, REDIRECT, WRONG_FIELD, WRONG_NEXT_HEADER, UNKNOWN_OPTION, WRONG_UPPER_LAYER, FRAGMENT_OFFSET_AT, FRAGMENT_OFFSET_UNIT}
+use Rattle.srv6_rules.specs.declared.icmp.IcmpKind.{IcmpKind}
+use Rattle.srv6_rules.specs.declared.icmp.IcmpKind.TheVariants.{Unreachable, TimeExceeded, Parameter}
+use Rattle.srv6_rules.specs.declared.sid.Reason.{Reason}
+use Rattle.srv6_rules.specs.declared.sid.Reason.TheVariants as reasons
+use Rattle.srv6_rules.specs.Packet.{Packet, spelling, two_bytes, four_bytes, two_number}
+use Rattle.srv6_rules.specs.Chain.{Header, ChainEnd, Upper, Cut, Chain, fragment, from_place, chain_of}
+use Rattle.srv6_rules.specs.Checksum.{checksum_of}
+
+-- the error that a drop of an IPv6 packet gives, by its reason and the place of the fault, if it gives one (RFC 4443 section 3,
+-- RFC 8200 sections 4.2 and 4.4, RFC 8754 section 4.3.1.1, RFC 8986 section 4.1.1; that others give none is an own rule)
+abbrev pub kind_of : Reason → ℕ → Option IcmpKind
+kind_of reasons.Truncated at = None
+kind_of reasons.BadVersion at = None
+kind_of reasons.Multicast at = None
+kind_of reasons.NoRoute at = Some Unreachable
+kind_of reasons.HopLimit at = Some TimeExceeded
+kind_of reasons.BadChain at = None
+kind_of reasons.LateHopByHop at = Some (Parameter WRONG_NEXT_HEADER at)
+kind_of reasons.OptionDiscard at = None
+kind_of reasons.OptionUnknown at = Some (Parameter UNKNOWN_OPTION at)
+kind_of reasons.Fragment at = None
+kind_of reasons.BadSegments at = Some (Parameter WRONG_FIELD at)
+kind_of reasons.HmacTlv at = None
+kind_of reasons.BadTlv at = None
+kind_of reasons.UnknownRouting at = Some (Parameter WRONG_FIELD at)
+kind_of reasons.UpperLayer at = Some (Parameter WRONG_UPPER_LAYER at)
+kind_of reasons.NotBuilt at = None
+
+-- the type, the code and the pointer of an error; the pointer's four bytes are unused in others than Parameter Problem
+abbrev pub type_of : IcmpKind → ℕ
+type_of Unreachable = DESTINATION_UNREACHABLE
+type_of TimeExceeded = TIME_EXCEEDED
+type_of (Parameter code at) = PARAMETER_PROBLEM
+
+abbrev pub code_of : IcmpKind → ℕ
+code_of Unreachable = 0
+code_of TimeExceeded = 0
+code_of (Parameter code at) = code
+
+abbrev pub pointer_of : IcmpKind → ℕ
+pointer_of Unreachable = 0
+pointer_of TimeExceeded = 0
+pointer_of (Parameter code at) = at
+
+-- the errors whose code and pointer fit their bytes
+abbrev pub IsKind : IcmpKind → Type 0
+IsKind kind = (code_of kind < 2 ^ 8) × (pointer_of kind < 2 ^ 32)
+
+-- ---- where no error is made
+
+-- a Fragment header of another fragment than the first: what stands behind it is no header (RFC 8200 section 4.5)
+abbrev pub is_later_fragment : Header → Bool
+is_later_fragment h = (h.place.kind == fragment) && nat_lt 0 (two_number (drop FRAGMENT_OFFSET_AT h.bytes) / FRAGMENT_OFFSET_UNIT)
+
+-- an ICMPv6 message whose first byte is its type: an error or a redirect; one of no bytes is neither
+abbrev pub is_error_type : Option ℕ → Bool
+is_error_type None = false
+is_error_type (Some kind) = nat_lt kind FIRST_INFORMATIONAL || (kind == REDIRECT)
+
+abbrev pub ends_in_error : Packet → ChainEnd → Bool
+ends_in_error p (Upper place) = (place.kind == ICMPV6) && is_error_type (slice_get (from_place p place.at) 0)
+ends_in_error p (Cut place) = false
+
+-- a chain of a packet leads to an error or a redirect
+abbrev pub leads_to_error : Packet → Chain → Bool
+leads_to_error p c = not (list_any is_later_fragment c.headers) && ends_in_error p c.end
+
+-- the packet is itself an ICMPv6 error or a redirect, as far as its chain shows
+unfoldable pub is_error_message : Packet → Bool
+is_error_message p = leads_to_error p (chain_of p)
+
+-- Parameter Problem for an unknown option
+abbrev pub is_about_option : IcmpKind → Bool
+is_about_option Unreachable = false
+is_about_option TimeExceeded = false
+is_about_option (Parameter code at) = code == UNKNOWN_OPTION
+
+-- no error of a kind is made about a packet whose source is no one node's address, whose destination is multicast (but for
+-- an unknown option), or which is itself an error or a redirect (RFC 4443 section 2.4 (e))
+unfoldable pub is_unanswered : Packet → IcmpKind → Bool
+is_unanswered p kind =
+    is_unspecified p.source || (is_multicast p.source
+    || ((is_multicast p.destination && not (is_about_option kind)) || is_error_message p))
+
+-- ---- the error
+
+-- the bytes of an error message in front of what it quotes
+abbrev pub message_head : IcmpKind → ℕ → List ℕ
+message_head kind checksum = type_of kind ∷ code_of kind ∷ (two_bytes checksum ++ four_bytes (pointer_of kind))
+
+-- as many of the packet's bytes as fit
+abbrev pub quote_of : Packet → List ℕ
+quote_of p = take MOST_QUOTE_LEN (spelling p)
+
+-- the packet that carries an ICMPv6 message
+abbrev pub icmp_packet : ℕ → ℕ → List ℕ → Packet
+icmp_packet source destination message =
+    record {
+      traffic_class = 0;
+      flow_label = 0;
+      next_header = ICMPV6;
+      hop_limit = ICMPV6_HOP_LIMIT;
+      source = source;
+      destination = destination;
+      payload = message;
+    }
+
+-- the checksum of the error about a packet that goes from an address to the packet's source
+abbrev pub error_checksum : Packet → IcmpKind → ℕ → ℕ
+error_checksum p kind from = checksum_of from p.source ICMPV6 (message_head kind 0 ++ quote_of p)
+
+-- the error of a kind about a packet, from an address
+unfoldable pub error_about : Packet → IcmpKind → ℕ → Packet
+error_about p kind from = icmp_packet from p.source (message_head kind (error_checksum p kind from) ++ quote_of p)
+
+-- the same, if one is made
+unfoldable pub error_packet : Packet → IcmpKind → ℕ → Option Packet
+error_packet p kind from = if is_unanswered p kind then None else Some (error_about p kind from)

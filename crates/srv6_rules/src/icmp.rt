@@ -1,0 +1,132 @@
+//! Which ICMPv6 error a drop gives, and laws about errors and their checksums (RFC 4443, RFC 1071).
+
+ghost use Rattle.std.specs.Prelude.{◌≡◌, ◌+◌, ◌-◌, ◌/◌, ◌%◌, ◌^◌, ◌<◌, ◌≤◌, true, false, ◌&&◌, not, if◌then◌else◌, List, [], ℕ, ◌++◌, length, All, Option, Some, None};
+ghost use Rattle.srv6_rules.specs.Chain.{ChainPlace, Header, Chain, Upper, is_extension, is_whole, header_in, behind_in, behind, start_of, chain_at, from_place};
+ghost use Rattle.srv6_rules.specs.Checksum.{all_ones, ones_sum, word_sum, carried, pseudo_header, upper_layer_sum, Verifies};
+ghost use Rattle.srv6_rules.specs.Errors.{kind_of, IsKind, is_error_message, leads_to_error, ends_in_error, is_later_fragment, message_head, quote_of, error_checksum, error_packet};
+ghost use Rattle.srv6_rules.specs.Packet.{Packet, IsSpellable, spelling, header_len};
+ghost use Rattle.srv6_rules.specs.declared.numbers.TheConstants.{ICMPV6, LEAST_MTU};
+ghost use Rattle.srv6_rules.specs.declared.icmp.IcmpKind.{IcmpKind as IcmpKindValue};
+ghost use Rattle.srv6_rules.specs.declared.sid.Reason.{Reason as ReasonValue};
+
+use crate::numbers::{UNKNOWN_OPTION, WRONG_FIELD, WRONG_NEXT_HEADER, WRONG_UPPER_LAYER};
+use crate::sid::Reason;
+
+/// An ICMPv6 error (RFC 4443 section 3).
+#[derive(Clone, Copy, Debug, PartialEq, Eq)]
+pub enum IcmpKind {
+    /// Destination Unreachable with code 0, no route: type 1 (RFC 4443 section 3.1).
+    Unreachable,
+    /// Time Exceeded with code 0, the hop limit: type 3 (RFC 4443 section 3.3).
+    TimeExceeded,
+    /// Parameter Problem: type 4 (RFC 4443 section 3.4).
+    Parameter {
+        /// Its code.
+        code: u8,
+        /// Its pointer: the place of the fault in bytes from the packet's first.
+        at: u32,
+    },
+}
+
+impl IcmpKind {
+    /// The error that a drop of an IPv6 packet gives, by its reason and the place of the fault in
+    /// bytes from the packet's first; none where the reason gives none (RFC 4443 section 3).
+    pub fn of(reason: Reason, at: u32) -> Option<IcmpKind>
+        ensures { result ≡ kind_of reason at }
+    {
+        let code = match reason {
+            Reason::NoRoute => return Some(IcmpKind::Unreachable),
+            Reason::HopLimit => return Some(IcmpKind::TimeExceeded),
+            Reason::LateHopByHop => WRONG_NEXT_HEADER,
+            Reason::OptionUnknown => UNKNOWN_OPTION,
+            Reason::BadSegments | Reason::UnknownRouting => WRONG_FIELD,
+            Reason::UpperLayer => WRONG_UPPER_LAYER,
+            Reason::Truncated
+            | Reason::BadVersion
+            | Reason::Multicast
+            | Reason::BadChain
+            | Reason::OptionDiscard
+            | Reason::Fragment
+            | Reason::HmacTlv
+            | Reason::BadTlv
+            | Reason::NotBuilt => return None,
+        };
+        Some(IcmpKind::Parameter { code, at })
+    }
+}
+
+/// Words can be summed in parts of even lengths, and the carries beyond 16 bits added at the end,
+/// as often as it takes (RFC 1071 section 2).
+pub fn carries_can_be_added_last()
+    ensures sum { (bytes : List ℕ) → All (λ b. b < 2 ^ 8) bytes
+        → ones_sum bytes ≡ carried (word_sum bytes) }
+    ensures parts { (xs ys : List ℕ) → length xs % 2 ≡ 0
+        → word_sum (xs ++ ys) ≡ word_sum xs + word_sum ys }
+    ensures upper_layer { (source destination next : ℕ) (upper : List ℕ) → next < 2 ^ 8
+        → All (λ b. b < 2 ^ 8) upper
+        → upper_layer_sum source destination next upper
+        ≡ carried (word_sum (pseudo_header source destination (length upper) next)
+        + word_sum upper) }
+    ensures again { (n : ℕ) → carried (n / 2 ^ 16 + n % 2 ^ 16) ≡ carried n }
+    ensures small { (n : ℕ) → n < 2 ^ 16 → carried n ≡ n }
+{}
+
+/// Whether a packet is itself an error or a redirect is seen header by header: a header that is cut
+/// and a Fragment header of a later fragment end the question, and else the upper layer answers it
+/// (RFC 4443 section 2.4).
+pub fn error_is_found_along_the_chain()
+    ensures start { (p : Packet) → is_error_message p
+        ≡ leads_to_error p (chain_at p (start_of p)) }
+    ensures each { (p : Packet) (place : ChainPlace) → header_len ≤ place.at
+        → leads_to_error p (chain_at p place)
+        ≡ (if is_extension place.kind
+        then (if is_whole place.kind (from_place p place.at)
+        then not (is_later_fragment (header_in place (from_place p place.at)))
+        && leads_to_error p (chain_at p (behind_in place (from_place p place.at)))
+        else false)
+        else ends_in_error p (Upper place)) }
+    ensures header { (p : Packet) (h : Header) (c : Chain) → leads_to_error p (behind h c)
+        ≡ (not (is_later_fragment h) && leads_to_error p c) }
+{}
+
+/// No error is made about an error or a redirect, so none about an error that was made (RFC 4443
+/// section 2.4).
+pub fn errors_are_not_answered()
+    ensures none { (p : Packet) (kind : IcmpKindValue) (from : ℕ) → is_error_message p ≡ true
+        → error_packet p kind from ≡ None }
+    ensures made { (p q : Packet) (kind : IcmpKindValue) (from : ℕ)
+        → error_packet p kind from ≡ Some q → is_error_message q ≡ true }
+    ensures once { (p q : Packet) (kind other : IcmpKindValue) (from again : ℕ)
+        → error_packet p kind from ≡ Some q → error_packet q other again ≡ None }
+{}
+
+/// An error goes over every link, and quotes the packet from its first byte on (RFC 4443 section
+/// 3).
+pub fn errors_fit_every_link()
+    ensures most { (p q : Packet) (kind : IcmpKindValue) (from : ℕ)
+        → error_packet p kind from ≡ Some q → length (spelling q) ≤ LEAST_MTU }
+    ensures quote { (p q : Packet) (kind : IcmpKindValue) (from : ℕ)
+        → error_packet p kind from ≡ Some q
+        → length (spelling q) ≡ 48 + length (quote_of p) }
+    ensures short { (p : Packet) → length (spelling p) ≤ 1232 → quote_of p ≡ spelling p }
+{}
+
+/// The checksum of an error about a packet is that of the plain sums of its parts: the
+/// pseudo-header, the 8 bytes in front of the quote, and the quote (RFC 1071 section 2).
+pub fn error_checksum_is_of_its_parts()
+    ensures { (p : Packet) (kind : IcmpKindValue) (from : ℕ) → IsSpellable p → IsKind kind
+        → error_checksum p kind from
+        ≡ all_ones
+        - carried (word_sum (pseudo_header from p.source (8 + length (quote_of p)) ICMPV6)
+        + (word_sum (message_head kind 0) + word_sum (quote_of p))) }
+{}
+
+/// Each error can be spelled, and its checksum verifies (RFC 4443 section 2.3).
+pub fn errors_verify()
+    ensures kind { (reason : ReasonValue) (at : ℕ) (kind : IcmpKindValue) → at < 2 ^ 32
+        → kind_of reason at ≡ Some kind → IsKind kind }
+    ensures spellable { (p q : Packet) (kind : IcmpKindValue) (from : ℕ) → IsSpellable p
+        → IsKind kind → from < 2 ^ 128 → error_packet p kind from ≡ Some q → IsSpellable q }
+    ensures checksum { (p q : Packet) (kind : IcmpKindValue) (from : ℕ) → IsSpellable p
+        → IsKind kind → from < 2 ^ 128 → error_packet p kind from ≡ Some q → Verifies q }
+{}
