@@ -37,12 +37,12 @@ longest-append a (x ∷ xs) ys =
       | inr h ↦ rw h (longest-append a xs ys)
     ]
 
-sid_entries-cons : (node n : ℕ) (s : SidEntry) (more : List SidEntry)
+pub sid_entries-cons : (node n : ℕ) (s : SidEntry) (more : List SidEntry)
     → sid_entries node n (s ∷ more) ≡ sid_entries node n (s ∷ []) ++ sid_entries node (n + 1) more
 sid_entries-cons node n s more =
     elim (cases_Bool (s.node == node)) [ inl h ↦ rw h refl | inr h ↦ rw h refl ]
 
-route_entries-cons : (node table n : ℕ) (r : Route) (more : List Route)
+pub route_entries-cons : (node table n : ℕ) (r : Route) (more : List Route)
     → route_entries node table n (r ∷ more) ≡ route_entries node table n (r ∷ []) ++ route_entries node table (n + 1) more
 route_entries-cons node table n r more =
     elim (cases_Bool ((r.node == node) && (r.table == table))) [ inl h ↦ rw h refl | inr h ↦ rw h refl ]

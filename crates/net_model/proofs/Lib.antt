@@ -7,4 +7,5 @@ pub mod EntryLemmas
 pub mod IsBestLemmas
 pub mod FlatLemmas
 pub mod AlikeLemmas
+pub mod GatheredLemmas
 pub mod PublicLaws

@@ -2,10 +2,11 @@
 //! description.
 //!
 //! `Net::build` takes the parts that keep the rules of descriptions, and `Net::keeps_rules` tells
-//! them to proofs. `Net::lookup` gives the entry of a node's table that fits an address best.
+//! them to proofs. `Net::lookup` gives the entry of a node's table that fits an address best, and
+//! `NodeTable` gathers the entries of one table for many look-ups.
 //! `compilable` tells whether the network is flat: then no entry lies strictly inside the prefix
-//! of a SID, and all addresses of that prefix are looked up alike. Nothing here takes memory. The
-//! laws about the definitions are the contracts of empty functions.
+//! of a SID, and all addresses of that prefix are looked up alike. Only a `NodeTable` takes memory.
+//! The laws about the definitions are the contracts of empty functions.
 #![tactic(auto)]
 
 mod flat;
@@ -14,6 +15,7 @@ mod limits;
 mod lookup;
 mod named;
 mod net;
+mod node_table;
 mod parts;
 mod rules;
 #[cfg(test)]
@@ -30,4 +32,5 @@ pub use limits::{
 };
 pub use named::{place_of_link, place_of_node};
 pub use net::{Hit, Net};
+pub use node_table::NodeTable;
 pub use parts::{Link, Name, NetParts, Node, Route, TypeList};

@@ -11,7 +11,7 @@ use srv6_rules::SidEntry;
 use v6_addr::{Addr, Prefix};
 
 /// An entry that was found.
-#[derive(Clone, Copy)]
+#[derive(Clone, Copy, Debug)]
 pub(crate) struct Found {
     /// What it is.
     pub hit: Hit,
