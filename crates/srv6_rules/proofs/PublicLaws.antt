@@ -1,7 +1,8 @@
 -- The laws of this crate as lemmas, each the proof of a clause of `laws` or `encapsulation`: what crates above cite.
-pub use Rattle.srv6_rules.proofs.Bytes.{two_number-append, four_number-append, address_number-append}
+pub use Rattle.srv6_rules.proofs.Bytes.{length-two_bytes, length-address_bytes, all-address_bytes, two_number-append, four_number-append, address_number-append}
 pub use Rattle.srv6_rules.proofs.Packets.{content_of-spelling, content_of-spelling_alone, length-spelling, all-spelling, packet_at-spellable, reads-spellable, reads-spelled, entered-is_content, entered-back}
 pub use Rattle.srv6_rules.proofs.Edits.{edit-hop_limit, edit-destination, edit-payload}
+pub use Rattle.srv6_rules.proofs.Headers.{srh_of-spelling, srh_of-spellable, srh_spelling-srh_of, entry-at, length-entries}
 pub use Rattle.srv6_rules.proofs.Chains.{chain_of-start, chain_at-goes_on, chain_at-upper, chain_at-cut, chain_at-header, chain_at-lies, chain_at-follow, chain_at-stand, chain_at-ends, chain_at-upper_stands, chain_at-spelled, follow-ascends, follow-chain, start-stands, behind-stands, extension_bytes-least, header_in-lies, lies-at, lies-spelled, lies-bytes, lies-stated}
 pub use Rattle.srv6_rules.proofs.Without.{without-others, without-length, without-behind, without-front, without-spellable, without-first_chain, without-later_chain, chain_at-split, chain_at-lowered}
 pub use Rattle.srv6_rules.proofs.AreaItems.{area_fault-empty, area_fault-item, area_fault-within, options_fault-within, tlvs_fault-within, pad1-skipped, option-skipped, option-discarded, option-told, option-bad, tlv-hmac, tlv-bad, tlv-pad1, tlv-skipped}

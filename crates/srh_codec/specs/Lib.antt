@@ -1,0 +1,4 @@
+pub mod Viewing
+pub mod Reading
+pub mod Editing
+pub mod Writing
