@@ -1,18 +1,9 @@
--- The first fault of an area, item by item.
-use Rattle.std.proofs.Common.{◌≡◌, ℕ, ◌+◌, ◌<◌, false, ◌==◌, List, length, drop, slice_index, sym, ap, ◌∙◌, refl}
-use Rattle.std.specs.Prelude.{◌≢◌, Option, None}
+-- Items of an area that have no fault.
+use Rattle.std.proofs.Common.{◌≡◌, ℕ, false, ◌==◌, List, slice_index, refl}
+use Rattle.std.specs.Prelude.{◌≢◌, None}
 use Rattle.std.proofs.lemmas.Bool.{ne_eqb}
 use Rattle.srv6_rules.specs.declared.numbers.TheConstants.{HMAC}
-use Rattle.srv6_rules.specs.Areas.{Fault, item_bytes, passes_end, first_of, area_fault, tlv_fault}
-use Rattle.srv6_rules.proofs.PublicLaws.{area_fault-item}
-
--- behind an item that has no fault
-pub area-behind : (judge : ℕ → List ℕ → Option Fault) (at : ℕ) (item : List ℕ) (len : ℕ) → 0 < length item → judge at item ≡ None
-    → len ≡ item_bytes item → area_fault judge 0 at item ≡ area_fault judge 0 (at + len) (drop len item)
-area-behind judge at item len some none stated =
-    area_fault-item judge at item some
-    ∙ ap (λ x. first_of x (area_fault judge 0 (at + item_bytes item) (drop (item_bytes item) item))) none
-    ∙ ap (λ n. area_fault judge 0 (at + n) (drop n item)) (sym stated)
+use Rattle.srv6_rules.specs.Areas.{passes_end, tlv_fault}
 
 pub tlv-none : (at : ℕ) (item : List ℕ) → slice_index item 0 ≢ HMAC → passes_end item ≡ false → tlv_fault at item ≡ None
 tlv-none at item other fits =

@@ -5,22 +5,8 @@ use Rattle.srv6_rules.specs.Packet.{Packet, header_len}
 use Rattle.srv6_rules.specs.Chain.{ChainPlace, Header, ChainEnd, Upper, Cut, is_extension, is_whole, extension_bytes, behind_in, place_behind, from_place, start_of, chain_of, chain_at}
 use Rattle.srv6_rules.specs.Endpoint.{Endpoint, over_chain}
 use Rattle.srv6_rules.proofs.PublicLaws.{chain_of-start, over-goes_on}
-use Rattle.node_stage.specs.Stepping.{IsHeader, first_place}
-
--- where the chain goes on behind a whole header
-behind-same : (q : ChainPlace) (bytes : List ℕ) (len : ℕ) → IsHeader q.kind bytes len
-    → behind_in q bytes ≡ place_behind (record { place = q; bytes = take len bytes })
-behind-same q bytes len is =
-    let least = is.least in
-    let taken : length (take len bytes) ≡ len = length-take-le len bytes is.within in
-    let first : slice_index (take len bytes) 0 ≡ slice_index bytes 0 = get_or-take len bytes 0 0 (omega arith) in
-    let n : extension_bytes q.kind bytes ≡ length (take len bytes) = sym is.stated ∙ sym taken in
-    let one : ChainPlace = record { at = q.at + extension_bytes q.kind bytes; kind = slice_index bytes 0; named_at = q.at } in
-    let two : ChainPlace = record { at = q.at + length (take len bytes); kind = slice_index bytes 0; named_at = q.at } in
-    let three : ChainPlace = record { at = q.at + length (take len bytes); kind = slice_index (take len bytes) 0; named_at = q.at } in
-    let e : one ≡ two = ap (λ k. record { at = q.at + k; kind = slice_index bytes 0; named_at = q.at }) n in
-    let f : two ≡ three = ap (λ k. record { at = q.at + length (take len bytes); kind = k; named_at = q.at }) (sym first) in
-    e ∙ f
+use Rattle.ip6_headers.specs.Stepping.{IsHeader, first_place}
+use Rattle.ip6_headers.proofs.PublicLaws.{behind-whole}
 
 -- what comes of a packet is what comes of its chain from a place on, where these bytes stand
 pub record ComesTo (treat : Header → Endpoint → Endpoint) (end : ChainEnd → Endpoint) (p : Packet) (e : Endpoint) (q : ChainPlace)
@@ -68,7 +54,7 @@ module _ (treat : Header → Endpoint → Endpoint) (end : ChainEnd → Endpoint
           ∙ ap (λ n. treat (record { place = q; bytes = take n bytes }) (over_chain treat end (chain_at p (behind_in q bytes))))
           (sym there.stated)
           ∙ ap (λ k. treat (record { place = q; bytes = take len bytes }) (over_chain treat end (chain_at p k)))
-          (behind-same q bytes len there)
+          (sym (behind-whole q bytes len there))
 
       module _ (header : List ℕ) (taken : header ≡ take len rest) where
         taken_there : header ≡ take len (from_place p q.at)

@@ -1,5 +1,7 @@
 pub mod SpellingLemmas
 pub mod ChainLemmas
 pub mod AreaLemmas
+pub mod ReadingLemmas
+pub mod BufferLemmas
 pub mod EndpointLemmas
 pub mod StageLemmas

@@ -4,10 +4,10 @@ use Rattle.srv6_rules.specs.Packet.{Packet, header_len}
 use Rattle.srv6_rules.specs.Srh.{segments_left_at}
 use Rattle.srv6_rules.specs.Chain.{from_place}
 use Rattle.srv6_rules.specs.Endpoint.{Endpoint, Onward, Exposed, Delivered, Refused, unless_fault}
-use Rattle.node_stage.specs.declared.areas.Fault.{Fault}
+use Rattle.ip6_headers.specs.declared.areas.Fault.{Fault}
 use Rattle.node_stage.specs.declared.endpoint.Judged.{Judged}
 use Rattle.node_stage.specs.declared.endpoint.Judged.TheVariants.{Advance, Expose, Deliver, Refuse}
-use Rattle.node_stage.specs.Items.{fault_in}
+use Rattle.ip6_headers.specs.Items.{fault_in}
 
 -- Last Entry passes the entries, or Segments Left passes Last Entry by more than 1
 abbrev pub passes_entries : ℕ → ℕ → ℕ → Bool

@@ -1,8 +1,7 @@
 pub mod PacketView
 pub mod ContentView
-pub mod Reading
 pub mod Fronts
-pub mod Stepping
-pub mod Items
+pub mod BufferView
+pub mod Lending
 pub mod Judging
 pub mod Staging

@@ -6,13 +6,11 @@ ghost use Rattle.srv6_rules.specs.Srh.{srh_of};
 ghost use Rattle.srv6_rules.specs.Chain.{LiesIn, is_extension};
 ghost use Rattle.srv6_rules.specs.Endpoint.{Endpoint, at_address, at_address_header, at_header, at_sid, at_sid_routing, at_upper, is_allowed, next_segment};
 ghost use Rattle.node_stage.specs.Judging.{IsFaultOf, IsHeaderFault, IsJudged, IsJudgedHeader, passes_entries};
-ghost use Rattle.node_stage.specs.Stepping.{header_at, place_view};
+ghost use Rattle.ip6_headers.specs.Stepping.{header_at, place_view};
 
-use crate::areas::Fault;
-use crate::chain::{ChainPlace, Stands, stands_at};
 use crate::headers::{header_fault, segment_routing_fault, unknown_routing_fault};
-use crate::numbers::address_at;
 use crate::packet::Packet;
+use ip6_headers::{ChainPlace, Fault, Stands, address_at, stands_at};
 use srv6_rules::numbers::{
     EXTENSION_LEN_AT, EXTENSION_UNIT, IPV6_HEADER_LEN, LAST_ENTRY_AT, MOST_LEN, ROUTING,
     ROUTING_TYPE_AT, SEGMENT_LEN, SEGMENT_LIST_AT, SEGMENT_ROUTING, SEGMENTS_LEFT_AT,

@@ -5,17 +5,16 @@ ghost use Rattle.srv6_rules.specs.Areas.{tlvs_fault};
 ghost use Rattle.srv6_rules.specs.Chain.{Header, is_extension};
 ghost use Rattle.srv6_rules.specs.Endpoint.{Endpoint, at_header_by, unknown_routing};
 ghost use Rattle.srv6_rules.specs.Srh.{srh_of};
-ghost use Rattle.node_stage.specs.Items.{fault_in};
+ghost use Rattle.ip6_headers.specs.Items.{fault_in};
 ghost use Rattle.node_stage.specs.Judging.{IsHeaderFault};
-ghost use Rattle.node_stage.specs.Stepping.{header_at};
+ghost use Rattle.ip6_headers.specs.Stepping.{header_at};
 
-use crate::areas::{Fault, options_fault, tlvs_fault};
-use crate::chain::ChainPlace;
+use crate::tlvs::tlvs_fault;
+use ip6_headers::{ChainPlace, Fault, options};
 use srv6_rules::Reason;
 use srv6_rules::numbers::{
     DESTINATION_OPTIONS, EXTENSION_LEN_AT, EXTENSION_UNIT, HOP_BY_HOP, LAST_ENTRY_AT, MOST_LEN,
-    NEXT_HEADER_AT, OPTIONS_AT, ROUTING, ROUTING_TYPE_AT, SEGMENT_LEN, SEGMENT_LIST_AT,
-    SEGMENTS_LEFT_AT,
+    NEXT_HEADER_AT, ROUTING, ROUTING_TYPE_AT, SEGMENT_LEN, SEGMENT_LIST_AT, SEGMENTS_LEFT_AT,
 };
 
 /// Why a header that is no routing header is refused, or none where it is passed over: Hop-by-Hop
@@ -39,7 +38,10 @@ pub(crate) fn header_fault(place: ChainPlace, header: &[u8]) -> Option<Fault>
         });
     }
     if place.kind == DESTINATION_OPTIONS {
-        return options_fault(header.split_at(OPTIONS_AT).1, place.at + OPTIONS_AT);
+        return match options(header, place.at) {
+            Ok(()) => None,
+            Err(fault) => Some(fault),
+        };
     }
     Some(Fault {
         reason: Reason::Fragment,

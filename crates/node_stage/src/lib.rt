@@ -4,19 +4,19 @@
 //! node does with it at a place under a choice among equal next hops; it takes no memory.
 #![tactic(auto)]
 
-mod areas;
-mod chain;
 mod content;
 mod endpoint;
 mod headers;
-mod numbers;
 mod packet;
+mod pkt_buf;
 mod reading;
 mod spelling;
 #[cfg(test)]
 mod tests;
+mod tlvs;
 mod treatment;
 
 pub use content::Content;
 pub use packet::Packet;
+pub use pkt_buf::PktBuf;
 pub use treatment::stage;

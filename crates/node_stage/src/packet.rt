@@ -2,15 +2,13 @@
 
 ghost use Rattle.std.specs.Prelude.{◌≡◌, ◌-◌, ◌<◌, ◌≤◌, length, drop, slice_set};
 ghost use Rattle.srv6_rules.specs.Packet.{read_as, packet_at, first_word, IsSpellable};
-ghost use Rattle.node_stage.specs.Reading.{HoldsPacket};
+ghost use Rattle.ip6_headers.specs.Reading.{HoldsPacket};
 
 use crate::content::Content;
-use crate::numbers::{address_at, four_at};
-use crate::reading::{drop_front, stated_len};
+use crate::reading::drop_front;
+use ip6_headers::Ip6View;
 use srv6_rules::Family;
-use srv6_rules::numbers::{
-    DESTINATION_AT, HOP_LIMIT_AT, IPV6_HEADER_LEN, NEXT_HEADER_AT, SOURCE_AT,
-};
+use srv6_rules::numbers::IPV6_HEADER_LEN;
 use std::marker::Model;
 use v6_addr::Addr;
 
@@ -39,23 +37,23 @@ impl Model for Packet {
 
 impl Packet {
     /// The packet that bytes begin with, in place: what stands behind its end is cut.
-    #[tactic(auto, unfolding(srv6_rules::specs::Packet::packet_at))]
     pub(crate) fn at_front(mut bytes: Vec<u8>) -> Packet
         requires { HoldsPacket bytes.items }
         ensures { result ≡ packet_at bytes.items }
     {
-        let header = bytes.as_slice();
-        let word = four_at(header, 0);
-        let next_header = header[NEXT_HEADER_AT];
-        let hop_limit = header[HOP_LIMIT_AT];
-        let source = address_at(header, SOURCE_AT);
-        let destination = address_at(header, DESTINATION_AT);
-        let len = stated_len(header);
+        let view = Ip6View::over(bytes.as_slice());
+        let traffic_class = view.traffic_class();
+        let flow_label = view.flow_label();
+        let next_header = view.next_header();
+        let hop_limit = view.hop_limit();
+        let source = view.source();
+        let destination = view.destination();
+        let len = view.payload_len();
         drop_front(&mut bytes, IPV6_HEADER_LEN);
         bytes.truncate(usize::from(len));
         Packet {
-            traffic_class: (word / 0x10_0000 % 0x100) as u8,
-            flow_label: word % 0x10_0000,
+            traffic_class,
+            flow_label,
             next_header,
             hop_limit,
             source,

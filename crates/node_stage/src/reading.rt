@@ -1,14 +1,13 @@
 //! Bytes read as a packet (RFC 8200 section 3), in place.
 
-ghost use Rattle.std.specs.Prelude.{◌≡◌, ◌+◌, ◌≤◌, length, drop, vec_len};
-ghost use Rattle.srv6_rules.specs.Packet.{content_of, read_as, entered, stated_len};
-ghost use Rattle.node_stage.specs.Reading.{IsFault, HoldsPacket};
+ghost use Rattle.std.specs.Prelude.{◌≡◌, ◌≤◌, drop, vec_len};
+ghost use Rattle.srv6_rules.specs.Packet.{content_of, read_as, entered};
 
 use crate::content::{Content, Held};
-use crate::numbers::two_at;
 use crate::packet::Packet;
-use srv6_rules::numbers::{IPV6_HEADER_LEN, IPV6_VERSION, MOST_LEN, PAYLOAD_LEN_AT};
-use srv6_rules::{Family, Reason};
+use ip6_headers::read_fault;
+use srv6_rules::Family;
+use srv6_rules::numbers::MOST_LEN;
 
 /// Drops the first n bytes, in place.
 pub(crate) fn drop_front(bytes: &mut Vec<u8>, n: usize)
@@ -18,43 +17,14 @@ pub(crate) fn drop_front(bytes: &mut Vec<u8>, n: usize)
     bytes.drain(..n);
 }
 
-/// The payload length that a header states.
-#[tactic(auto, unfolding(srv6_rules::specs::Packet::stated_len))]
-pub(crate) fn stated_len(bytes: &[u8]) -> u16
-    requires { IPV6_HEADER_LEN ≤ length bytes.now }
-    ensures { result ≡ stated_len bytes.now }
-{
-    two_at(bytes, PAYLOAD_LEN_AT)
-}
-
-/// Why the bytes do not read as a packet, if they do not: the version is judged before the lengths
-/// where there is a byte.
-fn fault_of(bytes: &[u8]) -> Option<Reason>
-    ensures { IsFault bytes.now result }
-{
-    if bytes.is_empty() {
-        return Some(Reason::Truncated);
-    }
-    if bytes[0] / 16 != IPV6_VERSION {
-        return Some(Reason::BadVersion);
-    }
-    if bytes.len() < IPV6_HEADER_LEN {
-        return Some(Reason::Truncated);
-    }
-    if bytes.len() < IPV6_HEADER_LEN + usize::from(stated_len(bytes)) {
-        return Some(Reason::Truncated);
-    }
-    None
-}
-
 impl Content {
     /// How bytes read as IPv6, in place: what stands behind the packet's end is cut.
     pub(crate) fn read(bytes: Vec<u8>) -> Content
         ensures { result ≡ content_of bytes.items }
     {
-        match fault_of(bytes.as_slice()) {
-            Some(reason) => Content {
-                held: Held::Unreadable(bytes, reason),
+        match read_fault(bytes.as_slice()) {
+            Some(fault) => Content {
+                held: Held::Unreadable(bytes, fault.reason()),
             },
             None => Content::of(Packet::at_front(bytes)),
         }

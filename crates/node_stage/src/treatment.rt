@@ -11,10 +11,10 @@ ghost use Rattle.walk_rules.specs.Way.{IsWayFrom, StandsAt, way_in};
 ghost use Rattle.node_stage.specs.Judging.{moved_on};
 ghost use Rattle.node_stage.specs.Staging.{gave_of};
 
-use crate::areas::Fault;
 use crate::content::{Content, Held};
 use crate::endpoint::{Judged, fault_at_address, judge_at_sid};
 use crate::packet::Packet;
+use ip6_headers::Fault;
 use net_model::Net;
 use srv6_rules::numbers::{IPV6_HEADER_LEN, SEGMENTS_LEFT_AT};
 use srv6_rules::{Reason, SidEntry};

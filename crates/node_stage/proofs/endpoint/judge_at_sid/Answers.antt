@@ -1,7 +1,7 @@
 use Rattle.srv6_rules.specs.Chain.{Upper}
 use Rattle.srv6_rules.specs.Endpoint.{Endpoint, at_end, at_header, at_sid}
 use Rattle.node_stage.specs.Judging.{IsJudged}
-use Rattle.node_stage.specs.Stepping.{place_view}
+use Rattle.ip6_headers.specs.Stepping.{place_view}
 use Rattle.node_stage.proofs.ChainLemmas.{comes-start, comes-upper, comes-cut, comes-decided, comes-behind}
 use Rattle.node_stage.proofs.EndpointLemmas.{judged-at}
 use Rattle.node_stage.proofs.endpoint.judge_at_sid.Goals as goal

@@ -1,6 +1,6 @@
 use Rattle.std.proofs.Common.{length}
 use Rattle.srv6_rules.specs.Endpoint.{at_end, at_header, at_sid}
-use Rattle.node_stage.specs.Stepping.{place_view}
+use Rattle.ip6_headers.specs.Stepping.{place_view}
 use Rattle.node_stage.proofs.ChainLemmas.{ComesTo}
 use Rattle.node_stage.proofs.endpoint.judge_at_sid.Given as goal
 

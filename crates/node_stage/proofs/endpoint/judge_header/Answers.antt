@@ -1,6 +1,6 @@
 use Rattle.srv6_rules.specs.Endpoint.{at_header, at_sid_routing}
 use Rattle.srv6_rules.proofs.PublicLaws.{routing-by}
-use Rattle.node_stage.specs.Stepping.{header_at}
+use Rattle.ip6_headers.specs.Stepping.{header_at}
 use Rattle.node_stage.proofs.EndpointLemmas.{judged-along}
 use Rattle.node_stage.proofs.endpoint.judge_header.Goals as goal
 

@@ -1,6 +1,6 @@
 use Rattle.std.proofs.Common.{◌∙◌}
 use Rattle.srv6_rules.specs.Endpoint.{at_sid_routing}
-use Rattle.node_stage.specs.Stepping.{header_at}
+use Rattle.ip6_headers.specs.Stepping.{header_at}
 use Rattle.node_stage.proofs.EndpointLemmas.{routing-unknown}
 use Rattle.node_stage.proofs.endpoint.judge_routing.Goals as goal
 

@@ -1,18 +1,44 @@
-use Rattle.srv6_rules.specs.Packet.{packet_at}
-use Rattle.srv6_rules.proofs.PublicLaws.{packet_at-spellable}
+use Rattle.std.proofs.Common.{◌≡◌, ◌∙◌, List, ℕ, length, take, drop, ap, sym, subst}
+use Rattle.srv6_rules.specs.Packet.{Packet, IsSpellable, header_len, packet_at}
+use Rattle.ip6_headers.proofs.PublicLaws.{holds-spellable}
+use Rattle.node_stage.specs.PacketView.{packet_view}
+use Rattle.node_stage.proofs.ReadingLemmas.{payload-behind}
 use Rattle.node_stage.proofs.packet.Packet.at_front.Goals as goal
 
-pub invariant_of-result : goal.invariant_of-result
-unfolding packet_at
-invariant_of-result c =
-    let s = packet_at-spellable c.args.bytes.items c.requires.in_range c.requires.whole in
+-- the view's packet, field by field
+same : (c : goal.After-truncate) → packet_view (record {
+  traffic_class = c.traffic_class-traffic_class.result;
+  flow_label = c.flow_label-flow_label.result;
+  next_header = c.next_header-next_header.result;
+  hop_limit = c.hop_limit-hop_limit.result;
+  source = c.source-source.result;
+  destination = c.destination-destination.result;
+  payload = c.truncate.new.self;
+}) ≡ packet_at c.args.bytes.items
+same c =
+    let bytes : List ℕ = c.args.bytes.items in
+    let p : Packet = c.over-view.result in
+    let is : p ≡ packet_at bytes = c.over-view.ensures ∙ ap packet_at c.as_slice.ensures.value in
+    let len : c.from.result ≡ length (packet_at bytes).payload =
+    c.from.ensures ∙ c.payload_len-len.ensures ∙ ap (λ (q : Packet). length q.payload) is in
+    let payload : c.truncate.new.self.items ≡ p.payload =
+    c.truncate.ensures.items ∙ ap (take c.from.result) c.drop_front.ensures
+    ∙ ap (λ k. take k (drop header_len bytes)) len ∙ payload-behind bytes c.requires
+    ∙ ap (λ (q : Packet). q.payload) (sym is) in
     rw (
-      c.four_at-word.ensures,
-      c.address_at-source.ensures,
-      c.address_at-destination.ensures,
-      c.truncate.ensures.items,
-      c.drop_front.ensures,
-      c.from.ensures,
-      c.stated_len-len.ensures,
-      c.as_slice-header.ensures.value,
-    ) s
+      c.traffic_class-traffic_class.ensures,
+      c.flow_label-flow_label.ensures,
+      c.next_header-next_header.ensures,
+      c.hop_limit-hop_limit.ensures,
+      c.source-source.ensures,
+      c.destination-destination.ensures,
+      payload,
+    ) is
+
+pub returns : goal.returns
+returns c = same c
+
+pub invariant_of-result : goal.invariant_of-result
+invariant_of-result c =
+    let P : Packet → Type 0 = λ p. IsSpellable p in
+    subst P (sym (same c)) (holds-spellable c.args.bytes.items c.requires)

@@ -1,8 +1,9 @@
 use Rattle.std.proofs.Common.{◌≡◌, List, ℕ, ◌+◌, ◌<◌, length, sym, ap, ◌∙◌, arith, None}
 use Rattle.srv6_rules.specs.Areas.{area_fault, tlv_fault}
-use Rattle.node_stage.specs.Items.{IsItem}
-use Rattle.node_stage.proofs.AreaLemmas.{area-behind, tlv-none}
-use Rattle.node_stage.proofs.areas.tlvs_fault.Goals as goal
+use Rattle.ip6_headers.specs.Items.{IsItem}
+use Rattle.ip6_headers.proofs.PublicLaws.{area-behind}
+use Rattle.node_stage.proofs.AreaLemmas.{tlv-none}
+use Rattle.node_stage.proofs.tlvs.tlvs_fault.Goals as goal
 
 pub tlvs-preserved : goal.tlvs-preserved
 tlvs-preserved c =

@@ -1,7 +1,7 @@
 use Rattle.std.proofs.Common.{◌≡◌, ◌+◌, ◌≤◌, length}
 use Rattle.srv6_rules.specs.declared.numbers.TheConstants.{MOST_LEN}
 use Rattle.srv6_rules.specs.Areas.{area_fault, tlv_fault}
-use Rattle.node_stage.proofs.areas.tlvs_fault.Given as goal
+use Rattle.node_stage.proofs.tlvs.tlvs_fault.Given as goal
 
 abbrev pub invariant-tlvs : goal.invariant-tlvs
 invariant-tlvs l = record {
