@@ -1,17 +1,19 @@
 -- The facts of a network that keeps the rules.
-use Rattle.std.proofs.Common.{◌≡◌, ℕ, true, List, length, Option, Some, None, refl, sym, ap, ◌∙◌}
+use Rattle.std.proofs.Common.{◌≡◌, ℕ, ◌≤◌, Bool, true, false, List, [], length, Option, Some, None, refl, sym, ap, ◌∙◌}
+use Rattle.std.specs.Prelude.{IfSome, MatchBool}
 use Rattle.std.specs.List.{slice_get}
 use Rattle.std.proofs.lemmas.Bool.{and_parts, and_from, not-true, leb-true, ltb-true, eqb-true, eqb-false, eq-eqb}
 use Rattle.std.proofs.lemmas.List.{nil_from_length}
 use Rattle.v6_addr.specs.Address.{PrefixValue, IsPrefix}
 use Rattle.srv6_rules.specs.declared.sid.SidEntry.{SidEntry}
 use Rattle.srv6_rules.specs.declared.sid.Behaviour.{Behaviour}
-use Rattle.srv6_rules.specs.declared.sid.Behaviour.TheVariants.{End, EndX, Dt6}
+use Rattle.srv6_rules.specs.Behaviours.{behaviour_takes_links, behaviour_table}
+use Rattle.net_model.specs.declared.limits.TheConstants.{LAST_TABLE}
 use Rattle.net_model.specs.declared.parts.Node.{Node}
 use Rattle.net_model.specs.declared.parts.Link.{Link}
 use Rattle.net_model.specs.declared.parts.Route.{Route}
 use Rattle.net_model.specs.Network.{Network}
-use Rattle.net_model.specs.Rules.{IsNetwork, is_network, is_address, is_prefix, same_bytes, same_prefix, same_node_name, same_node_address, same_link_name, same_route, same_sid, keeps_node, keeps_link, ends_elsewhere, starts_at_node, starts_at, same_number, is_link_set, keeps_route, keeps_behaviour, is_title, keeps_sid, has_room, is_name}
+use Rattle.net_model.specs.Rules.{IsNetwork, is_network, is_address, is_prefix, same_bytes, same_prefix, same_node_name, same_node_address, same_link_name, same_route, same_sid, keeps_node, keeps_link, ends_elsewhere, starts_at_node, starts_at, same_number, is_link_set, keeps_route, suits_links, suits_table, keeps_behaviour, is_title, keeps_sid, has_room, is_name}
 use Rattle.net_model.specs.Titles.{same_option, same_title}
 use Rattle.net_model.specs.Keeps.{IsLinkSet, EndsElsewhere, SuitsBehaviour, IsTitleOf, KeepsNode, KeepsLink, KeepsRoute, KeepsSid, Keeps}
 use Rattle.net_model.proofs.ListLemmas.{passes_at, passes_among, same_number_of, same_bytes_from}
@@ -46,13 +48,20 @@ ends_from node_count from (Some to) h =
     let parts = and_parts _ _ h in
     (ltb-true _ _ parts.0, eqb-false _ _ (not-true _ parts.1))
 
+links_from : (links : List Link) (node : ℕ) (takes : Bool) (set : List ℕ) → suits_links links node takes set ≡ true
+    → MatchBool takes (IsLinkSet links node set) (set ≡ [])
+links_from links node true set h = link_set_from links node set h
+links_from links node false set h = nil_from_length set (eqb-true _ _ h)
+
+table_from : (table : Option ℕ) → suits_table table ≡ true → IfSome table (λ number. number ≤ LAST_TABLE)
+table_from None h = tt
+table_from (Some number) h = leb-true _ _ h
+
 suits_from : (links : List Link) (node : ℕ) (b : Behaviour) (set : List ℕ) → keeps_behaviour links node b set ≡ true
     → SuitsBehaviour links node b set
-suits_from links node End set h = nil_from_length set (eqb-true _ _ h)
-suits_from links node EndX set h = link_set_from links node set h
-suits_from links node (Dt6 table) set h =
+suits_from links node b set h =
     let parts = and_parts _ _ h in
-    (leb-true _ _ parts.0, nil_from_length set (eqb-true _ _ parts.1))
+    record { table = table_from (behaviour_table b) parts.0; links = links_from links node (behaviour_takes_links b) set parts.1 }
 
 title_from : (title_count : ℕ) (title : Option ℕ) → is_title title_count title ≡ true → IsTitleOf title_count title
 title_from title_count None h = tt

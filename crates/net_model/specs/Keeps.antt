@@ -1,9 +1,9 @@
 -- What holds of a network that keeps the rules, fact by fact.
-use Rattle.std.specs.Prelude.{◌≡◌, ◌≢◌, ℕ, ◌<◌, ◌≤◌, ◌^◌, count_by, List, [], length, slice_get, Option, Some, None, IsTrue, Contains}
+use Rattle.std.specs.Prelude.{◌≡◌, ◌≢◌, ℕ, ◌<◌, ◌≤◌, ◌^◌, count_by, List, [], length, slice_get, Option, Some, None, IfSome, MatchBool, IsTrue, Contains}
 use Rattle.v6_addr.specs.Address.{IsPrefix}
 use Rattle.srv6_rules.specs.declared.sid.SidEntry.{SidEntry}
 use Rattle.srv6_rules.specs.declared.sid.Behaviour.{Behaviour}
-use Rattle.srv6_rules.specs.declared.sid.Behaviour.TheVariants.{End, EndX, Dt6}
+use Rattle.srv6_rules.specs.Behaviours.{behaviour_takes_links, behaviour_table}
 use Rattle.net_model.specs.declared.limits.TheConstants.{MAX_NODES, MAX_LINKS, MAX_ROUTES, MAX_SIDS, MAX_SIDS_OF_NODE, MAX_LINKS_OF_SET, MAX_ALLOWED_TYPES, LAST_TABLE}
 use Rattle.net_model.specs.declared.parts.Node.{Node}
 use Rattle.net_model.specs.declared.parts.Link.{Link}
@@ -27,11 +27,10 @@ abbrev pub EndsElsewhere : ℕ → ℕ → Option ℕ → Type 0
 EndsElsewhere node_count from None = Unit {0}
 EndsElsewhere node_count from (Some to) = (to < node_count) × (to ≢ from)
 
--- End.X has links, others have none; a decapsulating SID has a table
-abbrev pub SuitsBehaviour : List Link → ℕ → Behaviour → List ℕ → Type 0
-SuitsBehaviour links node End set = set ≡ []
-SuitsBehaviour links node EndX set = IsLinkSet links node set
-SuitsBehaviour links node (Dt6 table) set = (table ≤ LAST_TABLE) × (set ≡ [])
+-- a SID whose behaviour takes links has a set of them, and another has none; a table of its own has a table's number
+pub record SuitsBehaviour (all : List Link) (node : ℕ) (behaviour : Behaviour) (set : List ℕ) : Type 0 where
+  pub table : IfSome (behaviour_table behaviour) (λ number. number ≤ LAST_TABLE)
+  pub links : MatchBool (behaviour_takes_links behaviour) (IsLinkSet all node set) (set ≡ [])
 
 abbrev pub IsTitleOf : ℕ → Option ℕ → Type 0
 IsTitleOf title_count None = Unit {0}

@@ -1,10 +1,10 @@
 -- The rules that a network keeps (own rules, but for the ranges of addresses and prefixes).
-use Rattle.std.specs.Prelude.{ℕ, ◌-◌, ◌%◌, ◌^◌, Bool, true, false, ◌==◌, ◌&&◌, ◌||◌, not, nat_lt, nat_le, count_by, List, [], ◌∷◌, length, slice_get, Option, Some, None, IsTrue}
+use Rattle.std.specs.Prelude.{ℕ, ◌-◌, ◌%◌, ◌^◌, Bool, true, false, ◌==◌, ◌&&◌, ◌||◌, not, nat_lt, nat_le, if◌then◌else◌, count_by, List, [], ◌∷◌, length, slice_get, Option, Some, None, IsTrue}
 use Rattle.std.specs.List.{filter_map, list_any, list_all}
 use Rattle.v6_addr.specs.Address.{PrefixValue}
 use Rattle.srv6_rules.specs.declared.sid.SidEntry.{SidEntry}
 use Rattle.srv6_rules.specs.declared.sid.Behaviour.{Behaviour}
-use Rattle.srv6_rules.specs.declared.sid.Behaviour.TheVariants.{End, EndX, Dt6}
+use Rattle.srv6_rules.specs.Behaviours.{behaviour_takes_links, behaviour_table}
 use Rattle.net_model.specs.declared.limits.TheConstants.{MAX_NODES, MAX_LINKS, MAX_ROUTES, MAX_SIDS, MAX_SIDS_OF_NODE, MAX_LINKS_OF_SET, MAX_ALLOWED_TYPES, MAX_NAME_BYTES, LAST_TABLE}
 use Rattle.net_model.specs.declared.parts.Node.{Node}
 use Rattle.net_model.specs.declared.parts.Link.{Link}
@@ -114,11 +114,18 @@ keeps_routes node_count links routes =
 
 -- SIDs
 
--- End.X has links, others have none; a decapsulating SID has a table
+-- a set of links at a SID that takes one, and no link at another
+abbrev pub suits_links : List Link → ℕ → Bool → List ℕ → Bool
+suits_links links node takes set = if takes then is_link_set links node set else length set == 0
+
+-- a table of a SID's own has a table's number
+abbrev pub suits_table : Option ℕ → Bool
+suits_table None = true
+suits_table (Some table) = is_table table
+
+-- the table and the links of a SID are as its behaviour takes them
 abbrev pub keeps_behaviour : List Link → ℕ → Behaviour → List ℕ → Bool
-keeps_behaviour links node End set = length set == 0
-keeps_behaviour links node EndX set = is_link_set links node set
-keeps_behaviour links node (Dt6 table) set = is_table table && (length set == 0)
+keeps_behaviour links node b set = suits_table (behaviour_table b) && suits_links links node (behaviour_takes_links b) set
 
 abbrev pub is_title : ℕ → Option ℕ → Bool
 is_title title_count None = true

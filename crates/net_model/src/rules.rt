@@ -9,7 +9,8 @@ ghost use Rattle.net_model.specs.Rules.{keeps_node, same_node_name, same_node_ad
 ghost use Rattle.net_model.specs.Rules.{ends_elsewhere, keeps_link, same_link_name, keeps_links};
 ghost use Rattle.net_model.specs.Rules.{starts_at, same_number, is_link_set};
 ghost use Rattle.net_model.specs.Rules.{is_table, keeps_route, same_prefix, same_route, keeps_routes};
-ghost use Rattle.net_model.specs.Rules.{keeps_behaviour, is_title, keeps_sid, same_sid, is_sid_of};
+ghost use Rattle.net_model.specs.Rules.{suits_links, suits_table, keeps_behaviour, is_title};
+ghost use Rattle.net_model.specs.Rules.{keeps_sid, same_sid, is_sid_of};
 ghost use Rattle.net_model.specs.Rules.{has_room, title_of, keeps_sids, keeps_titles, is_network};
 ghost use Rattle.net_model.specs.Titles.{same_title};
 
@@ -298,16 +299,32 @@ fn keeps_routes(node_count: usize, links: &[Link], routes: &[Route]) -> bool
         && are_distinct::<Route, Routes>(routes)
 }
 
-/// Whether the links of a SID, and the table of one that decapsulates, are as its behaviour wants
-/// them.
+/// Whether a SID that takes links has a set of them, and another none.
+fn suits_links(links: &[Link], node: u32, takes: bool, set: &[u32]) -> bool
+    ensures { result ≡ suits_links links.now node takes set.now }
+{
+    if takes {
+        is_link_set(links, node, set)
+    } else {
+        set.len() == 0
+    }
+}
+
+/// Whether a table of a SID's own has a table's number.
+fn suits_table(table: Option<u32>) -> bool
+    ensures { result ≡ suits_table table }
+{
+    match table {
+        None => true,
+        Some(table) => is_table(table),
+    }
+}
+
+/// Whether the table and the links of a SID are as its behaviour takes them.
 fn keeps_behaviour(links: &[Link], node: u32, behaviour: Behaviour, set: &[u32]) -> bool
     ensures { result ≡ keeps_behaviour links.now node behaviour set.now }
 {
-    match behaviour {
-        Behaviour::End => set.len() == 0,
-        Behaviour::EndX => is_link_set(links, node, set),
-        Behaviour::Dt6 { table } => is_table(table) && set.len() == 0,
-    }
+    suits_table(behaviour.table()) && suits_links(links, node, behaviour.takes_links(), set)
 }
 
 fn is_title(title_count: usize, title: Option<u32>) -> bool

@@ -2,7 +2,8 @@
 
 ghost use Rattle.std.specs.Prelude.{◌≡◌, Some};
 ghost use Rattle.srv6_rules.specs.Reasons.{reason_name};
-ghost use Rattle.srv6_rules.specs.Behaviours.{behaviour_goes_on, behaviour_exposes, goes_on, exposes};
+ghost use Rattle.srv6_rules.specs.Behaviours.{behaviour_goes_on, behaviour_exposes, behaviour_takes_links, behaviour_table};
+ghost use Rattle.srv6_rules.specs.Behaviours.{goes_on, exposes};
 
 use crate::numbers::IPV6_INSIDE;
 use base::Seq;
@@ -143,6 +144,27 @@ impl Behaviour {
         match self {
             Behaviour::End | Behaviour::EndX => false,
             Behaviour::Dt6 { .. } => kind == IPV6_INSIDE,
+        }
+    }
+
+    /// It sends over links of its own: End.X (RFC 8986 section 4.2).
+    pub fn takes_links(&self) -> bool
+        ensures { result ≡ behaviour_takes_links self.now }
+    {
+        match self {
+            Behaviour::EndX => true,
+            Behaviour::Dt6 { .. } | Behaviour::End => false,
+        }
+    }
+
+    /// The number of the table that it looks the packet inside up in, where it has one of its own:
+    /// End.DT6's (RFC 8986 section 4.6).
+    pub fn table(&self) -> Option<u32>
+        ensures { result ≡ behaviour_table self.now }
+    {
+        match self {
+            Behaviour::End | Behaviour::EndX => None,
+            Behaviour::Dt6 { table } => Some(*table),
         }
     }
 }

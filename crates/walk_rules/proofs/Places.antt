@@ -49,7 +49,7 @@ stage-step net place (V6 p) choice keeps is =
     treated-treats net place.node w p choice (has-links net place.node w (way-from net place p.destination keeps is.1))
 
 end_x-some : (links : List Link) (node : ℕ) (b : Behaviour) (set : List ℕ) → b ≡ EndX → SuitsBehaviour links node b set → 0 < length set
-end_x-some links node EndX set is suits = suits.some
+end_x-some links node EndX set is suits = suits.links.some
 end_x-some links node End set is suits = cc
 end_x-some links node (Dt6 table) set is suits = cc
 

@@ -1,7 +1,7 @@
 -- Ways lead to what is there: links of the node, and SIDs that stand at it.
-use Rattle.std.proofs.Common.{◌≡◌, ℕ, ◌<◌, Bool, true, false, if◌then◌else◌, List, length, Option, Some, None, slice_get, refl, sym, subst, ap, arith}
-use Rattle.srv6_rules.specs.declared.sid.Behaviour.{Behaviour}
-use Rattle.srv6_rules.specs.declared.sid.Behaviour.TheVariants.{End, EndX, Dt6}
+use Rattle.std.proofs.Common.{◌≡◌, ℕ, ◌<◌, Bool, true, false, if◌then◌else◌, List, [], length, Option, Some, None, slice_get, refl, sym, subst, ap, arith}
+use Rattle.std.specs.Prelude.{MatchBool}
+use Rattle.srv6_rules.specs.Behaviours.{behaviour_takes_links}
 use Rattle.srv6_rules.specs.declared.sid.Reason.TheVariants as reasons
 use Rattle.srv6_rules.specs.declared.sid.SidEntry.{SidEntry}
 use Rattle.net_model.specs.declared.parts.Link.{Link}
@@ -9,7 +9,7 @@ use Rattle.net_model.specs.declared.net.Hit.{Hit}
 use Rattle.net_model.specs.declared.net.Hit.TheVariants as hits
 use Rattle.net_model.specs.Network.{Network}
 use Rattle.net_model.specs.Best.{lookup_of}
-use Rattle.net_model.specs.Keeps.{Keeps, IsLinkSet, SuitsBehaviour}
+use Rattle.net_model.specs.Keeps.{Keeps, IsLinkSet}
 use Rattle.walk_rules.specs.declared.place.How.{How}
 use Rattle.walk_rules.specs.declared.place.How.TheVariants.{Arrived, Submitted, Through}
 use Rattle.walk_rules.specs.declared.place.Place.{Place}
@@ -74,19 +74,18 @@ table-from net node table lower a keeps =
     by_table (IsWayFrom net node) net node table lower a tt
     (hit-from net node lower keeps (lookup_of net node table a) (lookup-there net node table a))
 
--- a SID with links is an End.X
-suited-set : (links : List Link) (node : ℕ) (b : Behaviour) (set : List ℕ) → 0 < length set → SuitsBehaviour links node b set
-    → IsLinkSet links node set
-suited-set links node End set some suits = absurd (omega (arith, some, ap length suits))
-suited-set links node EndX set some suits = suits
-suited-set links node (Dt6 table) set some suits = absurd (omega (arith, some, ap length suits.1))
+-- a SID with links takes them
+suited-set : (links : List Link) (node : ℕ) (takes : Bool) (set : List ℕ) → 0 < length set
+    → MatchBool takes (IsLinkSet links node set) (set ≡ []) → IsLinkSet links node set
+suited-set links node true set some suits = suits
+suited-set links node false set some suits = absurd (omega (arith, some, ap length suits))
 
 through-set : (net : Network) (node n : ℕ) → Keeps net → (o : Option SidEntry) → slice_get net.sids n ≡ o → IsThrough node o
     → IsLinkSet net.links node (sid_links o)
 through-set net node n keeps None e there = absurd there
 through-set net node n keeps (Some s) e there =
     let P : ℕ → Type 0 = λ m. IsLinkSet net.links m s.links in
-    subst P there.0 (suited-set net.links s.node s.behaviour s.links there.1 (keeps.sid n s e).links)
+    subst P there.0 (suited-set net.links s.node (behaviour_takes_links s.behaviour) s.links there.1 (keeps.sid n s e).links.links)
 
 how-from : (net : Network) (node : ℕ) (how : How) (a : ℕ) → Keeps net → IsHow net node how → IsWayFrom net node (way_by net node how a)
 how-from net node (Arrived table) a keeps is = table-from net node table true a keeps
