@@ -10,6 +10,9 @@ pub mod Placing
 pub mod Positions
 pub mod StrictLaws
 pub mod Ways
+pub mod ReachLemmas
+pub mod ReachRows
+pub mod Starts
 pub mod Handing
 pub mod Segments
 pub mod PathsUp

@@ -1,17 +1,13 @@
 -- The code's view of rides.
-use Rattle.std.specs.Prelude.{ℕ, length, drop, Option, Some, None}
+use Rattle.std.specs.Prelude.{ℕ, drop, Option, Some, None}
 use Rattle.std.specs.Option.{option_map, option_and_then}
 use Rattle.net_model.specs.Network.{Network}
-use Rattle.leg_table.specs.declared.ride.Reached.{Reached}
 use Rattle.leg_table.specs.declared.ride.Behind.{Behind}
 use Rattle.list_pack.specs.declared.types.Leg.{Leg}
 use Rattle.leg_table.specs.Ride.{Ride, ride_of}
 use Rattle.leg_table.specs.Leg.{left_behind, leg_with, if_none_left, start_of}
 use Rattle.leg_table.specs.Sids.{sid_address}
 use Rattle.intent_reader.specs.declared.intent.Intent.{Intent}
-
-abbrev pub reached_of : Ride → Reached
-reached_of r = record { sid = r.sid; left = length r.left; lowered = r.lowered }
 
 abbrev pub behind_with : ℕ → ℕ → Behind
 behind_with lowered left = record { left = left; lowered = lowered }

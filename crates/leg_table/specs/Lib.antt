@@ -8,3 +8,4 @@ pub mod Table
 pub mod Value
 pub mod Course
 pub mod Realizes
+pub mod Reach

@@ -45,10 +45,6 @@ abbrev pub ride_over : Network → Place → Step → List ℕ → Bool → (Pla
 ride_over net place t set lower ride =
     if all_in_step t set then option_map (more_lowered lower) (ride_on (arrival (first_end net set) place) ride) else None
 
--- where a packet comes to over links, all of which lie in a step
-abbrev pub next_over : Network → Place → Step → List ℕ → Option Place
-next_over net place t set = if all_in_step t set then arrival (first_end net set) place else None
-
 -- the ride by the way that a place gives: to the SID that is found there, or over links
 abbrev pub ride_by : Network → Place → List Step → Step → (Place → Option Ride) → Way → Option Ride
 ride_by net place left t ride (Away reason) = None

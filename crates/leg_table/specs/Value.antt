@@ -1,5 +1,5 @@
 -- What the table of an intent's legs is to a search.
-use Rattle.std.specs.Prelude.{ℕ, length}
+use Rattle.std.specs.Prelude.{length}
 use Rattle.list_pack.specs.Value.{LegsValue}
 use Rattle.net_model.specs.Network.{Network}
 use Rattle.intent_reader.specs.declared.intent.Intent.{Intent}

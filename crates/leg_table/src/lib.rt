@@ -3,6 +3,7 @@
 #![tactic(auto)]
 
 mod laws;
+mod reach;
 mod ride;
 mod rows;
 mod strict_legs;

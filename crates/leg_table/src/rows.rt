@@ -93,8 +93,8 @@ fn row_of(
     Ok(Row::new(row))
 }
 
-// the node where the walk stands behind a step
-fn node_behind(net: &Net, node: u32, step: &Step) -> u32
+/// The node where the walk stands behind a step.
+pub fn node_behind(net: &Net, node: u32, step: &Step) -> u32
     requires { IsTrue (is_some (rules.node_after net.now node step.now)) }
     ensures { rules.node_after net.now node step.now ≡ Some result }
 {

@@ -4,18 +4,19 @@ ghost use Rattle.std.specs.Prelude.{◌≡◌, ◌<◌, ◌≤◌, ℕ, length, 
 ghost use Rattle.std.specs.Option.{option_map};
 ghost use Rattle.net_model.specs.Keeps.{Keeps};
 ghost use Rattle.net_model.specs.Rules.{IsNetwork};
-ghost use Rattle.walk_rules.specs.Relation.{IsPlace};
 ghost use Rattle.intent_reader.specs.Rules.{IsIntent};
 ghost use Rattle.leg_table.specs.Course.{way_behind};
+ghost use Rattle.leg_table.specs.Reach.{IsReach, IsStart, AreLater, way_at, way_along};
 ghost use Rattle.leg_table.specs.Leg as legs;
 ghost use Rattle.leg_table.specs.Sids as sids;
 ghost use Rattle.leg_table.specs.Tasks as tasks;
 ghost use Rattle.leg_table.specs.Table.{LegTable, shape_of};
 
-use crate::ride::{Behind, way_to};
+use crate::reach::{Reach, reaches_of, way_at, way_from};
+use crate::ride::Behind;
 use crate::rows::{Row, rows_of};
 use base::NoMemory;
-use intent_reader::Intent;
+use intent_reader::{Intent, Step};
 use list_pack::{Leg, Legs, Shape};
 use net_model::Net;
 use srv6_rules::numbers::IPV6_INSIDE;
@@ -24,12 +25,15 @@ use std::alloc::Global;
 use std::marker::Model;
 use walk_rules::{How, Place, on_from};
 
-/// The legs of an intent in a network, with the SIDs of each position.
+/// The legs of an intent in a network, with the SIDs of each position and the ways from its node to
+/// all SIDs, so that each question is a look-up or two.
 #[derive(Debug, Drop)]
 pub struct StrictLegs<'a> {
     net: &'a Net,
     intent: &'a Intent,
     rows: Vec<Row>,
+    // from the last position backwards
+    reaches: Vec<Reach>,
 }
 
 impl<'a> Model for StrictLegs<'a> {
@@ -39,7 +43,7 @@ impl<'a> Model for StrictLegs<'a> {
 
     ghost view = { λ s. record { net = s.net.now; intent = s.intent.now } };
 
-    ghost invariant = { λ s. IsTable s.net.now s.intent.now s.rows.items };
+    ghost invariant = { λ s. IsTable s.net.now s.intent.now s.rows.items s.reaches.items };
 }
 
 impl<'a> StrictLegs<'a> {
@@ -54,7 +58,13 @@ impl<'a> StrictLegs<'a> {
     {
         net.keeps_rules();
         let rows = rows_of(alloc, net, intent)?;
-        Ok(StrictLegs { net, intent, rows })
+        let reaches = reaches_of(alloc, net, intent.headend, intent.steps.as_slice())?;
+        Ok(StrictLegs {
+            net,
+            intent,
+            rows,
+            reaches,
+        })
     }
 
     /// That the network and the intent keep their rules: a call for the callers' proofs alone.
@@ -92,9 +102,7 @@ impl<'a> StrictLegs<'a> {
 
     // from where a packet starts to the next SID
     fn start(&self, position: u32, via: Option<u32>) -> Option<Place>
-        ensures value { result ≡ legs.start_of self.now.net self.now.intent position via }
-        ensures is_place { IfSome result (λ place.
-            IsPlace self.now.net place × (position ≤ length self.now.intent.steps)) }
+        ensures { result ≡ legs.start_of self.now.net self.now.intent position via }
     {
         self.keeps_rules();
         if position > self.count() {
@@ -114,17 +122,78 @@ impl<'a> StrictLegs<'a> {
 }
 
 impl<'a> StrictLegs<'a> {
+    // the same, with what is known of the place
+    fn place(&self, position: u32, via: Option<u32>) -> Option<Place>
+        ensures value { result ≡ legs.start_of self.now.net self.now.intent position via }
+        ensures is_start { IfSome result (λ place.
+            IsStart self.now.net self.now.intent position place) }
+    {
+        self.keeps_rules();
+        self.start(position, via)
+    }
+
+    // the ways from the node where the walk stands at a position
+    fn reach(&self, position: u32) -> &Reach
+        requires { position ≤ length self.now.intent.steps }
+        ensures { (at : ℕ) → sids.node_at self.now.net self.now.intent position ≡ Some at →
+            IsReach self.now.net (drop position self.now.intent.steps) at result.now }
+    {
+        let count = self.count();
+        &self.reaches[(count - position) as usize]
+    }
+
+    // the steps from a position on
+    fn rest(&self, position: u32) -> &[Step]
+        requires { position ≤ length self.now.intent.steps }
+        ensures value { result.now ≡ drop position self.now.intent.steps }
+        ensures few { length result.now ≤ 48 }
+    {
+        self.count();
+        let (_, rest) = self.intent.steps.as_slice().split_at(position as usize);
+        rest
+    }
+
+    // the ways from where the step that starts at a position ends, if one does
+    fn later(&self, position: u32) -> &[Option<Behind>]
+        requires { position ≤ length self.now.intent.steps }
+        ensures { (at : ℕ) → sids.node_at self.now.net self.now.intent position ≡ Some at →
+            AreLater self.now.net at (drop position self.now.intent.steps) result.now
+            × ((n : ℕ) → IfSome (way_at result.now n) (λ b. b.lowered ≤ 48)) }
+    {
+        self.keeps_rules();
+        if position < self.count() {
+            self.reach(position + 1).arrived.as_slice()
+        } else {
+            &[]
+        }
+    }
+
     // the way from the start to a next SID
+    fn way_found(&self, position: u32, via: Option<u32>, next: u32) -> Option<Behind>
+        requires { next < length self.now.net.sids }
+        ensures { result ≡ way_behind self.now.net self.now.intent position via next }
+    {
+        let place = self.place(position, via)?;
+        match place.how {
+            How::Submitted { table: 0 } => {
+                way_at(self.reach(position).submitted.as_slice(), next)
+            }
+            How::Arrived { .. } | How::Submitted { .. } | How::Through { .. } => {
+                let steps = self.rest(position);
+                way_from(self.net, steps, self.later(position), &place, next)
+            }
+        }
+    }
+
+    // the same, with its bounds
     fn way_behind(&self, position: u32, via: Option<u32>, next: u32) -> Option<Behind>
         requires { next < length self.now.net.sids }
         ensures value { result ≡ way_behind self.now.net self.now.intent position via next }
         ensures few { IfSome result (λ b.
             (b.left ≤ length self.now.intent.steps) × (b.lowered ≤ 48)) }
     {
-        self.count();
-        let place = self.start(position, via)?;
-        let (_, rest) = self.intent.steps.as_slice().split_at(position as usize);
-        way_to(self.net, next, rest, place)
+        self.keeps_rules();
+        self.way_found(position, via, next)
     }
 }
 
@@ -194,8 +263,7 @@ fn is_last(net: &Net, n: u32) -> bool
 
 // where the packet stands behind the execution of a middle SID
 fn place_behind(net: &Net, v: u32) -> Option<Place>
-    ensures value { result ≡ legs.middle_place net.now v }
-    ensures is_place { IfSome result (IsPlace net.now) }
+    ensures { result ≡ legs.middle_place net.now v }
 {
     net.keeps_rules();
     if !is_middle(net, v) {

@@ -1,6 +1,8 @@
 //! A network of two nodes.
 
-use crate::{Hit, Link, Name, Net, NetParts, Node, NotFlat, Route, TypeList, compilable};
+use crate::{
+    Hit, Link, Name, Net, NetParts, Node, NodeTable, NotFlat, Route, TypeList, compilable,
+};
 use srv6_rules::{Behaviour, LinkSet, SidEntry};
 use std::alloc::{AllocError, Global};
 use std::process::Abort;
@@ -106,6 +108,8 @@ fn nodes_look_addresses_up(rt: HostRuntime) -> Result<(), Fail> {
     ] {
         assert!(rt; node < net.nodes());
         assert!(rt; net.lookup(node, table, Addr { value }) == hit);
+        let gathered = NodeTable::gather(rt.alloc(), &net, node, table)?;
+        assert!(rt; gathered.lookup(Addr { value }) == hit);
     }
     Ok(())
 }

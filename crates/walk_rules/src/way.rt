@@ -5,7 +5,7 @@ ghost use Rattle.walk_rules.specs.Relation.{IsHow, IsPlace};
 ghost use Rattle.walk_rules.specs.Way.{IsNumbered, IsWayFrom, is_multicast, way_by, way_by_hit, way_by_table, way_in, way_of};
 
 use crate::place::{How, Place};
-use net_model::{Hit, Net};
+use net_model::{Hit, Net, NodeTable};
 use srv6_rules::Reason;
 use v6_addr::Addr;
 
@@ -70,6 +70,20 @@ fn way_by_table(net: &Net, node: u32, table: u32, lower: bool, destination: Addr
         };
     }
     way_by_hit(net, lower, net.lookup(node, table, destination))
+}
+
+/// The way of a packet to a destination by a look-up in a table that was gathered; over a route's
+/// links its hop limit is lowered or not as it says (own rule).
+pub fn way_in_table<'a>(table: &NodeTable<'a>, lower: bool, destination: Addr) -> Way<'a>
+    ensures { way_in result ≡ way_by_table table.now.net table.now.node table.now.table lower
+        destination.value }
+{
+    if is_multicast(destination) {
+        return Way::Away {
+            reason: Reason::Multicast,
+        };
+    }
+    way_by_hit(table.net(), lower, table.lookup(destination))
 }
 
 /// The way by how a packet came to be treated: one that has arrived has its hop limit lowered over

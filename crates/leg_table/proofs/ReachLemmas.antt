@@ -1,0 +1,203 @@
+-- The ways to all SIDs from a node, by those from where the first step ends.
+use Rattle.std.proofs.Common.{◌≡◌, ℕ, zero, suc, ◌+◌, ◌-◌, ◌<◌, ◌≤◌, ◌⊎◌, inl, inr, Bool, true, false, ◌==◌, if◌then◌else◌, List, [], ◌∷◌, ◌++◌, length, Option, Some, None, slice_get, refl, sym, ◌∙◌, ap, subst, arith, length-append}
+use Rattle.std.specs.Prelude.{is_some, IfSome}
+use Rattle.std.specs.List.{list_all}
+use Rattle.std.specs.Option.{option_map}
+use Rattle.std.proofs.lemmas.Bool.{cases_order}
+use Rattle.std.proofs.lemmas.List.{length-drop}
+use Rattle.std.proofs.lemmas.Option.{slice_get_within}
+use Rattle.srv6_rules.specs.declared.sid.Family.{Family}
+use Rattle.srv6_rules.specs.declared.sid.Family.TheVariants as families
+use Rattle.srv6_rules.specs.declared.sid.SidEntry.{SidEntry}
+use Rattle.net_model.specs.Network.{Network}
+use Rattle.net_model.specs.Keeps.{Keeps}
+use Rattle.net_model.specs.Gathered.{TableOf}
+use Rattle.walk_rules.specs.declared.place.How.TheVariants.{Arrived}
+use Rattle.walk_rules.specs.declared.place.Place.{Place}
+use Rattle.walk_rules.specs.Way.{Way, Away, Over, Own, Into, way_of, way_by_table, IsWayFrom}
+use Rattle.walk_rules.specs.Relation.{IsHow}
+use Rattle.walk_rules.specs.Walk.{arrival}
+use Rattle.walk_rules.proofs.PublicLaws.{way-from}
+use Rattle.intent_reader.specs.Rules.{first_end, stand_after}
+use Rattle.intent_reader.specs.declared.intent.Step.{Step}
+use Rattle.intent_reader.specs.declared.intent.Step.TheVariants.{Links, Function}
+use Rattle.leg_table.specs.declared.ride.Behind.{Behind}
+use Rattle.leg_table.specs.Tasks.{has_link, left_after}
+use Rattle.leg_table.specs.Ride.{Ride, more_lowered, ride_on, ride_by, ride_end, ride_of}
+use Rattle.leg_table.specs.Sids.{sid_address}
+use Rattle.leg_table.specs.Leg.{left_behind}
+use Rattle.leg_table.specs.Course.{behind_with, behind_of}
+use Rattle.leg_table.specs.Reach.{way_along, stand, AreWays, AreLater, way_or_none, way_at, lowered_more, way_by}
+use Rattle.leg_table.proofs.Links.{first_end-is, step_opens}
+use Rattle.leg_table.proofs.Options.{map-some, if-some, some-same}
+use Rattle.leg_table.proofs.LegLemmas.{left_after-le}
+use Rattle.leg_table.proofs.RideFacts.{ride-facts}
+use Rattle.leg_table.proofs.Ways.{address-is}
+
+-- the way of a packet that is looked up in table 0
+pub way-looked : (net : Network) (node : ℕ) (lower : Bool) (destination : ℕ)
+    → way_of net (stand node lower) destination ≡ way_by_table net node 0 lower destination
+unfolding way_of
+way-looked net node true destination = refl
+way-looked net node false destination = refl
+
+pub table-way : (net : Network) (node : ℕ) (lower : Bool) (d : ℕ) (table : TableOf) (w : Way)
+    → table ≡ record { net = net; node = node; table = 0 } → w ≡ way_by_table table.net table.node table.table lower d
+    → w ≡ way_of net (stand node lower) d
+table-way net node lower d table w is e =
+    e ∙ ap (λ (t : TableOf). way_by_table t.net t.node t.table lower d) is ∙ sym (way-looked net node lower d)
+
+-- one lowering more before an execution
+behind-more : (net : Network) (n : ℕ) (lower : Bool) (o : Option Ride)
+    → option_map (lowered_more lower) (behind_of net n o) ≡ behind_of net n (option_map (more_lowered lower) o)
+behind-more net n lower None = refl
+behind-more net n lower (Some r) = by_left (left_behind net n r)
+  where
+    by_left : (o : Option ℕ)
+        → option_map (lowered_more lower) (option_map (behind_with r.lowered) o)
+        ≡ option_map (behind_with (more_lowered lower r).lowered) o
+    by_left None = refl
+    by_left (Some left) = refl
+
+pub how-looked : (net : Network) (node : ℕ) (lower : Bool) → IsHow net node (stand node lower).how
+how-looked net node true = tt
+how-looked net node false = tt
+
+module _ (net : Network) (keeps : Keeps net) where
+  -- the way over links that lie in the first step goes on from where that step ends
+  over-step : (step set : List ℕ) (ts : List Step) (place : Place) (n : ℕ) (lower : Bool) (later : List (Option Behind))
+      → place.family ≡ families.V6 → 0 < length set → is_some (stand_after net place.node (Links step ∷ ts)) ≡ true
+      → n < length net.sids → AreLater net place.node (Links step ∷ ts) later → list_all (has_link step) set ≡ true
+      → option_map (lowered_more lower) (way_at later n)
+      ≡ behind_of net n
+      (option_map (more_lowered lower) (ride_on (arrival (first_end net set) place) (ride_of net (sid_address net n) ts)))
+  over-step step set ts place n lower later family some stands there is all =
+      let opened = step_opens net place.node step ts stands in
+      let at : first_end net set ≡ Some opened.0 = first_end-is net opened.0 step set opened.1 all some in
+      let next : arrival (first_end net set) place ≡ Some (stand opened.0 true)
+      = ap (λ (o : Option ℕ). arrival o place) at
+      ∙ ap (λ (f : Family). Some (record { node = opened.0; how = Arrived 0; family = f })) family in
+      let row : way_at later n ≡ way_along net ts (stand opened.0 true) n = ap way_or_none ((is opened.0 opened.3).each n there) in
+      ap (option_map (lowered_more lower)) row
+      ∙ behind-more net n lower (ride_of net (sid_address net n) ts (stand opened.0 true))
+      ∙ ap (λ (o : Option Place). behind_of net n (option_map (more_lowered lower) (ride_on o (ride_of net (sid_address net n) ts)))) (sym next)
+
+  pub way-steps : (steps : List Step) (place : Place) (n : ℕ) (later : List (Option Behind)) → IsHow net place.node place.how
+      → place.family ≡ families.V6 → is_some (stand_after net place.node steps) ≡ true → n < length net.sids
+      → AreLater net place.node steps later
+      → way_by net n steps (way_at later n) (way_of net place (sid_address net n)) ≡ way_along net steps place n
+  way-steps [] place n later how family stands there is = by_way (way_of net place (sid_address net n))
+    where
+      by_way : (w : Way) → way_by net n [] (way_at later n) w ≡ behind_of net n (ride_end place w)
+      by_way (Away reason) = refl
+      by_way Own = refl
+      by_way (Over set lower) = refl
+      by_way (Into m) = refl
+  way-steps (t ∷ ts) place n later how family stands there is =
+      by_way t (way_of net place (sid_address net n)) (way-from net place (sid_address net n) keeps how) stands is
+    where
+      by_way : (t : Step) (w : Way) → IsWayFrom net place.node w → is_some (stand_after net place.node (t ∷ ts)) ≡ true
+          → AreLater net place.node (t ∷ ts) later
+          → way_by net n (t ∷ ts) (way_at later n) w
+          ≡ behind_of net n (ride_by net place (t ∷ ts) t (ride_of net (sid_address net n) ts) w)
+      by_way t (Away reason) links stands is = refl
+      by_way t Own links stands is = refl
+      by_way t (Into m) links stands is = refl
+      by_way (Function sid) (Over set lower) links stands is = refl
+      by_way (Links step) (Over set lower) links stands is = by_test (list_all (has_link step) set) refl
+        where
+          by_test : (b : Bool) → list_all (has_link step) set ≡ b
+              → (if b then option_map (lowered_more lower) (way_at later n) else None)
+              ≡ behind_of net n
+              (if b then option_map (more_lowered lower) (ride_on (arrival (first_end net set) place) (ride_of net (sid_address net n) ts))
+              else None)
+          by_test false e = refl
+          by_test true e = over-step step set ts place n lower later family links.some stands there is e
+
+  -- a way leaves no more steps than there are, and lowers the hop limit at most once at each
+  pub way-few : (steps : List Step) (place : Place) (n : ℕ) (b : Behind) → IsHow net place.node place.how
+      → is_some (stand_after net place.node steps) ≡ true → way_along net steps place n ≡ Some b
+      → (b.left ≤ length steps) × (b.lowered ≤ length steps)
+  way-few steps place n b how stands h = by_ride (ride_of net (sid_address net n) steps place) refl h
+    where
+      by_ride : (o : Option Ride) → ride_of net (sid_address net n) steps place ≡ o → behind_of net n o ≡ Some b
+          → (b.left ≤ length steps) × (b.lowered ≤ length steps)
+      by_ride None e h = absurd (cc)
+      by_ride (Some r) e h =
+          let f = ride-facts net keeps (sid_address net n) steps place r how stands e in
+          let got = map-some (behind_with r.lowered) (left_behind net n r) b h in
+          let at = if-some (r.sid == n) (left_after net n r.left) got.0 got.1 in
+          let le = left_after-le net n r.left got.0 at.1 in
+          let len : length r.left ≡ length steps - f.count = ap length f.left ∙ length-drop f.count steps in
+          let is_left : got.0 ≡ b.left = ap (λ (x : Behind). x.left) got.2 in
+          let is_lowered : r.lowered ≡ b.lowered = ap (λ (x : Behind). x.lowered) got.2 in
+          (omega (arith, le, len, is_left), omega (arith, f.lowered, f.within, is_lowered))
+
+  pub ways-few : (steps : List Step) (node : ℕ) (ways : List (Option Behind)) (lower : Bool) → AreWays net steps (stand node lower) ways
+      → is_some (stand_after net node steps) ≡ true → length steps ≤ 48
+      → (n : ℕ) → IfSome (way_at ways n) (λ b. b.lowered ≤ 48)
+  ways-few steps node ways lower is stands few n = by_item (slice_get ways n) refl
+    where
+      by_way : (w : Option Behind) → way_along net steps (stand node lower) n ≡ w → IfSome w (λ b. b.lowered ≤ 48)
+      by_way None e = tt
+      by_way (Some b) e = let at = way-few steps (stand node lower) n b (how-looked net node lower) stands e in omega (arith, at.1)
+
+      by_item : (o : Option (Option Behind)) → slice_get ways n ≡ o → IfSome (way_or_none o) (λ b. b.lowered ≤ 48)
+      by_item None e = tt
+      by_item (Some w) e =
+          let within = slice_get_within ways n w e in
+          by_way w (some-same _ w (sym (is.each n (omega (arith, is.count))) ∙ e))
+
+  -- a way as the code finds it, by the way that the place gives and by the way from where the first step ends
+  pub way-item : (steps : List Step) (place : Place) (n : ℕ) (later : List (Option Behind)) (s : SidEntry) (d : ℕ) (w : Way)
+      (on way : Option Behind) → IsHow net place.node place.how → place.family ≡ families.V6
+      → is_some (stand_after net place.node steps) ≡ true → AreLater net place.node steps later → slice_get net.sids n ≡ Some s
+      → d ≡ s.prefix.value → w ≡ way_of net place d → on ≡ way_at later n → way ≡ way_by net n steps on w
+      → way ≡ way_along net steps place n
+  way-item steps place n later s d w on way how family stands is there e f g h =
+      let address : d ≡ sid_address net n = e ∙ address-is net n s there in
+      h ∙ ap (λ (o : Option Behind). way_by net n steps o w) g
+      ∙ ap (way_by net n steps (way_at later n)) (f ∙ ap (way_of net place) address)
+      ∙ way-steps steps place n later how family stands (slice_get_within net.sids n s there) is
+
+-- the ways to SIDs of lower numbers
+pub record AreWaysBelow (net : Network) (steps : List Step) (place : Place) (count : ℕ) (ways : List (Option Behind)) : Type 0 where
+  pub count_is : length ways ≡ count
+  pub each : (n : ℕ) → n < count → slice_get ways n ≡ Some (way_along net steps place n)
+
+pub ways-start : (net : Network) (steps : List Step) (place : Place) (ways : List (Option Behind)) → ways ≡ []
+    → AreWaysBelow net steps place 0 ways
+ways-start net steps place ways e = record { count_is = ap length e; each = λ n h. absurd (omega arith) }
+
+get-pushed : (xs : List (Option Behind)) (x : Option Behind) (n : ℕ) → n ≡ length xs → slice_get (xs ++ x ∷ []) n ≡ Some x
+get-pushed [] x zero e = refl
+get-pushed [] x (suc n) e = absurd (omega arith)
+get-pushed (y ∷ xs) x zero e = absurd (omega arith)
+get-pushed (y ∷ xs) x (suc n) e = get-pushed xs x n (omega arith)
+
+get-below : (xs : List (Option Behind)) (x : Option Behind) (n : ℕ) → n < length xs → slice_get (xs ++ x ∷ []) n ≡ slice_get xs n
+get-below [] x n h = absurd (omega arith)
+get-below (y ∷ xs) x zero h = refl
+get-below (y ∷ xs) x (suc n) h = get-below xs x n (omega arith)
+
+pub ways-more : (net : Network) (steps : List Step) (place : Place) (count : ℕ) (ways more : List (Option Behind)) (way : Option Behind)
+    → AreWaysBelow net steps place count ways → way ≡ way_along net steps place count → more ≡ ways ++ way ∷ []
+    → AreWaysBelow net steps place (count + 1) more
+ways-more net steps place count ways more way is e f =
+    subst (AreWaysBelow net steps place (count + 1)) (sym f)
+    (record {
+      count_is = let len = length-append ways (way ∷ []) in omega (arith, is.count_is, len);
+      each = λ n h. by_order n (cases_order n count) h;
+    })
+  where
+    by_order : (n : ℕ) → ((n ≡ count) ⊎ ((n < count) ⊎ (count < n))) → n < count + 1
+        → slice_get (ways ++ way ∷ []) n ≡ Some (way_along net steps place n)
+    by_order n (inl same) h =
+        get-pushed ways way n (same ∙ sym is.count_is) ∙ ap Some (e ∙ ap (way_along net steps place) (sym same))
+    by_order n (inr (inl below)) h = get-below ways way n (omega (arith, is.count_is)) ∙ is.each n below
+    by_order n (inr (inr above)) h = absurd (omega arith)
+
+pub ways-all : (net : Network) (steps : List Step) (place : Place) (count : ℕ) (ways : List (Option Behind))
+    → AreWaysBelow net steps place count ways → count ≡ length net.sids → AreWays net steps place ways
+ways-all net steps place count ways is e =
+    record { count = is.count_is ∙ e; each = λ n h. is.each n (omega arith) }

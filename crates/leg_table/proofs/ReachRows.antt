@@ -1,0 +1,133 @@
+-- The ways from the nodes of all positions, one after another.
+use Rattle.std.proofs.Common.{◌≡◌, ℕ, zero, suc, ◌+◌, ◌-◌, ◌<◌, ◌≤◌, true, ◌&&◌, List, [], ◌∷◌, ◌++◌, length, take, drop, Option, Some, None, slice_get, refl, sym, ◌∙◌, ap, subst, arith, length-append}
+use Rattle.std.specs.Prelude.{is_some}
+use Rattle.std.specs.List.{list_all}
+use Rattle.std.specs.Option.{option_and_then}
+use Rattle.srv6_rules.specs.declared.sid.SidEntry.{SidEntry}
+use Rattle.net_model.specs.Network.{Network}
+use Rattle.net_model.specs.Rules.{is_link_set}
+use Rattle.net_model.specs.Keeps.{Keeps}
+use Rattle.intent_reader.specs.Rules.{first_end, far_node, function_node, stand_after, node_after, ends_at}
+use Rattle.intent_reader.specs.declared.intent.Step.{Step}
+use Rattle.intent_reader.specs.declared.intent.Step.TheVariants.{Links, Function}
+use Rattle.leg_table.specs.declared.reach.Reach.{Reach}
+use Rattle.leg_table.specs.declared.ride.Behind.{Behind}
+use Rattle.leg_table.specs.Reach.{stand, AreWays, IsReach, AreReaches, AreLater}
+use Rattle.leg_table.proofs.Courses.{end-within}
+use Rattle.leg_table.proofs.Links.{far_end-is}
+use Rattle.leg_table.proofs.Options.{if-some, some-same}
+
+-- a step that starts at a node ends at one
+pub after-opens : (net : Network) (node : ℕ) (t : Step) (ts : List Step) → is_some (stand_after net node (t ∷ ts)) ≡ true
+    → is_some (node_after net node t) ≡ true
+after-opens net node t ts h = opens (node_after net node t) h
+  where
+    opens : (o : Option ℕ) → is_some (option_and_then (λ next. stand_after net next ts) o) ≡ true → is_some o ≡ true
+    opens None h = h
+    opens (Some n) h = refl
+
+pub after-stands : (net : Network) (node to : ℕ) (t : Step) (ts : List Step) → is_some (stand_after net node (t ∷ ts)) ≡ true
+    → node_after net node t ≡ Some to → is_some (stand_after net to ts) ≡ true
+after-stands net node to t ts h e = ap (λ (o : Option ℕ). is_some (option_and_then (λ next. stand_after net next ts) o)) (sym e) ∙ h
+
+first-within : (net : Network) → Keeps net → (set : List ℕ) (to : ℕ) → first_end net set ≡ Some to → to < length net.nodes
+first-within net keeps [] to e = absurd (cc)
+first-within net keeps (link ∷ links) to e =
+    end-within net keeps link (Some to) (sym e ∙ sym (far_end-is (slice_get net.links link)))
+
+pub after-within : (net : Network) → Keeps net → (node to : ℕ) (t : Step) → node < length net.nodes → node_after net node t ≡ Some to
+    → to < length net.nodes
+after-within net keeps node to (Links set) here e = by_end (first_end net set) refl e
+  where
+    by_end : (o : Option ℕ) → first_end net set ≡ o → far_node net node set o ≡ Some to → to < length net.nodes
+    by_end None f h = absurd (cc)
+    by_end (Some end) f h =
+        let got = if-some (is_link_set net.links node set && list_all (ends_at net end) set) (Some end) to h in
+        first-within net keeps set to (f ∙ got.1)
+after-within net keeps node to (Function sid) here e = by_sid (slice_get net.sids sid) e
+  where
+    by_sid : (o : Option SidEntry) → function_node node o ≡ Some to → to < length net.nodes
+    by_sid None h = absurd (cc)
+    by_sid (Some s) h =
+        let got = if-some _ (Some node) to h in
+        let same : node ≡ to = some-same node to got.1 in
+        omega arith
+
+get-push : {X : Type 0} (xs : List X) (x y : X) (n : ℕ) → n ≡ length xs → slice_get (xs ++ x ∷ []) n ≡ Some y → x ≡ y
+get-push [] x y zero e h = some-same x y h
+get-push [] x y (suc n) e h = absurd (omega arith)
+get-push (z ∷ xs) x y zero e h = absurd (omega arith)
+get-push (z ∷ xs) x y (suc n) e h = get-push xs x y n (omega arith) h
+
+get-front : {X : Type 0} (xs : List X) (x : X) (n : ℕ) → n < length xs → slice_get (xs ++ x ∷ []) n ≡ slice_get xs n
+get-front [] x n h = absurd (omega arith)
+get-front (y ∷ xs) x zero h = refl
+get-front (y ∷ xs) x (suc n) h = get-front xs x n (omega arith)
+
+-- where no step is left
+reaches-one : (net : Network) (node : ℕ) (reach : Reach) → IsReach net [] node reach → AreReaches net node [] (reach ∷ [])
+reaches-one net node reach is =
+    record { count = omega arith; each = λ position at r within stands there. each position at r within stands there }
+  where
+    each : (position at : ℕ) (r : Reach) → position ≤ 0 → stand_after net node (take position []) ≡ Some at
+        → slice_get (reach ∷ []) (0 - position) ≡ Some r → IsReach net (drop position []) at r
+    each zero at r within stands there =
+        let same : node ≡ at = some-same node at stands in
+        let it : reach ≡ r = some-same reach r there in
+        subst (λ (q : Reach). IsReach net [] at q) it (subst (λ (n : ℕ). IsReach net [] n reach) same is)
+    each (suc k) at r within stands there = absurd (omega arith)
+
+pub reaches-none : (net : Network) (node : ℕ) (steps : List Step) (reach : Reach) (reaches : List Reach) → steps ≡ []
+    → IsReach net steps node reach → reaches ≡ reach ∷ [] → AreReaches net node steps reaches
+reaches-none net node steps reach reaches e is f =
+    let one = reaches-one net node reach (subst (λ (ts : List Step). IsReach net ts node reach) e is) in
+    subst (λ (ts : List Step). AreReaches net node ts reaches) (sym e) (subst (AreReaches net node []) (sym f) one)
+
+-- one step more before the others
+more-reaches : (net : Network) (node to : ℕ) (t : Step) (ts : List Step) (reach : Reach) (reaches : List Reach)
+    → AreReaches net to ts reaches → IsReach net (t ∷ ts) node reach → node_after net node t ≡ Some to
+    → AreReaches net node (t ∷ ts) (reaches ++ reach ∷ [])
+more-reaches net node to t ts reach reaches are is after =
+    record {
+      count = let len = length-append reaches (reach ∷ []) in omega (arith, are.count, len);
+      each = λ position at r within stands there. each position at r within stands there;
+    }
+  where
+    each : (position at : ℕ) (r : Reach) → position ≤ length (t ∷ ts) → stand_after net node (take position (t ∷ ts)) ≡ Some at
+        → slice_get (reaches ++ reach ∷ []) (length (t ∷ ts) - position) ≡ Some r → IsReach net (drop position (t ∷ ts)) at r
+    each zero at r within stands there =
+        let same : node ≡ at = some-same node at stands in
+        let it : reach ≡ r = get-push reaches reach r (length (t ∷ ts) - 0) (omega (arith, are.count)) there in
+        subst (λ (q : Reach). IsReach net (t ∷ ts) at q) it (subst (λ (n : ℕ). IsReach net (t ∷ ts) n reach) same is)
+    each (suc k) at r within stands there =
+        let place : length (t ∷ ts) - suc k ≡ length ts - k = omega arith in
+        let below : length ts - k < length reaches = omega (arith, are.count) in
+        let front : slice_get reaches (length ts - k) ≡ Some r
+        = sym (get-front reaches reach (length ts - k) below)
+        ∙ ap (slice_get (reaches ++ reach ∷ [])) (sym place) ∙ there in
+        let on : stand_after net to (take k ts) ≡ Some at
+        = ap (option_and_then (λ next. stand_after net next (take k ts))) (sym after) ∙ stands in
+        are.each k at r (omega arith) on front
+
+pub reaches-more : (net : Network) (node to : ℕ) (steps : List Step) (t : Step) (ts : List Step) (reach : Reach)
+    (reaches more : List Reach) → steps ≡ t ∷ ts → AreReaches net to ts reaches → IsReach net steps node reach
+    → node_after net node t ≡ Some to → more ≡ reaches ++ reach ∷ [] → AreReaches net node steps more
+reaches-more net node to steps t ts reach reaches more e are is after f =
+    subst (λ (l : List Step). AreReaches net node l more) (sym e)
+    (subst (AreReaches net node (t ∷ ts)) (sym f)
+    (more-reaches net node to t ts reach reaches are (subst (λ (l : List Step). IsReach net l node reach) e is) after))
+
+-- the last of the ways from the other nodes are those from where the first step ends
+pub last-ways : (net : Network) (to : ℕ) (ts : List Step) (reaches : List Reach) (reach : Reach) (i : ℕ) (ways : List (Option Behind))
+    → AreReaches net to ts reaches → i + 1 ≡ length reaches → slice_get reaches i ≡ Some reach → ways ≡ reach.arrived.items
+    → AreWays net ts (stand to true) ways
+last-ways net to ts reaches reach i ways are last e f =
+    let place : length ts - 0 ≡ i = omega (arith, are.count) in
+    let there = are.each 0 to reach (omega arith) refl (ap (slice_get reaches) place ∙ e) in
+    subst (AreWays net ts (stand to true)) (sym f) there.arrived
+
+pub ways-later : (net : Network) (node to : ℕ) (steps : List Step) (t : Step) (ts : List Step) (ways : List (Option Behind))
+    → steps ≡ t ∷ ts → node_after net node t ≡ Some to → AreWays net ts (stand to true) ways → AreLater net node steps ways
+ways-later net node to steps t ts ways e after are =
+    subst (λ (l : List Step). AreLater net node l ways) (sym e)
+    (λ at h. subst (λ (n : ℕ). AreWays net ts (stand n true) ways) (some-same to at (sym after ∙ h)) are)

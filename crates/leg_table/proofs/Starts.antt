@@ -1,0 +1,116 @@
+-- The place from which a packet goes to the next SID, and the way from it by what was gathered.
+use Rattle.std.proofs.Common.{◌≡◌, ℕ, zero, suc, ◌+◌, ◌<◌, ◌≤◌, true, List, [], ◌∷◌, length, take, drop, Option, Some, None, slice_get, refl, sym, ◌∙◌, ap, subst, arith, add-one}
+use Rattle.std.specs.Prelude.{is_some, IfSome}
+use Rattle.std.specs.Option.{option_and_then}
+use Rattle.std.proofs.lemmas.List.{length-drop}
+use Rattle.std.proofs.lemmas.Bool.{false≢true}
+use Rattle.std.proofs.lemmas.Option.{get_or_from_slice_get}
+use Rattle.net_model.specs.Network.{Network}
+use Rattle.net_model.specs.Keeps.{Keeps}
+use Rattle.walk_rules.specs.declared.place.Place.{Place}
+use Rattle.intent_reader.specs.Rules.{IsIntent, stand_after, node_after}
+use Rattle.intent_reader.specs.declared.intent.Step.{Step}
+use Rattle.intent_reader.specs.declared.intent.Intent.{Intent}
+use Rattle.leg_table.specs.declared.ride.Behind.{Behind}
+use Rattle.leg_table.specs.Course.{way_behind}
+use Rattle.leg_table.specs.Leg.{is_start, place_from, start_of}
+use Rattle.leg_table.specs.declared.reach.Reach.{Reach}
+use Rattle.leg_table.specs.Sids.{node_at}
+use Rattle.leg_table.specs.Reach.{way_along, stand, AreWays, IsReach, AreLater, way_at, IsStart}
+use Rattle.leg_table.proofs.Options.{then-some, if-some, some-same}
+use Rattle.leg_table.proofs.RideFacts.{start-facts, intent-stands, stand_after-split}
+use Rattle.leg_table.proofs.ReachRows.{after-within, after-opens, after-stands}
+use Rattle.leg_table.proofs.Placing.{step-lands}
+use Rattle.leg_table.proofs.ReachLemmas.{way-few, ways-few}
+
+-- the walk stands at nodes that are there
+stands-within : (net : Network) → Keeps net → (node to : ℕ) (ts : List Step) → node < length net.nodes
+    → stand_after net node ts ≡ Some to → to < length net.nodes
+stands-within net keeps node to [] here e = let same : node ≡ to = some-same node to e in omega arith
+stands-within net keeps node to (t ∷ ts) here e =
+    let got = then-some (λ next. stand_after net next ts) (node_after net node t) to e in
+    stands-within net keeps got.0 to ts (after-within net keeps node got.0 t here got.1) got.2
+
+some-there : (o : Option ℕ) → is_some o ≡ true → (x : ℕ) × (o ≡ Some x)
+some-there None h = absurd (false≢true h)
+some-there (Some x) h = (x, refl)
+
+-- the first of what is left from a place on, and what is left behind it
+drop-first : (xs : List Step) (n : ℕ) (x : Step) (ys : List Step) → drop n xs ≡ x ∷ ys
+    → (slice_get xs n ≡ Some x) × (drop (suc n) xs ≡ ys)
+drop-first [] zero x ys e = absurd (cc)
+drop-first [] (suc n) x ys e = absurd (cc)
+drop-first (y ∷ xs) zero x ys e = (cc, cc)
+drop-first (y ∷ xs) (suc n) x ys e = drop-first xs n x ys e
+
+module _ (net : Network) (keeps : Keeps net) (intent : Intent) (is_intent : IsIntent net intent) where
+  pub start-is : (position : ℕ) (via : Option ℕ) (place : Place) → Some place ≡ start_of net intent position via
+      → IsStart net intent position place
+  start-is position via place h =
+      let got = if-some (is_start net intent position via) (place_from net intent via) place (sym h) in
+      let f = start-facts net keeps intent is_intent position via place got.0 got.1 in
+      let head = (intent-stands net intent is_intent).3 in
+      record {
+        is_place = (stands-within net keeps intent.headend place.node (take position intent.steps) head f.stands, f.how);
+        within = f.within;
+        stands = f.stands;
+        family = f.family;
+        rest = f.rest;
+      }
+
+  pub place-is : (position : ℕ) (via : Option ℕ) (o : Option Place) → o ≡ start_of net intent position via
+      → IfSome o (λ place. IsStart net intent position place)
+  place-is position via None h = tt
+  place-is position via (Some place) h = start-is position via place h
+
+  -- the steps that are left start where the place is
+  pub rest-stands : (position node : ℕ) → stand_after net intent.headend (take position intent.steps) ≡ Some node
+      → is_some (stand_after net node (drop position intent.steps)) ≡ true
+  rest-stands position node stands =
+      ap is_some (sym (stand_after-split net intent.headend node intent.steps position stands)) ∙ (intent-stands net intent is_intent).0
+
+  pub few-behind : (position : ℕ) (via : Option ℕ) (next : ℕ) (way : Option Behind) → way ≡ way_behind net intent position via next
+      → IfSome way (λ b. (b.left ≤ length intent.steps) × (b.lowered ≤ 48))
+  few-behind position via next None e = tt
+  few-behind position via next (Some b) e = by_start (start_of net intent position via) refl e
+    where
+      by_start : (o : Option Place) → start_of net intent position via ≡ o
+          → Some b ≡ option_and_then (λ p. way_along net (drop position intent.steps) p next) o
+          → (b.left ≤ length intent.steps) × (b.lowered ≤ 48)
+      by_start None s h = absurd (cc)
+      by_start (Some place) s h =
+          let start = start-is position via place (sym s) in
+          let few = way-few net keeps (drop position intent.steps) place next b start.is_place.1 start.rest (sym h) in
+          let len = length-drop position intent.steps in
+          let all = (intent-stands net intent is_intent).1 in
+          (omega (arith, few.0, len), omega (arith, few.1, len, all))
+
+  -- the ways from where the step that starts at a position ends
+  pub later-from : (position at : ℕ) (reach : Reach) (ways : List (Option Behind)) → position < length intent.steps
+      → node_at net intent position ≡ Some at
+      → ((to : ℕ) → node_at net intent (position + 1) ≡ Some to → IsReach net (drop (position + 1) intent.steps) to reach)
+      → ways ≡ reach.arrived.items
+      → AreLater net at (drop position intent.steps) ways × ((n : ℕ) → IfSome (way_at ways n) (λ b. b.lowered ≤ 48))
+  later-from position at reach ways below stands is e = by_rest (drop position intent.steps) refl
+    where
+      by_rest : (ts : List Step) → drop position intent.steps ≡ ts
+          → AreLater net at ts ways × ((n : ℕ) → IfSome (way_at ways n) (λ b. b.lowered ≤ 48))
+      by_rest [] f = let l = ap length f in let k = length-drop position intent.steps in absurd (omega arith)
+      by_rest (t ∷ ts) f =
+          let parts = drop-first intent.steps position t ts f in
+          let tail : drop (position + 1) intent.steps ≡ ts = ap (λ (n : ℕ). drop n intent.steps) (add-one position) ∙ parts.1 in
+          let get = get_or_from_slice_get intent.steps position t t parts.0 in
+          let on : (to : ℕ) → node_after net at t ≡ Some to → AreWays net ts (stand to true) ways
+          = λ to after.
+          subst (λ (l : List Step). AreWays net l (stand to true) ways) tail
+          (subst (AreWays net (drop (position + 1) intent.steps) (stand to true)) (sym e)
+          (is to (step-lands net intent position at to t stands below get after)).arrived) in
+          let rest : is_some (stand_after net at (t ∷ ts)) ≡ true
+          = ap (λ (l : List Step). is_some (stand_after net at l)) (sym f) ∙ rest-stands position at stands in
+          let to = some-there (node_after net at t) (after-opens net at t ts rest) in
+          let few : length ts ≤ 48 =
+          let l = ap length f in
+          let k = length-drop position intent.steps in
+          let all = (intent-stands net intent is_intent).1 in
+          omega (arith, all) in
+          (on, ways-few net keeps ts to.0 ways true (on to.0 to.1) (after-stands net at to.0 t ts rest to.1) few)
