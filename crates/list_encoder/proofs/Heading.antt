@@ -7,8 +7,7 @@ use Rattle.list_pack.specs.declared.types.State.{State}
 use Rattle.list_pack.specs.Value.{LegsValue, KeepsLaws}
 use Rattle.list_pack.specs.Costs.{Move, Edge, AtMost, plus, nothing, move_cost, edge_of, last_of, behind, cost_of, Under}
 use Rattle.list_pack.specs.Least.{IsLeast}
-use Rattle.list_pack.proofs.Costing.{at_most-both, edge-parts, last-parts}
-use Rattle.list_pack.proofs.Leasts.{attained}
+use Rattle.list_pack.proofs.PublicLaws.{at_most-both, edge-parts, last-parts, attained}
 use Rattle.list_encoder.specs.declared.cells.Cell.{Cell}
 use Rattle.list_encoder.specs.declared.table.Link.{Link}
 use Rattle.list_encoder.specs.declared.picks.Spot.{Spot}

@@ -6,8 +6,7 @@ use Rattle.list_pack.specs.declared.types.State.{State}
 use Rattle.list_pack.specs.Value.{LegsValue, KeepsLaws}
 use Rattle.list_pack.specs.Costs.{Move, Edge, plus, nothing, move_cost, edge_of, last_of, cost_of, Under}
 use Rattle.list_pack.specs.Least.{Attains}
-use Rattle.list_pack.proofs.Costing.{under-none, under-trans, under-plus, edge-parts, last-parts, EdgeParts, LastParts}
-use Rattle.list_pack.proofs.Leasts.{under-behind, under-last}
+use Rattle.list_pack.proofs.PublicLaws.{under-none, under-trans, under-plus, edge-parts, last-parts, EdgeParts, LastParts, under-behind, under-last}
 use Rattle.list_encoder.specs.declared.cells.Cell.{Cell}
 use Rattle.list_encoder.specs.declared.table.Link.{Link}
 use Rattle.list_encoder.specs.Cells.{cell_at, state_at, AreCells}

@@ -11,7 +11,7 @@ use Rattle.list_pack.specs.Order.{lex_before}
 use Rattle.list_pack.specs.Value.{LegsValue, KeepsLaws, IsVia}
 use Rattle.list_pack.specs.Costs.{Move, edge_of, cost_of, Under, IsState, IsStateBy}
 use Rattle.list_pack.specs.Least as leasts
-use Rattle.list_pack.proofs.Costing.{edge-parts, last-parts}
+use Rattle.list_pack.proofs.PublicLaws.{edge-parts, last-parts}
 use Rattle.list_encoder.specs.declared.cells.Cell.{Cell}
 use Rattle.list_encoder.specs.Cells.{cell_at, start_cell, state_at, IsCellBy, AreCells, top_at, top_at_by}
 use Rattle.list_encoder.specs.Table.{Costs, entry, AreLeast}

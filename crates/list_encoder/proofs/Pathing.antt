@@ -12,8 +12,7 @@ use Rattle.list_pack.specs.Value.{LegsValue, KeepsLaws, comes_to}
 use Rattle.list_pack.specs.Rooms.{room_behind}
 use Rattle.list_pack.specs.Costs.{Move, plus, nothing, move_cost, edge_by, last_of, cost_of, Under}
 use Rattle.list_pack.specs.Least.{IsFirstLeast, step_of, path_key, path_before}
-use Rattle.list_pack.proofs.Costing.{edge-made, last-made}
-use Rattle.list_pack.proofs.Leasts.{attained}
+use Rattle.list_pack.proofs.PublicLaws.{edge-made, last-made, attained}
 use Rattle.list_encoder.specs.declared.cells.Cell.{Cell}
 use Rattle.list_encoder.specs.declared.table.Link.{Link}
 use Rattle.list_encoder.specs.declared.picks.Pick.{Pick}

@@ -1,23 +1,23 @@
 -- Lowering by a link room by room, by the finishes and by the legs of a cell, and by all links within a position.
-use Rattle.std.proofs.Common.{◌≡◌, ℕ, zero, suc, ◌+◌, ◌*◌, ◌<◌, ◌≤◌, inl, inr, Bool, true, false, ◌||◌, ◌==◌, cond, List, [], ◌∷◌, ◌++◌, length, Option, Some, None, slice_get, Contains, refl, sym, ◌∙◌, ap, subst, arith}
+use Rattle.std.proofs.Common.{◌≡◌, ℕ, zero, suc, ◌+◌, ◌-◌, ◌*◌, ◌<◌, ◌≤◌, inl, inr, Bool, true, false, ◌||◌, ◌&&◌, cond, List, [], ◌∷◌, ◌++◌, length, Option, Some, None, slice_get, Contains, refl, sym, ◌∙◌, ap, subst, arith, nat_le}
 use Rattle.std.specs.Prelude.{nat_lt, MatchBool}
 use Rattle.std.specs.Option.{option_map}
-use Rattle.std.proofs.lemmas.Bool.{cases_lt, lt-ltb, le-ltb, cond-false, ne_eqb}
+use Rattle.std.proofs.lemmas.Bool.{cases_lt, lt-ltb, le-ltb, le-leb, leb-true, and_parts, and_from}
 use Rattle.std.proofs.lemmas.List.Elements.{Contains-append_left, Contains-push, Contains-push_cases}
-use Rattle.std.proofs.lemmas.Option.{none-some, slice_get_within}
+use Rattle.std.proofs.lemmas.Option.{none-some, cond_some, slice_get_within}
 use Rattle.list_pack.specs.declared.types.Cost.{Cost}
 use Rattle.list_pack.specs.declared.types.Leg.{Leg}
 use Rattle.list_pack.specs.declared.types.Shape.{Shape}
-use Rattle.list_pack.specs.Value.{LegsValue, KeepsLaws}
-use Rattle.list_pack.specs.Rooms.{room_behind, new_room_by}
+use Rattle.list_pack.specs.Value.{LegsValue, KeepsLaws, units_of, same_block}
+use Rattle.list_pack.specs.Rooms.{room_behind, new_room_by, stay_room_by, kept_room}
 use Rattle.srv6_rules.specs.declared.sid.Csid.{Csid}
 use Rattle.srv6_rules.specs.declared.sid.Csid.TheVariants.{Plain, Next, Replace}
 use Rattle.list_pack.specs.Costs.{nothing, move_cost, Under}
-use Rattle.list_pack.proofs.Costing.{under-itself, under-trans, under-plus}
+use Rattle.list_pack.proofs.PublicLaws.{under-itself, under-trans, under-plus}
 use Rattle.list_encoder.specs.declared.cells.Cell.{Cell}
 use Rattle.list_encoder.specs.declared.table.Link.{Link}
 use Rattle.list_encoder.specs.Cells.{cell_at}
-use Rattle.list_encoder.specs.Table.{Costs, at, entry, rest_at, offer, LeadsTo, IsLink, IsSound, Passed, LinkHolds, Holds, RoomHolds, RoomRelaxed, Relaxed, LeavesRoom, IsShapeOf, EndsHold, EndsRelaxed, LegsHold, Keeps, LegsRelaxed, AreLinks, Gathers}
+use Rattle.list_encoder.specs.Table.{Costs, at, entry, rest_at, offer, LeadsTo, IsLink, IsSound, Passed, LinkHolds, Holds, RoomHolds, RoomRelaxed, RoomsRelaxed, Relaxed, LeavesRoom, IsShapeOf, EndsHold, EndsRelaxed, LegsHold, Keeps, LegsRelaxed, AreLinks, Gathers}
 use Rattle.list_encoder.proofs.Celling.{some-same, place_of}
 use Rattle.list_encoder.proofs.Tables.{kept-passed, passed-then}
 
@@ -30,17 +30,10 @@ rest-falls before after (Some to) left h = h (8 * to + left)
 pub offer-falls : (stays : Bool) (hops : ℕ) (a b : Option Cost) → Under a b → Under (offer stays hops a) (offer stays hops b)
 offer-falls stays hops a b h = under-plus (move_cost stays hops) a b h
 
--- some rooms of a link's first cell are lowered
-pub record Relaxing (v : LegsValue) (cells : List Cell) (link : Link) (before after : Costs) (room : ℕ) (changed : Bool) : Type 0 where
-  pub sound : IsSound v cells after
-  pub passed : Passed (link.from + 1) before after changed
-  pub holds : (cell : Cell) (stays : Bool) (r left : ℕ) → slice_get cells link.from ≡ Some cell → r < room
-      → room_behind stays (option_map v.shape cell.via) r (v.shape link.sid) ≡ Some left
-      → Under (entry after link.from r) (offer stays link.hops (rest_at before link.to left))
-
-pub relaxing-none : (v : LegsValue) (cells : List Cell) (link : Link) (t : Costs) → IsSound v cells t → Relaxing v cells link t t 0 false
-relaxing-none v cells link t sound =
-    record { sound = sound; passed = kept-passed (link.from + 1) t; holds = λ cell stays r left e h f. absurd (omega (arith, h)) }
+pub rooms-none : (v : LegsValue) (cells : List Cell) (link : Link) (stays : Bool) (low : ℕ) (t : Costs) → IsSound v cells t
+    → RoomsRelaxed v cells link stays low low t t false
+rooms-none v cells link stays low t sound =
+    record { sound = sound; passed = kept-passed (link.from + 1) t; holds = λ cell r left e l h f. absurd (omega (arith, l, h)) }
 
 -- what holds of a room holds where its room is known
 room-holds : (o : Option Cost) (stays : Bool) (link : Link) (t : Costs) (p : Option ℕ) (left : ℕ) → p ≡ Some left
@@ -48,49 +41,77 @@ room-holds : (o : Option Cost) (stays : Bool) (link : Link) (t : Costs) (p : Opt
     → Under o (offer stays link.hops (rest_at t link.to left))
 room-holds o stays link t p left e h = subst (λ (q : Option ℕ). RoomHolds o stays link t q) e h
 
-module _ (v : LegsValue) (cells : List Cell) (link : Link) (t0 t t1 t2 : Costs) (room : ℕ) (changed x y : Bool) (p q : Option ℕ)
-    (begun : Relaxing v cells link t0 t room changed) (stayed : RoomRelaxed v cells link t t1 true room p x)
-    (opened : RoomRelaxed v cells link t1 t2 false room q y) (is_p : LeavesRoom v cells link true room p)
-    (is_q : LeavesRoom v cells link false room q) where
-  both-passed : Passed (link.from + 1) t t2 (x || y)
-  both-passed = passed-then (link.from + 1) t t1 t2 x y stayed.passed opened.passed
+pub room-rooms : (v : LegsValue) (cells : List Cell) (link : Link) (stays : Bool) (room : ℕ) (p : Option ℕ) (t t1 : Costs) (x : Bool)
+    → RoomRelaxed v cells link t t1 stays room p x → LeavesRoom v cells link stays room p
+    → RoomsRelaxed v cells link stays room (room + 1) t t1 x
+room-rooms v cells link stays room p t t1 x relaxed leaves =
+    record {
+      sound = relaxed.sound;
+      passed = relaxed.passed;
+      holds = λ cell r left e l h f.
+          let same : room ≡ r = omega (arith, l, h) in
+          let g : room_behind stays (option_map v.shape cell.via) room (v.shape link.sid) ≡ Some left =
+          ap (λ (k : ℕ). room_behind stays (option_map v.shape cell.via) k (v.shape link.sid)) same ∙ f in
+          subst (λ (k : ℕ). Under (entry t1 link.from k) (offer stays link.hops (rest_at t link.to left))) same
+          (room-holds (entry t1 link.from room) stays link t p left (leaves cell e ∙ g) relaxed.holds);
+    }
 
-  here-holds : (cell : Cell) (stays : Bool) (left : ℕ) → slice_get cells link.from ≡ Some cell
-      → room_behind stays (option_map v.shape cell.via) room (v.shape link.sid) ≡ Some left
-      → Under (entry t2 link.from room) (offer stays link.hops (rest_at t0 link.to left))
-  here-holds cell true left e h =
-      let now = room-holds (entry t1 link.from room) true link t p left (is_p cell e ∙ h) stayed.holds in
-      under-trans (entry t2 link.from room) (entry t1 link.from room) (offer true link.hops (rest_at t0 link.to left))
-      (opened.passed.falls _)
-      (under-trans (entry t1 link.from room) (offer true link.hops (rest_at t link.to left))
-      (offer true link.hops (rest_at t0 link.to left)) now
-      (offer-falls true link.hops (rest_at t link.to left) (rest_at t0 link.to left) (rest-falls t0 t link.to left begun.passed.falls)))
-  here-holds cell false left e h =
-      let now = room-holds (entry t2 link.from room) false link t1 q left (is_q cell e ∙ h) opened.holds in
-      let first = passed-then (link.from + 1) t0 t t1 changed x begun.passed stayed.passed in
-      under-trans (entry t2 link.from room) (offer false link.hops (rest_at t1 link.to left))
-      (offer false link.hops (rest_at t0 link.to left)) now
-      (offer-falls false link.hops (rest_at t1 link.to left) (rest_at t0 link.to left) (rest-falls t0 t1 link.to left first.falls))
+-- some rooms, and then those that follow
+pub rooms-join : (v : LegsValue) (cells : List Cell) (link : Link) (stays : Bool) (low mid high : ℕ) (t t1 t2 : Costs) (x y : Bool)
+    → RoomsRelaxed v cells link stays low mid t t1 x → RoomsRelaxed v cells link stays mid high t1 t2 y
+    → RoomsRelaxed v cells link stays low high t t2 (x || y)
+rooms-join v cells link stays low mid high t t1 t2 x y first second =
+    record {
+      sound = second.sound;
+      passed = passed-then (link.from + 1) t t1 t2 x y first.passed second.passed;
+      holds = λ cell r left e l h f.
+          elim (cases_lt r mid) as (λ w. Under (entry t2 link.from r) (offer stays link.hops (rest_at t link.to left))) [
+            | inl less ↦
+                under-trans (entry t2 link.from r) (entry t1 link.from r) (offer stays link.hops (rest_at t link.to left))
+                (second.passed.falls _) (first.holds cell r left e l less f)
+            | inr more ↦
+                under-trans (entry t2 link.from r) (offer stays link.hops (rest_at t1 link.to left))
+                (offer stays link.hops (rest_at t link.to left)) (second.holds cell r left e more h f)
+                (offer-falls stays link.hops (rest_at t1 link.to left) (rest_at t link.to left)
+                (rest-falls t t1 link.to left first.passed.falls))
+          ];
+    }
 
-  pub relaxing-more : Relaxing v cells link t0 t2 (room + 1) (changed || (x || y))
-  relaxing-more =
-      record {
-        sound = opened.sound;
-        passed = passed-then (link.from + 1) t0 t t2 changed (x || y) begun.passed both-passed;
-        holds = λ cell stays r left e h f.
-            elim (cases_lt r room) as (λ w. Under (entry t2 link.from r) (offer stays link.hops (rest_at t0 link.to left))) [
-              | inl less ↦
-                  under-trans (entry t2 link.from r) (entry t link.from r) (offer stays link.hops (rest_at t0 link.to left))
-                  (both-passed.falls _)
-                  (begun.holds cell stays r left e less f)
-              | inr more ↦
-                  let same : r ≡ room = omega (arith, h, more) in
-                  let g : room_behind stays (option_map v.shape cell.via) room (v.shape link.sid) ≡ Some left =
-                  ap (λ (k : ℕ). room_behind stays (option_map v.shape cell.via) k (v.shape link.sid)) (sym same) ∙ f in
-                  subst (λ (k : ℕ). Under (entry t2 link.from k) (offer stays link.hops (rest_at t0 link.to left))) (sym same)
-                  (here-holds cell stays left e g)
-            ];
-      }
+pub rooms-more : (v : LegsValue) (cells : List Cell) (link : Link) (stays : Bool) (low room : ℕ) (p : Option ℕ) (t t1 t2 : Costs)
+    (x y : Bool)
+    → RoomsRelaxed v cells link stays low room t t1 x → RoomRelaxed v cells link t1 t2 stays room p y → LeavesRoom v cells link stays room p
+    → RoomsRelaxed v cells link stays low (room + 1) t t2 (x || y)
+rooms-more v cells link stays low room p t t1 t2 x y begun relaxed leaves =
+    rooms-join v cells link stays low room (room + 1) t t1 t2 x y begun (room-rooms v cells link stays room p t1 t2 y relaxed leaves)
+
+-- the rooms in which a link can't be taken stay as they are
+pub rooms-kept : (v : LegsValue) (cells : List Cell) (link : Link) (stays : Bool) (low high : ℕ) (t : Costs) → IsSound v cells t
+    → ((cell : Cell) (room left : ℕ) → slice_get cells link.from ≡ Some cell → room < high
+    → room_behind stays (option_map v.shape cell.via) room (v.shape link.sid) ≡ Some left → ⊥)
+    → RoomsRelaxed v cells link stays low high t t false
+rooms-kept v cells link stays low high t sound none =
+    record { sound = sound; passed = kept-passed (link.from + 1) t; holds = λ cell r left e l h f. absurd (none cell r left e h f) }
+
+-- by a new container from each room, and in the same one
+pub ways-join : (v : LegsValue) (cells : List Cell) (link : Link) (t t1 t2 : Costs) (x y : Bool)
+    → RoomsRelaxed v cells link false 0 8 t t1 x → RoomsRelaxed v cells link true 0 8 t1 t2 y → Relaxed v cells link t t2 (x || y)
+ways-join v cells link t t1 t2 x y opened stayed =
+    record {
+      sound = stayed.sound;
+      passed = passed-then (link.from + 1) t t1 t2 x y opened.passed stayed.passed;
+      holds = holds;
+    }
+  where
+    holds : (cell : Cell) (stays : Bool) (r left : ℕ) → slice_get cells link.from ≡ Some cell → r < 8
+        → room_behind stays (option_map v.shape cell.via) r (v.shape link.sid) ≡ Some left
+        → Under (entry t2 link.from r) (offer stays link.hops (rest_at t link.to left))
+    holds cell true r left e h f =
+        under-trans (entry t2 link.from r) (offer true link.hops (rest_at t1 link.to left)) (offer true link.hops (rest_at t link.to left))
+        (stayed.holds cell r left e (omega arith) h f)
+        (offer-falls true link.hops (rest_at t1 link.to left) (rest_at t link.to left) (rest-falls t t1 link.to left opened.passed.falls))
+    holds cell false r left e h f =
+        under-trans (entry t2 link.from r) (entry t1 link.from r) (offer false link.hops (rest_at t link.to left)) (stayed.passed.falls _)
+        (opened.holds cell r left e (omega arith) h f)
 
 pub leaves : (v : LegsValue) (cells : List Cell) (link : Link) (stays : Bool) (room : ℕ) (from : Option Shape) (next : Shape) (p : Option ℕ)
     → IsShapeOf v cells link.from from → next ≡ v.shape link.sid → p ≡ room_behind stays from room next
@@ -98,15 +119,6 @@ pub leaves : (v : LegsValue) (cells : List Cell) (link : Link) (stays : Bool) (r
 leaves v cells link stays room from next p is_from is_next e cell here =
     e ∙ ap (λ (s : Option Shape). room_behind stays s room next) (is_from cell here)
     ∙ ap (λ (s : Shape). room_behind stays (option_map v.shape cell.via) room s) is_next
-
-pub relaxed-all : (v : LegsValue) (cells : List Cell) (link : Link) (before after : Costs) (room : ℕ) (changed : Bool) → 8 ≤ room
-    → Relaxing v cells link before after room changed → Relaxed v cells link before after changed
-relaxed-all v cells link before after room changed h r =
-    record {
-      sound = r.sound;
-      passed = r.passed;
-      holds = λ cell stays k left e l f. r.holds cell stays k left e (omega (arith, h, l)) f;
-    }
 
 -- what holds of a link between two tables holds in a later one that leaves what is behind the link as it was
 pub holds-later : (v : LegsValue) (cells : List Cell) (link : Link) (a b c : Costs) → LinkHolds v cells link a b
@@ -471,17 +483,32 @@ opens-alike : (from : Option Shape) (room : ℕ) (next : Shape) → room_behind 
 opens-alike None room next = refl
 opens-alike (Some s) room next = opens-by s room next s.csid
 
-pub opened-at : (from : Option Shape) (room : ℕ) (next : Shape)
-    → cond (room == 0) (room_behind false from 0 next) (room_behind false from 1 next) ≡ room_behind false from room next
-opened-at from zero next = refl
-opened-at from (suc room) next =
-    cond-false (suc room == 0) (room_behind false from 0 next) (room_behind false from 1 next)
-    (ne_eqb (suc room) 0 (λ e. absurd (omega (arith, e))))
-    ∙ opens-alike from room next
+pub opened-same : (from : Option Shape) (room : ℕ) (next : Shape) → 1 ≤ room
+    → room_behind false from 1 next ≡ room_behind false from room next
+opened-same from zero next h = absurd (omega (arith, h))
+opened-same from (suc room) next h = opens-alike from room next
 
-pub opened-is : (from : Option Shape) (room : ℕ) (next : Shape) (o p q : Option ℕ) → o ≡ cond (room == 0) p q
-    → p ≡ room_behind false from 0 next
-    → q ≡ room_behind false from 1 next → o ≡ room_behind false from room next
-opened-is from room next o p q e f h =
-    e ∙ ap (λ (x : Option ℕ). cond (room == 0) x q) f ∙ ap (λ (y : Option ℕ). cond (room == 0) (room_behind false from 0 next) y) h
-    ∙ opened-at from room next
+-- with more room in front of it, a SID stays too
+stays-by : (s next : Shape) (room more left : ℕ) → room ≤ more → (c : Csid) → stay_room_by c s room next ≡ Some left
+    → stay_room_by c s more next ≡ None → ⊥
+stays-by s next room more left h Plain e f = none-some left e
+stays-by s next room more left h Next e f =
+    let both = cond_some (same_block s.block next.block && nat_le (units_of next) room) (kept_room next.csid (room - units_of next)) left e
+    in
+    let parts = and_parts (same_block s.block next.block) (nat_le (units_of next) room) both.0 in
+    let units : units_of next ≤ room = leb-true (units_of next) room parts.1 in
+    let fits = and_from (same_block s.block next.block) (nat_le (units_of next) more) parts.0
+    (le-leb (units_of next) more (omega (arith, units, h))) in
+    none-some (kept_room next.csid (more - units_of next))
+    (sym f ∙ ap (λ (b : Bool). cond b (Some (kept_room next.csid (more - units_of next))) None) fits)
+stays-by s next room more left h Replace e f =
+    let both = cond_some (same_block s.block next.block && nat_le 1 room) (kept_room next.csid (room - 1)) left e in
+    let parts = and_parts (same_block s.block next.block) (nat_le 1 room) both.0 in
+    let one : 1 ≤ room = leb-true 1 room parts.1 in
+    let fits = and_from (same_block s.block next.block) (nat_le 1 more) parts.0 (le-leb 1 more (omega (arith, one, h))) in
+    none-some (kept_room next.csid (more - 1)) (sym f ∙ ap (λ (b : Bool). cond b (Some (kept_room next.csid (more - 1))) None) fits)
+
+pub stays-never : (from : Option Shape) (next : Shape) (room more left : ℕ) → room ≤ more → room_behind true from more next ≡ None
+    → room_behind true from room next ≡ Some left → ⊥
+stays-never None next room more left h none e = none-some left e
+stays-never (Some s) next room more left h none e = stays-by s next room more left h s.csid e none

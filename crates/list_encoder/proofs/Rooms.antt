@@ -8,7 +8,7 @@ use Rattle.srv6_rules.specs.declared.sid.Csid.TheVariants.{Plain, Next, Replace}
 use Rattle.list_pack.specs.declared.types.Shape.{Shape}
 use Rattle.list_pack.specs.Value.{units_of, same_block, is_compressed, IsShape, IsInBlock}
 use Rattle.list_pack.specs.Rooms.{full_room_by, packed_room_by, kept_room, stay_room_by, new_room_by, room_behind, packed_room, full_room, top_room_by}
-use Rattle.list_pack.proofs.Rooming.{both-blocks}
+use Rattle.list_pack.proofs.PublicLaws.{both-blocks}
 
 next-few : (lbl len units : ℕ) → len ≡ lbl + 16 * units → 1 ≤ units → (128 - len) / 16 ≤ 7
 next-few lbl len units e h = omega arith

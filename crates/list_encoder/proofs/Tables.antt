@@ -12,8 +12,7 @@ use Rattle.list_pack.specs.Value.{LegsValue, KeepsLaws, IsShape, IsSid}
 use Rattle.list_pack.specs.Rooms.{room_behind}
 use Rattle.list_pack.specs.Costs.{Move, plus, nothing, move_cost, Under, edge_by, last_of}
 use Rattle.list_pack.specs.Least.{Attains}
-use Rattle.list_pack.proofs.Costing.{under-itself, under-trans, edge-made, last-made}
-use Rattle.list_pack.proofs.Leasts.{attained}
+use Rattle.list_pack.proofs.PublicLaws.{under-itself, under-trans, edge-made, last-made, attained}
 use Rattle.list_encoder.specs.declared.cells.Cell.{Cell}
 use Rattle.list_encoder.specs.declared.table.Link.{Link}
 use Rattle.list_encoder.specs.Cells.{cell_at, state_at, AreCells}

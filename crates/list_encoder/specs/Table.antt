@@ -114,6 +114,15 @@ pub record RoomRelaxed (v : LegsValue) (cells : List Cell) (link : Link) (before
   pub passed : Passed (link.from + 1) before after changed
   pub holds : RoomHolds (entry after link.from room) stays link before left
 
+-- the rooms from one on and before another of a link's first cell, where the link stays in the container, or where it opens one
+pub record RoomsRelaxed (v : LegsValue) (cells : List Cell) (link : Link) (stays : Bool) (low high : ℕ) (before after : Costs)
+    (changed : Bool) : Type 0 where
+  pub sound : IsSound v cells after
+  pub passed : Passed (link.from + 1) before after changed
+  pub holds : (cell : Cell) (room left : ℕ) → slice_get cells link.from ≡ Some cell → low ≤ room → room < high
+      → room_behind stays (option_map v.shape cell.via) room (v.shape link.sid) ≡ Some left
+      → Under (entry after link.from room) (offer stays link.hops (rest_at before link.to left))
+
 -- all links from a cell on hold
 abbrev pub HoldFrom : LegsValue → List Cell → Costs → ℕ → Type 0
 HoldFrom v cells t cell = (link : Link) → cell ≤ link.from → IsLink v cells link → Holds v cells t link

@@ -40,11 +40,63 @@ fn relax_room<L: Legs>(
     lower(table, 8 * link.from + room as usize, cost)
 }
 
-// the room behind a SID that opens a container: in front of it no room is left, or some is
-fn opened_room(room: u8, packed: Option<u8>, full: Option<u8>) -> Option<u8>
-    ensures { result ≡ (if room == 0 then packed else full) }
+// the rooms of a link's first cell are lowered by the link where it stays in the container; where it
+// can't stay with the most room that there may be, it can't with less
+fn relax_stays<L: Legs>(
+    legs: &L,
+    cells: &[Cell],
+    table: &mut [Option<Cost>],
+    from: &Option<Shape>,
+    next: &Shape,
+    link: Link,
+) -> bool
+    requires laws { KeepsLaws (L.seen legs.now) }
+    requires cells { AreCells (L.seen legs.now) cells.now }
+    requires link { tables.IsLink (L.seen legs.now) cells.now link }
+    requires from { tables.IsShapeOf (L.seen legs.now) cells.now link.from from.now }
+    requires next { next.now ≡ (L.seen legs.now).shape link.sid }
+    requires sound { tables.IsSound (L.seen legs.now) cells.now table.old }
+    ensures { tables.RoomsRelaxed (L.seen legs.now) cells.now link true 0 8 table.old table.new
+        result }
 {
-    if room == 0 { packed } else { full }
+    if room_behind(true, from, 7, next).is_none() {
+        return false;
+    }
+    let mut changed = false;
+    for room in 0..8 {
+        let left = room_behind(true, from, room, next);
+        let lowered = relax_room(legs, cells, table, link, true, room, left);
+        changed = either(changed, lowered);
+    }
+    changed
+}
+
+// the rooms of a link's first cell above 0 are lowered by the link where it opens a container, which
+// with some room in front is the same for all
+fn relax_opens<L: Legs>(
+    legs: &L,
+    cells: &[Cell],
+    table: &mut [Option<Cost>],
+    from: &Option<Shape>,
+    next: &Shape,
+    link: Link,
+) -> bool
+    requires laws { KeepsLaws (L.seen legs.now) }
+    requires cells { AreCells (L.seen legs.now) cells.now }
+    requires link { tables.IsLink (L.seen legs.now) cells.now link }
+    requires from { tables.IsShapeOf (L.seen legs.now) cells.now link.from from.now }
+    requires next { next.now ≡ (L.seen legs.now).shape link.sid }
+    requires sound { tables.IsSound (L.seen legs.now) cells.now table.old }
+    ensures { tables.RoomsRelaxed (L.seen legs.now) cells.now link false 1 8 table.old table.new
+        result }
+{
+    let full = room_behind(false, from, 1, next);
+    let mut changed = false;
+    for room in 1..8 {
+        let lowered = relax_room(legs, cells, table, link, false, room, full);
+        changed = either(changed, lowered);
+    }
+    changed
 }
 
 // the rooms of a link's first cell, whose SID's shape is given, are lowered by the link
@@ -64,16 +116,11 @@ fn relax<L: Legs>(
     legs.steps();
     let next = legs.shape(link.sid);
     let packed = room_behind(false, from, 0, &next);
-    let full = room_behind(false, from, 1, &next);
-    let mut changed = false;
-    for room in 0..8 {
-        let left = room_behind(true, from, room, &next);
-        let stays = relax_room(legs, cells, table, link, true, room, left);
-        let opened = opened_room(room, packed, full);
-        let opens = relax_room(legs, cells, table, link, false, room, opened);
-        changed = either(changed, either(stays, opens));
-    }
-    changed
+    let first = relax_room(legs, cells, table, link, false, 0, packed);
+    let above = relax_opens(legs, cells, table, from, &next, link);
+    let opens = either(first, above);
+    let stays = relax_stays(legs, cells, table, from, &next, link);
+    either(opens, stays)
 }
 
 // the costs of a cell are lowered by the finishes from it

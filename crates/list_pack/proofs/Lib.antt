@@ -1,3 +1,4 @@
 pub mod Rooming
 pub mod Costing
 pub mod Leasts
+pub mod PublicLaws

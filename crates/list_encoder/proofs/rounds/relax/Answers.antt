@@ -1,25 +1,18 @@
-use Rattle.std.proofs.Common.{◌≡◌, ◌+◌, Bool, true, false, ◌||◌, sym, ◌∙◌, ap, subst}
-use Rattle.list_encoder.proofs.Relaxing.{Relaxing, relaxing-more, leaves, opened-is}
+use Rattle.std.proofs.Common.{◌||◌, Bool, false, sym, ◌∙◌, ap, subst}
+use Rattle.list_encoder.specs.Table.{Relaxed}
+use Rattle.list_encoder.proofs.Relaxing.{room-rooms, rooms-join, ways-join, leaves}
 use Rattle.list_encoder.proofs.rounds.relax.Goals as goal
 
-pub loop-room-preserved : goal.loop-room-preserved
-loop-room-preserved g c =
+pub returns : goal.returns
+returns g c =
     let v = g.L.Legs.seen c.args.legs.now in
-    let changed : (c.loop-room.changed || (c.relax_room-stays.result || c.relax_room-opens.result)) ≡ c.either-changed.result =
-    sym (c.either-changed.ensures ∙ ap (λ (b : Bool). c.loop-room.changed || b) c.either.ensures) in
-    subst (λ (b : Bool). Relaxing v c.args.cells.now c.args.link c.args.table.now c.relax_room-opens.new.table (c.loop-room.room + 1) b)
-    changed
-    (relaxing-more v c.args.cells.now c.args.link c.args.table.now c.loop-room.table c.relax_room-stays.new.table
-    c.relax_room-opens.new.table
-    c.loop-room.room c.loop-room.changed c.relax_room-stays.result c.relax_room-opens.result c.room_behind-left.result
-    c.opened_room-opened.result
-    c.loop-room.invariant c.relax_room-stays.ensures c.relax_room-opens.ensures
-    (leaves v c.args.cells.now c.args.link true c.loop-room.room c.args.from.now c.shape-next.result c.room_behind-left.result
-    c.requires.from
-    c.shape-next.ensures c.room_behind-left.ensures)
-    (leaves v c.args.cells.now c.args.link false c.loop-room.room c.args.from.now c.shape-next.result c.opened_room-opened.result
-    c.requires.from
-    c.shape-next.ensures
-    (opened-is c.args.from.now c.loop-room.room c.shape-next.result c.opened_room-opened.result c.room_behind-packed.result
-    c.room_behind-full.result
-    c.opened_room-opened.ensures c.room_behind-packed.ensures c.room_behind-full.ensures)))
+    let first = room-rooms v c.args.cells.now c.args.link false 0 c.room_behind-packed.result c.args.table.now c.relax_room-first.new.table
+    c.relax_room-first.result c.relax_room-first.ensures
+    (leaves v c.args.cells.now c.args.link false 0 c.args.from.now c.shape-next.result c.room_behind-packed.result c.requires.from
+    c.shape-next.ensures c.room_behind-packed.ensures) in
+    let opens = rooms-join v c.args.cells.now c.args.link false 0 1 8 c.args.table.now c.relax_room-first.new.table
+    c.relax_opens-above.new.table c.relax_room-first.result c.relax_opens-above.result first c.relax_opens-above.ensures in
+    subst (λ (b : Bool). Relaxed v c.args.cells.now c.args.link c.args.table.now c.relax_stays-stays.new.table b)
+    (sym (c.either.ensures ∙ ap (λ (b : Bool). b || c.relax_stays-stays.result) c.either-opens.ensures))
+    (ways-join v c.args.cells.now c.args.link c.args.table.now c.relax_opens-above.new.table c.relax_stays-stays.new.table
+    (c.relax_room-first.result || c.relax_opens-above.result) c.relax_stays-stays.result opens c.relax_stays-stays.ensures)
