@@ -1,5 +1,6 @@
 -- Which files were asked for, by how far the files were judged.
 use Rattle.std.proofs.Common.{◌≡◌, ℕ, List, [], ◌∷◌, ◌++◌, Option, None, Some, IfSome, sym, ap, ◌∙◌, append-nil, append_assoc}
+use Rattle.std.specs.Prelude.{IsSomeAnd}
 use Rattle.srx_edge.specs.FilesRead.{FilesSeen}
 use Rattle.srv6_cli.specs.Outside.{HasName, IsFrontOf, Asks, AsksAs, asked_for_all, files_left_by}
 use Rattle.srv6_cli.specs.Pieces.{Stop, Never, AtFiles, AtInput, At, Elsewhere}
@@ -13,6 +14,11 @@ each (Some held) P f = f held
 pub each-map : (told : Option Held) (P Q : Held → Type 0) → ((held : Held) → P held → Q held) → IfSome told P → IfSome told Q
 each-map None P Q f p = tt
 each-map (Some held) P Q f p = f held p
+
+-- what follows of a text that is there
+pub some-map : (o : Option (List ℕ)) (P Q : List ℕ → Type 0) → ((text : List ℕ) → P text → Q text) → IsSomeAnd o P → IsSomeAnd o Q
+some-map None P Q f p = absurd p
+some-map (Some text) P Q f p = f text p
 
 pub front_whole : (names : List (List ℕ)) → IsFrontOf names names
 front_whole names = record { rest = []; whole = append-nil names }

@@ -12,10 +12,11 @@ use Rattle.srv6_cli.specs.declared.refusal.Refusal.{Refusal}
 use Rattle.srv6_cli.specs.declared.status.Status.{Status}
 use Rattle.srv6_cli.specs.declared.status.Status.TheVariants as statuses
 use Rattle.srv6_cli.specs.declared.told.Told.{Told}
-use Rattle.srv6_cli.specs.Answers.{bytes_of_text, ending_of_failure, CommandsOut, UsageTold}
-use Rattle.srv6_cli.specs.Command.{Command, Unknown, shape_of, usage_shape}
+use Rattle.srv6_cli.specs.Answers.{ending_of_failure, CommandsOut, UsageTold}
+use Rattle.srv6_cli.specs.Command.{shape_of, usage_shape}
+use Rattle.srv6_cli.specs.Words.{Command, Unknown}
 use Rattle.srv6_cli.specs.Judgements.{refused}
-use Rattle.srv6_cli.specs.Lines.{usage_line}
+use Rattle.srv6_cli.specs.Lines.{bytes_of_text, usage_line}
 use Rattle.srv6_cli.specs.Outside.{Asks}
 use Rattle.srv6_cli.specs.Pieces.{ForOut, ForErr, ToOut, Output, Never, AtFiles, AtInput, Elsewhere}
 use Rattle.srv6_cli.specs.Serves.{ending_of_status, OrNothing, LinesLast, Takes}

@@ -5,8 +5,6 @@ pub mod Writing
 pub mod Walking
 pub mod Writable
 pub mod Commanding
-pub mod Running
-pub mod Compiling
 pub mod Serving
 pub mod Stops
 pub mod Consequences

@@ -10,9 +10,10 @@ use Rattle.srv6_cli.specs.declared.halt.Halt.TheVariants as halts
 use Rattle.srv6_cli.specs.declared.status.Status.{Status}
 use Rattle.srv6_cli.specs.declared.status.Status.TheVariants as statuses
 use Rattle.srv6_cli.specs.declared.told.Told.{Told}
-use Rattle.srv6_cli.specs.Answers.{bytes_of_text, EndsWith, Commands, Tells, Concludes}
-use Rattle.srv6_cli.specs.Command.{Command, shape_of}
-use Rattle.srv6_cli.specs.Lines.{refusal_line}
+use Rattle.srv6_cli.specs.Answers.{EndsWith, Commands, Tells, Concludes}
+use Rattle.srv6_cli.specs.Command.{shape_of}
+use Rattle.srv6_cli.specs.Words.{Command}
+use Rattle.srv6_cli.specs.Lines.{bytes_of_text, refusal_line}
 use Rattle.srv6_cli.specs.Outside.{Outside, AsksAs, Reads, asked_for_all, files_left_by}
 use Rattle.srv6_cli.specs.Pieces.{ForErr, ToErr, Output, Sinks, Stop, Never, AtFiles, AtInput, At, Elsewhere, ending_by, gone, Went}
 use Rattle.srv6_cli.specs.Serves.{ending_of_status, OnWhole, OrNothing, LinesLast, Takes, Serves}

@@ -1,5 +1,5 @@
 -- What the steps of a command answer, by cases.
-use Rattle.std.specs.Prelude.{◌≡◌, ℕ, IsTrue, true, List, [], ◌∷◌, ◌++◌, IfSome, IsSomeAnd, Result, Ok, Err, ⊤, string_bytes}
+use Rattle.std.specs.Prelude.{◌≡◌, ℕ, IsTrue, true, List, [], ◌∷◌, ◌++◌, IfSome, IsSomeAnd, Result, Ok, Err, ⊤}
 use Rattle.srx_edge.specs.Edge.{next_count, file_named}
 use Rattle.srx_edge.specs.FilesRead.{FilesSeen, asked_for, failed}
 use Rattle.srx_edge.specs.Sources.{SourceSeen, drained}
@@ -12,20 +12,14 @@ use Rattle.srv6_cli.specs.declared.halt.Halt.TheVariants as halts
 use Rattle.srv6_cli.specs.declared.refusal.Refusal.{Refusal}
 use Rattle.srv6_cli.specs.declared.status.Status.{Status}
 use Rattle.srv6_cli.specs.declared.status.Status.TheVariants as statuses
-use Rattle.srv6_cli.specs.declared.told.Text.{Text}
-use Rattle.srv6_cli.specs.declared.told.Text.TheVariants as texts
 use Rattle.srv6_cli.specs.declared.told.Told.{Told}
-use Rattle.srv6_cli.specs.Command.{Command, shape_of}
-use Rattle.srv6_cli.specs.Lines.{refusal_line, usage_line}
+use Rattle.srv6_cli.specs.Command.{shape_of}
+use Rattle.srv6_cli.specs.Words.{Command}
+use Rattle.srv6_cli.specs.Lines.{bytes_of_text, refusal_line, usage_line}
 use Rattle.srv6_cli.specs.Outside.{Outside, outside, AsksForFront}
 use Rattle.srv6_cli.specs.Pieces.{ForErr, Piece, Output, Sinks, Stop, ending_by, gone, Went}
 use Rattle.srv6_cli.specs.Serves.{ending_of_status, OnWhole, OrNothing, LinesLast, Takes}
 use Rattle.srv6_cli.specs.Shape.{WantedOf, IsOneOf}
-
--- the bytes of a text
-abbrev pub bytes_of_text : Text → List ℕ
-bytes_of_text (texts.Fixed bytes) = bytes.now
-bytes_of_text (texts.Made text) = string_bytes text
 
 -- how a step ended
 

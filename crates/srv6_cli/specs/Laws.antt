@@ -3,7 +3,7 @@ use Rattle.std.specs.Prelude.{◌≡◌, ◌⊎◌, IsTrue}
 use Rattle.srx_edge.specs.Edge.{next_count}
 use Rattle.srx_edge.specs.Sinks.{SinkSeen}
 use Rattle.srv6_cli.specs.declared.status.Status.{Status}
-use Rattle.srv6_cli.specs.Command.{Command}
+use Rattle.srv6_cli.specs.Words.{Command}
 use Rattle.srv6_cli.specs.Outside.{Outside}
 use Rattle.srv6_cli.specs.Serves.{Serves}
 

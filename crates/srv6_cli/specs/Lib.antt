@@ -1,15 +1,13 @@
 pub mod Pieces
 pub mod Shape
+pub mod Words
 pub mod Outside
 pub mod Lines
 pub mod Capture
 pub mod Sent
 pub mod Judgements
-pub mod Run
-pub mod Compile
 pub mod Command
 pub mod Serves
 pub mod Laws
 pub mod Halts
 pub mod Answers
-pub mod Compiled

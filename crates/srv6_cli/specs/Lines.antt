@@ -1,5 +1,5 @@
 -- The lines on `err`.
-use Rattle.std.specs.Prelude.{ℕ, List, [], ◌∷◌, ◌++◌, codes, slice_get, Option, Some, None}
+use Rattle.std.specs.Prelude.{ℕ, List, [], ◌∷◌, ◌++◌, codes, slice_get, Option, Some, None, string_bytes}
 use Rattle.std.specs.Fmt.{decimal}
 use Rattle.v6_addr.specs.Text.{prefix_text}
 use Rattle.srv6_rules.specs.declared.sid.Reason.{Reason}
@@ -12,6 +12,13 @@ use Rattle.walk_rules.specs.declared.place.Ended.TheVariants as ends
 use Rattle.srv6_cli.specs.declared.limits.TheConstants.{STAGES}
 use Rattle.srv6_cli.specs.declared.refusal.Refusal.{Refusal}
 use Rattle.srv6_cli.specs.declared.refusal.Refusal.TheVariants as refusals
+use Rattle.srv6_cli.specs.declared.told.Text.{Text}
+use Rattle.srv6_cli.specs.declared.told.Text.TheVariants as texts
+
+-- the bytes of a text
+abbrev pub bytes_of_text : Text → List ℕ
+bytes_of_text (texts.Fixed bytes) = bytes.now
+bytes_of_text (texts.Made text) = string_bytes text
 
 -- a line is ended by a line feed
 abbrev pub line : List ℕ → List ℕ

@@ -5,7 +5,8 @@ use Rattle.srx_edge.specs.Sources.{SourceSeen, drained}
 use Rattle.srx_edge.specs.Steps.{Ending, Whole, Fault, Memory}
 use Rattle.srv6_cli.specs.declared.status.Status.{Status}
 use Rattle.srv6_cli.specs.declared.status.Status.TheVariants as statuses
-use Rattle.srv6_cli.specs.Command.{Command, shape_of}
+use Rattle.srv6_cli.specs.Command.{shape_of}
+use Rattle.srv6_cli.specs.Words.{Command}
 use Rattle.srv6_cli.specs.Outside.{Outside, Asks, Reads}
 use Rattle.srv6_cli.specs.Pieces.{Output, Sinks, ToOut, ToErr, Stop, Never, AtFiles, AtInput, At, Elsewhere, ending_by, Went}
 use Rattle.srv6_cli.specs.Shape.{Shape, WantedOf, IsOneOf}

@@ -4,10 +4,11 @@ ghost use Rattle.std.specs.Prelude.{◌≡◌};
 ghost use Rattle.srv6_cli.specs.Answers.{CommandsOut, UsageTold};
 ghost use Rattle.srv6_cli.specs.Command.{command_of, command_seen, words_of};
 
-use crate::compile::compile;
+mod compile;
+mod run;
+
 use crate::halt::Halt;
 use crate::lines::USAGE;
-use crate::run::run;
 use crate::status::Status;
 use crate::told::{Text, Told};
 use srx_edge::{Files, Sink, Source};
@@ -81,8 +82,8 @@ pub fn command<F: Files, S: Source, O: Sink>(
         (O.seen out.old) (O.seen out.new) }
 {
     match read_words(words) {
-        Words::Run { file, node } => run(alloc, file, node, files, input, out),
-        Words::Compile { file, intent } => compile(alloc, file, intent, files, out),
+        Words::Run { file, node } => run::run(alloc, file, node, files, input, out),
+        Words::Compile { file, intent } => compile::compile(alloc, file, intent, files, out),
         Words::Unknown => usage(),
     }
 }

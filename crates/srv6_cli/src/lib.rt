@@ -2,21 +2,19 @@
 //!
 //! What is written is a list of pieces, each for `out` or for `err`, in order, and a status.
 //! `specs/Serves.antt` says what a call of `serve` leaves, and `serve` is proved to do that over
-//! any files, source and sinks. A command is one file here and one in `specs/`, named for it, with
-//! its line in the words' grammar: `specs/Command.antt` has the shape of each, `commands` calls
-//! them.
+//! any files, source and sinks. A command is one file in `commands` and one in `specs/Command`,
+//! named for it: its words, its shape and its output; `specs/Words.antt`, `specs/Command.antt` and
+//! `commands` have a line or two of each. `proofs/commands` has what is proved of a command alone.
 #![tactic(auto)]
 
 mod capture;
 mod commands;
-mod compile;
 mod halt;
 mod judge;
 pub mod laws;
 mod limits;
 mod lines;
 mod refusal;
-mod run;
 mod status;
 mod told;
 mod top;

@@ -14,7 +14,7 @@ pub enum Text {
 }
 
 impl Text {
-    ghost use Rattle.srv6_cli.specs.Answers.{bytes_of_text};
+    ghost use Rattle.srv6_cli.specs.Lines.{bytes_of_text};
 
     /// The text's bytes.
     pub fn as_bytes(&self) -> &[u8]

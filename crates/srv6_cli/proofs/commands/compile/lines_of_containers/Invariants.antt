@@ -1,7 +1,7 @@
 use Rattle.std.proofs.Common.{◌≡◌, ◌++◌, drop, string_bytes}
 use Rattle.std.specs.List.{flat_map}
-use Rattle.srv6_cli.specs.Compile.{container_line}
-use Rattle.srv6_cli.proofs.compile.lines_of_containers.Given as goal
+use Rattle.srv6_cli.specs.Command.Compile.{container_line}
+use Rattle.srv6_cli.proofs.commands.compile.lines_of_containers.Given as goal
 
 abbrev pub invariant-loop-container : goal.invariant-loop-container
 invariant-loop-container l =

@@ -1,8 +1,8 @@
 use Rattle.std.proofs.lemmas.Result.{err_from_is_err_and}
 use Rattle.srx_edge.proofs.PublicLaws.{sent_both, cut_whole}
 use Rattle.srv6_cli.specs.Capture.{capture_head, frames_of}
-use Rattle.srv6_cli.specs.Run.{walk_from, no_choices}
-use Rattle.srv6_cli.proofs.run.walk_packet.Goals as goal
+use Rattle.srv6_cli.specs.Command.Run.{walk_from, no_choices}
+use Rattle.srv6_cli.proofs.commands.run.walk_packet.Goals as goal
 
 pub returns-in_err-line_of_packet-clause-wrote : goal.returns-in_err-line_of_packet-clause-wrote
 returns-in_err-line_of_packet-clause-wrote g c =

@@ -1,5 +1,5 @@
 -- The command `run`: one packet from a node of the network that a file describes.
-use Rattle.std.specs.Prelude.{◌≡◌, ℕ, Bool, true, false, List, [], ◌∷◌, ◌++◌, Option, Some, None, Result, Ok, Err, IsSomeAnd, is_ok}
+use Rattle.std.specs.Prelude.{◌≡◌, ℕ, Bool, true, false, List, [], ◌∷◌, ◌++◌, codes, Option, Some, None, Result, Ok, Err, IsSomeAnd, is_ok}
 use Rattle.srv6_rules.specs.declared.sid.Family.TheVariants.{V6}
 use Rattle.srv6_rules.specs.Packet.{Content}
 use Rattle.net_model.specs.Network.{Network}
@@ -14,6 +14,11 @@ use Rattle.srv6_cli.specs.Judgements.{network_in, node_in, content_in, after}
 use Rattle.srv6_cli.specs.Lines.{packet_line}
 use Rattle.srv6_cli.specs.Pieces.{ForOut, ForErr, Output}
 use Rattle.srv6_cli.specs.Shape.{Shape}
+use Rattle.srv6_cli.specs.Words.{has_two_words}
+
+-- its words: the file and the node
+abbrev pub is_run : List ℕ → List ℕ → List ℕ → Bool
+is_run verb file node = has_two_words (codes "run") verb file node
 
 -- the walk of what stands at a node, as it enters there, with a list of choices
 abbrev pub walk_from : Network → ℕ → List ℕ → Content → List Step

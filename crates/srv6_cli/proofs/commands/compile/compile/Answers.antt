@@ -11,7 +11,7 @@ use Rattle.intent_reader.specs.declared.intent.Intent.{Intent}
 use Rattle.path_compiler.specs.declared.compiled.Compiled.{Compiled}
 use Rattle.path_compiler.specs.declared.compiled.CompileFault.{CompileFault}
 use Rattle.path_compiler.specs.Compiled.{CompileAnswers}
-use Rattle.srv6_cli.specs.declared.compile.Answer.{Answer}
+use Rattle.srv6_cli.specs.declared.commands.compile.Answer.{Answer}
 use Rattle.srv6_cli.specs.declared.halt.Failure.{Failure}
 use Rattle.srv6_cli.specs.declared.halt.Failure.TheVariants as failures
 use Rattle.srv6_cli.specs.declared.halt.Halt.{Halt}
@@ -19,22 +19,20 @@ use Rattle.srv6_cli.specs.declared.halt.Halt.TheVariants as halts
 use Rattle.srv6_cli.specs.declared.refusal.Refusal.{Refusal}
 use Rattle.srv6_cli.specs.declared.status.Status.{Status}
 use Rattle.srv6_cli.specs.declared.status.Status.TheVariants as statuses
-use Rattle.srv6_cli.specs.Answers.{bytes_of_text, ending_of_failure, JudgesFile, CommandsUnread}
-use Rattle.srv6_cli.specs.Command.{Compile}
-use Rattle.srv6_cli.specs.Compile.{AnswerWants, IntentWants, NetworkWants, asks_for_intent, compile_shape}
-use Rattle.srv6_cli.specs.Compiled.{output_of_answer, Gives}
+use Rattle.srv6_cli.specs.Answers.{ending_of_failure, JudgesFile, CommandsUnread}
+use Rattle.srv6_cli.specs.Words.{Compile}
+use Rattle.srv6_cli.specs.Command.Compile.{AnswerWants, IntentWants, NetworkWants, asks_for_intent, compile_shape, output_of_answer, Gives}
 use Rattle.srv6_cli.specs.Judgements.{network_in, intent_in, refused}
+use Rattle.srv6_cli.specs.Lines.{bytes_of_text}
 use Rattle.srv6_cli.specs.Outside.{IsFrontOf, Asks, Reads, asked_for_all, files_left_by}
 use Rattle.srv6_cli.specs.Pieces.{Output, Stop, Never, AtFiles, At, Elsewhere, ToOut}
 use Rattle.srv6_cli.specs.Serves.{ending_of_status, Takes}
 use Rattle.srv6_cli.specs.Shape.{Held, goes_on_with, names_of, WantedOf, IsOneOf}
-use Rattle.srv6_cli.proofs.Asking.{each, each-map, front_whole, front_longer, front_after, asks_all, asks_fault, asks_front}
+use Rattle.srv6_cli.proofs.Asking.{each, each-map, some-map, front_whole, front_longer, front_after, asks_all, asks_fault, asks_front}
 use Rattle.srv6_cli.proofs.Commanding.{refused_commands, files_fault, memory_wants, written_whole, written_cut}
 use Rattle.srv6_cli.proofs.PieceLemmas.{stop_at}
-
-some-map : (o : Option (List ℕ)) (P Q : List ℕ → Type 0) → ((text : List ℕ) → P text → Q text) → IsSomeAnd o P → IsSomeAnd o Q
-some-map None P Q f p = absurd p
-some-map (Some text) P Q f p = f text p
+use Rattle.std.proofs.lemmas.Result.{err_from_is_err_and}
+use Rattle.srv6_cli.proofs.commands.compile.compile.Goals as goal
 
 -- the names that are asked for, by the judgement of the description
 
@@ -178,3 +176,43 @@ module _ (file intent : List ℕ) where
             (wants-answer s.left (output_of_answer answer) gives.0)
             (answer-status answer.told.status gives.1).0 (answer-status answer.told.status gives.1).1
             (takes Never f g s (asks-both Never read.1) refl) (λ _ no. cc)
+
+-- the goals
+
+pub returns-in_err-net : goal.returns-in_err-net
+returns-in_err-net g c =
+    let p = err_from_is_err_and c.from_residual.result c.from_residual.ensures.1 in
+    rw (p.1, p.2) (compile_halted_at_file c.args.file.now c.args.intent.now _ _ (g.O.Sink.seen c.args.out.now)
+    c.in_err-net.field-0.0 c.in_err-net.ensures)
+
+pub returns-in_err-intent : goal.returns-in_err-intent
+returns-in_err-intent g c =
+    let p = err_from_is_err_and c.from_residual-in_err-intent.result c.from_residual-in_err-intent.ensures.1 in
+    rw (p.1, p.2) (compile_halted_at_intent c.args.file.now c.args.intent.now _ _ _
+    (g.O.Sink.seen c.args.out.now) (g.O.Sink.seen c.args.out.now)
+    c.in_ok-net.net c.in_ok-net.ensures c.in_err-intent.field-0.0 c.in_err-intent.ensures.judged)
+
+pub returns-in_err-answer : goal.returns-in_err-answer
+returns-in_err-answer g c =
+    let p = err_from_is_err_and c.from_residual-in_err-answer.result c.from_residual-in_err-answer.ensures.1 in
+    rw (p.1, p.2) (compile_halted_at_answer c.args.file.now c.args.intent.now _ _ _
+    (g.O.Sink.seen c.args.out.now) (g.O.Sink.seen c.args.out.now)
+    c.in_ok-net.net c.in_ok-net.ensures c.in_ok-intent.intent c.in_ok-intent.ensures.judged
+    c.compile-compiled.result c.compile-compiled.ensures
+    c.in_err-answer.field-0.0 c.in_err-answer.ensures)
+
+pub returns-in_err-write_all : goal.returns-in_err-write_all
+returns-in_err-write_all g c =
+    let p = err_from_is_err_and c.from_residual-in_err-write_all.result c.from_residual-in_err-write_all.ensures.1 in
+    rw (p.1, p.2) (compile_halted_at_out c.args.file.now c.args.intent.now _ _ _ _ _
+    c.in_ok-net.net c.in_ok-net.ensures c.in_ok-intent.intent c.in_ok-intent.ensures.judged
+    c.compile-compiled.result c.compile-compiled.ensures
+    c.in_ok-answer.answer c.in_ok-answer.ensures c.in_err-write_all.field-0.0
+    (rw c.as_bytes.ensures at c.in_err-write_all.ensures))
+
+pub returns : goal.returns
+returns g c =
+    compile_done c.args.file.now c.args.intent.now _ _ _ _ _
+    c.in_ok-net.net c.in_ok-net.ensures c.in_ok-intent.intent c.in_ok-intent.ensures.judged
+    c.compile-compiled.result c.compile-compiled.ensures
+    c.in_ok-answer.answer c.in_ok-answer.ensures (rw c.as_bytes.ensures at c.in_ok-write_all.ensures)

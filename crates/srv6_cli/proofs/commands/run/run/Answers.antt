@@ -19,21 +19,19 @@ use Rattle.srv6_cli.specs.declared.status.Status.TheVariants as statuses
 use Rattle.srv6_cli.specs.declared.told.Text.TheVariants as texts
 use Rattle.srv6_cli.specs.Answers.{ending_of_failure, JudgesFile, JudgesInput, CommandsOut}
 use Rattle.srv6_cli.specs.Capture.{capture_head, frames_of}
-use Rattle.srv6_cli.specs.Command.{Run}
+use Rattle.srv6_cli.specs.Words.{Run}
 use Rattle.srv6_cli.specs.Judgements.{network_in, node_in, content_in, refused}
 use Rattle.srv6_cli.specs.Lines.{packet_line}
 use Rattle.srv6_cli.specs.Outside.{IsFrontOf, Asks, Reads, files_left_by}
 use Rattle.srv6_cli.specs.Pieces.{Output, Stop, Never, AtFiles, AtInput, At, Elsewhere, ToOut}
-use Rattle.srv6_cli.specs.Run.{walk_from, no_choices, ran, run_output, has_start, reads_input, run_shape}
+use Rattle.srv6_cli.specs.Command.Run.{walk_from, no_choices, ran, run_output, has_start, reads_input, run_shape}
 use Rattle.srv6_cli.specs.Serves.{Takes}
 use Rattle.srv6_cli.specs.Shape.{Held, names_of, WantedOf}
-use Rattle.srv6_cli.proofs.Asking.{each, front_whole, asks_all, asks_front}
+use Rattle.srv6_cli.proofs.Asking.{each, some-map, front_whole, asks_all, asks_front}
 use Rattle.srv6_cli.proofs.Commanding.{refused_commands, files_fault, input_fault, memory_wants, written, written_whole, written_cut}
 use Rattle.srv6_cli.proofs.PieceLemmas.{stop_at}
-
-some-map : (o : Option (List ℕ)) (P Q : List ℕ → Type 0) → ((text : List ℕ) → P text → Q text) → IsSomeAnd o P → IsSomeAnd o Q
-some-map None P Q f p = absurd p
-some-map (Some text) P Q f p = f text p
+use Rattle.std.proofs.lemmas.Result.{err_from_is_err_and}
+use Rattle.srv6_cli.proofs.commands.run.run.Goals as goal
 
 -- an output that is wanted of the text, and of the input, that are told
 run-wants : (told : Option Held) (left : Option (List ℕ)) (file name : List ℕ) (P Q : List ℕ → Type 0) (output : Output)
@@ -151,3 +149,39 @@ module _ (file name : List ℕ) (f g : FilesSeen) (s t : SourceSeen) (o p : Sink
             (subst (λ (l : List ℕ). WantedOf (run_shape file name) f.told s.left
             (written (capture_head ++ frames_of 1 (walk_from net node no_choices content)) l statuses.Done)) (sym is) wanted)
             refl (inl refl) (takes Never judged.1 reads) (λ _ _. drawn.1)
+
+-- the goals
+
+pub returns-in_err-net : goal.returns-in_err-net
+returns-in_err-net g c =
+    let p = err_from_is_err_and c.from_residual.result c.from_residual.ensures.1 in
+    rw (p.1, p.2) (run_halted_at_file c.args.file.now c.args.node.now _ _ _ (g.S.Source.seen c.args.input.now) _
+    (g.O.Sink.seen c.args.out.now)
+    c.in_err-net.field-0.0 c.in_err-net.ensures)
+
+pub returns-in_err-node : goal.returns-in_err-node
+returns-in_err-node g c =
+    let p = err_from_is_err_and c.from_residual-in_err-node.result c.from_residual-in_err-node.ensures.1 in
+    rw (p.1, p.2) (run_halted_at_node c.args.file.now c.args.node.now _ _ _ (g.S.Source.seen c.args.input.now) _
+    (g.O.Sink.seen c.args.out.now)
+    c.in_ok-net.net c.in_ok-net.ensures c.in_err-node.field-0.0 (sym c.in_err-node.ensures.judged))
+
+pub returns-in_err-content : goal.returns-in_err-content
+returns-in_err-content g c =
+    let p = err_from_is_err_and c.from_residual-in_err-content.result c.from_residual-in_err-content.ensures.1 in
+    rw (p.1, p.2) (run_halted_at_input c.args.file.now c.args.node.now _ _ _ _ _ (g.O.Sink.seen c.args.out.now)
+    c.in_ok-net.net c.in_ok-net.ensures c.in_ok-node.node (sym c.in_ok-node.ensures.judged)
+    c.in_err-content.field-0.0 c.in_err-content.ensures)
+
+pub returns-in_err-line : goal.returns-in_err-line
+returns-in_err-line g c =
+    let p = err_from_is_err_and c.from_residual-in_err-line.result c.from_residual-in_err-line.ensures.1 in
+    rw (p.1, p.2) (run_halted_at_out c.args.file.now c.args.node.now _ _ _ _ _ _
+    c.in_ok-net.net c.in_ok-net.ensures c.in_ok-node.node (sym c.in_ok-node.ensures.judged) c.in_ok-content.content c.in_ok-content.ensures
+    c.in_err-line.field-0.0 c.in_err-line.ensures.wrote)
+
+pub returns : goal.returns
+returns g c =
+    run_done c.args.file.now c.args.node.now _ _ _ _ _ _
+    c.in_ok-net.net c.in_ok-net.ensures c.in_ok-node.node (sym c.in_ok-node.ensures.judged) c.in_ok-content.content c.in_ok-content.ensures
+    c.in_ok-line.line c.in_ok-line.ensures.line c.in_ok-line.ensures.wrote

@@ -15,14 +15,23 @@ use Rattle.path_compiler.specs.declared.compiled.CompileFault.{CompileFault}
 use Rattle.path_compiler.specs.declared.compiled.CompileFault.TheVariants as faults
 use Rattle.path_compiler.specs.Compiled.{CompileAnswers}
 use Rattle.srx_edge.specs.Edge.{file_named}
+use Rattle.srv6_cli.specs.declared.commands.compile.Answer.{Answer}
+use Rattle.srv6_cli.specs.declared.halt.Failure.TheVariants as failures
+use Rattle.srv6_cli.specs.declared.halt.Halt.{Halt}
+use Rattle.srv6_cli.specs.declared.halt.Halt.TheVariants as halts
 use Rattle.srv6_cli.specs.declared.refusal.Refusal.{Refusal}
 use Rattle.srv6_cli.specs.declared.refusal.Refusal.TheVariants as refusals
 use Rattle.srv6_cli.specs.declared.status.Status.{Status}
 use Rattle.srv6_cli.specs.declared.status.Status.TheVariants as statuses
 use Rattle.srv6_cli.specs.Judgements.{network_in, intent_in, refused}
-use Rattle.srv6_cli.specs.Lines.{line}
+use Rattle.srv6_cli.specs.Lines.{line, bytes_of_text}
 use Rattle.srv6_cli.specs.Pieces.{ForOut, ForErr, Output}
-use Rattle.srv6_cli.specs.Shape.{Shape}
+use Rattle.srv6_cli.specs.Shape.{Shape, IsOneOf}
+use Rattle.srv6_cli.specs.Words.{has_two_words}
+
+-- its words: the description and the intent
+abbrev pub is_compile : List ℕ → List ℕ → List ℕ → Bool
+is_compile verb file intent = has_two_words (codes "compile") verb file intent
 
 -- the address of a container of one plain SID is the SID's
 
@@ -97,3 +106,16 @@ compile_shape file intent = record {
   statuses = statuses.Done ∷ statuses.Refused ∷ statuses.NoAnswer ∷ [];
   wants = λ held input output. IsSomeAnd (file_named held file) (λ text. NetworkWants (network_in text) (file_named held intent) output);
 }
+
+-- What `compile` has to write, as its steps answer it.
+
+abbrev pub output_of_answer : Answer → Output
+output_of_answer answer = reported (bytes_of_text answer.report) (bytes_of_text answer.told.line) answer.told.status
+
+-- what is to be written is what the compiler's answer has
+abbrev pub Gives : Result Compiled CompileFault → Result Answer Halt → Type 0
+Gives compiled (Ok answer) =
+    AnswerWants compiled (output_of_answer answer) × IsOneOf (statuses.Done ∷ statuses.NoAnswer ∷ []) answer.told.status
+Gives compiled (Err (halts.Refused refusal)) = AnswerWants compiled (refused refusal)
+Gives compiled (Err (halts.Failed failures.Fault)) = ⊥
+Gives compiled (Err (halts.Failed failures.NoMemory)) = ⊤

@@ -5,9 +5,9 @@ ghost use Rattle.srx_edge.specs.Steps.{Wrote};
 ghost use Rattle.walk_rules.specs.Walk.{end_of};
 ghost use Rattle.srv6_cli.specs.Answers.{CommandsOut, ending_of_step};
 ghost use Rattle.srv6_cli.specs.Capture.{capture_head, frames_of};
-ghost use Rattle.srv6_cli.specs.Command.{Run};
+ghost use Rattle.srv6_cli.specs.Words.{Run};
 ghost use Rattle.srv6_cli.specs.Lines.{packet_line};
-ghost use Rattle.srv6_cli.specs.Run.{walk_from, no_choices};
+ghost use Rattle.srv6_cli.specs.Command.Run.{walk_from, no_choices};
 
 use crate::capture::HEAD;
 use crate::halt::{Failure, Halt};

@@ -2,9 +2,10 @@
 
 ghost use Rattle.std.specs.Prelude.{◌≡◌, IfOk, string_bytes};
 ghost use Rattle.std.specs.List.{flat_map};
-ghost use Rattle.srv6_cli.specs.Answers.{CommandsUnread, bytes_of_text};
-ghost use Rattle.srv6_cli.specs.Command.{Compile};
-ghost use Rattle.srv6_cli.specs.Compile.{container_address, container_line, numbers_lines, report_of};
+ghost use Rattle.srv6_cli.specs.Answers.{CommandsUnread};
+ghost use Rattle.srv6_cli.specs.Words.{Compile};
+ghost use Rattle.srv6_cli.specs.Command.Compile.{container_address, container_line, numbers_lines, report_of};
+ghost use Rattle.srv6_cli.specs.Lines.{bytes_of_text};
 
 use crate::halt::{Failure, Halt};
 use crate::judge::{intent_of_file, network_of_file};
@@ -31,7 +32,7 @@ fn address_of_container(container: &Container) -> Addr
 }
 
 /// A container's line.
-#[tactic(auto, unfolding(crate::specs::Compile::container_line))]
+#[tactic(auto, unfolding(crate::specs::Command::Compile::container_line))]
 fn line_of_container(alloc: Global, container: &Container) -> Result<String, AllocError>
     ensures { IfOk result (λ line. string_bytes line ≡ container_line container.now) }
 {
@@ -52,7 +53,7 @@ fn lines_of_containers(alloc: Global, containers: &[Container]) -> Result<String
 }
 
 /// The lines of a list's numbers: containers, header bytes and need.
-#[tactic(auto, unfolding(crate::specs::Compile::numbers_lines))]
+#[tactic(auto, unfolding(crate::specs::Command::Compile::numbers_lines))]
 fn lines_of_numbers(
     alloc: Global,
     containers: u32,
@@ -82,8 +83,7 @@ struct Answer {
 }
 
 impl Answer {
-    ghost use Rattle.srv6_cli.specs.Compile.{reported, no_report, none_line, too_long_line, hop_limit_line};
-    ghost use Rattle.srv6_cli.specs.Compiled.{output_of_answer, Gives};
+    ghost use Rattle.srv6_cli.specs.Command.Compile.{reported, no_report, none_line, too_long_line, hop_limit_line, output_of_answer, Gives};
 
     /// The answer of a list that was found.
     fn of_list(
@@ -102,7 +102,7 @@ impl Answer {
     }
 
     /// The answer where there is no list.
-    #[tactic(auto, unfolding(crate::specs::Compile::no_report, crate::specs::Compile::none_line))]
+    #[tactic(auto, unfolding(crate::specs::Command::Compile::no_report, crate::specs::Command::Compile::none_line))]
     fn of_none() -> Answer
         ensures { output_of_answer result ≡ reported no_report none_line Status.NoAnswer }
     {
@@ -116,7 +116,7 @@ impl Answer {
     }
 
     /// The answer of a list with too many containers.
-    #[tactic(auto, unfolding(crate::specs::Compile::too_long_line))]
+    #[tactic(auto, unfolding(crate::specs::Command::Compile::too_long_line))]
     fn of_too_long(alloc: Global, found: &Compiled) -> Result<Answer, AllocError>
         ensures { IfOk result (λ answer. output_of_answer answer
             ≡ reported (report_of found.now) (too_long_line found.now.containers) Status.NoAnswer) }
@@ -127,7 +127,7 @@ impl Answer {
     }
 
     /// The answer of a list that needs a greater hop limit.
-    #[tactic(auto, unfolding(crate::specs::Compile::hop_limit_line))]
+    #[tactic(auto, unfolding(crate::specs::Command::Compile::hop_limit_line))]
     fn of_hop_limit(alloc: Global, found: &Compiled) -> Result<Answer, AllocError>
         ensures { IfOk result (λ answer. output_of_answer answer
             ≡ reported (report_of found.now) (hop_limit_line found.now.need) Status.NoAnswer) }
