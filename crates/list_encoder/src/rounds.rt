@@ -40,8 +40,8 @@ fn relax_room<L: Legs>(
     lower(table, 8 * link.from + room as usize, cost)
 }
 
-// the rooms of a link's first cell are lowered by the link where it stays in the container; where it
-// can't stay with the most room that there may be, it can't with less
+// the rooms of a link's first cell are lowered by the link where it stays in the container; where
+// it can't stay with the most room that there may be, it can't with less
 fn relax_stays<L: Legs>(
     legs: &L,
     cells: &[Cell],
@@ -71,8 +71,8 @@ fn relax_stays<L: Legs>(
     changed
 }
 
-// the rooms of a link's first cell above 0 are lowered by the link where it opens a container, which
-// with some room in front is the same for all
+// the rooms of a link's first cell above 0 are lowered by the link where it opens a container,
+// which with some room in front is the same for all
 fn relax_opens<L: Legs>(
     legs: &L,
     cells: &[Cell],
