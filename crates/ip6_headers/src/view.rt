@@ -41,8 +41,8 @@ fn stated_len(bytes: &[u8]) -> u16
 
 /// Why bytes do not read as a packet, or none where they hold one. Where there is a byte the
 /// version is judged first: `BadVersion` exactly where the first half byte is not 6, else
-/// `Truncated` exactly where there are fewer than 40 bytes, or fewer than 40 and the payload length that the
-/// header states; `Truncated` where there is none (RFC 8200 section 3).
+/// `Truncated` exactly where there are fewer than 40 bytes, or fewer than 40 and the payload length
+/// that the header states; `Truncated` where there is none (RFC 8200 section 3).
 pub fn read_fault(bytes: &[u8]) -> Option<ReadFault>
     ensures { IsFault bytes.now result }
 {

@@ -1,19 +1,19 @@
 //! What a node does with a packet that came to one of its SIDs or to its own address.
 
-ghost use Rattle.std.specs.Prelude.{◌≡◌, ◌+◌, ◌*◌, ◌<◌, ◌≤◌, true, length, slice_index};
+ghost use Rattle.std.specs.Prelude.{◌≡◌, ◌+◌, ◌<◌, ◌≤◌, true, length};
 ghost use Rattle.srv6_rules.specs.Packet.{Packet as PacketValue};
-ghost use Rattle.srv6_rules.specs.Srh.{srh_of};
 ghost use Rattle.srv6_rules.specs.Chain.{LiesIn, is_extension};
 ghost use Rattle.srv6_rules.specs.Endpoint.{Endpoint, at_address, at_address_header, at_header, at_sid, at_sid_routing, at_upper, is_allowed, next_segment};
 ghost use Rattle.node_stage.specs.Judging.{IsFaultOf, IsHeaderFault, IsJudged, IsJudgedHeader, passes_entries};
 ghost use Rattle.ip6_headers.specs.Stepping.{header_at, place_view};
 
-use crate::headers::{header_fault, segment_routing_fault, unknown_routing_fault};
+use crate::headers::{header_fault, unknown_routing_fault};
 use crate::packet::Packet;
-use ip6_headers::{ChainPlace, Fault, Stands, address_at, stands_at};
+use ip6_headers::{ChainPlace, Fault, Stands, stands_at};
+use srh_codec::{SrhView, tlvs};
 use srv6_rules::numbers::{
-    EXTENSION_LEN_AT, EXTENSION_UNIT, IPV6_HEADER_LEN, LAST_ENTRY_AT, MOST_LEN, ROUTING,
-    ROUTING_TYPE_AT, SEGMENT_LEN, SEGMENT_LIST_AT, SEGMENT_ROUTING, SEGMENTS_LEFT_AT,
+    EXTENSION_UNIT, IPV6_HEADER_LEN, MOST_LEN, ROUTING, ROUTING_TYPE_AT, SEGMENT_ROUTING,
+    SEGMENTS_LEFT_AT,
 };
 use srv6_rules::{Family, Reason, SidEntry};
 use v6_addr::Addr;
@@ -77,13 +77,11 @@ fn is_allowed(allow: &[u8], kind: u8) -> bool
 
 /// The step over a segment routing header at a place, with segments left: the hop limit is judged,
 /// then the segments, then the type-length-value area (RFC 8754 section 4.3.1.1).
-fn judge_segment(packet: &Packet, at: usize, header: &[u8]) -> Judged
+fn judge_segment(packet: &Packet, at: usize, srh: &SrhView<'_>) -> Judged
     requires behind { IPV6_HEADER_LEN ≤ at }
-    requires within { at + length header.now ≤ IPV6_HEADER_LEN + length packet.now.payload }
-    requires stated { length header.now
-        ≡ EXTENSION_UNIT * (slice_index header.now EXTENSION_LEN_AT + 1) }
-    requires left { 0 < slice_index header.now SEGMENTS_LEFT_AT }
-    ensures { IsJudged packet.now (next_segment packet.now at (srh_of header.now)) result }
+    requires within { at + SEGMENTS_LEFT_AT < IPV6_HEADER_LEN + length packet.now.payload }
+    requires left { 0 < srh.now.segments_left }
+    ensures { IsJudged packet.now (next_segment packet.now at srh.now) result }
 {
     packet.keeps_rules();
     if packet.hop_limit() <= 1 {
@@ -91,24 +89,20 @@ fn judge_segment(packet: &Packet, at: usize, header: &[u8]) -> Judged
             fault: Fault::of(Reason::HopLimit),
         };
     }
-    let segments_left = header[SEGMENTS_LEFT_AT];
-    if passes_entries(
-        header[EXTENSION_LEN_AT],
-        header[LAST_ENTRY_AT],
-        segments_left,
-    ) {
+    let segments_left = srh.segments_left();
+    if passes_entries(srh.extension_len(), srh.last_entry(), segments_left) {
         return Judged::Refuse {
             fault: bad_segments(at),
         };
     }
-    if let Some(fault) = segment_routing_fault(at, header) {
+    if let Err(fault) = tlvs(srh, at) {
         return Judged::Refuse { fault };
     }
     let left = segments_left - 1;
     Judged::Advance {
         at,
         left,
-        destination: address_at(header, SEGMENT_LIST_AT + SEGMENT_LEN * usize::from(left)),
+        destination: srh.entry(usize::from(left)),
     }
 }
 
@@ -141,7 +135,10 @@ fn judge_routing(
     if header[ROUTING_TYPE_AT] != SEGMENT_ROUTING {
         return refused(unknown_routing_fault(place, header));
     }
-    if header[SEGMENTS_LEFT_AT] == 0 {
+    let Ok(srh) = SrhView::read(header) else {
+        unreachable!();
+    };
+    if srh.segments_left() == 0 {
         return None;
     }
     if !entry.goes_on() {
@@ -149,7 +146,7 @@ fn judge_routing(
             fault: bad_segments(place.at),
         });
     }
-    Some(judge_segment(packet, place.at, header))
+    Some(judge_segment(packet, place.at, &srh))
 }
 
 /// A header at a SID, or none where it is passed over.

@@ -1,20 +1,16 @@
 //! What is done with an extension header, whatever comes behind it.
 
-ghost use Rattle.std.specs.Prelude.{◌≡◌, ◌≢◌, ◌+◌, ◌*◌, ◌/◌, ◌≤◌, true, length, slice_index};
-ghost use Rattle.srv6_rules.specs.Areas.{tlvs_fault};
+ghost use Rattle.std.specs.Prelude.{◌≡◌, ◌≢◌, ◌+◌, ◌≤◌, true, length};
 ghost use Rattle.srv6_rules.specs.Chain.{Header, is_extension};
 ghost use Rattle.srv6_rules.specs.Endpoint.{Endpoint, at_header_by, unknown_routing};
-ghost use Rattle.srv6_rules.specs.Srh.{srh_of};
-ghost use Rattle.ip6_headers.specs.Items.{fault_in};
 ghost use Rattle.node_stage.specs.Judging.{IsHeaderFault};
 ghost use Rattle.ip6_headers.specs.Stepping.{header_at};
 
-use crate::tlvs::tlvs_fault;
 use ip6_headers::{ChainPlace, Fault, options};
 use srv6_rules::Reason;
 use srv6_rules::numbers::{
-    DESTINATION_OPTIONS, EXTENSION_LEN_AT, EXTENSION_UNIT, HOP_BY_HOP, LAST_ENTRY_AT, MOST_LEN,
-    NEXT_HEADER_AT, ROUTING, ROUTING_TYPE_AT, SEGMENT_LEN, SEGMENT_LIST_AT, SEGMENTS_LEFT_AT,
+    DESTINATION_OPTIONS, EXTENSION_UNIT, HOP_BY_HOP, MOST_LEN, NEXT_HEADER_AT, ROUTING,
+    ROUTING_TYPE_AT, SEGMENTS_LEFT_AT,
 };
 
 /// Why a header that is no routing header is refused, or none where it is passed over: Hop-by-Hop
@@ -63,18 +59,4 @@ pub(crate) fn unknown_routing_fault(place: ChainPlace, header: &[u8]) -> Option<
         reason: Reason::UnknownRouting,
         at: place.at + ROUTING_TYPE_AT,
     })
-}
-
-/// The first fault in the type-length-value area of a segment routing header at a place: the bytes
-/// behind the entry at Last Entry, which is there.
-pub(crate) fn segment_routing_fault(at: usize, header: &[u8]) -> Option<Fault>
-    requires stated { length header.now
-        ≡ EXTENSION_UNIT * (slice_index header.now EXTENSION_LEN_AT + 1) }
-    requires entry { slice_index header.now LAST_ENTRY_AT + 1
-        ≤ slice_index header.now EXTENSION_LEN_AT / 2 }
-    requires fits { at + length header.now ≤ MOST_LEN }
-    ensures { fault_in result ≡ tlvs_fault at (srh_of header.now) }
-{
-    let start = SEGMENT_LIST_AT + SEGMENT_LEN * (usize::from(header[LAST_ENTRY_AT]) + 1);
-    tlvs_fault(header.split_at(start).1, at + start)
 }

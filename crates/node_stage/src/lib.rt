@@ -13,7 +13,6 @@ mod reading;
 mod spelling;
 #[cfg(test)]
 mod tests;
-mod tlvs;
 mod treatment;
 
 pub use content::Content;

@@ -2,7 +2,7 @@
 
 ghost use Rattle.std.specs.Prelude.{◌≡◌, ◌<◌, length};
 
-use crate::{Content, stage};
+use crate::{Content, PktBuf, stage};
 use net_model::{Link, Name, Net, NetParts, Node, Route, TypeList};
 use srv6_rules::{Behaviour, Family, LinkSet, Reason, SidEntry};
 use std::alloc::{AllocError, Global};
@@ -329,5 +329,24 @@ fn headers_refuse_at_b(rt: HostRuntime) -> Result<(), Fail> {
     assert_eq!(rt; hmac, drop_for(Reason::HmacTlv));
     let cut = outcome_at_b(rt.alloc(), &net, 43, &SEGMENT_AND_CUT_ITEM)?;
     assert_eq!(rt; cut, drop_for(Reason::BadTlv));
+    Ok(())
+}
+
+/// Room is opened and given back, and bytes are cut and written, in one buffer.
+#[test]
+fn buffer(rt: HostRuntime) -> Result<(), Fail> {
+    let mut buffer = PktBuf::new(rt.alloc(), 8, &[1, 2, 3])?;
+    buffer.open_front(2);
+    assert_eq!(rt; buffer.view(), [0, 0, 1, 2, 3].as_slice());
+    assert_eq!(rt; buffer.front(), 6);
+    buffer.cut(1, 2);
+    buffer.drop_front(1);
+    assert_eq!(rt; buffer.view(), [2, 3].as_slice());
+    assert_eq!(rt; buffer.front(), 7);
+    buffer.view_mut().fill(9);
+    buffer.truncate(1);
+    buffer.reserve_front(20)?;
+    assert_eq!(rt; buffer.view(), [9].as_slice());
+    assert!(rt; buffer.front() >= 20);
     Ok(())
 }
