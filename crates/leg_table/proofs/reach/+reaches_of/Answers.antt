@@ -15,8 +15,10 @@ reaches_of-requires t c =
     let to = c.node_behind-to.result in
     let opens = subst (λ (ts : List Step). is_some (stand_after net c.args.node ts) ≡ true) c.in-Some.ensures.cases.0 c.requires.stands in (
       search rules,
-      (after-within net c.keeps_rules.ensures.facts c.args.node to step c.requires.is_there c.node_behind-to.ensures,
-      (omega (arith, c.in-Some.ensures.cases.1), after-stands net c.args.node to step rest opens c.node_behind-to.ensures)),
+      (
+        after-within net c.keeps_rules.ensures.facts c.args.node to step c.requires.is_there c.node_behind-to.ensures,
+        (omega (arith, c.in-Some.ensures.cases.1), after-stands net c.args.node to step rest opens c.node_behind-to.ensures),
+      ),
     )
 
 pub reach_of-requires-2-clause-later : goal.reach_of-requires-2-clause-later
