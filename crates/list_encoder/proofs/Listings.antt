@@ -2,7 +2,7 @@
 use Rattle.std.proofs.Common.{◌≡◌, ℕ, ◌+◌, ◌*◌, ◌<◌, ◌≤◌, inl, inr, true, List, [], ◌∷◌, ◌++◌, length, get_or, Option, Some, None, slice_get, Contains, refl, sym, ◌∙◌, ap, subst, arith}
 use Rattle.std.proofs.lemmas.Bool.{cases_lt}
 use Rattle.std.proofs.lemmas.Option.{none-some, slice_get_within, get_or_from_slice_get, slice_get-get_or}
-use Rattle.std.proofs.lemmas.List.Elements.{Contains-append_left, Contains-push, Contains-push_cases}
+use Rattle.std.proofs.lemmas.List.Elements.{All-weaker, All-contains_itself, Contains-append_left, Contains-push, Contains-push_cases}
 use Rattle.std.proofs.lemmas.List.Quantifiers.{all_pairs_push}
 use Rattle.list_pack.specs.declared.types.Cost.{Cost}
 use Rattle.list_pack.specs.declared.types.State.{State}
@@ -14,8 +14,9 @@ use Rattle.list_pack.specs.Least as leasts
 use Rattle.list_pack.proofs.PublicLaws.{edge-parts, last-parts}
 use Rattle.list_encoder.specs.declared.cells.Cell.{Cell}
 use Rattle.list_encoder.specs.Cells.{cell_at, start_cell, state_at, IsCellBy, AreCells, top_at, top_at_by}
-use Rattle.list_encoder.specs.Table.{Costs, entry, AreLeast}
-use Rattle.list_encoder.specs.Listing.{IsOfPlace, IsListed, IsTop}
+use Rattle.list_encoder.specs.Table.{Costs, entry, AreLeast, HasFewContainers}
+use Rattle.list_encoder.specs.declared.table.TheConstants.{MOST_CONTAINERS}
+use Rattle.list_encoder.specs.Listing.{IsOfPlace, IsListed, IsTop, ListsFewContainers}
 use Rattle.list_encoder.proofs.Orders.{head-same, head-less}
 use Rattle.list_encoder.proofs.Celling.{some-same, place_of, top-at-few}
 use Rattle.list_encoder.proofs.Heading.{edge-some}
@@ -246,3 +247,10 @@ module _ (v : LegsValue) (laws : KeepsLaws v) (cells : List Cell) (are : AreCell
                   };
               order = is.order;
             }
+
+-- what is listed is of the table's entries
+pub lists-few : (v : LegsValue) (cells : List Cell) (t : Costs) (n : ℕ) (ps : List Potential) → HasFewContainers t
+    → IsListed v cells t n ps → ListsFewContainers ps
+lists-few v cells t n ps few listed =
+    All-weaker (Contains ps) (λ (p : Potential). p.cost.containers ≤ MOST_CONTAINERS)
+    (λ q c. let place = listed.only q c in few (8 * place.k + place.room) q.cost place.cost) ps (All-contains_itself ps)

@@ -1,15 +1,15 @@
 -- Lowering by a link room by room, by the finishes and by the legs of a cell, and by all links within a position.
-use Rattle.std.proofs.Common.{◌≡◌, ℕ, zero, suc, ◌+◌, ◌-◌, ◌*◌, ◌<◌, ◌≤◌, inl, inr, Bool, true, false, ◌||◌, ◌&&◌, cond, List, [], ◌∷◌, ◌++◌, length, Option, Some, None, slice_get, Contains, refl, sym, ◌∙◌, ap, subst, arith, nat_le}
+use Rattle.std.proofs.Common.{◌≡◌, ℕ, zero, suc, ◌+◌, ◌*◌, ◌<◌, ◌≤◌, inl, inr, Bool, true, false, ◌||◌, List, [], ◌∷◌, ◌++◌, length, Option, Some, None, slice_get, Contains, refl, sym, ◌∙◌, ap, subst, arith}
 use Rattle.std.specs.Prelude.{nat_lt, MatchBool}
 use Rattle.std.specs.Option.{option_map}
-use Rattle.std.proofs.lemmas.Bool.{cases_lt, lt-ltb, le-ltb, le-leb, leb-true, and_parts, and_from}
+use Rattle.std.proofs.lemmas.Bool.{cases_lt, lt-ltb, le-ltb}
 use Rattle.std.proofs.lemmas.List.Elements.{Contains-append_left, Contains-push, Contains-push_cases}
-use Rattle.std.proofs.lemmas.Option.{none-some, cond_some, slice_get_within}
+use Rattle.std.proofs.lemmas.Option.{none-some, slice_get_within}
 use Rattle.list_pack.specs.declared.types.Cost.{Cost}
 use Rattle.list_pack.specs.declared.types.Leg.{Leg}
 use Rattle.list_pack.specs.declared.types.Shape.{Shape}
-use Rattle.list_pack.specs.Value.{LegsValue, KeepsLaws, units_of, same_block}
-use Rattle.list_pack.specs.Rooms.{room_behind, new_room_by, stay_room_by, kept_room}
+use Rattle.list_pack.specs.Value.{LegsValue, KeepsLaws}
+use Rattle.list_pack.specs.Rooms.{room_behind, new_room_by}
 use Rattle.srv6_rules.specs.declared.sid.Csid.{Csid}
 use Rattle.srv6_rules.specs.declared.sid.Csid.TheVariants.{Plain, Next, Replace}
 use Rattle.list_pack.specs.Costs.{nothing, move_cost, Under}
@@ -29,11 +29,6 @@ rest-falls before after (Some to) left h = h (8 * to + left)
 
 pub offer-falls : (stays : Bool) (hops : ℕ) (a b : Option Cost) → Under a b → Under (offer stays hops a) (offer stays hops b)
 offer-falls stays hops a b h = under-plus (move_cost stays hops) a b h
-
-pub rooms-none : (v : LegsValue) (cells : List Cell) (link : Link) (stays : Bool) (low : ℕ) (t : Costs) → IsSound v cells t
-    → RoomsRelaxed v cells link stays low low t t false
-rooms-none v cells link stays low t sound =
-    record { sound = sound; passed = kept-passed (link.from + 1) t; holds = λ cell r left e l h f. absurd (omega (arith, l, h)) }
 
 -- what holds of a room holds where its room is known
 room-holds : (o : Option Cost) (stays : Bool) (link : Link) (t : Costs) (p : Option ℕ) (left : ℕ) → p ≡ Some left
@@ -83,14 +78,6 @@ pub rooms-more : (v : LegsValue) (cells : List Cell) (link : Link) (stays : Bool
     → RoomsRelaxed v cells link stays low (room + 1) t t2 (x || y)
 rooms-more v cells link stays low room p t t1 t2 x y begun relaxed leaves =
     rooms-join v cells link stays low room (room + 1) t t1 t2 x y begun (room-rooms v cells link stays room p t1 t2 y relaxed leaves)
-
--- the rooms in which a link can't be taken stay as they are
-pub rooms-kept : (v : LegsValue) (cells : List Cell) (link : Link) (stays : Bool) (low high : ℕ) (t : Costs) → IsSound v cells t
-    → ((cell : Cell) (room left : ℕ) → slice_get cells link.from ≡ Some cell → room < high
-    → room_behind stays (option_map v.shape cell.via) room (v.shape link.sid) ≡ Some left → ⊥)
-    → RoomsRelaxed v cells link stays low high t t false
-rooms-kept v cells link stays low high t sound none =
-    record { sound = sound; passed = kept-passed (link.from + 1) t; holds = λ cell r left e l h f. absurd (none cell r left e h f) }
 
 -- by a new container from each room, and in the same one
 pub ways-join : (v : LegsValue) (cells : List Cell) (link : Link) (t t1 t2 : Costs) (x y : Bool)
@@ -487,28 +474,3 @@ pub opened-same : (from : Option Shape) (room : ℕ) (next : Shape) → 1 ≤ ro
     → room_behind false from 1 next ≡ room_behind false from room next
 opened-same from zero next h = absurd (omega (arith, h))
 opened-same from (suc room) next h = opens-alike from room next
-
--- with more room in front of it, a SID stays too
-stays-by : (s next : Shape) (room more left : ℕ) → room ≤ more → (c : Csid) → stay_room_by c s room next ≡ Some left
-    → stay_room_by c s more next ≡ None → ⊥
-stays-by s next room more left h Plain e f = none-some left e
-stays-by s next room more left h Next e f =
-    let both = cond_some (same_block s.block next.block && nat_le (units_of next) room) (kept_room next.csid (room - units_of next)) left e
-    in
-    let parts = and_parts (same_block s.block next.block) (nat_le (units_of next) room) both.0 in
-    let units : units_of next ≤ room = leb-true (units_of next) room parts.1 in
-    let fits = and_from (same_block s.block next.block) (nat_le (units_of next) more) parts.0
-    (le-leb (units_of next) more (omega (arith, units, h))) in
-    none-some (kept_room next.csid (more - units_of next))
-    (sym f ∙ ap (λ (b : Bool). cond b (Some (kept_room next.csid (more - units_of next))) None) fits)
-stays-by s next room more left h Replace e f =
-    let both = cond_some (same_block s.block next.block && nat_le 1 room) (kept_room next.csid (room - 1)) left e in
-    let parts = and_parts (same_block s.block next.block) (nat_le 1 room) both.0 in
-    let one : 1 ≤ room = leb-true 1 room parts.1 in
-    let fits = and_from (same_block s.block next.block) (nat_le 1 more) parts.0 (le-leb 1 more (omega (arith, one, h))) in
-    none-some (kept_room next.csid (more - 1)) (sym f ∙ ap (λ (b : Bool). cond b (Some (kept_room next.csid (more - 1))) None) fits)
-
-pub stays-never : (from : Option Shape) (next : Shape) (room more left : ℕ) → room ≤ more → room_behind true from more next ≡ None
-    → room_behind true from room next ≡ Some left → ⊥
-stays-never None next room more left h none e = none-some left e
-stays-never (Some s) next room more left h none e = stays-by s next room more left h s.csid e none

@@ -1,5 +1,5 @@
 -- Costs of a table lowered one at a time: what stays so, and what falls.
-use Rattle.std.proofs.Common.{◌≡◌, ℕ, ◌+◌, ◌*◌, ◌^◌, ◌<◌, ◌≤◌, inl, inr, Bool, true, false, ◌||◌, List, [], ◌∷◌, length, set, Option, Some, None, slice_get, refl, sym, ◌∙◌, ap, subst, arith, get_or-set_same, get_or-set_other}
+use Rattle.std.proofs.Common.{◌≡◌, ℕ, ◌+◌, ◌*◌, ◌/◌, ◌%◌, ◌^◌, ◌<◌, ◌≤◌, inl, inr, Bool, true, false, ◌||◌, List, [], ◌∷◌, length, set, Option, Some, None, slice_get, refl, sym, ◌∙◌, ap, subst, arith, get_or-set_same, get_or-set_other}
 use Rattle.std.specs.Prelude.{cond, is_some}
 use Rattle.std.specs.Option.{option_map}
 use Rattle.std.proofs.lemmas.Bool.{false≢true, true≢false, cases_eq, cases_lt}
@@ -15,8 +15,9 @@ use Rattle.list_pack.specs.Least.{Attains}
 use Rattle.list_pack.proofs.PublicLaws.{under-itself, under-trans, edge-made, last-made, attained}
 use Rattle.list_encoder.specs.declared.cells.Cell.{Cell}
 use Rattle.list_encoder.specs.declared.table.Link.{Link}
+use Rattle.list_encoder.specs.declared.cells.TheConstants.{MOST_CELLS}
 use Rattle.list_encoder.specs.Cells.{cell_at, state_at, AreCells}
-use Rattle.list_encoder.specs.Table.{Costs, at, entry, rest_at, offer, LeadsTo, IsLink, filled, IsBounded, IsSound, Improves, IsLowered, IsKept, Lowers, rank, total, Passed, RoomHolds, RoomRelaxed, LeavesRoom, AreInRange}
+use Rattle.list_encoder.specs.Table.{Costs, at, entry, rest_at, offer, LeadsTo, IsLink, filled, IsBounded, IsSound, Improves, IsLowered, IsKept, Lowers, rank, total, Passed, RoomHolds, RoomRelaxed, LeavesRoom, HasFewContainers, AreInRange}
 use Rattle.list_encoder.proofs.Rooms.{stay-less, open-few, behind-few}
 
 -- a cost that is below another, or of few containers and hops
@@ -284,7 +285,7 @@ module _ (v : LegsValue) (laws : KeepsLaws v) (cells : List Cell) where
     sound-set =
         record { long = length-set t (8 * k + room) (Some c) ∙ sound.long; attained = attained-at; bounded = bounded-at }
 
-  costs-few : (t : Costs) (room : ℕ) (c : Cost) → IsSound v cells t → length cells ≤ 6273 → room < 8 → IsBounded (filled t + 1) room c
+  costs-few : (t : Costs) (room : ℕ) (c : Cost) → IsSound v cells t → length cells ≤ MOST_CELLS → room < 8 → IsBounded (filled t + 1) room c
       → (c.containers < 1000000) × (c.hops < 1000000000)
   costs-few t room c sound few low bounded =
       let many : filled t ≤ length t = count_by-le-length is_some t in
@@ -292,6 +293,13 @@ module _ (v : LegsValue) (laws : KeepsLaws v) (cells : List Cell) where
       let containers : c.containers ≤ 50185 = omega (arith, many, long, few, bounded.containers) in
       let hops : c.hops < 1000000000 = omega (arith, bounded.hops, containers, low) in
       (omega (arith, containers), hops)
+
+  pub sound-few : (t : Costs) → length cells ≤ MOST_CELLS → IsSound v cells t → HasFewContainers t
+  sound-few t few sound i c e =
+      let place : 8 * (i / 8) + i % 8 ≡ i = omega arith in
+      let bound = (sound.bounded (i / 8) (i % 8) c (omega arith) (ap (at t) place ∙ e)).containers in
+      let many : filled t ≤ length t = count_by-le-length is_some t in
+      omega (arith, bound, many, sound.long, few)
 
   -- lowering a room of a link's first cell by what is left behind the link
   module _ (are : AreCells v cells) (t : Costs) (link : Link) (stays : Bool) (room : ℕ) (o : Option ℕ) (left : ℕ) (is : IsLink v cells link)

@@ -1,10 +1,11 @@
 -- The listing of a table's costs, up to a place of the table.
-use Rattle.std.specs.Prelude.{◌≡◌, ℕ, ◌+◌, ◌*◌, ◌<◌, ◌≤◌, List, slice_get, Some, Contains, AllPairs}
+use Rattle.std.specs.Prelude.{◌≡◌, ℕ, ◌+◌, ◌*◌, ◌<◌, ◌≤◌, List, slice_get, Some, All, Contains, AllPairs}
 use Rattle.list_pack.specs.declared.types.Cost.{Cost}
 use Rattle.list_pack.specs.declared.types.Potential.{Potential}
 use Rattle.list_pack.specs.Value.{LegsValue}
 use Rattle.list_pack.specs.Least.{IsBefore}
 use Rattle.list_encoder.specs.declared.cells.Cell.{Cell}
+use Rattle.list_encoder.specs.declared.table.TheConstants.{MOST_CONTAINERS}
 use Rattle.list_encoder.specs.Cells.{state_at, top_at}
 use Rattle.list_encoder.specs.Table.{Costs, entry}
 
@@ -25,6 +26,10 @@ pub record IsListed (v : LegsValue) (cells : List Cell) (t : Costs) (n : ℕ) (p
       → entry t k room ≡ Some c → Contains ps (record { state = state_at cell room; cost = c })
   pub only : (q : Potential) → Contains ps q → IsOfPlace v cells t n q
   pub order : AllPairs (λ (p q : Potential). IsBefore v p.state q.state) ps
+
+-- no cost that is listed has more containers than there are states
+abbrev pub ListsFewContainers : List Potential → Type 0
+ListsFewContainers ps = All (λ (p : Potential). p.cost.containers ≤ MOST_CONTAINERS) ps
 
 -- the most room behind a cell's SID
 abbrev pub IsTop : LegsValue → List Cell → ℕ → ℕ → Type 0

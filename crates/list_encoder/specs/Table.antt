@@ -9,6 +9,7 @@ use Rattle.list_pack.specs.Costs.{Below, plus, nothing, move_cost, Under}
 use Rattle.list_pack.specs.Least.{Attains, IsLeast}
 use Rattle.list_encoder.specs.declared.cells.Cell.{Cell}
 use Rattle.list_encoder.specs.declared.table.Link.{Link}
+use Rattle.list_encoder.specs.declared.table.TheConstants.{MOST_CONTAINERS}
 use Rattle.list_encoder.specs.Cells.{cell_at, state_at}
 
 abbrev pub Costs : Type 0
@@ -134,6 +135,10 @@ AreLinks v cells cell links = (link : Link) → Contains links link → IsLink v
 -- each entry is the least cost of a path from its state
 abbrev pub AreLeast : LegsValue → List Cell → Costs → Type 0
 AreLeast v cells t = (k room : ℕ) (cell : Cell) → slice_get cells k ≡ Some cell → room < 8 → IsLeast v (state_at cell room) (entry t k room)
+
+-- no entry has more containers than there are states
+abbrev pub HasFewContainers : Costs → Type 0
+HasFewContainers t = (i : ℕ) (c : Cost) → at t i ≡ Some c → c.containers ≤ MOST_CONTAINERS
 
 -- the places of a cell's costs are within the table
 abbrev pub AreInRange : Costs → Option ℕ → ℕ → Type 0

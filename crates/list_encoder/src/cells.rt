@@ -8,6 +8,10 @@ use base::NoMemory;
 use list_pack::{Legs, Shape, top_room};
 use std::alloc::Global;
 
+/// The most cells that there are: the start's, and those of 128 SIDs at each of 49 positions. (own
+/// rule)
+pub const MOST_CELLS: u32 = 6_273;
+
 /// The states of one SID at one position, or the start's.
 #[derive(Clone, Copy, Debug, PartialEq, Eq)]
 pub struct Cell {

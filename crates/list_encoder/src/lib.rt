@@ -15,6 +15,7 @@ mod solver;
 mod table;
 
 pub use solver::solve;
+pub use table::MOST_CONTAINERS;
 
 #[cfg(test)]
 mod tests;

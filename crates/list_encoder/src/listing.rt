@@ -2,8 +2,9 @@
 
 ghost use Rattle.std.specs.Prelude.{◌≡◌, ◌+◌, ◌*◌, ◌≤◌, ◌<◌, length, Some, OnOk, IfOk};
 ghost use Rattle.list_pack.specs.Least.{IsListing};
+ghost use Rattle.list_encoder.specs.Listing.{ListsFewContainers};
 ghost use Rattle.list_encoder.specs.Cells.{AreCells};
-ghost use Rattle.list_encoder.specs.Table.{AreLeast};
+ghost use Rattle.list_encoder.specs.Table.{AreLeast, HasFewContainers};
 ghost use Rattle.list_encoder.specs.Listing as listings;
 
 use crate::cells::{Cell, top_of};
@@ -58,7 +59,9 @@ pub fn listing_of<L: Legs>(
     requires cells { AreCells (L.seen legs.now) cells.now }
     requires long { length table.now ≡ 8 * length cells.now }
     requires least { AreLeast (L.seen legs.now) cells.now table.now }
-    ensures { IfOk result (λ potentials. IsListing (L.seen legs.now) potentials.items) }
+    requires few { HasFewContainers table.now }
+    ensures listing { IfOk result (λ potentials. IsListing (L.seen legs.now) potentials.items) }
+    ensures few { IfOk result (λ potentials. ListsFewContainers potentials.items) }
 {
     legs.steps();
     let mut potentials = Vec::new(alloc);

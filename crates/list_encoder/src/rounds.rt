@@ -289,7 +289,8 @@ fn settle_all<L: Legs>(
 ) -> Result<(), NoMemory>
     requires cells { AreCells (L.seen legs.now) cells.now }
     requires empty { table.old ≡ replicate (8 * length cells.now) None }
-    ensures { OnOk result (tables.AreLeast (L.seen legs.now) cells.now table.new) }
+    ensures least { OnOk result (tables.AreLeast (L.seen legs.now) cells.now table.new) }
+    ensures few { OnOk result (tables.HasFewContainers table.new) }
 {
     let steps = legs.steps();
     let mut later = cells.len();
@@ -310,6 +311,7 @@ pub fn table_of<L: Legs>(
     requires { AreCells (L.seen legs.now) cells.now }
     ensures long { IfOk result (λ table. length table.items ≡ 8 * length cells.now) }
     ensures least { IfOk result (λ table. tables.AreLeast (L.seen legs.now) cells.now table.items) }
+    ensures few { IfOk result (λ table. tables.HasFewContainers table.items) }
 {
     let mut table = vec![in alloc; None; 8 * cells.len()]?;
     settle_all(alloc, legs, cells, table.as_mut_slice())?;

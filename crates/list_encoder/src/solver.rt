@@ -2,6 +2,7 @@
 
 ghost use Rattle.std.specs.Prelude.{IfOk};
 ghost use Rattle.list_pack.specs.Least.{IsSolution};
+ghost use Rattle.list_encoder.specs.Listing.{ListsFewContainers};
 
 use crate::cells::cells_of;
 use crate::listing::listing_of;
@@ -13,9 +14,11 @@ use std::alloc::Global;
 
 /// What a search over legs finds: the states from which a path leads to the end, each once and in
 /// order, with the least cost of a path; and of all least paths from the start the first, empty
-/// exactly where there is none. Only want of memory is an error. (own rule)
+/// exactly where there is none. No cost has more than `MOST_CONTAINERS` containers. Only want of
+/// memory is an error. (own rule)
 pub fn solve<L: Legs>(alloc: Global, legs: &L) -> Result<Solution, NoMemory>
-    ensures { IfOk result (IsSolution (L.seen legs.now)) }
+    ensures solution { IfOk result (IsSolution (L.seen legs.now)) }
+    ensures few { IfOk result (λ s. ListsFewContainers s.potentials) }
 {
     let cells = cells_of(alloc, legs)?;
     let table = table_of(alloc, legs, cells.as_slice())?;

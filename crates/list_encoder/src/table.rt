@@ -3,7 +3,11 @@
 ghost use Rattle.std.specs.Prelude.{◌≡◌, ◌+◌, ◌*◌, ◌<◌, ◌||◌, length, Some};
 ghost use Rattle.list_encoder.specs.Table.{entry, rest_at, Lowers, AreInRange};
 
+use crate::cells::MOST_CELLS;
 use list_pack::{Cost, is_below};
+
+/// The most containers of a least list: one for each state, eight to a cell. (own rule)
+pub const MOST_CONTAINERS: u32 = 8 * MOST_CELLS;
 
 /// A way from the states of a cell to the end, by a finish, or to those of another cell, by a leg.
 #[derive(Clone, Copy, Debug, PartialEq, Eq)]

@@ -1,6 +1,7 @@
 use Rattle.std.proofs.Common.{◌+◌, ◌-◌, ◌≡◌, ℕ, refl, subst, arith}
 use Rattle.list_encoder.proofs.Settling.{Tabled, tabled-none, tabled-more, first-order}
 use Rattle.list_encoder.proofs.Leasting.{are-least}
+use Rattle.list_encoder.proofs.Tables.{sound-few}
 use Rattle.list_encoder.proofs.rounds.settle_all.Goals as goal
 
 pub loop-done-init : goal.loop-done-init
@@ -24,7 +25,12 @@ loop-done-preserved g c =
     c.first_of-first.ensures
     c.loop-done.invariant c.in_ok-settle.ensures)
 
-pub returns : goal.returns
-returns g c =
+pub returns-clause-few : goal.returns-clause-few
+returns-clause-few g c =
+    sound-few (g.L.Legs.seen c.args.legs.now) c.steps-steps.ensures.laws c.args.cells.now c.loop-done.table c.requires.cells.few
+    c.loop-done.invariant.sound
+
+pub returns-clause-least : goal.returns-clause-least
+returns-clause-least g c =
     are-least (g.L.Legs.seen c.args.legs.now) c.steps-steps.ensures.laws c.args.cells.now c.requires.cells
     (c.steps-steps.result + 1 - c.loop-done.done) c.loop-done.later c.loop-done.table (omega arith) c.loop-done.invariant
