@@ -8,7 +8,8 @@ abbrev pub invariant-loop-rest : goal.invariant-loop-rest
 invariant-loop-rest l =
     record {
       place : l.n + length l.rest ≡ length l.sids;
-      answer : map entry_of l.entries.items ++ sid_entries l.node l.n l.rest ≡ map entry_of l.fn.entries.items ++ sid_entries l.node 0 l.sids;
+      answer : map entry_of l.entries.items ++ sid_entries l.node l.n l.rest
+          ≡ map entry_of l.fn.entries.items ++ sid_entries l.node 0 l.sids;
     }
 
 abbrev pub decreases-loop-rest : goal.decreases-loop-rest
