@@ -80,8 +80,8 @@ module _ (net : Network) (keeps : Keeps net) where
       let row : way_at later n ≡ way_along net ts (stand opened.0 true) n = ap way_or_none ((is opened.0 opened.3).each n there) in
       ap (option_map (lowered_more lower)) row
       ∙ behind-more net n lower (ride_of net (sid_address net n) ts (stand opened.0 true))
-      ∙ ap (λ (o : Option Place). behind_of net n (option_map (more_lowered lower)
-      (ride_on o (ride_of net (sid_address net n) ts)))) (sym next)
+      ∙ ap (λ (o : Option Place). behind_of net n (option_map (more_lowered lower) (ride_on o (ride_of net (sid_address net n) ts))))
+      (sym next)
 
   pub way-steps : (steps : List Step) (place : Place) (n : ℕ) (later : List (Option Behind)) → IsHow net place.node place.how
       → place.family ≡ families.V6 → is_some (stand_after net place.node steps) ≡ true → n < length net.sids

@@ -1,6 +1,6 @@
 //! The ways from the nodes of an intent to all SIDs, each from those of the node behind it.
 
-ghost use Rattle.std.specs.Prelude.{◌≡◌, ◌≤◌, ◌<◌, ℕ, length, slice_get, IsTrue, is_some, Some, IfSome, IfOk};
+ghost use Rattle.std.specs.Prelude.{◌≡◌, ◌≤◌, ◌<◌, ℕ, length, IsTrue, is_some, Some, IfSome, IfOk};
 ghost use Rattle.srv6_rules.specs.declared.sid.Family.TheVariants.{V6};
 ghost use Rattle.walk_rules.specs.Way.{way_in};
 ghost use Rattle.walk_rules.specs.Relation.{IsPlace};

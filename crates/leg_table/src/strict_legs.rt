@@ -1,16 +1,13 @@
 //! The legs of an intent in a network.
 
-ghost use Rattle.std.specs.Prelude.{◌≡◌, ◌<◌, ◌≤◌, ℕ, length, drop, slice_get, Some, IfOk, IfSome};
-ghost use Rattle.std.specs.Option.{option_map};
+ghost use Rattle.std.specs.Prelude.{◌≡◌, ◌<◌, ◌≤◌, ℕ, length, drop, Some, IfOk, IfSome};
 ghost use Rattle.net_model.specs.Keeps.{Keeps};
 ghost use Rattle.net_model.specs.Rules.{IsNetwork};
 ghost use Rattle.intent_reader.specs.Rules.{IsIntent};
 ghost use Rattle.leg_table.specs.Course.{way_behind};
-ghost use Rattle.leg_table.specs.Reach.{IsReach, IsStart, AreLater, way_at, way_along};
+ghost use Rattle.leg_table.specs.Reach.{IsReach, IsStart, AreLater, way_at};
 ghost use Rattle.leg_table.specs.Leg as legs;
 ghost use Rattle.leg_table.specs.Sids as sids;
-ghost use Rattle.leg_table.specs.Tasks as tasks;
-ghost use Rattle.leg_table.specs.Table.{LegTable, shape_of};
 
 use crate::reach::{Reach, reaches_of, way_at, way_from};
 use crate::ride::Behind;
@@ -265,7 +262,6 @@ fn is_last(net: &Net, n: u32) -> bool
 fn place_behind(net: &Net, v: u32) -> Option<Place>
     ensures { result ≡ legs.middle_place net.now v }
 {
-    net.keeps_rules();
     if !is_middle(net, v) {
         return None;
     }

@@ -3,10 +3,10 @@
 //!
 //! `Net::build` takes the parts that keep the rules of descriptions, and `Net::keeps_rules` tells
 //! them to proofs. `Net::lookup` gives the entry of a node's table that fits an address best, and
-//! `NodeTable` gathers the entries of one table for many look-ups.
-//! `compilable` tells whether the network is flat: then no entry lies strictly inside the prefix
-//! of a SID, and all addresses of that prefix are looked up alike. Only a `NodeTable` takes memory.
-//! The laws about the definitions are the contracts of empty functions.
+//! `NodeTable` gathers the entries of one table for many look-ups. `compilable` tells whether the
+//! network is flat: then no entry lies strictly inside the prefix of a SID, and all addresses of
+//! that prefix are looked up alike. Only gathering takes memory. The laws about the definitions are
+//! the contracts of empty functions.
 #![tactic(auto)]
 
 mod flat;
