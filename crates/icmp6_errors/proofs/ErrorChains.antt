@@ -1,0 +1,80 @@
+-- Whether a packet is itself an error, from each place of its chain on.
+use Rattle.std.proofs.Common.{◌≡◌, ℕ, ◌+◌, ◌-◌, ◌<◌, ◌≤◌, Bool, true, false, not, ◌&&◌, ◌==◌, List, [], ◌∷◌, length, take, drop, slice_get, refl, sym, ap, ◌∙◌, arith, Result, Ok, Err}
+use Rattle.std.proofs.lemmas.List.{drop-drop, length-drop, length-take-le}
+use Rattle.srv6_rules.specs.Packet.{Packet, header_len, spelling}
+use Rattle.srv6_rules.specs.Chain as chains
+use Rattle.srv6_rules.specs.Chain.{is_extension, extension_bytes, behind_in, start_of, chain_at, from_place}
+use Rattle.srv6_rules.specs.Errors.{is_error_message, is_error_type, is_later_fragment, leads_to_error}
+use Rattle.srv6_rules.proofs.PublicLaws.{length-spelling, spelling-behind, error-start, error-behind}
+use Rattle.ip6_headers.specs.declared.chain.ChainPlace.{ChainPlace}
+use Rattle.ip6_headers.specs.declared.chain.ChainStep.{ChainStep}
+use Rattle.ip6_headers.specs.declared.chain.ChainStep.TheVariants as steps
+use Rattle.ip6_headers.specs.declared.chain.BadChain.{BadChain}
+use Rattle.ip6_headers.specs.Stepping.{IsHeader, place_view, begun}
+
+-- the question of a packet's bytes is that of its chain from a place on
+pub record IsAsked (p : Packet) (bytes : List ℕ) (q : chains.ChainPlace) : Type 0 where
+  pub same : is_error_message p ≡ leads_to_error p (chain_at p q)
+  pub behind : header_len ≤ q.at
+  pub within : q.at ≤ length bytes
+
+pub asked-start : (p : Packet) (bytes : List ℕ) (q : chains.ChainPlace) → bytes ≡ spelling p → q ≡ start_of p → IsAsked p bytes q
+asked-start p bytes q spelled start =
+    let at : q.at ≡ 40 = ap (λ k. k.at) start in
+    let long : length bytes ≡ 40 + length p.payload = ap length spelled ∙ length-spelling p in
+    record {
+      same = error-start p ∙ ap (λ k. leads_to_error p (chain_at p k)) (sym start);
+      behind = omega arith;
+      within = omega arith;
+    }
+
+-- the bytes from a place on are the packet's from there on
+pub from-bytes : (p : Packet) (bytes : List ℕ) (at : ℕ) → bytes ≡ spelling p → 40 ≤ at → drop at bytes ≡ from_place p at
+from-bytes p bytes at spelled start =
+    let sum : 40 + (at - 40) ≡ at = omega arith in
+    ap (drop at) spelled
+    ∙ ap (λ n. drop n (spelling p)) (sym sum)
+    ∙ sym (drop-drop (at - 40) 40 (spelling p))
+    ∙ ap (drop (at - 40)) (spelling-behind p)
+
+pub behind-header : (p : Packet) (bytes : List ℕ) → bytes ≡ spelling p → drop header_len bytes ≡ p.payload
+behind-header p bytes spelled = ap (drop 40) spelled ∙ spelling-behind p
+
+module _ (p : Packet) (bytes : List ℕ) (q : chains.ChainPlace) (spelled : bytes ≡ spelling p) (asked : IsAsked p bytes q) where
+  pub asked-upper : chain_at p q ≡ record { headers = []; end = chains.Upper q }
+      → is_error_message p ≡ ((q.kind == 58) && is_error_type (slice_get (drop q.at bytes) 0))
+  asked-upper is =
+      asked.same ∙ ap (leads_to_error p) is
+      ∙ ap (λ xs. (q.kind == 58) && is_error_type (slice_get xs 0)) (sym (from-bytes p bytes q.at spelled asked.behind))
+
+  pub asked-cut : chain_at p q ≡ record { headers = []; end = chains.Cut q } → is_error_message p ≡ false
+  asked-cut is = asked.same ∙ ap (leads_to_error p) is
+
+  module _ (len : ℕ) (next : chains.ChainPlace)
+      (is : chain_at p q
+      ≡ chains.behind (record { place = q; bytes = take len (from_place p q.at) }) (chain_at p next)) where
+    pub asked-header : is_error_message p
+        ≡ (not (is_later_fragment (record { place = q; bytes = take len (drop q.at bytes) })) && leads_to_error p (chain_at p next))
+    asked-header =
+        asked.same ∙ ap (leads_to_error p) is
+        ∙ error-behind p (record { place = q; bytes = take len (from_place p q.at) }) (chain_at p next)
+        ∙ ap (λ xs. not (is_later_fragment (record { place = q; bytes = take len xs })) && leads_to_error p (chain_at p next))
+        (sym (from-bytes p bytes q.at spelled asked.behind))
+
+    pub asked-later : is_later_fragment (record { place = q; bytes = take len (drop q.at bytes) }) ≡ true → is_error_message p ≡ false
+    asked-later later = asked-header ∙ ap (λ b. not b && leads_to_error p (chain_at p next)) later
+
+    pub asked-behind : is_later_fragment (record { place = q; bytes = take len (drop q.at bytes) }) ≡ false
+        → IsHeader q.kind (drop q.at bytes) len → next ≡ behind_in q (drop q.at bytes) → IsAsked p bytes next
+    asked-behind earlier header goes =
+        let at : next.at ≡ q.at + extension_bytes q.kind (drop q.at bytes) = ap (λ k. k.at) goes in
+        let stated = header.stated in
+        let within = header.within in
+        let before = asked.behind in
+        let room = length-drop q.at bytes in
+        let inside = asked.within in
+        record {
+          same = asked-header ∙ ap (λ b. not b && leads_to_error p (chain_at p next)) earlier;
+          behind = omega arith;
+          within = omega arith;
+        }

@@ -1,0 +1,3 @@
+pub mod SumLemmas
+pub mod ErrorChains
+pub mod MessageLemmas
