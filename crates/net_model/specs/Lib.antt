@@ -7,3 +7,4 @@ pub mod Named
 pub mod Found
 pub mod Entries
 pub mod Flat
+pub mod Keys
