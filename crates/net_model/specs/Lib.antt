@@ -8,3 +8,4 @@ pub mod Found
 pub mod Entries
 pub mod Flat
 pub mod Gathered
+pub mod Keys

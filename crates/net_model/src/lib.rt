@@ -6,9 +6,11 @@
 //! `NodeTable` gathers the entries of one table for many look-ups. `compilable` tells whether the
 //! network is flat: then no entry lies strictly inside the prefix of a SID, and all addresses of
 //! that prefix are looked up alike. Only gathering takes memory. The laws about the definitions are
-//! the contracts of empty functions.
+//! the contracts of empty functions. `NetFault` says why a text gives no network or no intent, and
+//! where in it.
 #![tactic(auto)]
 
+mod fault;
 mod flat;
 mod laws;
 mod limits;
@@ -21,16 +23,19 @@ mod rules;
 #[cfg(test)]
 mod tests;
 
+pub use fault::{FaultPlace, Key, NetFault, TableKind};
 pub use flat::{NotFlat, compilable};
 pub use laws::{
     best_match_is_one, entries_are_its_own, flat_networks_treat_addresses_alike,
     matched_sids_hold_the_address, places_are_of_passing_items, rules_mean_their_facts,
 };
 pub use limits::{
-    LAST_TABLE, MAX_ALLOWED_TYPES, MAX_LINKS, MAX_LINKS_OF_SET, MAX_NAME_BYTES, MAX_NODES,
-    MAX_ROUTES, MAX_SIDS, MAX_SIDS_OF_NODE,
+    DEFAULT_HOP_LIMIT, LAST_FLOW_LABEL, LAST_OCTET, LAST_TABLE, LONG_CSID, MAX_ALLOWED_TYPES,
+    MAX_BLOCKS, MAX_LINKS, MAX_LINKS_OF_SET, MAX_NAME_BYTES, MAX_NODES, MAX_POLICIES, MAX_ROUTES,
+    MAX_SEGMENTS, MAX_SIDS, MAX_SIDS_OF_NODE, SHORT_CSID,
 };
 pub use named::{place_of_link, place_of_node};
 pub use net::{Hit, Net};
 pub use node_table::NodeTable;
 pub use parts::{Link, Name, NetParts, Node, Route, TypeList};
+pub use rules::is_name;

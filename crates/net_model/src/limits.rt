@@ -27,3 +27,27 @@ pub const MAX_NAME_BYTES: usize = 32;
 
 /// The number of the last table of routes; the first is 0.
 pub const LAST_TABLE: u32 = 65535;
+
+/// Blocks of SIDs of a description.
+pub const MAX_BLOCKS: usize = 64;
+
+/// Policies of a description.
+pub const MAX_POLICIES: usize = 256;
+
+/// Segments of a policy.
+pub const MAX_SEGMENTS: usize = 127;
+
+/// The bits of a short compressed SID.
+pub const SHORT_CSID: u32 = 16;
+
+/// The bits of a long compressed SID.
+pub const LONG_CSID: u32 = 32;
+
+/// The largest number of 8 bits.
+pub const LAST_OCTET: u32 = 255;
+
+/// The largest flow label, a number of 20 bits (RFC 8200 section 3).
+pub const LAST_FLOW_LABEL: u32 = 1_048_575;
+
+/// The hop limit of an outer header for which none is given.
+pub const DEFAULT_HOP_LIMIT: u32 = 64;

@@ -159,8 +159,9 @@ fn are_name_bytes(bytes: &[u8]) -> bool
     bytes.iter().all(|b| is_name_byte(*b))
 }
 
-/// Whether a name has some bytes and not too many, all of them letters, digits, `_`, `.` or `-`.
-fn is_name(name: &[u8]) -> bool
+/// Whether a text is a name: 1 to `MAX_NAME_BYTES` bytes, all of them letters, digits, `_`, `.` or
+/// `-` (own rule).
+pub fn is_name(name: &[u8]) -> bool
     ensures { result ≡ is_name name.now }
 {
     1 <= name.len() && name.len() <= MAX_NAME_BYTES && are_name_bytes(name)
