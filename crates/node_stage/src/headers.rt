@@ -9,8 +9,8 @@ ghost use Rattle.ip6_headers.specs.Stepping.{header_at};
 use ip6_headers::{ChainPlace, Fault, options};
 use srv6_rules::Reason;
 use srv6_rules::numbers::{
-    DESTINATION_OPTIONS, EXTENSION_UNIT, HOP_BY_HOP, MOST_LEN, NEXT_HEADER_AT, ROUTING, ROUTING_TYPE_AT,
-    SEGMENTS_LEFT_AT,
+    DESTINATION_OPTIONS, EXTENSION_UNIT, HOP_BY_HOP, MOST_LEN, NEXT_HEADER_AT, ROUTING,
+    ROUTING_TYPE_AT, SEGMENTS_LEFT_AT,
 };
 
 /// Why a header that is no routing header is refused, or none where it is passed over: Hop-by-Hop
