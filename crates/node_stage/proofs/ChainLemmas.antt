@@ -1,8 +1,8 @@
 -- What comes of a chain from each place on, header by header.
-use Rattle.std.proofs.Common.{◌≡◌, ℕ, ◌+◌, ◌-◌, ◌≤◌, true, false, List, length, take, drop, slice_index, refl, sym, ap, subst, ◌∙◌, arith, length-drop}
-use Rattle.std.proofs.lemmas.List.{drop-drop, get_or-take, length-take-le}
+use Rattle.std.proofs.Common.{◌≡◌, ℕ, ◌+◌, ◌-◌, ◌≤◌, true, false, List, length, take, drop, refl, sym, ap, subst, ◌∙◌, arith, length-drop}
+use Rattle.std.proofs.lemmas.List.{drop-drop, length-take-le}
 use Rattle.srv6_rules.specs.Packet.{Packet, header_len}
-use Rattle.srv6_rules.specs.Chain.{ChainPlace, Header, ChainEnd, Upper, Cut, is_extension, is_whole, extension_bytes, behind_in, place_behind, from_place, start_of, chain_of, chain_at}
+use Rattle.srv6_rules.specs.Chain.{ChainPlace, Header, ChainEnd, Upper, Cut, is_extension, is_whole, behind_in, place_behind, from_place, start_of, chain_of, chain_at}
 use Rattle.srv6_rules.specs.Endpoint.{Endpoint, over_chain}
 use Rattle.srv6_rules.proofs.PublicLaws.{chain_of-start, over-goes_on}
 use Rattle.ip6_headers.specs.Stepping.{IsHeader, first_place}

@@ -1,6 +1,6 @@
 -- The packet that bytes begin with, in place.
 use Rattle.std.proofs.Common.{◌≡◌, ℕ, List, length, take, drop, ap}
-use Rattle.srv6_rules.specs.Packet.{header_len, packet_at, stated_len}
+use Rattle.srv6_rules.specs.Packet.{header_len, packet_at}
 use Rattle.ip6_headers.specs.Reading.{HoldsPacket}
 use Rattle.ip6_headers.proofs.PublicLaws.{holds-payload_len}
 

@@ -1,4 +1,4 @@
-use Rattle.std.proofs.Common.{◌≡◌, refl, sym}
+use Rattle.std.proofs.Common.{refl, sym}
 use Rattle.srv6_rules.specs.Areas.{Fault}
 use Rattle.srv6_rules.specs.Chain.{Header}
 use Rattle.srv6_rules.proofs.PublicLaws.{options-passed, options-refused}

@@ -1,4 +1,4 @@
-use Rattle.std.proofs.Common.{◌≡◌, ◌∙◌, List, ℕ, take, drop, ap, sym}
+use Rattle.std.proofs.Common.{◌≡◌, ◌∙◌, List, ℕ, take, drop, ap}
 use Rattle.std.proofs.lemmas.List.{drop-take}
 use Rattle.node_stage.specs.BufferView.{Buffer}
 use Rattle.node_stage.proofs.BufferLemmas.{same_buffer}
