@@ -1,16 +1,12 @@
 -- Whether a packet is itself an error, from each place of its chain on.
-use Rattle.std.proofs.Common.{◌≡◌, ℕ, ◌+◌, ◌-◌, ◌<◌, ◌≤◌, Bool, true, false, not, ◌&&◌, ◌==◌, List, [], ◌∷◌, length, take, drop, slice_get, refl, sym, ap, ◌∙◌, arith, Result, Ok, Err}
-use Rattle.std.proofs.lemmas.List.{drop-drop, length-drop, length-take-le}
+use Rattle.std.proofs.Common.{◌≡◌, ℕ, ◌+◌, ◌-◌, ◌≤◌, true, false, not, ◌&&◌, ◌==◌, List, [], length, take, drop, slice_get, sym, ap, ◌∙◌, arith}
+use Rattle.std.proofs.lemmas.List.{drop-drop, length-drop}
 use Rattle.srv6_rules.specs.Packet.{Packet, header_len, spelling}
 use Rattle.srv6_rules.specs.Chain as chains
 use Rattle.srv6_rules.specs.Chain.{is_extension, extension_bytes, behind_in, start_of, chain_at, from_place}
 use Rattle.srv6_rules.specs.Errors.{is_error_message, is_error_type, is_later_fragment, leads_to_error}
 use Rattle.srv6_rules.proofs.PublicLaws.{length-spelling, spelling-behind, error-start, error-behind}
-use Rattle.ip6_headers.specs.declared.chain.ChainPlace.{ChainPlace}
-use Rattle.ip6_headers.specs.declared.chain.ChainStep.{ChainStep}
-use Rattle.ip6_headers.specs.declared.chain.ChainStep.TheVariants as steps
-use Rattle.ip6_headers.specs.declared.chain.BadChain.{BadChain}
-use Rattle.ip6_headers.specs.Stepping.{IsHeader, place_view, begun}
+use Rattle.ip6_headers.specs.Stepping.{IsHeader}
 
 -- the question of a packet's bytes is that of its chain from a place on
 pub record IsAsked (p : Packet) (bytes : List ℕ) (q : chains.ChainPlace) : Type 0 where

@@ -1,5 +1,5 @@
 -- An error written part by part.
-use Rattle.std.proofs.Common.{◌≡◌, ℕ, ◌+◌, ◌-◌, Bool, true, false, List, [], ◌∷◌, ◌++◌, length, Option, Some, None, refl, sym, ap, ◌∙◌, arith}
+use Rattle.std.proofs.Common.{◌≡◌, ℕ, ◌+◌, ◌-◌, true, false, List, [], ◌∷◌, ◌++◌, length, Some, None, refl, sym, ap, ◌∙◌, arith}
 use Rattle.std.proofs.lemmas.List.{append_assoc, length-append}
 use Rattle.srv6_rules.specs.declared.icmp.IcmpKind.{IcmpKind}
 use Rattle.srv6_rules.specs.Packet.{Packet, IsSpellable, spelling, header_spelling, first_word, two_bytes, four_bytes, address_bytes}

@@ -1,8 +1,8 @@
 -- Plain sums of words, word by word and part by part.
-use Rattle.std.proofs.Common.{◌≡◌, ℕ, ◌+◌, ◌-◌, ◌*◌, ◌/◌, ◌%◌, ◌^◌, ◌<◌, ◌≤◌, List, [], ◌∷◌, ◌++◌, length, drop, slice_index, refl, sym, ap, ◌∙◌, arith}
+use Rattle.std.proofs.Common.{◌≡◌, ℕ, ◌+◌, ◌*◌, ◌/◌, ◌%◌, ◌^◌, ◌<◌, ◌≤◌, List, [], ◌∷◌, ◌++◌, length, drop, slice_index, refl, sym, ap, ◌∙◌, arith}
 use Rattle.srv6_rules.specs.Packet.{address_bytes, four_bytes}
-use Rattle.srv6_rules.specs.Checksum.{all_ones, word_sum, carried, pseudo_header}
-use Rattle.srv6_rules.proofs.PublicLaws.{length-address_bytes, length-four_bytes, word_sum-append, carried-again, carried-small}
+use Rattle.srv6_rules.specs.Checksum.{word_sum, carried, pseudo_header}
+use Rattle.srv6_rules.proofs.PublicLaws.{length-address_bytes, word_sum-append, carried-again, carried-small}
 
 pub word_sum-more : (bytes : List ℕ) → 2 ≤ length bytes
     → word_sum bytes ≡ slice_index bytes 0 * 256 + slice_index bytes 1 + word_sum (drop 2 bytes)

@@ -1,4 +1,4 @@
-use Rattle.std.proofs.Common.{◌≡◌, ◌+◌, ◌-◌, ◌/◌, ◌%◌, ◌^◌, ◌<◌, ℕ, refl, sym, ap, arith}
+use Rattle.std.proofs.Common.{◌+◌, ◌-◌, ◌/◌, ◌%◌, ◌^◌, ◌<◌, ℕ, refl, sym, ap, arith}
 use Rattle.srv6_rules.specs.Checksum.{all_ones}
 use Rattle.icmp6_errors.proofs.SumLemmas.{carried-twice}
 use Rattle.icmp6_errors.proofs.checksum.complement.Goals as goal

@@ -1,4 +1,3 @@
-use Rattle.std.proofs.Common.{◌+◌, length, arith}
 use Rattle.srv6_rules.specs.Packet.{two_bytes, address_bytes}
 use Rattle.icmp6_errors.proofs.MessageLemmas.{header-written}
 use Rattle.icmp6_errors.proofs.error.append_header.Goals as goal

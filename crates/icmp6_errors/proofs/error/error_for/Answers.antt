@@ -1,6 +1,5 @@
-use Rattle.std.proofs.Common.{◌≡◌, Option, Some, None, refl, sym, ap, ◌∙◌}
-use Rattle.srv6_rules.specs.Packet.{Packet, V6, content_of, packet_at}
-use Rattle.srv6_rules.specs.Errors.{is_unanswered, error_packet, error_about}
+use Rattle.std.proofs.Common.{◌≡◌, refl, sym, ◌∙◌}
+use Rattle.srv6_rules.specs.Packet.{packet_at}
 use Rattle.icmp6_errors.proofs.MessageLemmas.{error-absent, error-present}
 use Rattle.icmp6_errors.proofs.error.error_for.Goals as goal
 

@@ -1,4 +1,4 @@
-use Rattle.std.proofs.Common.{◌≡◌, ℕ, ◌&&◌, ◌==◌, false, true, List, take, drop, slice_get, Ok, refl, sym, ap, subst, ◌∙◌}
+use Rattle.std.proofs.Common.{◌≡◌, ℕ, ◌&&◌, List, take, drop, slice_get, Ok, refl, sym, ap, subst, ◌∙◌}
 use Rattle.std.proofs.lemmas.Bool.{eq-eqb, ne_eqb}
 use Rattle.srv6_rules.specs.Errors.{is_error_type, is_later_fragment}
 use Rattle.ip6_headers.specs.declared.chain.ChainStep.{ChainStep}
