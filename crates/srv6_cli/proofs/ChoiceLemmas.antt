@@ -1,11 +1,13 @@
 -- Numbers joined by commas, read part by part.
-use Rattle.std.proofs.Common.{◌≡◌, ℕ, suc, ◌+◌, ◌^◌, ◌<◌, Bool, true, false, ◌&&◌, ◌||◌, ◌==◌, not, List, [], ◌∷◌, ◌++◌, length, nat_lt, Option, None, Some, Result, Ok, Err, refl, sym, ap, subst, ◌∙◌, arith, rules, append_assoc}
+use Rattle.std.proofs.Common.{◌≡◌, ℕ, suc, ◌+◌, ◌^◌, ◌<◌, Bool, true, false, ◌&&◌, ◌||◌, ◌==◌, not, List, [], ◌∷◌, ◌++◌, length, slice_index, nat_lt, Option, None, Some, Result, Ok, Err, refl, sym, ap, subst, ◌∙◌, arith, rules, append_assoc}
+use Rattle.std.specs.Prelude.{if◌then◌else◌}
 use Rattle.std.specs.Char.{is_ascii_digit}
 use Rattle.std.specs.List.{list_all, slice_split}
 use Rattle.std.specs.Str.Parse.{digits_value, ParsesUnsigned}
 use Rattle.std.proofs.lemmas.List.Splits.{length-slice_split}
 use Rattle.std.proofs.lemmas.Str.Parse.{IsNumeralModel, numerals_by_value, parse_digits}
-use Rattle.srv6_cli.specs.Choices.{is_numeral, number_in, number_before, numbers_in}
+use Rattle.srv6_cli.specs.declared.limits.TheConstants.{MAX_CHOICES}
+use Rattle.srv6_cli.specs.Choices.{is_numeral, number_in, number_before, numbers_in, parts_at_commas, choices_in}
 
 -- numbers that were read, and then those of the parts that are left
 
@@ -42,8 +44,9 @@ some-parts : (parts : List (List ℕ)) (choices : List ℕ) → 0 < length parts
 some-parts [] choices some h = absurd (omega arith)
 some-parts (part ∷ parts) choices some h = some-before (number_in part) (numbers_in parts) choices h
 
-pub choices_some : (text choices : List ℕ) (p : ℕ → Bool) → numbers_in (slice_split p text) ≡ Some choices → 0 < length choices
-choices_some text choices p h = let many = length-slice_split p text in some-parts (slice_split p text) choices (omega arith) h
+pub numbers_after-nil : (numbers : Option (List ℕ)) → numbers_after [] numbers ≡ numbers
+numbers_after-nil None = refl
+numbers_after-nil (Some numbers) = refl
 
 -- a word that is a number, by what `parse` gives of it
 
@@ -54,18 +57,21 @@ and-second : (a b : Bool) → (a && b) ≡ true → b ≡ true
 and-second true b h = h
 and-second false b h = cc
 
+and-first : (a b : Bool) → (a && b) ≡ true → a ≡ true
+and-first true b h = refl
+and-first false b h = cc
+
 digits-of : (word : List ℕ) → is_numeral word ≡ true → list_all is_ascii_digit word ≡ true
-digits-of [] h = cc
-digits-of (first ∷ more) h =
-    and-second ((length (first ∷ more) == 1) || not (first == 48)) (list_all is_ascii_digit (first ∷ more)) h
+digits-of word h = and-second ((length word == 1) || not (slice_index word 0 == 48)) (list_all is_ascii_digit word)
+    (and-second (not (length word == 0)) (((length word == 1) || not (slice_index word 0 == 48)) && list_all is_ascii_digit word) h)
 
 some-digits : (word : List ℕ) → is_numeral word ≡ true → 0 < length word
 some-digits [] h = cc
 some-digits (first ∷ more) h = search rules
 
-pub number_read : {E : Type 0} (word : List ℕ) (number : ℕ) → is_numeral word ≡ true → ParsesUnsigned {E = E} 32 10 word (Ok number)
+pub number_read : (E : Type 0) (word : List ℕ) (number : ℕ) → is_numeral word ≡ true → ParsesUnsigned {E = E} 32 10 word (Ok number)
     → Some number ≡ number_in word
-number_read {E} word number digits parsed =
+number_read E word number digits parsed =
     let h = parse_digits digits-model {E = E} 32 word (Ok number) parsed (digits-of word digits) in
     let small : nat_lt (digits_value 10 word) (2 ^ 32) ≡ true = search (rules, h.0.1) in
     rw (digits, small, h.1) refl
@@ -75,8 +81,20 @@ refused-by : (word : List ℕ) (small : Bool) → nat_lt (digits_value 10 word) 
 refused-by word false is digits great = rw (digits, is) refl
 refused-by word true is digits great = absurd (great (search rules))
 
-pub number_refused : {E : Type 0} (word : List ℕ) (fault : E) → is_numeral word ≡ true → ParsesUnsigned {E = E} 32 10 word (Err fault)
+pub number_refused : (E : Type 0) (word : List ℕ) (fault : E) → is_numeral word ≡ true → ParsesUnsigned {E = E} 32 10 word (Err fault)
     → None ≡ number_in word
-number_refused {E} word fault digits parsed =
+number_refused E word fault digits parsed =
     let h = parse_digits digits-model {E = E} 32 word (Err fault) parsed (digits-of word digits) in
     refused-by word (nat_lt (digits_value 10 word) (2 ^ 32)) refl digits (λ small. h (some-digits word digits, small))
+
+-- there is always one choice
+
+by-limit : (many : Bool) (parts : List (List ℕ)) (choices : List ℕ) → 0 < length parts
+    → Some choices ≡ (if many then None else numbers_in parts) → 0 < length choices
+by-limit true parts choices some h = cc
+by-limit false parts choices some h = some-parts parts choices some (sym h)
+
+pub choices_in-some : (text choices : List ℕ) → Some choices ≡ choices_in text → 0 < length choices
+choices_in-some text choices h =
+    let many = length-slice_split (λ byte. byte == 44) text in
+    by-limit (nat_lt MAX_CHOICES (length (parts_at_commas text))) (parts_at_commas text) choices (omega arith) h

@@ -84,7 +84,7 @@ pub record Left (whole : Reading) (now : Reader) : Type 0 where
   pub frames : whole ≡ with_front done (left_of now)
   pub taken : now.taken ≡ length done
 
-pub left_all : (head : CaptureHead) (bytes : List ℕ) (now : Reader) → now ≡ record { head = head; taken = 0; rest = bytes }
+abbrev pub left_all : (head : CaptureHead) (bytes : List ℕ) (now : Reader) → now ≡ record { head = head; taken = 0; rest = bytes }
     → Left (frames_of head MAX_FRAMES 1 bytes) now
 left_all head bytes now is = record {
   done = [];
@@ -97,7 +97,7 @@ with_front-both first more r =
     ap (λ (fs : List Frame). let read : Reading = record { frames = fs; rest = r.rest } in read) (sym (append_assoc first more r.frames))
 
 module _ (whole : Reading) (old new : Reader) (frame : Frame) (p : Left whole old) (h : Nexts old (Ok (nexts.Frame frame)) new) where
-  frames-on : whole ≡ with_front (p.done ++ frame ∷ []) (left_of new)
+  pub frames-on : whole ≡ with_front (p.done ++ frame ∷ []) (left_of new)
   frames-on = p.frames ∙ (ap (with_front p.done) h.0 ∙ with_front-both p.done (frame ∷ []) (left_of new))
 
   abbrev pub left_on : Left whole new
@@ -110,10 +110,10 @@ module _ (whole : Reading) (old new : Reader) (frame : Frame) (p : Left whole ol
   -- what all frames give, by those that are done, this one and the others
 
   flat-one : {A : Type 0} (f : Frame → List A) → flat_map f (p.done ++ frame ∷ []) ≡ flat_map f p.done ++ f frame
-  flat-one f = flat_map-append f p.done (frame ∷ []) ∙ ap (λ (last : List A). flat_map f p.done ++ last) (append-nil (f frame))
+  flat-one {A} f = flat_map-append f p.done (frame ∷ []) ∙ ap (λ (last : List A). flat_map f p.done ++ last) (append-nil (f frame))
 
   pub each-frame : {A : Type 0} (f : Frame → List A) → (flat_map f p.done ++ f frame) ++ flat_map f (left_of new).frames ≡ flat_map f whole.frames
-  each-frame f =
+  each-frame {A} f =
       ap (λ (all : List A). all ++ flat_map f (left_of new).frames) (sym (flat-one f))
       ∙ (sym (flat_map-append f (p.done ++ frame ∷ []) (left_of new).frames) ∙ ap (λ (r : Reading). flat_map f r.frames) (sym frames-on))
 
@@ -199,3 +199,17 @@ pub walked_wanting : (f : Frame → List Piece) (whole : Reading) (now : Reader)
     → WroteAll Memory (flat_map f whole.frames) first sinks
 walked_wanting f whole now first sinks p = subst (λ (pieces : List Piece). WroteAll Memory pieces first sinks) (flat-left f whole now p.left)
     (all_wanting (flat_map f p.left.done) (flat_map f (left_of now).frames) first sinks p.went)
+
+-- the next frame wasn't given
+
+pub told_failed : (f : Frame → List ℕ) (whole : Reading) (now new : Reader) (failure : Failure) (first sink : SinkSeen)
+    → LinesWent f whole now first sink → Nexts now (Err failure) new
+    → Wrote (ending_of_failure failure) (flat_map f whole.frames) first sink
+told_failed f whole now new failures.Fault first sink p h = absurd h
+told_failed f whole now new failures.NoMemory first sink p h = told_wanting f whole now first sink p
+
+pub walked_failed : (f : Frame → List Piece) (whole : Reading) (now new : Reader) (failure : Failure) (first sinks : Sinks)
+    → PiecesWent f whole now first sinks → Nexts now (Err failure) new
+    → WroteAll (ending_of_failure failure) (flat_map f whole.frames) first sinks
+walked_failed f whole now new failures.Fault first sinks p h = absurd h
+walked_failed f whole now new failures.NoMemory first sinks p h = walked_wanting f whole now first sinks p

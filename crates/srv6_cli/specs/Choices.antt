@@ -1,5 +1,5 @@
 -- The choices that the words give (own rules).
-use Rattle.std.specs.Prelude.{ℕ, ◌^◌, Bool, false, ◌&&◌, ◌||◌, ◌==◌, not, nat_lt, if◌then◌else◌, List, [], ◌∷◌, length, Option, Some, None}
+use Rattle.std.specs.Prelude.{ℕ, ◌^◌, Bool, ◌&&◌, ◌||◌, ◌==◌, not, nat_lt, if◌then◌else◌, List, [], ◌∷◌, length, slice_index, Option, Some, None}
 use Rattle.std.specs.Global.{Vec}
 use Rattle.std.specs.Char.{is_ascii_digit}
 use Rattle.std.specs.List.{list_all, slice_split}
@@ -8,8 +8,8 @@ use Rattle.srv6_cli.specs.declared.limits.TheConstants.{MAX_CHOICES}
 
 -- decimal digits, of which the first is 0 only where it is the only one
 abbrev pub is_numeral : List ℕ → Bool
-is_numeral [] = false
-is_numeral (first ∷ more) = ((length (first ∷ more) == 1) || not (first == 48)) && list_all is_ascii_digit (first ∷ more)
+is_numeral word =
+    not (length word == 0) && (((length word == 1) || not (slice_index word 0 == 48)) && list_all is_ascii_digit word)
 
 -- a number of at most 32 bits
 abbrev pub number_in : List ℕ → Option ℕ

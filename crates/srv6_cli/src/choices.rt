@@ -1,11 +1,19 @@
 //! The choices that the words give: numbers joined by commas.
 
-ghost use Rattle.std.specs.Prelude.{◌≡◌, IfOk, map};
-ghost use Rattle.std.specs.List.{slice_split};
+ghost use Rattle.std.specs.Prelude.{◌≡◌, ◌==◌, IfOk, map};
+ghost use Rattle.std.specs.Char.{is_ascii_digit};
+ghost use Rattle.std.specs.List.{list_all, slice_split};
 ghost use Rattle.srv6_cli.specs.Choices.{choices_in, items_of, is_numeral, number_in};
 
 use crate::limits::MAX_CHOICES;
 use std::alloc::{AllocError, Global};
+
+/// Whether all bytes are decimal digits.
+fn are_digits(bytes: &[u8]) -> bool
+    ensures { result ≡ list_all is_ascii_digit bytes.now }
+{
+    bytes.iter().all(|byte| byte.is_ascii_digit())
+}
 
 /// Whether bytes are decimal digits without a leading zero.
 fn is_numeral(bytes: &[u8]) -> bool
@@ -13,9 +21,7 @@ fn is_numeral(bytes: &[u8]) -> bool
 {
     match bytes {
         [] => false,
-        [first, ..] => {
-            (bytes.len() == 1 || *first != b'0') && bytes.iter().all(|byte| byte.is_ascii_digit())
-        }
+        [first, ..] => (bytes.len() == 1 || *first != b'0') && are_digits(bytes),
     }
 }
 

@@ -66,10 +66,12 @@ fn tell_unread_frames<E: Sink>(
         (E.seen err.old) (E.seen err.new) }
 {
     let mut reader = FrameReader::new(alloc, head, behind)?;
-    'frames: while let Next::Frame(frame) = next_of(&mut reader)? {
-        tell_unread(alloc, &frame, err)?;
+    'frames: loop {
+        match next_of(&mut reader)? {
+            Next::Frame(frame) => tell_unread(alloc, &frame, err)?,
+            Next::End(_) => return Ok(()),
+        }
     }
-    Ok(())
 }
 
 /// Writes what a packet's walk from the node sends, and then its line.
@@ -151,8 +153,8 @@ fn walk_frames<O: Sink, E: Sink>(
     let mut reader = FrameReader::new(alloc, head, behind)?;
     'frames: loop {
         match next_of(&mut reader)? {
-            Next::Frame(frame) => {
-                walk_frame(alloc, net, node, choices, frame, &mut buffer, out, err)?;
+            Next::Frame(read) => {
+                walk_frame(alloc, net, node, choices, read, &mut buffer, out, err)?;
             }
             Next::End(fault) => return Ok(fault),
         }
@@ -185,8 +187,7 @@ fn run_packets<O: Sink, E: Sink>(
                 number: 1,
                 body: Body::V6(packet),
             };
-            let mut buffer = Vec::new(alloc);
-            walk_frame(alloc, net, node, choices, frame, &mut buffer, out, err)?;
+            walk_frame(alloc, net, node, choices, frame, &mut Vec::new(alloc), out, err)?;
             Ok(None)
         }
         Packets::Capture(head, bytes) => {

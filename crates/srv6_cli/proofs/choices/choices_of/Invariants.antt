@@ -5,5 +5,5 @@ use Rattle.srv6_cli.proofs.choices.choices_of.Given as goal
 
 abbrev pub invariant-loop-part : goal.invariant-loop-part
 invariant-loop-part l =
-    numbers_after l.choices.items (numbers_in (map (λ part. part.now) (drop l.part-index l.parts.items)))
-    ≡ numbers_in (map (λ part. part.now) l.parts.items)
+    numbers_after l.choices.items (numbers_in (map (λ part. part.now) (drop l.part-index l.part-items)))
+    ≡ numbers_in (map (λ part. part.now) l.part-items)

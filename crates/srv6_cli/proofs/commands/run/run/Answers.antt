@@ -1,5 +1,5 @@
 -- What `run` leaves, by where it ends.
-use Rattle.std.proofs.Common.{◌≡◌, inl, inr, ℕ, true, false, List, [], ◌∷◌, ◌++◌, Option, None, Some, IfSome, Ok, Err, refl, sym, ap, subst}
+use Rattle.std.proofs.Common.{◌≡◌, inl, inr, ℕ, true, false, List, [], ◌∷◌, ◌++◌, Option, None, Some, IfSome, Ok, Err, refl, sym, ap, ◌∙◌, subst}
 use Rattle.std.specs.Prelude.{IsSomeAnd}
 use Rattle.srx_edge.specs.Edge.{file_named}
 use Rattle.srx_edge.specs.FilesRead.{FilesSeen, asked_for}
@@ -179,3 +179,26 @@ returns-in_err-packets g c =
     rw (p.1, p.2) (run_halted_at_input c.args.file.now c.args.node.now c.args.choices.now _ _ _ _ (g.O.Sink.seen c.args.out.now) (g.E.Sink.seen c.args.err.now)
     c.in_ok-net.net c.in_ok-net.ensures c.in_ok-node.node (sym c.in_ok-node.ensures.judged)
     c.in_err-packets.field-0.0 c.in_err-packets.ensures.judged)
+
+pub returns-in_err-refusal : goal.returns-in_err-refusal
+returns-in_err-refusal g c =
+    let p = err_from_is_err_and c.from_residual-in_err-refusal.result c.from_residual-in_err-refusal.ensures.1 in
+    rw (p.1, p.2) (run_halted_at_pieces c.args.file.now c.args.node.now c.args.choices.now _ _ _ _ (g.O.Sink.seen c.args.out.now)
+    (g.E.Sink.seen c.args.err.now)
+    c.in_ok-net.net c.in_ok-net.ensures c.in_ok-node.node (sym c.in_ok-node.ensures.judged) c.in_ok-packets.packets
+    c.in_ok-packets.ensures.judged (g.O.Sink.seen c.run_packets.new.out) (g.E.Sink.seen c.run_packets.new.err)
+    c.in_err-refusal.field-0.0 c.in_err-refusal.ensures.wrote)
+
+pub returns-in-Some : goal.returns-in-Some
+returns-in-Some g c = run_refused c.args.file.now c.args.node.now c.args.choices.now _ _ _ _ (g.O.Sink.seen c.args.out.now)
+    (g.E.Sink.seen c.args.err.now)
+    c.in_ok-net.net c.in_ok-net.ensures c.in_ok-node.node (sym c.in_ok-node.ensures.judged) c.in_ok-packets.packets
+    c.in_ok-packets.ensures.judged (g.O.Sink.seen c.run_packets.new.out) (g.E.Sink.seen c.run_packets.new.err)
+    c.in-Some.refusal (sym c.in-Some.is ∙ c.in_ok-refusal.ensures.fault) c.in_ok-refusal.ensures.wrote
+
+pub returns : goal.returns
+returns g c = run_done c.args.file.now c.args.node.now c.args.choices.now _ _ _ _ (g.O.Sink.seen c.args.out.now)
+    (g.E.Sink.seen c.args.err.now)
+    c.in_ok-net.net c.in_ok-net.ensures c.in_ok-node.node (sym c.in_ok-node.ensures.judged) c.in_ok-packets.packets
+    c.in_ok-packets.ensures.judged (g.O.Sink.seen c.run_packets.new.out) (g.E.Sink.seen c.run_packets.new.err)
+    _ (sym c.in-None.is ∙ c.in_ok-refusal.ensures.fault) refl refl c.in_ok-refusal.ensures.wrote
