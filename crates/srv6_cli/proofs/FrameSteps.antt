@@ -1,5 +1,5 @@
 -- The frames of a capture, taken one by one.
-use Rattle.std.proofs.Common.{◌≡◌, ℕ, suc, ◌+◌, ◌-◌, ◌<◌, ◌≤◌, Bool, true, false, ◌==◌, List, [], ◌∷◌, ◌++◌, length, drop, Option, Some, None, Ok, Err, refl, sym, ap, subst, ◌∙◌, arith, rules, length-append, length-drop, append_assoc, append-nil}
+use Rattle.std.proofs.Common.{◌≡◌, ℕ, suc, ◌+◌, ◌-◌, ◌<◌, ◌≤◌, false, ◌==◌, List, [], ◌∷◌, ◌++◌, length, Option, Some, None, Ok, Err, refl, sym, ap, subst, ◌∙◌, arith, rules, length-append, length-drop, append_assoc, append-nil}
 use Rattle.std.specs.List.{flat_map}
 use Rattle.std.proofs.lemmas.Grind.{flat_map-append}
 use Rattle.pcap_io.specs.declared.fault.CaptureFault.TheVariants.{FrameLimit}
@@ -7,8 +7,8 @@ use Rattle.pcap_io.specs.declared.fault.TakeFault.TheVariants as takes
 use Rattle.pcap_io.specs.declared.frame.Frame.{Frame}
 use Rattle.pcap_io.specs.declared.head.CaptureHead.{CaptureHead}
 use Rattle.pcap_io.specs.declared.numbers.TheConstants.{MAX_FRAMES}
-use Rattle.pcap_io.specs.Capture.{Reader, Takes, IsDone, next_frame, after_frame}
-use Rattle.pcap_io.specs.Frames.{Reading, frame_len, behind, with_front, frames_of}
+use Rattle.pcap_io.specs.Capture.{Reader, Takes, next_frame, after_frame}
+use Rattle.pcap_io.specs.Frames.{Reading, frame_len, with_front, frames_of}
 use Rattle.pcap_io.proofs.PublicLaws.{frames_of-zero, frames_of-whole, frames_of-none}
 use Rattle.srx_edge.specs.Sinks.{SinkSeen, sent}
 use Rattle.srx_edge.specs.Steps.{Memory, Wrote}
@@ -69,13 +69,13 @@ next_is_end old new fault h is = (
 pub next_is_limit : (old new : Reader) → Takes old new (Err takes.FrameLimit)
     → Nexts old (Ok (nexts.End (Some (refusals.Capture FrameLimit)))) new
 next_is_limit old new h =
-    let none : MAX_FRAMES - old.taken ≡ 0 = omega (arith, h.0.0) in
-    (
+    let none : MAX_FRAMES - old.taken ≡ 0 = omega (arith, h.0.0) in (
       ap (λ (most : ℕ). frames_of old.head most (old.taken + 1) old.rest) none ∙ frames_of-zero old.head (old.taken + 1) old.rest,
       fault-limit old.taken old.rest h.0.1 h.0.0,
     )
 
 pub ruleset steps = (next_is_frame, next_is_end, next_is_limit)
+
 pub ruleset ends = (fault_none, fault_cut)
 
 -- of a whole capture a reader has these frames left

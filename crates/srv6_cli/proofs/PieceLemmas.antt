@@ -4,7 +4,7 @@ use Rattle.std.proofs.lemmas.Grind.{flat_map-append}
 use Rattle.std.proofs.lemmas.List.{map-append, append-nil}
 use Rattle.srx_edge.specs.Sinks.{SinkSeen, sent}
 use Rattle.srx_edge.specs.Steps.{Ending, How, stopped_by, ending_by as ending_by_how, left_by as left_by_how, IsStopAt, Cut as CutBytes}
-use Rattle.srv6_cli.specs.Pieces.{Piece, ForOut, ForErr, Which, ToOut, ToErr, Sinks, gone, bytes_of_piece, bytes_in_order, At, ending_by, left_by, stop_at, Went}
+use Rattle.srv6_cli.specs.Pieces.{Piece, ForOut, ForErr, Which, ToOut, ToErr, Sinks, gone, bytes_of_piece, bytes_in_order, ending_by, left_by, stop_at, Went}
 
 pub gone-append : (first more : List Piece) (sinks : Sinks) → gone (first ++ more) sinks ≡ gone more (gone first sinks)
 gone-append [] more sinks = refl

@@ -1,7 +1,6 @@
 -- The words of the command line, and the shapes of the commands that they name (own rules).
 pub mod Run
 pub mod Compile
-
 use Rattle.std.specs.Prelude.{◌≡◌, ℕ, ◌<◌, true, false, if◌then◌else◌, List, [], ◌∷◌, length, map, Option, Some, None, String, string_bytes, ⊤}
 use Rattle.std.specs.declared.alloc.Global.{Global}
 use Rattle.srv6_cli.specs.declared.status.Status.TheVariants as statuses

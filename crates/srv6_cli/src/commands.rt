@@ -119,7 +119,16 @@ pub fn command<F: Files, S: Source, O: Sink, E: Sink>(
             file,
             node,
             choices,
-        } => run::run(alloc, file, node, choices.as_slice(), files, input, out, err),
+        } => run::run(
+            alloc,
+            file,
+            node,
+            choices.as_slice(),
+            files,
+            input,
+            out,
+            err,
+        ),
         Words::Compile { file, intent } => compile::compile(alloc, file, intent, files, out),
         Words::Unknown => usage(),
     }

@@ -146,7 +146,7 @@ fn walk_frames<O: Sink, E: Sink>(
     ensures fault { IfOk result (λ fault. fault ≡ fault_of (frames_in head MAX_FRAMES 1 behind.now)) }
     ensures wrote { WroteAll (ending_of_step result)
         (flat_map (walked_of_frame net.now node choices.now)
-            (frames_in head MAX_FRAMES 1 behind.now).frames)
+        (frames_in head MAX_FRAMES 1 behind.now).frames)
         (sinks_of (O.seen out.old) (E.seen err.old)) (sinks_of (O.seen out.new) (E.seen err.new)) }
 {
     let mut buffer = Vec::new(alloc);
@@ -187,7 +187,16 @@ fn run_packets<O: Sink, E: Sink>(
                 number: 1,
                 body: Body::V6(packet),
             };
-            walk_frame(alloc, net, node, choices, frame, &mut Vec::new(alloc), out, err)?;
+            walk_frame(
+                alloc,
+                net,
+                node,
+                choices,
+                frame,
+                &mut Vec::new(alloc),
+                out,
+                err,
+            )?;
             Ok(None)
         }
         Packets::Capture(head, bytes) => {

@@ -1,7 +1,7 @@
 use Rattle.std.proofs.Common.{refl}
 use Rattle.std.proofs.lemmas.Result.{err_from_is_err_and}
 use Rattle.srv6_cli.specs.Command.Run.{unread_of_frame}
-use Rattle.srv6_cli.proofs.FrameSteps.{left_all, told_on, told_cut, told_all, told_failed}
+use Rattle.srv6_cli.proofs.FrameSteps.{left_all, told_on, told_cut, told_failed}
 use Rattle.srv6_cli.proofs.commands.run.tell_unread_frames.Goals as goal
 
 pub frames-init : goal.frames-init
