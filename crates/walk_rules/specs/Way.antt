@@ -1,5 +1,6 @@
 -- Where a packet goes from a place, by its destination alone.
-use Rattle.std.specs.Prelude.{◌≡◌, ℕ, ◌/◌, ◌^◌, ◌<◌, Bool, true, false, ◌==◌, if◌then◌else◌, List, [], length, slice_get, Option, Some, None}
+use Rattle.std.specs.Prelude.{◌≡◌, ℕ, ◌<◌, Bool, true, false, if◌then◌else◌, List, [], length, slice_get, Option, Some, None}
+pub use Rattle.v6_addr.specs.Kinds.{is_multicast}
 use Rattle.srv6_rules.specs.declared.sid.Reason.{Reason}
 use Rattle.srv6_rules.specs.declared.sid.Reason.TheVariants as reasons
 use Rattle.srv6_rules.specs.declared.sid.SidEntry.{SidEntry}
@@ -22,10 +23,6 @@ pub data Way : Type 0 where
   Over : List ℕ → Bool → Way
   Own : Way
   Into : ℕ → Way
-
--- ff00::/8 (RFC 4291 section 2.7)
-unfoldable pub is_multicast : ℕ → Bool
-is_multicast a = (a / 2 ^ 120) == 255
 
 abbrev pub route_links : Option Route → List ℕ
 route_links None = []

@@ -24,4 +24,4 @@ pub use laws::{
 };
 pub use next::{arrival, ended_by, far_end, next_place, on_from};
 pub use place::{Ended, How, Outcome, Place};
-pub use way::{Way, is_multicast, way_in_table, way_of};
+pub use way::{Way, way_in_table, way_of};

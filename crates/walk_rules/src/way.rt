@@ -2,7 +2,7 @@
 
 ghost use Rattle.std.specs.Prelude.{◌≡◌, true, false, ◌<◌, length};
 ghost use Rattle.walk_rules.specs.Relation.{IsHow, IsPlace};
-ghost use Rattle.walk_rules.specs.Way.{IsNumbered, IsWayFrom, is_multicast, way_by, way_by_hit, way_by_table, way_in, way_of};
+ghost use Rattle.walk_rules.specs.Way.{IsNumbered, IsWayFrom, way_by, way_by_hit, way_by_table, way_in, way_of};
 
 use crate::place::{How, Place};
 use net_model::{Hit, Net, NodeTable};
@@ -33,14 +33,6 @@ pub enum Way<'a> {
     },
 }
 
-/// Whether an address is multicast, in ff00::/8 (RFC 4291 section 2.7).
-#[tactic(auto, unfolding(crate::specs::Way::is_multicast))]
-pub fn is_multicast(a: Addr) -> bool
-    ensures { result ≡ is_multicast a.value }
-{
-    a.value >> 120 == 255
-}
-
 /// The way that a hit gives; only a route lowers the hop limit.
 fn way_by_hit(net: &Net, lower: bool, hit: Hit) -> Way<'_>
     requires { IsNumbered net.now hit }
@@ -64,7 +56,7 @@ fn way_by_table(net: &Net, node: u32, table: u32, lower: bool, destination: Addr
     requires { node < length net.now.nodes }
     ensures { way_in result ≡ way_by_table net.now node table lower destination.value }
 {
-    if is_multicast(destination) {
+    if destination.is_multicast() {
         return Way::Away {
             reason: Reason::Multicast,
         };
@@ -78,7 +70,7 @@ pub fn way_in_table<'a>(table: &NodeTable<'a>, lower: bool, destination: Addr) -
     ensures { way_in result ≡ way_by_table table.now.net table.now.node table.now.table lower
         destination.value }
 {
-    if is_multicast(destination) {
+    if destination.is_multicast() {
         return Way::Away {
             reason: Reason::Multicast,
         };
