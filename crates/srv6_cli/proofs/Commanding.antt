@@ -1,5 +1,5 @@
 -- What a command leaves where it ends before anything is written, by how it ends.
-use Rattle.std.proofs.Common.{◌≡◌, inl, inr, ℕ, true, List, [], ◌∷◌, Option, None, Some, Result, Ok, Err, refl, ap, ap₂, ◌∙◌, subst}
+use Rattle.std.proofs.Common.{◌≡◌, inl, inr, ℕ, true, false, List, [], ◌∷◌, ◌++◌, Option, None, Some, Result, Ok, Err, refl, ap, ap₂, ◌∙◌, subst}
 use Rattle.srx_edge.specs.FilesRead.{FilesSeen}
 use Rattle.srx_edge.specs.Sources.{SourceSeen, drained}
 use Rattle.srx_edge.specs.Sinks.{SinkSeen, sent}
@@ -12,17 +12,18 @@ use Rattle.srv6_cli.specs.declared.refusal.Refusal.{Refusal}
 use Rattle.srv6_cli.specs.declared.status.Status.{Status}
 use Rattle.srv6_cli.specs.declared.status.Status.TheVariants as statuses
 use Rattle.srv6_cli.specs.declared.told.Told.{Told}
-use Rattle.srv6_cli.specs.Answers.{ending_of_failure, CommandsOut, UsageTold}
+use Rattle.srv6_cli.specs.Answers.{ending_of_failure, Commands, CommandsOut, UsageTold}
 use Rattle.srv6_cli.specs.Command.{shape_of, usage_shape}
 use Rattle.srv6_cli.specs.Words.{Command, Unknown}
 use Rattle.srv6_cli.specs.Judgements.{refused}
-use Rattle.srv6_cli.specs.Lines.{bytes_of_text, usage_line}
-use Rattle.srv6_cli.specs.Outside.{Asks}
-use Rattle.srv6_cli.specs.Pieces.{ForOut, ForErr, ToOut, Output, Never, AtFiles, AtInput, Elsewhere}
+use Rattle.srv6_cli.specs.Lines.{bytes_of_text, refusal_line, usage_line}
+use Rattle.srv6_cli.specs.Outside.{Outside, IsFrontOf, Asks}
+use Rattle.srv6_cli.specs.Pieces.{Piece, ForOut, ForErr, Which, ToOut, Output, Never, AtFiles, AtInput, Elsewhere, gone, stop_at, StopsIn, WroteAll}
 use Rattle.srv6_cli.specs.Serves.{ending_of_status, OrNothing, LinesLast, Takes}
-use Rattle.srv6_cli.specs.Shape.{WantedOf, IsOneOf}
+use Rattle.srv6_cli.specs.Shape.{names_of, WantedOf, IsOneOf}
 use Rattle.srv6_cli.proofs.Asking.{each}
-use Rattle.srv6_cli.proofs.PieceLemmas.{stop_at, ending_by-stop_at, went_cut}
+use Rattle.srv6_cli.proofs.PieceLemmas.{ending_by-stop_at, went_cut}
+use Rattle.srv6_cli.proofs.PieceSteps.{all_longer}
 
 -- nothing is written
 
@@ -39,7 +40,7 @@ refused_commands command refusal f g s t o wanted own takes = λ err. record {
   output = refused refusal;
   wanted = wanted;
   went = record { before = []; is = refl; went = refl; whole = refl };
-  lines_last = tt;
+  lines_last = λ _. tt;
   status_own = own;
   takes = takes;
   read_to_end = λ done. cc;
@@ -55,7 +56,7 @@ files_fault command f g s o takes = λ err. record {
   output = nothing;
   wanted = inl refl;
   went = refl;
-  lines_last = tt;
+  lines_last = λ _. tt;
   status_own = tt;
   takes = takes;
   read_to_end = tt;
@@ -69,7 +70,7 @@ input_fault command f g s t o takes = λ err. record {
   output = nothing;
   wanted = inl refl;
   went = refl;
-  lines_last = tt;
+  lines_last = λ _. tt;
   status_own = tt;
   takes = takes;
   read_to_end = tt;
@@ -83,11 +84,27 @@ memory_wants command f g s t o takes = λ err. record {
   output = nothing;
   wanted = inl refl;
   went = record { first = []; rest = []; whole = refl; sinks = refl };
-  lines_last = tt;
+  lines_last = λ _. tt;
   status_own = tt;
   takes = takes;
   read_to_end = tt;
 }
+
+-- memory was wanting before anything was read
+pub memory_first : (command : Command) (f : FilesSeen) (s : SourceSeen) (o : SinkSeen)
+    → CommandsOut command (Err (halts.Failed failures.NoMemory)) f f s s o o
+memory_first command f s o = memory_wants command f f s s o (record {
+  asks = record {
+    names = [];
+    in_order = record { rest = (shape_of command).files; whole = refl };
+    those = each f.told (λ held. IsFrontOf (names_of (shape_of command) held) [])
+        (λ held. record { rest = names_of (shape_of command) held; whole = refl });
+    seen = refl;
+  };
+  reads = refl;
+  unread = each f.told (λ held. (shape_of command).leaves_input held → s ≡ s) (λ held _. refl);
+  reads_none = λ _. refl;
+})
 
 -- a command that writes bytes on `out`, and then a line
 
@@ -106,7 +123,7 @@ written_whole command told bytes f g s t o p went wanted whole own takes read = 
   output = written bytes (bytes_of_text told.line) told.status;
   wanted = wanted;
   went = record { before = ForOut bytes ∷ []; is = refl; went = ap (λ (q : SinkSeen). record { out = q; err = err }) went; whole = whole };
-  lines_last = tt;
+  lines_last = λ _. tt;
   status_own = own;
   takes = takes;
   read_to_end = read;
@@ -136,7 +153,7 @@ written-cut command failure bytes last status f g s t o p cut wanted takes = λ 
   wanted = out-wanted cut.how (written bytes last status) (WantedOf (shape_of command) f.told s.left (written bytes last status)) wanted;
   went = went_cut ToOut (ending_of_failure failure) [] (ForErr last ∷ []) bytes
       (record { out = o; err = err }) (record { out = o; err = err }) p refl cut;
-  lines_last = out-last cut.how err o p;
+  lines_last = λ _. out-last cut.how err o p;
   status_own = tt;
   takes = takes cut.how;
   read_to_end = tt;
@@ -151,6 +168,82 @@ written_cut command failures.Fault bytes last status f g s t o p wrote =
     written-cut command failures.Fault bytes last status f g s t o p wrote
 written_cut command failures.NoMemory bytes last status f g s t o p wrote =
     written-cut command failures.NoMemory bytes last status f g s t o p wrote
+
+-- a command that writes pieces for both sinks, and then a line
+
+module _ (command : Command) (before : List Piece) (old new : Outside) where
+  abbrev with_last : List ℕ → Status → Output
+  with_last last status = record { pieces = before ++ ForErr last ∷ []; status = status }
+
+  -- all of them went out
+  pub pieces_whole : (told : Told) → new.sinks ≡ gone before old.sinks
+      → WantedOf (shape_of command) old.files.told old.input.left (with_last (bytes_of_text told.line) told.status)
+      → ending_of_status told.status ≡ Whole → IsOneOf (shape_of command).statuses told.status
+      → Takes (shape_of command) Never old.files new.files old.input new.input
+      → (told.status ≡ statuses.Done → (shape_of command).reads ≡ true → new.input ≡ drained old.input)
+      → Commands command (Ok told) old new
+  pieces_whole told went wanted whole own takes read = record {
+    stop = Never;
+    ending = refl;
+    output = with_last (bytes_of_text told.line) told.status;
+    wanted = wanted;
+    went = record { before = before; is = refl; went = went; whole = whole };
+    lines_last = λ _. tt;
+    status_own = own;
+    takes = takes;
+    read_to_end = read;
+  }
+
+  -- and then the command is refused
+  pub pieces_refused : (refusal : Refusal) → new.sinks ≡ gone before old.sinks
+      → WantedOf (shape_of command) old.files.told old.input.left (with_last (refusal_line refusal) statuses.Refused)
+      → IsOneOf (shape_of command).statuses statuses.Refused
+      → Takes (shape_of command) Never old.files new.files old.input new.input
+      → Commands command (Err (halts.Refused refusal)) old new
+  pieces_refused refusal went wanted own takes = record {
+    stop = Never;
+    ending = refl;
+    output = with_last (refusal_line refusal) statuses.Refused;
+    wanted = wanted;
+    went = record { before = before; is = refl; went = went; whole = refl };
+    lines_last = λ _. tt;
+    status_own = own;
+    takes = takes;
+    read_to_end = λ done. cc;
+  }
+
+  stop-wanted : (sink : Which) (how : Option How) (output : Output) (P : Type 0) → P → OrNothing (stop_at sink how) output P
+  stop-wanted sink None output P p = inr p
+  stop-wanted sink (Some how) output P p = p
+
+  -- only a front of them went out
+  pieces-cut : (failure : Failure) (last : List ℕ) (status : Status) → (shape_of command).lines_last ≡ false
+      → StopsIn (ending_of_failure failure) (before ++ ForErr last ∷ []) old.sinks new.sinks
+      → WantedOf (shape_of command) old.files.told old.input.left (with_last last status)
+      → ((sink : Which) (how : Option How) → Takes (shape_of command) (stop_at sink how) old.files new.files old.input new.input)
+      → Commands command (Err (halts.Failed failure)) old new
+  pieces-cut failure last status between s wanted takes = record {
+    stop = stop_at s.sink s.how;
+    ending = ending_by-stop_at s.sink s.how ∙ s.ends;
+    output = with_last last status;
+    wanted = stop-wanted s.sink s.how (with_last last status)
+        (WantedOf (shape_of command) old.files.told old.input.left (with_last last status)) wanted;
+    went = s.went;
+    lines_last = λ last. cc;
+    status_own = tt;
+    takes = takes s.sink s.how;
+    read_to_end = tt;
+  }
+
+  pub pieces_cut : (failure : Failure) (last : List ℕ) (status : Status) → (shape_of command).lines_last ≡ false
+      → WroteAll (ending_of_failure failure) before old.sinks new.sinks
+      → WantedOf (shape_of command) old.files.told old.input.left (with_last last status)
+      → ((sink : Which) (how : Option How) → Takes (shape_of command) (stop_at sink how) old.files new.files old.input new.input)
+      → Commands command (Err (halts.Failed failure)) old new
+  pieces_cut failures.Fault last status between wrote wanted takes = pieces-cut failures.Fault last status between
+      (all_longer failures.Fault before (ForErr last ∷ []) old.sinks new.sinks wrote) wanted takes
+  pieces_cut failures.NoMemory last status between wrote wanted takes = pieces-cut failures.NoMemory last status between
+      (all_longer failures.NoMemory before (ForErr last ∷ []) old.sinks new.sinks wrote) wanted takes
 
 -- words that are no command
 
@@ -179,7 +272,7 @@ usage-told told f s o line status = λ err. record {
   output = record { pieces = ForErr (bytes_of_text told.line) ∷ []; status = told.status };
   wanted = ap₂ (λ (l : List ℕ) (t : Status). record { pieces = ForErr l ∷ []; status = t }) line status;
   went = record { before = []; is = refl; went = refl; whole = ap ending_of_status status };
-  lines_last = tt;
+  lines_last = λ _. tt;
   status_own = inl status;
   takes = usage-takes f s;
   read_to_end = λ _ none. cc;

@@ -1,9 +1,11 @@
 -- What `Serves` says of each fault and want.
-use Rattle.std.proofs.Common.{◌≡◌, ◌≢◌, inl, inr, ℕ, List, refl, sym, ap, ◌∙◌}
+use Rattle.std.proofs.Common.{◌≡◌, ◌≢◌, inl, inr, ℕ, true, List, refl, sym, ap, ◌∙◌}
 use Rattle.srx_edge.specs.Steps.{Fault, Memory, Failing, Wanting}
 use Rattle.srv6_cli.specs.declared.status.Status.{Status}
 use Rattle.srv6_cli.specs.declared.status.Status.TheVariants as statuses
-use Rattle.srv6_cli.specs.Laws.{HadFault, HadWant, AfterFilesFault, AfterInputFault, AfterOutFault, AfterOutWant, NoFault, NoWant, OneFault, OfServe}
+use Rattle.srv6_cli.specs.Command.{shape_of}
+use Rattle.srv6_cli.specs.Words.{Command}
+use Rattle.srv6_cli.specs.Laws.{HadFault, HadWant, AfterFilesFault, AfterInputFault, AfterOut, AfterOutFault, AfterOutWant, NoFault, NoWant, OneFault, OfServe}
 use Rattle.srv6_cli.specs.Outside.{Outside, Reads, asked_for_all, files_left_by}
 use Rattle.srv6_cli.specs.Pieces.{Piece, ToOut, ToErr, Sinks, Stop, Never, AtFiles, AtInput, At, Elsewhere, ending_by, Went}
 use Rattle.srv6_cli.specs.Serves.{ending_of_status, LinesLast}
@@ -11,41 +13,57 @@ use Rattle.srv6_cli.proofs.Stops.{count-stop, files-stop, input-stop}
 
 -- a count that changed is that of the stop
 
-out-fault : (stop : Stop) (pieces : List Piece) (old new : Sinks) → Went stop pieces old new → LinesLast stop old new
-    → new.out.faults ≢ old.out.faults → HadFault old.out new.out × (new.err ≡ old.err)
-out-fault Never pieces old new w last changed = absurd (changed (count-stop Never ToOut Failing pieces old new w))
-out-fault AtFiles pieces old new w last changed = absurd (changed (count-stop AtFiles ToOut Failing pieces old new w))
-out-fault AtInput pieces old new w last changed = absurd (changed (count-stop AtInput ToOut Failing pieces old new w))
-out-fault (At ToOut Failing) pieces old new w last changed = (
+out-fault : (command : Command) (stop : Stop) (pieces : List Piece) (old new : Sinks) → Went stop pieces old new
+    → ((shape_of command).lines_last ≡ true → LinesLast stop old new)
+    → new.out.faults ≢ old.out.faults → HadFault old.out new.out × AfterOut command old.err new.err
+out-fault command Never pieces old new w last changed =
+    absurd (changed (count-stop Never ToOut Failing pieces old new w))
+out-fault command AtFiles pieces old new w last changed =
+    absurd (changed (count-stop AtFiles ToOut Failing pieces old new w))
+out-fault command AtInput pieces old new w last changed =
+    absurd (changed (count-stop AtInput ToOut Failing pieces old new w))
+out-fault command (At ToOut Failing) pieces old new w last changed = (
   (
     count-stop (At ToOut Failing) ToOut Failing pieces old new w,
     count-stop (At ToOut Failing) ToOut Wanting pieces old new w,
     ap (λ (q : Sinks). q.out.stopped) w.sinks,
   ),
-  last,
+  (count-stop (At ToOut Failing) ToErr Failing pieces old new w, count-stop (At ToOut Failing) ToErr Wanting pieces old new w, last),
 )
-out-fault (At ToOut Wanting) pieces old new w last changed = absurd (changed (count-stop (At ToOut Wanting) ToOut Failing pieces old new w))
-out-fault (At ToErr Failing) pieces old new w last changed = absurd (changed (count-stop (At ToErr Failing) ToOut Failing pieces old new w))
-out-fault (At ToErr Wanting) pieces old new w last changed = absurd (changed (count-stop (At ToErr Wanting) ToOut Failing pieces old new w))
-out-fault Elsewhere pieces old new w last changed = absurd (changed (count-stop Elsewhere ToOut Failing pieces old new w))
+out-fault command (At ToOut Wanting) pieces old new w last changed =
+    absurd (changed (count-stop (At ToOut Wanting) ToOut Failing pieces old new w))
+out-fault command (At ToErr Failing) pieces old new w last changed =
+    absurd (changed (count-stop (At ToErr Failing) ToOut Failing pieces old new w))
+out-fault command (At ToErr Wanting) pieces old new w last changed =
+    absurd (changed (count-stop (At ToErr Wanting) ToOut Failing pieces old new w))
+out-fault command Elsewhere pieces old new w last changed =
+    absurd (changed (count-stop Elsewhere ToOut Failing pieces old new w))
 
-out-want : (stop : Stop) (pieces : List Piece) (old new : Sinks) → Went stop pieces old new → LinesLast stop old new
-    → new.out.wants ≢ old.out.wants → HadWant old.out new.out × (new.err ≡ old.err)
-out-want Never pieces old new w last changed = absurd (changed (count-stop Never ToOut Wanting pieces old new w))
-out-want AtFiles pieces old new w last changed = absurd (changed (count-stop AtFiles ToOut Wanting pieces old new w))
-out-want AtInput pieces old new w last changed = absurd (changed (count-stop AtInput ToOut Wanting pieces old new w))
-out-want (At ToOut Failing) pieces old new w last changed = absurd (changed (count-stop (At ToOut Failing) ToOut Wanting pieces old new w))
-out-want (At ToOut Wanting) pieces old new w last changed = (
+out-want : (command : Command) (stop : Stop) (pieces : List Piece) (old new : Sinks) → Went stop pieces old new
+    → ((shape_of command).lines_last ≡ true → LinesLast stop old new)
+    → new.out.wants ≢ old.out.wants → HadWant old.out new.out × AfterOut command old.err new.err
+out-want command Never pieces old new w last changed =
+    absurd (changed (count-stop Never ToOut Wanting pieces old new w))
+out-want command AtFiles pieces old new w last changed =
+    absurd (changed (count-stop AtFiles ToOut Wanting pieces old new w))
+out-want command AtInput pieces old new w last changed =
+    absurd (changed (count-stop AtInput ToOut Wanting pieces old new w))
+out-want command (At ToOut Failing) pieces old new w last changed =
+    absurd (changed (count-stop (At ToOut Failing) ToOut Wanting pieces old new w))
+out-want command (At ToOut Wanting) pieces old new w last changed = (
   (
     count-stop (At ToOut Wanting) ToOut Wanting pieces old new w,
     count-stop (At ToOut Wanting) ToOut Failing pieces old new w,
     ap (λ (q : Sinks). q.out.stopped) w.sinks,
   ),
-  last,
+  (count-stop (At ToOut Wanting) ToErr Failing pieces old new w, count-stop (At ToOut Wanting) ToErr Wanting pieces old new w, last),
 )
-out-want (At ToErr Failing) pieces old new w last changed = absurd (changed (count-stop (At ToErr Failing) ToOut Wanting pieces old new w))
-out-want (At ToErr Wanting) pieces old new w last changed = absurd (changed (count-stop (At ToErr Wanting) ToOut Wanting pieces old new w))
-out-want Elsewhere pieces old new w last changed = absurd (changed (count-stop Elsewhere ToOut Wanting pieces old new w))
+out-want command (At ToErr Failing) pieces old new w last changed =
+    absurd (changed (count-stop (At ToErr Failing) ToOut Wanting pieces old new w))
+out-want command (At ToErr Wanting) pieces old new w last changed =
+    absurd (changed (count-stop (At ToErr Wanting) ToOut Wanting pieces old new w))
+out-want command Elsewhere pieces old new w last changed =
+    absurd (changed (count-stop Elsewhere ToOut Wanting pieces old new w))
 
 err-fault : (stop : Stop) (pieces : List Piece) (old new : Sinks) → Went stop pieces old new
     → new.err.faults ≢ old.err.faults → HadFault old.err new.err
@@ -103,14 +121,14 @@ after_files_fault command status old new s changed =
 pub after_input_fault : OfServe (λ command status old new. new.input.faults ≢ old.input.faults → AfterInputFault old new)
 after_input_fault command status old new s changed = input-fault s.stop s.output.pieces old new s.takes.reads s.went changed
 
-pub after_out_fault : OfServe (λ command status old new. new.sinks.out.faults ≢ old.sinks.out.faults → AfterOutFault old new)
-after_out_fault command status old new s changed = out-fault s.stop s.output.pieces old.sinks new.sinks s.went s.lines_last changed
+pub after_out_fault : OfServe (λ command status old new. new.sinks.out.faults ≢ old.sinks.out.faults → AfterOutFault command old new)
+after_out_fault command status old new s changed = out-fault command s.stop s.output.pieces old.sinks new.sinks s.went s.lines_last changed
 
 pub after_err_fault : OfServe (λ command status old new. new.sinks.err.faults ≢ old.sinks.err.faults → HadFault old.sinks.err new.sinks.err)
 after_err_fault command status old new s changed = err-fault s.stop s.output.pieces old.sinks new.sinks s.went changed
 
-pub after_out_want : OfServe (λ command status old new. new.sinks.out.wants ≢ old.sinks.out.wants → AfterOutWant old new)
-after_out_want command status old new s changed = out-want s.stop s.output.pieces old.sinks new.sinks s.went s.lines_last changed
+pub after_out_want : OfServe (λ command status old new. new.sinks.out.wants ≢ old.sinks.out.wants → AfterOutWant command old new)
+after_out_want command status old new s changed = out-want command s.stop s.output.pieces old.sinks new.sinks s.went s.lines_last changed
 
 pub after_err_want : OfServe (λ command status old new. new.sinks.err.wants ≢ old.sinks.err.wants → HadWant old.sinks.err new.sinks.err)
 after_err_want command status old new s changed = err-want s.stop s.output.pieces old.sinks new.sinks s.went changed

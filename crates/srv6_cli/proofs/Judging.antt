@@ -7,7 +7,9 @@ use Rattle.srx_edge.specs.FilesRead.{FilesSeen, asked_for}
 use Rattle.srx_edge.specs.Sources.{SourceSeen, drained, Draws}
 use Rattle.srx_edge.specs.declared.input.DrawFault.{DrawFault}
 use Rattle.srx_edge.specs.declared.input.DrawFault.TheVariants as draws
-use Rattle.srv6_rules.specs.Packet.{Content, entered}
+use Rattle.pcap_io.specs.declared.fault.CaptureFault.{CaptureFault}
+use Rattle.pcap_io.specs.declared.head.CaptureHead.{CaptureHead}
+use Rattle.pcap_io.specs.Head.{head_of}
 use Rattle.net_model.specs.Network.{Network}
 use Rattle.net_reader.specs.declared.fault.NetFault.{NetFault}
 use Rattle.net_reader.specs.declared.fault.NetFault.TheVariants as nets
@@ -17,12 +19,15 @@ use Rattle.intent_reader.specs.declared.fault.IntentFault.{IntentFault}
 use Rattle.intent_reader.specs.declared.fault.IntentFault.TheVariants as intents
 use Rattle.intent_reader.specs.Reading.{ReadsAs as ReadsIntentAs}
 use Rattle.srv6_cli.specs.declared.limits.TheConstants.{FILE_LIMIT, INPUT_LIMIT}
+use Rattle.srv6_cli.specs.declared.packets.Packets.{Packets}
+use Rattle.srv6_cli.specs.declared.packets.Packets.TheVariants.{Bare, Capture}
 use Rattle.srv6_cli.specs.declared.refusal.Refusal.{Refusal}
 use Rattle.srv6_cli.specs.declared.refusal.Refusal.TheVariants as refusals
 use Rattle.srv6_cli.specs.Answers.{JudgesFile, JudgesInput}
 use Rattle.srv6_cli.specs.Halts.{halt_of_net, halt_of_intent, halt_of_draw, halt_of_refusal}
-use Rattle.srv6_cli.specs.Judgements.{network_in, intent_in, content_in, is_bare}
+use Rattle.srv6_cli.specs.Judgements.{network_in, intent_in}
 use Rattle.srv6_cli.specs.Outside.{AsksForFront}
+use Rattle.srv6_cli.specs.Packets.{packets_in, is_bare}
 
 -- what is told of a text that was read is told of the judgement of it
 judged-text : {A : Type 0} (judge : List ℕ → Result A Refusal) (judged : Result A Refusal) (text name : List ℕ)
@@ -82,48 +87,57 @@ intent_refused net intents.NoMemory text name old new fits reads seen h = asks-o
 
 pub ruleset files = (network_judged, network_refused, intent_judged, intent_refused)
 
--- what the input makes enter
+-- what the input is
 
-pub content_in-bare : (input : List ℕ) → length input ≤ INPUT_LIMIT → is_bare input ≡ true → content_in input ≡ Ok (entered input)
-content_in-bare input h bare =
+pub packets_in-bare : (input : List ℕ) → length input ≤ INPUT_LIMIT → is_bare input ≡ true → packets_in input ≡ Ok (Bare input)
+packets_in-bare input h bare =
     let small : nat_lt INPUT_LIMIT (length input) ≡ false = le-ltb INPUT_LIMIT (length input) h in
     rw (small, bare) refl
 
-pub content_in-other : (input : List ℕ) → length input ≤ INPUT_LIMIT → is_bare input ≡ false → content_in input ≡ Err refusals.NotBuilt
-content_in-other input h bare =
+pub packets_in-capture : (input : List ℕ) (head : CaptureHead) → length input ≤ INPUT_LIMIT → is_bare input ≡ false
+    → Ok head ≡ head_of input
+    → packets_in input ≡ Ok (Capture head input)
+packets_in-capture input head h bare is =
     let small : nat_lt INPUT_LIMIT (length input) ≡ false = le-ltb INPUT_LIMIT (length input) h in
-    rw (small, bare) refl
+    rw (small, bare, ← is) refl
 
-pub ruleset contents = (content_in-bare, content_in-other)
+pub packets_in-fault : (input : List ℕ) (fault : CaptureFault) → length input ≤ INPUT_LIMIT → is_bare input ≡ false
+    → Err fault ≡ head_of input
+    → packets_in input ≡ Err (refusals.Capture fault)
+packets_in-fault input fault h bare is =
+    let small : nat_lt INPUT_LIMIT (length input) ≡ false = le-ltb INPUT_LIMIT (length input) h in
+    rw (small, bare, ← is) refl
+
+pub ruleset contents = (packets_in-bare, packets_in-capture, packets_in-fault)
 
 -- what was drawn is what was left
-drawn : (judged : Result Content Refusal) (bytes : List ℕ) (left : Option (List ℕ)) → IfSome left (λ input. bytes ≡ input)
-    → content_in bytes ≡ judged
-    → IfSome left (λ input. content_in input ≡ judged)
+drawn : (judged : Result Packets Refusal) (bytes : List ℕ) (left : Option (List ℕ)) → IfSome left (λ input. bytes ≡ input)
+    → packets_in bytes ≡ judged
+    → IfSome left (λ input. packets_in input ≡ judged)
 drawn judged bytes None all is = tt
-drawn judged bytes (Some input) all is = subst (λ (b : List ℕ). content_in b ≡ judged) all is
+drawn judged bytes (Some input) all is = subst (λ (b : List ℕ). packets_in b ≡ judged) all is
 
-pub content_judged : (content : Content) (bytes : List ℕ) (old new : SourceSeen) → IfSome old.left (λ input. bytes ≡ input)
+pub packets_judged : (packets : Packets) (bytes : List ℕ) (old new : SourceSeen) → IfSome old.left (λ input. bytes ≡ input)
     → new ≡ drained old
-    → content_in bytes ≡ Ok content → JudgesInput content_in (Ok content) old new
-content_judged content bytes old new all seen is = (drawn (Ok content) bytes old.left all is, seen)
+    → packets_in bytes ≡ Ok packets → JudgesInput packets_in (Ok packets) old new
+packets_judged packets bytes old new all seen is = (drawn (Ok packets) bytes old.left all is, seen)
 
-pub content_refused : (refusal : Refusal) (bytes : List ℕ) (old new : SourceSeen) → IfSome old.left (λ input. bytes ≡ input)
+pub packets_refused : (refusal : Refusal) (bytes : List ℕ) (old new : SourceSeen) → IfSome old.left (λ input. bytes ≡ input)
     → new ≡ drained old
-    → content_in bytes ≡ Err refusal → JudgesInput content_in (Err (halt_of_refusal refusal)) old new
-content_refused refusal bytes old new all seen is = (drawn (Err refusal) bytes old.left all is, ap (λ (s : SourceSeen). s.faults) seen)
+    → packets_in bytes ≡ Err refusal → JudgesInput packets_in (Err (halt_of_refusal refusal)) old new
+packets_refused refusal bytes old new all seen is = (drawn (Err refusal) bytes old.left all is, ap (λ (s : SourceSeen). s.faults) seen)
 
 too-much : (left : Option (List ℕ)) → IfSome left (λ input. INPUT_LIMIT < length input)
-    → IfSome left (λ input. content_in input ≡ Err (refusals.TooBig INPUT_LIMIT))
+    → IfSome left (λ input. packets_in input ≡ Err (refusals.TooBig INPUT_LIMIT))
 too-much None more = tt
 too-much (Some input) more = let many : nat_lt INPUT_LIMIT (length input) ≡ true = search rules in rw many refl
 
 pub input_not_drawn : (fault : DrawFault) (old new : SourceSeen) → Draws INPUT_LIMIT (Err fault) old new
-    → JudgesInput content_in (Err (halt_of_draw fault)) old new
+    → JudgesInput packets_in (Err (halt_of_draw fault)) old new
 input_not_drawn draws.Failed old new h = (ap (λ (s : SourceSeen). s.faults) h.seen, ap (λ (s : SourceSeen). s.stopped) h.seen)
 input_not_drawn (draws.TooBig most) old new h =
-    subst (λ (n : ℕ). JudgesInput content_in (Err (halt_of_draw (draws.TooBig n))) old new) (sym h.0)
+    subst (λ (n : ℕ). JudgesInput packets_in (Err (halt_of_draw (draws.TooBig n))) old new) (sym h.0)
     (too-much old.left h.1, ap (λ (s : SourceSeen). s.faults) h.2)
 input_not_drawn draws.NoMemory old new h = ap (λ (s : SourceSeen). s.faults) h.seen
 
-pub ruleset inputs = (content_judged, content_refused, input_not_drawn)
+pub ruleset inputs = (packets_judged, packets_refused, input_not_drawn)

@@ -1,7 +1,10 @@
 pub mod PieceLemmas
 pub mod Asking
 pub mod Judging
+pub mod ChoiceLemmas
 pub mod Writing
+pub mod PieceSteps
+pub mod FrameSteps
 pub mod Walking
 pub mod Writable
 pub mod Commanding

@@ -4,7 +4,7 @@ use Rattle.std.proofs.lemmas.Grind.{flat_map-append}
 use Rattle.std.proofs.lemmas.List.{map-append, append-nil}
 use Rattle.srx_edge.specs.Sinks.{SinkSeen, sent}
 use Rattle.srx_edge.specs.Steps.{Ending, How, stopped_by, ending_by as ending_by_how, left_by as left_by_how, IsStopAt, Cut as CutBytes}
-use Rattle.srv6_cli.specs.Pieces.{Piece, ForOut, ForErr, Which, ToOut, ToErr, Sinks, gone, bytes_of_piece, bytes_in_order, Stop, At, Elsewhere, ending_by, left_by, Went}
+use Rattle.srv6_cli.specs.Pieces.{Piece, ForOut, ForErr, Which, ToOut, ToErr, Sinks, gone, bytes_of_piece, bytes_in_order, ending_by, left_by, stop_at, Went}
 
 pub gone-append : (first more : List Piece) (sinks : Sinks) → gone (first ++ more) sinks ≡ gone more (gone first sinks)
 gone-append [] more sinks = refl
@@ -30,11 +30,6 @@ with_seen ToErr seen sinks = record sinks { err = seen }
 
 abbrev pub marked : Which → List ℕ → List (Which × ℕ)
 marked sink bytes = map (λ byte. (sink, byte)) bytes
-
--- where a call stopped whose step on a sink ended early
-abbrev pub stop_at : Which → Option How → Stop
-stop_at sink None = Elsewhere
-stop_at sink (Some how) = At sink how
 
 pub ending_by-stop_at : (sink : Which) (how : Option How) → ending_by (stop_at sink how) ≡ ending_by_how how
 ending_by-stop_at sink None = refl

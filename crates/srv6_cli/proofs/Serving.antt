@@ -15,10 +15,10 @@ use Rattle.srv6_cli.specs.Command.{shape_of}
 use Rattle.srv6_cli.specs.Words.{Command}
 use Rattle.srv6_cli.specs.Lines.{bytes_of_text, refusal_line}
 use Rattle.srv6_cli.specs.Outside.{Outside, AsksAs, Reads, asked_for_all, files_left_by}
-use Rattle.srv6_cli.specs.Pieces.{ForErr, ToErr, Output, Sinks, Stop, Never, AtFiles, AtInput, At, Elsewhere, ending_by, gone, Went}
+use Rattle.srv6_cli.specs.Pieces.{ForErr, ToErr, Output, Sinks, Stop, Never, AtFiles, AtInput, At, Elsewhere, ending_by, gone, Went, stop_at}
 use Rattle.srv6_cli.specs.Serves.{ending_of_status, OnWhole, OrNothing, LinesLast, Takes, Serves}
 use Rattle.srv6_cli.specs.Shape.{Shape, names_of, WantedOf, IsOneOf}
-use Rattle.srv6_cli.proofs.PieceLemmas.{gone-append, stop_at, ending_by-stop_at, went_cut}
+use Rattle.srv6_cli.proofs.PieceLemmas.{gone-append, ending_by-stop_at, went_cut}
 
 -- the sinks, and what is outside, with another `err`
 abbrev pub with_err : SinkSeen → Outside → Outside
@@ -100,7 +100,7 @@ line-whole command last own status old mid err e whole is went = record {
   went = ap (λ (s : SinkSeen). record mid.sinks { err = s }) went
       ∙ (ap (gone (ForErr last ∷ [])) e.ends.went ∙ (sym (gone-append e.ends.before (ForErr last ∷ []) old.sinks)
       ∙ ap (λ (o : Output). gone o.pieces old.sinks) (sym e.ends.is)));
-  lines_last = tt;
+  lines_last = λ _. tt;
   status_wanted = on_whole (ending_of_status status) (e.output.status ≡ status) (λ _. ap (λ (o : Output). o.status) e.ends.is ∙ sym is);
   status_own = on_whole (ending_of_status status) (IsOneOf (shape_of command).statuses status)
       (λ _. subst (IsOneOf (shape_of command).statuses) (sym is) e.status_own);
@@ -120,7 +120,7 @@ line-cut command last own status old mid err ending e is early cut = record {
   wanted = or-nothing cut.how e.output (WantedOf (shape_of command) old.files.told old.input.left e.output) e.wanted;
   went = subst (λ (o : Output). Went (stop_at ToErr cut.how) o.pieces old.sinks (record mid.sinks { err = err })) (sym e.ends.is)
       (went_cut ToErr ending e.ends.before [] last old.sinks mid.sinks err e.ends.went cut);
-  lines_last = lines-last cut.how old.sinks (record mid.sinks { err = err });
+  lines_last = λ _. lines-last cut.how old.sinks (record mid.sinks { err = err });
   status_wanted = on_whole (ending_of_status status) (e.output.status ≡ status) (λ whole. absurd (early (sym is ∙ whole)));
   status_own = on_whole (ending_of_status status) (IsOneOf (shape_of command).statuses status) (λ whole. absurd (early (sym is ∙ whole)));
   takes = takes-on (shape_of command) cut.how old.files mid.files old.input mid.input e.takes;
@@ -141,7 +141,7 @@ line-ends command last own status old mid err Memory e is wrote own' =
 failed-serves : (command : Command) (status : Status) (old mid : Outside) (stop : Stop) (output : Output)
     → ending_by stop ≡ ending_of_status status
     → (ending_of_status status ≡ Whole → ⊥) → OrNothing stop output (WantedOf (shape_of command) old.files.told old.input.left output)
-    → Went stop output.pieces old.sinks mid.sinks → LinesLast stop old.sinks mid.sinks
+    → Went stop output.pieces old.sinks mid.sinks → ((shape_of command).lines_last ≡ true → LinesLast stop old.sinks mid.sinks)
     → Takes (shape_of command) stop old.files mid.files old.input mid.input → Serves command status old mid
 failed-serves command status old mid stop output is early wanted went last takes = record {
   stop = stop;

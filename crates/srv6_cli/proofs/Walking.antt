@@ -18,15 +18,15 @@ use Rattle.srv6_cli.specs.Capture.{frames_of, frame_of_gave}
 use Rattle.srv6_cli.proofs.Writing.{wrote_longer, wrote_after}
 
 -- of a whole walk some stages are left: what went out before is a front of its frames, and its end is theirs
-pub record Progress (net : Network) (left whole : List Step) (first now : SinkSeen) : Type 0 where
+pub record Progress (number : ℕ) (net : Network) (left whole : List Step) (first now : SinkSeen) : Type 0 where
   pub bytes : List ℕ
   pub seen : now ≡ sent bytes first
-  pub frames : bytes ++ frames_of 1 left ≡ frames_of 1 whole
+  pub frames : bytes ++ frames_of number left ≡ frames_of number whole
   pub ends : end_of net left ≡ end_of net whole
 
 -- nothing went out yet
-pub progress_none : (net : Network) (whole : List Step) (first : SinkSeen) → Progress net whole whole first first
-progress_none net whole first = record { bytes = []; seen = refl; frames = refl; ends = refl }
+pub progress_none : (number : ℕ) (net : Network) (whole : List Step) (first : SinkSeen) → Progress number net whole whole first first
+progress_none number net whole first = record { bytes = []; seen = refl; frames = refl; ends = refl }
 
 -- a link with a far end goes on
 arrives : (end : Option ℕ) (place next : Place) (link : ℕ) → arrival end place ≡ Some next → left_or_stages link end ≡ ends.Stages
@@ -48,48 +48,49 @@ end_of-cons : (net : Network) (s : Step) (rest : List Step) → end_by net s.pla
 end_of-cons net s [] h = h
 end_of-cons net s (t ∷ rest) h = refl
 
-module _ (net : Network) (left whole rest : List Step) (s : Step) (first now later : SinkSeen) (begins : left ≡ s ∷ rest)
-    (p : Progress net left whole first now) where
+module _ (number : ℕ) (net : Network) (left whole rest : List Step) (s : Step) (first now later : SinkSeen) (begins : left ≡ s ∷ rest)
+    (p : Progress number net left whole first now) where
   -- what went out, and then the stage's frames and those of the rest
-  frames-on : (p.bytes ++ frame_of_gave 1 s.gave) ++ frames_of 1 rest ≡ frames_of 1 whole
-  frames-on = append_assoc p.bytes (frame_of_gave 1 s.gave) (frames_of 1 rest)
-      ∙ (ap (λ (steps : List Step). p.bytes ++ frames_of 1 steps) (sym begins) ∙ p.frames)
+  frames-on : (p.bytes ++ frame_of_gave number s.gave) ++ frames_of number rest ≡ frames_of number whole
+  frames-on = append_assoc p.bytes (frame_of_gave number s.gave) (frames_of number rest)
+      ∙ (ap (λ (steps : List Step). p.bytes ++ frames_of number steps) (sym begins) ∙ p.frames)
 
   -- after a stage whose frames went out
-  pub progress_on : end_by net s.place s.gave.outcome ≡ ends.Stages → later ≡ sent (frame_of_gave 1 s.gave) now
-      → Progress net rest whole first later
+  pub progress_on : end_by net s.place s.gave.outcome ≡ ends.Stages → later ≡ sent (frame_of_gave number s.gave) now
+      → Progress number net rest whole first later
   progress_on goes went = record {
-    bytes = p.bytes ++ frame_of_gave 1 s.gave;
-    seen = sent_both p.bytes (frame_of_gave 1 s.gave) first now later p.seen went;
+    bytes = p.bytes ++ frame_of_gave number s.gave;
+    seen = sent_both p.bytes (frame_of_gave number s.gave) first now later p.seen went;
     frames = frames-on;
     ends = sym (end_of-cons net s rest goes) ∙ (ap (end_of net) (sym begins) ∙ p.ends);
   }
 
   -- frames that went out in part
-  pub progress_cut : (failure : Failure) → Wrote (ending_of_failure failure) (frame_of_gave 1 s.gave) now later
-      → Wrote (ending_of_failure failure) (frames_of 1 whole) first later
+  pub progress_cut : (failure : Failure) → Wrote (ending_of_failure failure) (frame_of_gave number s.gave) now later
+      → Wrote (ending_of_failure failure) (frames_of number whole) first later
   progress_cut failure wrote = subst (λ (bytes : List ℕ). Wrote (ending_of_failure failure) bytes first later) frames-on
-      (wrote_longer failure (p.bytes ++ frame_of_gave 1 s.gave) (frames_of 1 rest) first later
-      (wrote_after failure p.bytes (frame_of_gave 1 s.gave) first now later p.seen wrote))
+      (wrote_longer failure (p.bytes ++ frame_of_gave number s.gave) (frames_of number rest) first later
+      (wrote_after failure p.bytes (frame_of_gave number s.gave) first now later p.seen wrote))
 
 -- no stage is left: all went out, and the walk ended as the last stage did
 
-pub progress_stops : (net : Network) (left whole : List Step) (first now : SinkSeen) → left ≡ [] → Progress net left whole first now
-    → (now ≡ sent (frames_of 1 whole) first) × (ends.Stages ≡ end_of net whole)
-progress_stops net left whole first now none p = (
+pub progress_stops : (number : ℕ) (net : Network) (left whole : List Step) (first now : SinkSeen) → left ≡ []
+    → Progress number net left whole first now
+    → (now ≡ sent (frames_of number whole) first) × (ends.Stages ≡ end_of net whole)
+progress_stops number net left whole first now none p = (
   p.seen ∙ ap (λ (bytes : List ℕ). sent bytes first)
-      (sym (append-nil p.bytes) ∙ (ap (λ (steps : List Step). p.bytes ++ frames_of 1 steps) (sym none) ∙ p.frames)),
+      (sym (append-nil p.bytes) ∙ (ap (λ (steps : List Step). p.bytes ++ frames_of number steps) (sym none) ∙ p.frames)),
   ap (end_of net) (sym none) ∙ p.ends,
 )
 
-pub progress_ends : (net : Network) (left whole : List Step) (s : Step) (first now later : SinkSeen) → left ≡ s ∷ []
-    → Progress net left whole first now
-    → later ≡ sent (frame_of_gave 1 s.gave) now
-    → (later ≡ sent (frames_of 1 whole) first) × (end_by net s.place s.gave.outcome ≡ end_of net whole)
-progress_ends net left whole s first now later last p went = (
-  sent_both p.bytes (frame_of_gave 1 s.gave) first now later p.seen went
+pub progress_ends : (number : ℕ) (net : Network) (left whole : List Step) (s : Step) (first now later : SinkSeen) → left ≡ s ∷ []
+    → Progress number net left whole first now
+    → later ≡ sent (frame_of_gave number s.gave) now
+    → (later ≡ sent (frames_of number whole) first) × (end_by net s.place s.gave.outcome ≡ end_of net whole)
+progress_ends number net left whole s first now later last p went = (
+  sent_both p.bytes (frame_of_gave number s.gave) first now later p.seen went
       ∙ ap (λ (bytes : List ℕ). sent bytes first)
-      (sym (append-nil (p.bytes ++ frame_of_gave 1 s.gave)) ∙ frames-on net left whole [] s first now later last p),
+      (sym (append-nil (p.bytes ++ frame_of_gave number s.gave)) ∙ frames-on number net left whole [] s first now later last p),
   ap (end_of net) (sym last) ∙ p.ends,
 )
 
@@ -126,25 +127,26 @@ walk_is_over net left place content pick taken is =
 
 -- a stage of the loop, by what it gave
 
-module _ (net : Network) (all more : ℕ) (place : Place) (content : Content) (pick : ℕ → ℕ) (taken : ℕ) (gave : Gave) (whole : List Step)
+module _ (number : ℕ) (net : Network) (all more : ℕ) (place : Place) (content : Content) (pick : ℕ → ℕ) (taken : ℕ) (gave : Gave)
+    (whole : List Step)
     (first now later : SinkSeen) (is : all ≡ suc more) (gives : step_of net place content (pick taken) ≡ gave)
-    (p : Progress net (walk_of all net (Some place) content pick taken) whole first now) where
-  pub staged_on : (next : Place) → next_place net place gave.outcome ≡ Some next → later ≡ sent (frame_of_gave 1 gave) now
-      → Progress net (walk_of more net (Some next) gave.after pick (taken + decisions gave.outcome)) whole first later
-  staged_on next goes went = progress_on net (walk_of all net (Some place) content pick taken) whole
+    (p : Progress number net (walk_of all net (Some place) content pick taken) whole first now) where
+  pub staged_on : (next : Place) → next_place net place gave.outcome ≡ Some next → later ≡ sent (frame_of_gave number gave) now
+      → Progress number net (walk_of more net (Some next) gave.after pick (taken + decisions gave.outcome)) whole first later
+  staged_on next goes went = progress_on number net (walk_of all net (Some place) content pick taken) whole
       (walk_of more net (Some next) gave.after pick (taken + decisions gave.outcome))
       (step_by net all more place content pick taken gave is gives) first now later
       (walk_goes_on net all more place content pick taken gave is gives next goes) p (goes_on net place next gave.outcome goes) went
 
-  pub staged_end : next_place net place gave.outcome ≡ None → later ≡ sent (frame_of_gave 1 gave) now
-      → (later ≡ sent (frames_of 1 whole) first) × (end_by net place gave.outcome ≡ end_of net whole)
-  staged_end stops went = progress_ends net (walk_of all net (Some place) content pick taken) whole
+  pub staged_end : next_place net place gave.outcome ≡ None → later ≡ sent (frame_of_gave number gave) now
+      → (later ≡ sent (frames_of number whole) first) × (end_by net place gave.outcome ≡ end_of net whole)
+  staged_end stops went = progress_ends number net (walk_of all net (Some place) content pick taken) whole
       (step_by net all more place content pick taken gave is gives) first now later
       (walk_ends net all more place content pick taken gave is gives stops) p went
 
-  pub staged_cut : (failure : Failure) → Wrote (ending_of_failure failure) (frame_of_gave 1 gave) now later
-      → Wrote (ending_of_failure failure) (frames_of 1 whole) first later
-  staged_cut failure wrote = progress_cut net (walk_of all net (Some place) content pick taken) whole
+  pub staged_cut : (failure : Failure) → Wrote (ending_of_failure failure) (frame_of_gave number gave) now later
+      → Wrote (ending_of_failure failure) (frames_of number whole) first later
+  staged_cut failure wrote = progress_cut number net (walk_of all net (Some place) content pick taken) whole
       (walk_of more net (next_place net place gave.outcome) gave.after pick (taken + decisions gave.outcome))
       (step_by net all more place content pick taken gave is gives) first now later
       (walk_begins net all more place content pick taken gave is gives) p failure wrote

@@ -80,7 +80,7 @@ pub record Commands (command : Command) (answer : Result Told Halt) (old new : O
   pub output : Output
   pub wanted : OrNothing stop output (WantedOf (shape_of command) old.files.told old.input.left output)
   pub went : CommandWent answer stop output old.sinks new.sinks
-  pub lines_last : LinesLast stop old.sinks new.sinks
+  pub lines_last : (shape_of command).lines_last ≡ true → LinesLast stop old.sinks new.sinks
   pub status_own : IfEnds answer (IsOneOf (shape_of command).statuses)
   pub takes : Takes (shape_of command) stop old.files new.files old.input new.input
   pub read_to_end : IfEnds answer (λ status. status ≡ statuses.Done → (shape_of command).reads ≡ true → new.input ≡ drained old.input)

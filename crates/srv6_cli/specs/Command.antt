@@ -1,23 +1,33 @@
 -- The words of the command line, and the shapes of the commands that they name (own rules).
 pub mod Run
 pub mod Compile
-use Rattle.std.specs.Prelude.{◌≡◌, ℕ, false, if◌then◌else◌, List, [], ◌∷◌, map, String, string_bytes, ⊤}
+use Rattle.std.specs.Prelude.{◌≡◌, ℕ, ◌<◌, true, false, if◌then◌else◌, List, [], ◌∷◌, length, map, Option, Some, None, String, string_bytes, ⊤}
 use Rattle.std.specs.declared.alloc.Global.{Global}
 use Rattle.srv6_cli.specs.declared.status.Status.TheVariants as statuses
 use Rattle.srv6_cli.specs.declared.commands.Words.{Words}
 use Rattle.srv6_cli.specs.declared.commands.Words.TheVariants as words
+use Rattle.srv6_cli.specs.Choices.{choices_in}
 use Rattle.srv6_cli.specs.Lines.{usage_line}
 use Rattle.srv6_cli.specs.Pieces.{ForErr}
 use Rattle.srv6_cli.specs.Shape.{Shape}
 use Rattle.srv6_cli.specs.Words.{Command}
 use Rattle.srv6_cli.specs.Words as commands
-use Rattle.srv6_cli.specs.Command.Run.{is_run, run_shape}
+use Rattle.srv6_cli.specs.Command.Run.{is_run, no_choices, run_shape}
 use Rattle.srv6_cli.specs.Command.Compile.{is_compile, compile_shape}
+
+abbrev pub run_with : List ℕ → List ℕ → Option (List ℕ) → Command
+run_with file node None = commands.Unknown
+run_with file node (Some choices) = commands.Run file node choices
 
 abbrev pub command_of_three : List ℕ → List ℕ → List ℕ → Command
 command_of_three verb first second =
-    if is_run verb first second then commands.Run first second
+    if is_run verb first second then commands.Run first second no_choices
     else if is_compile verb first second then commands.Compile first second
+    else commands.Unknown
+
+abbrev pub command_of_four : List ℕ → List ℕ → List ℕ → List ℕ → Command
+command_of_four verb first second third =
+    if is_run verb first second then run_with first second (choices_in third)
     else commands.Unknown
 
 abbrev pub command_of : List (List ℕ) → Command
@@ -25,7 +35,8 @@ command_of [] = commands.Unknown
 command_of (verb ∷ []) = commands.Unknown
 command_of (verb ∷ first ∷ []) = commands.Unknown
 command_of (verb ∷ first ∷ second ∷ []) = command_of_three verb first second
-command_of (verb ∷ first ∷ second ∷ third ∷ more) = commands.Unknown
+command_of (verb ∷ first ∷ second ∷ third ∷ []) = command_of_four verb first second third
+command_of (verb ∷ first ∷ second ∷ third ∷ fourth ∷ more) = commands.Unknown
 
 -- the bytes of words
 abbrev pub words_of : List (String Global) → List (List ℕ)
@@ -38,17 +49,24 @@ usage_shape = record {
   goes_on = λ texts. false;
   reads = false;
   leaves_input = λ held. ⊤;
+  lines_last = true;
   statuses = statuses.Usage ∷ [];
   wants = λ held input output. output ≡ record { pieces = ForErr usage_line ∷ []; status = statuses.Usage };
 }
 
 abbrev pub shape_of : Command → Shape
-shape_of (commands.Run file node) = run_shape file node
+shape_of (commands.Run file node choices) = run_shape file node choices
 shape_of (commands.Compile file intent) = compile_shape file intent
 shape_of commands.Unknown = usage_shape
 
 -- the command as the code names it
 abbrev pub command_seen : Words → Command
-command_seen (words.Run file node) = commands.Run file.now node.now
+command_seen (words.Run file node choices) = commands.Run file.now node.now choices.items
 command_seen (words.Compile file intent) = commands.Compile file.now intent.now
 command_seen words.Unknown = commands.Unknown
+
+-- a run has at least one choice
+abbrev pub HasChoices : Words → Type 0
+HasChoices (words.Run file node choices) = 0 < length choices.items
+HasChoices (words.Compile file intent) = ⊤
+HasChoices words.Unknown = ⊤

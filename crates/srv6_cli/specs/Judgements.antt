@@ -1,14 +1,13 @@
--- The judgements of files, words and the input: what each gives, or its refusal.
-use Rattle.std.specs.Prelude.{ℕ, ◌/◌, Bool, ◌&&◌, ◌==◌, not, nat_lt, if◌then◌else◌, List, [], ◌∷◌, length, slice_index, Option, Some, None, Result, Ok, Err}
+-- The judgements of files and words: what each gives, or its refusal.
+use Rattle.std.specs.Prelude.{ℕ, nat_lt, if◌then◌else◌, List, [], ◌∷◌, length, Option, Some, None, Result, Ok, Err}
 use Rattle.toml.specs.Data.{Members}
-use Rattle.srv6_rules.specs.Packet.{Content, entered}
 use Rattle.net_model.specs.Network.{Network}
 use Rattle.net_model.specs.Named.{node_numbered}
 use Rattle.net_reader.specs.Reading.{document_of}
 use Rattle.net_reader.specs.Description.{network_of_document}
 use Rattle.intent_reader.specs.declared.intent.Intent.{Intent}
 use Rattle.intent_reader.specs.Document.{intent_of_document}
-use Rattle.srv6_cli.specs.declared.limits.TheConstants.{FILE_LIMIT, INPUT_LIMIT}
+use Rattle.srv6_cli.specs.declared.limits.TheConstants.{FILE_LIMIT}
 use Rattle.srv6_cli.specs.declared.refusal.Refusal.{Refusal}
 use Rattle.srv6_cli.specs.declared.refusal.Refusal.TheVariants as refusals
 use Rattle.srv6_cli.specs.declared.status.Status.TheVariants as statuses
@@ -49,17 +48,6 @@ intent_by net (Some document) = intent_or (intent_of_document net document)
 
 abbrev pub intent_in : Network → List ℕ → Result Intent Refusal
 intent_in net text = if nat_lt FILE_LIMIT (length text) then Err (refusals.TooBig FILE_LIMIT) else intent_by net (document_of text)
-
--- what enters: one bare IPv6 packet, of which the first half byte is 6, cut behind its own end
-
-abbrev pub is_bare : List ℕ → Bool
-is_bare input = not (length input == 0) && ((slice_index input 0 / 16) == 6)
-
-abbrev pub content_in : List ℕ → Result Content Refusal
-content_in input =
-    if nat_lt INPUT_LIMIT (length input) then Err (refusals.TooBig INPUT_LIMIT)
-    else if is_bare input then Ok (entered input)
-    else Err refusals.NotBuilt
 
 -- the output of a refusal: its line
 abbrev pub refused : Refusal → Output

@@ -1,8 +1,9 @@
 -- What `Serves` says of each fault and of each want of memory in a sink by itself.
-use Rattle.std.specs.Prelude.{◌≡◌, ◌⊎◌, IsTrue}
+use Rattle.std.specs.Prelude.{◌≡◌, ◌⊎◌, true, IsTrue}
 use Rattle.srx_edge.specs.Edge.{next_count}
 use Rattle.srx_edge.specs.Sinks.{SinkSeen}
 use Rattle.srv6_cli.specs.declared.status.Status.{Status}
+use Rattle.srv6_cli.specs.Command.{shape_of}
 use Rattle.srv6_cli.specs.Words.{Command}
 use Rattle.srv6_cli.specs.Outside.{Outside}
 use Rattle.srv6_cli.specs.Serves.{Serves}
@@ -15,7 +16,8 @@ HadFault old new = (new.faults ≡ next_count old.faults) × (new.wants ≡ old.
 abbrev pub HadWant : SinkSeen → SinkSeen → Type 0
 HadWant old new = (new.wants ≡ next_count old.wants) × (new.faults ≡ old.faults) × IsTrue new.stopped
 
--- what follows in the order files, input, `out`, `err` was neither read nor written
+-- what follows in the order files, input, pieces was neither read nor written; where `out` was stopped, `err` had no
+-- fault and no want, and received nothing where the command's lines stand behind all of `out`
 
 abbrev pub AfterFilesFault : Outside → Outside → Type 0
 AfterFilesFault old new = (new.files.faults ≡ next_count old.files.faults) × (new.input ≡ old.input) × (new.sinks ≡ old.sinks)
@@ -23,11 +25,14 @@ AfterFilesFault old new = (new.files.faults ≡ next_count old.files.faults) × 
 abbrev pub AfterInputFault : Outside → Outside → Type 0
 AfterInputFault old new = (new.input.faults ≡ next_count old.input.faults) × IsTrue new.input.stopped × (new.sinks ≡ old.sinks)
 
-abbrev pub AfterOutFault : Outside → Outside → Type 0
-AfterOutFault old new = HadFault old.sinks.out new.sinks.out × (new.sinks.err ≡ old.sinks.err)
+abbrev pub AfterOut : Command → SinkSeen → SinkSeen → Type 0
+AfterOut command old new = (new.faults ≡ old.faults) × (new.wants ≡ old.wants) × ((shape_of command).lines_last ≡ true → new ≡ old)
 
-abbrev pub AfterOutWant : Outside → Outside → Type 0
-AfterOutWant old new = HadWant old.sinks.out new.sinks.out × (new.sinks.err ≡ old.sinks.err)
+abbrev pub AfterOutFault : Command → Outside → Outside → Type 0
+AfterOutFault command old new = HadFault old.sinks.out new.sinks.out × AfterOut command old.sinks.err new.sinks.err
+
+abbrev pub AfterOutWant : Command → Outside → Outside → Type 0
+AfterOutWant command old new = HadWant old.sinks.out new.sinks.out × AfterOut command old.sinks.err new.sinks.err
 
 -- the counts that are as they were
 

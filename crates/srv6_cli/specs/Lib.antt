@@ -1,10 +1,12 @@
 pub mod Pieces
 pub mod Shape
 pub mod Words
+pub mod Choices
 pub mod Outside
 pub mod Lines
 pub mod Capture
 pub mod Sent
+pub mod Packets
 pub mod Judgements
 pub mod Command
 pub mod Serves

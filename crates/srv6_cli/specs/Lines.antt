@@ -2,6 +2,8 @@
 use Rattle.std.specs.Prelude.{ℕ, List, [], ◌∷◌, ◌++◌, codes, slice_get, Option, Some, None, string_bytes}
 use Rattle.std.specs.Fmt.{decimal}
 use Rattle.v6_addr.specs.Text.{prefix_text}
+use Rattle.pcap_io.specs.declared.fault.CaptureFault.{CaptureFault}
+use Rattle.pcap_io.specs.declared.fault.CaptureFault.TheVariants as captures
 use Rattle.srv6_rules.specs.declared.sid.Reason.{Reason}
 use Rattle.srv6_rules.specs.Reasons.{reason_name}
 use Rattle.net_model.specs.declared.parts.Node.{Node}
@@ -10,6 +12,8 @@ use Rattle.net_model.specs.Network.{Network}
 use Rattle.walk_rules.specs.declared.place.Ended.{Ended}
 use Rattle.walk_rules.specs.declared.place.Ended.TheVariants as ends
 use Rattle.srv6_cli.specs.declared.limits.TheConstants.{STAGES}
+use Rattle.srv6_cli.specs.declared.packets.Unread.{Unread}
+use Rattle.srv6_cli.specs.declared.packets.Unread.TheVariants as unreads
 use Rattle.srv6_cli.specs.declared.refusal.Refusal.{Refusal}
 use Rattle.srv6_cli.specs.declared.refusal.Refusal.TheVariants as refusals
 use Rattle.srv6_cli.specs.declared.told.Text.{Text}
@@ -27,11 +31,22 @@ line text = text ++ 10 ∷ []
 unfoldable pub usage_line : List ℕ
 usage_line = line (codes "usage: srv6 compile|check|walk|run|trace|replay|show|gen")
 
+-- the refusal of a capture
+unfoldable pub capture_text : CaptureFault → List ℕ
+capture_text captures.BadMagic = codes "refused 11 BadMagic"
+capture_text captures.PcapNg = codes "refused 12 PcapNg"
+capture_text captures.BadVersion = codes "refused 13 BadVersion"
+capture_text (captures.BadLink link) = codes "refused 14 BadLink " ++ decimal link
+capture_text captures.CutHead = codes "refused 15 CutHead"
+capture_text captures.FrameLimit = codes "refused 17 FrameLimit"
+
 -- a refusal: its number, its name, and its fields
 unfoldable pub refusal_text : Refusal → List ℕ
 refusal_text (refusals.TooBig limit) = codes "refused 2 TooBig " ++ decimal limit
 refusal_text refusals.NotToml = codes "refused 21 NotToml"
 refusal_text refusals.IntentNotToml = codes "refused 33 Text NotToml"
+refusal_text (refusals.Capture fault) = capture_text fault
+refusal_text (refusals.CutFrame frame) = codes "refused 16 CutFrame " ++ decimal frame
 refusal_text refusals.BadNode = codes "refused 39 BadNode"
 refusal_text (refusals.Nested outer inner) = codes "refused 41 Nested " ++ (prefix_text outer ++ 32 ∷ prefix_text inner)
 refusal_text refusals.NotBuilt = codes "refused 90 NotBuilt"
@@ -67,3 +82,13 @@ packet_line net number (ends.Left link) = left_line number (name_of_link (slice_
 packet_line net number (ends.Delivered node) = delivered_line number (name_of_node (slice_get net.nodes node))
 packet_line net number (ends.Dropped node reason) = dropped_line number reason (name_of_node (slice_get net.nodes node))
 packet_line net number ends.Stages = stages_line number
+
+-- the line of a packet that isn't read, with the cause
+
+unfoldable pub unread_name : Unread → List ℕ
+unread_name unreads.ShortFrame = codes "ShortFrame"
+unread_name unreads.NotIp = codes "NotIp"
+unread_name unreads.NotBuilt = codes "NotBuilt"
+
+unfoldable pub unread_line : ℕ → Unread → List ℕ
+unread_line number cause = codes "packet " ++ (decimal number ++ (codes ": not read, " ++ (unread_name cause ++ 10 ∷ [])))

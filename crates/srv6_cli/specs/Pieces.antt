@@ -1,8 +1,8 @@
 -- Output as pieces, in the order in which they are written, and how far they have gone out.
-use Rattle.std.specs.Prelude.{◌≡◌, ℕ, List, [], ◌∷◌, ◌++◌, map}
+use Rattle.std.specs.Prelude.{◌≡◌, ℕ, List, [], ◌∷◌, ◌++◌, map, Option, None, Some}
 use Rattle.std.specs.List.{flat_map}
 use Rattle.srx_edge.specs.Sinks.{SinkSeen, sent}
-use Rattle.srx_edge.specs.Steps.{Ending, Whole, Fault, Memory, How, stopped_by, ending_of}
+use Rattle.srx_edge.specs.Steps.{Ending, Whole, Fault, Memory, How, stopped_by, ending_of, ending_by as ending_by_how}
 use Rattle.srv6_cli.specs.declared.status.Status.{Status}
 
 -- the bytes of a piece go to `out`, or to `err`
@@ -24,6 +24,9 @@ pub data Which : Type 0 where
 pub record Sinks : Type 0 where
   pub out : SinkSeen
   pub err : SinkSeen
+
+abbrev pub sinks_of : SinkSeen → SinkSeen → Sinks
+sinks_of out err = record { out = out; err = err }
 
 -- the sinks once the pieces have gone out
 abbrev pub gone : List Piece → Sinks → Sinks
@@ -87,3 +90,21 @@ Went AtFiles pieces old new = new ≡ old
 Went AtInput pieces old new = new ≡ old
 Went (At sink how) pieces old new = Cut sink how pieces old new
 Went Elsewhere pieces old new = Front pieces old new
+
+-- where a call stopped whose step on a sink ended early: at that sink, or for want of memory elsewhere
+abbrev pub stop_at : Which → Option How → Stop
+stop_at sink None = Elsewhere
+stop_at sink (Some how) = At sink how
+
+-- a front of a step's pieces went out, and nothing came after it
+pub record StopsIn (ending : Ending) (pieces : List Piece) (old new : Sinks) : Type 0 where
+  pub sink : Which
+  pub how : Option How
+  pub ends : ending_by_how how ≡ ending
+  pub went : Went (stop_at sink how) pieces old new
+
+-- what a step with pieces to write leaves of the sinks, by how it ended: all of them went out, or a front of them
+abbrev pub WroteAll : Ending → List Piece → Sinks → Sinks → Type 0
+WroteAll Whole pieces old new = new ≡ gone pieces old
+WroteAll Fault pieces old new = StopsIn Fault pieces old new
+WroteAll Memory pieces old new = StopsIn Memory pieces old new

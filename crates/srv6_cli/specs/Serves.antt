@@ -58,11 +58,11 @@ pub record Serves (command : Command) (status : Status) (old new : Outside) : Ty
   pub stop : Stop
   pub ending : ending_by stop ≡ ending_of_status status
   -- What was written is one of the outputs that are wanted of what the files and the input tell: all of it, or up to the
-  -- place where the call stopped. Every line on `err` stands behind all of `out`.
+  -- place where the call stopped. Where the command's lines stand behind all of `out`, none went out before that.
   pub output : Output
   pub wanted : OrNothing stop output (WantedOf (shape_of command) old.files.told old.input.left output)
   pub went : Went stop output.pieces old.sinks new.sinks
-  pub lines_last : LinesLast stop old.sinks new.sinks
+  pub lines_last : (shape_of command).lines_last ≡ true → LinesLast stop old.sinks new.sinks
   -- With a status other than OutsideFault and NoMemory, it is the one that is wanted, and one of the command's.
   pub status_wanted : OnWhole (ending_of_status status) (output.status ≡ status)
   pub status_own : OnWhole (ending_of_status status) (IsOneOf (shape_of command).statuses status)

@@ -4,7 +4,7 @@ use Rattle.std.specs.Str.{bytes_eq}
 
 -- what the words ask for; words outside the grammar ask for nothing that there is
 pub data Command : Type 0 where
-  Run : List ℕ → List ℕ → Command
+  Run : List ℕ → List ℕ → List ℕ → Command
   Compile : List ℕ → List ℕ → Command
   Unknown : Command
 

@@ -3,6 +3,7 @@
 ghost use Rattle.std.specs.Prelude.{◌≡◌};
 
 use crate::refusal::Refusal;
+use base::NoMemory;
 use intent_reader::IntentFault;
 use net_reader::NetFault;
 use srx_edge::{DrawFault, FileFault, PourFault};
@@ -32,6 +33,16 @@ impl From<AllocError> for Failure {
     ghost from_gives = { λ _ failure. failure ≡ memory_fails };
 
     fn from(_: AllocError) -> Failure {
+        Failure::NoMemory
+    }
+}
+
+impl From<NoMemory> for Failure {
+    ghost use Rattle.srv6_cli.specs.Halts.{memory_fails};
+
+    ghost from_gives = { λ _ failure. failure ≡ memory_fails };
+
+    fn from(_: NoMemory) -> Failure {
         Failure::NoMemory
     }
 }

@@ -1,18 +1,17 @@
-//! The judgements of a command: its files, its node's name and the input.
+//! The judgements of a command: its files and its node's name.
 
-ghost use Rattle.std.specs.Prelude.{◌≡◌, ◌≤◌, ◌<◌, IfOk, length};
+ghost use Rattle.std.specs.Prelude.{◌≡◌, ◌<◌, IfOk, length};
 ghost use Rattle.intent_reader.specs.Rules.{IsIntent};
-ghost use Rattle.srv6_cli.specs.Answers.{JudgesFile, JudgesInput};
-ghost use Rattle.srv6_cli.specs.Judgements.{network_in, node_in, intent_in, content_in, is_bare};
+ghost use Rattle.srv6_cli.specs.Answers.{JudgesFile};
+ghost use Rattle.srv6_cli.specs.Judgements.{network_in, node_in, intent_in};
 
 use crate::halt::Halt;
-use crate::limits::{FILE_LIMIT, INPUT_LIMIT};
+use crate::limits::FILE_LIMIT;
 use crate::refusal::Refusal;
 use intent_reader::{Intent, read_intent};
 use net_model::Net;
 use net_reader::read_net;
-use node_stage::Content;
-use srx_edge::{Files, Source, draw};
+use srx_edge::Files;
 use std::alloc::Global;
 
 /// The network that the file of this name describes.
@@ -49,36 +48,4 @@ pub fn node_of_name(net: &Net, name: &str) -> Result<u32, Refusal>
         Some(node) => Ok(node),
         None => Err(Refusal::BadNode),
     }
-}
-
-/// Whether the input begins as a bare IPv6 packet does.
-fn begins_as_ipv6(input: &[u8]) -> bool
-    ensures { result ≡ is_bare input.now }
-{
-    match input {
-        [first, ..] => *first / 16 == 6,
-        [] => false,
-    }
-}
-
-/// What the input makes enter, if it is one bare packet.
-#[tactic(auto, using(crate::proofs::Judging::contents))]
-fn content_of_bytes(bytes: Vec<u8>) -> Result<Content, Refusal>
-    requires { length bytes.items ≤ INPUT_LIMIT }
-    ensures { content_in bytes.items ≡ result }
-{
-    if begins_as_ipv6(bytes.as_slice()) {
-        Ok(Content::enter(bytes))
-    } else {
-        Err(Refusal::NotBuilt)
-    }
-}
-
-/// What enters: the input as one bare packet.
-#[tactic(auto, using(crate::proofs::Judging::inputs))]
-pub fn content_of_input<S: Source>(alloc: Global, input: &mut S) -> Result<Content, Halt>
-    ensures { JudgesInput content_in result (S.seen input.old) (S.seen input.new) }
-{
-    let bytes = draw(alloc, input, INPUT_LIMIT)?;
-    Ok(content_of_bytes(bytes)?)
 }

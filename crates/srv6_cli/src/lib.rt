@@ -8,12 +8,14 @@
 #![tactic(auto)]
 
 mod capture;
+mod choices;
 mod commands;
 mod halt;
 mod judge;
 pub mod laws;
 mod limits;
 mod lines;
+mod packets;
 mod refusal;
 mod status;
 mod told;

@@ -8,3 +8,6 @@ pub const INPUT_LIMIT: usize = 67_108_864;
 
 /// The most stages of a packet. (own rule)
 pub const STAGES: usize = 10_000;
+
+/// The most choices that the words give. (own rule)
+pub const MAX_CHOICES: usize = 4_096;

@@ -2,9 +2,10 @@
 
 ghost use Rattle.std.specs.Prelude.{◌≡◌, IfOk, string_bytes};
 ghost use Rattle.srv6_cli.specs.Sent.{IsEnd};
-ghost use Rattle.srv6_cli.specs.Lines.{refusal_line, left_line, delivered_line, dropped_line, stages_line, packet_line};
+ghost use Rattle.srv6_cli.specs.Lines.{refusal_line, left_line, delivered_line, dropped_line, stages_line, packet_line, unread_line};
 
 use crate::limits::STAGES;
+use crate::packets::Unread;
 use crate::refusal::Refusal;
 use net_model::{Name, Net};
 use srv6_rules::Reason;
@@ -56,6 +57,14 @@ fn line_of_stages(alloc: Global, number: u32) -> Result<String, AllocError>
     ensures { IfOk result (λ line. string_bytes line ≡ stages_line number) }
 {
     format!(in alloc; "packet {number}: stopped after {STAGES} stages\n")
+}
+
+/// The line of a packet that is not read.
+#[tactic(auto, unfolding(crate::specs::Lines::unread_line))]
+pub fn line_of_unread(alloc: Global, number: u32, cause: Unread) -> Result<String, AllocError>
+    ensures { IfOk result (λ line. string_bytes line ≡ unread_line number cause) }
+{
+    format!(in alloc; "packet {number}: not read, {cause}\n")
 }
 
 /// The line of a packet of a number when it ends.

@@ -1,5 +1,6 @@
 //! Why a command is refused.
 
+use pcap_io::CaptureFault;
 use std::fmt;
 use v6_addr::Prefix;
 
@@ -10,6 +11,13 @@ pub enum Refusal {
     TooBig {
         /// The limit, in bytes.
         limit: usize,
+    },
+    /// 11 to 15 and 17: the input is no capture.
+    Capture(CaptureFault),
+    /// 16: the capture ends within a frame.
+    CutFrame {
+        /// The frame's number, from 1.
+        frame: u32,
     },
     /// 21: the description isn't TOML.
     NotToml,
@@ -35,10 +43,19 @@ impl fmt::Display for Refusal {
 
     ghost output = { λ refusal. Some (refusal_text refusal) };
 
-    #[tactic(auto, unfolding(crate::specs::Lines::refusal_text))]
+    #[tactic(auto, unfolding(crate::specs::Lines::refusal_text, crate::specs::Lines::capture_text))]
     fn fmt<W: fmt::Write>(&self, f: &mut fmt::Formatter<W>) -> fmt::Result {
         match self {
             Refusal::TooBig { limit } => write!(f, "refused 2 TooBig {limit}"),
+            Refusal::Capture(CaptureFault::BadMagic) => write!(f, "refused 11 BadMagic"),
+            Refusal::Capture(CaptureFault::PcapNg) => write!(f, "refused 12 PcapNg"),
+            Refusal::Capture(CaptureFault::BadVersion) => write!(f, "refused 13 BadVersion"),
+            Refusal::Capture(CaptureFault::BadLink { link }) => {
+                write!(f, "refused 14 BadLink {link}")
+            }
+            Refusal::Capture(CaptureFault::CutHead) => write!(f, "refused 15 CutHead"),
+            Refusal::Capture(CaptureFault::FrameLimit) => write!(f, "refused 17 FrameLimit"),
+            Refusal::CutFrame { frame } => write!(f, "refused 16 CutFrame {frame}"),
             Refusal::NotToml => write!(f, "refused 21 NotToml"),
             Refusal::IntentNotToml => write!(f, "refused 33 Text NotToml"),
             Refusal::BadNode => write!(f, "refused 39 BadNode"),

@@ -70,6 +70,6 @@ pub fn serve<F: Files, S: Source, O: Sink, E: Sink>(
         (outside (F.seen files.old) (S.seen input.old) (O.seen out.old) (E.seen err.old))
         (outside (F.seen files.new) (S.seen input.new) (O.seen out.new) (E.seen err.new)) }
 {
-    let answer = command(alloc, words, files, input, out);
+    let answer = command(alloc, words, files, input, out, err);
     conclude(alloc, answer, err)
 }

@@ -26,9 +26,10 @@ pub fn write_all<O: Sink>(sink: &mut O, bytes: &[u8]) -> Result<(), Failure>
     Ok(pour(sink, bytes)?)
 }
 
-/// Writes the frame of packet 1 as it is sent on a link, built in a buffer that is used again.
+/// Writes the frame of a packet as it is sent on a link, built in a buffer that is used again.
 #[tactic(auto, using(crate::proofs::Writing::writing))]
 fn write_frame<O: Sink>(
+    number: u32,
     link: u32,
     content: &Content,
     frame: &mut Vec<u8>,
@@ -36,28 +37,29 @@ fn write_frame<O: Sink>(
 ) -> Result<(), Failure>
     requires link { link < 4096 }
     requires small { length (bytes_of content.now) ≤ most_len }
-    ensures { Wrote (ending_of_step result) (frame_of 1 (link + 1) (bytes_of content.now))
+    ensures { Wrote (ending_of_step result) (frame_of number (link + 1) (bytes_of content.now))
         (O.seen out.old) (O.seen out.new) }
 {
     frame.clear();
-    frame.extend_from_slice(&head_of_frame(1, link + 1, content.len() as u32))?;
+    frame.extend_from_slice(&head_of_frame(number, link + 1, content.len() as u32))?;
     content.append_to(frame)?;
     write_all(out, frame.as_slice())
 }
 
 /// Writes what a stage sends; no ICMPv6 error is sent yet.
 fn write_outcome<O: Sink>(
+    number: u32,
     outcome: &Outcome,
     content: &Content,
     frame: &mut Vec<u8>,
     out: &mut O,
 ) -> Result<(), Failure>
     requires { IsWritable outcome.now content.now }
-    ensures { Wrote (ending_of_step result) (frame_by 1 outcome.now content.now None)
+    ensures { Wrote (ending_of_step result) (frame_by number outcome.now content.now None)
         (O.seen out.old) (O.seen out.new) }
 {
     match outcome {
-        Outcome::Send { link } => write_frame(*link, content, frame, out),
+        Outcome::Send { link } => write_frame(number, *link, content, frame, out),
         Outcome::Again { .. } | Outcome::Hand { .. } | Outcome::Local | Outcome::Drop { .. } => {
             Ok(())
         }
@@ -89,11 +91,13 @@ fn staged(net: &Net, place: &Place, content: &mut Content, choice: u32) -> Outco
     stage(net, place, content, choice)
 }
 
-/// Walks a packet from a place and writes each of its frames. Decision d takes the choice at d
-/// modulo the number of choices. The walk ends as its last stage does, after at most 10,000 stages.
+/// Walks a packet from a place and writes each of its frames, with its number. Decision d takes the
+/// choice at d modulo the number of choices. The walk ends as its last stage does, after at most
+/// 10,000 stages.
 pub fn write_walk<O: Sink>(
     net: &Net,
     start: Place,
+    number: u32,
     content: Content,
     choices: &[u32],
     frame: &mut Vec<u8>,
@@ -105,7 +109,7 @@ pub fn write_walk<O: Sink>(
         (walk_of STAGES net.now (Some start) content (choice_at choices.now) 0)) }
     ensures within { IfOk result (IsEnd net.now) }
     ensures wrote { Wrote (ending_of_step result)
-        (frames_of 1 (walk_of STAGES net.now (Some start) content (choice_at choices.now) 0))
+        (frames_of number (walk_of STAGES net.now (Some start) content (choice_at choices.now) 0))
         (O.seen out.old) (O.seen out.new) }
 {
     let mut content = content;
@@ -114,7 +118,7 @@ pub fn write_walk<O: Sink>(
     for used in 0..STAGES {
         let choice = choices[taken % choices.len()];
         let outcome = staged(net, &place, &mut content, choice);
-        write_outcome(&outcome, &content, frame, out)?;
+        write_outcome(number, &outcome, &content, frame, out)?;
         taken += decisions_of(&outcome);
         match next_place(net, &place, &outcome) {
             Some(next) => place = next,

@@ -1,5 +1,5 @@
 -- The command `compile`: a list for the intent of a file in the network that another describes.
-use Rattle.std.specs.Prelude.{◌≡◌, ℕ, Bool, false, List, [], ◌∷◌, ◌++◌, codes, Option, Result, Ok, Err, IsSomeAnd, is_ok, ⊤}
+use Rattle.std.specs.Prelude.{◌≡◌, ℕ, Bool, true, false, List, [], ◌∷◌, ◌++◌, codes, Option, Result, Ok, Err, IsSomeAnd, is_ok, ⊤}
 use Rattle.std.specs.List.{flat_map}
 use Rattle.std.specs.Fmt.{decimal}
 use Rattle.v6_addr.specs.Address.{PrefixValue}
@@ -103,6 +103,7 @@ compile_shape file intent = record {
   goes_on = asks_for_intent;
   reads = false;
   leaves_input = λ held. ⊤;
+  lines_last = true;
   statuses = statuses.Done ∷ statuses.Refused ∷ statuses.NoAnswer ∷ [];
   wants = λ held input output. IsSomeAnd (file_named held file) (λ text. NetworkWants (network_in text) (file_named held intent) output);
 }

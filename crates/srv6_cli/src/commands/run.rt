@@ -1,23 +1,30 @@
-//! The command `run`: one packet from a node of the network that a file describes.
+//! The command `run`: the packets of the input, one after the other, from a node of the network
+//! that a file describes.
 
-ghost use Rattle.std.specs.Prelude.{◌≡◌, ◌<◌, ◌++◌, IfOk, length, string_bytes};
+ghost use Rattle.std.specs.Prelude.{◌≡◌, ◌<◌, ◌≤◌, ◌∷◌, [], IfOk, length, drop};
+ghost use Rattle.std.specs.List.{flat_map};
+ghost use Rattle.pcap_io.specs.Frames.{frames_of as frames_in};
 ghost use Rattle.srx_edge.specs.Steps.{Wrote};
-ghost use Rattle.walk_rules.specs.Walk.{end_of};
-ghost use Rattle.srv6_cli.specs.Answers.{CommandsOut, ending_of_step};
-ghost use Rattle.srv6_cli.specs.Capture.{capture_head, frames_of};
+ghost use Rattle.srv6_cli.specs.Answers.{Commands, ending_of_step};
+ghost use Rattle.srv6_cli.specs.Capture.{capture_head};
 ghost use Rattle.srv6_cli.specs.Words.{Run};
-ghost use Rattle.srv6_cli.specs.Lines.{packet_line};
-ghost use Rattle.srv6_cli.specs.Command.Run.{walk_from, no_choices};
+ghost use Rattle.srv6_cli.specs.Command.Run.{packet_pieces, packets_pieces, unread_lines, unread_of_frame, walk_from, walked_of_frame};
+ghost use Rattle.srv6_cli.specs.Outside.{outside};
+ghost use Rattle.srv6_cli.specs.Packets.{HasHead, fault_of, reading_of};
+ghost use Rattle.srv6_cli.specs.Pieces.{WroteAll, sinks_of};
 
 use crate::capture::HEAD;
 use crate::halt::{Failure, Halt};
-use crate::judge::{content_of_input, network_of_file, node_of_name};
-use crate::lines::line_of_packet;
+use crate::judge::{network_of_file, node_of_name};
+use crate::lines::{line_of_packet, line_of_unread};
+use crate::packets::{Next, Packets, next_of, packets_of_input, unread_of};
+use crate::refusal::Refusal;
 use crate::status::Status;
 use crate::told::{Text, Told};
 use crate::walk::{write_all, write_walk};
 use net_model::Net;
 use node_stage::Content;
+use pcap_io::{Body, CaptureHead, Frame, FrameReader, HEAD_LEN, MAX_FRAMES};
 use srv6_rules::Family;
 use srx_edge::{Files, Sink, Source};
 use std::alloc::Global;
@@ -31,53 +38,204 @@ fn write_head<O: Sink>(out: &mut O) -> Result<(), Failure>
     write_all(out, &HEAD)
 }
 
-/// Writes the capture of packet 1 from the node where it enters, and gives its line.
+/// Writes the line of a frame whose packet is not read.
 #[tactic(auto, using(crate::proofs::Writing::writing))]
-fn walk_packet<O: Sink>(
+fn tell_unread<E: Sink>(alloc: Global, frame: &Frame, err: &mut E) -> Result<(), Failure>
+    ensures { Wrote (ending_of_step result) (unread_of_frame frame.now)
+        (E.seen err.old) (E.seen err.new) }
+{
+    match unread_of(&frame.body) {
+        Some(cause) => {
+            let line = line_of_unread(alloc, frame.number, cause)?;
+            write_all(err, line.as_bytes())
+        }
+        None => Ok(()),
+    }
+}
+
+/// Writes the lines of the frames behind a capture's head whose packets are not read.
+#[tactic(auto, using(crate::proofs::Writing::writing))]
+fn tell_unread_frames<E: Sink>(
+    alloc: Global,
+    head: CaptureHead,
+    behind: &[u8],
+    err: &mut E,
+) -> Result<(), Failure>
+    ensures { Wrote (ending_of_step result)
+        (unread_lines (frames_in head MAX_FRAMES 1 behind.now).frames)
+        (E.seen err.old) (E.seen err.new) }
+{
+    let mut reader = FrameReader::new(alloc, head, behind)?;
+    'frames: loop {
+        match next_of(&mut reader)? {
+            Next::Frame(frame) => tell_unread(alloc, &frame, err)?,
+            Next::End(_) => return Ok(()),
+        }
+    }
+}
+
+/// Writes what a packet's walk from the node sends, and then its line.
+fn walk_packet<O: Sink, E: Sink>(
     alloc: Global,
     net: &Net,
     node: u32,
+    choices: &[u32],
+    number: u32,
     content: Content,
+    buffer: &mut Vec<u8>,
     out: &mut O,
-) -> Result<String, Failure>
-    requires { node < length net.now.nodes }
-    ensures line { IfOk result (λ line. string_bytes line
-        ≡ packet_line net.now 1 (end_of net.now (walk_from net.now node no_choices content))) }
-    ensures wrote { Wrote (ending_of_step result)
-        (capture_head ++ frames_of 1 (walk_from net.now node no_choices content))
-        (O.seen out.old) (O.seen out.new) }
+    err: &mut E,
+) -> Result<(), Failure>
+    requires node { node < length net.now.nodes }
+    requires choices { 0 < length choices.now }
+    ensures { WroteAll (ending_of_step result)
+        (packet_pieces net.now number (walk_from net.now node choices.now content))
+        (sinks_of (O.seen out.old) (E.seen err.old)) (sinks_of (O.seen out.new) (E.seen err.new)) }
 {
-    write_head(out)?;
     let place = Place {
         node,
         how: How::Arrived { table: 0 },
         family: Family::V6,
     };
-    let mut frame = Vec::new(alloc);
-    let ended = write_walk(net, place, content, &[0], &mut frame, out)?;
-    Ok(line_of_packet(alloc, net, 1, &ended)?)
+    let ended = write_walk(net, place, number, content, choices, buffer, out)?;
+    let line = line_of_packet(alloc, net, number, &ended)?;
+    write_all(err, line.as_bytes())
 }
 
-/// Runs one packet from a node of the network that a file describes. The file is judged, then the
-/// node's name, then the input, each before the next is read.
-pub fn run<F: Files, S: Source, O: Sink>(
+/// Walks the packet of a frame, if it is read.
+fn walk_frame<O: Sink, E: Sink>(
+    alloc: Global,
+    net: &Net,
+    node: u32,
+    choices: &[u32],
+    frame: Frame,
+    buffer: &mut Vec<u8>,
+    out: &mut O,
+    err: &mut E,
+) -> Result<(), Failure>
+    requires node { node < length net.now.nodes }
+    requires choices { 0 < length choices.now }
+    ensures { WroteAll (ending_of_step result)
+        (walked_of_frame net.now node choices.now frame)
+        (sinks_of (O.seen out.old) (E.seen err.old)) (sinks_of (O.seen out.new) (E.seen err.new)) }
+{
+    let Frame { number, body } = frame;
+    match body {
+        Body::V6(bytes) => {
+            let content = Content::enter(bytes.into_vec());
+            walk_packet(alloc, net, node, choices, number, content, buffer, out, err)
+        }
+        Body::V4(_) | Body::ShortFrame | Body::NotIp => Ok(()),
+    }
+}
+
+/// Walks the packets of the frames behind a capture's head, one after the other, and gives the
+/// refusal of what is behind the frames, if anything is.
+fn walk_frames<O: Sink, E: Sink>(
+    alloc: Global,
+    net: &Net,
+    node: u32,
+    choices: &[u32],
+    head: CaptureHead,
+    behind: &[u8],
+    out: &mut O,
+    err: &mut E,
+) -> Result<Option<Refusal>, Failure>
+    requires node { node < length net.now.nodes }
+    requires choices { 0 < length choices.now }
+    ensures fault { IfOk result (λ fault.
+        fault ≡ fault_of (frames_in head MAX_FRAMES 1 behind.now)) }
+    ensures wrote { WroteAll (ending_of_step result)
+        (flat_map (walked_of_frame net.now node choices.now)
+        (frames_in head MAX_FRAMES 1 behind.now).frames)
+        (sinks_of (O.seen out.old) (E.seen err.old)) (sinks_of (O.seen out.new) (E.seen err.new)) }
+{
+    let mut buffer = Vec::new(alloc);
+    let mut reader = FrameReader::new(alloc, head, behind)?;
+    'frames: loop {
+        match next_of(&mut reader)? {
+            Next::Frame(read) => {
+                walk_frame(alloc, net, node, choices, read, &mut buffer, out, err)?;
+            }
+            Next::End(fault) => return Ok(fault),
+        }
+    }
+}
+
+/// Writes the capture's head, the lines of the packets that are not read, and walks the others;
+/// gives the refusal of what is behind the frames, if anything is.
+fn run_packets<O: Sink, E: Sink>(
+    alloc: Global,
+    net: &Net,
+    node: u32,
+    choices: &[u32],
+    packets: Packets,
+    out: &mut O,
+    err: &mut E,
+) -> Result<Option<Refusal>, Failure>
+    requires node { node < length net.now.nodes }
+    requires choices { 0 < length choices.now }
+    requires head { HasHead packets }
+    ensures fault { IfOk result (λ fault. fault ≡ fault_of (reading_of packets)) }
+    ensures wrote { WroteAll (ending_of_step result)
+        (packets_pieces net.now node choices.now (reading_of packets).frames)
+        (sinks_of (O.seen out.old) (E.seen err.old)) (sinks_of (O.seen out.new) (E.seen err.new)) }
+{
+    write_head(out)?;
+    match packets {
+        Packets::Bare(packet) => {
+            let frame = Frame {
+                number: 1,
+                body: Body::V6(packet),
+            };
+            walk_frame(
+                alloc,
+                net,
+                node,
+                choices,
+                frame,
+                &mut Vec::new(alloc),
+                out,
+                err,
+            )?;
+            Ok(None)
+        }
+        Packets::Capture(head, bytes) => {
+            let behind = bytes.as_slice().split_at(HEAD_LEN).1;
+            tell_unread_frames(alloc, head, behind, err)?;
+            walk_frames(alloc, net, node, choices, head, behind, out, err)
+        }
+    }
+}
+
+/// Runs the packets of the input, one after the other, from a node of the network that a file
+/// describes. Decision d of each packet, counted in its sends from 0, takes the choice at d modulo
+/// the number of choices. The file is judged, then the node's name, then the input, each before the
+/// next is read. What is behind the last frame of a capture is refused once all packets were
+/// walked.
+pub fn run<F: Files, S: Source, O: Sink, E: Sink>(
     alloc: Global,
     file: &str,
     node: &str,
+    choices: &[u32],
     files: &mut F,
     input: &mut S,
     out: &mut O,
+    err: &mut E,
 ) -> Result<Told, Halt>
-    ensures { CommandsOut (Run file.now node.now) result
-        (F.seen files.old) (F.seen files.new) (S.seen input.old) (S.seen input.new)
-        (O.seen out.old) (O.seen out.new) }
+    requires { 0 < length choices.now }
+    ensures { Commands (Run file.now node.now choices.now) result
+        (outside (F.seen files.old) (S.seen input.old) (O.seen out.old) (E.seen err.old))
+        (outside (F.seen files.new) (S.seen input.new) (O.seen out.new) (E.seen err.new)) }
 {
     let net = network_of_file(alloc, files, file)?;
     let node = node_of_name(&net, node)?;
-    let content = content_of_input(alloc, input)?;
-    let line = walk_packet(alloc, &net, node, content, out)?;
-    Ok(Told {
-        line: Text::Made(line),
-        status: Status::Done,
-    })
+    let packets = packets_of_input(alloc, input)?;
+    match run_packets(alloc, &net, node, choices, packets, out, err)? {
+        Some(refusal) => Err(Halt::Refused(refusal)),
+        None => Ok(Told {
+            line: Text::Fixed(b""),
+            status: Status::Done,
+        }),
+    }
 }

@@ -3,9 +3,9 @@ use Rattle.srv6_cli.proofs.Serving.{serves, told_whole}
 use Rattle.srv6_cli.proofs.top.serve.Goals as goal
 
 pub conclude-requires : goal.conclude-requires
-conclude-requires g c = told_whole _ c.command-answer.result _ _ (c.command-answer.ensures (g.E.Sink.seen c.args.err.now))
+conclude-requires g c = told_whole _ c.command-answer.result _ _ c.command-answer.ensures
 
 pub returns : goal.returns
 returns g c =
     serves (command_of (words_of c.args.words.now)) c.command-answer.result c.conclude.result _ _ (g.E.Sink.seen c.conclude.new.err)
-    (c.command-answer.ensures (g.E.Sink.seen c.args.err.now)) c.conclude.ensures
+    c.command-answer.ensures c.conclude.ensures

@@ -12,14 +12,15 @@ pub loop-used-preserved : goal.loop-used-preserved
 loop-used-preserved g c =
     let gave : Gave = record { outcome = c.staged-outcome.result; after = c.staged-outcome.new.content; error = None } in
     let left : STAGES - c.loop-used.used ≡ suc (STAGES - (c.loop-used.used + 1)) = omega arith in
-    let on = staged_on c.args.net.now (STAGES - c.loop-used.used) (STAGES - (c.loop-used.used + 1)) c.loop-used.place c.loop-used.content
+    let on = staged_on c.args.number c.args.net.now (STAGES - c.loop-used.used) (STAGES - (c.loop-used.used + 1))
+    c.loop-used.place c.loop-used.content
     (choice_at c.args.choices.now) c.loop-used.taken gave _ _ _ (g.O.Sink.seen c.write_outcome.new.out)
     left c.staged-outcome.ensures.function c.loop-used.invariant.progress
     c.in-Some.next (sym c.in-Some.ensures) c.in_ok-write_outcome.ensures in
     record {
       place = subst (λ (o : Option Place). IfSome o (IsPlace c.args.net.now)) (sym c.in-Some.ensures) c.staged-outcome.ensures.next;
       taken = omega (arith, c.decisions_of-taken.ensures.few, c.loop-used.invariant.taken);
-      progress = subst (λ (n : ℕ). Progress c.args.net.now
+      progress = subst (λ (n : ℕ). Progress c.args.number c.args.net.now
           (walk_of (STAGES - (c.loop-used.used + 1)) c.args.net.now (Some c.in-Some.next) c.staged-outcome.new.content
           (choice_at c.args.choices.now) (c.loop-used.taken + n))
           (walk_of STAGES c.args.net.now (Some c.args.start) c.args.content (choice_at c.args.choices.now) 0)
@@ -31,7 +32,7 @@ returns-in_err-write_outcome-clause-wrote g c =
     let gave : Gave = record { outcome = c.staged-outcome.result; after = c.staged-outcome.new.content; error = None } in
     let left : STAGES - c.loop-used.used ≡ suc (STAGES - (c.loop-used.used + 1)) = omega arith in
     let p = err_from_is_err_and c.from_residual.result c.from_residual.ensures.1 in
-    rw (p.1, p.2) (staged_cut c.args.net.now
+    rw (p.1, p.2) (staged_cut c.args.number c.args.net.now
     (STAGES - c.loop-used.used) (STAGES - (c.loop-used.used + 1)) c.loop-used.place c.loop-used.content
     (choice_at c.args.choices.now) c.loop-used.taken gave _ _ _ (g.O.Sink.seen c.write_outcome.new.out)
     left c.staged-outcome.ensures.function c.loop-used.invariant.progress c.in_err-write_outcome.field-0.0 c.in_err-write_outcome.ensures)
@@ -40,7 +41,8 @@ pub returns-in-None-clause-ended : goal.returns-in-None-clause-ended
 returns-in-None-clause-ended g c =
     let gave : Gave = record { outcome = c.staged-outcome.result; after = c.staged-outcome.new.content; error = None } in
     let left : STAGES - c.loop-used.used ≡ suc (STAGES - (c.loop-used.used + 1)) = omega arith in
-    let last = staged_end c.args.net.now (STAGES - c.loop-used.used) (STAGES - (c.loop-used.used + 1)) c.loop-used.place c.loop-used.content
+    let last = staged_end c.args.number c.args.net.now (STAGES - c.loop-used.used) (STAGES - (c.loop-used.used + 1))
+    c.loop-used.place c.loop-used.content
     (choice_at c.args.choices.now) c.loop-used.taken gave _ _ _ (g.O.Sink.seen c.write_outcome.new.out)
     left c.staged-outcome.ensures.function c.loop-used.invariant.progress (sym c.in-None.ensures) c.in_ok-write_outcome.ensures in
     c.ended_by.ensures ∙ last.1
@@ -49,7 +51,8 @@ pub returns-in-None-clause-wrote : goal.returns-in-None-clause-wrote
 returns-in-None-clause-wrote g c =
     let gave : Gave = record { outcome = c.staged-outcome.result; after = c.staged-outcome.new.content; error = None } in
     let left : STAGES - c.loop-used.used ≡ suc (STAGES - (c.loop-used.used + 1)) = omega arith in
-    let last = staged_end c.args.net.now (STAGES - c.loop-used.used) (STAGES - (c.loop-used.used + 1)) c.loop-used.place c.loop-used.content
+    let last = staged_end c.args.number c.args.net.now (STAGES - c.loop-used.used) (STAGES - (c.loop-used.used + 1))
+    c.loop-used.place c.loop-used.content
     (choice_at c.args.choices.now) c.loop-used.taken gave _ _ _ (g.O.Sink.seen c.write_outcome.new.out)
     left c.staged-outcome.ensures.function c.loop-used.invariant.progress (sym c.in-None.ensures) c.in_ok-write_outcome.ensures in
     last.0
@@ -57,11 +60,11 @@ returns-in-None-clause-wrote g c =
 pub returns-clause-ended : goal.returns-clause-ended
 returns-clause-ended g c =
     let left : STAGES - c.loop-used.used ≡ 0 = omega arith in
-    (progress_stops c.args.net.now _ _ _ _ (walk_is_over c.args.net.now (STAGES - c.loop-used.used) _ _ _ _ left)
+    (progress_stops c.args.number c.args.net.now _ _ _ _ (walk_is_over c.args.net.now (STAGES - c.loop-used.used) _ _ _ _ left)
     c.loop-used.invariant.progress).1
 
 pub returns-clause-wrote : goal.returns-clause-wrote
 returns-clause-wrote g c =
     let left : STAGES - c.loop-used.used ≡ 0 = omega arith in
-    (progress_stops c.args.net.now _ _ _ _ (walk_is_over c.args.net.now (STAGES - c.loop-used.used) _ _ _ _ left)
+    (progress_stops c.args.number c.args.net.now _ _ _ _ (walk_is_over c.args.net.now (STAGES - c.loop-used.used) _ _ _ _ left)
     c.loop-used.invariant.progress).0

@@ -9,6 +9,6 @@ abbrev pub invariant-loop-used : goal.invariant-loop-used
 invariant-loop-used g l = record {
   place : IsPlace l.net l.place;
   taken : l.taken ≤ l.used;
-  progress : Progress l.net (walk_of (STAGES - l.used) l.net (Some l.place) l.content (choice_at l.choices) l.taken)
+  progress : Progress l.number l.net (walk_of (STAGES - l.used) l.net (Some l.place) l.content (choice_at l.choices) l.taken)
       (walk_of STAGES l.net (Some l.fn.start) l.fn.content (choice_at l.choices) 0) (g.O.Sink.seen l.fn.out) (g.O.Sink.seen l.out);
 }

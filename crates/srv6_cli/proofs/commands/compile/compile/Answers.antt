@@ -25,12 +25,11 @@ use Rattle.srv6_cli.specs.Command.Compile.{AnswerWants, IntentWants, NetworkWant
 use Rattle.srv6_cli.specs.Judgements.{network_in, intent_in, refused}
 use Rattle.srv6_cli.specs.Lines.{bytes_of_text}
 use Rattle.srv6_cli.specs.Outside.{IsFrontOf, Asks, Reads, asked_for_all, files_left_by}
-use Rattle.srv6_cli.specs.Pieces.{Output, Stop, Never, AtFiles, At, Elsewhere, ToOut}
+use Rattle.srv6_cli.specs.Pieces.{Output, Stop, Never, AtFiles, At, Elsewhere, ToOut, stop_at}
 use Rattle.srv6_cli.specs.Serves.{ending_of_status, Takes}
 use Rattle.srv6_cli.specs.Shape.{Held, goes_on_with, names_of, WantedOf, IsOneOf}
 use Rattle.srv6_cli.proofs.Asking.{each, each-map, some-map, front_whole, front_longer, front_after, asks_all, asks_fault, asks_front}
 use Rattle.srv6_cli.proofs.Commanding.{refused_commands, files_fault, memory_wants, written_whole, written_cut}
-use Rattle.srv6_cli.proofs.PieceLemmas.{stop_at}
 use Rattle.std.proofs.lemmas.Result.{err_from_is_err_and}
 use Rattle.srv6_cli.proofs.commands.compile.compile.Goals as goal
 
