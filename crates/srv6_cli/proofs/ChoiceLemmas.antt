@@ -26,12 +26,14 @@ numbers_on first number part parts is =
     ap (λ (o : Option ℕ). numbers_after first (number_before o (numbers_in parts))) (sym is)
     ∙ after-before first number (numbers_in parts)
 
-pub numbers_stop : (first part : List ℕ) (parts : List (List ℕ)) → None ≡ number_in part → numbers_after first (numbers_in (part ∷ parts)) ≡ None
+pub numbers_stop : (first part : List ℕ) (parts : List (List ℕ)) → None ≡ number_in part
+    → numbers_after first (numbers_in (part ∷ parts)) ≡ None
 numbers_stop first part parts is = ap (λ (o : Option ℕ). numbers_after first (number_before o (numbers_in parts))) (sym is)
 
 -- of one part or more come one number or more
 
-some-before : (number : Option ℕ) (more : Option (List ℕ)) (choices : List ℕ) → number_before number more ≡ Some choices → 0 < length choices
+some-before : (number : Option ℕ) (more : Option (List ℕ)) (choices : List ℕ) → number_before number more ≡ Some choices
+    → 0 < length choices
 some-before None more choices h = cc
 some-before (Some number) None choices h = cc
 some-before (Some number) (Some more) choices h =

@@ -112,7 +112,8 @@ module _ (whole : Reading) (old new : Reader) (frame : Frame) (p : Left whole ol
   flat-one : {A : Type 0} (f : Frame → List A) → flat_map f (p.done ++ frame ∷ []) ≡ flat_map f p.done ++ f frame
   flat-one {A} f = flat_map-append f p.done (frame ∷ []) ∙ ap (λ (last : List A). flat_map f p.done ++ last) (append-nil (f frame))
 
-  pub each-frame : {A : Type 0} (f : Frame → List A) → (flat_map f p.done ++ f frame) ++ flat_map f (left_of new).frames ≡ flat_map f whole.frames
+  pub each-frame : {A : Type 0} (f : Frame → List A)
+      → (flat_map f p.done ++ f frame) ++ flat_map f (left_of new).frames ≡ flat_map f whole.frames
   each-frame {A} f =
       ap (λ (all : List A). all ++ flat_map f (left_of new).frames) (sym (flat-one f))
       ∙ (sym (flat_map-append f (p.done ++ frame ∷ []) (left_of new).frames) ∙ ap (λ (r : Reading). flat_map f r.frames) (sym frames-on))
@@ -197,7 +198,8 @@ walked_all f whole now new fault first sinks p h =
 
 pub walked_wanting : (f : Frame → List Piece) (whole : Reading) (now : Reader) (first sinks : Sinks) → PiecesWent f whole now first sinks
     → WroteAll Memory (flat_map f whole.frames) first sinks
-walked_wanting f whole now first sinks p = subst (λ (pieces : List Piece). WroteAll Memory pieces first sinks) (flat-left f whole now p.left)
+walked_wanting f whole now first sinks p = subst (λ (pieces : List Piece). WroteAll Memory pieces first sinks)
+    (flat-left f whole now p.left)
     (all_wanting (flat_map f p.left.done) (flat_map f (left_of now).frames) first sinks p.went)
 
 -- the next frame wasn't given

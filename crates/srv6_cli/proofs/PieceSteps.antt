@@ -96,7 +96,8 @@ all_wanting before more old new went = record {
 }
 
 -- pieces that went out one after the other
-pub all_both : (before more : List Piece) (old mid new : Sinks) → mid ≡ gone before old → new ≡ gone more mid → new ≡ gone (before ++ more) old
+pub all_both : (before more : List Piece) (old mid new : Sinks) → mid ≡ gone before old → new ≡ gone more mid
+    → new ≡ gone (before ++ more) old
 all_both before more old mid new first next = next ∙ gone-behind before more old mid first
 
 -- a step behind others, however it ended
@@ -157,7 +158,8 @@ module _ (bytes line : List ℕ) (more : List Piece) (o p e f : SinkSeen) where
 
     pub line_behind_out : (ending : Ending) → Wrote ending line e f
         → WroteAll ending (ForOut bytes ∷ ForErr line ∷ []) (sinks_of o e) (sinks_of p f)
-    line_behind_out ending wrote = all_then ending (ForOut bytes ∷ []) (ForErr line ∷ []) (sinks_of o e) (sinks_of p e) (sinks_of p f) out-went
+    line_behind_out ending wrote = all_then ending (ForOut bytes ∷ []) (ForErr line ∷ []) (sinks_of o e) (sinks_of p e)
+        (sinks_of p f) out-went
         (all_on_err ending line p e f wrote)
 
     pub cut_at_line : (failure : Failure) → Wrote (ending_of_failure failure) line e f

@@ -74,7 +74,8 @@ module _ (number : ℕ) (net : Network) (left whole rest : List Step) (s : Step)
 
 -- no stage is left: all went out, and the walk ended as the last stage did
 
-pub progress_stops : (number : ℕ) (net : Network) (left whole : List Step) (first now : SinkSeen) → left ≡ [] → Progress number net left whole first now
+pub progress_stops : (number : ℕ) (net : Network) (left whole : List Step) (first now : SinkSeen) → left ≡ []
+    → Progress number net left whole first now
     → (now ≡ sent (frames_of number whole) first) × (ends.Stages ≡ end_of net whole)
 progress_stops number net left whole first now none p = (
   p.seen ∙ ap (λ (bytes : List ℕ). sent bytes first)

@@ -91,8 +91,9 @@ fn staged(net: &Net, place: &Place, content: &mut Content, choice: u32) -> Outco
     stage(net, place, content, choice)
 }
 
-/// Walks a packet from a place and writes each of its frames, with its number. Decision d takes the choice at d
-/// modulo the number of choices. The walk ends as its last stage does, after at most 10,000 stages.
+/// Walks a packet from a place and writes each of its frames, with its number. Decision d takes the
+/// choice at d modulo the number of choices. The walk ends as its last stage does, after at most
+/// 10,000 stages.
 pub fn write_walk<O: Sink>(
     net: &Net,
     start: Place,

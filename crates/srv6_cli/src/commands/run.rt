@@ -143,7 +143,8 @@ fn walk_frames<O: Sink, E: Sink>(
 ) -> Result<Option<Refusal>, Failure>
     requires node { node < length net.now.nodes }
     requires choices { 0 < length choices.now }
-    ensures fault { IfOk result (λ fault. fault ≡ fault_of (frames_in head MAX_FRAMES 1 behind.now)) }
+    ensures fault { IfOk result (λ fault.
+        fault ≡ fault_of (frames_in head MAX_FRAMES 1 behind.now)) }
     ensures wrote { WroteAll (ending_of_step result)
         (flat_map (walked_of_frame net.now node choices.now)
         (frames_in head MAX_FRAMES 1 behind.now).frames)
@@ -209,8 +210,9 @@ fn run_packets<O: Sink, E: Sink>(
 
 /// Runs the packets of the input, one after the other, from a node of the network that a file
 /// describes. Decision d of each packet, counted in its sends from 0, takes the choice at d modulo
-/// the number of choices. The file is judged, then the node's name, then the input, each before the next is
-/// read. What is behind the last frame of a capture is refused once all packets were walked.
+/// the number of choices. The file is judged, then the node's name, then the input, each before the
+/// next is read. What is behind the last frame of a capture is refused once all packets were
+/// walked.
 pub fn run<F: Files, S: Source, O: Sink, E: Sink>(
     alloc: Global,
     file: &str,

@@ -12,7 +12,8 @@ pub loop-used-preserved : goal.loop-used-preserved
 loop-used-preserved g c =
     let gave : Gave = record { outcome = c.staged-outcome.result; after = c.staged-outcome.new.content; error = None } in
     let left : STAGES - c.loop-used.used ≡ suc (STAGES - (c.loop-used.used + 1)) = omega arith in
-    let on = staged_on c.args.number c.args.net.now (STAGES - c.loop-used.used) (STAGES - (c.loop-used.used + 1)) c.loop-used.place c.loop-used.content
+    let on = staged_on c.args.number c.args.net.now (STAGES - c.loop-used.used) (STAGES - (c.loop-used.used + 1))
+    c.loop-used.place c.loop-used.content
     (choice_at c.args.choices.now) c.loop-used.taken gave _ _ _ (g.O.Sink.seen c.write_outcome.new.out)
     left c.staged-outcome.ensures.function c.loop-used.invariant.progress
     c.in-Some.next (sym c.in-Some.ensures) c.in_ok-write_outcome.ensures in
@@ -40,7 +41,8 @@ pub returns-in-None-clause-ended : goal.returns-in-None-clause-ended
 returns-in-None-clause-ended g c =
     let gave : Gave = record { outcome = c.staged-outcome.result; after = c.staged-outcome.new.content; error = None } in
     let left : STAGES - c.loop-used.used ≡ suc (STAGES - (c.loop-used.used + 1)) = omega arith in
-    let last = staged_end c.args.number c.args.net.now (STAGES - c.loop-used.used) (STAGES - (c.loop-used.used + 1)) c.loop-used.place c.loop-used.content
+    let last = staged_end c.args.number c.args.net.now (STAGES - c.loop-used.used) (STAGES - (c.loop-used.used + 1))
+    c.loop-used.place c.loop-used.content
     (choice_at c.args.choices.now) c.loop-used.taken gave _ _ _ (g.O.Sink.seen c.write_outcome.new.out)
     left c.staged-outcome.ensures.function c.loop-used.invariant.progress (sym c.in-None.ensures) c.in_ok-write_outcome.ensures in
     c.ended_by.ensures ∙ last.1
@@ -49,7 +51,8 @@ pub returns-in-None-clause-wrote : goal.returns-in-None-clause-wrote
 returns-in-None-clause-wrote g c =
     let gave : Gave = record { outcome = c.staged-outcome.result; after = c.staged-outcome.new.content; error = None } in
     let left : STAGES - c.loop-used.used ≡ suc (STAGES - (c.loop-used.used + 1)) = omega arith in
-    let last = staged_end c.args.number c.args.net.now (STAGES - c.loop-used.used) (STAGES - (c.loop-used.used + 1)) c.loop-used.place c.loop-used.content
+    let last = staged_end c.args.number c.args.net.now (STAGES - c.loop-used.used) (STAGES - (c.loop-used.used + 1))
+    c.loop-used.place c.loop-used.content
     (choice_at c.args.choices.now) c.loop-used.taken gave _ _ _ (g.O.Sink.seen c.write_outcome.new.out)
     left c.staged-outcome.ensures.function c.loop-used.invariant.progress (sym c.in-None.ensures) c.in_ok-write_outcome.ensures in
     last.0

@@ -33,7 +33,8 @@ use Rattle.srv6_cli.proofs.commands.run.run.Goals as goal
 -- an output that is wanted of the text, and of the input, that are told
 run-wants : (told : Option Held) (left : Option (List ℕ)) (file name choices : List ℕ) (P Q : List ℕ → Type 0) (output : Output)
     → IfSome told (λ held. IsSomeAnd (file_named held file) P) → IfSome left Q
-    → ((text input : List ℕ) → P text → Q input → output ≡ run_output text name choices input) → WantedOf (run_shape file name choices) told left output
+    → ((text input : List ℕ) → P text → Q input → output ≡ run_output text name choices input)
+    → WantedOf (run_shape file name choices) told left output
 run-wants None left file name choices P Q output p q f = tt
 run-wants (Some held) None file name choices P Q output p q f = tt
 run-wants (Some held) (Some input) file name choices P Q output p q f =
@@ -50,7 +51,8 @@ asks-file file name choices stop f g seen = asks_all (run_shape file name choice
     (each f.told (λ held. names_of (run_shape file name choices) held ≡ file ∷ []) (λ held. refl)) seen
 
 -- the input as it was
-takes-unread : (file name choices : List ℕ) (stop : Stop) (f g : FilesSeen) (s : SourceSeen) → Asks (run_shape file name choices) stop f g → Reads stop s s
+takes-unread : (file name choices : List ℕ) (stop : Stop) (f g : FilesSeen) (s : SourceSeen)
+    → Asks (run_shape file name choices) stop f g → Reads stop s s
     → Takes (run_shape file name choices) stop f g s s
 takes-unread file name choices stop f g s asks reads = record {
   asks = asks;
@@ -69,7 +71,8 @@ module _ (file name choices : List ℕ) (f g : FilesSeen) (s t : SourceSeen) (o 
       (λ text input is _. rw is refl))
       (inr (inl refl)) (takes-unread file name choices Never f g s (asks-file file name choices Never f g h.1) refl) e
   run_halted_at_file (halts.Failed failures.Fault) h =
-      files_fault (Run file name choices) f g s o (takes-unread file name choices AtFiles f g s (asks-file file name choices AtFiles f g h) refl) e
+      files_fault (Run file name choices) f g s o (takes-unread file name choices AtFiles f g s
+      (asks-file file name choices AtFiles f g h) refl) e
   run_halted_at_file (halts.Failed failures.NoMemory) h = memory_wants (Run file name choices) f g s s o
       (takes-unread file name choices Elsewhere f g s (asks_front (run_shape file name choices) h.names f g h.front
       (each f.told (λ held. IsFrontOf (names_of (run_shape file name choices) held) h.names) (λ held. h.front)) h.seen) refl) e
@@ -106,7 +109,8 @@ module _ (file name choices : List ℕ) (f g : FilesSeen) (s t : SourceSeen) (o 
       run_halted_at_input : (halt : Halt) → JudgesInput packets_in (Err halt) s t
           → Commands (Run file name choices) (Err halt) (outside f s o e) (outside g t o e)
       run_halted_at_input (halts.Refused refusal) h = refused_commands (Run file name choices) refusal f g s t o
-          (run-wants f.told s.left file name choices (λ text. network_in text ≡ Ok net) (λ input. packets_in input ≡ Err refusal) (refused refusal)
+          (run-wants f.told s.left file name choices (λ text. network_in text ≡ Ok net) (λ input. packets_in input ≡ Err refusal)
+          (refused refusal)
           judged.0 h.0 (λ text input is bad. rw (is, found, bad) refl))
           (inr (inl refl)) (takes Never judged.1 h.1) e
       run_halted_at_input (halts.Failed failures.Fault) h = input_fault (Run file name choices) f g s t o (takes AtInput judged.1 h) e
@@ -146,7 +150,8 @@ module _ (file name choices : List ℕ) (f g : FilesSeen) (s t : SourceSeen) (o 
             → Commands (Run file name choices) (Ok told) (outside f s o e) (outside g t p q)
         run_done told whole line status went =
             let none : WantedOf (run_shape file name choices) f.told s.left (ended_by before None) =
-            subst (λ (fault : Option Refusal). WantedOf (run_shape file name choices) f.told s.left (ended_by before fault)) (sym whole) wanted in
+            subst (λ (fault : Option Refusal). WantedOf (run_shape file name choices) f.told s.left (ended_by before fault))
+            (sym whole) wanted in
             pieces_whole (Run file name choices) before (outside f s o e) (outside g t p q) told went
             (rw (line, status) none) (rw status refl) (inl status) (takes Never judged.1 reads) (λ _ _. drawn.1)
 
@@ -154,7 +159,8 @@ module _ (file name choices : List ℕ) (f g : FilesSeen) (s t : SourceSeen) (o 
         run_refused : (refusal : Refusal) → Some refusal ≡ fault_of (reading_of packets) → sinks_of p q ≡ gone before (sinks_of o e)
             → Commands (Run file name choices) (Err (halts.Refused refusal)) (outside f s o e) (outside g t p q)
         run_refused refusal more went = pieces_refused (Run file name choices) before (outside f s o e) (outside g t p q) refusal went
-            (subst (λ (fault : Option Refusal). WantedOf (run_shape file name choices) f.told s.left (ended_by before fault)) (sym more) wanted)
+            (subst (λ (fault : Option Refusal). WantedOf (run_shape file name choices) f.told s.left (ended_by before fault))
+            (sym more) wanted)
             (inr (inl refl)) (takes Never judged.1 reads)
 
 -- the goals
@@ -162,21 +168,24 @@ module _ (file name choices : List ℕ) (f g : FilesSeen) (s t : SourceSeen) (o 
 pub returns-in_err-net : goal.returns-in_err-net
 returns-in_err-net g c =
     let p = err_from_is_err_and c.from_residual.result c.from_residual.ensures.1 in
-    rw (p.1, p.2) (run_halted_at_file c.args.file.now c.args.node.now c.args.choices.now _ _ (g.S.Source.seen c.args.input.now) (g.S.Source.seen c.args.input.now)
+    rw (p.1, p.2) (run_halted_at_file c.args.file.now c.args.node.now c.args.choices.now _ _ (g.S.Source.seen c.args.input.now)
+    (g.S.Source.seen c.args.input.now)
     (g.O.Sink.seen c.args.out.now) (g.E.Sink.seen c.args.err.now)
     c.in_err-net.field-0.0 c.in_err-net.ensures)
 
 pub returns-in_err-node : goal.returns-in_err-node
 returns-in_err-node g c =
     let p = err_from_is_err_and c.from_residual-in_err-node.result c.from_residual-in_err-node.ensures.1 in
-    rw (p.1, p.2) (run_halted_at_node c.args.file.now c.args.node.now c.args.choices.now _ _ (g.S.Source.seen c.args.input.now) (g.S.Source.seen c.args.input.now)
+    rw (p.1, p.2) (run_halted_at_node c.args.file.now c.args.node.now c.args.choices.now _ _ (g.S.Source.seen c.args.input.now)
+    (g.S.Source.seen c.args.input.now)
     (g.O.Sink.seen c.args.out.now) (g.E.Sink.seen c.args.err.now)
     c.in_ok-net.net c.in_ok-net.ensures c.in_err-node.field-0.0 (sym c.in_err-node.ensures.judged))
 
 pub returns-in_err-packets : goal.returns-in_err-packets
 returns-in_err-packets g c =
     let p = err_from_is_err_and c.from_residual-in_err-packets.result c.from_residual-in_err-packets.ensures.1 in
-    rw (p.1, p.2) (run_halted_at_input c.args.file.now c.args.node.now c.args.choices.now _ _ _ _ (g.O.Sink.seen c.args.out.now) (g.E.Sink.seen c.args.err.now)
+    rw (p.1, p.2) (run_halted_at_input c.args.file.now c.args.node.now c.args.choices.now _ _ _ _ (g.O.Sink.seen c.args.out.now)
+    (g.E.Sink.seen c.args.err.now)
     c.in_ok-net.net c.in_ok-net.ensures c.in_ok-node.node (sym c.in_ok-node.ensures.judged)
     c.in_err-packets.field-0.0 c.in_err-packets.ensures.judged)
 

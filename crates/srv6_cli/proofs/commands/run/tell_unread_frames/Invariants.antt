@@ -6,7 +6,8 @@ use Rattle.srv6_cli.proofs.FrameSteps.{LinesWent}
 use Rattle.srv6_cli.proofs.commands.run.tell_unread_frames.Given as goal
 
 abbrev pub invariant-frames : goal.invariant-frames
-invariant-frames g l = LinesWent unread_of_frame (frames_of l.fn.head MAX_FRAMES 1 l.behind) l.reader (g.E.Sink.seen l.fn.err) (g.E.Sink.seen l.err)
+invariant-frames g l = LinesWent unread_of_frame (frames_of l.fn.head MAX_FRAMES 1 l.behind) l.reader (g.E.Sink.seen l.fn.err)
+    (g.E.Sink.seen l.err)
 
 abbrev pub decreases-frames : goal.decreases-frames
 decreases-frames g l = length l.reader.rest

@@ -11,7 +11,8 @@ use Rattle.srv6_cli.proofs.commands.run.walk_packet.Goals as goal
 pub returns-in_err-ended : goal.returns-in_err-ended
 returns-in_err-ended g c =
     let p = err_from_is_err_and c.from_residual.result c.from_residual.ensures.1 in
-    rw (p.1, p.2) (cut_at_out _ [] _ _ _ (g.E.Sink.seen c.args.err.now) (g.E.Sink.seen c.args.err.now) c.in_err-ended.field-0.0 c.in_err-ended.ensures.wrote)
+    rw (p.1, p.2) (cut_at_out _ [] _ _ _ (g.E.Sink.seen c.args.err.now) (g.E.Sink.seen c.args.err.now) c.in_err-ended.field-0.0
+    c.in_err-ended.ensures.wrote)
 
 pub returns-in_err-line : goal.returns-in_err-line
 returns-in_err-line g c =
