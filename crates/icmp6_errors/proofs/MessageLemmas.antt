@@ -43,7 +43,8 @@ length-message kind checksum quote =
     let both = length-append (message_head kind checksum) quote in
     omega arith
 
-module _ (p : Packet) (kind : IcmpKind) (from : ℕ) (h : IsSpellable p) (fits : IsKind kind) (quote : List ℕ) (quoted : quote ≡ quote_of p) where
+module _ (p : Packet) (kind : IcmpKind) (from : ℕ) (h : IsSpellable p) (fits : IsKind kind)
+    (quote : List ℕ) (quoted : quote ≡ quote_of p) where
   pub checksum-written : (checksum len sum : ℕ) → len ≡ 8 + length quote
       → sum ≡ word_sum (pseudo_header from p.source len 58) + word_sum (message_head kind 0) + word_sum quote
       → checksum ≡ all_ones - carried sum → checksum ≡ error_checksum p kind from
