@@ -1,0 +1,11 @@
+use Rattle.std.proofs.Common.{refl}
+use Rattle.toml_words.proofs.Documents.{document_of-no_text, document_of-text}
+use Rattle.toml_words.proofs.texts.document.Goals as goal
+
+pub returns-in_default : goal.returns-in_default
+returns-in_default c = λ own. rw (document_of-no_text c.args.text.now c.in_default.ensures.cases.0) refl
+
+pub returns-in-Ok-table_from_str : goal.returns-in-Ok-table_from_str
+returns-in-Ok-table_from_str c =
+    let same = c.in-Ok.ensures.cases in
+    rw (document_of-text c.args.text.now same.1, rw same.0 at c.in-Ok-table_from_str.ensures.ok) refl

@@ -1,0 +1,31 @@
+-- What reading gives: a value, or the first fault.
+use Rattle.std.specs.Prelude.{◌≡◌, ◌≢◌, ℕ, List, Option, Some, None, Result, Ok, Err, if◌then◌else◌}
+use Rattle.std.specs.Str.{is_utf8}
+use Rattle.toml.specs.Data.{Members}
+use Rattle.toml.specs.Parse.{parse_document}
+use Rattle.net_model.specs.declared.fault.NetFault.{NetFault}
+use Rattle.net_model.specs.declared.fault.NetFault.TheVariants as faults
+
+-- what follows for a value; a fault stays the first
+abbrev pub ◌>>=◌ : {X Y : Type 0} → Result X NetFault → (X → Result Y NetFault) → Result Y NetFault
+◌>>=◌ (Ok x) next = next x
+◌>>=◌ (Err fault) next = Err fault
+
+-- a value as it is seen
+abbrev pub read_map : {X Y : Type 0} → (X → Y) → Result X NetFault → Result Y NetFault
+read_map see (Ok x) = Ok (see x)
+read_map see (Err fault) = Err fault
+
+-- the value that is there, and else this fault
+abbrev pub or_fault : {X : Type 0} → NetFault → Option X → Result X NetFault
+or_fault fault None = Err fault
+or_fault fault (Some x) = Ok x
+
+-- a result, as it is seen, is the one that is wanted; want of memory says nothing
+abbrev pub Gives : {X Y : Type 0} → (X → Y) → Result X NetFault → Result Y NetFault → Type 0
+Gives see (Ok x) wanted = wanted ≡ Ok (see x)
+Gives see (Err fault) wanted = (fault ≢ faults.NoMemory) → wanted ≡ Err fault
+
+-- none where the bytes aren't UTF-8, or aren't TOML
+abbrev pub document_of : List ℕ → Option Members
+document_of text = if is_utf8 text then parse_document text else None
