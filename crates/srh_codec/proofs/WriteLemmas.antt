@@ -88,7 +88,8 @@ entries-more at k out buf post rest entries d room done is below =
     let long : length (front ++ one) ≡ at + 16 =
     omega (arith, length-append front one, length-take-le at out (omega arith), length-address_bytes v) in
     let laid : front ++ (buf ++ post) ≡ (front ++ one) ++ (rest ++ post) =
-    ap (λ xs. front ++ (xs ++ post)) is ∙ ap (λ xs. front ++ xs) (append_assoc one rest post) ∙ sym (append_assoc front one (rest ++ post)) in
+    ap (λ xs. front ++ (xs ++ post)) is ∙ ap (λ xs. front ++ xs) (append_assoc one rest post)
+    ∙ sym (append_assoc front one (rest ++ post)) in
     let more : numbers_of (take (k + 1) entries) ≡ numbers_of (take k entries) ++ v ∷ [] =
     map_more (λ (a : Addr). a.value) entries k d below in
     ap (take (at + 16)) laid
