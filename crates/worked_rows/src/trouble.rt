@@ -10,6 +10,8 @@ pub(crate) enum Trouble {
     Unread(&'static str),
     /// The file's bytes are no UTF-8.
     NotText(&'static str),
+    /// A line of the file is none that it may have.
+    NotALine(&'static str),
     /// The file has more bytes than a row's file may have.
     TooBig(&'static str),
     /// Want of memory.
