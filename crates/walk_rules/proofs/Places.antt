@@ -1,22 +1,23 @@
 -- Places go on to places, and what a stage gives at a place is one of its outcomes.
-use Rattle.std.proofs.Common.{◌≡◌, ℕ, ◌<◌, List, length, Option, Some, None, slice_get, Contains, refl, sym, subst, arith}
+use Rattle.std.proofs.Common.{◌≡◌, ℕ, ◌<◌, Bool, true, false, List, [], length, Option, Some, None, slice_get, Contains, refl, sym, subst, ap, ◌∙◌, arith}
+use Rattle.std.specs.Prelude.{MatchBool}
 use Rattle.srv6_rules.specs.declared.sid.Behaviour.{Behaviour}
-use Rattle.srv6_rules.specs.declared.sid.Behaviour.TheVariants.{End, EndX, Dt6}
+use Rattle.srv6_rules.specs.Behaviours.{behaviour_goes_on, behaviour_takes_links, behaviour_table}
 use Rattle.srv6_rules.specs.declared.sid.SidEntry.{SidEntry}
 use Rattle.srv6_rules.specs.Packet.{Content, V6, Unreadable}
 use Rattle.net_model.specs.declared.parts.Link.{Link}
 use Rattle.net_model.specs.Network.{Network}
-use Rattle.net_model.specs.Keeps.{Keeps, StartsAt, SuitsBehaviour, EndsElsewhere}
+use Rattle.net_model.specs.Keeps.{Keeps, StartsAt, IsLinkSet, EndsElsewhere}
 use Rattle.walk_rules.specs.declared.place.How.{How}
 use Rattle.walk_rules.specs.declared.place.How.TheVariants.{Arrived}
 use Rattle.walk_rules.specs.declared.place.Place.{Place}
 use Rattle.walk_rules.specs.declared.place.Outcome.{Outcome}
 use Rattle.walk_rules.specs.declared.place.Outcome.TheVariants as outcomes
 use Rattle.walk_rules.specs.Way.{Way, Away, Over, Own, Into, way_of, IsWayFrom}
-use Rattle.walk_rules.specs.Treatment.{Gave, on_from, step_of}
+use Rattle.walk_rules.specs.Treatment.{Gave, way_on, on_from, step_of}
 use Rattle.walk_rules.specs.Walk.{far_end, arrival, next_place}
 use Rattle.walk_rules.specs.Laws.{set_of, hops_at, Executes}
-use Rattle.walk_rules.specs.Relation.{Stage, IsHow, IsPlace}
+use Rattle.walk_rules.specs.Relation.{Stage, IsThrough, IsHow, IsPlace}
 use Rattle.walk_rules.proofs.Executions.{step-again, step-hand}
 use Rattle.walk_rules.proofs.Routing.{way-from}
 use Rattle.walk_rules.proofs.Stages.{HasLinks, treated-treats}
@@ -48,18 +49,29 @@ stage-step net place (V6 p) choice keeps is =
     let w = way_of net place p.destination in
     treated-treats net place.node w p choice (has-links net place.node w (way-from net place p.destination keeps is.1))
 
-end_x-some : (links : List Link) (node : ℕ) (b : Behaviour) (set : List ℕ) → b ≡ EndX → SuitsBehaviour links node b set → 0 < length set
-end_x-some links node EndX set is suits = suits.links.some
-end_x-some links node End set is suits = cc
-end_x-some links node (Dt6 table) set is suits = cc
+-- a SID that takes links has some
+links-some : (links : List Link) (node : ℕ) (takes : Bool) (set : List ℕ) → takes ≡ true
+    → MatchBool takes (IsLinkSet links node set) (set ≡ []) → 0 < length set
+links-some links node true set e suits = suits.some
+links-some links node false set e suits = cc
+
+way_on-how : (net : Network) (node n : ℕ) (takes goes_on : Bool) (table : Option ℕ)
+    → (takes ≡ true → IsThrough node (slice_get net.sids n)) → IsHow net node (way_on n takes goes_on table)
+way_on-how net node n true goes_on table through = through refl
+way_on-how net node n false goes_on None through = tt
+way_on-how net node n false true (Some table) through = tt
+way_on-how net node n false false (Some table) through = tt
 
 -- how a packet goes on from a SID that is there and stands at the node
 on_from-how : (net : Network) (node n : ℕ) (s : SidEntry) (b : Behaviour) → Keeps net → slice_get net.sids n ≡ Some s
     → s.node ≡ node → s.behaviour ≡ b → IsHow net node (on_from n b)
-on_from-how net node n s End keeps there stands is = tt
-on_from-how net node n s EndX keeps there stands is =
-    rw there (stands, end_x-some net.links s.node s.behaviour s.links is (keeps.sid n s there).links)
-on_from-how net node n s (Dt6 table) keeps there stands is = tt
+on_from-how net node n s b keeps there stands is =
+    way_on-how net node n (behaviour_takes_links b) (behaviour_goes_on b) (behaviour_table b) (λ takes.
+    rw there (
+      stands,
+      links-some net.links s.node (behaviour_takes_links s.behaviour) s.links
+          (ap behaviour_takes_links is ∙ takes) (keeps.sid n s there).links.links,
+    ))
 
 pub sid-how : (net : Network) (n : ℕ) (s : SidEntry) → Keeps net → slice_get net.sids n ≡ Some s → IsHow net s.node (on_from n s.behaviour)
 sid-how net n s keeps there = on_from-how net s.node n s s.behaviour keeps there refl refl

@@ -1,7 +1,7 @@
 -- One node's treatment of one packet, as a function of the place, the packet and the choice among equal next hops.
-use Rattle.std.specs.Prelude.{ℕ, ◌-◌, ◌%◌, Bool, true, false, ◌&&◌, nat_le, if◌then◌else◌, List, [], length, slice_index, slice_get, Option, Some, None, is_some}
+use Rattle.std.specs.Prelude.{ℕ, ◌-◌, ◌%◌, Bool, true, false, not, ◌&&◌, nat_le, if◌then◌else◌, List, [], length, slice_index, slice_get, Option, Some, None, is_some}
 use Rattle.srv6_rules.specs.declared.sid.Behaviour.{Behaviour}
-use Rattle.srv6_rules.specs.declared.sid.Behaviour.TheVariants as behaviours
+use Rattle.srv6_rules.specs.Behaviours.{behaviour_goes_on, behaviour_takes_links, behaviour_table}
 use Rattle.srv6_rules.specs.declared.sid.Reason.{Reason}
 use Rattle.srv6_rules.specs.declared.sid.Reason.TheVariants as reasons
 use Rattle.srv6_rules.specs.declared.sid.SidEntry.{SidEntry}
@@ -63,11 +63,17 @@ treated_at_address net node p (Exposed family bytes) = dropped net node reasons.
 treated_at_address net node p (Delivered q) = goes outcomes.Local (V6 q)
 treated_at_address net node p (Refused reason at) = dropped net node reason at (V6 p)
 
--- how a packet goes on from SID n: after End by table 0, after End.X over the SID's links, after End.DT6 by its table
+-- how a packet goes on from SID n, by whether the SID takes links, whether the packet itself goes on, and the table that
+-- the SID has of its own: over its links, where what was exposed has its hop limit lowered; else by a look-up, of the
+-- packet itself submitted to the table or to table 0, and of what was exposed as one that has arrived (RFC 8986 section 4)
+abbrev pub way_on : ℕ → Bool → Bool → Option ℕ → How
+way_on n true goes_on table = Through n (not goes_on)
+way_on n false goes_on None = Submitted 0
+way_on n false true (Some table) = Submitted table
+way_on n false false (Some table) = Arrived table
+
 abbrev pub on_from : ℕ → Behaviour → How
-on_from n behaviours.End = Submitted 0
-on_from n behaviours.EndX = Through n false
-on_from n (behaviours.Dt6 table) = Arrived table
+on_from n b = way_on n (behaviour_takes_links b) (behaviour_goes_on b) (behaviour_table b)
 
 -- what comes of a packet at SID n; what is exposed is read as a packet of its family
 abbrev pub treated_at_sid : Network → ℕ → ℕ → Behaviour → Packet → Endpoint → Gave

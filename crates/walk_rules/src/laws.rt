@@ -1,10 +1,11 @@
 //! Laws about the definitions, each the contract of a function that does nothing.
 
-ghost use Rattle.std.specs.Prelude.{◌≡◌, ◌≢◌, ℕ, ◌+◌, ◌<◌, ◌≤◌, ◌⊎◌, ◌↔◌, Bool, true, is_some, List, [], Option, ◌∷◌, ◌++◌, length, slice_get, take, Contains, IsSome};
+ghost use Rattle.std.specs.Prelude.{◌≡◌, ◌≢◌, ℕ, ◌+◌, ◌<◌, ◌≤◌, ◌⊎◌, ◌↔◌, Bool, true, false, is_some, List, [], Option, ◌∷◌, ◌++◌, length, slice_get, take, Contains, IsSome};
 ghost use Rattle.net_model.specs.Best.{lookup_of};
 ghost use Rattle.net_model.specs.Keeps.{Keeps, StartsAt};
 ghost use Rattle.net_model.specs.Network.{Network};
 ghost use Rattle.srv6_rules.specs.Packet.{Content, IsContent, Packet, V6, bytes_of, read_as};
+ghost use Rattle.srv6_rules.specs.declared.sid.Behaviour.TheVariants.{Dt6, End, EndX};
 ghost use Rattle.srv6_rules.specs.declared.sid.Family.{Family};
 ghost use Rattle.srv6_rules.specs.declared.sid.Reason.{Reason};
 ghost use Rattle.srv6_rules.specs.declared.sid.SidEntry.{SidEntry};
@@ -15,6 +16,7 @@ ghost use Rattle.walk_rules.specs.Walk.{IsWalk, Step, choice_at, content_after, 
 ghost use Rattle.walk_rules.specs.Way.{Into, IsThere, IsWayFrom, StandsAt, way_of};
 ghost use Rattle.walk_rules.specs.declared.place.Ended.{Ended};
 ghost use Rattle.walk_rules.specs.declared.place.How.{How};
+ghost use Rattle.walk_rules.specs.declared.place.How.TheVariants.{Arrived, Submitted, Through};
 ghost use Rattle.walk_rules.specs.declared.place.Outcome.{Outcome};
 ghost use Rattle.walk_rules.specs.declared.place.Place.{Place};
 
@@ -168,6 +170,14 @@ pub fn a_place_leads_to_a_place()
         IsPlace net next }
     ensures sid { (net : Network) (n : ℕ) (s : SidEntry) → Keeps net →
         slice_get net.sids n ≡ Some s → IsHow net s.node (on_from n s.behaviour) }
+{}
+
+/// How packets go on from SIDs: from End by table 0, from End.X over the SID's links without another
+/// lowering, and from End.DT6 the exposed packet by its table (RFC 8986 sections 4.1, 4.2 and 4.6).
+pub fn ways_on_are_by_behaviour()
+    ensures end { (n : ℕ) → on_from n End ≡ Submitted 0 }
+    ensures end_x { (n : ℕ) → on_from n EndX ≡ Through n false }
+    ensures dt6 { (n table : ℕ) → on_from n (Dt6 table) ≡ Arrived table }
 {}
 
 /// What bytes can spell stays so in a stage, and what reads as itself from its bytes, as a

@@ -10,14 +10,22 @@ use srv6_rules::{Behaviour, Family};
 
 /// How a packet goes on from a SID with a number: after End by a look-up in table 0, after End.X
 /// over the SID's links, after End.DT6 by a look-up in its table (RFC 8986 sections 4.1, 4.2 and
-/// 4.6).
+/// 4.6). Over the links of a SID the hop limit of what was exposed is lowered, and not of a packet
+/// that goes on itself.
 pub fn on_from(sid: u32, behaviour: &Behaviour) -> How
     ensures { result ≡ on_from sid behaviour.now }
 {
-    match behaviour {
-        Behaviour::End => How::Submitted { table: 0 },
-        Behaviour::EndX => How::Through { sid, lower: false },
-        Behaviour::Dt6 { table } => How::Arrived { table: *table },
+    let goes_on = behaviour.goes_on();
+    if behaviour.takes_links() {
+        return How::Through {
+            sid,
+            lower: !goes_on,
+        };
+    }
+    match behaviour.table() {
+        None => How::Submitted { table: 0 },
+        Some(table) if goes_on => How::Submitted { table },
+        Some(table) => How::Arrived { table },
     }
 }
 
