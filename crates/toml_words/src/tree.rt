@@ -1,6 +1,6 @@
 //! Values of the tree, by their kinds in TOML. Nothing here takes memory.
 
-ghost use Rattle.std.specs.Prelude.{◌≡◌, ◌≤◌, ◌<◌, ◌^◌, IfOk, option_map, map, length, bytes_eq};
+ghost use Rattle.std.specs.Prelude.{◌≡◌, ◌≤◌, ◌<◌, IfOk, option_map, map, length, bytes_eq};
 ghost use Rattle.std.specs.List.{list_any};
 ghost use Rattle.toml.specs.Data.{get_member};
 ghost use Rattle.toml.specs.View.{view, table_view};
@@ -84,8 +84,8 @@ pub(crate) fn array_in(value: &Value, place: FaultPlace) -> Result<&Array, NetFa
     }
 }
 
-/// That there are not more than so many; else `Limit`. It takes a `Vec`, since its length is known to
-/// fit an `i64`.
+/// That there are not more than so many; else `Limit`. It takes a `Vec`, since its length is known
+/// to fit an `i64`.
 pub(crate) fn few<X>(
     items: &Vec<X>,
     most: usize,
