@@ -172,8 +172,9 @@ pub fn a_place_leads_to_a_place()
         slice_get net.sids n ≡ Some s → IsHow net s.node (on_from n s.behaviour) }
 {}
 
-/// How packets go on from SIDs: from End by table 0, from End.X over the SID's links without another
-/// lowering, and from End.DT6 the exposed packet by its table (RFC 8986 sections 4.1, 4.2 and 4.6).
+/// How packets go on from SIDs: from End by table 0, from End.X over the SID's links without
+/// another lowering, and from End.DT6 the exposed packet by its table (RFC 8986 sections 4.1, 4.2
+/// and 4.6).
 pub fn ways_on_are_by_behaviour()
     ensures end { (n : ℕ) → on_from n End ≡ Submitted 0 }
     ensures end_x { (n : ℕ) → on_from n EndX ≡ Through n false }
