@@ -6,7 +6,7 @@ use Rattle.node_stage.specs.declared.content.Held.TheVariants.{V6, Unreadable}
 
 abbrev pub content_view : Held → packets.Content
 content_view (V6 p) = packets.V6 p
-content_view (Unreadable bytes reason) = packets.Unreadable bytes.items reason
+content_view (Unreadable bytes reason) = packets.Unreadable bytes.bytes reason
 
 -- the packet that a content is, if it is one
 abbrev pub packet_in : packets.Content → Option packets.Packet

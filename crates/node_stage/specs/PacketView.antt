@@ -11,5 +11,5 @@ packet_view p =
       hop_limit = p.hop_limit;
       source = p.source.value;
       destination = p.destination.value;
-      payload = p.payload.items;
+      payload = p.payload.bytes;
     }

@@ -3,6 +3,7 @@
 ghost use Rattle.std.specs.Prelude.{◌≡◌};
 
 use crate::packet::Packet;
+use crate::pkt_buf::PktBuf;
 use srv6_rules::Reason;
 use std::marker::Model;
 use std::mem;
@@ -10,7 +11,7 @@ use std::mem;
 #[derive(Debug, Drop)]
 pub(crate) enum Held {
     V6(Packet),
-    Unreadable(Vec<u8>, Reason),
+    Unreadable(PktBuf, Reason),
 }
 
 /// A packet, or bytes that do not read as one and why.
@@ -58,7 +59,7 @@ impl Content {
     {
         let empty = match &self.held {
             Held::V6(packet) => packet.no_bytes(),
-            Held::Unreadable(bytes, _) => Vec::new(*bytes.allocator()),
+            Held::Unreadable(bytes, _) => bytes.no_bytes(),
         };
         mem::replace(
             self,

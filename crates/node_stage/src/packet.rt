@@ -5,7 +5,7 @@ ghost use Rattle.srv6_rules.specs.Packet.{read_as, packet_at, first_word, IsSpel
 ghost use Rattle.ip6_headers.specs.Reading.{HoldsPacket};
 
 use crate::content::Content;
-use crate::reading::drop_front;
+use crate::pkt_buf::PktBuf;
 use ip6_headers::Ip6View;
 use srv6_rules::Family;
 use srv6_rules::numbers::IPV6_HEADER_LEN;
@@ -21,7 +21,7 @@ pub struct Packet {
     hop_limit: u8,
     source: Addr,
     destination: Addr,
-    payload: Vec<u8>,
+    payload: PktBuf,
 }
 
 impl Model for Packet {
@@ -37,11 +37,11 @@ impl Model for Packet {
 
 impl Packet {
     /// The packet that bytes begin with, in place: what stands behind its end is cut.
-    pub(crate) fn at_front(mut bytes: Vec<u8>) -> Packet
-        requires { HoldsPacket bytes.items }
-        ensures { result ≡ packet_at bytes.items }
+    pub(crate) fn at_front(mut bytes: PktBuf) -> Packet
+        requires { HoldsPacket bytes.bytes }
+        ensures { result ≡ packet_at bytes.bytes }
     {
-        let view = Ip6View::over(bytes.as_slice());
+        let view = Ip6View::over(bytes.view());
         let traffic_class = view.traffic_class();
         let flow_label = view.flow_label();
         let next_header = view.next_header();
@@ -49,7 +49,7 @@ impl Packet {
         let source = view.source();
         let destination = view.destination();
         let len = view.payload_len();
-        drop_front(&mut bytes, IPV6_HEADER_LEN);
+        bytes.drop_front(IPV6_HEADER_LEN);
         bytes.truncate(usize::from(len));
         Packet {
             traffic_class,
@@ -130,7 +130,7 @@ impl Packet {
     pub fn payload(&self) -> &[u8]
         ensures { result.now ≡ self.now.payload }
     {
-        self.payload.as_slice()
+        self.payload.view()
     }
 
     /// Lowers the hop limit by one.
@@ -153,12 +153,12 @@ impl Packet {
         requires { at < length self.old.payload }
         ensures { self.new ≡ record self.old { payload = slice_set self.old.payload at byte } }
     {
-        self.payload[at] = byte;
+        self.payload.set(at, byte);
     }
 
-    /// No bytes, of the payload's allocator.
-    pub(crate) fn no_bytes(&self) -> Vec<u8> {
-        Vec::new(*self.payload.allocator())
+    /// No bytes, of the payload's allocator; takes no memory.
+    pub(crate) fn no_bytes(&self) -> PktBuf {
+        self.payload.no_bytes()
     }
 
     /// What the payload's bytes from a place on read as, as a packet of a family, in place.
@@ -167,7 +167,7 @@ impl Packet {
         ensures { result ≡ read_as family (drop at self.payload) }
     {
         let mut bytes = self.payload;
-        drop_front(&mut bytes, at);
+        bytes.drop_front(at);
         Content::read_as(family, bytes)
     }
 }

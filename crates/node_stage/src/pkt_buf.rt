@@ -1,6 +1,6 @@
 //! A packet's bytes with spare room in front of them.
 
-ghost use Rattle.std.specs.Prelude.{◌≡◌, ◌+◌, ◌-◌, ◌≤◌, ◌++◌, length, take, drop, replicate, IfOk, OnOk, OnErr};
+ghost use Rattle.std.specs.Prelude.{◌≡◌, ◌+◌, ◌-◌, ◌<◌, ◌≤◌, ◌++◌, [], length, take, drop, replicate, slice_set, IfOk, OnOk, OnErr};
 
 use base::NoMemory;
 use srv6_rules::numbers::MOST_LEN;
@@ -41,6 +41,23 @@ impl PktBuf {
         Ok(PktBuf { held, front })
     }
 
+    /// Bytes with none spare in front, in place; takes no memory.
+    pub fn of(bytes: Vec<u8>) -> PktBuf
+        ensures { result ≡ record { bytes = bytes.items; front = 0 } }
+    {
+        PktBuf {
+            held: bytes,
+            front: 0,
+        }
+    }
+
+    /// No bytes, of this buffer's allocator; takes no memory.
+    pub(crate) fn no_bytes(&self) -> PktBuf
+        ensures { result ≡ record { bytes = []; front = 0 } }
+    {
+        PktBuf::of(Vec::new(*self.held.allocator()))
+    }
+
     /// The packet's bytes.
     pub fn view(&self) -> &[u8]
         ensures { result.now ≡ self.now.bytes }
@@ -54,6 +71,24 @@ impl PktBuf {
         ensures value { result.now ≡ self.old.bytes }
     {
         self.held.slice_mut(self.front..)
+    }
+
+    /// How many the packet's bytes are.
+    pub fn len(&self) -> usize
+        ensures { result ≡ length self.now.bytes }
+    {
+        self.view().len()
+    }
+
+    /// Writes the packet's byte at a place, counted from 0.
+    pub fn set(&mut self, at: usize, byte: u8)
+        requires { at < length self.old.bytes }
+        ensures { self.new ≡ record {
+          bytes = slice_set self.old.bytes at byte;
+          front = self.old.front;
+        } }
+    {
+        self.held[self.front + at] = byte;
     }
 
     /// How many bytes are spare in front.

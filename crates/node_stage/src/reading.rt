@@ -1,28 +1,21 @@
 //! Bytes read as a packet (RFC 8200 section 3), in place.
 
-ghost use Rattle.std.specs.Prelude.{◌≡◌, ◌≤◌, drop, vec_len};
+ghost use Rattle.std.specs.Prelude.{◌≡◌};
 ghost use Rattle.srv6_rules.specs.Packet.{content_of, read_as, entered};
 
 use crate::content::{Content, Held};
 use crate::packet::Packet;
+use crate::pkt_buf::PktBuf;
 use ip6_headers::read_fault;
 use srv6_rules::Family;
 use srv6_rules::numbers::MOST_LEN;
 
-/// Drops the first n bytes, in place.
-pub(crate) fn drop_front(bytes: &mut Vec<u8>, n: usize)
-    requires { n ≤ vec_len bytes.old }
-    ensures { bytes.new.items ≡ drop n bytes.old.items }
-{
-    bytes.drain(..n);
-}
-
 impl Content {
     /// How bytes read as IPv6, in place: what stands behind the packet's end is cut.
-    pub(crate) fn read(bytes: Vec<u8>) -> Content
-        ensures { result ≡ content_of bytes.items }
+    pub(crate) fn read(bytes: PktBuf) -> Content
+        ensures { result ≡ content_of bytes.bytes }
     {
-        match read_fault(bytes.as_slice()) {
+        match read_fault(bytes.view()) {
             Some(fault) => Content {
                 held: Held::Unreadable(bytes, fault.reason()),
             },
@@ -31,8 +24,8 @@ impl Content {
     }
 
     /// How bytes read as a packet of a family, in place.
-    pub(crate) fn read_as(family: Family, bytes: Vec<u8>) -> Content
-        ensures { result ≡ read_as family bytes.items }
+    pub(crate) fn read_as(family: Family, bytes: PktBuf) -> Content
+        ensures { result ≡ read_as family bytes.bytes }
     {
         match family {
             Family::V6 => Content::read(bytes),
@@ -45,6 +38,6 @@ impl Content {
         ensures { result ≡ entered bytes.items }
     {
         bytes.truncate(MOST_LEN);
-        Content::read(bytes)
+        Content::read(PktBuf::of(bytes))
     }
 }

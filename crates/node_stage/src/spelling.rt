@@ -111,7 +111,7 @@ impl Content {
     {
         match &self.held {
             Held::V6(packet) => packet.append_to(out),
-            Held::Unreadable(bytes, _) => out.extend_from_slice(bytes.as_slice()),
+            Held::Unreadable(bytes, _) => out.extend_from_slice(bytes.view()),
         }
     }
 
@@ -121,7 +121,7 @@ impl Content {
     {
         match &self.held {
             Held::V6(packet) => packet.keeps_rules(),
-            Held::Unreadable(bytes, _) => are_bytes(bytes.as_slice()),
+            Held::Unreadable(bytes, _) => are_bytes(bytes.view()),
         }
     }
 

@@ -344,9 +344,12 @@ fn buffer(rt: HostRuntime) -> Result<(), Fail> {
     assert_eq!(rt; buffer.view(), [2, 3].as_slice());
     assert_eq!(rt; buffer.front(), 7);
     buffer.view_mut().fill(9);
+    buffer.set(0, 4);
+    assert_eq!(rt; buffer.view(), [4, 9].as_slice());
     buffer.truncate(1);
     buffer.reserve_front(20)?;
-    assert_eq!(rt; buffer.view(), [9].as_slice());
+    assert_eq!(rt; buffer.view(), [4].as_slice());
+    assert_eq!(rt; buffer.len(), 1);
     assert!(rt; buffer.front() >= 20);
     Ok(())
 }

@@ -1,8 +1,9 @@
-use Rattle.std.proofs.Common.{◌≡◌, ◌∙◌, List, ℕ, length, take, drop, ap, sym, subst}
+use Rattle.std.proofs.Common.{◌≡◌, ◌≤◌, ◌∙◌, List, ℕ, length, take, drop, ap, sym, subst}
 use Rattle.srv6_rules.specs.Packet.{Packet, IsSpellable, header_len, packet_at}
 use Rattle.ip6_headers.proofs.PublicLaws.{holds-spellable}
+use Rattle.node_stage.specs.BufferView.{Buffer}
 use Rattle.node_stage.specs.PacketView.{packet_view}
-use Rattle.node_stage.proofs.ReadingLemmas.{payload-behind}
+use Rattle.node_stage.proofs.ReadingLemmas.{payload-behind, payload-within}
 use Rattle.node_stage.proofs.packet.Packet.at_front.Goals as goal
 
 -- the view's packet, field by field
@@ -14,15 +15,16 @@ same : (c : goal.After-truncate) → packet_view (record {
   source = c.source-source.result;
   destination = c.destination-destination.result;
   payload = c.truncate.new.self;
-}) ≡ packet_at c.args.bytes.items
+}) ≡ packet_at c.args.bytes.bytes
 same c =
-    let bytes : List ℕ = c.args.bytes.items in
+    let bytes : List ℕ = c.args.bytes.bytes in
     let p : Packet = c.over-view.result in
-    let is : p ≡ packet_at bytes = c.over-view.ensures ∙ ap packet_at c.as_slice.ensures.value in
+    let is : p ≡ packet_at bytes = c.over-view.ensures ∙ ap packet_at c.view.ensures in
     let len : c.from.result ≡ length (packet_at bytes).payload =
     c.from.ensures ∙ c.payload_len-len.ensures ∙ ap (λ (q : Packet). length q.payload) is in
-    let payload : c.truncate.new.self.items ≡ p.payload =
-    c.truncate.ensures.items ∙ ap (take c.from.result) c.drop_front.ensures
+    let payload : c.truncate.new.self.bytes ≡ p.payload =
+    ap (λ (b : Buffer). b.bytes) c.truncate.ensures
+    ∙ ap (λ (b : Buffer). take c.from.result b.bytes) c.drop_front.ensures
     ∙ ap (λ k. take k (drop header_len bytes)) len ∙ payload-behind bytes c.requires
     ∙ ap (λ (q : Packet). q.payload) (sym is) in
     rw (
@@ -35,10 +37,20 @@ same c =
       payload,
     ) is
 
+pub truncate-requires : goal.truncate-requires
+truncate-requires c =
+    let bytes : List ℕ = c.args.bytes.bytes in
+    let is : c.over-view.result ≡ packet_at bytes = c.over-view.ensures ∙ ap packet_at c.view.ensures in
+    let len : c.from.result ≡ length (packet_at bytes).payload =
+    c.from.ensures ∙ c.payload_len-len.ensures ∙ ap (λ (q : Packet). length q.payload) is in
+    let left : c.drop_front.new.self.bytes ≡ drop header_len bytes = ap (λ (b : Buffer). b.bytes) c.drop_front.ensures in
+    let within : length (packet_at bytes).payload ≤ length (drop header_len bytes) = payload-within bytes c.requires in
+    rw (len, left) within
+
 pub returns : goal.returns
 returns c = same c
 
 pub invariant_of-result : goal.invariant_of-result
 invariant_of-result c =
     let P : Packet → Type 0 = λ p. IsSpellable p in
-    subst P (sym (same c)) (holds-spellable c.args.bytes.items c.requires)
+    subst P (sym (same c)) (holds-spellable c.args.bytes.bytes c.requires)
