@@ -1,10 +1,12 @@
 -- SIDs by what they do: only here are behaviours told apart (RFC 8986 section 4).
-use Rattle.std.specs.Prelude.{ℕ, Bool, true, false, ◌==◌, ◌&&◌, ◌||◌, not, Option, Some, None}
+use Rattle.std.specs.Prelude.{ℕ, Bool, true, false, ◌==◌, ◌&&◌, ◌||◌, not, if◌then◌else◌, Option, Some, None}
 use Rattle.srv6_rules.specs.declared.numbers.TheConstants.{IPV6_INSIDE, IPV4_INSIDE}
 use Rattle.srv6_rules.specs.declared.sid.Behaviour.{Behaviour}
 use Rattle.srv6_rules.specs.declared.sid.Behaviour.TheVariants.{End, EndX, EndT, Dx6, Dx4, Dt6, Dt4, Dt46, B6, B6Red}
 use Rattle.srv6_rules.specs.declared.sid.Csid.{Csid}
 use Rattle.srv6_rules.specs.declared.sid.Csid.TheVariants as csids
+use Rattle.srv6_rules.specs.declared.sid.Family.{Family}
+use Rattle.srv6_rules.specs.declared.sid.Family.TheVariants.{V6, V4}
 use Rattle.srv6_rules.specs.declared.sid.SidEntry.{SidEntry}
 
 -- the upper layer of an IPv6 packet inside a packet, and of an IPv4 packet
@@ -13,6 +15,10 @@ ipv6_inside = IPV6_INSIDE
 
 abbrev pub ipv4_inside : ℕ
 ipv4_inside = IPV4_INSIDE
+
+-- the family of a packet inside, by its kind as an upper layer
+abbrev pub family_inside : ℕ → Family
+family_inside kind = if kind == ipv4_inside then V4 else V6
 
 -- the behaviours that make the next segment the destination: End, End.X, End.T and binding (RFC 8986 sections 4.1 to
 -- 4.3, 4.13 and 4.14)

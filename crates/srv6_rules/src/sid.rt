@@ -316,10 +316,6 @@ impl SidEntry {
     pub fn is_built(&self) -> bool
         ensures { result ≡ is_built self.now }
     {
-        self.csid == Csid::Plain
-            && !self.psp
-            && !self.usp
-            && !self.usd
-            && self.behaviour.is_built()
+        self.csid == Csid::Plain && !self.psp && !self.usp && !self.usd && self.behaviour.is_built()
     }
 }
