@@ -12,7 +12,7 @@ use Rattle.srv6_rules.specs.Chain.{Header, ChainEnd, Upper, Cut, Chain, fragment
 use Rattle.srv6_rules.specs.Checksum.{checksum_of}
 
 -- the error that a drop of an IPv6 packet gives, by its reason and the place of the fault, if it gives one (RFC 4443 section 3,
--- RFC 8200 sections 4.2 and 4.4, RFC 8754 section 4.3.1.1, RFC 8986 section 4.1.1; that others give none is an own rule)
+-- RFC 8200 sections 4, 4.2 and 4.4, RFC 8754 section 4.3.1.1, RFC 8986 section 4.1.1; that others give none is an own rule)
 abbrev pub kind_of : Reason → ℕ → Option IcmpKind
 kind_of reasons.Truncated at = None
 kind_of reasons.BadVersion at = None

@@ -1,12 +1,13 @@
 //! Which ICMPv6 error a drop gives, and laws about errors and their checksums (RFC 4443, RFC 1071).
 
-ghost use Rattle.std.specs.Prelude.{◌≡◌, ◌+◌, ◌-◌, ◌/◌, ◌%◌, ◌^◌, ◌<◌, ◌≤◌, true, false, ◌&&◌, not, if◌then◌else◌, List, [], ℕ, ◌++◌, length, All, Option, Some, None};
+ghost use Rattle.std.specs.Prelude.{◌≡◌, ◌+◌, ◌-◌, ◌/◌, ◌%◌, ◌^◌, ◌<◌, ◌≤◌, true, false, ◌&&◌, not, if◌then◌else◌, List, [], ℕ, ◌∷◌, ◌++◌, length, All, Option, Some, None};
 ghost use Rattle.srv6_rules.specs.Chain.{ChainPlace, Header, Chain, Upper, is_extension, is_whole, header_in, behind_in, behind, start_of, chain_at, from_place};
 ghost use Rattle.srv6_rules.specs.Checksum.{all_ones, ones_sum, word_sum, carried, pseudo_header, upper_layer_sum, Verifies};
 ghost use Rattle.srv6_rules.specs.Errors.{kind_of, IsKind, is_error_message, leads_to_error, ends_in_error, is_later_fragment, message_head, quote_of, error_checksum, error_packet};
-ghost use Rattle.srv6_rules.specs.Packet.{Packet, IsSpellable, spelling, header_len};
+ghost use Rattle.srv6_rules.specs.Packet.{Packet, IsSpellable, spelling, header_len, two_bytes, four_bytes};
 ghost use Rattle.srv6_rules.specs.declared.numbers.TheConstants.{ICMPV6, LEAST_MTU};
 ghost use Rattle.srv6_rules.specs.declared.icmp.IcmpKind.{IcmpKind as IcmpKindValue};
+ghost use Rattle.srv6_rules.specs.declared.icmp.IcmpKind.TheVariants.{Unreachable, TimeExceeded, Parameter};
 ghost use Rattle.srv6_rules.specs.declared.sid.Reason.{Reason as ReasonValue};
 
 use crate::numbers::{UNKNOWN_OPTION, WRONG_FIELD, WRONG_NEXT_HEADER, WRONG_UPPER_LAYER};
@@ -129,4 +130,26 @@ pub fn errors_verify()
         → IsKind kind → from < 2 ^ 128 → error_packet p kind from ≡ Some q → IsSpellable q }
     ensures checksum { (p q : Packet) (kind : IcmpKindValue) (from : ℕ) → IsSpellable p
         → IsKind kind → from < 2 ^ 128 → error_packet p kind from ≡ Some q → Verifies q }
+{}
+
+/// The figures of errors: Destination Unreachable has type 1, Time Exceeded 3 and Parameter Problem
+/// 4, each with code 0 but for Parameter Problem about a next header, 1, an option, 2, and an upper
+/// layer, 4; its pointer is the message's last four bytes (RFC 4443 sections 3.1, 3.3 and 3.4, RFC
+/// 8200 sections 4 and 4.2, RFC 8986 section 4.1.1).
+pub fn errors_have_their_figures()
+    ensures unreachable { (checksum : ℕ)
+        → message_head Unreachable checksum ≡ 1 ∷ 0 ∷ (two_bytes checksum ++ four_bytes 0) }
+    ensures time_exceeded { (checksum : ℕ)
+        → message_head TimeExceeded checksum ≡ 3 ∷ 0 ∷ (two_bytes checksum ++ four_bytes 0) }
+    ensures parameter { (code at checksum : ℕ)
+        → message_head (Parameter code at) checksum
+        ≡ 4 ∷ code ∷ (two_bytes checksum ++ four_bytes at) }
+    ensures no_route { (at : ℕ) → kind_of ReasonValue.NoRoute at ≡ Some Unreachable }
+    ensures hop_limit { (at : ℕ) → kind_of ReasonValue.HopLimit at ≡ Some TimeExceeded }
+    ensures segments { (at : ℕ) → kind_of ReasonValue.BadSegments at ≡ Some (Parameter 0 at) }
+    ensures routing { (at : ℕ) → kind_of ReasonValue.UnknownRouting at ≡ Some (Parameter 0 at) }
+    ensures next_header { (at : ℕ)
+        → kind_of ReasonValue.LateHopByHop at ≡ Some (Parameter 1 at) }
+    ensures option { (at : ℕ) → kind_of ReasonValue.OptionUnknown at ≡ Some (Parameter 2 at) }
+    ensures upper_layer { (at : ℕ) → kind_of ReasonValue.UpperLayer at ≡ Some (Parameter 4 at) }
 {}

@@ -90,7 +90,7 @@ pub enum Reason {
     NoRoute,
     /// The hop limit is at most 1 and would have to be lowered.
     HopLimit,
-    /// An extension header is cut.
+    /// An extension header is cut, or an option passes its header's end.
     BadChain,
     /// A Hop-by-Hop Options header that the IPv6 header does not name.
     LateHopByHop,
