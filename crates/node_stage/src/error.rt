@@ -20,9 +20,9 @@ pub(crate) struct Told {
     pub(crate) after: Content,
 }
 
-/// Writes the error of a kind about a packet into an empty slot, from an address, if one is made;
-/// gives the packet back, and whether there is one. The packet's bytes are brought together in their
-/// place, so no memory is taken.
+/// Writes the error of a kind about a packet into a slot, from an address, if one is made; gives the
+/// packet back, and whether there is one. The packet's bytes are brought together in their place,
+/// so no memory is taken.
 fn answered(packet: Packet, kind: &IcmpKind, from: Addr, slot: &mut IcmpSlot) -> (Content, bool)
     ensures packet { result.0 ≡ V6 packet }
     ensures made { result.1 ≡ is_some (error_packet packet kind.now from.value) }
@@ -34,8 +34,8 @@ fn answered(packet: Packet, kind: &IcmpKind, from: Addr, slot: &mut IcmpSlot) ->
     (Content::read(bytes), made)
 }
 
-/// What stands at a node with an address is dropped as it is, for a reason, with the fault's place in
-/// bytes from its first; the error about it is written into an empty slot, if one is made: about
+/// What stands at a node with an address is dropped as it is, for a reason, with the fault's place
+/// in bytes from its first; the error about it is written into an empty slot, if one is made: about
 /// bytes that do not read none is, and for a packet the reason names its kind (RFC 4443 section 3).
 pub(crate) fn dropped(
     reason: Reason,

@@ -351,8 +351,8 @@ fn headers_refuse_at_b(rt: HostRuntime) -> Result<(), Fail> {
     Ok(())
 }
 
-/// B has no route to 2001:db8::2, which it tells from its own address; what it drops stays. What the
-/// slot holds is gone with the next stage.
+/// B has no route to 2001:db8::2, which it tells from its own address; what it drops stays. What
+/// the slot holds is gone with the next stage.
 #[test]
 fn drop_is_told_from_the_node(rt: HostRuntime) -> Result<(), Fail> {
     let net = net(&rt, rt.alloc())?;

@@ -33,8 +33,8 @@ pub(crate) enum Staged {
         outcome: Outcome,
         after: Content,
     },
-    /// What stands there is dropped as it is, with the fault's place in bytes from its first, 0 where
-    /// the reason has none.
+    /// What stands there is dropped as it is, with the fault's place in bytes from its first, 0
+    /// where the reason has none.
     Drops {
         reason: Reason,
         at: u32,
@@ -213,8 +213,8 @@ fn told(net: &Net, place: &Place, content: Content, choice: u32, slot: &mut Icmp
 }
 
 /// One node's treatment of what stands at a place, under a choice among equal next hops; what
-/// stands there afterwards takes its place, a dropped packet as it was (RFC 8200 section 3, RFC 8754
-/// section 4.3, RFC 8986 section 4). A Send takes the member of its set at `choice` modulo the
+/// stands there afterwards takes its place, a dropped packet as it was (RFC 8200 section 3, RFC
+/// 8754 section 4.3, RFC 8986 section 4). A Send takes the member of its set at `choice` modulo the
 /// number of members. The slot holds the ICMPv6 error that the node sends about what it drops, from
 /// its own address, exactly where the outcome says so, and else nothing; what it held is gone. The
 /// error's pointer counts in bytes from the first of the packet as it was (RFC 4443 section 3). It
