@@ -1,4 +1,4 @@
-use Rattle.std.proofs.Common.{◌≡◌, ◌++◌, ◌∷◌, [], List, ℕ, ap, ◌∙◌}
+use Rattle.std.proofs.Common.{◌++◌, ◌∷◌, [], List, ℕ, ap, ◌∙◌}
 use Rattle.srv6_rules.specs.Packet.{two_bytes, four_bytes, address_bytes}
 use Rattle.node_stage.proofs.SpellingLemmas.{header-written}
 use Rattle.node_stage.proofs.packet.Packet.header.Goals as goal
