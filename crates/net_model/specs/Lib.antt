@@ -9,3 +9,4 @@ pub mod Entries
 pub mod Flat
 pub mod Gathered
 pub mod Keys
+pub mod Judging
