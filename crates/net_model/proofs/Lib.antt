@@ -13,4 +13,5 @@ pub mod JudgingLemmas
 pub mod PassesLemmas
 pub mod TableLaws
 pub mod SidLaws
+pub mod RouteSetLemmas
 pub mod PublicLaws

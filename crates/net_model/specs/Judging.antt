@@ -1,6 +1,6 @@
 -- The first fault of the parts of a network (own rules): the tables in their order, of a table its items in the order of the
 -- file, and of an item the tests in the order in which they are written here.
-use Rattle.std.specs.Prelude.{◌≡◌, ℕ, suc, ◌+◌, pos, Bool, true, false, ◌==◌, ◌&&◌, ◌||◌, not, nat_lt, nat_le, if◌then◌else◌, count_by, List, [], ◌∷◌, ◌++◌, length, slice_get, Option, Some, None, is_some, option_and_then, Result, Ok, Err, IsTrue}
+use Rattle.std.specs.Prelude.{◌≡◌, ◌≢◌, ℕ, suc, ◌+◌, pos, Bool, true, false, ◌==◌, ◌&&◌, ◌||◌, not, nat_lt, nat_le, if◌then◌else◌, count_by, List, [], ◌∷◌, ◌++◌, length, slice_get, Option, Some, None, is_some, option_and_then, Result, Ok, Err, IsTrue}
 use Rattle.std.specs.List.{filter_map, list_any, list_all}
 use Rattle.srv6_rules.specs.declared.sid.SidEntry.{SidEntry}
 use Rattle.srv6_rules.specs.Behaviours.{behaviour_goes_on, behaviour_takes_links, behaviour_table, behaviour_policy, behaviour_takes_flavours, is_plain}
@@ -124,12 +124,16 @@ judge_link node_count before p l = first_of (
 abbrev pub is_set_of : List Link → ℕ → List ℕ → Bool
 is_set_of links node set = nat_le 1 (length set) && (are_distinct same_number set && list_all (starts_at links node) set)
 
-abbrev pub judge_route : ℕ → List Link → List Route → FaultPlace → Route → Result (Unit {0}) NetFault
-judge_route node_count links before p r = first_of (
+-- a route, of which it is known whether an earlier one is the same
+abbrev pub judge_route_beside : ℕ → List Link → Bool → FaultPlace → Route → Result (Unit {0}) NetFault
+judge_route_beside node_count links is_double p r = first_of (
     (is_unknown node_count r.node, faults.UnknownName p.table p.item)
     ∷ (list_any (is_unknown (length links)) r.via, faults.UnknownName p.table p.item)
     ∷ (not (is_set_of links r.node r.via), faults.BadStructure p.table p.item)
-    ∷ (stands_before same_route before r, faults.DoublePrefix p.table p.item) ∷ [])
+    ∷ (is_double, faults.DoublePrefix p.table p.item) ∷ [])
+
+abbrev pub judge_route : ℕ → List Link → List Route → FaultPlace → Route → Result (Unit {0}) NetFault
+judge_route node_count links before p r = judge_route_beside node_count links (stands_before same_route before r) p r
 
 abbrev pub judge_policy : List NamedPolicy → FaultPlace → NamedPolicy → Result (Unit {0}) NetFault
 judge_policy before p q = first_of (
@@ -229,3 +233,8 @@ judging net standings =
     (and_then (judged tables.Route (judge_route (length net.nodes) net.links) [] net.routes)
     (and_then (judged tables.Policy judge_policy [] net.policies)
     (judged tables.Sid (judge_sid net standings) [] net.sids)))))
+
+-- a result is the one that is wanted; want of memory says nothing
+abbrev pub Judges : Result (Unit {0}) NetFault → Result (Unit {0}) NetFault → Type 0
+Judges (Ok u) wanted = wanted ≡ Ok tt
+Judges (Err fault) wanted = (fault ≢ faults.NoMemory) → wanted ≡ Err fault

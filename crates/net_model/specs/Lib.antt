@@ -10,3 +10,4 @@ pub mod Flat
 pub mod Gathered
 pub mod Keys
 pub mod Judging
+pub mod RouteKeys

@@ -7,14 +7,17 @@ ghost use Rattle.net_model.specs.declared.fault.NetFault.{NetFault};
 ghost use Rattle.net_model.specs.declared.fault.TableKind.TheVariants as tables;
 ghost use Rattle.net_model.specs.Network.{network_of};
 ghost use Rattle.net_model.specs.Rules.{starts_at};
-ghost use Rattle.net_model.specs.Judging.{judged, stands_before, judge_block, judge_node, is_unknown, is_unknown_end, ends_at, judge_link, is_set_of, judge_route, judge_policy};
+ghost use Rattle.net_model.specs.Judging.{judged, stands_before, judge_block, judge_node, is_unknown, is_unknown_end, ends_at, judge_link, is_set_of, judge_route_beside, judge_route, judge_policy, Judges};
 
 use crate::fault::{FaultPlace, NetFault, TableKind};
 use crate::parts::{Block, Link, NamedPolicy, Node, Route};
+use crate::route_set::put_route;
 use crate::rules::{
-    LinkNames, NodeAddresses, NodeNames, Numbers, Overlaps, PolicyNames, Routes, Sameness,
-    are_distinct, each_starts_at, is_block_len,
+    LinkNames, NodeAddresses, NodeNames, Numbers, Overlaps, PolicyNames, Sameness, are_distinct,
+    each_starts_at, is_block_len,
 };
+use std::alloc::Global;
+use std::collections::BTreeSet;
 
 /// The tests of the items of a table.
 pub(crate) trait Judge<X> {
@@ -159,18 +162,40 @@ pub(crate) struct RouteRules<'a> {
     pub(crate) links: &'a [Link],
 }
 
-impl<'a> Judge<Route> for RouteRules<'a> {
-    ghost rules = { λ s. judge_route s.node_count s.links.now };
-
-    fn judge(&self, before: &[Route], place: FaultPlace, r: &Route) -> Result<(), NetFault> {
+impl<'a> RouteRules<'a> {
+    /// The first fault of a route, of which it is known whether an earlier one is the same.
+    fn judge(&self, is_double: bool, place: FaultPlace, r: &Route) -> Result<(), NetFault>
+        ensures { result ≡ judge_route_beside self.now.node_count self.now.links.now is_double
+            place r.now }
+    {
         let via = r.via.as_slice();
         refuse_if(is_unknown(self.node_count, r.node), place.unknown_name())?;
         refuse_if(has_unknown(self.links.len(), via), place.unknown_name())?;
-        refuse_if(!is_set_of(self.links, r.node, via), place.bad_structure())?;
         refuse_if(
-            stands_before::<Route, Routes>(before, r),
-            place.double_prefix(),
-        )
+            !is_set_of(self.links, r.node, via),
+            place.bad_structure(),
+        )?;
+        refuse_if(is_double, place.double_prefix())
+    }
+
+    /// The first fault of the routes. Those that came before stand in a set, since there may be
+    /// tens of thousands.
+    #[tactic(auto, using(crate::proofs::JudgingLemmas::judging_items, crate::proofs::RouteSetLemmas::no_keys))]
+    pub(crate) fn judge_all(&self, alloc: Global, routes: &[Route]) -> Result<(), NetFault>
+        requires { length routes.now < 2 ^ 32 - 1 }
+        ensures { Judges result (judged tables.Route
+            (judge_route self.now.node_count self.now.links.now) [] routes.now) }
+    {
+        let mut keys = BTreeSet::new(alloc);
+        for (i, r) in routes.iter().enumerate() {
+            let place = FaultPlace {
+                table: TableKind::Route,
+                item: i as u32 + 1,
+            };
+            let is_double = put_route(&mut keys, r)?;
+            self.judge(is_double, place, r)?;
+        }
+        Ok(())
     }
 }
 

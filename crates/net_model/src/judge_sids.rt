@@ -4,7 +4,7 @@ ghost use Rattle.std.specs.Prelude.{◌≡◌, ◌-◌, ◌<◌, ◌^◌, ℕ, B
 ghost use Rattle.net_model.specs.declared.fault.NetFault.{NetFault};
 ghost use Rattle.net_model.specs.declared.fault.TableKind.TheVariants as tables;
 ghost use Rattle.net_model.specs.Network.{network_of};
-ghost use Rattle.net_model.specs.Judging.{InRange, same_answer, fitting, standing_or, suits_keys, is_unknown_policy, same_text, title_text, same_title_text, stands_before, is_full, judge_joins, suits_compression, judge_flavours, judge_apart, judge_sid, judging};
+ghost use Rattle.net_model.specs.Judging.{InRange, same_answer, fitting, standing_or, suits_keys, is_unknown_policy, same_text, title_text, same_title_text, stands_before, is_full, judge_joins, suits_compression, judge_flavours, judge_apart, judge_sid, judging, Judges};
 
 use crate::fault::{FaultPlace, Key, NetFault, TableKind};
 use crate::judge::{
@@ -16,6 +16,7 @@ use crate::parts::{Block, Name, NetParts};
 use crate::rules::{Sids, block_of, same_bytes, suits_block, suits_flavours};
 use crate::standing::Standing;
 use srv6_rules::{Csid, SidEntry};
+use std::alloc::Global;
 
 /// How a SID stands that has the keys that its behaviour takes, and no flavour twice.
 fn fitting(s: &SidEntry) -> Standing
@@ -188,9 +189,13 @@ impl<'a> Judge<SidEntry> for SidRules<'a> {
 
 /// The first fault of the parts of a network (own rules).
 #[tactic(auto, using(crate::proofs::JudgingLemmas::few_bound))]
-pub(crate) fn judge_parts(parts: &NetParts, standings: &[Standing]) -> Result<(), NetFault>
+pub(crate) fn judge_parts(
+    alloc: Global,
+    parts: &NetParts,
+    standings: &[Standing],
+) -> Result<(), NetFault>
     requires { InRange (network_of parts.now) }
-    ensures { result ≡ judging (network_of parts.now) standings.now }
+    ensures { Judges result (judging (network_of parts.now) standings.now) }
 {
     let links = LinkRules {
         node_count: parts.nodes.len(),
@@ -203,7 +208,7 @@ pub(crate) fn judge_parts(parts: &NetParts, standings: &[Standing]) -> Result<()
     judge_all(&BlockRules, TableKind::Block, parts.blocks.as_slice())?;
     judge_all(&NodeRules, TableKind::Node, parts.nodes.as_slice())?;
     judge_all(&links, TableKind::Link, parts.links.as_slice())?;
-    judge_all(&routes, TableKind::Route, parts.routes.as_slice())?;
+    routes.judge_all(alloc, parts.routes.as_slice())?;
     judge_all(&PolicyRules, TableKind::Policy, parts.policies.as_slice())?;
     judge_all(&sids, TableKind::Sid, parts.sids.as_slice())
 }

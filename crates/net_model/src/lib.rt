@@ -21,6 +21,7 @@ mod named;
 mod net;
 mod node_table;
 mod parts;
+mod route_set;
 mod rules;
 mod standing;
 #[cfg(test)]
