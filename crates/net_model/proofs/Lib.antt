@@ -9,4 +9,9 @@ pub mod FlatLemmas
 pub mod BlockLemmas
 pub mod AlikeLemmas
 pub mod GatheredLemmas
+pub mod JudgingLemmas
+pub mod PassesLemmas
+pub mod TableLaws
+pub mod SidLaws
+pub mod RouteSetLemmas
 pub mod PublicLaws

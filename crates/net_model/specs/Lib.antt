@@ -9,3 +9,5 @@ pub mod Entries
 pub mod Flat
 pub mod Gathered
 pub mod Keys
+pub mod Judging
+pub mod RouteKeys

@@ -375,6 +375,46 @@ impl FaultPlace {
         }
     }
 
+    /// A name that nothing has stands here.
+    pub fn unknown_name(self) -> NetFault
+        ensures { result ≡ NetFault.UnknownName self.table self.item }
+    {
+        NetFault::UnknownName {
+            table: self.table,
+            item: self.item,
+        }
+    }
+
+    /// The name of an earlier item stands here.
+    pub fn double_name(self) -> NetFault
+        ensures { result ≡ NetFault.DoubleName self.table self.item }
+    {
+        NetFault::DoubleName {
+            table: self.table,
+            item: self.item,
+        }
+    }
+
+    /// Parts that do not fit one another stand here.
+    pub fn bad_structure(self) -> NetFault
+        ensures { result ≡ NetFault.BadStructure self.table self.item }
+    {
+        NetFault::BadStructure {
+            table: self.table,
+            item: self.item,
+        }
+    }
+
+    /// The prefix or the address of an earlier item stands here.
+    pub fn double_prefix(self) -> NetFault
+        ensures { result ≡ NetFault.DoublePrefix self.table self.item }
+    {
+        NetFault::DoublePrefix {
+            table: self.table,
+            item: self.item,
+        }
+    }
+
     /// A number, a length or a count that is out of range stands here.
     pub fn limit(self, what: Key, value: i64) -> NetFault
         ensures { result ≡ NetFault.Limit self.table self.item what value }

@@ -1,6 +1,6 @@
 //! Laws of the definitions: each is the contract of an empty function.
 
-ghost use Rattle.std.specs.Prelude.{◌≡◌, ◌↔◌, ℕ, Bool, true, false, List, Some, None, slice_get, position, Contains};
+ghost use Rattle.std.specs.Prelude.{◌≡◌, ◌↔◌, ℕ, Bool, true, false, List, [], Some, None, slice_get, position, Contains, Ok};
 ghost use Rattle.v6_addr.specs.Address.{PrefixValue, Holds};
 ghost use Rattle.srv6_rules.specs.declared.sid.Family.{Family};
 ghost use Rattle.srv6_rules.specs.declared.sid.Family.TheVariants.{V6};
@@ -12,6 +12,8 @@ ghost use Rattle.net_model.specs.declared.parts.Link.{Link};
 ghost use Rattle.net_model.specs.declared.parts.Block.{Block};
 ghost use Rattle.net_model.specs.Rules.{IsNetwork, is_link_set, block_of};
 ghost use Rattle.net_model.specs.Keeps.{IsLinkSet, IsBlockOf, Keeps};
+ghost use Rattle.net_model.specs.declared.standing.Standing.{Standing};
+ghost use Rattle.net_model.specs.Judging.{InRange, judging};
 ghost use Rattle.net_model.specs.Best.{Entry, entries_of, IsBest, lookup_of};
 ghost use Rattle.net_model.specs.Flat.{IsFlat};
 ghost use Rattle.net_model.specs.Entries.{IsEntry};
@@ -76,4 +78,12 @@ pub fn places_are_of_passing_items<X>()
         → (x : X) × (slice_get items i ≡ Some x) × (test x ≡ true) }
     ensures none { (test : X → Bool) (items : List X) → position test items ≡ None
         → (i : ℕ) (x : X) → slice_get items i ≡ Some x → test x ≡ false }
+{}
+
+/// Parts in range have no fault exactly where the network keeps its rules; where SIDs are said to
+/// have other keys than their behaviours take, or a flavour twice, no fault is still enough.
+pub fn no_fault_is_keeping_the_rules()
+    ensures exact { (net : Network) → InRange net → judging net [] ≡ Ok tt ↔ IsNetwork net }
+    ensures enough { (net : Network) (standings : List Standing) → InRange net
+        → judging net standings ≡ Ok tt → IsNetwork net }
 {}

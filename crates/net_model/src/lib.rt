@@ -12,6 +12,8 @@
 
 mod fault;
 mod flat;
+mod judge;
+mod judge_sids;
 mod laws;
 mod limits;
 mod lookup;
@@ -19,7 +21,9 @@ mod named;
 mod net;
 mod node_table;
 mod parts;
+mod route_set;
 mod rules;
+mod standing;
 #[cfg(test)]
 mod tests;
 
@@ -28,7 +32,7 @@ pub use flat::{NotFlat, compilable};
 pub use laws::{
     best_match_is_one, blocks_hold_their_sids, entries_are_its_own,
     flat_networks_treat_addresses_alike, matched_sids_hold_the_address,
-    places_are_of_passing_items, rules_mean_their_facts,
+    no_fault_is_keeping_the_rules, places_are_of_passing_items, rules_mean_their_facts,
 };
 pub use limits::{
     BLOCK_UNIT, DEFAULT_HOP_LIMIT, LAST_FLOW_LABEL, LAST_OCTET, LAST_TABLE, LONG_CSID,
@@ -41,3 +45,4 @@ pub use net::{Hit, Net};
 pub use node_table::NodeTable;
 pub use parts::{Block, BlockKind, Link, Name, NamedPolicy, NetParts, Node, Route, TypeList};
 pub use rules::is_name;
+pub use standing::Standing;

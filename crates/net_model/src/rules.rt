@@ -43,7 +43,7 @@ fn stands_among<X, S: Sameness<X>>(item: &X, others: &[X]) -> bool
 }
 
 /// Whether no two items are the same.
-fn are_distinct<X, S: Sameness<X>>(items: &[X]) -> bool
+pub(crate) fn are_distinct<X, S: Sameness<X>>(items: &[X]) -> bool
     ensures { result ≡ are_distinct S.same items.now }
 {
     let mut rest = items;
@@ -57,7 +57,7 @@ fn are_distinct<X, S: Sameness<X>>(items: &[X]) -> bool
 }
 
 /// Blocks that overlap.
-struct Overlaps;
+pub(crate) struct Overlaps;
 
 impl Sameness<Block> for Overlaps {
     ghost same = { overlap };
@@ -68,7 +68,7 @@ impl Sameness<Block> for Overlaps {
 }
 
 /// Nodes with the same name.
-struct NodeNames;
+pub(crate) struct NodeNames;
 
 impl Sameness<Node> for NodeNames {
     ghost same = { same_node_name };
@@ -79,7 +79,7 @@ impl Sameness<Node> for NodeNames {
 }
 
 /// Nodes with the same address.
-struct NodeAddresses;
+pub(crate) struct NodeAddresses;
 
 impl Sameness<Node> for NodeAddresses {
     ghost same = { same_node_address };
@@ -90,7 +90,7 @@ impl Sameness<Node> for NodeAddresses {
 }
 
 /// Links with the same name.
-struct LinkNames;
+pub(crate) struct LinkNames;
 
 impl Sameness<Link> for LinkNames {
     ghost same = { same_link_name };
@@ -101,7 +101,7 @@ impl Sameness<Link> for LinkNames {
 }
 
 /// The same number.
-struct Numbers;
+pub(crate) struct Numbers;
 
 impl Sameness<u32> for Numbers {
     ghost same = { same_number };
@@ -112,7 +112,7 @@ impl Sameness<u32> for Numbers {
 }
 
 /// Policies with the same name.
-struct PolicyNames;
+pub(crate) struct PolicyNames;
 
 impl Sameness<NamedPolicy> for PolicyNames {
     ghost same = { same_policy_name };
@@ -123,7 +123,7 @@ impl Sameness<NamedPolicy> for PolicyNames {
 }
 
 /// Routes of one family and one table of one node with the same prefix.
-struct Routes;
+pub(crate) struct Routes;
 
 impl Sameness<Route> for Routes {
     ghost same = { same_route };
@@ -137,7 +137,7 @@ impl Sameness<Route> for Routes {
 }
 
 /// SIDs of one node with the same prefix.
-struct Sids;
+pub(crate) struct Sids;
 
 impl Sameness<SidEntry> for Sids {
     ghost same = { same_sid };
@@ -159,7 +159,7 @@ impl Sameness<Name> for Texts {
 }
 
 /// Whether two texts are the same.
-fn same_bytes(a: &[u8], b: &[u8]) -> bool
+pub(crate) fn same_bytes(a: &[u8], b: &[u8]) -> bool
     ensures { result ≡ same_bytes a.now b.now }
 {
     a == b
@@ -215,7 +215,7 @@ fn is_prefix(p: &Prefix) -> bool
 }
 
 /// Whether a block may have this length in bits.
-fn is_block_len(len: u8) -> bool
+pub(crate) fn is_block_len(len: u8) -> bool
     ensures { result ≡ is_block_len len }
 {
     BLOCK_UNIT <= len && len <= MAX_BLOCK_LEN && len % BLOCK_UNIT == 0
@@ -312,7 +312,7 @@ fn starts_at(links: &[Link], node: u32, n: u32) -> bool
     }
 }
 
-fn each_starts_at(links: &[Link], node: u32, set: &[u32]) -> bool
+pub(crate) fn each_starts_at(links: &[Link], node: u32, set: &[u32]) -> bool
     ensures { result ≡ list_all (starts_at links.now node) set.now }
 {
     set.iter().all(|n| starts_at(links, node, *n))
@@ -465,7 +465,7 @@ fn suits_policy(policy_count: usize, policy: Option<u32>) -> bool
 }
 
 /// Whether flavours stand at a SID that takes them alone.
-fn suits_flavours(takes: bool, psp: bool, usp: bool, usd: bool) -> bool
+pub(crate) fn suits_flavours(takes: bool, psp: bool, usp: bool, usd: bool) -> bool
     ensures { result ≡ suits_flavours takes psp usp usd }
 {
     takes || (!psp && !usp && !usd)
@@ -490,7 +490,7 @@ fn keeps_behaviour(parts: &NetParts, s: &SidEntry) -> bool
 }
 
 /// The block that a prefix lies strictly inside.
-fn block_of(blocks: &[Block], p: &Prefix) -> Option<Block>
+pub(crate) fn block_of(blocks: &[Block], p: &Prefix) -> Option<Block>
     ensures { result ≡ block_of blocks.now p.now }
 {
     blocks.iter().copied().find(|b| p.inside(&b.prefix))
@@ -524,7 +524,7 @@ fn suits_replace(b: &Block, len: u8) -> bool
 }
 
 /// Whether a SID's compression suits its block.
-fn suits_block(csid: Csid, b: &Block, len: u8, goes_on: bool) -> bool
+pub(crate) fn suits_block(csid: Csid, b: &Block, len: u8, goes_on: bool) -> bool
     ensures { result ≡ suits_block csid b.now len goes_on }
 {
     match csid {

@@ -1,0 +1,240 @@
+-- The first fault of the parts of a network (own rules): the tables in their order, of a table its items in the order of the
+-- file, and of an item the tests in the order in which they are written here.
+use Rattle.std.specs.Prelude.{◌≡◌, ◌≢◌, ℕ, suc, ◌+◌, pos, Bool, true, false, ◌==◌, ◌&&◌, ◌||◌, not, nat_lt, nat_le, if◌then◌else◌, count_by, List, [], ◌∷◌, ◌++◌, length, slice_get, Option, Some, None, is_some, option_and_then, Result, Ok, Err, IsTrue}
+use Rattle.std.specs.List.{filter_map, list_any, list_all}
+use Rattle.srv6_rules.specs.declared.sid.SidEntry.{SidEntry}
+use Rattle.srv6_rules.specs.Behaviours.{behaviour_goes_on, behaviour_takes_links, behaviour_table, behaviour_policy, behaviour_takes_flavours, is_plain}
+use Rattle.net_model.specs.declared.limits.TheConstants.{MAX_BLOCKS, MAX_NODES, MAX_LINKS, MAX_ROUTES, MAX_POLICIES, MAX_SEGMENTS, MAX_SIDS, MAX_SIDS_OF_NODE, MAX_LINKS_OF_SET}
+use Rattle.net_model.specs.declared.fault.TableKind.{TableKind}
+use Rattle.net_model.specs.declared.fault.TableKind.TheVariants as tables
+use Rattle.net_model.specs.declared.fault.Key.TheVariants as keys
+use Rattle.net_model.specs.declared.fault.FaultPlace.{FaultPlace}
+use Rattle.net_model.specs.declared.fault.NetFault.{NetFault}
+use Rattle.net_model.specs.declared.fault.NetFault.TheVariants as faults
+use Rattle.net_model.specs.declared.parts.Block.{Block}
+use Rattle.net_model.specs.declared.parts.NamedPolicy.{NamedPolicy}
+use Rattle.net_model.specs.declared.parts.Node.{Node}
+use Rattle.net_model.specs.declared.parts.Link.{Link}
+use Rattle.net_model.specs.declared.parts.Route.{Route}
+use Rattle.net_model.specs.declared.standing.Standing.{Standing}
+use Rattle.net_model.specs.Network.{Network}
+use Rattle.net_model.specs.Rules.{are_distinct, same_bytes, is_name, is_address, is_prefix, is_prefix_of, is_table, is_block_len, is_csid_len, overlap, keeps_node, same_node_name, same_node_address, same_link_name, starts_at, same_number, same_route, is_segment, keeps_outer, same_policy_name, suits_table, suits_flavours, block_of, suits_block, is_title, same_sid, is_sid_of, title_of}
+
+-- ---- what the parts hold before they are judged: counts, lengths, numbers and texts in their ranges
+
+-- not more than so many items, each of which passes a test
+abbrev pub few : {X : Type 0} → ℕ → (X → Bool) → List X → Bool
+few most test items = nat_le (length items) most && list_all test items
+
+abbrev pub block_in_range : Block → Bool
+block_in_range b = is_prefix b.prefix && is_csid_len b.csid
+
+abbrev pub link_in_range : Link → Bool
+link_in_range l = is_name l.name
+
+abbrev pub route_in_range : Route → Bool
+route_in_range r = is_table r.table && (is_prefix_of r.family r.prefix && nat_le (length r.via) MAX_LINKS_OF_SET)
+
+abbrev pub policy_in_range : NamedPolicy → Bool
+policy_in_range p =
+    is_name p.name && (is_address p.policy.source.value && (few MAX_SEGMENTS is_segment p.policy.segments
+    && keeps_outer p.policy.traffic_class p.policy.flow_label p.policy.hop_limit))
+
+-- the length of a block, 0 where there is none
+abbrev pub block_len_of : Option Block → ℕ
+block_len_of None = 0
+block_len_of (Some b) = b.prefix.len
+
+-- a SID tells the length of its block, and names a title that is there
+abbrev pub sid_in_range : List Block → ℕ → SidEntry → Bool
+sid_in_range blocks title_count s =
+    nat_le 1 s.prefix.len && (is_prefix s.prefix && (suits_table (behaviour_table s.behaviour)
+    && (nat_le (length s.links) MAX_LINKS_OF_SET && ((s.block_len == block_len_of (block_of blocks s.prefix))
+    && is_title title_count s.title))))
+
+-- the numbers of items from a number on
+abbrev pub numbers_from : {X : Type 0} → ℕ → List X → List ℕ
+numbers_from n [] = []
+numbers_from n (x ∷ xs) = n ∷ numbers_from (n + 1) xs
+
+-- titles are names, in the order of the SIDs that have them, one for each
+pub record InRange (net : Network) : Type 0 where
+  pub blocks : IsTrue (few MAX_BLOCKS block_in_range net.blocks)
+  pub nodes : IsTrue (few MAX_NODES keeps_node net.nodes)
+  pub links : IsTrue (few MAX_LINKS link_in_range net.links)
+  pub routes : IsTrue (few MAX_ROUTES route_in_range net.routes)
+  pub policies : IsTrue (few MAX_POLICIES policy_in_range net.policies)
+  pub titles : IsTrue (list_all is_name net.titles)
+  pub title_numbers : filter_map title_of net.sids ≡ numbers_from 0 net.titles
+  pub sids : IsTrue (few MAX_SIDS (sid_in_range net.blocks (length net.titles)) net.sids)
+
+-- ---- judging
+
+-- of tests with their faults the first that holds
+abbrev pub first_of : List (Bool × NetFault) → Result (Unit {0}) NetFault
+first_of [] = Ok tt
+first_of (row ∷ rows) = if row.0 then Err row.1 else first_of rows
+
+-- what follows where there is no fault
+abbrev pub and_then : Result (Unit {0}) NetFault → Result (Unit {0}) NetFault → Result (Unit {0}) NetFault
+and_then (Ok u) next = next
+and_then (Err fault) next = Err fault
+
+-- the items of a table one after another, each beside those before it; they are counted from 1
+abbrev pub judged : {X : Type 0} → TableKind → (List X → FaultPlace → X → Result (Unit {0}) NetFault) → List X → List X
+    → Result (Unit {0}) NetFault
+judged kind judge before [] = Ok tt
+judged kind judge before (x ∷ rest) =
+    and_then (judge before (record { table = kind; item = length before + 1 }) x) (judged kind judge (before ++ x ∷ []) rest)
+
+-- an earlier item is the same
+abbrev pub stands_before : {X : Type 0} → (X → X → Bool) → List X → X → Bool
+stands_before same before x = list_any (λ earlier. same earlier x) before
+
+abbrev pub judge_block : List Block → FaultPlace → Block → Result (Unit {0}) NetFault
+judge_block before p b = first_of (
+    (not (is_block_len b.prefix.len), faults.BadStructure p.table p.item)
+    ∷ (stands_before overlap before b, faults.BadStructure p.table p.item) ∷ [])
+
+abbrev pub judge_node : List Node → FaultPlace → Node → Result (Unit {0}) NetFault
+judge_node before p n = first_of (
+    (stands_before same_node_name before n, faults.DoubleName p.table p.item)
+    ∷ (stands_before same_node_address before n, faults.DoublePrefix p.table p.item) ∷ [])
+
+-- a number out of range stands for an unknown name
+abbrev pub is_unknown : ℕ → ℕ → Bool
+is_unknown count n = not (nat_lt n count)
+
+abbrev pub is_unknown_end : ℕ → Option ℕ → Bool
+is_unknown_end node_count None = false
+is_unknown_end node_count (Some to) = is_unknown node_count to
+
+abbrev pub ends_at : ℕ → Option ℕ → Bool
+ends_at node None = false
+ends_at node (Some to) = to == node
+
+abbrev pub judge_link : ℕ → List Link → FaultPlace → Link → Result (Unit {0}) NetFault
+judge_link node_count before p l = first_of (
+    (stands_before same_link_name before l, faults.DoubleName p.table p.item)
+    ∷ (is_unknown node_count l.from, faults.UnknownName p.table p.item)
+    ∷ (is_unknown_end node_count l.to, faults.UnknownName p.table p.item)
+    ∷ (ends_at l.from l.to, faults.BadStructure p.table p.item) ∷ [])
+
+-- some links of the node, each once
+abbrev pub is_set_of : List Link → ℕ → List ℕ → Bool
+is_set_of links node set = nat_le 1 (length set) && (are_distinct same_number set && list_all (starts_at links node) set)
+
+-- a route, of which it is known whether an earlier one is the same
+abbrev pub judge_route_beside : ℕ → List Link → Bool → FaultPlace → Route → Result (Unit {0}) NetFault
+judge_route_beside node_count links is_double p r = first_of (
+    (is_unknown node_count r.node, faults.UnknownName p.table p.item)
+    ∷ (list_any (is_unknown (length links)) r.via, faults.UnknownName p.table p.item)
+    ∷ (not (is_set_of links r.node r.via), faults.BadStructure p.table p.item)
+    ∷ (is_double, faults.DoublePrefix p.table p.item) ∷ [])
+
+abbrev pub judge_route : ℕ → List Link → List Route → FaultPlace → Route → Result (Unit {0}) NetFault
+judge_route node_count links before p r = judge_route_beside node_count links (stands_before same_route before r) p r
+
+abbrev pub judge_policy : List NamedPolicy → FaultPlace → NamedPolicy → Result (Unit {0}) NetFault
+judge_policy before p q = first_of (
+    (stands_before same_policy_name before q, faults.DoubleName p.table p.item)
+    ∷ (length q.policy.segments == 0, faults.BadStructure p.table p.item) ∷ [])
+
+-- ---- SIDs
+
+abbrev pub same_answer : Bool → Bool → Bool
+same_answer true b = b
+same_answer false b = not b
+
+-- how a SID stands that has the keys that its behaviour takes, and no flavour twice
+abbrev pub fitting : SidEntry → Standing
+fitting s = record {
+  links = behaviour_takes_links s.behaviour;
+  table = is_some (behaviour_table s.behaviour);
+  policy = is_some (behaviour_policy s.behaviour);
+  double_flavour = false;
+}
+
+abbrev pub standing_or : SidEntry → Option Standing → Standing
+standing_or s None = fitting s
+standing_or s (Some k) = k
+
+-- a SID has the keys that its behaviour takes, and no links where it takes none
+abbrev pub suits_keys : Standing → SidEntry → Bool
+suits_keys k s =
+    same_answer k.links (behaviour_takes_links s.behaviour) && (same_answer k.table (is_some (behaviour_table s.behaviour))
+    && (same_answer k.policy (is_some (behaviour_policy s.behaviour))
+    && (behaviour_takes_links s.behaviour || (length s.links == 0))))
+
+abbrev pub is_unknown_policy : ℕ → Option ℕ → Bool
+is_unknown_policy policy_count None = false
+is_unknown_policy policy_count (Some policy) = is_unknown policy_count policy
+
+-- a SID's title, as its text
+abbrev pub title_text : List (List ℕ) → SidEntry → Option (List ℕ)
+title_text titles s = option_and_then (slice_get titles) s.title
+
+-- both are there, and the same
+abbrev pub same_text : Option (List ℕ) → Option (List ℕ) → Bool
+same_text None u = false
+same_text (Some t) None = false
+same_text (Some t) (Some u) = same_bytes t u
+
+abbrev pub same_title_text : List (List ℕ) → SidEntry → SidEntry → Bool
+same_title_text titles s t = same_text (title_text titles s) (title_text titles t)
+
+-- the node has as many SIDs before as it may have
+abbrev pub is_full : List SidEntry → SidEntry → Bool
+is_full before s = nat_le MAX_SIDS_OF_NODE (count_by (is_sid_of s.node) before)
+
+-- the parts that a SID names and the keys that it has
+abbrev pub judge_joins : Network → Standing → FaultPlace → SidEntry → Result (Unit {0}) NetFault
+judge_joins net k p s = first_of (
+    (is_unknown (length net.nodes) s.node, faults.UnknownName p.table p.item)
+    ∷ (not (suits_keys k s), faults.BadStructure p.table p.item)
+    ∷ (list_any (is_unknown (length net.links)) s.links, faults.UnknownName p.table p.item)
+    ∷ (is_unknown_policy (length net.policies) (behaviour_policy s.behaviour), faults.UnknownName p.table p.item)
+    ∷ (behaviour_takes_links s.behaviour && not (is_set_of net.links s.node s.links), faults.BadStructure p.table p.item) ∷ [])
+
+-- the compression of a SID suits the block that its prefix lies strictly inside; one in no block is not compressed
+abbrev pub suits_compression : Option Block → SidEntry → Bool
+suits_compression None s = is_plain s.csid
+suits_compression (Some b) s = suits_block s.csid b s.prefix.len (behaviour_goes_on s.behaviour)
+
+-- its flavours and its compression
+abbrev pub judge_flavours : Network → Standing → FaultPlace → SidEntry → Result (Unit {0}) NetFault
+judge_flavours net k p s = first_of (
+    (k.double_flavour, faults.BadFlavour p.table p.item)
+    ∷ (not (suits_flavours (behaviour_takes_flavours s.behaviour) s.psp s.usp s.usd), faults.BadFlavour p.table p.item)
+    ∷ (not (suits_compression (block_of net.blocks s.prefix) s), faults.BadFlavour p.table p.item) ∷ [])
+
+-- what it has beside earlier SIDs
+abbrev pub judge_apart : List (List ℕ) → List SidEntry → FaultPlace → SidEntry → Result (Unit {0}) NetFault
+judge_apart titles before p s = first_of (
+    (stands_before (same_title_text titles) before s, faults.DoubleName p.table p.item)
+    ∷ (stands_before same_sid before s, faults.DoublePrefix p.table p.item)
+    ∷ (is_full before s, faults.Limit p.table p.item keys.Sid (pos (MAX_SIDS_OF_NODE + 1))) ∷ [])
+
+abbrev pub judge_standing : Network → Standing → List SidEntry → FaultPlace → SidEntry → Result (Unit {0}) NetFault
+judge_standing net k before p s = and_then (judge_joins net k p s) (and_then (judge_flavours net k p s) (judge_apart net.titles before p s))
+
+-- the standings go with the SIDs by their numbers; where there is none the SID stands as its behaviour takes it
+abbrev pub judge_sid : Network → List Standing → List SidEntry → FaultPlace → SidEntry → Result (Unit {0}) NetFault
+judge_sid net standings before p s = judge_standing net (standing_or s (slice_get standings (length before))) before p s
+
+-- ---- the whole
+
+-- the first fault of the parts
+unfoldable pub judging : Network → List Standing → Result (Unit {0}) NetFault
+judging net standings =
+    and_then (judged tables.Block judge_block [] net.blocks)
+    (and_then (judged tables.Node judge_node [] net.nodes)
+    (and_then (judged tables.Link (judge_link (length net.nodes)) [] net.links)
+    (and_then (judged tables.Route (judge_route (length net.nodes) net.links) [] net.routes)
+    (and_then (judged tables.Policy judge_policy [] net.policies)
+    (judged tables.Sid (judge_sid net standings) [] net.sids)))))
+
+-- a result is the one that is wanted; want of memory says nothing
+abbrev pub Judges : Result (Unit {0}) NetFault → Result (Unit {0}) NetFault → Type 0
+Judges (Ok u) wanted = wanted ≡ Ok tt
+Judges (Err fault) wanted = (fault ≢ faults.NoMemory) → wanted ≡ Err fault

@@ -1,0 +1,214 @@
+//! The first fault of the SIDs of a network, and of all its parts.
+
+ghost use Rattle.std.specs.Prelude.{◌≡◌, ◌-◌, ◌<◌, ◌^◌, ℕ, Bool, List, [], ◌∷◌, length, slice_get, not, Option, option_map, Result, Ok, Err};
+ghost use Rattle.net_model.specs.declared.fault.NetFault.{NetFault};
+ghost use Rattle.net_model.specs.declared.fault.TableKind.TheVariants as tables;
+ghost use Rattle.net_model.specs.Network.{network_of};
+ghost use Rattle.net_model.specs.Judging.{InRange, same_answer, fitting, standing_or, suits_keys, is_unknown_policy, same_text, title_text, same_title_text, stands_before, is_full, judge_joins, suits_compression, judge_flavours, judge_apart, judge_sid, judging, Judges};
+
+use crate::fault::{FaultPlace, Key, NetFault, TableKind};
+use crate::judge::{
+    BlockRules, Judge, LinkRules, NodeRules, PolicyRules, RouteRules, has_unknown, is_set_of,
+    is_unknown, judge_all, refuse_if, stands_before,
+};
+use crate::limits::MAX_SIDS_OF_NODE;
+use crate::parts::{Block, Name, NetParts};
+use crate::rules::{Sids, block_of, same_bytes, suits_block, suits_flavours};
+use crate::standing::Standing;
+use srv6_rules::{Csid, SidEntry};
+use std::alloc::Global;
+
+/// How a SID stands that has the keys that its behaviour takes, and no flavour twice.
+fn fitting(s: &SidEntry) -> Standing
+    ensures { result ≡ fitting s.now }
+{
+    Standing {
+        links: s.behaviour.takes_links(),
+        table: s.behaviour.table().is_some(),
+        policy: s.behaviour.policy().is_some(),
+        double_flavour: false,
+    }
+}
+
+/// How the SID with a number stands.
+fn standing_of(standings: &[Standing], n: usize, s: &SidEntry) -> Standing
+    ensures { result ≡ standing_or s.now (slice_get standings.now n) }
+{
+    match standings.get(n) {
+        None => fitting(s),
+        Some(standing) => *standing,
+    }
+}
+
+/// Whether a SID has the keys that its behaviour takes, and no links where it takes none.
+fn suits_keys(k: Standing, s: &SidEntry) -> bool
+    ensures { result ≡ suits_keys k s.now }
+{
+    let takes_links = s.behaviour.takes_links();
+    k.links == takes_links
+        && k.table == s.behaviour.table().is_some()
+        && k.policy == s.behaviour.policy().is_some()
+        && (takes_links || s.links.as_slice().len() == 0)
+}
+
+fn is_unknown_policy(policy_count: usize, policy: Option<u32>) -> bool
+    ensures { result ≡ is_unknown_policy policy_count policy }
+{
+    match policy {
+        None => false,
+        Some(policy) => is_unknown(policy_count, policy),
+    }
+}
+
+/// Whether two SIDs have titles of the same text.
+fn same_title_text(titles: &[Name], s: &SidEntry, t: &SidEntry) -> bool
+    ensures { result ≡ same_title_text titles.now s.now t.now }
+{
+    match (title_text(titles, s), title_text(titles, t)) {
+        (Some(one), Some(other)) => same_bytes(one.as_bytes(), other.as_bytes()),
+        _ => false,
+    }
+}
+
+/// The title of a SID.
+fn title_text<'a>(titles: &'a [Name], s: &SidEntry) -> Option<&'a Name>
+    ensures { option_map (λ name. name.now) result ≡ title_text titles.now s.now }
+{
+    match s.title {
+        None => None,
+        Some(title) => titles.get(title as usize),
+    }
+}
+
+/// Whether an earlier SID has a title of the same text.
+fn has_double_title(titles: &[Name], before: &[SidEntry], s: &SidEntry) -> bool
+    ensures { result ≡ stands_before (same_title_text titles.now) before.now s.now }
+{
+    before
+        .iter()
+        .any(|earlier| same_title_text(titles, earlier, s))
+}
+
+/// Whether the node has as many SIDs before as it may have.
+fn is_full(before: &[SidEntry], s: &SidEntry) -> bool
+    ensures { result ≡ is_full before.now s.now }
+{
+    let node = s.node;
+    MAX_SIDS_OF_NODE <= before.iter().filter(|other| other.node == node).count()
+}
+
+/// The first fault of a SID's references and of its sets.
+fn judge_joins(
+    parts: &NetParts,
+    k: Standing,
+    place: FaultPlace,
+    s: &SidEntry,
+) -> Result<(), NetFault>
+    ensures { result ≡ judge_joins (network_of parts.now) k place s.now }
+{
+    let links = s.links.as_slice();
+    let takes_links = s.behaviour.takes_links();
+    refuse_if(is_unknown(parts.nodes.len(), s.node), place.unknown_name())?;
+    refuse_if(!suits_keys(k, s), place.bad_structure())?;
+    refuse_if(has_unknown(parts.links.len(), links), place.unknown_name())?;
+    refuse_if(
+        is_unknown_policy(parts.policies.len(), s.behaviour.policy()),
+        place.unknown_name(),
+    )?;
+    refuse_if(
+        takes_links && !is_set_of(parts.links.as_slice(), s.node, links),
+        place.bad_structure(),
+    )
+}
+
+/// Whether the compression of a SID suits its block.
+fn suits_compression(block: Option<Block>, s: &SidEntry) -> bool
+    ensures { result ≡ suits_compression block s.now }
+{
+    match block {
+        None => s.csid == Csid::Plain,
+        Some(b) => suits_block(s.csid, &b, s.prefix.len(), s.behaviour.goes_on()),
+    }
+}
+
+/// The first fault of a SID's flavours and of its compression.
+fn judge_flavours(
+    parts: &NetParts,
+    k: Standing,
+    place: FaultPlace,
+    s: &SidEntry,
+) -> Result<(), NetFault>
+    ensures { result ≡ judge_flavours (network_of parts.now) k place s.now }
+{
+    let block = block_of(parts.blocks.as_slice(), &s.prefix);
+    refuse_if(k.double_flavour, place.bad_flavour())?;
+    refuse_if(
+        !suits_flavours(s.behaviour.takes_flavours(), s.psp, s.usp, s.usd),
+        place.bad_flavour(),
+    )?;
+    refuse_if(!suits_compression(block, s), place.bad_flavour())
+}
+
+/// The first fault of a SID beside those before it.
+fn judge_apart(
+    titles: &[Name],
+    before: &[SidEntry],
+    place: FaultPlace,
+    s: &SidEntry,
+) -> Result<(), NetFault>
+    ensures { result ≡ judge_apart titles.now before.now place s.now }
+{
+    refuse_if(has_double_title(titles, before, s), place.double_name())?;
+    refuse_if(
+        stands_before::<SidEntry, Sids>(before, s),
+        place.double_prefix(),
+    )?;
+    refuse_if(
+        is_full(before, s),
+        place.limit(Key::Sid, MAX_SIDS_OF_NODE as i64 + 1),
+    )
+}
+
+/// The tests of SIDs, over these parts.
+#[derive(Drop)]
+struct SidRules<'a> {
+    parts: &'a NetParts,
+    standings: &'a [Standing],
+}
+
+impl<'a> Judge<SidEntry> for SidRules<'a> {
+    ghost rules = { λ r. judge_sid (network_of r.parts.now) r.standings.now };
+
+    fn judge(&self, before: &[SidEntry], place: FaultPlace, s: &SidEntry) -> Result<(), NetFault> {
+        let k = standing_of(self.standings, before.len(), s);
+        judge_joins(self.parts, k, place, s)?;
+        judge_flavours(self.parts, k, place, s)?;
+        judge_apart(self.parts.titles.as_slice(), before, place, s)
+    }
+}
+
+/// The first fault of the parts of a network (own rules).
+#[tactic(auto, using(crate::proofs::JudgingLemmas::few_bound))]
+pub(crate) fn judge_parts(
+    alloc: Global,
+    parts: &NetParts,
+    standings: &[Standing],
+) -> Result<(), NetFault>
+    requires { InRange (network_of parts.now) }
+    ensures { Judges result (judging (network_of parts.now) standings.now) }
+{
+    let links = LinkRules {
+        node_count: parts.nodes.len(),
+    };
+    let routes = RouteRules {
+        node_count: parts.nodes.len(),
+        links: parts.links.as_slice(),
+    };
+    let sids = SidRules { parts, standings };
+    judge_all(&BlockRules, TableKind::Block, parts.blocks.as_slice())?;
+    judge_all(&NodeRules, TableKind::Node, parts.nodes.as_slice())?;
+    judge_all(&links, TableKind::Link, parts.links.as_slice())?;
+    routes.judge_all(alloc, parts.routes.as_slice())?;
+    judge_all(&PolicyRules, TableKind::Policy, parts.policies.as_slice())?;
+    judge_all(&sids, TableKind::Sid, parts.sids.as_slice())
+}
