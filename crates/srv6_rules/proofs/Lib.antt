@@ -9,6 +9,7 @@ pub mod Reached
 pub mod Treatments
 pub mod BehaviourLaws
 pub mod Endpoints
+pub mod Flavours
 pub mod Encapsulations
 pub mod Without
 pub mod Checksums
