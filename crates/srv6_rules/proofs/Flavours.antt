@@ -27,7 +27,7 @@ pub record Kept (p : Packet) (at lower : ℕ) (q : Packet) : Type 0 where
   pub spellable : IsSpellable p → IsSpellable q
 
 abbrev Sound : Packet → ℕ → Endpoint → Type 0
-Sound p at (Onward q) = Kept p at 1 q
+Sound p at (Onward q) = Kept p at 1 q × (1 < p.hop_limit)
 Sound p at (Exposed family bytes) = Unit {0}
 Sound p at (Delivered q) = Kept p at 0 q × (q.destination ≡ p.destination)
 Sound p at (Refused reason place) = Unit {0}
@@ -45,7 +45,7 @@ kept-nearer p at near lower q le k =
     }
 
 sound-nearer : (p : Packet) (at near : ℕ) (x : Endpoint) → near ≤ at → Sound p at x → Sound p near x
-sound-nearer p at near (Onward q) le k = kept-nearer p at near 1 q le k
+sound-nearer p at near (Onward q) le k = (kept-nearer p at near 1 q le k.0, k.1)
 sound-nearer p at near (Exposed family bytes) le k = tt
 sound-nearer p at near (Delivered q) le k = (kept-nearer p at near 0 q le k.0, k.1)
 sound-nearer p at near (Refused reason place) le k = tt
@@ -90,7 +90,7 @@ module _ (p : Packet) (h : Header) (start : header_len ≤ h.place.at) (lower : 
 
 sound-out : (p : Packet) (h : Header) → header_len ≤ h.place.at → (x : Endpoint) → Sound p (h.place.at + length h.bytes) x
     → Sound p h.place.at (outcome_without h x)
-sound-out p h start (Onward q) k = kept-out p h start 1 q k
+sound-out p h start (Onward q) k = (kept-out p h start 1 q k.0, k.1)
 sound-out p h start (Exposed family bytes) k = tt
 sound-out p h start (Delivered q) k =
     (kept-out p h start 0 q k.0, ap (λ (x : Packet). x.destination) (without-others q (as_in q h)) ∙ k.1)
@@ -145,7 +145,8 @@ module _ (s : SidEntry) (p : Packet) (h : Header) (lies : LiesIn p h) where
       let P : Endpoint → Type 0 = λ x. Sound p h.place.at (after_step s h x) in
       elim (next_segment-cases p h lies) [
         | inl (reason, at, within, e) ↦ subst P (sym e) (sound-step (Refused reason at) tt)
-        | inr (above, (good, e)) ↦ subst P (sym e) (sound-step (Onward (advanced p h.place.at (srh_of h.bytes))) (kept-advanced p h lies above))
+        | inr (above, (good, e)) ↦ subst P (sym e) (sound-step (Onward (advanced p h.place.at (srh_of h.bytes)))
+            (kept-advanced p h lies above, above))
       ]
 
   sound-last : (x : Endpoint) → Sound p (h.place.at + length h.bytes) x → Sound p h.place.at (after_last s h x)
@@ -224,18 +225,22 @@ module _ (s : SidEntry) (allow : List ℕ) (p : Packet) where
       (at_end s allow p (chain_of p).end) (sound-end (chain_of p).end (end-stands p))
 
 -- a packet that goes on has its hop limit lower by one
-pub at_sid-kept : (s : SidEntry) (allow : List ℕ) (p q : Packet) → at_sid s allow p ≡ Onward q → Kept p header_len 1 q
-at_sid-kept s allow p q e = let P : Endpoint → Type 0 = λ x. Sound p header_len x in subst P e (sound-sid s allow p)
+onward-kept : (s : SidEntry) (allow : List ℕ) (p q : Packet) → at_sid s allow p ≡ Onward q
+    → Kept p header_len 1 q × (1 < p.hop_limit)
+onward-kept s allow p q e = let P : Endpoint → Type 0 = λ x. Sound p header_len x in subst P e (sound-sid s allow p)
 
-pub at_sid-lowers : (s : SidEntry) (allow : List ℕ) (p q : Packet) → at_sid s allow p ≡ Onward q → p.hop_limit ≡ q.hop_limit + 1
-at_sid-lowers s allow p q e = (at_sid-kept s allow p q e).hop_limit
+pub at_sid-lowers : (s : SidEntry) (allow : List ℕ) (p q : Packet) → at_sid s allow p ≡ Onward q
+    → (1 < p.hop_limit) × (p.hop_limit ≡ q.hop_limit + 1)
+at_sid-lowers s allow p q e = let k = onward-kept s allow p q e in (k.1, k.0.hop_limit)
 
 pub at_sid-fields : (s : SidEntry) (allow : List ℕ) (p q : Packet) → at_sid s allow p ≡ Onward q
     → (q.traffic_class ≡ p.traffic_class) × ((q.flow_label ≡ p.flow_label) × (q.source ≡ p.source))
-at_sid-fields s allow p q e = let k = at_sid-kept s allow p q e in (k.traffic_class, (k.flow_label, k.source))
+at_sid-fields s allow p q e =
+    let k = onward-kept s allow p q e in
+    (k.0.traffic_class, (k.0.flow_label, k.0.source))
 
 pub at_sid-spellable : (s : SidEntry) (allow : List ℕ) (p q : Packet) → IsSpellable p → at_sid s allow p ≡ Onward q → IsSpellable q
-at_sid-spellable s allow p q ok e = (at_sid-kept s allow p q e).spellable ok
+at_sid-spellable s allow p q ok e = (onward-kept s allow p q e).0.spellable ok
 
 -- a packet that is handed over has its other fields as they were
 delivered-kept : (s : SidEntry) (allow : List ℕ) (p q : Packet) → at_sid s allow p ≡ Delivered q

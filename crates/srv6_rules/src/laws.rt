@@ -505,12 +505,13 @@ pub fn plain_sids_are_built()
         ⊎ ((table : ℕ) × (s.behaviour ≡ Dt6 table)))))))) }
 {}
 
-/// A packet that goes on from a SID, whichever its flavours, has a hop limit lower by one, and its
-/// traffic class, flow label and source as they were, and stays a packet that bytes can spell (RFC
-/// 8754 section 4.3.1.1, RFC 8986 sections 4.1 to 4.3).
+/// A packet that goes on from a SID, whichever its flavours, had a hop limit above 1 and has one
+/// lower by one, has its traffic class, flow label and source as they were, and stays a packet that
+/// bytes can spell (RFC 8754 section 4.3.1.1, RFC 8986 sections 4.1 to 4.3).
 pub fn onward_lowers_the_hop_limit_by_one()
     ensures hop_limit { (s : SidEntry) (allow : List ℕ) (p q : Packet)
-        → at_sid s allow p ≡ Onward q → p.hop_limit ≡ q.hop_limit + 1 }
+        → at_sid s allow p ≡ Onward q
+        → (1 < p.hop_limit) × (p.hop_limit ≡ q.hop_limit + 1) }
     ensures fields { (s : SidEntry) (allow : List ℕ) (p q : Packet) → at_sid s allow p ≡ Onward q
         → (q.traffic_class ≡ p.traffic_class) × ((q.flow_label ≡ p.flow_label)
         × (q.source ≡ p.source)) }
