@@ -1,5 +1,5 @@
 -- What each behaviour does, and which SIDs are built.
-use Rattle.std.proofs.Common.{◌≡◌, ℕ, Bool, true, false, ◌==◌, ◌&&◌, not, refl, ap, ◌⊎◌, ◌↔◌, inl, inr}
+use Rattle.std.proofs.Common.{◌≡◌, ℕ, Bool, true, false, ◌==◌, ◌&&◌, ◌||◌, not, refl, ap, ◌⊎◌, ◌↔◌, inl, inr}
 use Rattle.std.proofs.lemmas.Bool.{eqb-true, or_cases}
 use Rattle.srv6_rules.specs.declared.sid.Behaviour.{Behaviour}
 use Rattle.srv6_rules.specs.declared.sid.Behaviour.TheVariants.{End, EndX, EndT, Dx6, Dx4, Dt6, Dt4, Dt46, B6, B6Red}
@@ -7,7 +7,7 @@ use Rattle.srv6_rules.specs.declared.sid.Csid.{Csid}
 use Rattle.srv6_rules.specs.declared.sid.Csid.TheVariants as csids
 use Rattle.srv6_rules.specs.declared.sid.Family.TheVariants as families
 use Rattle.srv6_rules.specs.declared.sid.SidEntry.{SidEntry}
-use Rattle.srv6_rules.specs.Behaviours.{behaviour_goes_on, behaviour_exposes, behaviour_is_built, goes_on, exposes, is_plain, is_built, ipv6_inside, ipv4_inside, family_inside}
+use Rattle.srv6_rules.specs.Behaviours.{behaviour_goes_on, behaviour_exposes, behaviour_is_built, goes_on, exposes, is_plain, is_built, ipv6_inside, ipv4_inside, family_inside, is_packet_inside}
 
 -- ---- what goes on
 
@@ -59,8 +59,28 @@ ipv6-back b (inl e) = ap (λ x. behaviour_exposes x ipv6_inside) e
 ipv6-back b (inr (inl t)) = ap (λ x. behaviour_exposes x ipv6_inside) t.1
 ipv6-back b (inr (inr t)) = ap (λ x. behaviour_exposes x ipv6_inside) t.1
 
-pub exposes-ipv6 : (s : SidEntry) → (exposes s ipv6_inside ≡ true) ↔ ExposesIpv6 s.behaviour
-exposes-ipv6 s = (λ e. ipv6-forth s.behaviour e, λ h. ipv6-back s.behaviour h)
+-- a behaviour exposes, or the flavour USD does
+usd-forth : (a usd : Bool) → (a || (usd && true)) ≡ true → (a ≡ true) ⊎ (usd ≡ true)
+usd-forth true usd e = inl refl
+usd-forth false true e = inr refl
+usd-forth false false e = cc
+
+usd-back : (a usd : Bool) → (a ≡ true) ⊎ (usd ≡ true) → (a || (usd && true)) ≡ true
+usd-back true usd h = refl
+usd-back false usd (inl e) = cc
+usd-back false usd (inr e) = rw e refl
+
+pub exposes-ipv6 : (s : SidEntry) → (exposes s ipv6_inside ≡ true) ↔ (ExposesIpv6 s.behaviour ⊎ (s.usd ≡ true))
+exposes-ipv6 s = (
+  λ e. elim (usd-forth (behaviour_exposes s.behaviour ipv6_inside) s.usd e) [
+    | inl b ↦ inl (ipv6-forth s.behaviour b)
+    | inr usd ↦ inr usd
+  ],
+  λ h. usd-back (behaviour_exposes s.behaviour ipv6_inside) s.usd (elim h [
+    | inl b ↦ inl (ipv6-back s.behaviour b)
+    | inr usd ↦ inr usd
+  ]),
+)
 
 abbrev ExposesIpv4 : Behaviour → Type 0
 ExposesIpv4 b = (b ≡ Dx4) ⊎ (((table : ℕ) × (b ≡ Dt4 table)) ⊎ ((table : ℕ) × (b ≡ Dt46 table)))
@@ -82,8 +102,17 @@ ipv4-back b (inl e) = ap (λ x. behaviour_exposes x ipv4_inside) e
 ipv4-back b (inr (inl t)) = ap (λ x. behaviour_exposes x ipv4_inside) t.1
 ipv4-back b (inr (inr t)) = ap (λ x. behaviour_exposes x ipv4_inside) t.1
 
-pub exposes-ipv4 : (s : SidEntry) → (exposes s ipv4_inside ≡ true) ↔ ExposesIpv4 s.behaviour
-exposes-ipv4 s = (λ e. ipv4-forth s.behaviour e, λ h. ipv4-back s.behaviour h)
+pub exposes-ipv4 : (s : SidEntry) → (exposes s ipv4_inside ≡ true) ↔ (ExposesIpv4 s.behaviour ⊎ (s.usd ≡ true))
+exposes-ipv4 s = (
+  λ e. elim (usd-forth (behaviour_exposes s.behaviour ipv4_inside) s.usd e) [
+    | inl b ↦ inl (ipv4-forth s.behaviour b)
+    | inr usd ↦ inr usd
+  ],
+  λ h. usd-back (behaviour_exposes s.behaviour ipv4_inside) s.usd (elim h [
+    | inl b ↦ inl (ipv4-back s.behaviour b)
+    | inr usd ↦ inr usd
+  ]),
+)
 
 kinds-by : (b : Behaviour) (kind : ℕ) → behaviour_exposes b kind ≡ true → (kind ≡ ipv6_inside) ⊎ (kind ≡ ipv4_inside)
 kinds-by End kind e = cc
@@ -100,9 +129,19 @@ kinds-by (Dt46 table) kind e = elim (or_cases (kind == ipv6_inside) (kind == ipv
 kinds-by (B6 policy) kind e = cc
 kinds-by (B6Red policy) kind e = cc
 
+second : (a b : Bool) → (a && b) ≡ true → b ≡ true
+second true b e = e
+second false b e = cc
+
 -- a packet inside is one of IPv6 or of IPv4
 pub exposes-kinds : (s : SidEntry) (kind : ℕ) → exposes s kind ≡ true → (kind ≡ ipv6_inside) ⊎ (kind ≡ ipv4_inside)
-exposes-kinds s kind e = kinds-by s.behaviour kind e
+exposes-kinds s kind e = elim (or_cases (behaviour_exposes s.behaviour kind) (s.usd && is_packet_inside kind) e) [
+  | inl b ↦ kinds-by s.behaviour kind b
+  | inr both ↦ elim (or_cases (kind == ipv6_inside) (kind == ipv4_inside) (second s.usd (is_packet_inside kind) both)) [
+    | inl six ↦ inl (eqb-true kind ipv6_inside six)
+    | inr four ↦ inr (eqb-true kind ipv4_inside four)
+  ]
+]
 
 -- and its kind names its family
 pub exposes-family : (s : SidEntry) (kind : ℕ) → exposes s kind ≡ true
@@ -124,9 +163,12 @@ goes_on-exposes_by (Dt46 table) kind e = cc
 goes_on-exposes_by (B6 policy) kind e = refl
 goes_on-exposes_by (B6Red policy) kind e = refl
 
--- a SID that goes on exposes nothing
-pub goes_on-exposes : (s : SidEntry) (kind : ℕ) → goes_on s ≡ true → exposes s kind ≡ false
-goes_on-exposes s kind e = goes_on-exposes_by s.behaviour kind e
+-- a SID that goes on exposes nothing without USD, and with it a packet of either family
+pub goes_on-exposes : (s : SidEntry) (kind : ℕ) → goes_on s ≡ true → s.usd ≡ false → exposes s kind ≡ false
+goes_on-exposes s kind e no_usd = rw (goes_on-exposes_by s.behaviour kind e, no_usd) refl
+
+pub goes_on-exposes_usd : (s : SidEntry) (kind : ℕ) → goes_on s ≡ true → s.usd ≡ true → exposes s kind ≡ is_packet_inside kind
+goes_on-exposes_usd s kind e usd = rw (goes_on-exposes_by s.behaviour kind e, usd) refl
 
 -- ---- what is built
 
@@ -173,3 +215,13 @@ built-is s = (
   λ h. parts-back s.csid s.psp s.usp s.usd (behaviour_is_built s.behaviour)
       (h.0, (h.1.0, (h.1.1.0, (h.1.1.1.0, built-back s.behaviour h.1.1.1.1)))),
 )
+
+-- what is built has no flavours
+pub built-psp : (s : SidEntry) → is_built s ≡ true → s.psp ≡ false
+built-psp s e = ((built-is s).0 e).1.0
+
+pub built-usp : (s : SidEntry) → is_built s ≡ true → s.usp ≡ false
+built-usp s e = ((built-is s).0 e).1.1.0
+
+pub built-usd : (s : SidEntry) → is_built s ≡ true → s.usd ≡ false
+built-usd s e = ((built-is s).0 e).1.1.1.0

@@ -1,5 +1,5 @@
 -- A packet in an outer header with a segment list: its chain, and what SIDs do with it.
-use Rattle.std.proofs.Common.{◌≡◌, ℕ, ◌+◌, ◌-◌, ◌*◌, ◌/◌, ◌^◌, ◌<◌, ◌≤◌, Bool, true, false, not, ◌||◌, nat_lt, nat_le, if◌then◌else◌, List, [], ◌∷◌, ◌++◌, length, take, drop, reverse, slice_index, slice_set, All, flat_map, refl, sym, ap, subst, ◌∙◌, arith, inl, inr, length-append, length-drop}
+use Rattle.std.proofs.Common.{◌≡◌, ◌⊎◌, ℕ, ◌+◌, ◌-◌, ◌*◌, ◌/◌, ◌^◌, ◌<◌, ◌≤◌, Bool, true, false, not, ◌||◌, nat_lt, nat_le, if◌then◌else◌, List, [], ◌∷◌, ◌++◌, length, take, drop, reverse, slice_index, slice_set, All, flat_map, refl, sym, ap, subst, ◌∙◌, arith, inl, inr, length-append, length-drop}
 use Rattle.std.proofs.Math.Bool.{or-true}
 use Rattle.std.proofs.lemmas.Bool.{cases_Bool, cases_lt, or_from, lt-ltb, ltb-true, ltb-false, le-ltb, le-leb, lt-leb}
 use Rattle.std.proofs.lemmas.List.{append-nil, drop_all, drop_at, take_at, get_or-drop, get_or_past, get_or-reverse, length-reverse}
@@ -13,15 +13,16 @@ use Rattle.std.specs.Prelude.{None}
 use Rattle.srv6_rules.specs.Packet.{Packet, IsSpellable, most_len, header_len, spelling, two_bytes, two_number, address_bytes, address_number}
 use Rattle.srv6_rules.specs.Srh.{Srh, IsSrhSpellable, srh_of, srh_spelling, entry_of, tlv_bytes, segments_left_at}
 use Rattle.srv6_rules.specs.Areas.{area_fault, tlv_fault, tlvs_fault}
-use Rattle.srv6_rules.specs.Chain.{ChainPlace, Header, Chain, Upper, routing, is_extension, behind, from_place, chain_at, chain_of}
-use Rattle.srv6_rules.specs.Endpoint.{Endpoint, Onward, Exposed, Refused, upper_layer, has_bad_segments, advanced, next_segment, over_headers, at_header, at_upper, at_end, at_sid}
-use Rattle.srv6_rules.specs.Encapsulation.{Encapsulation, segment_list, has_segment_routing, segment_routing_of, header_of, inner_place, outer, at_segment, header_bytes, IsSpellableEncapsulation, inner_lowered, encapsulated}
+use Rattle.srv6_rules.specs.Chain.{ChainPlace, Header, Chain, Upper, routing, is_extension, behind, from_place, chain_at, chain_of, without}
+use Rattle.srv6_rules.specs.Endpoint.{Endpoint, Onward, Exposed, Delivered, Refused, upper_layer, is_allowed, as_in, outcome_without, after_step, after_last, has_bad_segments, advanced, next_segment, over_headers, at_header, at_upper, at_end, at_sid}
+use Rattle.srv6_rules.specs.Encapsulation.{Encapsulation, segment_list, has_segment_routing, segment_routing_of, header_of, inner_place, outer, at_segment, header_bytes, IsSpellableEncapsulation, inner_lowered, encapsulated, bare, bare_place}
 use Rattle.srv6_rules.proofs.Bytes.{all-address_bytes, length-two_bytes, two_number-bytes}
 use Rattle.srv6_rules.proofs.Packets.{length-spelling, all-spelling}
 use Rattle.srv6_rules.proofs.Edits.{edit-hop_limit}
 use Rattle.srv6_rules.proofs.Headers.{length-srh_spelling, all-srh_spelling, entry-at, length-entries}
 use Rattle.srv6_rules.proofs.Chains.{chain_at-spelled, chain_at-upper}
-use Rattle.srv6_rules.proofs.Treatments.{at_header-passed, at_header-steps, at_header-refuses}
+use Rattle.srv6_rules.proofs.Treatments.{at_header-last, last-stays, last-out, at_header-after_step, at_header-steps, at_header-pops, at_header-refuses}
+use Rattle.srv6_rules.proofs.Endpoints.{after_step-refused}
 
 -- ---- a segment routing header at the start of a payload
 
@@ -309,12 +310,27 @@ outer-chain e inner left hop destination = elim (cases_Bool (has_segment_routing
       ∙ ap (outer_chain e left (header_bytes e.reduced (length e.segments))) (sym not)
 ]
 
--- ---- at a SID
+-- ---- the segment routing header taken out
 
-over-one : (treat : Header → Endpoint → Endpoint) (has : Bool) (h : Header) (end : Endpoint) → treat h end ≡ end
-    → over_headers treat (if has then h ∷ [] else []) end ≡ end
-over-one treat true h end passed = passed
-over-one treat false h end passed = refl
+-- the header as it stands in the packet, whatever Segments Left was
+as_in-framed : (e : Encapsulation) (inner : List ℕ) (was left hop destination : ℕ)
+    → as_in (framed e routing (srh_spelling (segment_routing_of e left) ++ inner) hop destination) (header_of e was) ≡ header_of e left
+as_in-framed e inner was left hop destination =
+    ap (λ xs. record { place = outer_start routing; bytes = xs })
+    (take_at (srh_spelling (segment_routing_of e left)) inner (length (srh_spelling (segment_routing_of e was))) refl)
+
+without-framed : (e : Encapsulation) (inner : List ℕ) (was left hop destination : ℕ)
+    → let p = framed e routing (srh_spelling (segment_routing_of e left) ++ inner) hop destination in
+    without p (as_in p (header_of e was)) ≡ bare e inner hop destination
+without-framed e inner was left hop destination =
+    let header : List ℕ = srh_spelling (segment_routing_of e left) in
+    let p : Packet = framed e routing (header ++ inner) hop destination in
+    let size : header_len - header_len + length header ≡ length header = omega arith in
+    ap (without p) (as_in-framed e inner was left hop destination)
+    ∙ ap (λ n. bare e (drop n (header ++ inner)) hop destination) size
+    ∙ ap (λ xs. bare e xs hop destination) (drop_at header inner (length header) refl)
+
+-- ---- at a SID
 
 module _ (s : SidEntry) (allow : List ℕ) (e : Encapsulation) (inner : List ℕ) (left hop destination : ℕ) where
   outer-at_sid : at_sid s allow (outer e inner left hop destination)
@@ -324,25 +340,6 @@ module _ (s : SidEntry) (allow : List ℕ) (e : Encapsulation) (inner : List ℕ
       let p : Packet = outer e inner left hop destination in
       ap (λ (c : Chain). over_headers (at_header s p) c.headers (at_end s allow p c.end)) (outer-chain e inner left hop destination)
 
-  -- with no segments left the packet inside is the upper layer
-  pub outer-at_upper : left ≡ 0 → at_sid s allow (outer e inner left hop destination)
-      ≡ at_upper s allow (outer e inner left hop destination) (inner_place e)
-  outer-at_upper none =
-      let p : Packet = outer e inner left hop destination in
-      let end : Endpoint = at_upper s allow p (inner_place e) in
-      outer-at_sid
-      ∙ over-one (at_header s p) (has_segment_routing e) (header_of e left) end
-      (at_header-passed s p (header_of e left) refl none end)
-
-  pub outer-upper_layer : left ≡ 0 → exposes s ipv6_inside ≡ false → at_sid s allow (outer e inner left hop destination)
-      ≡ upper_layer allow (outer e inner left hop destination) (inner_place e)
-  outer-upper_layer none keeps = outer-at_upper none ∙ rw keeps refl
-
-  pub outer-exposed : left ≡ 0 → exposes s ipv6_inside ≡ true
-      → at_sid s allow (outer e inner left hop destination) ≡ Exposed families.V6 inner
-  outer-exposed none shows = outer-at_upper none ∙ rw shows (ap (Exposed families.V6) (outer-inner e inner left hop destination))
-
-  -- with segments left
   outer-at_header : has_segment_routing e ≡ true → at_sid s allow (outer e inner left hop destination)
       ≡ at_header s (outer e inner left hop destination) (header_of e left)
       (at_upper s allow (outer e inner left hop destination) (inner_place e))
@@ -350,6 +347,67 @@ module _ (s : SidEntry) (allow : List ℕ) (e : Encapsulation) (inner : List ℕ
       let p : Packet = outer e inner left hop destination in
       let end : Endpoint = at_upper s allow p (inner_place e) in
       outer-at_sid ∙ ap (λ b. over_headers (at_header s p) (outer_headers e left b) end) has
+
+  outer-alone : has_segment_routing e ≡ false → at_sid s allow (outer e inner left hop destination)
+      ≡ at_upper s allow (outer e inner left hop destination) (inner_place e)
+  outer-alone not =
+      let p : Packet = outer e inner left hop destination in
+      let end : Endpoint = at_upper s allow p (inner_place e) in
+      outer-at_sid ∙ ap (λ b. over_headers (at_header s p) (outer_headers e left b) end) not
+
+  -- with no segments left the packet inside is the upper layer
+  outer-last : left ≡ 0 → has_segment_routing e ≡ true → at_sid s allow (outer e inner left hop destination)
+      ≡ after_last s (header_of e left) (at_upper s allow (outer e inner left hop destination) (inner_place e))
+  outer-last none has =
+      let p : Packet = outer e inner left hop destination in
+      outer-at_header has ∙ at_header-last s p (header_of e left) (at_upper s allow p (inner_place e)) refl none
+
+  pub outer-at_upper : left ≡ 0 → s.usp ≡ false → at_sid s allow (outer e inner left hop destination)
+      ≡ at_upper s allow (outer e inner left hop destination) (inner_place e)
+  outer-at_upper none no_usp =
+      let p : Packet = outer e inner left hop destination in
+      elim (cases_Bool (has_segment_routing e)) [
+        | inl has ↦ outer-last none has ∙ last-stays s p (header_of e left) (at_upper s allow p (inner_place e)) no_usp
+        | inr not ↦ outer-alone not
+      ]
+
+  pub outer-upper_layer : left ≡ 0 → s.usp ≡ false → exposes s ipv6_inside ≡ false
+      → at_sid s allow (outer e inner left hop destination)
+      ≡ upper_layer allow (outer e inner left hop destination) (inner_place e)
+  outer-upper_layer none no_usp keeps = outer-at_upper none no_usp ∙ rw keeps refl
+
+  -- with USP it is handed over without the header
+  pub outer-usp : left ≡ 0 → has_segment_routing e ≡ true → s.usp ≡ true → exposes s ipv6_inside ≡ false
+      → at_sid s allow (outer e inner left hop destination)
+      ≡ (if is_allowed allow ipv6_inside then Delivered (bare e inner hop destination)
+      else Refused reasons.UpperLayer (inner_place e).at)
+  outer-usp none has usp keeps =
+      let p : Packet = outer e inner left hop destination in
+      let upper : at_upper s allow p (inner_place e) ≡ upper_layer allow p (inner_place e) = rw keeps refl in
+      outer-last none has
+      ∙ last-out s p (header_of e left) (at_upper s allow p (inner_place e)) usp
+      ∙ ap (outcome_without (header_of e left)) upper
+      ∙ elim (cases_Bool (is_allowed allow ipv6_inside)) [
+        | inl takes ↦ rw takes (ap (λ (x : Packet). Delivered (without x (as_in x (header_of e left))))
+            (outer-routed e inner left hop destination has)
+            ∙ ap (λ (x : Packet). Delivered x) (without-framed e inner left left hop destination))
+        | inr not ↦ rw not refl
+      ]
+
+  -- a SID that exposes it exposes the inner bytes, whether the header is taken out or not
+  pub outer-exposed : left ≡ 0 → exposes s ipv6_inside ≡ true
+      → at_sid s allow (outer e inner left hop destination) ≡ Exposed families.V6 inner
+  outer-exposed none shows =
+      let p : Packet = outer e inner left hop destination in
+      let upper : at_upper s allow p (inner_place e) ≡ Exposed families.V6 inner =
+      rw shows (ap (Exposed families.V6) (outer-inner e inner left hop destination)) in
+      elim (cases_Bool (has_segment_routing e)) [
+        | inl has ↦ outer-last none has ∙ ap (after_last s (header_of e left)) upper ∙ elim (cases_Bool s.usp) [
+          | inl usp ↦ last-out s p (header_of e left) (Exposed families.V6 inner) usp
+          | inr no_usp ↦ last-stays s p (header_of e left) (Exposed families.V6 inner) no_usp
+        ]
+        | inr not ↦ outer-alone not ∙ upper
+      ]
 
   -- a SID that does not go on takes no segment routing header with segments left
   pub outer-bad_segments : has_segment_routing e ≡ true → 0 < left → goes_on s ≡ false
@@ -359,53 +417,104 @@ module _ (s : SidEntry) (allow : List ℕ) (e : Encapsulation) (inner : List ℕ
       let end : Endpoint = at_upper s allow p (inner_place e) in
       outer-at_header has ∙ at_header-refuses s p (header_of e left) end refl some stays
 
-  step-at_sid : has_segment_routing e ≡ true → 0 < left → goes_on s ≡ true → at_sid s allow (outer e inner left hop destination)
+  outer-next : has_segment_routing e ≡ true
+      → next_segment (outer e inner left hop destination) header_len (srh_of (header_of e left).bytes)
       ≡ next_segment (framed e routing (srh_spelling (segment_routing_of e left) ++ inner) hop destination) header_len
       (segment_routing_of e left)
-  step-at_sid has some goes =
-      let p : Packet = outer e inner left hop destination in
-      let end : Endpoint = at_upper s allow p (inner_place e) in
-      outer-at_header has
-      ∙ at_header-steps s p (header_of e left) end refl some goes
-      ∙ ap (next_segment p header_len) (read_back e left)
+  outer-next has =
+      ap (next_segment (outer e inner left hop destination) header_len) (read_back e left)
       ∙ ap (λ (x : Packet). next_segment x header_len (segment_routing_of e left)) (outer-routed e inner left hop destination has)
 
   pub outer-hop_limit : has_segment_routing e ≡ true → 0 < left → goes_on s ≡ true → hop ≤ 1
       → at_sid s allow (outer e inner left hop destination) ≡ Refused reasons.HopLimit 0
   outer-hop_limit has some goes low =
-      step-at_sid has some goes
+      let p : Packet = outer e inner left hop destination in
+      outer-at_header has
+      ∙ at_header-after_step s p (header_of e left) (at_upper s allow p (inner_place e)) refl some goes
+      ∙ ap (after_step s (header_of e left)) (outer-next has
       ∙ step-hop_limit (framed e routing (srh_spelling (segment_routing_of e left) ++ inner) hop destination) header_len
-      (segment_routing_of e left) low
+      (segment_routing_of e left) low)
+      ∙ after_step-refused s (header_of e left) reasons.HopLimit 0
 
-  -- a SID that goes on makes the next segment the active one
-  pub outer-onward : has_segment_routing e ≡ true → 0 < left → goes_on s ≡ true → left < length e.segments
-      → All (λ a. a < 2 ^ 128) e.segments → 1 < hop
-      → at_sid s allow (outer e inner left hop destination)
-      ≡ Onward (outer e inner (left - 1) (hop - 1) (slice_index e.segments (length e.segments - left)))
-  outer-onward has some goes below all high =
+  -- the step makes the next segment the active one
+  outer-stepped : has_segment_routing e ≡ true → 0 < left → left < length e.segments → All (λ a. a < 2 ^ 128) e.segments → 1 < hop
+      → next_segment (outer e inner left hop destination) header_len (srh_of (header_of e left).bytes)
+      ≡ Onward (framed e routing (srh_spelling (segment_routing_of e (left - 1)) ++ inner) (hop - 1)
+      (slice_index e.segments (length e.segments - left)))
+  outer-stepped has some below all high =
       let most = list-most e in
       let header : Srh = segment_routing_of e left in
       let p : Packet = framed e routing (srh_spelling header ++ inner) hop destination in
       let entry = next-entry e left some below all in
-      step-at_sid has some goes
+      outer-next has
       ∙ step-onward p header_len header high (good_segments e left (omega arith) (omega arith)) (no_tlv_bytes e left (omega arith))
       ∙ ap (λ a. Onward (framed e routing (srh_spelling (segment_routing_of e (left - 1)) ++ inner) (hop - 1) a)) entry
+
+  -- a SID that goes on makes it so, and without PSP that is all, with PSP too where segments are left
+  pub outer-onward : has_segment_routing e ≡ true → 0 < left → goes_on s ≡ true → (s.psp ≡ false) ⊎ (1 < left)
+      → left < length e.segments → All (λ a. a < 2 ^ 128) e.segments → 1 < hop
+      → at_sid s allow (outer e inner left hop destination)
+      ≡ Onward (outer e inner (left - 1) (hop - 1) (slice_index e.segments (length e.segments - left)))
+  outer-onward has some goes stays below all high =
+      let p : Packet = outer e inner left hop destination in
+      outer-at_header has
+      ∙ at_header-steps s p (header_of e left) (at_upper s allow p (inner_place e)) refl some goes stays
+      ∙ outer-stepped has some below all high
       ∙ ap (λ (x : Packet). Onward x)
       (sym (outer-routed e inner (left - 1) (hop - 1) (slice_index e.segments (length e.segments - left)) has))
+
+  -- with PSP the header is taken out where none is left
+  pub outer-psp : has_segment_routing e ≡ true → left ≡ 1 → goes_on s ≡ true → s.psp ≡ true → left < length e.segments
+      → All (λ a. a < 2 ^ 128) e.segments → 1 < hop
+      → at_sid s allow (outer e inner left hop destination)
+      ≡ Onward (bare e inner (hop - 1) (slice_index e.segments (length e.segments - left)))
+  outer-psp has one goes psp below all high =
+      let p : Packet = outer e inner left hop destination in
+      outer-at_header has
+      ∙ at_header-pops s p (header_of e left) (at_upper s allow p (inner_place e)) refl one goes psp
+      ∙ ap (outcome_without (header_of e left)) (outer-stepped has (omega arith) below all high)
+      ∙ ap (λ (x : Packet). Onward x)
+      (without-framed e inner left (left - 1) (hop - 1) (slice_index e.segments (length e.segments - left)))
+
+module _ (s : SidEntry) (allow : List ℕ) (e : Encapsulation) (inner : List ℕ) (hop destination : ℕ) where
+  -- a packet without the header has the packet inside as its upper layer
+  bare-at_sid : at_sid s allow (bare e inner hop destination) ≡ at_upper s allow (bare e inner hop destination) bare_place
+  bare-at_sid =
+      let p : Packet = bare e inner hop destination in
+      ap (λ (c : Chain). over_headers (at_header s p) c.headers (at_end s allow p c.end)) (bare-upper p refl)
+
+  pub bare-exposed : exposes s ipv6_inside ≡ true → at_sid s allow (bare e inner hop destination) ≡ Exposed families.V6 inner
+  bare-exposed shows = bare-at_sid ∙ rw shows refl
+
+  pub bare-upper_layer : exposes s ipv6_inside ≡ false
+      → at_sid s allow (bare e inner hop destination) ≡ upper_layer allow (bare e inner hop destination) bare_place
+  bare-upper_layer keeps = bare-at_sid ∙ rw keeps refl
 
 -- ---- while a segment is the active one
 
 module _ (s : SidEntry) (allow : List ℕ) (e : Encapsulation) (inner : List ℕ) (i hop : ℕ) where
-  pub at_segment-onward : goes_on s ≡ true → i + 1 < length e.segments → All (λ a. a < 2 ^ 128) e.segments → 1 < hop
+  pub at_segment-onward : goes_on s ≡ true → (s.psp ≡ false) ⊎ (i + 2 < length e.segments) → i + 1 < length e.segments
+      → All (λ a. a < 2 ^ 128) e.segments → 1 < hop
       → at_sid s allow (at_segment e inner i hop) ≡ Onward (at_segment e inner (i + 1) (hop - 1))
-  at_segment-onward goes below all high =
+  at_segment-onward goes stays below all high =
       let n : ℕ = length e.segments in
+      let more : (s.psp ≡ false) ⊎ (1 < n - 1 - i) = elim stays [ inl no_psp ↦ inl no_psp | inr far ↦ inr (omega arith) ] in
       let left : n - 1 - i - 1 ≡ n - 1 - (i + 1) = omega arith in
       let next : n - (n - 1 - i) ≡ i + 1 = omega arith in
       outer-onward s allow e inner (n - 1 - i) hop (slice_index e.segments i) (more-routing e (omega arith)) (omega arith) goes
-      (omega arith) all high
+      more (omega arith) all high
       ∙ ap (λ k. Onward (outer e inner k (hop - 1) (slice_index e.segments (n - (n - 1 - i))))) left
       ∙ ap (λ k. Onward (outer e inner (n - 1 - (i + 1)) (hop - 1) (slice_index e.segments k))) next
+
+  -- with PSP the header is taken out on the way to the last segment
+  pub at_segment-psp : goes_on s ≡ true → s.psp ≡ true → i + 2 ≡ length e.segments → All (λ a. a < 2 ^ 128) e.segments → 1 < hop
+      → at_sid s allow (at_segment e inner i hop) ≡ Onward (bare e inner (hop - 1) (slice_index e.segments (i + 1)))
+  at_segment-psp goes psp last all high =
+      let n : ℕ = length e.segments in
+      let next : n - (n - 1 - i) ≡ i + 1 = omega arith in
+      outer-psp s allow e inner (n - 1 - i) hop (slice_index e.segments i) (more-routing e (omega arith)) (omega arith) goes psp
+      (omega arith) all high
+      ∙ ap (λ k. Onward (bare e inner (hop - 1) (slice_index e.segments k))) next
 
   pub at_segment-hop_limit : goes_on s ≡ true → i + 1 < length e.segments → hop ≤ 1
       → at_sid s allow (at_segment e inner i hop) ≡ Refused reasons.HopLimit 0
@@ -419,10 +528,18 @@ module _ (s : SidEntry) (allow : List ℕ) (e : Encapsulation) (inner : List ℕ
       outer-bad_segments s allow e inner (length e.segments - 1 - i) hop (slice_index e.segments i) (more-routing e (omega arith))
       (omega arith) stays
 
-  pub at_segment-upper_layer : exposes s ipv6_inside ≡ false → i + 1 ≡ length e.segments → at_sid s allow (at_segment e inner i hop)
+  pub at_segment-upper_layer : s.usp ≡ false → exposes s ipv6_inside ≡ false → i + 1 ≡ length e.segments
+      → at_sid s allow (at_segment e inner i hop)
       ≡ upper_layer allow (at_segment e inner i hop) (inner_place e)
-  at_segment-upper_layer keeps last =
-      outer-upper_layer s allow e inner (length e.segments - 1 - i) hop (slice_index e.segments i) (omega arith) keeps
+  at_segment-upper_layer no_usp keeps last =
+      outer-upper_layer s allow e inner (length e.segments - 1 - i) hop (slice_index e.segments i) (omega arith) no_usp keeps
+
+  pub at_segment-usp : s.usp ≡ true → has_segment_routing e ≡ true → exposes s ipv6_inside ≡ false → i + 1 ≡ length e.segments
+      → at_sid s allow (at_segment e inner i hop)
+      ≡ (if is_allowed allow ipv6_inside then Delivered (bare e inner hop (slice_index e.segments i))
+      else Refused reasons.UpperLayer (inner_place e).at)
+  at_segment-usp usp has keeps last =
+      outer-usp s allow e inner (length e.segments - 1 - i) hop (slice_index e.segments i) (omega arith) has usp keeps
 
   pub at_segment-exposed : exposes s ipv6_inside ≡ true → i + 1 ≡ length e.segments
       → at_sid s allow (at_segment e inner i hop) ≡ Exposed families.V6 inner

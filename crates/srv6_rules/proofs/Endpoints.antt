@@ -1,9 +1,9 @@
 -- What an endpoint keeps of a packet.
-use Rattle.std.proofs.Common.{◌≡◌, ℕ, ◌+◌, ◌-◌, ◌*◌, ◌^◌, ◌<◌, ◌≤◌, Bool, true, false, ◌==◌, ◌≢◌, nat_le, if◌then◌else◌, List, ◌++◌, length, take, drop, slice_index, All, refl, sym, ap, subst, ◌∙◌, arith, inl, inr}
-use Rattle.std.proofs.lemmas.Bool.{leb-false, eqb-false}
+use Rattle.std.proofs.Common.{◌≡◌, ℕ, zero, suc, get_or, ◌&&◌, ◌⊎◌, ◌+◌, ◌-◌, ◌*◌, ◌^◌, ◌<◌, ◌≤◌, Bool, true, false, ◌==◌, ◌≢◌, nat_le, if◌then◌else◌, List, ◌++◌, length, take, drop, slice_index, All, refl, sym, ap, subst, ◌∙◌, arith, inl, inr}
+use Rattle.std.proofs.lemmas.Bool.{cases_Bool, ne_eqb, leb-false, eqb-true, eqb-false}
 use Rattle.std.proofs.lemmas.List.{get_or-set_other, get_or-set_same, length-set}
-use Rattle.std.proofs.lemmas.List.Elements.{All-drop, All-set, All-take}
-use Rattle.std.specs.Prelude.{Option, None}
+use Rattle.std.proofs.lemmas.List.Elements.{All-drop, All-take}
+use Rattle.std.specs.Prelude.{None}
 use Rattle.srv6_rules.specs.declared.sid.Family.{Family}
 use Rattle.srv6_rules.specs.declared.sid.Family.TheVariants as families
 use Rattle.srv6_rules.specs.declared.sid.Reason.{Reason}
@@ -12,39 +12,87 @@ use Rattle.srv6_rules.specs.declared.sid.SidEntry.{SidEntry}
 use Rattle.srv6_rules.specs.Behaviours.{goes_on, exposes, family_inside}
 use Rattle.srv6_rules.specs.Packet.{Packet, V6, Unreadable, IsSpellable, IsContent, header_len, spelling, read_as, bytes_of}
 use Rattle.srv6_rules.specs.Srh.{srh_of, entry_of, segments_left_at, routing_type_at}
-use Rattle.srv6_rules.specs.Areas.{Fault, tlvs_fault}
-use Rattle.srv6_rules.specs.Chain.{ChainPlace, Header, ChainEnd, Upper, Cut, LiesIn, StandsIn, segments_left, is_segment_routing, start_of, place_of, from_place, chain_at, chain_of}
-use Rattle.srv6_rules.specs.Endpoint.{Endpoint, Onward, Exposed, Delivered, Refused, StepsTo, ChangesFewBytes, ExposesFrom, IsPassed, IsReached, unless_fault, is_allowed, has_bad_segments, advanced, next_segment, at_segment_routing, unknown_routing, at_sid_routing, at_header, at_end, at_sid, at_address_header, at_address_end, at_address}
+use Rattle.srv6_rules.specs.Areas.{tlvs_fault}
+use Rattle.srv6_rules.specs.Chain.{ChainPlace, Header, ChainEnd, Upper, Cut, LiesIn, StandsIn, without, segments_left, is_segment_routing, start_of, place_of, from_place, chain_at, chain_of}
+use Rattle.srv6_rules.specs.Endpoint.{Endpoint, Onward, Exposed, Delivered, Refused, StepsTo, StepsWithPsp, ChangesFewBytes, ExposesFrom, IsPassed, IsSkipped, IsReached, outcome_without, as_in, leaves_none, after_step, after_last, is_allowed, has_bad_segments, advanced, next_segment, unknown_routing, at_sid_routing, at_header, at_end, at_sid, at_address_header, at_address_end, at_address}
 use Rattle.srv6_rules.proofs.BehaviourLaws.{exposes-family}
-use Rattle.srv6_rules.proofs.Bytes.{address_number-below, byte_below}
+use Rattle.srv6_rules.proofs.Bytes.{address_number-below}
 use Rattle.srv6_rules.proofs.Packets.{content_of-is_content, content_of-bytes_of, length-spelling, reads-spelled, unreadable, spelling-agrees, spelling-hop_limit, spelling-payload}
 use Rattle.srv6_rules.proofs.AreaItems.{tlvs_fault-within}
-use Rattle.srv6_rules.proofs.Chains.{start-stands, chain_at-stand, lies-at, lies-bytes}
+use Rattle.srv6_rules.proofs.Chains.{start-stands, chain_at-stand, lies-at}
 use Rattle.srv6_rules.proofs.Reached.{over-reached, reached-lies, reached-stands}
-use Rattle.srv6_rules.proofs.Treatments.{fault_cases, by-kind}
+use Rattle.srv6_rules.proofs.Treatments.{fault_cases, by-kind, at_header-last, at_header-taken_out, last-stays, last-out}
 
 -- ---- what is so of each outcome at a SID
 
 abbrev AtSid : SidEntry → Packet → Endpoint → Type 0
-AtSid s p (Onward q) = StepsTo s p q
+AtSid s p (Onward q) = s.usp ≡ false → StepsWithPsp s p q
 AtSid s p (Exposed family bytes) = ExposesFrom s p family bytes
-AtSid s p (Delivered q) = q ≡ p
+AtSid s p (Delivered q) = s.usp ≡ false → q ≡ p
 AtSid s p (Refused reason at) = at ≤ header_len + length p.payload
 
 -- the chain of a packet ends at a place of it
-end-stands : (p : Packet) → StandsIn p (place_of (chain_of p).end)
+pub end-stands : (p : Packet) → StandsIn p (place_of (chain_of p).end)
 unfolding chain_at
 end-stands p = (chain_at-stand p (start_of p) (start-stands p)).1
 
+-- the step over a segment routing header refuses the packet at a place of it, or makes the next segment the destination
+pub next_segment-cases : (p : Packet) (h : Header) → LiesIn p h
+    → ((reason : Reason) × (at : ℕ) × (at ≤ header_len + length p.payload)
+    × (next_segment p h.place.at (srh_of h.bytes) ≡ Refused reason at))
+    ⊎ ((1 < p.hop_limit) × ((tlvs_fault h.place.at (srh_of h.bytes) ≡ None)
+    × (next_segment p h.place.at (srh_of h.bytes) ≡ Onward (advanced p h.place.at (srh_of h.bytes)))))
+next_segment-cases p h lies =
+    let within = lies.within in
+    let least = lies.least in
+    elim (cases_Bool (nat_le p.hop_limit 1)) [
+      | inl low ↦ inl (reasons.HopLimit, 0, omega arith, rw low refl)
+      | inr high ↦ elim (cases_Bool (has_bad_segments (srh_of h.bytes))) [
+        | inl bad ↦ inl (reasons.BadSegments, h.place.at + segments_left_at, omega arith, rw (high, bad) refl)
+        | inr fine ↦ elim (fault_cases (tlvs_fault h.place.at (srh_of h.bytes))) [
+          | inl good ↦ inr (leb-false p.hop_limit 1 high, (good, rw (high, fine, good) refl))
+          | inr (f, bad) ↦
+              let place = tlvs_fault-within p h f lies bad in
+              inl (f.reason, f.at, omega arith, rw (high, fine, bad) refl)
+        ]
+      ]
+    ]
+
+pub after_step-refused : (s : SidEntry) (h : Header) (reason : Reason) (at : ℕ) → after_step s h (Refused reason at) ≡ Refused reason at
+after_step-refused s h reason at = elim (cases_Bool (s.psp && leaves_none (srh_of h.bytes))) [
+  | inl pops ↦ rw pops refl
+  | inr stays ↦ rw stays refl
+]
+
+-- Segments Left is 0 behind the step exactly where it was 1
+left-none : (n : ℕ) → (n ≡ 0 → ⊥) → ((n - 1) == 0) ≡ (n == 1)
+left-none zero some = absurd (some refl)
+left-none (suc zero) some = refl
+left-none (suc (suc n)) some = ne_eqb (suc (suc n) - 1) 0 (omega arith) ∙ sym (ne_eqb (suc (suc n)) 1 (omega arith))
+
 module _ (s : SidEntry) (p : Packet) where
-  steps : (h : Header) → IsReached (at_header s p) (chain_of p).headers h → LiesIn p h → is_segment_routing h ≡ true
+  skipped-passed : s.usp ≡ false → (h : Header) → IsSkipped s p h → IsPassed (at_header s p) h
+  skipped-passed no_usp h (inl passed) = passed
+  skipped-passed no_usp h (inr out) = let usp = out.usp in cc
+
+  reached-passed : s.usp ≡ false → (h : Header) → IsReached (IsSkipped s p) (chain_of p).headers h
+      → IsReached (IsPassed (at_header s p)) (chain_of p).headers h
+  reached-passed no_usp h r =
+      record {
+        before = r.before;
+        after = r.after;
+        split = r.split;
+        passed = λ i d below. skipped-passed no_usp (get_or r.before i d) (r.passed i d below);
+      }
+
+  steps : s.usp ≡ false → (h : Header) → IsReached (IsSkipped s p) (chain_of p).headers h → LiesIn p h → is_segment_routing h ≡ true
       → (segments_left h ≡ 0 → ⊥) → 1 < p.hop_limit → tlvs_fault h.place.at (srh_of h.bytes) ≡ None
       → StepsTo s p (advanced p h.place.at (srh_of h.bytes))
-  steps h reached lies routing some above good =
+  steps no_usp h reached lies routing some above good =
       record {
         header = h;
         left = segments_left h - 1;
-        reached = reached;
+        reached = reached-passed no_usp h reached;
         routing = routing;
         lies = lies;
         above_one = above;
@@ -56,65 +104,87 @@ module _ (s : SidEntry) (p : Packet) where
         others = refl;
       }
 
-  next-by : (h : Header) → LiesIn p h → (low bad : Bool)
-      → nat_le p.hop_limit 1 ≡ low
-      → (1 < p.hop_limit → tlvs_fault h.place.at (srh_of h.bytes) ≡ None → AtSid s p (Onward (advanced p h.place.at (srh_of h.bytes))))
-      → AtSid s p (if low then Refused reasons.HopLimit 0
-      else if bad then Refused reasons.BadSegments (h.place.at + segments_left_at)
-      else unless_fault (tlvs_fault h.place.at (srh_of h.bytes)) (Onward (advanced p h.place.at (srh_of h.bytes))))
-  next-by h lies true bad el onward = omega arith
-  next-by h lies false true el onward =
-      let within = lies.within in
-      let least = lies.least in
-      omega arith
-  next-by h lies false false el onward =
-      let within = lies.within in
-      let P : Option Fault → Type 0 = λ f. AtSid s p (unless_fault f (Onward (advanced p h.place.at (srh_of h.bytes)))) in
-      elim (fault_cases (tlvs_fault h.place.at (srh_of h.bytes))) [
-        | inl good ↦ subst P (sym good) (onward (leb-false p.hop_limit 1 el) good)
-        | inr (f, bad) ↦ let place = tlvs_fault-within p h f lies bad in subst P (sym bad) (omega arith)
+  onward-is : (h : Header) → IsReached (IsSkipped s p) (chain_of p).headers h → LiesIn p h → is_segment_routing h ≡ true
+      → (segments_left h ≡ 0 → ⊥) → 1 < p.hop_limit → tlvs_fault h.place.at (srh_of h.bytes) ≡ None
+      → AtSid s p (after_step s h (Onward (advanced p h.place.at (srh_of h.bytes))))
+  unfolding steps
+  onward-is h reached lies routing some above good =
+      let q : Packet = advanced p h.place.at (srh_of h.bytes) in
+      let same = left-none (segments_left h) some in
+      elim (cases_Bool (s.psp && (segments_left h == 1))) [
+        | inl pops ↦
+            let test : (s.psp && ((segments_left h - 1) == 0)) ≡ true = ap (λ b. s.psp && b) same ∙ pops in
+            rw pops (λ no_usp. record {
+              stepped = q;
+              step = steps no_usp h reached lies routing some above good;
+              popped = rw test refl;
+            })
+        | inr stays ↦
+            let test : (s.psp && ((segments_left h - 1) == 0)) ≡ false = ap (λ b. s.psp && b) same ∙ stays in
+            rw stays (λ no_usp. record {
+              stepped = q;
+              step = steps no_usp h reached lies routing some above good;
+              popped = rw test refl;
+            })
       ]
 
-  known-by : (h : Header) → LiesIn p h → (rest : Endpoint) → (none goes : Bool) → (segments_left h == 0) ≡ none
-      → (none ≡ true → AtSid s p rest)
-      → ((segments_left h ≡ 0 → ⊥) → AtSid s p (next_segment p h.place.at (srh_of h.bytes)))
-      → AtSid s p (if none then rest
-      else if goes then next_segment p h.place.at (srh_of h.bytes)
-      else Refused reasons.BadSegments (h.place.at + segments_left_at))
-  known-by h lies rest true goes en more next = more refl
-  known-by h lies rest false true en more next = next (eqb-false (segments_left h) 0 en)
-  known-by h lies rest false false en more next =
+  stepped-is : (h : Header) → IsReached (IsSkipped s p) (chain_of p).headers h → LiesIn p h → is_segment_routing h ≡ true
+      → (segments_left h ≡ 0 → ⊥) → AtSid s p (after_step s h (next_segment p h.place.at (srh_of h.bytes)))
+  stepped-is h reached lies routing some =
+      let P : Endpoint → Type 0 = λ x. AtSid s p x in
+      elim (next_segment-cases p h lies) [
+        | inl (reason, at, within, e) ↦ subst P (sym (ap (after_step s h) e ∙ after_step-refused s h reason at)) within
+        | inr (above, (good, e)) ↦ subst P (sym (ap (after_step s h) e)) (onward-is h reached lies routing some above good)
+      ]
+
+  -- a header that is taken out changes nothing of what is so without USP
+  out-is : (h : Header) → s.usp ≡ true → (x : Endpoint) → AtSid s p x → AtSid s p (outcome_without h x)
+  out-is h usp (Onward q) is = λ no_usp. cc
+  out-is h usp (Exposed family bytes) is = is
+  out-is h usp (Delivered q) is = λ no_usp. cc
+  out-is h usp (Refused reason at) is = is
+
+  last-is : (h : Header) → is_segment_routing h ≡ true → segments_left h ≡ 0 → (rest : Endpoint) → (IsSkipped s p h → AtSid s p rest)
+      → AtSid s p (after_last s h rest)
+  last-is h is none rest more =
+      let P : Endpoint → Type 0 = λ x. AtSid s p x in
+      elim (cases_Bool s.usp) [
+        | inl usp ↦ subst P (sym (last-out s p h rest usp)) (out-is h usp rest (more (inr (at_header-taken_out s p h usp is none))))
+        | inr no_usp ↦ subst P (sym (last-stays s p h rest no_usp))
+            (more (inl (λ x. at_header-last s p h x is none ∙ last-stays s p h x no_usp)))
+      ]
+
+  routing-by_type : (h : Header) → IsReached (IsSkipped s p) (chain_of p).headers h → LiesIn p h
+      → (rest : Endpoint) → (IsSkipped s p h → AtSid s p rest) → ((x : Endpoint) → at_header s p h x ≡ at_sid_routing s p h x)
+      → AtSid s p (at_sid_routing s p h rest)
+  routing-by_type h reached lies rest more same =
       let within = lies.within in
       let least = lies.least in
-      omega arith
+      elim (cases_Bool (is_segment_routing h)) [
+        | inl is ↦ rw is (elim (cases_Bool (segments_left h == 0)) [
+          | inl none ↦ rw none (last-is h is (eqb-true (segments_left h) 0 none) rest more)
+          | inr some ↦ rw some (elim (cases_Bool (goes_on s)) [
+            | inl goes ↦ rw goes (stepped-is h reached lies is (eqb-false (segments_left h) 0 some))
+            | inr stays ↦ rw stays (omega arith)
+          ])
+        ])
+        | inr other ↦ rw other (elim (cases_Bool (segments_left h == 0)) [
+          | inl none ↦ rw none (more (inl (λ x. same x ∙ (rw (other, none) refl))))
+          | inr some ↦ rw some (omega arith)
+        ])
+      ]
 
-  routing-by_type : (h : Header) → IsReached (at_header s p) (chain_of p).headers h → LiesIn p h
-      → (rest : Endpoint) → (IsPassed (at_sid_routing s p) h → AtSid s p rest) → (known none : Bool)
-      → is_segment_routing h ≡ known → (segments_left h == 0) ≡ none
-      → AtSid s p (if known then at_segment_routing s p h.place.at (srh_of h.bytes) rest
-      else if none then rest else Refused reasons.UnknownRouting (h.place.at + routing_type_at))
-  routing-by_type h reached lies rest more true none er en =
-      known-by h lies rest (segments_left h == 0) (goes_on s) refl (λ zero. more (λ x. rw (er, zero) refl))
-      (λ some. next-by h lies (nat_le p.hop_limit 1) (has_bad_segments (srh_of h.bytes)) refl
-      (λ above good. steps h reached lies er some above good))
-  routing-by_type h reached lies rest more false true er en = more (λ x. rw (er, en) refl)
-  routing-by_type h reached lies rest more false false er en =
-      let within = lies.within in
-      let least = lies.least in
-      omega arith
-
-  at_header-is : (h : Header) → IsReached (at_header s p) (chain_of p).headers h → (rest : Endpoint)
-      → (IsPassed (at_header s p) h → AtSid s p rest) → AtSid s p (at_header s p h rest)
+  at_header-is : (h : Header) → IsReached (IsSkipped s p) (chain_of p).headers h → (rest : Endpoint)
+      → (IsSkipped s p h → AtSid s p rest) → AtSid s p (at_header s p h rest)
   unfolding chain_at
   at_header-is h reached rest more =
-      let lies = reached-lies (at_header s p) p (start_of p) h (omega arith) reached in
-      let stands = reached-stands (at_header s p) p (start_of p) h (start-stands p) reached in
+      let lies = reached-lies (IsSkipped s p) p (start_of p) h (omega arith) reached in
+      let stands = reached-stands (IsSkipped s p) p (start_of p) h (start-stands p) reached in
       let within = lies.within in
-      by-kind (at_sid_routing s p) h p (AtSid s p) rest lies stands more (λ reason at below. omega arith)
-      (λ same. routing-by_type h reached lies rest (λ passed. more (λ x. same x ∙ passed x))
-      (is_segment_routing h) (segments_left h == 0) refl refl)
+      by-kind (at_sid_routing s p) h p (AtSid s p) rest lies stands (λ passed. more (inl passed)) (λ reason at below. omega arith)
+      (λ same. routing-by_type h reached lies rest more same)
 
-  upper-by : (place : ChainPlace) → (chain_of p).end ≡ Upper place → All (IsPassed (at_header s p)) (chain_of p).headers
+  upper-by : (place : ChainPlace) → (chain_of p).end ≡ Upper place → All (IsSkipped s p) (chain_of p).headers
       → StandsIn p place → (exposed allowed : Bool) → exposes s place.kind ≡ exposed
       → AtSid s p (if exposed then Exposed (family_inside place.kind) (from_place p place.at)
       else if allowed then Delivered p else Refused reasons.UpperLayer place.at)
@@ -128,28 +198,40 @@ module _ (s : SidEntry) (p : Packet) where
         within = stands.within;
         inside = refl;
       }
-  upper-by place upper passed stands false true e = refl
+  upper-by place upper passed stands false true e = λ no_usp. refl
   upper-by place upper passed stands false false e = stands.within
 
   at_end-is : (allow : List ℕ) (end : ChainEnd) → (chain_of p).end ≡ end → StandsIn p (place_of end)
-      → All (IsPassed (at_header s p)) (chain_of p).headers → AtSid s p (at_end s allow p end)
+      → All (IsSkipped s p) (chain_of p).headers → AtSid s p (at_end s allow p end)
   at_end-is allow (Upper place) upper stands passed =
       upper-by place upper passed stands (exposes s place.kind) (is_allowed allow place.kind) refl
   at_end-is allow (Cut place) upper stands passed = stands.within
 
   at_sid-is : (allow : List ℕ) → AtSid s p (at_sid s allow p)
   at_sid-is allow =
-      over-reached (at_header s p) (AtSid s p) (chain_of p).headers (at_end s allow p (chain_of p).end)
+      over-reached (at_header s p) (IsSkipped s p) (AtSid s p) (chain_of p).headers (at_end s allow p (chain_of p).end)
       (λ passed. at_end-is allow (chain_of p).end refl (end-stands p) passed)
       (λ h rest reached more. at_header-is h reached rest more)
 
 -- ---- the step
 
--- a packet that goes on from a SID has taken the step
-pub at_sid-steps : (s : SidEntry) (allow : List ℕ) (p q : Packet) → at_sid s allow p ≡ Onward q → StepsTo s p q
-at_sid-steps s allow p q e = let P : Endpoint → Type 0 = λ x. AtSid s p x in subst P e (at_sid-is s p allow)
+-- a packet that goes on from a SID without USP has taken the step, with PSP to the end
+pub at_sid-steps_psp : (s : SidEntry) (allow : List ℕ) (p q : Packet) → s.usp ≡ false → at_sid s allow p ≡ Onward q → StepsWithPsp s p q
+at_sid-steps_psp s allow p q no_usp e = let P : Endpoint → Type 0 = λ x. AtSid s p x in subst P e (at_sid-is s p allow) no_usp
 
-entry_of-below : (h : Header) (i : ℕ) → All (λ b. b < 2 ^ 8) h.bytes → entry_of (srh_of h.bytes) i < 2 ^ 128
+not-popped : (psp none : Bool) (x y : Packet) → psp ≡ false → (if psp && none then x else y) ≡ y
+not-popped psp none x y e = rw e refl
+
+pub at_sid-steps : (s : SidEntry) (allow : List ℕ) (p q : Packet) → s.psp ≡ false → s.usp ≡ false → at_sid s allow p ≡ Onward q
+    → StepsTo s p q
+at_sid-steps s allow p q no_psp no_usp e =
+    let steps = at_sid-steps_psp s allow p q no_usp e in
+    let out : Packet = without steps.stepped (as_in steps.stepped steps.step.header) in
+    let same : q ≡ steps.stepped = steps.popped ∙ not-popped s.psp (steps.step.left == 0) out steps.stepped no_psp in
+    let P : Packet → Type 0 = λ x. StepsTo s p x in
+    subst P (sym same) steps.step
+
+pub entry_of-below : (h : Header) (i : ℕ) → All (λ b. b < 2 ^ 8) h.bytes → entry_of (srh_of h.bytes) i < 2 ^ 128
 entry_of-below h i all =
     let P : ℕ → Type 0 = λ b. b < 2 ^ 8 in
     let n : ℕ = 8 * slice_index h.bytes 1 in
@@ -159,36 +241,6 @@ entry_of-below h i all =
 module _ (s : SidEntry) (p q : Packet) (step : StepsTo s p q) where
   step-length : length q.payload ≡ length p.payload
   step-length = ap length step.payload ∙ length-set p.payload (step.header.place.at + segments_left_at - header_len) step.left
-
-  -- the step keeps a packet spellable
-  pub steps-spellable : IsSpellable p → IsSpellable q
-  steps-spellable ok =
-      let P : ℕ → Type 0 = λ b. b < 2 ^ 8 in
-      let class : q.traffic_class ≡ p.traffic_class = ap (λ (x : Packet). x.traffic_class) step.others in
-      let label : q.flow_label ≡ p.flow_label = ap (λ (x : Packet). x.flow_label) step.others in
-      let next : q.next_header ≡ p.next_header = ap (λ (x : Packet). x.next_header) step.others in
-      let source : q.source ≡ p.source = ap (λ (x : Packet). x.source) step.others in
-      let bytes = lies-bytes p step.header step.lies ok.payload in
-      let was = byte_below step.header.bytes 3 bytes in
-      let had = step.was_left in
-      let hop = step.hop_limit in
-      let len = step-length in
-      let entry = entry_of-below step.header step.left bytes in
-      let Q : List ℕ → Type 0 = λ xs. All P xs in
-      let hop_below : p.hop_limit < 2 ^ 8 = ok.hop_limit in
-      let len_below : length p.payload < 2 ^ 16 = ok.payload_len in
-      let dest = step.destination in
-      record {
-        traffic_class = rw class ok.traffic_class;
-        flow_label = rw label ok.flow_label;
-        next_header = rw next ok.next_header;
-        hop_limit = omega arith;
-        source = rw source ok.source;
-        destination = rw dest entry;
-        payload_len = omega arith;
-        payload = subst Q (sym step.payload)
-            (All-set P p.payload (step.header.place.at + segments_left_at - header_len) step.left (omega arith) ok.payload);
-      }
 
   -- ---- the bytes before and after the step
 
@@ -242,12 +294,10 @@ module _ (s : SidEntry) (p q : Packet) (step : StepsTo s p q) where
             (payload-same k not_there);
       }
 
-pub at_sid-spellable : (s : SidEntry) (allow : List ℕ) (p q : Packet) → IsSpellable p → at_sid s allow p ≡ Onward q → IsSpellable q
-at_sid-spellable s allow p q ok e = steps-spellable s p q (at_sid-steps s allow p q e) ok
-
 -- but for the hop limit, Segments Left and the destination all bytes are as they were
-pub at_sid-bytes : (s : SidEntry) (allow : List ℕ) (p q : Packet) → at_sid s allow p ≡ Onward q → ChangesFewBytes (spelling p) (spelling q)
-at_sid-bytes s allow p q e = steps-bytes s p q (at_sid-steps s allow p q e)
+pub at_sid-bytes : (s : SidEntry) (allow : List ℕ) (p q : Packet) → s.psp ≡ false → s.usp ≡ false → at_sid s allow p ≡ Onward q
+    → ChangesFewBytes (spelling p) (spelling q)
+at_sid-bytes s allow p q no_psp no_usp e = steps-bytes s p q (at_sid-steps s allow p q no_psp no_usp e)
 
 -- ---- what is exposed
 
@@ -301,9 +351,9 @@ at_sid-exposed_back s allow p family bytes ok e = read_as-bytes_of family bytes 
 
 -- ---- what is delivered, and the place of a fault
 
--- a packet that is delivered is as it was
-pub at_sid-delivered : (s : SidEntry) (allow : List ℕ) (p q : Packet) → at_sid s allow p ≡ Delivered q → q ≡ p
-at_sid-delivered s allow p q e = let P : Endpoint → Type 0 = λ x. AtSid s p x in subst P e (at_sid-is s p allow)
+-- a packet that is delivered by a SID without USP is as it was
+pub at_sid-delivered : (s : SidEntry) (allow : List ℕ) (p q : Packet) → s.usp ≡ false → at_sid s allow p ≡ Delivered q → q ≡ p
+at_sid-delivered s allow p q no_usp e = let P : Endpoint → Type 0 = λ x. AtSid s p x in subst P e (at_sid-is s p allow) no_usp
 
 -- the place of a fault lies in the packet or at its end
 pub at_sid-place : (s : SidEntry) (allow : List ℕ) (p : Packet) (reason : Reason) (at : ℕ) → at_sid s allow p ≡ Refused reason at
@@ -328,12 +378,12 @@ module _ (p : Packet) where
       let least = lies.least in
       omega arith
 
-  address_header-is : (h : Header) → IsReached at_address_header (chain_of p).headers h → (rest : Endpoint)
+  address_header-is : (h : Header) → IsReached (IsPassed at_address_header) (chain_of p).headers h → (rest : Endpoint)
       → (IsPassed at_address_header h → AtAddress p rest) → AtAddress p (at_address_header h rest)
   unfolding chain_at
   address_header-is h reached rest more =
-      let lies = reached-lies at_address_header p (start_of p) h (omega arith) reached in
-      let stands = reached-stands at_address_header p (start_of p) h (start-stands p) reached in
+      let lies = reached-lies (IsPassed at_address_header) p (start_of p) h (omega arith) reached in
+      let stands = reached-stands (IsPassed at_address_header) p (start_of p) h (start-stands p) reached in
       let within = lies.within in
       by-kind unknown_routing h p (AtAddress p) rest lies stands more (λ reason at below. omega arith)
       (λ same. address_routing-by h lies rest (λ passed. more (λ x. same x ∙ passed x)) (segments_left h == 0) refl)
@@ -344,7 +394,7 @@ module _ (p : Packet) where
 
   at_address-is : AtAddress p (at_address p)
   at_address-is =
-      over-reached at_address_header (AtAddress p) (chain_of p).headers (at_address_end p (chain_of p).end)
+      over-reached at_address_header (IsPassed at_address_header) (AtAddress p) (chain_of p).headers (at_address_end p (chain_of p).end)
       (λ passed. address_end-is (chain_of p).end (end-stands p))
       (λ h rest reached more. address_header-is h reached rest more)
 

@@ -1,5 +1,6 @@
 pub mod Bytes
 pub mod Packets
+pub mod Packets4
 pub mod Edits
 pub mod Headers
 pub mod Chains
@@ -8,6 +9,7 @@ pub mod Reached
 pub mod Treatments
 pub mod BehaviourLaws
 pub mod Endpoints
+pub mod Flavours
 pub mod Encapsulations
 pub mod Without
 pub mod Checksums

@@ -9,52 +9,53 @@ use Rattle.srv6_rules.proofs.Chains.{chain_at-goes_on, chain_at-lies, chain_at-s
 
 -- ---- headers that are reached
 
-module _ (treat : Header → Endpoint → Endpoint) where
-  reached-first : (h : Header) (hs : List Header) → IsReached treat (h ∷ hs) h
-  reached-first h hs = record { before = []; after = hs; split = refl; passed = All-nil (IsPassed treat) }
+module _ (K : Header → Type 0) where
+  reached-first : (h : Header) (hs : List Header) → IsReached K (h ∷ hs) h
+  reached-first h hs = record { before = []; after = hs; split = refl; passed = All-nil K }
 
-  reached-behind : (x : Header) (hs : List Header) (h : Header) → IsPassed treat x → IsReached treat hs h → IsReached treat (x ∷ hs) h
+  reached-behind : (x : Header) (hs : List Header) (h : Header) → K x → IsReached K hs h → IsReached K (x ∷ hs) h
   reached-behind x hs h is r =
       record {
         before = x ∷ r.before;
         after = r.after;
         split = ap (λ xs. x ∷ xs) r.split;
-        passed = All-cons (IsPassed treat) x r.before is r.passed;
+        passed = All-cons K x r.before is r.passed;
       }
 
   -- a header that is reached is one of the headers
-  pub reached-contained : (hs : List Header) (h : Header) → IsReached treat hs h → Contains hs h
+  pub reached-contained : (hs : List Header) (h : Header) → IsReached K hs h → Contains hs h
   reached-contained hs h r =
       let here : Contains (h ∷ r.after) h = Contains-get_or (h ∷ r.after) 0 h (omega arith) in
       let Q : List Header → Type 0 = λ xs. Contains xs h in
       subst Q (sym r.split) (Contains-append_right r.before (h ∷ r.after) h here)
 
   -- a header that is reached in a packet's chain lies in the packet
-  pub reached-lies : (p : Packet) (q : ChainPlace) (h : Header) → header_len ≤ q.at → IsReached treat (chain_at p q).headers h → LiesIn p h
+  pub reached-lies : (p : Packet) (q : ChainPlace) (h : Header) → header_len ≤ q.at → IsReached K (chain_at p q).headers h → LiesIn p h
   reached-lies p q h start r =
       All-contains (LiesIn p) (chain_at p q).headers h (chain_at-lies p q start) (reached-contained (chain_at p q).headers h r)
 
   -- and stands at a place of the packet
-  pub reached-stands : (p : Packet) (q : ChainPlace) (h : Header) → StandsIn p q → IsReached treat (chain_at p q).headers h
+  pub reached-stands : (p : Packet) (q : ChainPlace) (h : Header) → StandsIn p q → IsReached K (chain_at p q).headers h
       → StandsIn p h.place
   reached-stands p q h s r =
       All-contains (λ x. StandsIn p x.place) (chain_at p q).headers h (chain_at-stand p q s).0
       (reached-contained (chain_at p q).headers h r)
 
+module _ (treat : Header → Endpoint → Endpoint) where
   -- ---- what comes of headers
 
-  -- what holds at the end where all headers are passed over, and at a header that is reached if it holds of what
-  -- comes of those behind it where it is passed over, holds of what comes of the headers
-  pub over-reached : (P : Endpoint → Type 0) (hs : List Header) (end : Endpoint)
-      → (All (IsPassed treat) hs → P end)
-      → ((h : Header) (rest : Endpoint) → IsReached treat hs h → (IsPassed treat h → P rest) → P (treat h rest))
+  -- what holds at the end where all headers are of a kind, and at a header that is reached if it holds of what
+  -- comes of those behind it where it is of that kind, holds of what comes of the headers
+  pub over-reached : (K : Header → Type 0) (P : Endpoint → Type 0) (hs : List Header) (end : Endpoint)
+      → (All K hs → P end)
+      → ((h : Header) (rest : Endpoint) → IsReached K hs h → (K h → P rest) → P (treat h rest))
       → P (over_headers treat hs end)
-  over-reached P [] end last each = last (All-nil (IsPassed treat))
-  over-reached P (h ∷ hs) end last each =
-      each h (over_headers treat hs end) (reached-first h hs)
-      (λ is. over-reached P hs end
-      (λ all. last (All-cons (IsPassed treat) h hs is all))
-      (λ k rest r more. each k rest (reached-behind h hs k is r) more))
+  over-reached K P [] end last each = last (All-nil K)
+  over-reached K P (h ∷ hs) end last each =
+      each h (over_headers treat hs end) (reached-first K h hs)
+      (λ is. over-reached K P hs end
+      (λ all. last (All-cons K h hs is all))
+      (λ k rest r more. each k rest (reached-behind K h hs k is r) more))
 
   -- behind headers that are passed over what comes of headers is what comes of those behind
   pub over-passed : (before after : List Header) (end : Endpoint) → All (IsPassed treat) before
@@ -69,28 +70,29 @@ module _ (treat : Header → Endpoint → Endpoint) where
       ap (λ hs. over_headers treat hs end) (sym (append-nil headers)) ∙ over-passed headers [] end all
 
   -- a header that decides and is reached decides what comes of the headers
-  pub over-decides : (headers : List Header) (h : Header) (end behind : Endpoint) → IsReached treat headers h → Decides treat h
+  pub over-decides : (headers : List Header) (h : Header) (end behind : Endpoint) → IsReached (IsPassed treat) headers h → Decides treat h
       → over_headers treat headers end ≡ treat h behind
   over-decides headers h end behind r decides =
       ap (λ hs. over_headers treat hs end) r.split
       ∙ over-passed r.before (h ∷ r.after) end r.passed
       ∙ decides (over_headers treat r.after end) behind
 
-  -- ---- the first header that is not passed over
+-- ---- the first header that is not of a kind
 
-  first-behind : (x : Header) (hs : List Header) → IsPassed treat x
-      → All (IsPassed treat) hs ⊎ ((h : Header) × IsReached treat hs h × Decides treat h)
-      → All (IsPassed treat) (x ∷ hs) ⊎ ((h : Header) × IsReached treat (x ∷ hs) h × Decides treat h)
-  first-behind x hs is (inl all) = inl (All-cons (IsPassed treat) x hs is all)
-  first-behind x hs is (inr (h, reached, decides)) = inr (h, reached-behind x hs h is reached, decides)
+module _ (K D : Header → Type 0) where
+  first-behind : (x : Header) (hs : List Header) → K x
+      → All K hs ⊎ ((h : Header) × IsReached K hs h × D h)
+      → All K (x ∷ hs) ⊎ ((h : Header) × IsReached K (x ∷ hs) h × D h)
+  first-behind x hs is (inl all) = inl (All-cons K x hs is all)
+  first-behind x hs is (inr (h, reached, decides)) = inr (h, reached-behind K x hs h is reached, decides)
 
-  -- where each header is passed over or decides, all are passed over, or there is a first that decides
-  pub first-there : (hs : List Header) → ((h : Header) → IsPassed treat h ⊎ Decides treat h)
-      → All (IsPassed treat) hs ⊎ ((h : Header) × IsReached treat hs h × Decides treat h)
-  first-there [] each = inl (All-nil (IsPassed treat))
+  -- where each header is of one kind or another, all are of the one, or there is a first of the other
+  pub first-there : (hs : List Header) → ((h : Header) → K h ⊎ D h)
+      → All K hs ⊎ ((h : Header) × IsReached K hs h × D h)
+  first-there [] each = inl (All-nil K)
   first-there (x ∷ hs) each = elim (each x) [
     | inl is ↦ first-behind x hs is (first-there hs each)
-    | inr decides ↦ inr (x, reached-first x hs, decides)
+    | inr decides ↦ inr (x, reached-first K x hs, decides)
   ]
 
 over-went_on : (treat : Header → Endpoint → Endpoint) (end : ChainEnd → Endpoint) (ext whole : Bool) (h : Header) (q : ChainPlace)

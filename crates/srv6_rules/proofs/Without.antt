@@ -36,7 +36,7 @@ module _ (a n : ℕ) (xs : List ℕ) (within : a + n ≤ length xs) where
       ∙ ap (λ i. drop i xs) high
 
 -- the first bytes of the first bytes
-take-front : (j a : ℕ) (xs : List ℕ) → j ≤ a → take j (take a xs) ≡ take j xs
+pub take-front : (j a : ℕ) (xs : List ℕ) → j ≤ a → take j (take a xs) ≡ take j xs
 take-front zero a xs h = refl
 take-front (suc j) zero xs h = absurd (omega arith)
 take-front (suc j) (suc a) [] h = refl
@@ -411,11 +411,10 @@ without-others p h = elim (cases_Bool (is_first h.place)) [
   | inr later ↦ rw later refl
 ]
 
--- the payload is shorter by the header
-pub without-length : (p : Packet) (h : Header) → LiesIn p h → length (without p h).payload + length h.bytes ≡ length p.payload
-without-length p h lies =
-    let start = lies.behind_header in
-    let within = lies.within in
+-- the payload is shorter by the header, of which the bytes are there
+pub without-room : (p : Packet) (h : Header) → header_len ≤ h.place.at → h.place.at + length h.bytes ≤ header_len + length p.payload
+    → length (without p h).payload + length h.bytes ≡ length p.payload
+without-room p h start within =
     let a : ℕ = h.place.at - header_len in
     let n : ℕ = length h.bytes in
     elim (cases_Bool (is_first h.place)) [
@@ -425,6 +424,9 @@ without-length p h lies =
           let len = length-set p.payload (h.place.named_at - header_len) (slice_index h.bytes 0) in
           ap (λ (x : Packet). length x.payload + n) (without-later p h later) ∙ length-cut a n ys (omega arith) ∙ len
     ]
+
+pub without-length : (p : Packet) (h : Header) → LiesIn p h → length (without p h).payload + length h.bytes ≡ length p.payload
+without-length p h lies = without-room p h lies.behind_header lies.within
 
 -- the bytes behind the header are those of the packet, so many places lower
 pub without-behind : (p : Packet) (h : Header) → LiesIn p h → StandsIn p h.place → (at : ℕ) → h.place.at + length h.bytes ≤ at
@@ -486,17 +488,16 @@ spellable-cut p next a n ys ok below all within len =
       payload = All-append P (take a ys) (drop (a + n) ys) (All-take P a ys all) (All-drop P (a + n) ys all);
     }
 
--- bytes can spell a packet without a header that lies in it
-pub without-spellable : (p : Packet) (h : Header) → IsSpellable p → LiesIn p h → IsSpellable (without p h)
-without-spellable p h ok lies =
+-- bytes can spell a packet without a header of bytes at a place of it
+pub without-bytes : (p : Packet) (h : Header) → IsSpellable p → header_len ≤ h.place.at
+    → h.place.at + length h.bytes ≤ header_len + length p.payload → All (λ b. b < 2 ^ 8) h.bytes → IsSpellable (without p h)
+without-bytes p h ok start within bytes =
     let P : ℕ → Type 0 = λ b. b < 2 ^ 8 in
     let S : Packet → Type 0 = λ x. IsSpellable x in
-    let start = lies.behind_header in
-    let within = lies.within in
     let a : ℕ = h.place.at - header_len in
     let n : ℕ = length h.bytes in
     let v : ℕ = slice_index h.bytes 0 in
-    let below : v < 2 ^ 8 = byte_below h.bytes 0 (lies-bytes p h lies ok.payload) in
+    let below : v < 2 ^ 8 = byte_below h.bytes 0 bytes in
     elim (cases_Bool (is_first h.place)) [
       | inl first ↦ subst S (sym (without-first p h first)) (spellable-cut p v a n p.payload ok below ok.payload (omega arith) refl)
       | inr later ↦
@@ -506,3 +507,6 @@ without-spellable p h ok lies =
           (spellable-cut p p.next_header a n (slice_set p.payload m v) ok ok.next_header (All-set P p.payload m v below ok.payload)
           (omega arith) len)
     ]
+
+pub without-spellable : (p : Packet) (h : Header) → IsSpellable p → LiesIn p h → IsSpellable (without p h)
+without-spellable p h ok lies = without-bytes p h ok lies.behind_header lies.within (lies-bytes p h lies ok.payload)

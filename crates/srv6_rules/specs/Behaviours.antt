@@ -105,8 +105,14 @@ behaviour_takes_flavours (B6Red policy) = false
 abbrev pub goes_on : SidEntry → Bool
 goes_on s = behaviour_goes_on s.behaviour
 
+-- a packet inside a packet, of either family
+abbrev pub is_packet_inside : ℕ → Bool
+is_packet_inside kind = (kind == ipv6_inside) || (kind == ipv4_inside)
+
+-- a SID exposes the packet inside that its behaviour exposes, and with USD a packet of either family (RFC 8986 section
+-- 4.16.3)
 abbrev pub exposes : SidEntry → ℕ → Bool
-exposes s kind = behaviour_exposes s.behaviour kind
+exposes s kind = behaviour_exposes s.behaviour kind || (s.usd && is_packet_inside kind)
 
 -- ---- what nodes run so far: plain End, End.X and End.DT6 without flavours
 

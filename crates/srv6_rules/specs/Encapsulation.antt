@@ -59,6 +59,24 @@ outer e inner left hop destination =
       payload = if has_segment_routing e then srh_spelling (segment_routing_of e left) ++ inner else inner;
     }
 
+-- the same packet once its segment routing header is taken out: the IPv6 header names the packet inside (RFC 8986 section
+-- 4.16.1)
+abbrev pub bare : Encapsulation → List ℕ → ℕ → ℕ → Packet
+bare e inner hop destination =
+    record {
+      traffic_class = e.traffic_class;
+      flow_label = e.flow_label;
+      next_header = ipv6_inside;
+      hop_limit = hop;
+      source = e.source;
+      destination = destination;
+      payload = inner;
+    }
+
+-- where the packet inside stands then
+abbrev pub bare_place : ChainPlace
+bare_place = record { at = header_len; kind = ipv6_inside; named_at = NEXT_HEADER_AT }
+
 -- the packet while the segment at a place counted from 0 is the active one: the destination is that segment, and
 -- Segments Left counts the segments behind it
 abbrev pub at_segment : Encapsulation → List ℕ → ℕ → ℕ → Packet

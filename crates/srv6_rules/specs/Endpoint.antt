@@ -1,6 +1,6 @@
--- What a node does with a packet that came to one of its SIDs or to its own address: RFC 8986 sections 4.1, 4.2
--- and 4.6 with the processing of RFC 8754 section 4.3.1.1, and RFC 8200 section 4.4 at an address.
-use Rattle.std.specs.Prelude.{◌≡◌, ◌≢◌, ◌⊎◌, ℕ, ◌+◌, ◌-◌, ◌<◌, ◌≤◌, Bool, true, ◌==◌, ◌||◌, nat_lt, nat_le, if◌then◌else◌, List, [], ◌∷◌, ◌++◌, length, slice_index, slice_set, All, Option, Some, None}
+-- What a node does with a packet that came to one of its SIDs or to its own address: RFC 8986 sections 4.1 to 4.8 with the
+-- flavours of section 4.16 and the processing of RFC 8754 section 4.3.1.1, and RFC 8200 section 4.4 at an address.
+use Rattle.std.specs.Prelude.{◌≡◌, ◌≢◌, ◌⊎◌, ℕ, ◌+◌, ◌-◌, ◌<◌, ◌≤◌, Bool, true, ◌==◌, ◌&&◌, ◌||◌, nat_lt, nat_le, if◌then◌else◌, List, [], ◌∷◌, ◌++◌, length, take, slice_index, slice_set, All, Option, Some, None}
 use Rattle.std.specs.List.{list_any}
 use Rattle.srv6_rules.specs.declared.numbers.TheConstants.{HOP_LIMIT_AT, DESTINATION_AT}
 use Rattle.srv6_rules.specs.declared.sid.Family.{Family}
@@ -12,7 +12,7 @@ use Rattle.srv6_rules.specs.Behaviours.{goes_on, exposes, ipv6_inside, ipv4_insi
 use Rattle.srv6_rules.specs.Packet.{Packet, header_len}
 use Rattle.srv6_rules.specs.Srh.{Srh, srh_of, entries_of, entry_of, segments_left_at, routing_type_at}
 use Rattle.srv6_rules.specs.Areas.{Fault, options_fault, tlvs_fault}
-use Rattle.srv6_rules.specs.Chain.{ChainPlace, Header, ChainEnd, Upper, Cut, Chain, LiesIn, hop_by_hop, fragment, destination_options, is_first, segments_left, is_segment_routing, from_place, chain_of}
+use Rattle.srv6_rules.specs.Chain.{ChainPlace, Header, ChainEnd, Upper, Cut, Chain, LiesIn, hop_by_hop, fragment, destination_options, is_first, segments_left, is_segment_routing, from_place, chain_of, without}
 
 -- what came of a packet at a SID or an address: it goes on with another destination; the packet inside it, of a family
 -- and with the bytes from there on, is exposed; it is handed to the upper layer here; or it is dropped, for a fault at a
@@ -65,13 +65,41 @@ next_segment p at s =
     else if has_bad_segments s then Refused reasons.BadSegments (at + segments_left_at)
     else unless_fault (tlvs_fault at s) (Onward (advanced p at s))
 
+-- ---- headers that are taken out
+
+-- a header with the bytes that stand at its place in a packet
+abbrev pub as_in : Packet → Header → Header
+as_in q h = record { place = h.place; bytes = take (length h.bytes) (from_place q h.place.at) }
+
+-- an outcome without a header: it is taken out of the packet that goes on or is handed over. What is exposed has none of the
+-- headers in front of it, and a fault has its place in the packet as it came
+abbrev pub outcome_without : Header → Endpoint → Endpoint
+outcome_without h (Onward q) = Onward (without q (as_in q h))
+outcome_without h (Exposed family bytes) = Exposed family bytes
+outcome_without h (Delivered q) = Delivered (without q (as_in q h))
+outcome_without h (Refused reason at) = Refused reason at
+
+-- the step over a segment routing header leaves no segment
+abbrev pub leaves_none : Srh → Bool
+leaves_none s = s.segments_left == 1
+
+-- the outcome of the step over a segment routing header: a SID with PSP takes that header out where Segments Left becomes 0
+-- (RFC 8986 section 4.16.1)
+abbrev pub after_step : SidEntry → Header → Endpoint → Endpoint
+after_step s h stepped = if s.psp && leaves_none (srh_of h.bytes) then outcome_without h stepped else stepped
+
+-- the outcome behind a segment routing header with no segments left: a SID with USP takes that header out (RFC 8986 section
+-- 4.16.2)
+abbrev pub after_last : SidEntry → Header → Endpoint → Endpoint
+after_last s h behind = if s.usp then outcome_without h behind else behind
+
 -- a segment routing header at a SID: with no segments left it is passed over; a SID that goes on takes the step over it,
 -- and before another one no segments may be left
-abbrev pub at_segment_routing : SidEntry → Packet → ℕ → Srh → Endpoint → Endpoint
-at_segment_routing s p at srh behind =
-    if srh.segments_left == 0 then behind
-    else if goes_on s then next_segment p at srh
-    else Refused reasons.BadSegments (at + segments_left_at)
+abbrev pub at_segment_routing : SidEntry → Packet → Header → Endpoint → Endpoint
+at_segment_routing s p h behind =
+    if segments_left h == 0 then after_last s h behind
+    else if goes_on s then after_step s h (next_segment p h.place.at (srh_of h.bytes))
+    else Refused reasons.BadSegments (h.place.at + segments_left_at)
 
 -- a routing header that the node does not know: with no segments left it is passed over (RFC 8200 section 4.4)
 abbrev pub unknown_routing : Header → Endpoint → Endpoint
@@ -94,7 +122,7 @@ at_header_by at_routing h behind =
 -- a routing header at a SID
 abbrev pub at_sid_routing : SidEntry → Packet → Header → Endpoint → Endpoint
 at_sid_routing s p h behind =
-    if is_segment_routing h then at_segment_routing s p h.place.at (srh_of h.bytes) behind else unknown_routing h behind
+    if is_segment_routing h then at_segment_routing s p h behind else unknown_routing h behind
 
 abbrev pub at_header : SidEntry → Packet → Header → Endpoint → Endpoint
 at_header s p h behind = at_header_by (at_sid_routing s p) h behind
@@ -133,19 +161,30 @@ IsPassed treat h = (behind : Endpoint) → treat h behind ≡ behind
 abbrev pub Decides : (Header → Endpoint → Endpoint) → Header → Type 0
 Decides treat h = (one two : Endpoint) → treat h one ≡ treat h two
 
--- a header stands in a chain behind headers that are passed over
-pub record IsReached (treat : Header → Endpoint → Endpoint) (headers : List Header) (h : Header) : Type 0 where
+-- a header stands in a chain behind headers of a kind
+pub record IsReached (K : Header → Type 0) (headers : List Header) (h : Header) : Type 0 where
   pub before : List Header
   pub after : List Header
   pub split : headers ≡ before ++ h ∷ after
-  pub passed : All (IsPassed treat) before
+  pub passed : All K before
 
--- a packet that goes on from a SID after the step over a segment routing header behind headers that are passed over: the hop
+-- a header is taken out at a SID with USP: a segment routing header with no segments left
+pub record IsTakenOut (s : SidEntry) (p : Packet) (h : Header) : Type 0 where
+  pub usp : s.usp ≡ true
+  pub routing : is_segment_routing h ≡ true
+  pub none_left : segments_left h ≡ 0
+  pub taken_out : (behind : Endpoint) → at_header s p h behind ≡ outcome_without h behind
+
+-- a header does not decide at a SID: it is passed over, or taken out besides
+abbrev pub IsSkipped : SidEntry → Packet → Header → Type 0
+IsSkipped s p h = IsPassed (at_header s p) h ⊎ IsTakenOut s p h
+
+-- the packet after the step over a segment routing header behind headers that are passed over at a SID: the hop
 -- limit is one lower, Segments Left is one lower, the destination is that entry, and all else is as it was
 pub record StepsTo (s : SidEntry) (p q : Packet) : Type 0 where
   pub header : Header
   pub left : ℕ
-  pub reached : IsReached (at_header s p) (chain_of p).headers header
+  pub reached : IsReached (IsPassed (at_header s p)) (chain_of p).headers header
   pub routing : is_segment_routing header ≡ true
   pub lies : LiesIn p header
   pub above_one : 1 < p.hop_limit
@@ -155,6 +194,13 @@ pub record StepsTo (s : SidEntry) (p q : Packet) : Type 0 where
   pub destination : q.destination ≡ entry_of (srh_of header.bytes) left
   pub payload : q.payload ≡ slice_set p.payload (header.place.at + segments_left_at - header_len) left
   pub others : q ≡ record p { hop_limit = q.hop_limit; destination = q.destination; payload = q.payload }
+
+-- a packet that goes on from a SID without USP: it took the step, and with PSP, where no segments are left, its segment
+-- routing header is taken out
+pub record StepsWithPsp (s : SidEntry) (p q : Packet) : Type 0 where
+  pub stepped : Packet
+  pub step : StepsTo s p stepped
+  pub popped : q ≡ (if s.psp && (step.left == 0) then without stepped (as_in stepped step.header) else stepped)
 
 -- bytes before and after a step: the hop limit and one byte behind the IPv6 header are one lower, and but for these and
 -- the destination, the IPv6 header's last bytes, each byte is as it was
@@ -168,12 +214,12 @@ pub record ChangesFewBytes (before after : List ℕ) : Type 0 where
   pub same : (k : ℕ) → k ≢ HOP_LIMIT_AT → k ≢ place → (k < DESTINATION_AT) ⊎ (header_len ≤ k)
       → slice_index after k ≡ slice_index before k
 
--- the packet inside that a SID exposes: the upper layer, behind headers that are all passed over, is one that the SID
+-- the packet inside that a SID exposes: the upper layer, behind headers that are all passed over or taken out, is one that the SID
 -- exposes, and the bytes are those of the packet from there on
 pub record ExposesFrom (s : SidEntry) (p : Packet) (family : Family) (bytes : List ℕ) : Type 0 where
   pub place : ChainPlace
   pub upper : (chain_of p).end ≡ Upper place
-  pub passed : All (IsPassed (at_header s p)) (chain_of p).headers
+  pub passed : All (IsSkipped s p) (chain_of p).headers
   pub exposed : exposes s place.kind ≡ true
   pub is_family : ((place.kind ≡ ipv6_inside) × (family ≡ families.V6))
       ⊎ ((place.kind ≡ ipv4_inside) × (family ≡ families.V4))

@@ -1,14 +1,14 @@
 //! Laws of encapsulation, each the contract of a function that does nothing.
 
-ghost use Rattle.std.specs.Prelude.{◌≡◌, ◌<◌, ◌≤◌, ◌+◌, ◌-◌, ◌*◌, ◌^◌, Bool, true, false, if◌then◌else◌, List, [], ℕ, ◌∷◌, ◌++◌, length, drop, reverse, slice_index, slice_set, flat_map, All};
+ghost use Rattle.std.specs.Prelude.{◌≡◌, ◌⊎◌, ◌<◌, ◌≤◌, ◌+◌, ◌-◌, ◌*◌, ◌^◌, Bool, true, false, if◌then◌else◌, List, [], ℕ, ◌∷◌, ◌++◌, length, drop, reverse, slice_index, slice_set, flat_map, All};
 ghost use Rattle.srv6_rules.specs.Behaviours.{ipv6_inside, goes_on, exposes};
 ghost use Rattle.srv6_rules.specs.Chain.{Upper, routing, from_place, chain_of};
-ghost use Rattle.srv6_rules.specs.Encapsulation.{Encapsulation, IsSpellableEncapsulation, segment_list, has_segment_routing, segment_routing_of, header_of, inner_place, outer, at_segment, pushed, header_bytes, inner_lowered, encapsulated};
-ghost use Rattle.srv6_rules.specs.Endpoint.{Onward, Exposed, Refused, upper_layer, at_sid};
+ghost use Rattle.srv6_rules.specs.Encapsulation.{Encapsulation, IsSpellableEncapsulation, segment_list, has_segment_routing, segment_routing_of, header_of, inner_place, outer, at_segment, bare, bare_place, pushed, header_bytes, inner_lowered, encapsulated};
+ghost use Rattle.srv6_rules.specs.Endpoint.{Onward, Exposed, Delivered, Refused, is_allowed, upper_layer, at_sid};
 ghost use Rattle.srv6_rules.specs.Packet.{Packet, V6 as V6Content, IsSpellable, most_len, header_len, spelling, read_as, address_bytes};
 ghost use Rattle.srv6_rules.specs.Srh.{srh_spelling, segments_left_at};
 ghost use Rattle.srv6_rules.specs.declared.sid.Family.TheVariants.{V6};
-ghost use Rattle.srv6_rules.specs.declared.sid.Reason.TheVariants.{HopLimit, BadSegments};
+ghost use Rattle.srv6_rules.specs.declared.sid.Reason.TheVariants.{HopLimit, BadSegments, UpperLayer};
 ghost use Rattle.srv6_rules.specs.declared.sid.SidEntry.{SidEntry};
 
 /// A packet as it is made has its first segment active, which is its destination, and as many
@@ -72,32 +72,54 @@ pub fn outer_packet_has_its_chain()
         → (inner_place e).at ≡ header_bytes e.reduced (length e.segments) }
 {}
 
-/// A SID that goes on, as End and End.X do, makes at a segment that is not the last the next
+/// A SID that goes on, as End, End.X and End.T do, makes at a segment that is not the last the next
 /// segment the active one and lowers the hop limit by one; a hop limit of at most 1 is refused. So
-/// it is in both forms, with any allowed upper layers and any inner bytes (RFC 8754 section
-/// 4.3.1.1, RFC 8986 sections 4.1 and 4.2).
+/// it is in both forms, with any allowed upper layers and any inner bytes. With PSP the segment
+/// routing header is taken out on the way to the last segment, and on no other (RFC 8754 section
+/// 4.3.1.1, RFC 8986 sections 4.1 to 4.3 and 4.16.1).
 pub fn end_goes_on_to_the_next_segment()
     ensures onward { (s : SidEntry) (allow : List ℕ) (e : Encapsulation) (inner : List ℕ)
-        (i hop : ℕ) → goes_on s ≡ true → i + 1 < length e.segments
-        → All (λ a. a < 2 ^ 128) e.segments → 1 < hop
+        (i hop : ℕ) → goes_on s ≡ true → (s.psp ≡ false) ⊎ (i + 2 < length e.segments)
+        → i + 1 < length e.segments → All (λ a. a < 2 ^ 128) e.segments → 1 < hop
         → at_sid s allow (at_segment e inner i hop)
         ≡ Onward (at_segment e inner (i + 1) (hop - 1)) }
+    ensures psp { (s : SidEntry) (allow : List ℕ) (e : Encapsulation) (inner : List ℕ)
+        (i hop : ℕ) → goes_on s ≡ true → s.psp ≡ true → i + 2 ≡ length e.segments
+        → All (λ a. a < 2 ^ 128) e.segments → 1 < hop
+        → at_sid s allow (at_segment e inner i hop)
+        ≡ Onward (bare e inner (hop - 1) (slice_index e.segments (i + 1))) }
     ensures hop_limit { (s : SidEntry) (allow : List ℕ) (e : Encapsulation) (inner : List ℕ)
         (i hop : ℕ) → goes_on s ≡ true → i + 1 < length e.segments → hop ≤ 1
         → at_sid s allow (at_segment e inner i hop) ≡ Refused HopLimit 0 }
 {}
 
-/// At the last segment a SID that does not expose IPv6 packets, as End and End.X, has the packet
-/// inside as an upper layer, and one that does, as End.DT6, exposes the inner bytes; those of a
-/// packet whose spelling was put in read as that packet (RFC 8986 sections 4.1, 4.2 and 4.6).
+/// At the last segment a SID that does not expose IPv6 packets, as End, End.X and End.T without
+/// USD, has the packet inside as an upper layer, with USP without the segment routing header; and
+/// one that does, as End.DT6, exposes the inner bytes; those of a packet whose spelling was put in
+/// read as that packet. So it is too where the header was taken out on the way (RFC 8986 sections
+/// 4.1 to 4.6 and 4.16).
 pub fn last_segment_has_the_packet_inside()
     ensures upper_layer { (s : SidEntry) (allow : List ℕ) (e : Encapsulation) (inner : List ℕ)
-        (i hop : ℕ) → exposes s ipv6_inside ≡ false → i + 1 ≡ length e.segments
+        (i hop : ℕ) → s.usp ≡ false → exposes s ipv6_inside ≡ false → i + 1 ≡ length e.segments
         → at_sid s allow (at_segment e inner i hop)
         ≡ upper_layer allow (at_segment e inner i hop) (inner_place e) }
+    ensures usp { (s : SidEntry) (allow : List ℕ) (e : Encapsulation) (inner : List ℕ)
+        (i hop : ℕ) → s.usp ≡ true → has_segment_routing e ≡ true → exposes s ipv6_inside ≡ false
+        → i + 1 ≡ length e.segments
+        → at_sid s allow (at_segment e inner i hop)
+        ≡ (if is_allowed allow ipv6_inside
+        then Delivered (bare e inner hop (slice_index e.segments i))
+        else Refused UpperLayer (inner_place e).at) }
     ensures exposed { (s : SidEntry) (allow : List ℕ) (e : Encapsulation) (inner : List ℕ)
         (i hop : ℕ) → exposes s ipv6_inside ≡ true → i + 1 ≡ length e.segments
         → at_sid s allow (at_segment e inner i hop) ≡ Exposed V6 inner }
+    ensures bare_upper_layer { (s : SidEntry) (allow : List ℕ) (e : Encapsulation)
+        (inner : List ℕ) (hop destination : ℕ) → exposes s ipv6_inside ≡ false
+        → at_sid s allow (bare e inner hop destination)
+        ≡ upper_layer allow (bare e inner hop destination) bare_place }
+    ensures bare_exposed { (s : SidEntry) (allow : List ℕ) (e : Encapsulation) (inner : List ℕ)
+        (hop destination : ℕ) → exposes s ipv6_inside ≡ true
+        → at_sid s allow (bare e inner hop destination) ≡ Exposed V6 inner }
     ensures packet { (p : Packet) → IsSpellable p → read_as V6 (spelling p) ≡ V6Content p }
 {}
 

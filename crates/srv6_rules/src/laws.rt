@@ -1,11 +1,11 @@
 //! Laws about the definitions, each the contract of a function that does nothing.
 
 ghost use Rattle.std.specs.Prelude.{◌≡◌, ◌≢◌, ◌⊎◌, ◌↔◌, ◌<◌, ◌≤◌, ◌+◌, ◌-◌, ◌*◌, ◌^◌, true, false, if◌then◌else◌, List, [], ℕ, ◌∷◌, ◌++◌, length, take, drop, slice_index, slice_set, All, flat_map, Contains, Option, Some, None};
-ghost use Rattle.srv6_rules.specs.Behaviours.{ipv6_inside, ipv4_inside, goes_on, exposes, is_built};
+ghost use Rattle.srv6_rules.specs.Behaviours.{ipv6_inside, ipv4_inside, is_packet_inside, goes_on, exposes, is_built};
 ghost use Rattle.srv6_rules.specs.declared.numbers.TheConstants.{NEXT_HEADER_AT, PAD1, HMAC, OPTIONS_AT, SEGMENT_LIST_AT, SEGMENT_LEN};
 ghost use Rattle.srv6_rules.specs.Areas.{Fault, item_bytes, first_of, area_fault, option_fault, options_fault, tlv_fault, tlvs_fault};
 ghost use Rattle.srv6_rules.specs.Chain.{ChainPlace, Header, ChainEnd, Upper, Cut, LiesIn, StandsIn, EndsIn, Follow, is_extension, hop_by_hop, routing, fragment, destination_options, is_first, is_whole, extension_bytes, header_in, behind_in, behind, place_of, place_behind, without, lowered, renamed, in_front, start_of, chain_of, chain_at, from_place, segments_left, is_segment_routing};
-ghost use Rattle.srv6_rules.specs.Endpoint.{Endpoint, Onward, Exposed, Delivered, Refused, StepsTo, ChangesFewBytes, ExposesFrom, IsPassed, IsReached, Decides, next_segment, over_headers, over_chain, at_header_by, at_header, at_sid, at_address_header, at_address};
+ghost use Rattle.srv6_rules.specs.Endpoint.{Endpoint, Onward, Exposed, Delivered, Refused, StepsTo, StepsWithPsp, ChangesFewBytes, ExposesFrom, IsPassed, IsTakenOut, IsSkipped, IsReached, Decides, outcome_without, next_segment, over_headers, over_chain, at_header_by, at_header, at_sid, at_address_header, at_address};
 ghost use Rattle.srv6_rules.specs.Packet.{Packet, V6, Unreadable, IsSpellable, IsContent, Spells, spelling, content_of, read_as, entered, bytes_of, header_len, stated_len, packet_at, two_bytes, four_bytes, first_word, address_bytes, two_number, four_number, address_number};
 ghost use Rattle.srv6_rules.specs.Srh.{Srh, IsSrhSpellable, srh_of, srh_spelling, segment_routing, segments_left_at, routing_type_at};
 ghost use Rattle.srv6_rules.specs.declared.sid.Behaviour.TheVariants.{End, EndX, EndT, Dx6, Dx4, Dt6, Dt4, Dt46, B6, B6Red};
@@ -366,19 +366,25 @@ pub fn headers_that_are_passed_over_change_nothing()
 {}
 
 /// At a SID and at an address each header is passed over, or decides: then what stands behind it
-/// makes no difference. So the first header that is not passed over decides the outcome, and where
-/// there is none the chain's end does (RFC 8200 section 4, RFC 8754 section 4.3.1.1).
+/// makes no difference; at a SID with USP one may be taken out besides. So the first header that is
+/// neither passed over nor taken out decides the outcome, and where there is none the chain's end
+/// does (RFC 8200 section 4, RFC 8754 section 4.3.1.1, RFC 8986 section 4.16.2).
 pub fn first_header_that_is_not_passed_over_decides()
     ensures at_sid { (s : SidEntry) (p : Packet) (h : Header)
+        → IsSkipped s p h ⊎ Decides (at_header s p) h }
+    ensures without_usp { (s : SidEntry) (p : Packet) (h : Header) → s.usp ≡ false
         → IsPassed (at_header s p) h ⊎ Decides (at_header s p) h }
     ensures at_address { (h : Header)
         → IsPassed at_address_header h ⊎ Decides at_address_header h }
     ensures first { (treat : Header → Endpoint → Endpoint) (headers : List Header)
         → ((h : Header) → IsPassed treat h ⊎ Decides treat h)
         → All (IsPassed treat) headers
-        ⊎ ((h : Header) × IsReached treat headers h × Decides treat h) }
+        ⊎ ((h : Header) × IsReached (IsPassed treat) headers h × Decides treat h) }
+    ensures first_at_sid { (s : SidEntry) (p : Packet) (headers : List Header)
+        → All (IsSkipped s p) headers
+        ⊎ ((h : Header) × IsReached (IsSkipped s p) headers h × Decides (at_header s p) h) }
     ensures decides { (treat : Header → Endpoint → Endpoint) (headers : List Header) (h : Header)
-        (end behind : Endpoint) → IsReached treat headers h → Decides treat h
+        (end behind : Endpoint) → IsReached (IsPassed treat) headers h → Decides treat h
         → over_headers treat headers end ≡ treat h behind }
 {}
 
@@ -403,16 +409,27 @@ pub fn header_is_passed_over_or_refused_by_its_kind()
         → h.place.kind ≡ fragment → at_header_by route h rest ≡ Refused Fragment h.place.at }
 {}
 
-/// A routing header with no segments left is passed over, whatever its type. One with segments
-/// left: a SID that goes on takes the step over a segment routing header, another SID refuses it
-/// for Segments Left, and any other routing header is unknown; at an address every one is (RFC 8754
-/// section 4.3.1.1, RFC 8986 sections 4.1, 4.2 and 4.6, RFC 8200 section 4.4).
+/// A routing header with no segments left is passed over, whatever its type; a segment routing
+/// header is then taken out besides at a SID with USP, and only there. One with segments left: a
+/// SID that goes on takes the step over a segment routing header, and with PSP takes it out exactly
+/// where one segment was left, so that Segments Left becomes 0; another SID refuses it for Segments
+/// Left, and any other routing header is unknown; at an address every one is (RFC 8754 section
+/// 4.3.1.1, RFC 8986 sections 4.1 to 4.8, 4.16.1 and 4.16.2, RFC 8200 section 4.4).
 pub fn routing_header_is_passed_over_stepped_over_or_refused()
-    ensures passed { (s : SidEntry) (p : Packet) (h : Header) → h.place.kind ≡ routing
-        → segments_left h ≡ 0 → IsPassed (at_header s p) h }
+    ensures passed { (s : SidEntry) (p : Packet) (h : Header) → s.usp ≡ false
+        → h.place.kind ≡ routing → segments_left h ≡ 0 → IsPassed (at_header s p) h }
+    ensures passed_other { (s : SidEntry) (p : Packet) (h : Header) → h.place.kind ≡ routing
+        → is_segment_routing h ≡ false → segments_left h ≡ 0 → IsPassed (at_header s p) h }
+    ensures usp { (s : SidEntry) (p : Packet) (h : Header) → s.usp ≡ true
+        → is_segment_routing h ≡ true → segments_left h ≡ 0 → IsTakenOut s p h }
     ensures steps { (s : SidEntry) (p : Packet) (h : Header) (rest : Endpoint)
         → is_segment_routing h ≡ true → 0 < segments_left h → goes_on s ≡ true
+        → (s.psp ≡ false) ⊎ (1 < segments_left h)
         → at_header s p h rest ≡ next_segment p h.place.at (srh_of h.bytes) }
+    ensures psp { (s : SidEntry) (p : Packet) (h : Header) (rest : Endpoint)
+        → is_segment_routing h ≡ true → segments_left h ≡ 1 → goes_on s ≡ true → s.psp ≡ true
+        → at_header s p h rest
+        ≡ outcome_without h (next_segment p h.place.at (srh_of h.bytes)) }
     ensures refuses { (s : SidEntry) (p : Packet) (h : Header) (rest : Endpoint)
         → is_segment_routing h ≡ true → 0 < segments_left h → goes_on s ≡ false
         → at_header s p h rest ≡ Refused BadSegments (h.place.at + segments_left_at) }
@@ -430,13 +447,16 @@ pub fn routing_header_is_passed_over_stepped_over_or_refused()
 /// (RFC 8200 section 4).
 pub fn header_that_is_reached_is_in_the_packet()
     ensures contained { (treat : Header → Endpoint → Endpoint) (headers : List Header) (h : Header)
-        → IsReached treat headers h → Contains headers h }
+        → IsReached (IsPassed treat) headers h → Contains headers h }
     ensures lies { (treat : Header → Endpoint → Endpoint) (p : Packet) (place : ChainPlace)
-        (h : Header) → header_len ≤ place.at → IsReached treat (chain_at p place).headers h
-        → LiesIn p h }
+        (h : Header) → header_len ≤ place.at
+        → IsReached (IsPassed treat) (chain_at p place).headers h → LiesIn p h }
     ensures stands { (treat : Header → Endpoint → Endpoint) (p : Packet) (place : ChainPlace)
-        (h : Header) → StandsIn p place → IsReached treat (chain_at p place).headers h
+        (h : Header) → StandsIn p place → IsReached (IsPassed treat) (chain_at p place).headers h
         → StandsIn p h.place }
+    ensures at_sid { (s : SidEntry) (p : Packet) (place : ChainPlace) (h : Header)
+        → StandsIn p place → IsReached (IsSkipped s p) (chain_at p place).headers h
+        → Contains (chain_at p place).headers h × LiesIn p h × StandsIn p h.place }
 {}
 
 /// How the outcome goes on from each place of a packet: at an upper layer, and at a header that is
@@ -454,24 +474,27 @@ pub fn outcome_goes_on()
         else end (Upper place)) }
 {}
 
-/// Which behaviours go on to the next segment, and which expose the packet inside: End, End.X,
-/// End.T, End.B6.Encaps and its reduced form go on; End.DX6, End.DT6 and End.DT46 expose an IPv6
-/// packet, End.DX4, End.DT4 and End.DT46 an IPv4 packet, and nothing else exposes anything (RFC
-/// 8986 sections 4.1 to 4.8, 4.13 and 4.14).
+/// Which SIDs go on to the next segment, and which expose the packet inside: End, End.X, End.T,
+/// End.B6.Encaps and its reduced form go on; End.DX6, End.DT6 and End.DT46 expose an IPv6 packet,
+/// End.DX4, End.DT4 and End.DT46 an IPv4 packet, a SID with USD a packet of either family, and
+/// nothing else exposes anything (RFC 8986 sections 4.1 to 4.8, 4.13, 4.14 and 4.16.3).
 pub fn behaviours_go_on_or_expose()
     ensures goes_on { (s : SidEntry) → (goes_on s ≡ true) ↔ ((s.behaviour ≡ End)
         ⊎ ((s.behaviour ≡ EndX) ⊎ (((table : ℕ) × (s.behaviour ≡ EndT table))
         ⊎ (((policy : ℕ) × (s.behaviour ≡ B6 policy))
         ⊎ ((policy : ℕ) × (s.behaviour ≡ B6Red policy)))))) }
-    ensures ipv6 { (s : SidEntry) → (exposes s ipv6_inside ≡ true) ↔ ((s.behaviour ≡ Dx6)
+    ensures ipv6 { (s : SidEntry) → (exposes s ipv6_inside ≡ true) ↔ (((s.behaviour ≡ Dx6)
         ⊎ (((table : ℕ) × (s.behaviour ≡ Dt6 table))
-        ⊎ ((table : ℕ) × (s.behaviour ≡ Dt46 table)))) }
-    ensures ipv4 { (s : SidEntry) → (exposes s ipv4_inside ≡ true) ↔ ((s.behaviour ≡ Dx4)
+        ⊎ ((table : ℕ) × (s.behaviour ≡ Dt46 table)))) ⊎ (s.usd ≡ true)) }
+    ensures ipv4 { (s : SidEntry) → (exposes s ipv4_inside ≡ true) ↔ (((s.behaviour ≡ Dx4)
         ⊎ (((table : ℕ) × (s.behaviour ≡ Dt4 table))
-        ⊎ ((table : ℕ) × (s.behaviour ≡ Dt46 table)))) }
+        ⊎ ((table : ℕ) × (s.behaviour ≡ Dt46 table)))) ⊎ (s.usd ≡ true)) }
     ensures kinds { (s : SidEntry) (kind : ℕ) → exposes s kind ≡ true
         → (kind ≡ ipv6_inside) ⊎ (kind ≡ ipv4_inside) }
-    ensures one { (s : SidEntry) (kind : ℕ) → goes_on s ≡ true → exposes s kind ≡ false }
+    ensures one { (s : SidEntry) (kind : ℕ) → goes_on s ≡ true → s.usd ≡ false
+        → exposes s kind ≡ false }
+    ensures usd { (s : SidEntry) (kind : ℕ) → goes_on s ≡ true → s.usd ≡ true
+        → exposes s kind ≡ is_packet_inside kind }
 {}
 
 /// Nodes run so far the SIDs of End, End.X and End.DT6 that are not compressed and have no flavours
@@ -482,18 +505,32 @@ pub fn plain_sids_are_built()
         ⊎ ((table : ℕ) × (s.behaviour ≡ Dt6 table)))))))) }
 {}
 
-/// A packet that goes on from a SID has taken the step over a segment routing header: the hop limit
-/// was above 1 and is one lower, Segments Left is one lower, the destination is that entry, and all
-/// else is as it was. It stays a packet that bytes can spell, and its bytes are as they were but
-/// for byte 7, bytes 24 to 39 and the byte of Segments Left (RFC 8754 section 4.3.1.1, RFC 8986
-/// sections 4.1 and 4.2).
-pub fn onward_is_one_step()
-    ensures step { (s : SidEntry) (allow : List ℕ) (p q : Packet) → at_sid s allow p ≡ Onward q
-        → StepsTo s p q }
+/// A packet that goes on from a SID, whichever its flavours, had a hop limit above 1 and has one
+/// lower by one, has its traffic class, flow label and source as they were, and stays a packet that
+/// bytes can spell (RFC 8754 section 4.3.1.1, RFC 8986 sections 4.1 to 4.3).
+pub fn onward_lowers_the_hop_limit_by_one()
+    ensures hop_limit { (s : SidEntry) (allow : List ℕ) (p q : Packet)
+        → at_sid s allow p ≡ Onward q
+        → (1 < p.hop_limit) × (p.hop_limit ≡ q.hop_limit + 1) }
+    ensures fields { (s : SidEntry) (allow : List ℕ) (p q : Packet) → at_sid s allow p ≡ Onward q
+        → (q.traffic_class ≡ p.traffic_class) × ((q.flow_label ≡ p.flow_label)
+        × (q.source ≡ p.source)) }
     ensures spellable { (s : SidEntry) (allow : List ℕ) (p q : Packet) → IsSpellable p
         → at_sid s allow p ≡ Onward q → IsSpellable q }
-    ensures bytes { (s : SidEntry) (allow : List ℕ) (p q : Packet) → at_sid s allow p ≡ Onward q
-        → ChangesFewBytes (spelling p) (spelling q) }
+{}
+
+/// A packet that goes on from a SID without PSP and USP has taken the step over a segment routing
+/// header: the hop limit was above 1 and is one lower, Segments Left is one lower, the destination
+/// is that entry, and all else is as it was; its bytes are as they were but for byte 7, bytes 24 to
+/// 39 and the byte of Segments Left. With PSP the same header is taken out then exactly where
+/// Segments Left became 0 (RFC 8754 section 4.3.1.1, RFC 8986 sections 4.1 to 4.3 and 4.16.1).
+pub fn onward_is_one_step()
+    ensures step { (s : SidEntry) (allow : List ℕ) (p q : Packet) → s.psp ≡ false → s.usp ≡ false
+        → at_sid s allow p ≡ Onward q → StepsTo s p q }
+    ensures bytes { (s : SidEntry) (allow : List ℕ) (p q : Packet) → s.psp ≡ false → s.usp ≡ false
+        → at_sid s allow p ≡ Onward q → ChangesFewBytes (spelling p) (spelling q) }
+    ensures psp { (s : SidEntry) (allow : List ℕ) (p q : Packet) → s.usp ≡ false
+        → at_sid s allow p ≡ Onward q → StepsWithPsp s p q }
 {}
 
 /// Decapsulation changes no byte: what is exposed are the packet's bytes from the place of the
@@ -516,11 +553,17 @@ pub fn decapsulation_changes_no_byte()
         → read_as family (bytes_of (read_as family bytes)) ≡ read_as family bytes }
 {}
 
-/// A packet that is handed to the upper layer is as it was; at an address no packet goes on and
-/// none is exposed (RFC 8754 section 4.3.1.1, RFC 8986 section 4.1.1).
+/// A packet that is handed to the upper layer is as it was, but that USP takes out its segment
+/// routing headers: its next header and its payload alone are others then, and it stays a packet
+/// that bytes can spell. At an address no packet goes on and none is exposed (RFC 8754 section
+/// 4.3.1.1, RFC 8986 sections 4.1.1 and 4.16.2).
 pub fn delivered_packet_is_as_it_was()
-    ensures at_sid { (s : SidEntry) (allow : List ℕ) (p q : Packet) → at_sid s allow p ≡ Delivered q
-        → q ≡ p }
+    ensures at_sid { (s : SidEntry) (allow : List ℕ) (p q : Packet) → s.usp ≡ false
+        → at_sid s allow p ≡ Delivered q → q ≡ p }
+    ensures fields { (s : SidEntry) (allow : List ℕ) (p q : Packet) → at_sid s allow p ≡ Delivered q
+        → q ≡ record p { next_header = q.next_header; payload = q.payload } }
+    ensures spellable { (s : SidEntry) (allow : List ℕ) (p q : Packet) → IsSpellable p
+        → at_sid s allow p ≡ Delivered q → IsSpellable q }
     ensures at_address { (p q : Packet) → at_address p ≡ Delivered q → q ≡ p }
     ensures onward { (p q : Packet) → at_address p ≡ Onward q → ⊥ }
     ensures exposed { (p : Packet) (family : Family) (bytes : List ℕ)

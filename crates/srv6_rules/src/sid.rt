@@ -305,11 +305,12 @@ impl SidEntry {
         self.behaviour.goes_on()
     }
 
-    /// It exposes the packet inside, an upper layer of this kind (RFC 8986 section 4).
+    /// It exposes the packet inside, an upper layer of this kind: by its behaviour, or with USD an
+    /// IPv6 or IPv4 packet (RFC 8986 sections 4.4 to 4.8 and 4.16.3).
     pub fn exposes(&self, kind: u8) -> bool
         ensures { result ≡ exposes self.now kind }
     {
-        self.behaviour.exposes(kind)
+        self.behaviour.exposes(kind) || (self.usd && (kind == IPV6_INSIDE || kind == IPV4_INSIDE))
     }
 
     /// Nodes run it: so far the plain SIDs of End, End.X and End.DT6 without flavours.

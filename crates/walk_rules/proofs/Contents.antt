@@ -5,7 +5,7 @@ use Rattle.srv6_rules.specs.declared.sid.Family.TheVariants as families
 use Rattle.srv6_rules.specs.declared.sid.SidEntry.{SidEntry}
 use Rattle.srv6_rules.specs.Packet.{Packet, Content, V6, Unreadable, IsSpellable, IsContent, read_as, bytes_of}
 use Rattle.srv6_rules.specs.Endpoint.{Endpoint, Onward, Exposed, Delivered, Refused, at_sid, at_address}
-use Rattle.srv6_rules.proofs.PublicLaws.{content_of-spelling_alone, at_sid-spellable, at_sid-content, at_sid-exposed_back, at_sid-delivered, at_address-delivered}
+use Rattle.srv6_rules.proofs.PublicLaws.{content_of-spelling_alone, at_sid-spellable, at_sid-content, at_sid-exposed_back, at_sid-delivered_spellable, at_address-delivered}
 use Rattle.net_model.specs.Network.{Network}
 use Rattle.walk_rules.specs.declared.place.How.TheVariants.{Arrived}
 use Rattle.walk_rules.specs.declared.place.Place.{Place}
@@ -63,7 +63,7 @@ endpoint-back : (net : Network) (place : Place) (n : ℕ) (s : SidEntry) (allow 
 endpoint-back net place n s allow p (Onward q) ok same = packet-back place.family q (at_sid-spellable s allow p q ok same)
 endpoint-back net place n s allow p (Exposed family bytes) ok same =
     (at_sid-content s allow p family bytes ok same, λ v6. at_sid-exposed_back s allow p family bytes ok same)
-endpoint-back net place n s allow p (Delivered q) ok same = same-back place.family p q (at_sid-delivered s allow p q same) ok
+endpoint-back net place n s allow p (Delivered q) ok same = packet-back place.family q (at_sid-delivered_spellable s allow p q ok same)
 endpoint-back net place n s allow p (Refused reason at) ok same = packet-back place.family p ok
 
 step-packet : (net : Network) (place : Place) (p : Packet) (choice : ℕ) → IsSpellable p

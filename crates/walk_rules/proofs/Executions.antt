@@ -6,7 +6,7 @@ use Rattle.srv6_rules.specs.declared.sid.SidEntry.{SidEntry}
 use Rattle.srv6_rules.specs.Behaviours.{is_built}
 use Rattle.srv6_rules.specs.Packet.{Packet, Content, V6, Unreadable}
 use Rattle.srv6_rules.specs.Endpoint.{Endpoint, Onward, Exposed, Delivered, Refused, at_sid, at_address}
-use Rattle.srv6_rules.proofs.PublicLaws.{at_sid-steps}
+use Rattle.srv6_rules.proofs.PublicLaws.{at_sid-lowers}
 use Rattle.net_model.specs.Network.{Network}
 use Rattle.walk_rules.specs.declared.place.How.{How}
 use Rattle.walk_rules.specs.declared.place.Place.{Place}
@@ -105,7 +105,7 @@ abbrev IsOneLess : Packet → Packet → Type 0
 IsOneLess p q = (1 < p.hop_limit) × (q.hop_limit + 1 ≡ p.hop_limit)
 
 sid-less : (s : SidEntry) (allow : List ℕ) (p q : Packet) → at_sid s allow p ≡ Onward q → IsOneLess p q
-sid-less s allow p q e = let step = at_sid-steps s allow p q e in (step.above_one, sym step.hop_limit)
+sid-less s allow p q e = let less = at_sid-lowers s allow p q e in (less.0, sym less.1)
 
 -- of an execution after which the packet stays at the node
 abbrev AgainLess : Packet → Outcome → Content → Type 0

@@ -7,7 +7,7 @@ use Rattle.srv6_rules.specs.declared.sid.Reason.TheVariants as reasons
 use Rattle.srv6_rules.specs.declared.sid.SidEntry.{SidEntry}
 use Rattle.srv6_rules.specs.Packet.{Packet, Content, V6, Unreadable}
 use Rattle.srv6_rules.specs.Endpoint.{Endpoint, Onward, Exposed, Delivered, Refused, at_sid, at_address}
-use Rattle.srv6_rules.proofs.PublicLaws.{at_sid-delivered, at_address-delivered}
+use Rattle.srv6_rules.proofs.PublicLaws.{at_sid-delivered, at_address-delivered, built-usp}
 use Rattle.net_model.specs.Network.{Network}
 use Rattle.walk_rules.specs.declared.place.Place.{Place}
 use Rattle.walk_rules.specs.declared.place.Outcome.{Outcome}
@@ -67,12 +67,12 @@ address-leaves net node p (Exposed family bytes) same = refl
 address-leaves net node p (Delivered q) same = ap V6 (at_address-delivered p q same)
 address-leaves net node p (Refused reason at) same = refl
 
-endpoint-leaves : (net : Network) (node n : ℕ) (s : SidEntry) (allow : List ℕ) (p : Packet) (e : Endpoint) → at_sid s allow p ≡ e
-    → GaveLeaves (V6 p) (treated_at_sid net node n s.behaviour p e)
-endpoint-leaves net node n s allow p (Onward q) same = tt
-endpoint-leaves net node n s allow p (Exposed family bytes) same = tt
-endpoint-leaves net node n s allow p (Delivered q) same = ap V6 (at_sid-delivered s allow p q same)
-endpoint-leaves net node n s allow p (Refused reason at) same = refl
+endpoint-leaves : (net : Network) (node n : ℕ) (s : SidEntry) (allow : List ℕ) (p : Packet) (e : Endpoint) → is_built s ≡ true
+    → at_sid s allow p ≡ e → GaveLeaves (V6 p) (treated_at_sid net node n s.behaviour p e)
+endpoint-leaves net node n s allow p (Onward q) built same = tt
+endpoint-leaves net node n s allow p (Exposed family bytes) built same = tt
+endpoint-leaves net node n s allow p (Delivered q) built same = ap V6 (at_sid-delivered s allow p q (built-usp s built) same)
+endpoint-leaves net node n s allow p (Refused reason at) built same = refl
 
 step-leaves : (net : Network) (place : Place) (content : Content) (choice : ℕ) → GaveLeaves content (step_of net place content choice)
 step-leaves net place (Unreadable bytes reason) choice = refl
@@ -84,7 +84,7 @@ step-leaves net place (V6 p) choice =
       own = address-leaves net place.node p (at_address p) refl;
       sid = λ n s into there built.
           let allow = allow_of (slice_get net.nodes place.node) in
-          endpoint-leaves net place.node n s allow p (at_sid s allow p) refl;
+          endpoint-leaves net place.node n s allow p (at_sid s allow p) built refl;
     })
 
 pub step-drop : (net : Network) (place : Place) (content : Content) (choice : ℕ) (reason : Reason) (error : Bool)

@@ -1,4 +1,4 @@
-use Rattle.srv6_rules.proofs.BehaviourLaws.{goes_on-is, exposes-ipv6, exposes-ipv4, exposes-kinds, goes_on-exposes}
+use Rattle.srv6_rules.proofs.BehaviourLaws.{goes_on-is, exposes-ipv6, exposes-ipv4, exposes-kinds, goes_on-exposes, goes_on-exposes_usd}
 use Rattle.srv6_rules.proofs.laws.behaviours_go_on_or_expose.Goals as goal
 
 pub returns-clause-goes_on : goal.returns-clause-goes_on
@@ -15,3 +15,6 @@ returns-clause-kinds c = exposes-kinds
 
 pub returns-clause-one : goal.returns-clause-one
 returns-clause-one c = goes_on-exposes
+
+pub returns-clause-usd : goal.returns-clause-usd
+returns-clause-usd c = goes_on-exposes_usd
