@@ -7,11 +7,14 @@
 //! that these definitions speak of, and the laws about the definitions.
 #![tactic(auto)]
 
+pub mod compressed;
+mod compression;
 pub mod encapsulation;
 pub mod icmp;
 pub mod laws;
 pub mod numbers;
 mod sid;
 
+pub use compression::Compression;
 pub use icmp::IcmpKind;
 pub use sid::{Behaviour, Csid, Family, LinkSet, Reason, SidEntry};
