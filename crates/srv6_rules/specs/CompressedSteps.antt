@@ -1,11 +1,12 @@
 -- The steps of compressed SIDs over packets (RFC 9800 sections 4.1 and 4.2): NEXT-CSID shifts the destination, and REPLACE-CSID takes the
 -- next CSID, or the next entry, of the segment list.
-use Rattle.std.specs.Prelude.{◌≡◌, ◌≢◌, ℕ, ◌+◌, ◌-◌, ◌<◌, ◌≤◌, Bool, true, false, ◌==◌, ◌&&◌, ◌||◌, not, nat_lt, nat_le, if◌then◌else◌, slice_set, Option, Some, None}
+use Rattle.std.specs.Prelude.{◌≡◌, ℕ, ◌+◌, ◌-◌, ◌<◌, ◌≤◌, Bool, true, false, ◌==◌, ◌&&◌, ◌||◌, not, nat_lt, nat_le, if◌then◌else◌, List, ◌++◌, take, drop, slice_set, Option, Some, None}
+use Rattle.srv6_rules.specs.declared.numbers.TheConstants.{HOP_LIMIT_AT, DESTINATION_AT}
 use Rattle.srv6_rules.specs.declared.sid.Csid.{Csid}
 use Rattle.srv6_rules.specs.declared.sid.Csid.TheVariants as kinds
 use Rattle.srv6_rules.specs.declared.sid.Reason.TheVariants as reasons
 use Rattle.srv6_rules.specs.declared.compression.Compression.{Compression}
-use Rattle.srv6_rules.specs.Packet.{Packet, header_len}
+use Rattle.srv6_rules.specs.Packet.{Packet, header_len, address_bytes}
 use Rattle.srv6_rules.specs.Srh.{Srh, entries_of, entry_of, segments_left_at}
 use Rattle.srv6_rules.specs.Areas.{Fault, tlvs_fault}
 use Rattle.srv6_rules.specs.Compressed.{IsCsidLen, argument_of, shift_of, csid_count, index_of, csid_at, replace_of}
@@ -30,6 +31,12 @@ pub record IsReplace (c : Compression) : Type 0 where
 -- the hop limit can't be lowered (RFC 8754 section 4.3.1.1)
 abbrev pub hop_limit_fault : Packet → Option Fault
 hop_limit_fault p = if nat_le p.hop_limit 1 then Some (record { reason = reasons.HopLimit; at = 0 }) else None
+
+-- bytes with another hop limit and another destination in their header; each other byte is as it was
+abbrev pub with_hop_and_destination : List ℕ → ℕ → ℕ → List ℕ
+with_hop_and_destination bytes hop_limit destination =
+    let lowered = slice_set bytes HOP_LIMIT_AT hop_limit in
+    take DESTINATION_AT lowered ++ (address_bytes destination ++ drop header_len lowered)
 
 -- ---- NEXT-CSID (RFC 9800 section 4.1)
 
