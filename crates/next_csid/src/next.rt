@@ -42,12 +42,7 @@ fn shifted(destination: Addr, compression: Compression) -> Addr
     let argument = argument_in(destination, compression.prefix_len);
     let argument_len = 128 - compression.prefix_len;
     let csid_len = compression.csid_len();
-    let moved = with_field(
-        destination,
-        compression.block_len,
-        argument_len,
-        argument,
-    );
+    let moved = with_field(destination, compression.block_len, argument_len, argument);
     with_field(moved, 128 - csid_len, csid_len, 0)
 }
 

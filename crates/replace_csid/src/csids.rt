@@ -10,6 +10,7 @@ use srv6_rules::Compression;
 use v6_addr::{Addr, field, with_field};
 
 /// The index of a destination, below the number of CSIDs in an entry.
+#[tactic(auto, unfolding(srv6_rules::specs::Compressed::index_of))]
 pub(crate) fn index_in(compression: Compression, destination: Addr) -> u8
     requires { IsReplace compression }
     ensures value { result ≡ index_in compression destination.value }
@@ -19,12 +20,8 @@ pub(crate) fn index_in(compression: Compression, destination: Addr) -> u8
 }
 
 /// The CSID at an index of the segment list's entry at a place.
-pub(crate) fn listed_csid(
-    compression: Compression,
-    srh: &SrhView<'_>,
-    entry: u8,
-    index: u8,
-) -> u128
+#[tactic(auto, unfolding(srv6_rules::specs::Compressed::csid_at))]
+pub(crate) fn listed_csid(compression: Compression, srh: &SrhView<'_>, entry: u8, index: u8) -> u128
     requires replace { IsReplace compression }
     requires entry { entry < entries_of srh.now }
     requires index { index < csid_count (csid_len_of compression) }
@@ -36,6 +33,7 @@ pub(crate) fn listed_csid(
 }
 
 /// The address with an index in its lowest bits.
+#[tactic(auto, unfolding(srv6_rules::specs::Compressed::with_index))]
 fn with_index(compression: Compression, destination: Addr, index: u8) -> Addr
     requires replace { IsReplace compression }
     requires index { index < csid_count (csid_len_of compression) }
@@ -48,12 +46,8 @@ fn with_index(compression: Compression, destination: Addr, index: u8) -> Addr
 }
 
 /// The address with another CSID behind its block and another index.
-pub(crate) fn replaced(
-    compression: Compression,
-    destination: Addr,
-    csid: u128,
-    index: u8,
-) -> Addr
+#[tactic(auto, unfolding(srv6_rules::specs::Compressed::replace_of))]
+pub(crate) fn replaced(compression: Compression, destination: Addr, csid: u128, index: u8) -> Addr
     requires replace { IsReplace compression }
     requires csid { csid < 2 ^ csid_len_of compression }
     requires index { index < csid_count (csid_len_of compression) }
@@ -70,11 +64,7 @@ pub(crate) fn replaced(
 }
 
 /// The test for the end of the segment list has to read an entry where there is none.
-pub(crate) fn lacks_entry(
-    compression: Compression,
-    srh: &SrhView<'_>,
-    destination: Addr,
-) -> bool
+pub(crate) fn lacks_entry(compression: Compression, srh: &SrhView<'_>, destination: Addr) -> bool
     requires { IsReplace compression }
     ensures { result ≡ lacks_entry compression srh.now destination.value }
 {

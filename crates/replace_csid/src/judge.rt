@@ -108,13 +108,7 @@ fn step_from(compression: Compression, srh: &SrhView<'_>, destination: Addr) -> 
     let index = index_in(compression, destination);
     if index == 0 {
         let greatest = compression.csid_count() - 1;
-        return to_csid(
-            compression,
-            srh,
-            destination,
-            segments_left - 1,
-            greatest,
-        );
+        return to_csid(compression, srh, destination, segments_left - 1, greatest);
     }
     if listed_csid(compression, srh, segments_left, index - 1) == 0 {
         return to_entry(srh);

@@ -9,5 +9,7 @@
 mod csids;
 mod judge;
 mod step;
+#[cfg(test)]
+mod tests;
 
 pub use step::{ReplaceOutcome, replace};
