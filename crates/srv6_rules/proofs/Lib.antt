@@ -14,4 +14,6 @@ pub mod Encapsulations
 pub mod Without
 pub mod Checksums
 pub mod ErrorLaws
+pub mod Containers
+pub mod PackedEntries
 pub mod PublicLaws

@@ -9,3 +9,5 @@ pub mod Encapsulation
 pub mod Reasons
 pub mod Checksum
 pub mod Errors
+pub mod Compressed
+pub mod CompressedSteps

@@ -7,6 +7,8 @@
 //! that these definitions speak of, and the laws about the definitions.
 #![tactic(auto)]
 
+pub mod compressed;
+mod compression;
 pub mod encapsulation;
 pub mod icmp;
 pub mod ip4;
@@ -15,6 +17,7 @@ pub mod numbers;
 mod policy;
 mod sid;
 
+pub use compression::Compression;
 pub use icmp::IcmpKind;
 pub use policy::{Policy, SegmentList};
 pub use sid::{Behaviour, Csid, Family, LinkSet, Reason, SidEntry};

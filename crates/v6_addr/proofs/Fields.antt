@@ -5,15 +5,8 @@ use Rattle.std.proofs.lemmas.Nat.{shr_split, shr_below, shr_high, mod_low, mul-a
 use Rattle.std.proofs.Math.Pow.{mod-mod-pow}
 use Rattle.std.proofs.Math.Nat.{pow-le-pow_right}
 use Rattle.v6_addr.specs.Address.{PrefixValue, Holds, field_of, with_field_of}
+use Rattle.v6_addr.specs.Bits.{cut, put}
 use Rattle.v6_addr.proofs.Prefixes.{same_above}
-
--- the number in `width` bits
-unfoldable pub cut : ℕ → ℕ → ℕ → ℕ
-cut a rest width = a / 2 ^ rest % 2 ^ width
-
--- the number with `v` in `width` bits, and its other bits as they were
-unfoldable pub put : ℕ → ℕ → ℕ → ℕ → ℕ
-put a rest width v = a / 2 ^ (rest + width) * 2 ^ (rest + width) + v * 2 ^ rest + a % 2 ^ rest
 
 -- the number that is put, over what stands behind it, is below the bits above
 low_part : (a rest width v : ℕ) → v < 2 ^ width → v * 2 ^ rest + a % 2 ^ rest < 2 ^ (rest + width)
@@ -92,7 +85,7 @@ cut_below a b high rest width within same =
 
 -- ---- at positions in an address
 
-with_field_is_put : (a at width v : ℕ) → at + width ≤ 128 → with_field_of a at width v ≡ put a (128 - at - width) width v
+pub with_field_is_put : (a at width v : ℕ) → at + width ≤ 128 → with_field_of a at width v ≡ put a (128 - at - width) width v
 unfolding with_field_of put
 with_field_is_put a at width v within =
     let sum : 128 - at ≡ 128 - at - width + width = omega arith in

@@ -1,4 +1,5 @@
 pub mod Beginnings
+pub mod BitLaws
 pub mod Cases
 pub mod Fields
 pub mod GrammarLaws

@@ -6,6 +6,7 @@
 #![tactic(auto)]
 
 mod address;
+mod bit_laws;
 mod bits;
 mod display;
 mod errors;
@@ -23,6 +24,7 @@ mod text4;
 mod write;
 
 pub use address::Addr;
+pub use bit_laws::{bits_are_cut_and_put, fields_and_prefixes, numbers_agree_above_and_below};
 pub use bits::{field, with_field};
 pub use errors::BadAddr;
 pub use laws::{
