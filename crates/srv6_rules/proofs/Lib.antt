@@ -12,4 +12,5 @@ pub mod Encapsulations
 pub mod Without
 pub mod Checksums
 pub mod ErrorLaws
+pub mod PolicyLaws
 pub mod PublicLaws
