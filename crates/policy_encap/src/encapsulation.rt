@@ -7,9 +7,9 @@ ghost use Rattle.ip6_headers.specs.Reading.{HoldsPacket};
 ghost use Rattle.policy_encap.specs.Answers.{IsPushed, IsEncapsulated};
 
 use crate::faults::{EncapFault, PushFault};
-use crate::headers::{outer_bytes, payload_len};
+use crate::headers::{outer_bytes, outer_fits, payload_len};
 use ip6_headers::Ip6View;
-use srv6_rules::numbers::{HOP_LIMIT_AT, MOST_LEN, IPV6_HEADER_LEN};
+use srv6_rules::numbers::{HOP_LIMIT_AT, IPV6_HEADER_LEN, MOST_LEN};
 use srv6_rules::{Family, Policy};
 
 /// The greatest payload length: 65,535 (RFC 8200 section 3).
@@ -38,7 +38,14 @@ pub fn push(
             length: length as u32,
         });
     }
-    *packet = outer_bytes(*packet.allocator(), policy, reduced, inner, packet.as_slice())?;
+    outer_fits(policy);
+    *packet = outer_bytes(
+        *packet.allocator(),
+        policy,
+        reduced,
+        inner,
+        packet.as_slice(),
+    )?;
     Ok(())
 }
 
@@ -64,6 +71,7 @@ pub fn encap(policy: &Policy, packet: &mut Vec<u8>) -> Result<(), EncapFault>
             length: length as u32,
         });
     }
+    outer_fits(policy);
     let alloc = *packet.allocator();
     let mut outer = outer_bytes(alloc, policy, policy.reduced, Family::V6, packet.as_slice())?;
     let inner_at = outer.len() - packet.len();

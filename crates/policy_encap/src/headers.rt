@@ -1,12 +1,12 @@
 //! The headers in front of a packet, in bytes.
 
-ghost use Rattle.std.specs.Prelude.{◌≡◌, ◌+◌, ◌-◌, ◌<◌, ◌≤◌, ◌++◌, ℕ, ◌*◌, ◌==◌, if◌then◌else◌, List, length, reverse, OnOk, IfOk};
+ghost use Rattle.std.specs.Prelude.{◌≡◌, ◌+◌, ◌-◌, ◌<◌, ◌≤◌, ◌++◌, ℕ, ◌^◌, List, length, reverse, OnOk, IfOk};
 ghost use Rattle.srv6_rules.specs.Packet.{header_spelling, spelling};
 ghost use Rattle.srv6_rules.specs.Policies.{IsPolicy, encapsulation_by, inner_kind, pushed_round};
 ghost use Rattle.srv6_rules.specs.Srh.{srh_spelling};
 ghost use Rattle.srv6_rules.specs.declared.sid.Family.{Family as FamilyValue};
 ghost use Rattle.srh_codec.specs.Writing.{header_over, numbers_of};
-ghost use Rattle.policy_encap.specs.Headers.{framed, listed};
+ghost use Rattle.policy_encap.specs.Headers.{FitsOuter, framed, listed, routing_bytes};
 
 use srh_codec::{SrhParts, write_srh};
 use srv6_rules::numbers::{
@@ -43,7 +43,7 @@ fn listed(policy: &Policy, reduced: bool) -> &[Addr]
 /// The length of the segment routing header; there is none over no segments.
 fn routing_len(listed: &[Addr]) -> usize
     requires { length listed.now ≤ 127 }
-    ensures { result ≡ (if length listed.now == 0 then 0 else 8 + 16 * length listed.now) }
+    ensures { result ≡ routing_bytes listed.now }
 {
     if listed.is_empty() {
         0
@@ -56,14 +56,14 @@ fn routing_len(listed: &[Addr]) -> usize
 pub(crate) fn payload_len(policy: &Policy, reduced: bool, inner_len: usize) -> usize
     requires policy { IsPolicy policy.now }
     requires inner { inner_len ≤ MOST_LEN }
-    ensures { (inner : FamilyValue) (bytes : List ℕ) → length bytes ≡ inner_len
+    ensures most { result ≤ 2040 + inner_len }
+    ensures value { (inner : FamilyValue) (bytes : List ℕ) → length bytes ≡ inner_len
         → result ≡ length (pushed_round (encapsulation_by policy.now reduced) inner bytes policy.now.hop_limit).payload }
 {
     routing_len(listed(policy, reduced)) + inner_len
 }
 
 /// Appends the outer header in front of a payload of a length.
-#[tactic(auto, unfolding(srv6_rules::specs::Packet::header_spelling, srv6_rules::specs::Packet::first_word, srv6_rules::specs::Packet::two_bytes, srv6_rules::specs::Packet::four_bytes, srv6_rules::specs::Packet::address_bytes))]
 fn append_outer(
     out: &mut Vec<u8>,
     policy: &Policy,
@@ -71,8 +71,9 @@ fn append_outer(
     len: u16,
 ) -> Result<(), AllocError>
     requires { IsPolicy policy.now }
-    ensures { (payload : List ℕ) → length payload ≡ len
-        → OnOk result (out.new.items ≡ out.old.items ++ header_spelling (framed policy.now next_header payload)) }
+    ensures { OnOk result ((payload : List ℕ) → length payload ≡ len
+        → out.new.items ≡ out.old.items
+        ++ header_spelling (framed policy.now next_header payload)) }
 {
     let word = 0x6000_0000 + u32::from(policy.traffic_class) * 0x10_0000 + policy.flow_label;
     let destination = policy.segments.as_slice()[0];
@@ -80,7 +81,8 @@ fn append_outer(
     out.extend_from_slice(&len.to_be_bytes())?;
     out.extend_from_slice(&[next_header, policy.hop_limit])?;
     out.extend_from_slice(&policy.source.value.to_be_bytes())?;
-    out.extend_from_slice(&destination.value.to_be_bytes())
+    out.extend_from_slice(&destination.value.to_be_bytes())?;
+    Ok(())
 }
 
 /// Appends the segment routing header over the listed segments, of which the last is visited last
@@ -134,4 +136,27 @@ pub(crate) fn outer_bytes(
     }
     out.extend_from_slice(packet)?;
     Ok(out)
+}
+
+/// A byte is below 256.
+fn byte_fits(n: u8)
+    ensures { n < 2 ^ 8 }
+{}
+
+/// An address is below 2 to the 128.
+fn address_fits(a: Addr)
+    ensures { a.value < 2 ^ 128 }
+{
+    let _ = a.value;
+}
+
+/// The fields of the outer header fit their widths.
+pub(crate) fn outer_fits(policy: &Policy)
+    requires { IsPolicy policy.now }
+    ensures { FitsOuter policy.now }
+{
+    byte_fits(policy.traffic_class);
+    byte_fits(policy.hop_limit);
+    address_fits(policy.source);
+    address_fits(policy.segments.as_slice()[0]);
 }

@@ -81,6 +81,9 @@ module _ (e : Encapsulation) (inner : Family) (bytes : List ℕ) (hop : ℕ) whe
       ap (drop (header_bytes e.reduced (length e.segments) - 40)) round-front
       ∙ drop_at (front_of e inner) bytes (header_bytes e.reduced (length e.segments) - 40) (omega (arith, len, size))
 
+  pub round-next_header : (pushed_round e inner bytes hop).next_header < 2 ^ 8
+  round-next_header = small_next (has_segment_routing e) inner
+
   pub round-spellable : IsSpellableEncapsulation e → hop < 2 ^ 8 → All (λ b. b < 2 ^ 8) bytes
       → header_bytes e.reduced (length e.segments) + length bytes ≤ most_len → IsSpellable (pushed_round e inner bytes hop)
   round-spellable ok small all short =
@@ -90,7 +93,7 @@ module _ (e : Encapsulation) (inner : Family) (bytes : List ℕ) (hop : ℕ) whe
       record {
         traffic_class = v6.traffic_class;
         flow_label = v6.flow_label;
-        next_header = small_next (has_segment_routing e) inner;
+        next_header = round-next_header;
         hop_limit = v6.hop_limit;
         source = v6.source;
         destination = v6.destination;
