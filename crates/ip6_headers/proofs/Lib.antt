@@ -1,5 +1,6 @@
 pub mod AreaLemmas
 pub mod ChainSteps
 pub mod PacketBytes
+pub mod PacketBytes4
 pub mod EditLemmas
 pub mod PublicLaws

@@ -2,12 +2,12 @@
 
 use srv6_rules::Reason;
 
-/// Why bytes do not read as an IPv6 packet (RFC 8200 section 3).
+/// Why bytes do not read as a packet of a family (RFC 8200 section 3, RFC 791 section 3.1).
 #[derive(Clone, Copy, Debug, PartialEq, Eq)]
 pub enum ReadFault {
     /// Fewer bytes than a header has, or than it states.
     Truncated,
-    /// The first half byte is not 6.
+    /// The first half byte is not the family's version, 6 or 4.
     BadVersion,
 }
 

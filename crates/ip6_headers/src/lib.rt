@@ -1,5 +1,5 @@
 //! Views and edits of IPv6 headers, and what stands behind them: the chain of extension headers,
-//! and areas of options (RFC 8200 sections 3 and 4).
+//! and areas of options (RFC 8200 sections 3 and 4); and views of IPv4 packets (RFC 791).
 //!
 //! A view reads bytes as a packet, an edit writes a field in its place, and a step goes from one
 //! header of the chain to the next. Nothing here takes memory. Places and lengths are in bytes, and
@@ -10,6 +10,7 @@ mod areas;
 mod chain;
 mod edit;
 mod faults;
+mod ip4;
 mod laws;
 mod numbers;
 mod parts;
@@ -21,6 +22,7 @@ pub use areas::{Fault, item_len, options};
 pub use chain::{BadChain, ChainPlace, ChainStep, Stands, chain_start, chain_step, stands_at};
 pub use edit::Ip6Edit;
 pub use faults::ReadFault;
+pub use ip4::{Ip4View, lower_ttl, read_fault4};
 pub use laws::edit_changes_its_field;
 pub use numbers::{address_at, four_at, two_at};
 pub use parts::halves;

@@ -1,8 +1,8 @@
 //! Bytes laid out by hand, read, stepped over and edited.
 
 use crate::{
-    BadChain, ChainPlace, ChainStep, Fault, Ip6Edit, Ip6View, ReadFault, chain_start, chain_step,
-    halves, options,
+    BadChain, ChainPlace, ChainStep, Fault, Ip4View, Ip6Edit, Ip6View, ReadFault, chain_start,
+    chain_step, halves, lower_ttl, options, read_fault4, two_at,
 };
 use srv6_rules::Reason;
 use std::process::Abort;
@@ -173,4 +173,34 @@ fn edits(rt: HostRuntime) -> Result<(), Fail> {
     );
     assert_eq!(rt; packet.flow_label(), 0x34567);
     Ok(())
+}
+
+/// IPv4 of 20 bytes without payload, time to live 2, from 192.0.2.1 to 198.51.100.1; then 2 bytes
+/// that are not the packet's.
+const PACKET4: [u8; 22] = [
+    0x45, 0x00, 0x00, 0x14, 0x00, 0x00, 0x00, 0x00, 0x02, 0x11, 0xcc, 0xa3, 0xc0, 0x00, 0x02, 0x01,
+    0xc6, 0x33, 0x64, 0x01, 0xaa, 0xbb,
+];
+
+#[test]
+fn ipv4_fields(rt: HostRuntime) {
+    let packet = Ip4View::read(&PACKET4).expect(&rt, "a packet");
+    assert_eq!(rt; packet.ttl(), 2);
+    assert_eq!(rt; packet.protocol(), 17);
+    assert_eq!(rt; packet.total_len(), 20);
+    assert_eq!(rt; packet.source().value, 0xc000_0201 << 96);
+    assert_eq!(rt; packet.destination().value, 0xc633_6401 << 96);
+    assert_eq!(rt; packet.bytes().len(), 20);
+}
+
+#[test]
+fn ipv4_ttl(rt: HostRuntime) {
+    let mut bytes = PACKET4;
+    match read_fault4(&bytes) {
+        Some(_) => {}
+        None => lower_ttl(&mut bytes),
+    }
+    let packet = Ip4View::read(&bytes).expect(&rt, "a packet");
+    assert_eq!(rt; packet.ttl(), 1);
+    assert_eq!(rt; two_at(&bytes, 10), 0xcda3);
 }

@@ -11,7 +11,7 @@ unfolding carried
 carried-small zero h = refl
 carried-small (suc n) h = omega arith
 
-carried-above : (n : ℕ) → 0 < n → carried n ≡ (n - 1) % 65535 + 1
+pub carried-above : (n : ℕ) → 0 < n → carried n ≡ (n - 1) % 65535 + 1
 unfolding carried
 carried-above zero h = absurd (omega arith)
 carried-above (suc n) h = let e : suc n - 1 ≡ n = omega arith in rw e refl

@@ -1,5 +1,6 @@
 pub mod Bytes
 pub mod Packets
+pub mod Packets4
 pub mod Edits
 pub mod Headers
 pub mod Chains

@@ -1,6 +1,7 @@
 -- The laws of this crate as lemmas, each the proof of a clause of `laws` or `encapsulation`: what crates above cite.
 pub use Rattle.srv6_rules.proofs.Bytes.{length-two_bytes, length-four_bytes, length-address_bytes, all-two_bytes, all-four_bytes, all-address_bytes, two_number-append, four_number-append, address_number-append}
 pub use Rattle.srv6_rules.proofs.Packets.{content_of-spelling, content_of-spelling_alone, length-spelling, all-spelling, packet_at-spellable, reads-spellable, reads-spelled, entered-is_content, entered-back}
+pub use Rattle.srv6_rules.proofs.Packets4.{read4-spelling, read4-alone, read4-version, read4-short, read4-header, read4-total, read4-cut, read4-whole, reads4-spellable, reads4-spelled, spells4-value, ttl_lowered-ttl, ttl_lowered-length, ttl_lowered-other, ttl_lowered-front, ttl_lowered-all, lowered4-spelling, lowered4-spellable, lowered4-checksum, lowered4-other, lowered4-sum, lowered4-verifies}
 pub use Rattle.srv6_rules.proofs.Edits.{spelling-behind, edit-hop_limit, edit-destination, edit-payload}
 pub use Rattle.srv6_rules.proofs.Headers.{srh_of-spelling, srh_of-spellable, srh_spelling-srh_of, entry-at, length-entries}
 pub use Rattle.srv6_rules.proofs.Chains.{chain_of-start, chain_at-goes_on, chain_at-upper, chain_at-cut, chain_at-header, chain_at-lies, chain_at-follow, chain_at-stand, chain_at-ends, chain_at-upper_stands, chain_at-spelled, follow-ascends, follow-chain, start-stands, behind-stands, extension_bytes-least, header_in-lies, lies-at, lies-spelled, lies-bytes, lies-stated}

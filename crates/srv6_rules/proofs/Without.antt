@@ -36,7 +36,7 @@ module _ (a n : ℕ) (xs : List ℕ) (within : a + n ≤ length xs) where
       ∙ ap (λ i. drop i xs) high
 
 -- the first bytes of the first bytes
-take-front : (j a : ℕ) (xs : List ℕ) → j ≤ a → take j (take a xs) ≡ take j xs
+pub take-front : (j a : ℕ) (xs : List ℕ) → j ≤ a → take j (take a xs) ≡ take j xs
 take-front zero a xs h = refl
 take-front (suc j) zero xs h = absurd (omega arith)
 take-front (suc j) (suc a) [] h = refl

@@ -1,4 +1,5 @@
 pub mod Packet
+pub mod Packet4
 pub mod Srh
 pub mod Behaviours
 pub mod Chain

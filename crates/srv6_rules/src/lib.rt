@@ -9,6 +9,7 @@
 
 pub mod encapsulation;
 pub mod icmp;
+pub mod ip4;
 pub mod laws;
 pub mod numbers;
 mod policy;

@@ -140,3 +140,39 @@ pub const UNKNOWN_OPTION: u8 = 2;
 /// The code of Parameter Problem for an upper layer that a SID does not take: 4 (RFC 8986 section
 /// 4.1.1).
 pub const WRONG_UPPER_LAYER: u8 = 4;
+
+/// The version in the first half byte of an IPv4 header: 4 (RFC 791 section 3.1).
+pub const IPV4_VERSION: u8 = 4;
+
+/// The least length of an IPv4 header, one without options: 20 (RFC 791 section 3.1).
+pub const IPV4_HEADER_LEN: usize = 20;
+
+/// The unit in which the second half byte of an IPv4 header states the header's length: 4 (RFC 791
+/// section 3.1).
+pub const IPV4_LEN_UNIT: usize = 4;
+
+/// The place of the total length in an IPv4 header, two bytes: 2 (RFC 791 section 3.1).
+pub const TOTAL_LEN_AT: usize = 2;
+
+/// The place of the time to live in an IPv4 header: 8 (RFC 791 section 3.1).
+pub const TTL_AT: usize = 8;
+
+/// The place of the protocol in an IPv4 header: 9 (RFC 791 section 3.1).
+pub const PROTOCOL_AT: usize = 9;
+
+/// The place of the checksum in an IPv4 header, two bytes: 10 (RFC 791 section 3.1).
+pub const CHECKSUM_AT: usize = 10;
+
+/// The place of the source address in an IPv4 header, 4 bytes: 12 (RFC 791 section 3.1).
+pub const IPV4_SOURCE_AT: usize = 12;
+
+/// The place of the destination address in an IPv4 header, 4 bytes: 16 (RFC 791 section 3.1).
+pub const IPV4_DESTINATION_AT: usize = 16;
+
+/// What one of the time to live weighs in the sum of the header's words, as it is the high byte of
+/// its word: 256 (RFC 791 section 3.1).
+pub const TTL_WEIGHT: u16 = 256;
+
+/// The least checksum that a time to live lower by 1 takes to 65,535 or past it: 65,279, which is
+/// 65,535 less 256 (RFC 1624 section 3).
+pub const CHECKSUM_WRAP: u16 = 65279;
