@@ -16,4 +16,5 @@ pub mod Checksums
 pub mod ErrorLaws
 pub mod Containers
 pub mod PackedEntries
+pub mod PolicyLaws
 pub mod PublicLaws

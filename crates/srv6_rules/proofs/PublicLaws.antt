@@ -17,3 +17,4 @@ pub use Rattle.srv6_rules.proofs.Checksums.{ones_sum-carried, word_sum-append, c
 pub use Rattle.srv6_rules.proofs.ErrorLaws.{upper_layer_sum-carried, error_checksum-parts, error-start, error-goes_on, error-behind, error-none, error-is_error, error-once, error-most, error-length, quote-short, kind_of-fits, error-spellable, error-verifies}
 pub use Rattle.srv6_rules.proofs.Containers.{container-shift, container-rest, argument-container, argument-zero, container-holds, container-address, container-one}
 pub use Rattle.srv6_rules.proofs.PackedEntries.{entry-csid, entry-past, entry-address, next-sid, index-back, index-holds, index-written}
+pub use Rattle.srv6_rules.proofs.PolicyLaws.{round-front, round-payload, round-length, round-inner, round-next_header, round-spellable, round-edit, made-fits, made-big, headend-low, headend-high}

@@ -6,6 +6,7 @@ pub mod Chain
 pub mod Areas
 pub mod Endpoint
 pub mod Encapsulation
+pub mod Policies
 pub mod Reasons
 pub mod Checksum
 pub mod Errors
