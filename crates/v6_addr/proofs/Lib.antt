@@ -13,6 +13,7 @@ pub mod PrefixFaults
 pub mod PrefixFaults4
 pub mod PrefixFaults6
 pub mod PrefixGrammar
+pub mod PrefixGrammar4
 pub mod Prefixes
 pub mod PublicLaws
 pub mod Reading

@@ -1,7 +1,6 @@
 -- the texts of IPv4 prefixes: what a reader finds, and the place of a fault
-use Rattle.std.proofs.Common.{◌≡◌, ℕ, suc, ◌+◌, ◌-◌, ◌*◌, ◌/◌, ◌%◌, ◌^◌, ◌<◌, ◌≤◌, inl, inr, false, eqb, List, [], ◌∷◌, ◌++◌, length, take, drop, get_or, Option, Some, None, sym, ◌∙◌, ap, subst, refl, arith}
+use Rattle.std.proofs.Common.{◌≡◌, ℕ, suc, ◌+◌, ◌-◌, ◌*◌, ◌/◌, ◌%◌, ◌^◌, ◌<◌, ◌≤◌, inl, inr, false, eqb, List, [], ◌∷◌, ◌++◌, length, take, drop, get_or, Some, None, sym, ◌∙◌, ap, subst, refl, arith}
 use Rattle.std.specs.Char.{digit_char}
-use Rattle.std.specs.List.{All}
 use Rattle.std.proofs.lemmas.Bool.{cases_lt, ne_eqb, cond-true, lt-ltb}
 use Rattle.std.proofs.lemmas.List.Elements.{All-nil, All-cons, All-append}
 use Rattle.std.proofs.lemmas.Option.{same_Some, none-some}
@@ -15,13 +14,10 @@ use Rattle.v6_addr.specs.Scan4.{start4, behind4, address_at}
 use Rattle.v6_addr.specs.Text.{length_of_text, length_text}
 use Rattle.v6_addr.specs.Text4.{dotted_text, IsAddress4Text, IsPrefix4Text}
 use Rattle.v6_addr.proofs.Places4.{one_address4, no_address4}
-use Rattle.v6_addr.proofs.PrefixGrammar.{length_text-1, length_text-2, length_text-3, length_is, length_reads}
+use Rattle.v6_addr.proofs.PrefixGrammar.{NoSlash, length_text-1, length_text-2, length_text-3, length_is, length_reads}
 use Rattle.v6_addr.proofs.PrefixFaults.{Texts, PrefixTextOf, fault_in_address, fault_of_bits, fault_in_length, fault_said, no_prefix_in_address, no_prefix_in_length, no_prefix_of_bits, text_round_slash}
 
 -- ---- the texts of addresses
-
-abbrev NoSlash : List ℕ → Type 0
-NoSlash text = All (λ c. eqb c 47 ≡ false) text
 
 digit_no_slash : (d : ℕ) → d < 10 → eqb (digit_char d) 47 ≡ false
 digit_no_slash d below =
@@ -53,7 +49,7 @@ dot_no_slash n more small none =
     let P : ℕ → Type 0 = λ c. eqb c 47 ≡ false in
     All-append P (length_text n) (46 ∷ more) (number_no_slash n small) (All-cons P 46 more refl none)
 
-address4_no_slash : (text : List ℕ) (a : ℕ) → IsAddress4Text text a → NoSlash text
+pub address4_no_slash : (text : List ℕ) (a : ℕ) → IsAddress4Text text a → NoSlash text
 unfolding dotted_text
 address4_no_slash text a h =
     let third = dot_no_slash h.third (length_text h.fourth) h.small.2 (number_no_slash h.fourth h.small.3) in
@@ -66,7 +62,7 @@ address4_fits text a h =
     let number = ((h.first * 256 + h.second) * 256 + h.third) * 256 + h.fourth in
     ap (λ n. n % 2 ^ 96) h.value ∙ mul-mod_left number (2 ^ 96)
 
-address4_below : (text : List ℕ) (a : ℕ) → IsAddress4Text text a → a < 2 ^ 128
+pub address4_below : (text : List ℕ) (a : ℕ) → IsAddress4Text text a → a < 2 ^ 128
 address4_below text a h = omega (arith, h.value, h.small)
 
 texts : Texts IsAddress4Text 32

@@ -2,7 +2,7 @@
 use Rattle.std.proofs.Common.{◌≡◌, ℕ, suc, ◌+◌, ◌-◌, ◌*◌, ◌/◌, ◌%◌, ◌^◌, ◌<◌, ◌≤◌, ◌↔◌, inl, inr, Bool, true, false, eqb, ltb, leb, if◌then◌else◌, not, ◌&&◌, List, [], ◌∷◌, ◌++◌, length, get_or, take, drop, replicate, Option, Some, None, sym, ◌∙◌, ap, subst, refl, arith, lit<, length-append}
 use Rattle.std.specs.Prelude.{option_and_then}
 use Rattle.std.specs.Char.{digit_value, digit_char}
-use Rattle.std.specs.List.{join_with_byte, AllZip, All, position_or_len}
+use Rattle.std.specs.List.{join_with_byte, AllZip, All, position_or_len, before_first, after_first}
 use Rattle.std.specs.Str.Parse.{digits_value, AllDigits}
 use Rattle.std.proofs.lemmas.Bool.{and_parts, lt-ltb, le-ltb, leb-true, eqb-true, eqb-false, false≢true, eq-eqb, ne_eqb, cond-true, cond-false, cases_lt, not-true, agree_below_at}
 use Rattle.std.proofs.lemmas.Int.Digits.{digits_value-lt}
@@ -65,7 +65,7 @@ address_below text a (inr h) =
 
 -- ---- no slash is in an address text
 
-abbrev NoSlash : List ℕ → Type 0
+abbrev pub NoSlash : List ℕ → Type 0
 NoSlash text = All (λ c. eqb c 47 ≡ false) text
 
 digit_no_slash : (c : ℕ) → digit_value c < 16 → eqb c 47 ≡ false
@@ -204,7 +204,7 @@ length_reads n short =
     same_from n (length_of_text (length_text n))
     (agree_below_at (λ m. is_same m (length_of_text (length_text m))) (λ m. true) 129 n refl (omega arith))
 
-no_length_of_nothing : (n : ℕ) → length_of_text [] ≡ Some n → ⊥
+pub no_length_of_nothing : (n : ℕ) → length_of_text [] ≡ Some n → ⊥
 unfolding length_of_text
 no_length_of_nothing n e = none-some n e
 
@@ -225,46 +225,73 @@ parts_make : (p : PrefixValue) → p.value % 2 ^ (128 - p.len) ≡ 0 → prefix_
 unfolding prefix_of_parts
 parts_make p clear = cond-true _ _ _ (eq-eqb _ _ clear)
 
-prefix_is : (text : List ℕ) (p : PrefixValue) → prefix_of_text text ≡ Some p → IsPrefixText text p
-unfolding prefix_of_text
-prefix_is text p e =
+-- a text is an address, a slash and a length, by what these are read as
+pub record ReadsParts (address_of length_of : List ℕ → Option ℕ) (text : List ℕ) (p : PrefixValue) : Type 0 where
+  pub front : List ℕ
+  pub back : List ℕ
+  pub parts : text ≡ front ++ (47 ∷ back)
+  pub address : address_of front ≡ Some p.value
+  pub len : length_of back ≡ Some p.len
+  pub clear : p.value % 2 ^ (128 - p.len) ≡ 0
+
+pub parts_are : (address_of length_of : List ℕ → Option ℕ) → ((n : ℕ) → length_of [] ≡ Some n → ⊥) → (text : List ℕ) (p : PrefixValue)
+    → prefix_of_parts (address_of (before_first (λ b. eqb b 47) text)) (length_of (after_first (λ b. eqb b 47) text)) ≡ Some p
+    → ReadsParts address_of length_of text p
+parts_are address_of length_of none text p e =
     let slash : ℕ → Bool = λ b. eqb b 47 in
     let place = position_or_len slash text in
     let parts = parts_some _ _ p e in
-    let len = length_is (drop (place + 1) text) p.len parts.1 in
     let within : place < length text = elim (cases_lt place (length text)) [
       | inl inside ↦ inside
-      | inr past ↦ absurd (no_length_of_nothing p.len (ap length_of_text (sym (drop_all (place + 1) text (omega arith))) ∙ parts.1))
+      | inr past ↦ absurd (none p.len (ap length_of (sym (drop_all (place + 1) text (omega arith))) ∙ parts.1))
     ] in
-    let address = (address_text_is (take place text) p.value).0 parts.0 in
     record {
-      address_part = take place text;
+      front = take place text;
+      back = drop (place + 1) text;
       parts = split_at_first slash text 0 within
-          ∙ ap (λ c. take place text ++ (c ∷ drop (place + 1) text)) (eqb-true _ _ (passes_at_first slash text 0 within))
-          ∙ ap (λ t. take place text ++ (47 ∷ t)) len.1;
+          ∙ ap (λ c. take place text ++ (c ∷ drop (place + 1) text)) (eqb-true _ _ (passes_at_first slash text 0 within));
+      address = parts.0;
+      len = parts.1;
+      clear = parts.2;
+    }
+
+pub parts_read : (address_of length_of : List ℕ → Option ℕ) (front back : List ℕ) (p : PrefixValue) → NoSlash front
+    → address_of front ≡ Some p.value → length_of back ≡ Some p.len → p.value % 2 ^ (128 - p.len) ≡ 0
+    → prefix_of_parts (address_of (before_first (λ b. eqb b 47) (front ++ (47 ∷ back))))
+    (length_of (after_first (λ b. eqb b 47) (front ++ (47 ∷ back)))) ≡ Some p
+parts_read address_of length_of front back p none address len clear =
+    let slash : ℕ → Bool = λ b. eqb b 47 in
+    let whole = front ++ (47 ∷ back) in
+    let place : position_or_len slash whole ≡ length front =
+    position_or_len_is slash whole (length front) 0 (omega (arith, length-append front (47 ∷ back)))
+    (λ k below. ap slash (get_or_append_left front (47 ∷ back) 0 k below) ∙ All-get_or (λ c. slash c ≡ false) front k 0 below none)
+    (λ inside. ap slash (get_or-append_seam front 47 back 0)) in
+    ap (λ n. prefix_of_parts (address_of (take n whole)) (length_of (drop (n + 1) whole))) place
+    ∙ ap (λ t. prefix_of_parts (address_of t) (length_of (drop (length front + 1) whole))) (take-append_seam front (47 ∷ back))
+    ∙ ap (λ t. prefix_of_parts (address_of front) (length_of t)) (drop-append-add front (47 ∷ back) 1)
+    ∙ ap (λ o. prefix_of_parts o (length_of back)) address
+    ∙ ap (prefix_of_parts (Some p.value)) len
+    ∙ parts_make p clear
+
+prefix_is : (text : List ℕ) (p : PrefixValue) → prefix_of_text text ≡ Some p → IsPrefixText text p
+unfolding prefix_of_text
+prefix_is text p e =
+    let read = parts_are address_of_text length_of_text no_length_of_nothing text p e in
+    let len = length_is read.back p.len read.len in
+    let address = (address_text_is read.front p.value).0 read.address in
+    record {
+      address_part = read.front;
+      parts = read.parts ∙ ap (λ t. read.front ++ (47 ∷ t)) len.1;
       address = address;
-      is_prefix = (len.0, address_below (take place text) p.value address, parts.2);
+      is_prefix = (len.0, address_below read.front p.value address, read.clear);
     }
 
 prefix_from : (text : List ℕ) (p : PrefixValue) → IsPrefixText text p → prefix_of_text text ≡ Some p
 unfolding prefix_of_text
 prefix_from text p h =
-    let slash : ℕ → Bool = λ b. eqb b 47 in
-    let front = h.address_part in
-    let back = length_text p.len in
-    let whole = front ++ (47 ∷ back) in
-    let none = address_no_slash front p.value h.address in
-    let place : position_or_len slash whole ≡ length front =
-    position_or_len_is slash whole (length front) 0 (omega (arith, length-append front (47 ∷ back)))
-    (λ k below. ap slash (get_or_append_left front (47 ∷ back) 0 k below) ∙ All-get_or (λ c. slash c ≡ false) front k 0 below none)
-    (λ inside. ap slash (get_or-append_seam front 47 back 0)) in
     ap prefix_of_text h.parts
-    ∙ ap (λ n. prefix_of_parts (address_of_text (take n whole)) (length_of_text (drop (n + 1) whole))) place
-    ∙ ap (λ t. prefix_of_parts (address_of_text t) (length_of_text (drop (length front + 1) whole))) (take-append_seam front (47 ∷ back))
-    ∙ ap (λ t. prefix_of_parts (address_of_text front) (length_of_text t)) (drop-append-add front (47 ∷ back) 1)
-    ∙ ap (λ o. prefix_of_parts o (length_of_text back)) ((address_text_is front p.value).1 h.address)
-    ∙ ap (prefix_of_parts (Some p.value)) (length_reads p.len h.is_prefix.0)
-    ∙ parts_make p h.is_prefix.2
+    ∙ parts_read address_of_text length_of_text h.address_part (length_text p.len) p (address_no_slash h.address_part p.value h.address)
+    ((address_text_is h.address_part p.value).1 h.address) (length_reads p.len h.is_prefix.0) h.is_prefix.2
 
 pub prefix_text_is : (text : List ℕ) (p : PrefixValue) → (prefix_of_text text ≡ Some p) ↔ IsPrefixText text p
 prefix_text_is text p = (prefix_is text p, prefix_from text p)

@@ -4,3 +4,4 @@ pub use Rattle.v6_addr.proofs.Prefixes.{Holds_own_value, Holds_at_128, Holds_out
 pub use Rattle.v6_addr.proofs.Prefixes.{same_above}
 pub use Rattle.v6_addr.proofs.Fields.{same_below, put_same, put_above, put_below, put_bound, field_of-same, field_of-before, field_of-behind, with_field_of_bound, Holds-with_field}
 pub use Rattle.v6_addr.proofs.BitLaws.{same_from_both, put_cut, with_field_of-same, Holds-longer}
+pub use Rattle.v6_addr.proofs.PrefixGrammar4.{prefix4_text_is}

@@ -1,7 +1,11 @@
--- The texts of IPv4 addresses byte by byte. 46 is the dot
-use Rattle.std.specs.Prelude.{◌≡◌, ℕ, ◌+◌, ◌*◌, ◌^◌, ◌<◌, ◌≤◌, ◌==◌, nat_le, nat_lt, if◌then◌else◌, Option, Some, None, IfSome, option_map, option_and_then}
+-- The texts of IPv4 addresses byte by byte, and those of prefixes. 46 is the dot, 47 the slash
+use Rattle.std.specs.Prelude.{ℕ, ◌+◌, ◌*◌, ◌^◌, ◌<◌, ◌≤◌, ◌==◌, nat_le, nat_lt, if◌then◌else◌, List, Option, Some, None, IfSome, option_map, option_and_then}
 use Rattle.v6_addr.specs.declared.scan4.Place4.{Place4}
+use Rattle.std.specs.List.{before_first, after_first}
+use Rattle.v6_addr.specs.Address.{PrefixValue}
 use Rattle.v6_addr.specs.Lengths.{next_number}
+use Rattle.v6_addr.specs.Scan.{walked}
+use Rattle.v6_addr.specs.Text.{length_of_text, prefix_of_parts}
 
 -- at most three numbers with their dots, the value that they make, and the number that has begun
 pub record IsPlace4 (place : Place4) : Type 0 where
@@ -37,3 +41,18 @@ behind4 place byte =
 unfoldable pub address_at : Place4 → Option ℕ → Option ℕ
 address_at place None = None
 address_at place (Some n) = if place.done == 3 then Some ((place.value * 256 + n) * 2 ^ 96) else None
+
+-- ---- what is read
+
+-- the IPv4 address that a text writes, read byte by byte; none where the text is outside the grammar
+unfoldable pub address4_of_text : List ℕ → Option ℕ
+address4_of_text text = option_and_then (λ place. address_at place place.number) (walked behind4 start4 text)
+
+-- an IPv4 prefix's length: at most 32
+unfoldable pub length4_of_text : List ℕ → Option ℕ
+length4_of_text text = option_and_then (λ n. if nat_le n 32 then Some n else None) (length_of_text text)
+
+-- the IPv4 prefix that a text writes, an address, a slash and a length; none where the text is outside the grammar
+unfoldable pub prefix4_of_text : List ℕ → Option PrefixValue
+prefix4_of_text text =
+    prefix_of_parts (address4_of_text (before_first (λ b. b == 47) text)) (length4_of_text (after_first (λ b. b == 47) text))

@@ -1,7 +1,8 @@
 ghost use Rattle.std.specs.Prelude.{◌≡◌, ℕ, ◌+◌, ◌-◌, ◌*◌, ◌%◌, ◌^◌, ◌<◌, ◌≤◌, ◌↔◌, IsTrue, List, Some, length};
 ghost use Rattle.v6_addr.specs.Address.{PrefixValue, IsPrefix, Holds, holds_address, IsInside, is_inside, field_of, with_field_of};
 ghost use Rattle.v6_addr.specs.Text.{address_of_text, prefix_of_text, address_text, prefix_text, longest_run};
-ghost use Rattle.v6_addr.specs.Text4.{IsAddress4Text, address4_text};
+ghost use Rattle.v6_addr.specs.Text4.{IsAddress4Text, IsPrefix4Text, address4_text};
+ghost use Rattle.v6_addr.specs.Scan4.{address4_of_text, prefix4_of_text};
 ghost use Rattle.v6_addr.specs.Grammar.{IsAddressText, IsPrefixText, IsLongestRun};
 
 /// A law: an address's text is read exactly where the grammar of RFC 4291 section 2.2 without a
@@ -38,6 +39,15 @@ pub fn prefix_reads_back()
 /// A law: a text writes one IPv4 address at most.
 pub fn address4_grammar()
     ensures { (text : List ℕ) (a b : ℕ) → IsAddress4Text text a → IsAddress4Text text b → a ≡ b }
+{}
+
+/// Laws: the text of an IPv4 address or prefix is read exactly where the grammar has it (RFC 6943
+/// section 3.1.1, the strict form, and RFC 4632 section 3.1).
+pub fn texts4_are_read()
+    ensures address { (text : List ℕ) (a : ℕ)
+        → (address4_of_text text ≡ Some a) ↔ IsAddress4Text text a }
+    ensures prefix { (text : List ℕ) (p : PrefixValue)
+        → (prefix4_of_text text ≡ Some p) ↔ IsPrefix4Text text p }
 {}
 
 /// A law: the text of an IPv4 address has at most 15 bytes, and is read as that address.

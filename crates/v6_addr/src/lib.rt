@@ -30,6 +30,7 @@ pub use errors::BadAddr;
 pub use laws::{
     address_grammar, address_reads_back, address4_grammar, address4_reads_back, fields_apart,
     longest_run_rule, prefix_grammar, prefix_reads_back, prefix_tests, prefixes_nest,
+    texts4_are_read,
 };
 pub use prefix::Prefix;
 pub use prefix4::parse_prefix4;

@@ -1,4 +1,4 @@
-use Rattle.std.proofs.Common.{ap, subst, arith, ◌≤◌}
+use Rattle.std.proofs.Common.{subst, arith, ◌≤◌}
 use Rattle.std.specs.Prelude.{IfSome}
 use Rattle.v6_addr.proofs.Places4.{value_fits}
 use Rattle.v6_addr.proofs.scan4.behind_dot.Goals as goal

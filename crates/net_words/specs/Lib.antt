@@ -1,0 +1,4 @@
+pub mod Words
+pub mod Prefixes
+pub mod Description
+pub mod Intent

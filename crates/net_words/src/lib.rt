@@ -1,0 +1,35 @@
+//! What a description and an intent say, or their first fault of shape.
+//!
+//! `read_description` and `read_intent` read a text: first as TOML, and then its tree, table by
+//! table, item by item and key by key, in one written order. What they give holds names as texts:
+//! whether a name is known, and whether parts fit one another, is judged later. `specs/` has the
+//! same order as functions on the tree, and each call here gives exactly what they give.
+#![tactic(auto)]
+
+mod block;
+mod description;
+mod intent;
+mod limits;
+mod link;
+mod node;
+mod numbers;
+mod policy;
+mod prefixes;
+mod route;
+mod sid;
+mod step;
+#[cfg(test)]
+mod tests;
+mod words;
+
+pub use block::{BlockKind, DescribedBlock};
+pub use description::{Description, describe, read_description};
+pub use intent::{DescribedIntent, Mode, describe_intent, read_intent};
+pub use limits::{DEFAULT_CONTAINERS, MAX_CONTAINERS, MAX_STEPS};
+pub use link::DescribedLink;
+pub use node::DescribedNode;
+pub use policy::DescribedPolicy;
+pub use prefixes::{Family, FamilyPrefix};
+pub use route::DescribedRoute;
+pub use sid::{BehaviourWord, DescribedSid, Flavour};
+pub use step::DescribedStep;

@@ -1,0 +1,40 @@
+//! Links.
+
+ghost use Rattle.std.specs.Prelude.{Result};
+ghost use Rattle.toml.specs.Data.{Members};
+ghost use Rattle.toml.specs.View.{table_view};
+ghost use Rattle.net_model.specs.declared.fault.FaultPlace.{FaultPlace};
+ghost use Rattle.net_model.specs.declared.fault.NetFault.{NetFault};
+ghost use Rattle.toml_words.specs.Reading.{Gives};
+ghost use Rattle.net_words.specs.Description.{link_of};
+
+use net_model::{FaultPlace, Key, Name, NetFault};
+use std::alloc::Global;
+use toml::Table;
+use toml_words::{Describes, needed, only, optional};
+
+/// A link, as it is described.
+#[derive(Debug, Drop)]
+pub struct DescribedLink {
+    /// Its name.
+    pub name: Name,
+    /// The name of the node where it starts.
+    pub from: Name,
+    /// The name of the node where it ends; with none the link leaves the network.
+    pub to: Option<Name>,
+}
+
+/// Tables of links.
+pub(crate) struct Links;
+
+impl Describes<DescribedLink> for Links {
+    ghost of = { link_of };
+
+    fn read(alloc: Global, table: &Table, place: FaultPlace) -> Result<DescribedLink, NetFault> {
+        only(table, &[Key::Name, Key::From, Key::To], place)?;
+        let name = needed::<Name>(alloc, table, place, Key::Name)?;
+        let from = needed::<Name>(alloc, table, place, Key::From)?;
+        let to = optional::<Option<Name>>(alloc, None, table, place, Key::To)?;
+        Ok(DescribedLink { name, from, to })
+    }
+}

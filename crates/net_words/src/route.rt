@@ -1,0 +1,50 @@
+//! Routes.
+
+ghost use Rattle.std.specs.Prelude.{Result};
+ghost use Rattle.toml.specs.Data.{Members};
+ghost use Rattle.toml.specs.View.{table_view};
+ghost use Rattle.net_model.specs.declared.fault.FaultPlace.{FaultPlace};
+ghost use Rattle.net_model.specs.declared.fault.NetFault.{NetFault};
+ghost use Rattle.toml_words.specs.Reading.{Gives};
+ghost use Rattle.net_words.specs.Description.{route_of};
+
+use crate::prefixes::FamilyPrefix;
+use base::Seq;
+use net_model::{FaultPlace, Key, LAST_TABLE, MAX_LINKS_OF_SET, Name, NetFault};
+use std::alloc::Global;
+use toml::Table;
+use toml_words::{Describes, needed, needed_list, only, optional_number};
+
+/// A route, as it is described.
+#[derive(Debug, Drop)]
+pub struct DescribedRoute {
+    /// The name of its node.
+    pub node: Name,
+    /// The number of its table, from 0 to 65535; by default 0.
+    pub table: u32,
+    /// Its prefix, of either family.
+    pub prefix: FamilyPrefix,
+    /// The names of the equal next hops, at most 64.
+    pub via: Seq<Name>,
+}
+
+/// Tables of routes.
+pub(crate) struct Routes;
+
+impl Describes<DescribedRoute> for Routes {
+    ghost of = { route_of };
+
+    fn read(alloc: Global, keys: &Table, place: FaultPlace) -> Result<DescribedRoute, NetFault> {
+        only(keys, &[Key::Node, Key::Table, Key::Prefix, Key::Via], place)?;
+        let node = needed::<Name>(alloc, keys, place, Key::Node)?;
+        let table = optional_number((0, LAST_TABLE), 0, keys, place, Key::Table)?;
+        let prefix = needed::<FamilyPrefix>(alloc, keys, place, Key::Prefix)?;
+        let via = needed_list::<Name>(alloc, MAX_LINKS_OF_SET, keys, place, Key::Via)?;
+        Ok(DescribedRoute {
+            node,
+            table,
+            prefix,
+            via,
+        })
+    }
+}
