@@ -20,9 +20,9 @@ pub(crate) struct Told {
     pub(crate) after: Content,
 }
 
-/// Writes the error of a kind about a packet into a slot, from an address, if one is made; gives the
-/// packet back, and whether there is one. The packet's bytes are brought together in their place,
-/// so no memory is taken.
+/// Writes the error of a kind about a packet into a slot, from an address, if one is made; gives
+/// the packet back, and whether there is one. The packet's bytes are brought together in their
+/// place, so no memory is taken.
 fn answered(packet: Packet, kind: &IcmpKind, from: Addr, slot: &mut IcmpSlot) -> (Content, bool)
     ensures packet { result.0 ≡ V6 packet }
     ensures made { result.1 ≡ is_some (error_packet packet kind.now from.value) }

@@ -151,8 +151,8 @@ fn staged(
 }
 
 /// Walks a packet from a place and writes each of its frames, with its number, and that of the
-/// ICMPv6 error about it, if a node sends one. Decision d takes the choice at d modulo the number of
-/// choices. The walk ends as its last stage does, after at most 10,000 stages.
+/// ICMPv6 error about it, if a node sends one. Decision d takes the choice at d modulo the number
+/// of choices. The walk ends as its last stage does, after at most 10,000 stages.
 pub fn write_walk<O: Sink>(
     net: &Net,
     start: Place,

@@ -54,7 +54,8 @@ returns-in-None-clause-ended g c =
     let last = staged_end c.args.number c.args.net.now (STAGES - c.loop-used.used) (STAGES - (c.loop-used.used + 1))
     c.loop-used.place c.loop-used.content
     (choice_at c.args.choices.now) c.loop-used.taken gave _ _ _ (g.O.Sink.seen c.write_outcome.new.out)
-    left c.staged-outcome.ensures.function c.loop-used.invariant.progress (sym c.in-None.ensures) (c.in_ok-write_outcome.ensures step.error tells slot) in
+    left c.staged-outcome.ensures.function c.loop-used.invariant.progress (sym c.in-None.ensures)
+    (c.in_ok-write_outcome.ensures step.error tells slot) in
     c.ended_by.ensures ∙ last.1
 
 pub returns-in-None-clause-wrote : goal.returns-in-None-clause-wrote
@@ -67,7 +68,8 @@ returns-in-None-clause-wrote g c =
     let last = staged_end c.args.number c.args.net.now (STAGES - c.loop-used.used) (STAGES - (c.loop-used.used + 1))
     c.loop-used.place c.loop-used.content
     (choice_at c.args.choices.now) c.loop-used.taken gave _ _ _ (g.O.Sink.seen c.write_outcome.new.out)
-    left c.staged-outcome.ensures.function c.loop-used.invariant.progress (sym c.in-None.ensures) (c.in_ok-write_outcome.ensures step.error tells slot) in
+    left c.staged-outcome.ensures.function c.loop-used.invariant.progress (sym c.in-None.ensures)
+    (c.in_ok-write_outcome.ensures step.error tells slot) in
     last.0
 
 pub returns-clause-ended : goal.returns-clause-ended
