@@ -1,8 +1,26 @@
--- What a stage of the code gives.
-use Rattle.std.specs.Prelude.{None}
-use Rattle.walk_rules.specs.Treatment.{Gave}
+-- What a stage of the code gives and tells.
+use Rattle.std.specs.Prelude.{◌≡◌, ℕ, List, is_some}
+use Rattle.srv6_rules.specs.declared.sid.Reason.{Reason}
+use Rattle.srv6_rules.specs.Packet.{Content}
+use Rattle.net_model.specs.Network.{Network}
+use Rattle.walk_rules.specs.declared.place.Outcome.TheVariants as outcomes
+use Rattle.walk_rules.specs.Treatment.{Gave, dropped, error_from, goes}
+use Rattle.icmp6_errors.specs.Answer.{error_bytes}
+use Rattle.node_stage.specs.declared.error.Told.{Told}
 use Rattle.node_stage.specs.declared.treatment.Staged.{Staged}
+use Rattle.node_stage.specs.declared.treatment.Staged.TheVariants.{Goes, Drops}
 
--- no ICMPv6 error is built yet
-abbrev pub gave_of : Staged → Gave
-gave_of s = record { outcome = s.outcome; after = s.after; error = None }
+-- what a stage at a node of a network gives
+abbrev pub gave_of : Network → ℕ → Staged → Gave
+gave_of net node (Goes outcome after) = goes outcome after
+gave_of net node (Drops reason at content) = dropped net node reason at content
+
+-- what is given where a node with an address drops what stands there
+abbrev pub dropped_from : ℕ → Reason → ℕ → Content → Gave
+dropped_from from reason at content =
+    let error = error_from from reason at content in
+    record { outcome = outcomes.Drop reason (is_some error); after = content; error = error }
+
+-- what is told is what is given, and the slot has the bytes of the error
+abbrev pub Tells : Told → List ℕ → Gave → Type 0
+Tells told slot gave = (told.outcome ≡ gave.outcome) × (told.after ≡ gave.after) × (slot ≡ error_bytes gave.error)

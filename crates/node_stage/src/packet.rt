@@ -1,7 +1,7 @@
 //! The packet: the fields of its IPv6 header, and the bytes behind that header.
 
 ghost use Rattle.std.specs.Prelude.{◌≡◌, ◌-◌, ◌<◌, ◌≤◌, length, drop, slice_set};
-ghost use Rattle.srv6_rules.specs.Packet.{read_as, packet_at, first_word, IsSpellable};
+ghost use Rattle.srv6_rules.specs.Packet.{read_as, packet_at, first_word, spelling, IsSpellable};
 ghost use Rattle.ip6_headers.specs.Reading.{HoldsPacket};
 
 use crate::content::Content;
@@ -12,7 +12,8 @@ use srv6_rules::numbers::IPV6_HEADER_LEN;
 use std::marker::Model;
 use v6_addr::Addr;
 
-/// An IPv6 packet (RFC 8200 section 3), which bytes can spell.
+/// An IPv6 packet (RFC 8200 section 3), which bytes can spell. Its payload has room for the IPv6
+/// header in front (own rule).
 #[derive(Debug, Drop)]
 pub struct Packet {
     traffic_class: u8,
@@ -25,14 +26,15 @@ pub struct Packet {
 }
 
 impl Model for Packet {
-    ghost use Rattle.srv6_rules.specs.Packet.{Packet as PacketValue, IsSpellable};
+    ghost use Rattle.std.specs.Prelude.{◌≤◌};
+    ghost use Rattle.srv6_rules.specs.Packet.{Packet as PacketValue, IsSpellable, header_len};
     ghost use Rattle.node_stage.specs.PacketView.{packet_view};
 
     ghost Value = { PacketValue };
 
     ghost view = { packet_view };
 
-    ghost invariant = { λ p. IsSpellable (packet_view p) };
+    ghost invariant = { λ p. IsSpellable (packet_view p) × (header_len ≤ p.payload.front) };
 }
 
 impl Packet {
@@ -159,6 +161,16 @@ impl Packet {
     /// No bytes, of the payload's allocator; takes no memory.
     pub(crate) fn no_bytes(&self) -> PktBuf {
         self.payload.no_bytes()
+    }
+
+    /// The packet's bytes, in place: its header is written in front of the payload.
+    pub(crate) fn spelled(self) -> PktBuf
+        ensures { result.bytes ≡ spelling self }
+    {
+        let header = self.header();
+        let mut bytes = self.payload;
+        bytes.put_front(header.as_slice());
+        bytes
     }
 
     /// What the payload's bytes from a place on read as, as a packet of a family, in place.

@@ -111,6 +111,19 @@ impl PktBuf {
         self.front = front;
     }
 
+    /// Puts bytes in front of the packet's, in place of as many spare ones.
+    pub fn put_front(&mut self, bytes: &[u8])
+        requires { length bytes.now ≤ self.old.front }
+        ensures { self.new ≡ record {
+          bytes = bytes.now ++ self.old.bytes;
+          front = self.old.front - length bytes.now;
+        } }
+    {
+        let front = self.front - bytes.len();
+        self.held[front..self.front].copy_from_slice(bytes);
+        self.front = front;
+    }
+
     /// Gives at least so many spare bytes in front; the packet's bytes stay. With want of memory
     /// nothing changes.
     pub fn reserve_front(&mut self, n: usize) -> Result<(), NoMemory>

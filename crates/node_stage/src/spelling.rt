@@ -1,49 +1,25 @@
 //! Packets spelled (RFC 8200 section 3).
 
-ghost use Rattle.std.specs.Prelude.{◌≡◌, ◌+◌, ◌^◌, ◌<◌, ◌++◌, [], ◌∷◌, length, All, OnOk, OnErr};
-ghost use Rattle.srv6_rules.specs.Packet.{two_bytes, four_bytes, address_bytes, header_spelling, spelling, bytes_of, IsContent};
+ghost use Rattle.std.specs.Prelude.{◌≡◌, ◌+◌, ◌^◌, ◌<◌, ◌≤◌, ◌++◌, length, All, OnOk, OnErr};
+ghost use Rattle.arrayvec.specs.ArrayVec.{array_vec_len};
+ghost use Rattle.srv6_rules.specs.Packet.{header_spelling, spelling, bytes_of, IsContent};
 ghost use Rattle.node_stage.specs.Fronts.{IsFront};
 
 use crate::content::{Content, Held};
 use crate::packet::Packet;
+use arrayvec::ArrayVec;
 use srv6_rules::numbers::IPV6_HEADER_LEN;
 use std::alloc::AllocError;
-use v6_addr::Addr;
 
-/// Appends a number's 2 bytes.
-#[tactic(auto, unfolding(srv6_rules::specs::Packet::two_bytes))]
-fn append_two(out: &mut Vec<u8>, n: u16) -> Result<(), AllocError>
-    ensures ok { OnOk result (out.new.items ≡ out.old.items ++ two_bytes n) }
-    ensures err { OnErr result (out.new.items ≡ out.old.items) }
-{
-    out.extend_from_slice(&n.to_be_bytes())
-}
+/// The bytes of an IPv6 header.
+pub(crate) type HeaderBytes = ArrayVec<u8, IPV6_HEADER_LEN>;
 
-/// Appends a number's 4 bytes.
-#[tactic(auto, unfolding(srv6_rules::specs::Packet::four_bytes))]
-fn append_four(out: &mut Vec<u8>, n: u32) -> Result<(), AllocError>
-    ensures ok { OnOk result (out.new.items ≡ out.old.items ++ four_bytes n) }
-    ensures err { OnErr result (out.new.items ≡ out.old.items) }
+/// Appends bytes of a header.
+fn append(out: &mut HeaderBytes, bytes: &[u8])
+    requires { array_vec_len out.old + length bytes.now ≤ IPV6_HEADER_LEN }
+    ensures { out.new.items ≡ out.old.items ++ bytes.now }
 {
-    out.extend_from_slice(&n.to_be_bytes())
-}
-
-/// Appends an address's 16 bytes.
-#[tactic(auto, unfolding(srv6_rules::specs::Packet::address_bytes))]
-fn append_address(out: &mut Vec<u8>, a: Addr) -> Result<(), AllocError>
-    ensures ok { OnOk result (out.new.items ≡ out.old.items ++ address_bytes a.value) }
-    ensures err { OnErr result (out.new.items ≡ out.old.items) }
-{
-    out.extend_from_slice(&a.value.to_be_bytes())
-}
-
-/// Appends a byte.
-fn append_byte(out: &mut Vec<u8>, byte: u8) -> Result<(), AllocError>
-    ensures ok { OnOk result (out.new.items ≡ out.old.items ++ byte ∷ []) }
-    ensures err { OnErr result (out.new.items ≡ out.old.items) }
-{
-    out.push(byte)?;
-    Ok(())
+    out.try_extend_from_slice(bytes).unwrap();
 }
 
 /// Each byte is below 256.
@@ -52,19 +28,18 @@ fn are_bytes(bytes: &[u8])
 {}
 
 impl Packet {
-    /// Appends the header's bytes; with want of memory a front of them may stand there.
-    #[tactic(auto, using(crate::proofs::SpellingLemmas::fronts), unfolding(srv6_rules::specs::Packet::header_spelling, srv6_rules::specs::Packet::first_word))]
-    fn append_header(&self, out: &mut Vec<u8>) -> Result<(), AllocError>
-        ensures ok { OnOk result (out.new.items ≡ out.old.items ++ header_spelling self.now) }
-        ensures err { OnErr result (IsFront out.old.items out.new.items) }
+    /// The header's bytes.
+    pub(crate) fn header(&self) -> HeaderBytes
+        ensures bytes { result.items ≡ header_spelling self.now }
+        ensures len { array_vec_len result ≡ IPV6_HEADER_LEN }
     {
-        append_four(out, self.first_word())?;
-        append_two(out, self.payload_len())?;
-        append_byte(out, self.next_header())?;
-        append_byte(out, self.hop_limit())?;
-        append_address(out, self.source())?;
-        append_address(out, self.destination())?;
-        Ok(())
+        let mut out = HeaderBytes::new();
+        append(&mut out, &self.first_word().to_be_bytes());
+        append(&mut out, &self.payload_len().to_be_bytes());
+        append(&mut out, &[self.next_header(), self.hop_limit()]);
+        append(&mut out, &self.source().value.to_be_bytes());
+        append(&mut out, &self.destination().value.to_be_bytes());
+        out
     }
 
     /// Appends the packet's bytes; with want of memory a front of them may stand there.
@@ -73,7 +48,7 @@ impl Packet {
         ensures ok { OnOk result (out.new.items ≡ out.old.items ++ spelling self.now) }
         ensures err { OnErr result (IsFront out.old.items out.new.items) }
     {
-        self.append_header(out)?;
+        out.extend_from_slice(self.header().as_slice())?;
         out.extend_from_slice(self.payload())?;
         Ok(())
     }

@@ -3,6 +3,8 @@
 ghost use Rattle.std.specs.Prelude.{◌≡◌, ◌<◌, length};
 
 use crate::{Content, PktBuf, stage};
+use icmp6_errors::IcmpSlot;
+use ip6_headers::four_at;
 use net_model::{Link, Name, Net, NetParts, Node, Route, TypeList};
 use srv6_rules::{Behaviour, Csid, Family, LinkSet, Reason, SidEntry};
 use std::alloc::{AllocError, Global};
@@ -44,6 +46,13 @@ const INSIDE: [u8; 40] = [
     0x60, 0x00, 0x00, 0x00, 0x00, 0x00, 0x3b, 0x02, 0x20, 0x01, 0x0d, 0xb8, 0x00, 0x00, 0x00, 0x00,
     0x00, 0x00, 0x00, 0x00, 0x00, 0x00, 0x00, 0x01, 0x20, 0x01, 0x0d, 0xb8, 0x00, 0x00, 0x00, 0x00,
     0x00, 0x00, 0x00, 0x00, 0x00, 0x00, 0x00, 0x02,
+];
+
+/// No route from B to its destination, in front of what is quoted: from ::2 to 2001:db8::1.
+const NO_ROUTE: [u8; 48] = [
+    0x60, 0x00, 0x00, 0x00, 0x00, 0x30, 0x3a, 0x40, 0x00, 0x00, 0x00, 0x00, 0x00, 0x00, 0x00, 0x00,
+    0x00, 0x00, 0x00, 0x00, 0x00, 0x00, 0x00, 0x02, 0x20, 0x01, 0x0d, 0xb8, 0x00, 0x00, 0x00, 0x00,
+    0x00, 0x00, 0x00, 0x00, 0x00, 0x00, 0x00, 0x01, 0x01, 0x00, 0xda, 0x61, 0x00, 0x00, 0x00, 0x00,
 ];
 
 /// Destination Options of a PadN, before Hop-by-Hop Options of a PadN.
@@ -211,7 +220,7 @@ fn end_makes_the_next_segment_the_destination(rt: HostRuntime) -> Result<(), Fai
         how: How::Arrived { table: 0 },
         family: Family::V6,
     };
-    let outcome = stage(&net, &place, &mut content, 7);
+    let outcome = stage(&net, &place, &mut content, 7, &mut IcmpSlot::new());
     let how = How::Submitted { table: 0 };
     assert_eq!(rt; outcome, Outcome::Again { sid: 0, how });
     let wanted = joined(
@@ -244,7 +253,7 @@ fn decapsulation_exposes_the_packet_inside(rt: HostRuntime) -> Result<(), Fail> 
         how: How::Submitted { table: 0 },
         family: Family::V6,
     };
-    let outcome = stage(&net, &place, &mut content, 0);
+    let outcome = stage(&net, &place, &mut content, 0, &mut IcmpSlot::new());
     let how = How::Arrived { table: 5 };
     assert_eq!(rt;
         outcome,
@@ -273,7 +282,7 @@ fn a_sid_that_is_not_built_drops_the_packet(rt: HostRuntime) -> Result<(), Fail>
         how: How::Arrived { table: 0 },
         family: Family::V6,
     };
-    let outcome = stage(&net, &place, &mut content, 0);
+    let outcome = stage(&net, &place, &mut content, 0, &mut IcmpSlot::new());
     assert_eq!(rt;
         outcome,
         Outcome::Drop {
@@ -298,21 +307,29 @@ fn the_packet_inside_leaves(rt: HostRuntime) -> Result<(), Fail> {
         how: How::Arrived { table: 5 },
         family: Family::V6,
     };
-    let outcome = stage(&net, &place, &mut content, 3);
+    let outcome = stage(&net, &place, &mut content, 3, &mut IcmpSlot::new());
     assert_eq!(rt; outcome, Outcome::Send { link: 1 });
     assert_eq!(rt; next_place(&net, &place, &outcome), None);
     assert_eq!(rt; ended_by(&net, &place, &outcome), Ended::Left { link: 1 });
     Ok(())
 }
 
+/// The pointer of an ICMPv6 error; none of no bytes.
+fn pointer_of(error: &[u8]) -> Option<u32> {
+    if error.len() < 48 {
+        return None;
+    }
+    Some(four_at(error, 44))
+}
+
 /// What comes at B of a packet to its End, with a next header and what stands behind the IPv6
-/// header.
-fn outcome_at_b(
+/// header, and the pointer of the error that is sent, if one is.
+fn at_b(
     alloc: Global,
     net: &Net,
     next_header: u8,
     payload: &[u8],
-) -> Result<Outcome, AllocError>
+) -> Result<(Outcome, Option<u32>), AllocError>
     requires nodes { length net.now.nodes ≡ 2 }
     requires payload { length payload.now < 256 }
 {
@@ -327,29 +344,31 @@ fn outcome_at_b(
         how: How::Arrived { table: 0 },
         family: Family::V6,
     };
-    Ok(stage(net, &place, &mut content, 0))
+    let mut error = IcmpSlot::new();
+    let outcome = stage(net, &place, &mut content, 0, &mut error);
+    Ok((outcome, pointer_of(error.as_slice())))
 }
 
-fn drop_for(reason: Reason) -> Outcome {
-    Outcome::Drop {
-        reason,
-        error: false,
-    }
+/// A drop with an error that has a pointer, or without one.
+fn drop_for(reason: Reason, pointer: Option<u32>) -> (Outcome, Option<u32>) {
+    let error = pointer.is_some();
+    (Outcome::Drop { reason, error }, pointer)
 }
 
-/// Options are judged one by one.
+/// Options are judged one by one. A late Hop-by-Hop Options header is told by the place that names
+/// it, an option by its type.
 #[test]
 fn options_refuse_at_b(rt: HostRuntime) -> Result<(), Fail> {
     let net = net(&rt, rt.alloc())?;
     assert_eq!(rt; net.nodes(), 2);
-    let late = outcome_at_b(rt.alloc(), &net, 60, &LATE_HOP_BY_HOP)?;
-    assert_eq!(rt; late, drop_for(Reason::LateHopByHop));
-    let unknown = outcome_at_b(rt.alloc(), &net, 60, &UNKNOWN_OPTION)?;
-    assert_eq!(rt; unknown, drop_for(Reason::OptionUnknown));
-    let discarded = outcome_at_b(rt.alloc(), &net, 60, &DISCARDED_OPTION)?;
-    assert_eq!(rt; discarded, drop_for(Reason::OptionDiscard));
-    let long = outcome_at_b(rt.alloc(), &net, 60, &LONG_OPTION)?;
-    assert_eq!(rt; long, drop_for(Reason::BadChain));
+    let late = at_b(rt.alloc(), &net, 60, &LATE_HOP_BY_HOP)?;
+    assert_eq!(rt; late, drop_for(Reason::LateHopByHop, Some(40)));
+    let unknown = at_b(rt.alloc(), &net, 60, &UNKNOWN_OPTION)?;
+    assert_eq!(rt; unknown, drop_for(Reason::OptionUnknown, Some(45)));
+    let discarded = at_b(rt.alloc(), &net, 60, &DISCARDED_OPTION)?;
+    assert_eq!(rt; discarded, drop_for(Reason::OptionDiscard, None));
+    let long = at_b(rt.alloc(), &net, 60, &LONG_OPTION)?;
+    assert_eq!(rt; long, drop_for(Reason::BadChain, None));
     Ok(())
 }
 
@@ -359,16 +378,50 @@ fn options_refuse_at_b(rt: HostRuntime) -> Result<(), Fail> {
 fn headers_refuse_at_b(rt: HostRuntime) -> Result<(), Fail> {
     let net = net(&rt, rt.alloc())?;
     assert_eq!(rt; net.nodes(), 2);
-    let fragment = outcome_at_b(rt.alloc(), &net, 44, &FRAGMENT)?;
-    assert_eq!(rt; fragment, drop_for(Reason::Fragment));
-    let other = outcome_at_b(rt.alloc(), &net, 43, &OTHER_ROUTING)?;
-    assert_eq!(rt; other, drop_for(Reason::UnknownRouting));
-    let behind = outcome_at_b(rt.alloc(), &net, 43, &OTHER_ROUTING_BEHIND_END)?;
-    assert_eq!(rt; behind, drop_for(Reason::UpperLayer));
-    let hmac = outcome_at_b(rt.alloc(), &net, 43, &SEGMENT_AND_HMAC)?;
-    assert_eq!(rt; hmac, drop_for(Reason::HmacTlv));
-    let cut = outcome_at_b(rt.alloc(), &net, 43, &SEGMENT_AND_CUT_ITEM)?;
-    assert_eq!(rt; cut, drop_for(Reason::BadTlv));
+    let fragment = at_b(rt.alloc(), &net, 44, &FRAGMENT)?;
+    assert_eq!(rt; fragment, drop_for(Reason::Fragment, None));
+    let other = at_b(rt.alloc(), &net, 43, &OTHER_ROUTING)?;
+    assert_eq!(rt; other, drop_for(Reason::UnknownRouting, Some(42)));
+    let behind = at_b(rt.alloc(), &net, 43, &OTHER_ROUTING_BEHIND_END)?;
+    assert_eq!(rt; behind, drop_for(Reason::UpperLayer, Some(48)));
+    let hmac = at_b(rt.alloc(), &net, 43, &SEGMENT_AND_HMAC)?;
+    assert_eq!(rt; hmac, drop_for(Reason::HmacTlv, None));
+    let cut = at_b(rt.alloc(), &net, 43, &SEGMENT_AND_CUT_ITEM)?;
+    assert_eq!(rt; cut, drop_for(Reason::BadTlv, None));
+    Ok(())
+}
+
+/// B has no route to 2001:db8::2, which it tells from its own address; what it drops stays. What
+/// the slot holds is gone with the next stage.
+#[test]
+fn drop_is_told_from_the_node(rt: HostRuntime) -> Result<(), Fail> {
+    let net = net(&rt, rt.alloc())?;
+    assert_eq!(rt; net.nodes(), 2);
+    let mut content = Content::enter(INSIDE.to_vec(rt.alloc())?);
+    let mut place = Place {
+        node: 1,
+        how: How::Arrived { table: 0 },
+        family: Family::V6,
+    };
+    let mut error = IcmpSlot::new();
+    let dropped = stage(&net, &place, &mut content, 0, &mut error);
+    assert_eq!(rt;
+        dropped,
+        Outcome::Drop {
+            reason: Reason::NoRoute,
+            error: true
+        }
+    );
+    let wanted = joined(rt.alloc(), &NO_ROUTE, &INSIDE, &[])?;
+    assert_eq!(rt; error.as_slice(), wanted.as_slice());
+    assert_eq!(rt;
+        spelled(rt.alloc(), &content)?.as_slice(),
+        INSIDE.as_slice()
+    );
+    place.how = How::Arrived { table: 5 };
+    let sent = stage(&net, &place, &mut content, 0, &mut error);
+    assert_eq!(rt; sent, Outcome::Send { link: 1 });
+    assert!(rt; error.is_empty());
     Ok(())
 }
 
@@ -391,5 +444,7 @@ fn buffer(rt: HostRuntime) -> Result<(), Fail> {
     assert_eq!(rt; buffer.view(), [4].as_slice());
     assert_eq!(rt; buffer.len(), 1);
     assert!(rt; buffer.front() >= 20);
+    buffer.put_front(&[7, 8]);
+    assert_eq!(rt; buffer.view(), [7, 8, 4].as_slice());
     Ok(())
 }

@@ -1,9 +1,12 @@
 -- Output while walking: what went out so far with the frames of the rest is the frames of the whole walk.
-use Rattle.std.proofs.Common.{◌≡◌, ℕ, suc, ◌+◌, List, [], ◌∷◌, ◌++◌, Option, Some, None, refl, sym, ap, ◌∙◌, append_assoc, append-nil, subst, slice_get}
+use Rattle.std.proofs.Common.{◌≡◌, ℕ, suc, ◌+◌, Bool, true, false, is_some, List, [], ◌∷◌, ◌++◌, Option, Some, None, refl, sym, ap, ◌∙◌, append_assoc, append-nil, subst, slice_get}
 use Rattle.srx_edge.specs.Sinks.{SinkSeen, sent}
-use Rattle.srx_edge.specs.Steps.{Wrote}
+use Rattle.pcap_io.specs.Capture.{written_frame_bytes}
+use Rattle.srx_edge.specs.Steps.{Ending, Wrote}
 use Rattle.srx_edge.proofs.PublicLaws.{sent_both}
-use Rattle.srv6_rules.specs.Packet.{Content}
+use Rattle.srv6_rules.specs.declared.sid.Reason.{Reason}
+use Rattle.srv6_rules.specs.Packet.{Packet, Content}
+use Rattle.icmp6_errors.specs.Answer.{error_bytes}
 use Rattle.net_model.specs.Network.{Network}
 use Rattle.walk_rules.specs.declared.place.Place.{Place}
 use Rattle.walk_rules.specs.declared.place.Outcome.{Outcome}
@@ -14,7 +17,7 @@ use Rattle.walk_rules.specs.Walk.{Step, walk_of, far_end, arrival, next_place, d
 use Rattle.walk_rules.proofs.PublicLaws.{walk_of-suc, walk_of-zero, walk_of-none}
 use Rattle.srv6_cli.specs.declared.halt.Failure.{Failure}
 use Rattle.srv6_cli.specs.Answers.{ending_of_failure}
-use Rattle.srv6_cli.specs.Capture.{frames_of, frame_of_gave}
+use Rattle.srv6_cli.specs.Capture.{frames_of, frame_by, frame_of_gave}
 use Rattle.srv6_cli.proofs.Writing.{wrote_longer, wrote_after}
 
 -- of a whole walk some stages are left: what went out before is a front of its frames, and its end is theirs
@@ -150,3 +153,32 @@ module _ (number : ℕ) (net : Network) (all more : ℕ) (place : Place) (conten
       (walk_of more net (next_place net place gave.outcome) gave.after pick (taken + decisions gave.outcome))
       (step_by net all more place content pick taken gave is gives) first now later
       (walk_begins net all more place content pick taken gave is gives) p failure wrote
+
+-- the frame of a drop is that of its error, and a drop without one has none
+
+error-frame : (number : ℕ) (reason : Reason) (sends : Bool) (after : Content) (told : Option Packet) (bytes : List ℕ) → sends ≡ true
+    → sends ≡ is_some told → bytes ≡ error_bytes told
+    → written_frame_bytes number 0 bytes ≡ frame_by number (outcomes.Drop reason sends) after told
+error-frame number reason sends after None bytes is tells has = cc
+error-frame number reason sends after (Some error) bytes is tells has = ap (written_frame_bytes number 0) has
+
+no_error-frame : (number : ℕ) (reason : Reason) (sends : Bool) (after : Content) (told : Option Packet) → sends ≡ false
+    → sends ≡ is_some told → [] ≡ frame_by number (outcomes.Drop reason sends) after told
+no_error-frame number reason sends after None is tells = refl
+no_error-frame number reason sends after (Some error) is tells = cc
+
+pub error_went : (ending : Ending) (number : ℕ) (reason : Reason) (sends : Bool) (after : Content) (told : Option Packet) (bytes : List ℕ)
+    → (first now : SinkSeen) → sends ≡ true → sends ≡ is_some told → bytes ≡ error_bytes told
+    → Wrote ending (written_frame_bytes number 0 bytes) first now
+    → Wrote ending (frame_by number (outcomes.Drop reason sends) after told) first now
+error_went ending number reason sends after told bytes first now is tells has wrote =
+    subst (λ (frame : List ℕ). Wrote ending frame first now) (error-frame number reason sends after told bytes is tells has) wrote
+
+pub no_error_went : (ending : Ending) (number : ℕ) (reason : Reason) (sends : Bool) (after : Content) (told : Option Packet)
+    → (first now : SinkSeen) → sends ≡ false → sends ≡ is_some told
+    → Wrote ending [] first now
+    → Wrote ending (frame_by number (outcomes.Drop reason sends) after told) first now
+no_error_went ending number reason sends after told first now is tells wrote =
+    subst (λ (frame : List ℕ). Wrote ending frame first now) (no_error-frame number reason sends after told is tells) wrote
+
+pub ruleset errors = (error_went, no_error_went)

@@ -7,7 +7,6 @@
 //! `commands` have a line or two of each. `proofs/commands` has what is proved of a command alone.
 #![tactic(auto)]
 
-mod capture;
 mod choices;
 mod commands;
 mod halt;

@@ -178,7 +178,7 @@ const RUN: &[&str] = &["run", "net.toml", "A"];
 const COMPILE: &[&str] = &["compile", "net.toml", "intent.toml"];
 
 /// The description is read by one call; the input by one, and a second one finds its end; the head
-/// and each of two frames are written by one, and so is the line.
+/// and each of three frames are written by one, and so is the line.
 const OF_RUN: &[Faults] = &[
     Faults { files: 1, ..NONE },
     Faults { input: 1, ..NONE },
@@ -186,6 +186,7 @@ const OF_RUN: &[Faults] = &[
     Faults { out: 1, ..NONE },
     Faults { out: 2, ..NONE },
     Faults { out: 3, ..NONE },
+    Faults { out: 4, ..NONE },
     Faults { err: 1, ..NONE },
 ];
 
@@ -212,7 +213,7 @@ fn no_call_is_left_that_could_fail(rt: HostRuntime) -> Result<(), Fail> {
     let beyond = Faults {
         files: 2,
         input: 3,
-        out: 4,
+        out: 5,
         err: 2,
     };
     let one = serve_words(rt.alloc(), RUN, &beyond)?;
@@ -256,8 +257,8 @@ fn an_outside_that_never_fails(rt: HostRuntime) -> Result<(), Fail> {
         &mut err,
     );
     assert_eq!(rt; status, Status::Done);
-    // A head of 24 bytes, and two frames of 16 and 40.
-    assert_eq!(rt; out.held().len(), 136);
+    // A head of 24 bytes, two frames of 16 and 40, and one of 16 and 88.
+    assert_eq!(rt; out.held().len(), 240);
     let line = "packet 1: dropped UpperLayer at C\n";
     assert_eq!(rt; err.held(), line.as_bytes());
     Ok(())

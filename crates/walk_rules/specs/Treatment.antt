@@ -5,7 +5,9 @@ use Rattle.srv6_rules.specs.Behaviours.{behaviour_goes_on, behaviour_takes_links
 use Rattle.srv6_rules.specs.declared.sid.Reason.{Reason}
 use Rattle.srv6_rules.specs.declared.sid.Reason.TheVariants as reasons
 use Rattle.srv6_rules.specs.declared.sid.SidEntry.{SidEntry}
+use Rattle.srv6_rules.specs.declared.icmp.IcmpKind.{IcmpKind}
 use Rattle.srv6_rules.specs.Packet.{Packet, Content, V6, Unreadable, read_as}
+use Rattle.srv6_rules.specs.Errors.{kind_of, error_packet}
 use Rattle.srv6_rules.specs.Endpoint.{Endpoint, Onward, Exposed, Delivered, Refused, at_sid, at_address}
 use Rattle.net_model.specs.declared.parts.Node.{Node}
 use Rattle.net_model.specs.Network.{Network}
@@ -20,16 +22,31 @@ abbrev pub allow_of : Option Node → List ℕ
 allow_of None = []
 allow_of (Some n) = n.allow
 
+-- a node's own address; a number that no node has has none, and 0 stands for it
+abbrev pub address_of : Option Node → ℕ
+address_of None = 0
+address_of (Some n) = n.address.value
+
 -- what a stage gives: its outcome, the packet after it, and the ICMPv6 error that the node sends, if it sends one
 pub record Gave : Type 0 where
   pub outcome : Outcome
   pub after : Content
   pub error : Option Packet
 
--- the ICMPv6 error that a node sends about what it drops for a reason, with the fault's place counted from the first byte
--- of what stood there: none, since ICMPv6 errors are not built yet
+-- the error of a kind, if there is one, about a packet, from an address, if it is made
+abbrev pub error_by : Option IcmpKind → Packet → ℕ → Option Packet
+error_by None p from = None
+error_by (Some kind) p from = error_packet p kind from
+
+-- the ICMPv6 error that is sent from an address about what is dropped for a reason, with the fault's place counted from the
+-- first byte of what stood there; about bytes that do not read none is (RFC 4443)
+abbrev pub error_from : ℕ → Reason → ℕ → Content → Option Packet
+error_from from reason at (V6 p) = error_by (kind_of reason at) p from
+error_from from reason at (Unreadable bytes why) = None
+
+-- the error that a node sends about what it drops, from the node's own address
 unfoldable pub error_of : Network → ℕ → Reason → ℕ → Content → Option Packet
-error_of net node reason at content = None
+error_of net node reason at content = error_from (address_of (slice_get net.nodes node)) reason at content
 
 -- what stands at a node is dropped as it is, for a reason, with the fault's place, 0 where the reason has none
 abbrev pub dropped : Network → ℕ → Reason → ℕ → Content → Gave

@@ -6,9 +6,6 @@
 //! file there is of a file that is missing, or of none. Each row is run by `serve` over files, an
 //! input and outputs in memory.
 //!
-//! What must come of the rows of `data/chains-without-their-errors` lacks the frames of ICMPv6
-//! errors, which nodes do not write yet.
-//!
 //! `data/packets` has packets byte by byte, and with each what must come of it at the node of
 //! `data/packets.toml`.
 //!

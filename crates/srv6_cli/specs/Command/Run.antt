@@ -4,6 +4,7 @@ use Rattle.std.specs.List.{flat_map}
 use Rattle.pcap_io.specs.declared.frame.Body.{Body}
 use Rattle.pcap_io.specs.declared.frame.Body.TheVariants as bodies
 use Rattle.pcap_io.specs.declared.frame.Frame.{Frame}
+use Rattle.pcap_io.specs.Capture.{written_head_bytes}
 use Rattle.srv6_rules.specs.declared.sid.Family.TheVariants.{V6}
 use Rattle.srv6_rules.specs.Packet.{Content, entered}
 use Rattle.net_model.specs.Network.{Network}
@@ -15,7 +16,7 @@ use Rattle.srv6_cli.specs.declared.packets.Packets.{Packets}
 use Rattle.srv6_cli.specs.declared.packets.Unread.{Unread}
 use Rattle.srv6_cli.specs.declared.refusal.Refusal.{Refusal}
 use Rattle.srv6_cli.specs.declared.status.Status.TheVariants as statuses
-use Rattle.srv6_cli.specs.Capture.{capture_head, frames_of}
+use Rattle.srv6_cli.specs.Capture.{frames_of}
 use Rattle.srv6_cli.specs.Judgements.{network_in, node_in, after}
 use Rattle.srv6_cli.specs.Lines.{packet_line, refusal_line, unread_line}
 use Rattle.srv6_cli.specs.Packets.{packets_in, reading_of, unread_in, fault_of}
@@ -65,7 +66,7 @@ walked_of_frame net node choices frame = walked_by net node choices frame.number
 -- the head of the capture that is written, the lines of the packets that aren't read, and the others one after the other
 abbrev pub packets_pieces : Network → ℕ → List ℕ → List Frame → List Piece
 packets_pieces net node choices frames =
-    ForOut capture_head ∷ ForErr (unread_lines frames) ∷ flat_map (walked_of_frame net node choices) frames
+    ForOut written_head_bytes ∷ ForErr (unread_lines frames) ∷ flat_map (walked_of_frame net node choices) frames
 
 -- at the end what is behind the frames is refused, if anything is
 abbrev pub ended_by : List Piece → Option Refusal → Output

@@ -3,17 +3,16 @@
 
 ghost use Rattle.std.specs.Prelude.{◌≡◌, ◌<◌, ◌≤◌, ◌∷◌, [], IfOk, length, drop};
 ghost use Rattle.std.specs.List.{flat_map};
+ghost use Rattle.pcap_io.specs.Capture.{written_head_bytes};
 ghost use Rattle.pcap_io.specs.Frames.{frames_of as frames_in};
 ghost use Rattle.srx_edge.specs.Steps.{Wrote};
 ghost use Rattle.srv6_cli.specs.Answers.{Commands, ending_of_step};
-ghost use Rattle.srv6_cli.specs.Capture.{capture_head};
 ghost use Rattle.srv6_cli.specs.Words.{Run};
 ghost use Rattle.srv6_cli.specs.Command.Run.{packet_pieces, packets_pieces, unread_lines, unread_of_frame, walk_from, walked_of_frame};
 ghost use Rattle.srv6_cli.specs.Outside.{outside};
 ghost use Rattle.srv6_cli.specs.Packets.{HasHead, fault_of, reading_of};
 ghost use Rattle.srv6_cli.specs.Pieces.{WroteAll, sinks_of};
 
-use crate::capture::HEAD;
 use crate::halt::{Failure, Halt};
 use crate::judge::{network_of_file, node_of_name};
 use crate::lines::{line_of_packet, line_of_unread};
@@ -21,7 +20,7 @@ use crate::packets::{Next, Packets, next_of, packets_of_input, unread_of};
 use crate::refusal::Refusal;
 use crate::status::Status;
 use crate::told::{Text, Told};
-use crate::walk::{write_all, write_walk};
+use crate::walk::{Buffers, write_all, write_walk};
 use net_model::Net;
 use node_stage::Content;
 use pcap_io::{Body, CaptureHead, Frame, FrameReader, HEAD_LEN, MAX_FRAMES};
@@ -31,11 +30,13 @@ use std::alloc::Global;
 use walk_rules::{How, Place};
 
 /// Writes the capture's head.
-#[tactic(auto, unfolding(crate::specs::Capture::capture_head))]
-fn write_head<O: Sink>(out: &mut O) -> Result<(), Failure>
-    ensures { Wrote (ending_of_step result) capture_head (O.seen out.old) (O.seen out.new) }
+#[tactic(auto, using(crate::proofs::Writing::writing))]
+fn write_head<O: Sink>(alloc: Global, out: &mut O) -> Result<(), Failure>
+    ensures { Wrote (ending_of_step result) written_head_bytes (O.seen out.old) (O.seen out.new) }
 {
-    write_all(out, &HEAD)
+    let mut head = Vec::new(alloc);
+    pcap_io::write_head(&mut head)?;
+    write_all(out, head.as_slice())
 }
 
 /// Writes the line of a frame whose packet is not read.
@@ -82,7 +83,7 @@ fn walk_packet<O: Sink, E: Sink>(
     choices: &[u32],
     number: u32,
     content: Content,
-    buffer: &mut Vec<u8>,
+    buffers: &mut Buffers,
     out: &mut O,
     err: &mut E,
 ) -> Result<(), Failure>
@@ -97,7 +98,7 @@ fn walk_packet<O: Sink, E: Sink>(
         how: How::Arrived { table: 0 },
         family: Family::V6,
     };
-    let ended = write_walk(net, place, number, content, choices, buffer, out)?;
+    let ended = write_walk(net, place, number, content, choices, buffers, out)?;
     let line = line_of_packet(alloc, net, number, &ended)?;
     write_all(err, line.as_bytes())
 }
@@ -109,7 +110,7 @@ fn walk_frame<O: Sink, E: Sink>(
     node: u32,
     choices: &[u32],
     frame: Frame,
-    buffer: &mut Vec<u8>,
+    buffers: &mut Buffers,
     out: &mut O,
     err: &mut E,
 ) -> Result<(), Failure>
@@ -123,7 +124,9 @@ fn walk_frame<O: Sink, E: Sink>(
     match body {
         Body::V6(bytes) => {
             let content = Content::enter(bytes.into_vec());
-            walk_packet(alloc, net, node, choices, number, content, buffer, out, err)
+            walk_packet(
+                alloc, net, node, choices, number, content, buffers, out, err,
+            )
         }
         Body::V4(_) | Body::ShortFrame | Body::NotIp => Ok(()),
     }
@@ -150,12 +153,12 @@ fn walk_frames<O: Sink, E: Sink>(
         (frames_in head MAX_FRAMES 1 behind.now).frames)
         (sinks_of (O.seen out.old) (E.seen err.old)) (sinks_of (O.seen out.new) (E.seen err.new)) }
 {
-    let mut buffer = Vec::new(alloc);
+    let mut buffers = Buffers::new(alloc);
     let mut reader = FrameReader::new(alloc, head, behind)?;
     'frames: loop {
         match next_of(&mut reader)? {
             Next::Frame(read) => {
-                walk_frame(alloc, net, node, choices, read, &mut buffer, out, err)?;
+                walk_frame(alloc, net, node, choices, read, &mut buffers, out, err)?;
             }
             Next::End(fault) => return Ok(fault),
         }
@@ -181,7 +184,7 @@ fn run_packets<O: Sink, E: Sink>(
         (packets_pieces net.now node choices.now (reading_of packets).frames)
         (sinks_of (O.seen out.old) (E.seen err.old)) (sinks_of (O.seen out.new) (E.seen err.new)) }
 {
-    write_head(out)?;
+    write_head(alloc, out)?;
     match packets {
         Packets::Bare(packet) => {
             let frame = Frame {
@@ -194,7 +197,7 @@ fn run_packets<O: Sink, E: Sink>(
                 node,
                 choices,
                 frame,
-                &mut Vec::new(alloc),
+                &mut Buffers::new(alloc),
                 out,
                 err,
             )?;

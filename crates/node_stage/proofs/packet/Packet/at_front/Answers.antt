@@ -1,4 +1,4 @@
-use Rattle.std.proofs.Common.{◌≡◌, ◌≤◌, ◌∙◌, List, ℕ, length, take, drop, ap, sym, subst}
+use Rattle.std.proofs.Common.{◌≡◌, ◌+◌, ◌≤◌, ◌∙◌, List, ℕ, length, take, drop, ap, sym, subst, arith}
 use Rattle.srv6_rules.specs.Packet.{Packet, IsSpellable, header_len, packet_at}
 use Rattle.ip6_headers.proofs.PublicLaws.{holds-spellable}
 use Rattle.node_stage.specs.BufferView.{Buffer}
@@ -53,4 +53,8 @@ returns c = same c
 pub invariant_of-result : goal.invariant_of-result
 invariant_of-result c =
     let P : Packet → Type 0 = λ p. IsSpellable p in
-    subst P (sym (same c)) (holds-spellable c.args.bytes.bytes c.requires)
+    let room : c.truncate.new.self.front ≡ c.args.bytes.front + 40 =
+    ap (λ (b : Buffer). b.front) c.truncate.ensures ∙ ap (λ (b : Buffer). b.front) c.drop_front.ensures in (
+      subst P (sym (same c)) (holds-spellable c.args.bytes.bytes c.requires),
+      omega (arith, room),
+    )

@@ -1,0 +1,64 @@
+//! The ICMPv6 error about what is dropped.
+
+ghost use Rattle.std.specs.Prelude.{◌≡◌, [], is_some};
+ghost use Rattle.srv6_rules.specs.Packet.{V6};
+ghost use Rattle.srv6_rules.specs.Errors.{error_packet};
+ghost use Rattle.icmp6_errors.specs.Answer.{error_bytes};
+ghost use Rattle.node_stage.specs.Staging.{Tells, dropped_from};
+
+use crate::content::{Content, Held};
+use crate::packet::Packet;
+use icmp6_errors::{IcmpSlot, error_for};
+use srv6_rules::{IcmpKind, Reason};
+use v6_addr::Addr;
+use walk_rules::Outcome;
+
+/// What a stage tells: its outcome, and what stands there after it.
+#[derive(Debug, Drop)]
+pub(crate) struct Told {
+    pub(crate) outcome: Outcome,
+    pub(crate) after: Content,
+}
+
+/// Writes the error of a kind about a packet into a slot, from an address, if one is made; gives the
+/// packet back, and whether there is one. The packet's bytes are brought together in their place,
+/// so no memory is taken.
+fn answered(packet: Packet, kind: &IcmpKind, from: Addr, slot: &mut IcmpSlot) -> (Content, bool)
+    ensures packet { result.0 ≡ V6 packet }
+    ensures made { result.1 ≡ is_some (error_packet packet kind.now from.value) }
+    ensures bytes { slot.new.items ≡ error_bytes (error_packet packet kind.now from.value) }
+{
+    packet.keeps_rules();
+    let bytes = packet.spelled();
+    let made = error_for(bytes.view(), kind, from, slot);
+    (Content::read(bytes), made)
+}
+
+/// What stands at a node with an address is dropped as it is, for a reason, with the fault's place
+/// in bytes from its first; the error about it is written into an empty slot, if one is made: about
+/// bytes that do not read none is, and for a packet the reason names its kind (RFC 4443 section 3).
+pub(crate) fn dropped(
+    reason: Reason,
+    at: u32,
+    content: Content,
+    from: Addr,
+    slot: &mut IcmpSlot,
+) -> Told
+    requires { slot.old.items ≡ [] }
+    ensures { Tells result slot.new.items (dropped_from from.value reason at content) }
+{
+    let (after, error) = match content.held {
+        Held::V6(packet) => match IcmpKind::of(reason, at) {
+            Some(kind) => answered(packet, &kind, from, slot),
+            None => (Content::of(packet), false),
+        },
+        Held::Unreadable(bytes, why) => {
+            let held = Held::Unreadable(bytes, why);
+            (Content { held }, false)
+        }
+    };
+    Told {
+        outcome: Outcome::Drop { reason, error },
+        after,
+    }
+}
