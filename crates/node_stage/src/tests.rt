@@ -282,7 +282,7 @@ fn a_sid_that_is_not_built_drops_the_packet(rt: HostRuntime) -> Result<(), Fail>
         how: How::Arrived { table: 0 },
         family: Family::V6,
     };
-    let outcome = stage(&net, &place, &mut content, 0);
+    let outcome = stage(&net, &place, &mut content, 0, &mut IcmpSlot::new());
     assert_eq!(rt;
         outcome,
         Outcome::Drop {

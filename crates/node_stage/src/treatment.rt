@@ -161,7 +161,7 @@ fn treated_in(net: &Net, node: u32, sid: u32, packet: Packet) -> Staged
 {
     let entry = net.sid(sid);
     if !entry.is_built() {
-        return dropped_for(Reason::NotBuilt, packet);
+        return dropped_for(Reason::NotBuilt, Content::of(packet));
     }
     let allow = net.node(node).allow.as_slice();
     treated_at_sid(sid, entry, allow, packet)
