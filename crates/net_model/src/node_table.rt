@@ -67,6 +67,13 @@ impl<'a> NodeTable<'a> {
         self.net
     }
 
+    /// The family of the packets that it is for.
+    pub fn family(&self) -> Family
+        ensures { result ≡ self.now.family }
+    {
+        self.family
+    }
+
     /// What fits an address best, as `Net::lookup` gives it.
     #[tactic(auto, unfolding(crate::specs::Best::lookup_of))]
     pub fn lookup(&self, a: Addr) -> Hit

@@ -4,7 +4,7 @@ ghost use Rattle.std.specs.Prelude.{◌≡◌, ◌<◌, length};
 
 use crate::{Content, PktBuf, stage};
 use net_model::{Link, Name, Net, NetParts, Node, Route, TypeList};
-use srv6_rules::{Behaviour, Family, LinkSet, Reason, SidEntry};
+use srv6_rules::{Behaviour, Csid, Family, LinkSet, Reason, SidEntry};
 use std::alloc::{AllocError, Global};
 use std::process::Abort;
 use std::test::Fail;
@@ -107,6 +107,7 @@ fn route(
     Ok(Route {
         node,
         table,
+        family: Family::V6,
         prefix,
         via: LinkSet::new([via].to_vec(alloc)?),
     })
@@ -117,6 +118,11 @@ fn sid_at_b(alloc: Global, prefix: Prefix, behaviour: Behaviour) -> SidEntry {
         node: 1,
         prefix,
         behaviour,
+        csid: Csid::Plain,
+        block_len: 0,
+        psp: false,
+        usp: false,
+        usd: false,
         title: None,
         links: LinkSet::new(Vec::new(alloc)),
     }
@@ -151,9 +157,11 @@ fn two_nodes(
     sids.push(sid_at_b(alloc, end, Behaviour::End))?;
     sids.push(sid_at_b(alloc, decapsulation, Behaviour::Dt6 { table: 5 }))?;
     Ok(NetParts {
+        blocks: Vec::new(alloc),
         nodes,
         links,
         routes,
+        policies: Vec::new(alloc),
         titles: Vec::new(alloc),
         sids,
     })
