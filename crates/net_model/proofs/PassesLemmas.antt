@@ -35,8 +35,8 @@ judged_passes table judge test each before (x ∷ xs) =
     ∙ ap (λ b. test before x && b) (judged_passes table judge test each (before ++ x ∷ []) xs))
 
 -- the same of a list of items in range
-pub judged_passes_within : {X : Type 0} (table : TableKind) (judge : List X → FaultPlace → X → Result (Unit {0}) NetFault) (range : X → Bool)
-    (test : List X → X → Bool)
+pub judged_passes_within : {X : Type 0} (table : TableKind) (judge : List X → FaultPlace → X → Result (Unit {0}) NetFault)
+    (range : X → Bool) (test : List X → X → Bool)
     → ((before : List X) (p : FaultPlace) (x : X) → range x ≡ true → is_ok (judge before p x) ≡ test before x)
     → (before xs : List X) → list_all range xs ≡ true → is_ok (judged table judge before xs) ≡ passes test before xs
 judged_passes_within table judge range test each before [] h = refl

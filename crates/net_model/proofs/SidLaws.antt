@@ -227,7 +227,8 @@ self_answer false = refl
 fitting_keys : (s : SidEntry) → suits_keys (fitting s) s ≡ (behaviour_takes_links s.behaviour || (length s.links == 0))
 fitting_keys s =
     left_out _ _ (self_answer (behaviour_takes_links s.behaviour))
-    ∙ (left_out _ _ (self_answer (is_some (behaviour_table s.behaviour))) ∙ left_out _ _ (self_answer (is_some (behaviour_policy s.behaviour))))
+    ∙ (left_out _ _ (self_answer (is_some (behaviour_table s.behaviour)))
+    ∙ left_out _ _ (self_answer (is_some (behaviour_policy s.behaviour))))
 
 policy_law : (count : ℕ) (o : Option ℕ) → not (is_unknown_policy count o) ≡ suits_policy count o
 policy_law count None = refl
@@ -355,7 +356,8 @@ sids_law net range =
     let room = list_all (has_room net.sids) net.sids in
     let numbered : are_distinct same_number (filter_map title_of net.sids) ≡ true =
     ap (are_distinct same_number) (titles_numbered net range) ∙ numbers_distinct 0 net.titles in
-    let each = list_all_within (sid_in_range net.blocks (length net.titles)) (keeps_sid net) (sid_test net) (sid_within net) net.sids sids.1 in
+    let in_range = sid_in_range net.blocks (length net.titles) in
+    let each = list_all_within in_range (keeps_sid net) (sid_test net) (sid_within net) net.sids sids.1 in
     judged_sids net sids.1
     ∙ (ap (λ b. list_all (sid_test net) net.sids && b) (apart_law net range)
     ∙ (in_front titles (list_all (sid_test net) net.sids) (apart && room)
@@ -443,7 +445,8 @@ unfolding judging
 judging_weaker net standings =
     let nodes = length net.nodes in
     let sids : List Standing → Result (Unit {0}) NetFault = λ ks. judged tables.Sid (judge_sid net ks) [] net.sids in
-    let policies : List Standing → Result (Unit {0}) NetFault = λ ks. and_then (judged tables.Policy judge_policy [] net.policies) (sids ks) in
+    let policies : List Standing → Result (Unit {0}) NetFault =
+    λ ks. and_then (judged tables.Policy judge_policy [] net.policies) (sids ks) in
     let routes : List Standing → Result (Unit {0}) NetFault =
     λ ks. and_then (judged tables.Route (judge_route nodes net.links) [] net.routes) (policies ks) in
     let links : List Standing → Result (Unit {0}) NetFault =
