@@ -14,4 +14,5 @@ pub mod PassesLemmas
 pub mod TableLaws
 pub mod SidLaws
 pub mod RouteSetLemmas
+pub mod NumberLemmas
 pub mod PublicLaws

@@ -1,6 +1,6 @@
 -- Tests of the items of a list, each beside those before it, and what they come to over the whole list.
-use Rattle.std.proofs.Common.{◌≡◌, ℕ, ◌+◌, Bool, true, false, ◌&&◌, ◌||◌, not, List, [], ◌∷◌, ◌++◌, length, refl, sym, ap, ◌∙◌, append_assoc, append-nil}
-use Rattle.std.proofs.lemmas.Bool.{and_parts, and_right}
+use Rattle.std.proofs.Common.{◌≡◌, ◌+◌, Bool, true, false, ◌&&◌, ◌||◌, not, List, [], ◌∷◌, ◌++◌, length, refl, sym, ap, ◌∙◌, append_assoc, append-nil}
+use Rattle.std.proofs.lemmas.Bool.{and_parts}
 use Rattle.std.proofs.lemmas.List.Folds.{list_any-append}
 use Rattle.std.specs.List.{list_any, list_all}
 use Rattle.std.specs.Result.{is_ok}
@@ -35,8 +35,8 @@ judged_passes table judge test each before (x ∷ xs) =
     ∙ ap (λ b. test before x && b) (judged_passes table judge test each (before ++ x ∷ []) xs))
 
 -- the same of a list of items in range
-pub judged_passes_within : {X : Type 0} (table : TableKind) (judge : List X → FaultPlace → X → Result (Unit {0}) NetFault) (range : X → Bool)
-    (test : List X → X → Bool)
+pub judged_passes_within : {X : Type 0} (table : TableKind) (judge : List X → FaultPlace → X → Result (Unit {0}) NetFault)
+    (range : X → Bool) (test : List X → X → Bool)
     → ((before : List X) (p : FaultPlace) (x : X) → range x ≡ true → is_ok (judge before p x) ≡ test before x)
     → (before xs : List X) → list_all range xs ≡ true → is_ok (judged table judge before xs) ≡ passes test before xs
 judged_passes_within table judge range test each before [] h = refl

@@ -1,6 +1,6 @@
 -- SIDs have no fault exactly where they keep their rules, where they are in range, and so has a whole network.
-use Rattle.std.proofs.Common.{◌≡◌, ◌↔◌, ℕ, suc, ◌+◌, ◌≤◌, ◌<◌, Bool, true, false, ◌==◌, ◌&&◌, ◌||◌, not, cond, List, [], ◌∷◌, ◌++◌, length, Option, Some, None, refl, sym, ap, ◌∙◌, subst, append_assoc, append-nil, arith}
-use Rattle.std.proofs.lemmas.Bool.{and_parts, and_from, and_right, not-true, leb-true, leb-false, le-leb, le-ltb, lt-leb, eqb-true, ne_eqb, cases_Bool}
+use Rattle.std.proofs.Common.{◌≡◌, ◌↔◌, ℕ, ◌+◌, ◌≤◌, ◌<◌, Bool, true, false, ◌==◌, ◌&&◌, ◌||◌, not, cond, List, [], ◌∷◌, ◌++◌, length, Option, Some, None, refl, sym, ap, ◌∙◌, subst, append_assoc, append-nil, arith}
+use Rattle.std.proofs.lemmas.Bool.{and_parts, and_from, and_right, not-true, leb-true, leb-false, le-leb, lt-leb, eqb-true, ne_eqb}
 use Rattle.std.proofs.lemmas.List.{length-append}
 use Rattle.std.proofs.lemmas.List.Sums.{sum_by-append, sum_by-cons}
 use Rattle.std.proofs.lemmas.List.{nil_from_length}
@@ -8,8 +8,8 @@ use Rattle.std.specs.Prelude.{nat_lt, nat_le, if◌then◌else◌, is_some, opti
 use Rattle.std.specs.List.{list_any, list_all, slice_get, count_by, filter_map, cons_option}
 use Rattle.std.specs.Result.{is_ok}
 use Rattle.srv6_rules.specs.declared.sid.SidEntry.{SidEntry}
-use Rattle.srv6_rules.specs.Behaviours.{behaviour_goes_on, behaviour_takes_links, behaviour_table, behaviour_policy, behaviour_takes_flavours}
-use Rattle.net_model.specs.declared.limits.TheConstants.{MAX_SIDS, MAX_SIDS_OF_NODE, MAX_LINKS_OF_SET}
+use Rattle.srv6_rules.specs.Behaviours.{behaviour_takes_links, behaviour_table, behaviour_policy, behaviour_takes_flavours}
+use Rattle.net_model.specs.declared.limits.TheConstants.{MAX_SIDS_OF_NODE, MAX_LINKS_OF_SET}
 use Rattle.net_model.specs.declared.fault.TableKind.{TableKind}
 use Rattle.net_model.specs.declared.fault.TableKind.TheVariants as tables
 use Rattle.net_model.specs.declared.fault.FaultPlace.{FaultPlace}
@@ -19,8 +19,8 @@ use Rattle.net_model.specs.declared.parts.Block.{Block}
 use Rattle.net_model.specs.declared.parts.Link.{Link}
 use Rattle.net_model.specs.declared.standing.Standing.{Standing}
 use Rattle.net_model.specs.Network.{Network}
-use Rattle.net_model.specs.Rules.{are_distinct, same_bytes, is_name, is_prefix, is_link_set, suits_links, suits_table, suits_policy, suits_flavours, keeps_behaviour, block_of, keeps_compression, is_title, keeps_sid, same_number, same_sid, is_sid_of, has_room, title_of, keeps_sids, keeps_titles, is_network, IsNetwork}
-use Rattle.net_model.specs.Judging.{few, block_len_of, sid_in_range, numbers_from, InRange, first_of, and_then, judged, stands_before, is_unknown, is_set_of, same_answer, fitting, standing_or, suits_keys, is_unknown_policy, title_text, same_text, same_title_text, is_full, suits_compression, judge_joins, judge_flavours, judge_apart, judge_standing, judge_sid, judge_block, judge_node, judge_link, judge_route, judge_policy, judging}
+use Rattle.net_model.specs.Rules.{are_distinct, same_bytes, is_prefix, suits_links, suits_table, suits_policy, suits_flavours, keeps_behaviour, block_of, keeps_compression, is_title, keeps_sid, same_number, same_sid, is_sid_of, has_room, title_of, keeps_sids, keeps_titles, is_network, IsNetwork}
+use Rattle.net_model.specs.Judging.{block_len_of, sid_in_range, are_numbers, InRange, first_of, and_then, judged, stands_before, is_unknown, is_set_of, same_answer, fitting, standing_or, suits_keys, is_unknown_policy, title_text, same_text, same_title_text, is_full, suits_compression, judge_joins, judge_flavours, judge_apart, judge_standing, judge_sid, judge_block, judge_node, judge_link, judge_route, judge_policy, judging}
 use Rattle.net_model.proofs.PassesLemmas.{passes, and_then_ok, then_ok, judged_passes_within, passes_both, passes_all, passes_distinct, list_all_within, left_out, left_out_behind}
 use Rattle.net_model.proofs.TableLaws.{set_known, set_law, blocks_law, nodes_law, links_law, routes_law, policies_law}
 
@@ -119,6 +119,34 @@ at_seam : (front : List (List ℕ)) (t : List ℕ) (rest : List (List ℕ)) → 
 at_seam [] t rest = refl
 at_seam (x ∷ front) t rest = at_seam front t rest
 
+-- the numbers of items from a number on
+abbrev numbers_from : {X : Type 0} → ℕ → List X → List ℕ
+numbers_from n [] = []
+numbers_from n (x ∷ xs) = n ∷ numbers_from (n + 1) xs
+
+numbers_rise : (from to : ℕ) (ns : List ℕ) → are_numbers from to ns ≡ true → from ≤ to
+numbers_rise from to [] h = omega (arith, eqb-true from to h)
+numbers_rise from to (n ∷ ns) h =
+    let rest = numbers_rise (from + 1) to ns (and_parts _ _ h).1 in
+    omega (arith, rest)
+
+numbers_are : {X : Type 0} (from to : ℕ) (ns : List ℕ) (xs : List X) → to ≡ from + length xs → are_numbers from to ns ≡ true
+    → ns ≡ numbers_from from xs
+numbers_are from to [] [] e h = refl
+numbers_are from to [] (x ∷ xs) e h = absurd (omega (arith, e, eqb-true from to h))
+numbers_are from to (n ∷ ns) [] e h =
+    let past = numbers_rise (from + 1) to ns (and_parts _ _ h).1 in
+    absurd (omega (arith, e, past))
+numbers_are from to (n ∷ ns) (x ∷ xs) e h =
+    let parts = and_parts (n == from) (are_numbers (from + 1) to ns) h in
+    let more : to ≡ from + 1 + length xs = omega (arith, e) in
+    ap (λ m. m ∷ ns) (eqb-true n from parts.0) ∙ ap (λ ms. from ∷ ms) (numbers_are (from + 1) to ns xs more parts.1)
+
+titles_numbered : (net : Network) → InRange net → filter_map title_of net.sids ≡ numbers_from 0 net.titles
+titles_numbered net range =
+    let all : length net.titles ≡ 0 + length net.titles = omega arith in
+    numbers_are 0 (length net.titles) (filter_map title_of net.sids) net.titles all range.title_numbers
+
 by_numbers : (titles front rest : List (List ℕ)) (n : ℕ) → titles ≡ front ++ rest → n ≡ length front
     → filter_map (slice_get titles) (numbers_from n rest) ≡ rest
 by_numbers titles front [] n e at = refl
@@ -144,7 +172,7 @@ titles_law net range =
     passes_distinct (same_title_text net.titles) net.sids
     ∙ (distinct_texts (title_text net.titles) net.sids
     ∙ ap (are_distinct same_bytes) (texts_of net.titles net.sids
-    ∙ (ap (filter_map (slice_get net.titles)) range.title_numbers ∙ by_numbers net.titles [] net.titles 0 refl refl)))
+    ∙ (ap (filter_map (slice_get net.titles)) (titles_numbered net range) ∙ by_numbers net.titles [] net.titles 0 refl refl)))
 
 -- ---- a SID
 
@@ -199,7 +227,8 @@ self_answer false = refl
 fitting_keys : (s : SidEntry) → suits_keys (fitting s) s ≡ (behaviour_takes_links s.behaviour || (length s.links == 0))
 fitting_keys s =
     left_out _ _ (self_answer (behaviour_takes_links s.behaviour))
-    ∙ (left_out _ _ (self_answer (is_some (behaviour_table s.behaviour))) ∙ left_out _ _ (self_answer (is_some (behaviour_policy s.behaviour))))
+    ∙ (left_out _ _ (self_answer (is_some (behaviour_table s.behaviour)))
+    ∙ left_out _ _ (self_answer (is_some (behaviour_policy s.behaviour))))
 
 policy_law : (count : ℕ) (o : Option ℕ) → not (is_unknown_policy count o) ≡ suits_policy count o
 policy_law count None = refl
@@ -326,8 +355,9 @@ sids_law net range =
     let apart = are_distinct same_sid net.sids in
     let room = list_all (has_room net.sids) net.sids in
     let numbered : are_distinct same_number (filter_map title_of net.sids) ≡ true =
-    ap (are_distinct same_number) range.title_numbers ∙ numbers_distinct 0 net.titles in
-    let each = list_all_within (sid_in_range net.blocks (length net.titles)) (keeps_sid net) (sid_test net) (sid_within net) net.sids sids.1 in
+    ap (are_distinct same_number) (titles_numbered net range) ∙ numbers_distinct 0 net.titles in
+    let in_range = sid_in_range net.blocks (length net.titles) in
+    let each = list_all_within in_range (keeps_sid net) (sid_test net) (sid_within net) net.sids sids.1 in
     judged_sids net sids.1
     ∙ (ap (λ b. list_all (sid_test net) net.sids && b) (apart_law net range)
     ∙ (in_front titles (list_all (sid_test net) net.sids) (apart && room)
@@ -415,7 +445,8 @@ unfolding judging
 judging_weaker net standings =
     let nodes = length net.nodes in
     let sids : List Standing → Result (Unit {0}) NetFault = λ ks. judged tables.Sid (judge_sid net ks) [] net.sids in
-    let policies : List Standing → Result (Unit {0}) NetFault = λ ks. and_then (judged tables.Policy judge_policy [] net.policies) (sids ks) in
+    let policies : List Standing → Result (Unit {0}) NetFault =
+    λ ks. and_then (judged tables.Policy judge_policy [] net.policies) (sids ks) in
     let routes : List Standing → Result (Unit {0}) NetFault =
     λ ks. and_then (judged tables.Route (judge_route nodes net.links) [] net.routes) (policies ks) in
     let links : List Standing → Result (Unit {0}) NetFault =

@@ -1,22 +1,20 @@
 -- A table but SIDs has no fault exactly where it keeps its rules, where it is in range.
-use Rattle.std.proofs.Common.{◌≡◌, ℕ, ◌≤◌, ◌<◌, Bool, true, false, ◌==◌, ◌&&◌, ◌||◌, not, List, [], ◌∷◌, length, Option, Some, None, refl, sym, ap, ◌∙◌, arith}
-use Rattle.std.proofs.lemmas.Bool.{and_parts, and_right, le-leb, lt-ltb, ne_eqb, cases_Bool}
+use Rattle.std.proofs.Common.{◌≡◌, ℕ, Bool, true, false, ◌==◌, ◌&&◌, ◌||◌, not, List, [], ◌∷◌, length, Option, Some, None, refl, sym, ap, ◌∙◌, arith}
+use Rattle.std.proofs.lemmas.Bool.{and_parts, and_right, lt-ltb}
 use Rattle.std.proofs.lemmas.Bool.Decides.{nat_tests}
 use Rattle.std.proofs.lemmas.Option.{slice_get_within}
-use Rattle.std.specs.Prelude.{nat_lt, nat_le, Result, Ok, Err}
+use Rattle.std.specs.Prelude.{nat_lt, nat_le}
 use Rattle.std.specs.List.{list_any, list_all, slice_get}
 use Rattle.std.specs.Result.{is_ok}
-use Rattle.srv6_rules.specs.declared.sid.Family.{Family}
-use Rattle.net_model.specs.declared.limits.TheConstants.{MAX_BLOCKS, MAX_NODES, MAX_LINKS, MAX_ROUTES, MAX_POLICIES, MAX_SEGMENTS, MAX_LINKS_OF_SET}
+use Rattle.net_model.specs.declared.limits.TheConstants.{MAX_BLOCKS, MAX_NODES, MAX_LINKS, MAX_ROUTES, MAX_POLICIES, MAX_LINKS_OF_SET}
 use Rattle.net_model.specs.declared.fault.TableKind.TheVariants as tables
-use Rattle.net_model.specs.declared.fault.FaultPlace.{FaultPlace}
 use Rattle.net_model.specs.declared.fault.NetFault.{NetFault}
 use Rattle.net_model.specs.declared.parts.Block.{Block}
 use Rattle.net_model.specs.declared.parts.NamedPolicy.{NamedPolicy}
 use Rattle.net_model.specs.declared.parts.Node.{Node}
 use Rattle.net_model.specs.declared.parts.Link.{Link}
 use Rattle.net_model.specs.declared.parts.Route.{Route}
-use Rattle.net_model.specs.Rules.{are_distinct, is_name, is_address, is_prefix, is_prefix_of, is_table, is_block_len, is_csid_len, overlap, keeps_block, keeps_blocks, keeps_node, same_node_name, same_node_address, keeps_nodes, ends_elsewhere, keeps_link, same_link_name, keeps_links, starts_at_node, starts_at, same_number, is_link_set, keeps_route, same_route, keeps_routes, is_segment, keeps_segments, keeps_outer, keeps_policy, same_policy_name, keeps_policies}
+use Rattle.net_model.specs.Rules.{are_distinct, is_block_len, overlap, keeps_block, keeps_blocks, keeps_node, same_node_name, same_node_address, keeps_nodes, ends_elsewhere, keeps_link, same_link_name, keeps_links, starts_at_node, starts_at, is_link_set, keeps_route, same_route, keeps_routes, keeps_policy, same_policy_name, keeps_policies}
 use Rattle.net_model.specs.Judging.{few, block_in_range, link_in_range, route_in_range, policy_in_range, first_of, judged, stands_before, judge_block, judge_node, is_unknown, is_unknown_end, ends_at, judge_link, is_set_of, judge_route, judge_policy}
 use Rattle.net_model.proofs.PassesLemmas.{passes, judged_passes, passes_both, passes_distinct, judged_table, list_all_within, left_out, left_out_behind}
 

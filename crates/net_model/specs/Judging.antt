@@ -1,6 +1,6 @@
 -- The first fault of the parts of a network (own rules): the tables in their order, of a table its items in the order of the
 -- file, and of an item the tests in the order in which they are written here.
-use Rattle.std.specs.Prelude.{◌≡◌, ◌≢◌, ℕ, suc, ◌+◌, pos, Bool, true, false, ◌==◌, ◌&&◌, ◌||◌, not, nat_lt, nat_le, if◌then◌else◌, count_by, List, [], ◌∷◌, ◌++◌, length, slice_get, Option, Some, None, is_some, option_and_then, Result, Ok, Err, IsTrue}
+use Rattle.std.specs.Prelude.{◌≡◌, ◌≢◌, ℕ, ◌+◌, pos, Bool, true, false, ◌==◌, ◌&&◌, ◌||◌, not, nat_lt, nat_le, if◌then◌else◌, count_by, List, [], ◌∷◌, ◌++◌, length, slice_get, Option, Some, None, is_some, option_and_then, Result, Ok, Err, IsTrue}
 use Rattle.std.specs.List.{filter_map, list_any, list_all}
 use Rattle.srv6_rules.specs.declared.sid.SidEntry.{SidEntry}
 use Rattle.srv6_rules.specs.Behaviours.{behaviour_goes_on, behaviour_takes_links, behaviour_table, behaviour_policy, behaviour_takes_flavours, is_plain}
@@ -52,10 +52,10 @@ sid_in_range blocks title_count s =
     && (nat_le (length s.links) MAX_LINKS_OF_SET && ((s.block_len == block_len_of (block_of blocks s.prefix))
     && is_title title_count s.title))))
 
--- the numbers of items from a number on
-abbrev pub numbers_from : {X : Type 0} → ℕ → List X → List ℕ
-numbers_from n [] = []
-numbers_from n (x ∷ xs) = n ∷ numbers_from (n + 1) xs
+-- these are the numbers from one number on to another
+abbrev pub are_numbers : ℕ → ℕ → List ℕ → Bool
+are_numbers from to [] = from == to
+are_numbers from to (n ∷ ns) = (n == from) && are_numbers (from + 1) to ns
 
 -- titles are names, in the order of the SIDs that have them, one for each
 pub record InRange (net : Network) : Type 0 where
@@ -65,7 +65,7 @@ pub record InRange (net : Network) : Type 0 where
   pub routes : IsTrue (few MAX_ROUTES route_in_range net.routes)
   pub policies : IsTrue (few MAX_POLICIES policy_in_range net.policies)
   pub titles : IsTrue (list_all is_name net.titles)
-  pub title_numbers : filter_map title_of net.sids ≡ numbers_from 0 net.titles
+  pub title_numbers : IsTrue (are_numbers 0 (length net.titles) (filter_map title_of net.sids))
   pub sids : IsTrue (few MAX_SIDS (sid_in_range net.blocks (length net.titles)) net.sids)
 
 -- ---- judging
@@ -234,7 +234,7 @@ judging net standings =
     (and_then (judged tables.Policy judge_policy [] net.policies)
     (judged tables.Sid (judge_sid net standings) [] net.sids)))))
 
--- a result is the one that is wanted; want of memory says nothing
-abbrev pub Judges : Result (Unit {0}) NetFault → Result (Unit {0}) NetFault → Type 0
-Judges (Ok u) wanted = wanted ≡ Ok tt
+-- a result comes exactly where there is no fault, and else with the first; want of memory says nothing
+abbrev pub Judges : {X : Type 0} → Result X NetFault → Result (Unit {0}) NetFault → Type 0
+Judges (Ok x) wanted = wanted ≡ Ok tt
 Judges (Err fault) wanted = (fault ≢ faults.NoMemory) → wanted ≡ Err fault

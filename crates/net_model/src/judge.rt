@@ -171,10 +171,7 @@ impl<'a> RouteRules<'a> {
         let via = r.via.as_slice();
         refuse_if(is_unknown(self.node_count, r.node), place.unknown_name())?;
         refuse_if(has_unknown(self.links.len(), via), place.unknown_name())?;
-        refuse_if(
-            !is_set_of(self.links, r.node, via),
-            place.bad_structure(),
-        )?;
+        refuse_if(!is_set_of(self.links, r.node, via), place.bad_structure())?;
         refuse_if(is_double, place.double_prefix())
     }
 

@@ -188,7 +188,7 @@ impl<'a> Judge<SidEntry> for SidRules<'a> {
 }
 
 /// The first fault of the parts of a network (own rules).
-#[tactic(auto, using(crate::proofs::JudgingLemmas::few_bound))]
+#[tactic(auto, using(crate::proofs::JudgingLemmas::few_bound), unfolding(crate::specs::Judging::judging))]
 pub(crate) fn judge_parts(
     alloc: Global,
     parts: &NetParts,

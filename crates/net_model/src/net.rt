@@ -1,10 +1,14 @@
 //! The network that keeps the rules, and the look-up of an address.
 
+use crate::fault::NetFault;
+use crate::judge_sids::judge_parts;
 use crate::lookup::lookup_in;
 use crate::named::{place_of_link, place_of_node};
 use crate::parts::{Block, Link, Name, NetParts, Node, Route};
 use crate::rules::{is_link_set, is_network};
+use crate::standing::Standing;
 use srv6_rules::{Family, Policy, SidEntry};
+use std::alloc::Global;
 use std::marker::Model;
 use v6_addr::Addr;
 
@@ -39,10 +43,11 @@ impl Model for Net {
 }
 
 impl Net {
-    ghost use Rattle.std.specs.Prelude.{◌≡◌, ◌↔◌, ℕ, ◌<◌, false, length, slice_get, IsTrue, IsSome, IfSome, IfNone};
+    ghost use Rattle.std.specs.Prelude.{◌≡◌, ◌↔◌, ℕ, ◌<◌, false, length, slice_get, IsTrue, IsSome, IfSome, IfNone, IfOk};
     ghost use Rattle.net_model.specs.declared.parts.NamedPolicy.{NamedPolicy};
     ghost use Rattle.net_model.specs.Network.{network_of};
     ghost use Rattle.net_model.specs.Rules.{IsNetwork, is_network, is_link_set};
+    ghost use Rattle.net_model.specs.Judging.{InRange, judging, Judges};
     ghost use Rattle.net_model.specs.Keeps.{Keeps};
     ghost use Rattle.net_model.specs.Best.{IsBest, lookup_of};
     ghost use Rattle.net_model.specs.Named.{node_numbered, link_numbered, IsNodeNumbered, IsLinkNumbered};
@@ -59,6 +64,38 @@ impl Net {
         } else {
             None
         }
+    }
+
+    /// The network with these parts, or the first fault of them (own rules): the tables in the
+    /// order block, node, link, route, policy, sid, of a table its items in their order, counted
+    /// from 1, and of an item
+    ///
+    /// - block: `BadStructure` where its length is no block's or it overlaps an earlier one;
+    /// - node: `DoubleName`; `DoublePrefix` where an earlier node has the address;
+    /// - link: `DoubleName`; `UnknownName` of its start, then of its end; `BadStructure` where both
+    ///   are one node;
+    /// - route: `UnknownName` of its node, then of a link; `BadStructure` where `via` is empty or
+    ///   has a link twice or one that does not start at the node; `DoublePrefix` where an earlier
+    ///   route has the node, the table, the family and the prefix;
+    /// - policy: `DoubleName`; `BadStructure` where it has no segments;
+    /// - SID: `UnknownName` of its node; `BadStructure` where it does not have the keys that its
+    ///   behaviour takes; `UnknownName` of a link or of the policy; `BadStructure` of its links as
+    ///   of `via`; `BadFlavour` where a flavour stands twice or at another behaviour than End,
+    ///   End.X and End.T, or the compression does not suit the block; `DoubleName` of its title;
+    ///   `DoublePrefix` where an earlier SID has the node and the prefix; `Limit` where the node
+    ///   has `MAX_SIDS_OF_NODE` SIDs before.
+    ///
+    /// A number out of range stands for an unknown name. What the parts do not hold stands beside
+    /// them: the standing with a SID's number is that SID's, and a SID without one has the keys
+    /// that its behaviour takes and no flavour twice. The parts of a network that is not made are
+    /// given up. `NoMemory` says nothing about them.
+    pub fn judged(alloc: Global, parts: NetParts, standings: &[Standing]) -> Result<Net, NetFault>
+        requires { InRange (network_of parts) }
+        ensures first { Judges result (judging (network_of parts) standings.now) }
+        ensures value { IfOk result (λ net. net ≡ network_of parts) }
+    {
+        judge_parts(alloc, &parts, standings)?;
+        Ok(Net { parts })
     }
 
     /// That the network keeps the rules: an empty function, for the callers' proofs.

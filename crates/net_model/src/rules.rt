@@ -198,7 +198,7 @@ pub fn is_name(name: &[u8]) -> bool
 
 /// Always true: the type holds no other number.
 #[tactic(auto, unfolding(crate::specs::Rules::is_address))]
-fn is_address(a: Addr) -> bool
+pub(crate) fn is_address(a: Addr) -> bool
     ensures { result ≡ is_address a.value }
 {
     let _ = a.value;
@@ -207,7 +207,7 @@ fn is_address(a: Addr) -> bool
 
 /// Always true: the type holds no other value.
 #[tactic(auto, unfolding(crate::specs::Rules::is_address, crate::specs::Rules::is_prefix))]
-fn is_prefix(p: &Prefix) -> bool
+pub(crate) fn is_prefix(p: &Prefix) -> bool
     ensures { result ≡ is_prefix p.now }
 {
     let _ = p.len();
@@ -222,7 +222,7 @@ pub(crate) fn is_block_len(len: u8) -> bool
 }
 
 /// Whether compressed SIDs may have so many bits.
-fn is_csid_len(bits: u8) -> bool
+pub(crate) fn is_csid_len(bits: u8) -> bool
     ensures { result ≡ is_csid_len bits }
 {
     u32::from(bits) == SHORT_CSID || u32::from(bits) == LONG_CSID
@@ -256,7 +256,7 @@ fn keeps_node(n: &Node) -> bool
         && n.allow.as_slice().len() <= MAX_ALLOWED_TYPES
 }
 
-fn each_keeps_node(nodes: &[Node]) -> bool
+pub(crate) fn each_keeps_node(nodes: &[Node]) -> bool
     ensures { result ≡ list_all keeps_node nodes.now }
 {
     nodes.iter().all(keeps_node)
@@ -328,14 +328,14 @@ pub(crate) fn is_link_set(links: &[Link], node: u32, set: &[u32]) -> bool
         && each_starts_at(links, node, set)
 }
 
-fn is_table(table: u32) -> bool
+pub(crate) fn is_table(table: u32) -> bool
     ensures { result ≡ is_table table }
 {
     table <= LAST_TABLE
 }
 
 /// Whether a prefix is one of a family.
-fn is_prefix_of(family: Family, p: &Prefix) -> bool
+pub(crate) fn is_prefix_of(family: Family, p: &Prefix) -> bool
     ensures { result ≡ is_prefix_of family p.now }
 {
     match family {
@@ -386,7 +386,7 @@ fn is_segment(a: Addr) -> bool
     is_address(a)
 }
 
-fn are_segments(segments: &[Addr]) -> bool
+pub(crate) fn are_segments(segments: &[Addr]) -> bool
     ensures { result ≡ list_all is_segment segments.now }
 {
     segments.iter().all(|a| is_segment(*a))
@@ -400,7 +400,7 @@ fn keeps_segments(segments: &[Addr]) -> bool
 }
 
 /// Whether the numbers of an outer header are in their ranges.
-fn keeps_outer(traffic_class: u8, flow_label: u32, hop_limit: u8) -> bool
+pub(crate) fn keeps_outer(traffic_class: u8, flow_label: u32, hop_limit: u8) -> bool
     ensures { result ≡ keeps_outer traffic_class flow_label hop_limit }
 {
     u32::from(traffic_class) <= LAST_OCTET
@@ -445,7 +445,7 @@ fn suits_links(links: &[Link], node: u32, takes: bool, set: &[u32]) -> bool
 }
 
 /// Whether a table of a SID's own has a table's number.
-fn suits_table(table: Option<u32>) -> bool
+pub(crate) fn suits_table(table: Option<u32>) -> bool
     ensures { result ≡ suits_table table }
 {
     match table {
@@ -547,7 +547,7 @@ fn keeps_compression(block: Option<Block>, s: &SidEntry) -> bool
     }
 }
 
-fn is_title(title_count: usize, title: Option<u32>) -> bool
+pub(crate) fn is_title(title_count: usize, title: Option<u32>) -> bool
     ensures { result ≡ is_title title_count title }
 {
     match title {
@@ -618,7 +618,7 @@ fn keeps_sids(parts: &NetParts) -> bool
         && have_distinct_titles(sids)
 }
 
-fn are_names(titles: &[Name]) -> bool
+pub(crate) fn are_names(titles: &[Name]) -> bool
     ensures { result ≡ list_all is_name titles.now }
 {
     titles.iter().all(|t| is_name(t.as_bytes()))

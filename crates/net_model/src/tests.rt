@@ -1,8 +1,8 @@
 //! A network of two nodes.
 
 use crate::{
-    Block, BlockKind, Hit, Link, Name, Net, NetParts, Node, NodeTable, NotFlat, Route, TypeList,
-    compilable,
+    Block, BlockKind, Hit, Key, Link, MAX_SIDS_OF_NODE, Name, Net, NetFault, NetParts, Node,
+    NodeTable, NotFlat, Route, Standing, TableKind, TypeList, are_in_range, compilable,
 };
 use srv6_rules::{Behaviour, Csid, Family, LinkSet, SidEntry};
 use std::alloc::{AllocError, Global};
@@ -222,5 +222,89 @@ fn a_name_in_a_line(rt: HostRuntime) -> Result<(), Fail> {
     let name = name(rt.alloc(), "b.2")?;
     let line = format!(in rt.alloc(); "at {name}\n")?;
     assert_eq!(rt; line.as_str(), "at b.2\n");
+    Ok(())
+}
+
+/// The first fault of parts, none where they are a network's.
+fn fault_of(
+    rt: &impl Abort,
+    alloc: Global,
+    parts: NetParts,
+    standings: &[Standing],
+) -> Option<NetFault> {
+    assert!(rt; are_in_range(&parts));
+    Net::judged(alloc, parts, standings).err()
+}
+
+#[test]
+fn parts_without_a_fault_are_a_network(rt: HostRuntime) -> Result<(), Fail> {
+    let alloc = rt.alloc();
+    let mut sids = Vec::new(alloc);
+    sids.push(end_at_b(alloc, prefix(&rt, SID, 48)))?;
+    let parts = two_nodes(alloc, ("A", "B"), prefix(&rt, 0, 0), sids)?;
+    assert!(rt; fault_of(&rt, alloc, parts, &[]) == None);
+    Ok(())
+}
+
+#[test]
+fn an_unknown_end_comes_before_faults_of_routes(rt: HostRuntime) -> Result<(), Fail> {
+    let alloc = rt.alloc();
+    let mut parts = two_nodes(alloc, ("A", "B"), prefix(&rt, 0, 0), Vec::new(alloc))?;
+    parts.links.push(Link {
+        name: name(alloc, "ac")?,
+        from: 0,
+        to: Some(2),
+    })?;
+    parts.routes.push(Route {
+        node: 0,
+        table: 0,
+        family: Family::V6,
+        prefix: prefix(&rt, 0, 0),
+        via: LinkSet::new(Vec::new(alloc)),
+    })?;
+    let fault = NetFault::UnknownName {
+        table: TableKind::Link,
+        item: 2,
+    };
+    assert!(rt; fault_of(&rt, alloc, parts, &[]) == Some(fault));
+    Ok(())
+}
+
+#[test]
+fn an_end_with_links_is_bad_structure(rt: HostRuntime) -> Result<(), Fail> {
+    let alloc = rt.alloc();
+    let mut sids = Vec::new(alloc);
+    sids.push(end_at_b(alloc, prefix(&rt, SID, 48)))?;
+    let parts = two_nodes(alloc, ("A", "B"), prefix(&rt, 0, 0), sids)?;
+    let standing = Standing {
+        links: true,
+        table: false,
+        policy: false,
+        double_flavour: false,
+    };
+    let fault = NetFault::BadStructure {
+        table: TableKind::Sid,
+        item: 1,
+    };
+    assert!(rt; fault_of(&rt, alloc, parts, &[standing]) == Some(fault));
+    Ok(())
+}
+
+#[test]
+fn a_node_has_no_more_sids_than_fit(rt: HostRuntime) -> Result<(), Fail> {
+    let alloc = rt.alloc();
+    let mut sids = Vec::new(alloc);
+    for n in 0..=MAX_SIDS_OF_NODE as u8 {
+        let value = SID | u128::from(n);
+        sids.push(end_at_b(alloc, prefix(&rt, value, 128)))?;
+    }
+    let parts = two_nodes(alloc, ("A", "B"), prefix(&rt, 0, 0), sids)?;
+    let fault = NetFault::Limit {
+        table: TableKind::Sid,
+        item: 65,
+        what: Key::Sid,
+        value: 65,
+    };
+    assert!(rt; fault_of(&rt, alloc, parts, &[]) == Some(fault));
     Ok(())
 }
