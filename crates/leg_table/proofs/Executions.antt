@@ -5,10 +5,9 @@ use Rattle.std.proofs.lemmas.Bool.{false≢true, and_parts, and_from, eq-eqb, le
 use Rattle.std.proofs.lemmas.Bool.Decides.{leb_tells}
 use Rattle.srv6_rules.specs.declared.sid.Behaviour.{Behaviour}
 use Rattle.srv6_rules.specs.declared.sid.Family.{Family}
-use Rattle.srv6_rules.specs.declared.sid.Family.TheVariants as families
 use Rattle.srv6_rules.specs.declared.sid.Reason.TheVariants as reasons
 use Rattle.srv6_rules.specs.declared.sid.SidEntry.{SidEntry}
-use Rattle.srv6_rules.specs.Behaviours.{goes_on, exposes, ipv6_inside}
+use Rattle.srv6_rules.specs.Behaviours.{goes_on, exposes, is_built, ipv6_inside, family_inside}
 use Rattle.srv6_rules.specs.Packet.{Packet, V6, read_as}
 use Rattle.srv6_rules.specs.Srh.{Srh, srh_of, segments_left_at, routing_type_at}
 use Rattle.srv6_rules.specs.Areas.{Fault, options_fault, tlvs_fault}
@@ -24,6 +23,7 @@ use Rattle.intent_reader.specs.declared.intent.Step.{Step}
 use Rattle.leg_table.specs.Tasks.{left_after}
 use Rattle.leg_table.specs.Choices.{Ends, seen_at}
 use Rattle.leg_table.specs.Ride.{with_hop_limit}
+use Rattle.leg_table.specs.Sids.{takes_step, hands_over}
 use Rattle.leg_table.specs.Leg.{is_onward, is_exposed, takes_on, takes_out, has_next_segment, has_packet_inside, is_again, is_hand, is_left, stage_executes, stage_exposes}
 
 -- what comes of a packet is that it goes on where its hop limit is above 1, else that it is dropped for its hop limit
@@ -76,7 +76,7 @@ module _ (s : SidEntry) where
   end_stays p (Cut place) on = false≢true on
   end_stays p (Upper place) on = by_test (exposes s place.kind) on
     where
-      by_test : (t : Bool) → is_onward (if t then Exposed families.V6 (from_place p place.at) else upper_layer [] p place) ≡ true → ⊥
+      by_test : (t : Bool) → is_onward (if t then Exposed (family_inside place.kind) (from_place p place.at) else upper_layer [] p place) ≡ true → ⊥
       by_test true on = false≢true on
       by_test false on = false≢true on
 
@@ -124,9 +124,9 @@ module _ (s : SidEntry) where
   end_shows allow p limit (Cut place) on = absurd (false≢true on)
   end_shows allow p limit (Upper place) on = by_test (exposes s place.kind) on
     where
-      by_test : (t : Bool) → is_exposed (if t then Exposed families.V6 (from_place p place.at) else upper_layer [] p place) ≡ true
-          → Shows (if t then Exposed families.V6 (from_place p place.at) else upper_layer allow (with_hop_limit limit p) place)
-      by_test true on = (families.V6, from_place p place.at, refl)
+      by_test : (t : Bool) → is_exposed (if t then Exposed (family_inside place.kind) (from_place p place.at) else upper_layer [] p place) ≡ true
+          → Shows (if t then Exposed (family_inside place.kind) (from_place p place.at) else upper_layer allow (with_hop_limit limit p) place)
+      by_test true on = (family_inside place.kind, from_place p place.at, refl)
       by_test false on = absurd (false≢true on)
 
   header_shows : (p q : Packet) (h : Header) (behind rest : Endpoint) → (is_exposed behind ≡ true → Shows rest)
@@ -187,12 +187,14 @@ some_packet-fields : (destination limit : ℕ)
 unfolding some_packet
 some_packet-fields destination limit = (refl, refl)
 
-pub some_packet-has : (net : Network) (n : ℕ) (s : SidEntry) (destination limit : ℕ) → slice_get net.sids n ≡ Some s → goes_on s ≡ true
+pub some_packet-has : (net : Network) (n : ℕ) (s : SidEntry) (destination limit : ℕ) → slice_get net.sids n ≡ Some s → takes_step s ≡ true
     → (has_next_segment net n (some_packet destination limit) ≡ true) × ((some_packet destination limit).destination ≡ destination)
     × ((some_packet destination limit).hop_limit ≡ limit)
 some_packet-has net n s destination limit there goes =
+    let parts = and_parts (is_built s) (goes_on s) goes in
     let fields = some_packet-fields destination limit in (
-      ap (λ (o : Option SidEntry). takes_on o (some_packet destination limit)) there ∙ some_packet-onward s destination limit goes,
+      ap (λ (o : Option SidEntry). takes_on o (some_packet destination limit)) there
+          ∙ and_from (is_built s) _ parts.0 (some_packet-onward s destination limit parts.1),
       fields.0,
       fields.1,
     )
@@ -212,23 +214,34 @@ unfolding last_packet
 last_packet-fields destination limit = (refl, refl)
 
 pub last_packet-has : (net : Network) (n : ℕ) (s : SidEntry) (destination limit : ℕ) → slice_get net.sids n ≡ Some s
-    → exposes s ipv6_inside ≡ true
+    → hands_over s ≡ true
     → (has_packet_inside net n (last_packet destination limit) ≡ true) × ((last_packet destination limit).destination ≡ destination)
     × ((last_packet destination limit).hop_limit ≡ limit)
 last_packet-has net n s destination limit there shows =
+    let parts = and_parts (is_built s) (exposes s ipv6_inside) shows in
     let fields = last_packet-fields destination limit in (
-      ap (λ (o : Option SidEntry). takes_out o (last_packet destination limit)) there ∙ last_packet-exposed s destination limit shows,
+      ap (λ (o : Option SidEntry). takes_out o (last_packet destination limit)) there
+          ∙ and_from (is_built s) _ parts.0 (last_packet-exposed s destination limit parts.1),
       fields.0,
       fields.1,
     )
 
--- the stage at a place from which a packet comes into SID n
+-- the stage at a place from which a packet comes into SID n, which is built
 pub stage_into : (net : Network) (place : Place) (q : Packet) (n : ℕ) (s : SidEntry) (choice : ℕ)
-    → way_of net place q.destination ≡ Into n → slice_get net.sids n ≡ Some s
+    → way_of net place q.destination ≡ Into n → slice_get net.sids n ≡ Some s → is_built s ≡ true
     → step_of net place (V6 q) choice
     ≡ treated_at_sid net place.node n s.behaviour q (at_sid s (allow_of (slice_get net.nodes place.node)) q)
-stage_into net place q n s choice e f =
+stage_into net place q n s choice e f built =
     ap (λ (w : Way). treated net place.node w q choice) e ∙ ap (λ (o : Option SidEntry). treated_in net place.node n o q) f
+    ∙ rw built refl
+
+-- and where it is not built
+pub stage_not_built : (net : Network) (place : Place) (q : Packet) (n : ℕ) (s : SidEntry) (choice : ℕ)
+    → way_of net place q.destination ≡ Into n → slice_get net.sids n ≡ Some s → is_built s ≡ false
+    → step_of net place (V6 q) choice ≡ dropped net place.node reasons.NotBuilt 0 (V6 q)
+stage_not_built net place q n s choice e f built =
+    ap (λ (w : Way). treated net place.node w q choice) e ∙ ap (λ (o : Option SidEntry). treated_in net place.node n o q) f
+    ∙ rw built refl
 
 -- what an execution names is the SID that the packet came into
 module _ (net : Network) (node : ℕ) where
@@ -248,11 +261,23 @@ module _ (net : Network) (node : ℕ) where
 
   in-again_names : (next n : ℕ) (o : Option SidEntry) (q : Packet) → is_again next (treated_in net node n o q).outcome ≡ true → n ≡ next
   in-again_names next n None q h = absurd (false≢true h)
-  in-again_names next n (Some s) q h = again_names next n s.behaviour q (at_sid s (allow_of (slice_get net.nodes node)) q) h
+  in-again_names next n (Some s) q h = by_built (is_built s) h
+    where
+      by_built : (built : Bool)
+          → is_again next (if built then treated_at_sid net node n s.behaviour q (at_sid s (allow_of (slice_get net.nodes node)) q)
+          else dropped net node reasons.NotBuilt 0 (V6 q)).outcome ≡ true → n ≡ next
+      by_built true h = again_names next n s.behaviour q (at_sid s (allow_of (slice_get net.nodes node)) q) h
+      by_built false h = absurd (false≢true h)
 
   in-hand_names : (next n : ℕ) (o : Option SidEntry) (q : Packet) → is_hand next (treated_in net node n o q).outcome ≡ true → n ≡ next
   in-hand_names next n None q h = absurd (false≢true h)
-  in-hand_names next n (Some s) q h = hand_names next n s.behaviour q (at_sid s (allow_of (slice_get net.nodes node)) q) h
+  in-hand_names next n (Some s) q h = by_built (is_built s) h
+    where
+      by_built : (built : Bool)
+          → is_hand next (if built then treated_at_sid net node n s.behaviour q (at_sid s (allow_of (slice_get net.nodes node)) q)
+          else dropped net node reasons.NotBuilt 0 (V6 q)).outcome ≡ true → n ≡ next
+      by_built true h = hand_names next n s.behaviour q (at_sid s (allow_of (slice_get net.nodes node)) q) h
+      by_built false h = absurd (false≢true h)
 
 pub step-again_names : (net : Network) (place : Place) (q : Packet) (next n : ℕ) → way_of net place q.destination ≡ Into n
     → is_again next (step_of net place (V6 q) 0).outcome ≡ true → n ≡ next
@@ -292,23 +317,23 @@ module _ (net : Network) (place : Place) (p : Packet) (n : ℕ) (s : SidEntry) (
   abbrev stage : Gave
   stage = step_of net place (V6 p') 0
 
-  stage-is : stage ≡ treated_at_sid net place.node n s.behaviour p' (at_sid s allow p')
-  stage-is = stage_into net place p' n s 0 into there
+  stage-is : is_built s ≡ true → stage ≡ treated_at_sid net place.node n s.behaviour p' (at_sid s allow p')
+  stage-is built = stage_into net place p' n s 0 into there built
 
   abbrev Executes : Gave → Type 0
   Executes gave = Ends gave.outcome (IsTrue (stage_executes net n left behind ts (seen_at place (V6 p') gave)))
 
   drops : has_next_segment net n p ≡ true → limit ≤ 1 → stage ≡ dropped net place.node reasons.HopLimit 0 (V6 p')
   drops on low =
-      let has = ap (λ (o : Option SidEntry). takes_on o p) (sym there) ∙ on in
-      stage-is ∙ ap (treated_at_sid net place.node n s.behaviour p') ((steps_on s allow p has).1 limit low)
+      let has = and_parts (is_built s) _ (ap (λ (o : Option SidEntry). takes_on o p) (sym there) ∙ on) in
+      stage-is has.0 ∙ ap (treated_at_sid net place.node n s.behaviour p') ((steps_on s allow p has.1).1 limit low)
 
   goes-on : has_next_segment net n p ≡ true → 1 < limit
       → (q : Packet) × (stage ≡ goes (outcomes.Again n (on_from n s.behaviour)) (V6 q)) × (q.hop_limit ≡ limit - 1)
   goes-on on high =
-      let has = ap (λ (o : Option SidEntry). takes_on o p) (sym there) ∙ on in
-      let got = (steps_on s allow p has).0 limit high in
-      (got.0, stage-is ∙ ap (treated_at_sid net place.node n s.behaviour p') got.1, got.2)
+      let has = and_parts (is_built s) _ (ap (λ (o : Option SidEntry). takes_on o p) (sym there) ∙ on) in
+      let got = (steps_on s allow p has.1).0 limit high in
+      (got.0, stage-is has.0 ∙ ap (treated_at_sid net place.node n s.behaviour p') got.1, got.2)
 
   -- an execution after which the packet goes on
   pub executes-is : has_next_segment net n p ≡ true
@@ -339,9 +364,9 @@ module _ (net : Network) (place : Place) (p : Packet) (n : ℕ) (s : SidEntry) (
   hands-out : has_packet_inside net n p ≡ true
       → (family : Family) × (bytes : List ℕ) × (stage ≡ goes (outcomes.Hand n (on_from n s.behaviour) family) (read_as family bytes))
   hands-out on =
-      let has = ap (λ (o : Option SidEntry). takes_out o p) (sym there) ∙ on in
-      let got = shows_inside s allow p limit has in
-      (got.0, got.1, stage-is ∙ ap (treated_at_sid net place.node n s.behaviour p') got.2)
+      let has = and_parts (is_built s) _ (ap (λ (o : Option SidEntry). takes_out o p) (sym there) ∙ on) in
+      let got = shows_inside s allow p limit has.1 in
+      (got.0, got.1, stage-is has.0 ∙ ap (treated_at_sid net place.node n s.behaviour p') got.2)
 
   -- an execution that exposes the packet inside
   pub exposes-is : has_packet_inside net n p ≡ true → Exposes stage ↔ (left_after net n ts ≡ Some left) × (limit ≡ behind)

@@ -5,7 +5,6 @@ use Rattle.std.specs.Option.{option_map, option_and_then}
 use Rattle.std.proofs.lemmas.Bool.{false≢true, and_parts, and_from, eq-eqb}
 use Rattle.std.proofs.lemmas.List.{length-drop}
 use Rattle.srv6_rules.specs.declared.sid.SidEntry.{SidEntry}
-use Rattle.srv6_rules.specs.Behaviours.{goes_on, exposes, ipv6_inside}
 use Rattle.srv6_rules.specs.Packet.{Packet, V6}
 use Rattle.net_model.specs.Network.{Network}
 use Rattle.net_model.specs.Keeps.{Keeps}
@@ -22,7 +21,7 @@ use Rattle.leg_table.specs.Tasks.{left_after, left_after_function}
 use Rattle.leg_table.specs.Trace.{is_titled}
 use Rattle.leg_table.specs.Choices.{ForAllChoices, seen_at}
 use Rattle.leg_table.specs.Ride.{Ride, ride_of, with_hop_limit, RideEnds}
-use Rattle.leg_table.specs.Sids.{sid_goes_on, is_middle, sid_exposes, is_last, sid_address}
+use Rattle.leg_table.specs.Sids.{takes_step, hands_over, sid_goes_on, is_middle, sid_exposes, is_last, sid_address}
 use Rattle.leg_table.specs.Leg.{place_from, is_start, ride_to, left_behind, leg_with, leg_behind, leg_of, if_none_left, finish_behind, finish_of, is_again, is_hand, is_left, has_limit, stage_executes, stage_exposes, IsTaken, IsHanded, FromPlace, IsLeg, IsFinish}
 use Rattle.leg_table.proofs.Options.{map-some, then-some, if-some, some-same}
 use Rattle.leg_table.proofs.Choices.{choices-every}
@@ -42,20 +41,20 @@ pub record NextRide (net : Network) (intent : Intent) (position : ℕ) (via : Op
   pub left_is : left_after net next ride.left ≡ Some left
 
 pub middle-sid : (net : Network) (n : ℕ) → is_middle net n ≡ true
-    → (s : SidEntry) × (slice_get net.sids n ≡ Some s) × (goes_on s ≡ true)
+    → (s : SidEntry) × (slice_get net.sids n ≡ Some s) × (takes_step s ≡ true)
 middle-sid net n h = by_sid (slice_get net.sids n) refl h
   where
     by_sid : (o : Option SidEntry) → slice_get net.sids n ≡ o → sid_goes_on o ≡ true
-        → (s : SidEntry) × (slice_get net.sids n ≡ Some s) × (goes_on s ≡ true)
+        → (s : SidEntry) × (slice_get net.sids n ≡ Some s) × (takes_step s ≡ true)
     by_sid None e h = absurd (false≢true h)
     by_sid (Some s) e h = (s, e, h)
 
 pub last-sid : (net : Network) (n : ℕ) → is_last net n ≡ true
-    → (s : SidEntry) × (slice_get net.sids n ≡ Some s) × (exposes s ipv6_inside ≡ true)
+    → (s : SidEntry) × (slice_get net.sids n ≡ Some s) × (hands_over s ≡ true)
 last-sid net n h = by_sid (slice_get net.sids n) refl h
   where
     by_sid : (o : Option SidEntry) → slice_get net.sids n ≡ o → sid_exposes o ≡ true
-        → (s : SidEntry) × (slice_get net.sids n ≡ Some s) × (exposes s ipv6_inside ≡ true)
+        → (s : SidEntry) × (slice_get net.sids n ≡ Some s) × (hands_over s ≡ true)
     by_sid None e h = absurd (false≢true h)
     by_sid (Some s) e h = (s, e, h)
 

@@ -3,6 +3,7 @@ use Rattle.std.proofs.Common.{◌≡◌, ℕ, zero, suc, ◌+◌, ◌-◌, ◌^�
 use Rattle.std.specs.List.{All}
 use Rattle.std.specs.Option.{option_map}
 use Rattle.std.proofs.lemmas.List.{length-drop}
+use Rattle.srv6_rules.specs.declared.sid.Family.TheVariants as families
 use Rattle.srv6_rules.specs.declared.sid.SidEntry.{SidEntry}
 use Rattle.srv6_rules.specs.Packet.{V6, content_of}
 use Rattle.srv6_rules.specs.Encapsulation.{Encapsulation, at_segment}
@@ -109,13 +110,14 @@ module _ (net : Network) (keeps : Keeps net) (intent : Intent) (is_intent : IsIn
       none-left (u ∷ us) h = absurd (omega arith)
 
   -- what is handed over behind the execution at a segment that is not the last
-  behind : (at : Place) (next i hop less fuel : ℕ) (pick : ℕ → ℕ) (taken : ℕ) (place : Place) (h : Handed) → is_middle net next ≡ true
+  behind : (at : Place) (next i hop less fuel : ℕ) (pick : ℕ → ℕ) (taken : ℕ) (place : Place) (h : Handed) → at.family ≡ families.V6
+      → is_middle net next ≡ true
       → way_of net at (slice_index e.segments i) ≡ Into next → i + 1 < length e.segments → 1 < hop → hop - 1 ≡ less
       → place_from net intent (Some next) ≡ Some place
       → handed_over net (walk_of fuel net (Some place) (V6 (at_segment e bytes (suc i) less)) pick (taken + 0)) ≡ Some h
       → handed_over net (walk_of (suc fuel) net (Some at) (V6 (at_segment e bytes i hop)) pick taken)
       ≡ Some (after_events (executed net next) h)
-  behind at next i hop less fuel pick taken place h middle into below high one from handed =
+  behind at next i hop less fuel pick taken place h v6 middle into below high one from handed =
       let sid = middle-sid net next middle in
       let stands = way-into net at (slice_index e.segments i) next into in
       let same : stands.sid ≡ sid.0 = some-same stands.sid sid.0 (sym stands.is_there ∙ sid.1) in
@@ -125,7 +127,7 @@ module _ (net : Network) (keeps : Keeps net) (intent : Intent) (is_intent : IsIn
       (on_from next sid.0.behaviour) h
       (mid-onward net e bytes at next i hop (pick taken) sid.0 into sid.1 sid.2 below all high
       ∙ ap (λ (j : ℕ). goes again (V6 (at_segment e bytes (suc i) j))) one)
-      (behind-again net at next sid.0 node ∙ (sym (ap (option_map (place_behind next)) sid.1) ∙ from)) handed
+      (behind-again net at next sid.0 node v6 ∙ (sym (ap (option_map (place_behind next)) sid.1) ∙ from)) handed
 
   leg-hands : (position : ℕ) (via : Option ℕ) (next i hop k : ℕ) (leg : Leg) (pick : ℕ → ℕ) (taken : ℕ)
       → leg_of net intent position via next ≡ Some leg → slice_index e.segments i ≡ sid_address net next
@@ -161,7 +163,7 @@ module _ (net : Network) (keeps : Keeps net) (intent : Intent) (is_intent : IsIn
               w.walk pick taken (suc hand.fuel)
               ∙ ap (option_map (after_events (w.events pick taken)))
               (behind n.ride.place next i (hop - n.ride.lowered) (hop - leg.hops) hand.fuel pick (taken + w.count) rest.0 hand.handed
-              got.1 into below (omega arith) (omega arith) rest.1 hand.is_handed);
+              (f.family ∙ s.family) got.1 into below (omega arith) (omega arith) rest.1 hand.is_handed);
           meets_steps =
               w.meets_them pick taken (executed net next ++ hand.handed.trace)
               ∙ left.1.same hand.handed.trace

@@ -36,16 +36,17 @@ use Rattle.leg_table.proofs.Ways.{address-is}
 
 -- the way of a packet that is looked up in table 0
 pub way-looked : (net : Network) (node : ℕ) (lower : Bool) (destination : ℕ)
-    → way_of net (stand node lower) destination ≡ way_by_table net node 0 lower destination
+    → way_of net (stand node lower) destination ≡ way_by_table net node 0 families.V6 lower destination
 unfolding way_of
 way-looked net node true destination = refl
 way-looked net node false destination = refl
 
 pub table-way : (net : Network) (node : ℕ) (lower : Bool) (d : ℕ) (table : TableOf) (w : Way)
-    → table ≡ record { net = net; node = node; table = 0 } → w ≡ way_by_table table.net table.node table.table lower d
+    → table ≡ record { net = net; node = node; table = 0; family = families.V6 }
+    → w ≡ way_by_table table.net table.node table.table table.family lower d
     → w ≡ way_of net (stand node lower) d
 table-way net node lower d table w is e =
-    e ∙ ap (λ (t : TableOf). way_by_table t.net t.node t.table lower d) is ∙ sym (way-looked net node lower d)
+    e ∙ ap (λ (t : TableOf). way_by_table t.net t.node t.table t.family lower d) is ∙ sym (way-looked net node lower d)
 
 -- one lowering more before an execution
 behind-more : (net : Network) (n : ℕ) (lower : Bool) (o : Option Ride)

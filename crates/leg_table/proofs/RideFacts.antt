@@ -33,12 +33,13 @@ pub record RideFacts (net : Network) (destination : ℕ) (ts : List Step) (place
   pub lowered : r.lowered ≤ count
   pub into : way_of net r.place destination ≡ Into r.sid
   pub stands : stand_after net place.node (take count ts) ≡ Some r.place.node
+  pub family : r.place.family ≡ place.family
 
 module _ (net : Network) (keeps : Keeps net) (destination : ℕ) where
   facts_here : (ts : List Step) (place : Place) (n : ℕ) → way_of net place destination ≡ Into n
       → RideFacts net destination ts place (record { sid = n; place = place; left = ts; lowered = 0 })
   facts_here ts place n e =
-      record { count = 0; within = omega arith; left = refl; lowered = omega arith; into = e; stands = refl }
+      record { count = 0; within = omega arith; left = refl; lowered = omega arith; into = e; stands = refl; family = refl }
 
   facts_later : (step : List ℕ) (ts : List Step) (place : Place) (to : ℕ) (lower : Bool) (r : Ride)
       → node_after net place.node (Links step) ≡ Some to
@@ -52,6 +53,7 @@ module _ (net : Network) (keeps : Keeps net) (destination : ℕ) where
         lowered = bound lower;
         into = f.into;
         stands = ap (option_and_then (λ next. stand_after net next (take f.count ts))) e ∙ f.stands;
+        family = f.family;
       }
     where
       bound : (lower : Bool) → one_if lower + r.lowered ≤ suc f.count

@@ -8,6 +8,7 @@ use Rattle.std.proofs.lemmas.Bool.Decides.{leb_tells}
 use Rattle.srv6_rules.specs.declared.sid.SidEntry.{SidEntry}
 use Rattle.srv6_rules.specs.declared.sid.Behaviour.{Behaviour}
 use Rattle.srv6_rules.specs.declared.sid.Reason.TheVariants as reasons
+use Rattle.srv6_rules.specs.Behaviours.{is_built}
 use Rattle.srv6_rules.specs.Packet.{Packet, Content, V6}
 use Rattle.srv6_rules.specs.Endpoint.{Endpoint, Onward, Exposed, Delivered, Refused, at_sid, at_address}
 use Rattle.net_model.specs.Network.{Network}
@@ -53,7 +54,13 @@ at_sid-no_send net node n b p (Refused reason at) = tt
 
 in-no_send : (net : Network) (node n : ℕ) (o : Option SidEntry) (p : Packet) → IsNoSend (treated_in net node n o p).outcome
 in-no_send net node n None p = tt
-in-no_send net node n (Some s) p = at_sid-no_send net node n s.behaviour p (at_sid s (allow_of (slice_get net.nodes node)) p)
+in-no_send net node n (Some s) p = by_built (is_built s)
+  where
+    by_built : (built : Bool)
+        → IsNoSend (if built then treated_at_sid net node n s.behaviour p (at_sid s (allow_of (slice_get net.nodes node)) p)
+        else dropped net node reasons.NotBuilt 0 (V6 p)).outcome
+    by_built true = at_sid-no_send net node n s.behaviour p (at_sid s (allow_of (slice_get net.nodes node)) p)
+    by_built false = tt
 
 -- at the node's own address and away from the network a packet goes no further
 own-never : (net : Network) (node : ℕ) (p : Packet) (x : Endpoint) (t : Step) (R E : Type 0)

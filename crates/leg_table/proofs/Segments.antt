@@ -4,11 +4,10 @@ use Rattle.std.proofs.Common.{append-nil}
 use Rattle.std.specs.List.{All}
 use Rattle.std.proofs.lemmas.Bool.{false≢true, and_parts, eq-eqb}
 use Rattle.v6_addr.specs.Address.{PrefixValue, Holds}
-use Rattle.srv6_rules.specs.declared.sid.Family.{Family}
 use Rattle.srv6_rules.specs.declared.sid.Family.TheVariants as families
 use Rattle.srv6_rules.specs.declared.sid.Reason.TheVariants as reasons
 use Rattle.srv6_rules.specs.declared.sid.SidEntry.{SidEntry}
-use Rattle.srv6_rules.specs.Behaviours.{goes_on, exposes, ipv6_inside}
+use Rattle.srv6_rules.specs.Behaviours.{goes_on, exposes, is_built, ipv6_inside}
 use Rattle.srv6_rules.specs.Packet.{V6, header_len, content_of}
 use Rattle.srv6_rules.specs.Endpoint.{Endpoint, at_sid, upper_layer}
 use Rattle.srv6_rules.specs.Srh.{segments_left_at}
@@ -26,30 +25,27 @@ use Rattle.walk_rules.specs.declared.place.How.TheVariants.{Arrived, Submitted, 
 use Rattle.walk_rules.specs.declared.place.Place.{Place}
 use Rattle.walk_rules.specs.declared.place.Outcome.TheVariants as outcomes
 use Rattle.walk_rules.specs.Walk.{next_place}
-use Rattle.walk_rules.specs.Way.{Away, Into, is_multicast, way_of, way_by, way_by_hit}
+use Rattle.walk_rules.specs.Way.{Away, Into, is_multicast_of, way_of, way_by, way_by_hit}
 use Rattle.walk_rules.specs.Treatment.{Gave, goes, treated_at_sid, allow_of, step_of, on_from, dropped}
 use Rattle.intent_reader.specs.declared.intent.Step.{Step}
 use Rattle.intent_reader.specs.declared.intent.Step.TheVariants.{Links, Function}
 use Rattle.leg_table.specs.Trace.{Event, Executed, is_titled, executed}
 use Rattle.leg_table.specs.Tasks.{matches, left_after, left_after_function}
 use Rattle.leg_table.specs.Leg.{place_behind}
-use Rattle.leg_table.specs.Sids.{first_address, sid_address}
+use Rattle.leg_table.specs.Sids.{takes_step, hands_over, first_address, sid_address}
 use Rattle.leg_table.proofs.Options.{if-some, some-same}
-use Rattle.leg_table.proofs.Executions.{stage_into}
+use Rattle.leg_table.proofs.Executions.{stage_into, stage_not_built}
 
-pub family-v6 : (f : Family) → f ≡ families.V6
-family-v6 families.V6 = refl
-
--- behind an execution the packet stands at the SID's node, and goes on in the SID's way
-pub behind-again : (net : Network) (at : Place) (n : ℕ) (s : SidEntry) → s.node ≡ at.node
+-- behind an execution of an IPv6 packet the packet stands at the SID's node, and goes on in the SID's way
+pub behind-again : (net : Network) (at : Place) (n : ℕ) (s : SidEntry) → s.node ≡ at.node → at.family ≡ families.V6
     → next_place net at (outcomes.Again n (on_from n s.behaviour)) ≡ Some (place_behind n s)
-behind-again net at n s stands =
+behind-again net at n s stands v6 =
     ap (λ (x : ℕ). Some (record { node = x; how = on_from n s.behaviour; family = at.family })) (sym stands)
-    ∙ ap (λ x. Some (record { node = s.node; how = on_from n s.behaviour; family = x })) (family-v6 at.family)
+    ∙ ap (λ x. Some (record { node = s.node; how = on_from n s.behaviour; family = x })) v6
 
 -- the way into a SID is by a look-up
 into-lookup : (net : Network) (place : Place) (a n : ℕ) → way_of net place a ≡ Into n
-    → (table : ℕ) × (lookup_of net place.node table a ≡ hits.Sid n)
+    → (table : ℕ) × (lookup_of net place.node table place.family a ≡ hits.Sid n)
 unfolding way_of
 into-lookup net place a n e = by_how place.how e
   where
@@ -60,14 +56,15 @@ into-lookup net place a n e = by_how place.how e
     by_hit lower hits.Nothing e = absurd (cc)
 
     by_table : (table : ℕ) (lower t : Bool)
-        → (if t then Away reasons.Multicast else way_by_hit net lower (lookup_of net place.node table a)) ≡ Into n
-        → (table : ℕ) × (lookup_of net place.node table a ≡ hits.Sid n)
+        → (if t then Away reasons.Multicast else way_by_hit net lower (lookup_of net place.node table place.family a)) ≡ Into n
+        → (table : ℕ) × (lookup_of net place.node table place.family a ≡ hits.Sid n)
     by_table table lower true e = absurd (cc)
-    by_table table lower false e = (table, by_hit lower (lookup_of net place.node table a) e)
+    by_table table lower false e = (table, by_hit lower (lookup_of net place.node table place.family a) e)
 
-    by_how : (how : How) → way_by net place.node how a ≡ Into n → (table : ℕ) × (lookup_of net place.node table a ≡ hits.Sid n)
-    by_how (Arrived table) e = by_table table true (is_multicast a) e
-    by_how (Submitted table) e = by_table table false (is_multicast a) e
+    by_how : (how : How) → way_by net place.node how place.family a ≡ Into n
+        → (table : ℕ) × (lookup_of net place.node table place.family a ≡ hits.Sid n)
+    by_how (Arrived table) e = by_table table true (is_multicast_of place.family a) e
+    by_how (Submitted table) e = by_table table false (is_multicast_of place.family a) e
     by_how (Through sid lower) e = absurd (cc)
 
 holds-itself : (p : PrefixValue) → Holds p p.value
@@ -79,8 +76,8 @@ pub into-address : (net : Network) → IsNetwork net → IsFlat net → (place :
     → slice_get net.sids n ≡ Some t → way_of net place s.prefix.value ≡ Into n → sid_address net n ≡ s.prefix.value
 into-address net network flat place m n s t hm hn e =
     let found = into-lookup net place s.prefix.value n e in
-    let holds = matched_sid_holds net n t place.node found.0 s.prefix.value found.1 hn in
-    let same = one_sid_prefix net m n s t s.prefix.value network flat hm hn (holds-itself s.prefix) holds.2 in
+    let holds = matched_sid_holds net n t place.node found.0 place.family s.prefix.value found.1 hn in
+    let same = one_sid_prefix net m n s t s.prefix.value network flat hm hn (holds-itself s.prefix) holds.3 in
     ap first_address hn ∙ ap (λ (p : PrefixValue). p.value) (sym same)
 
 module _ (net : Network) (e : Encapsulation) (bytes : List ℕ) (place : Place) (n i hop choice : ℕ) (s : SidEntry)
@@ -94,32 +91,41 @@ module _ (net : Network) (e : Encapsulation) (bytes : List ℕ) (place : Place) 
   abbrev given : Endpoint → Gave
   given x = treated_at_sid net place.node n s.behaviour (at_segment e bytes i hop) x
 
-  stage-is : stage ≡ given (at_sid s allow (at_segment e bytes i hop))
-  stage-is = stage_into net place (at_segment e bytes i hop) n s choice into there
+  stage-is : is_built s ≡ true → stage ≡ given (at_sid s allow (at_segment e bytes i hop))
+  stage-is built = stage_into net place (at_segment e bytes i hop) n s choice into there built
+
+  -- at a SID that is not built
+  pub not-built : is_built s ≡ false → stage ≡ dropped net place.node reasons.NotBuilt 0 (V6 (at_segment e bytes i hop))
+  not-built built = stage_not_built net place (at_segment e bytes i hop) n s choice into there built
 
   -- at a segment that is not the last
-  pub mid-onward : goes_on s ≡ true → i + 1 < length e.segments → All (λ a. a < 2 ^ 128) e.segments → 1 < hop
+  pub mid-onward : takes_step s ≡ true → i + 1 < length e.segments → All (λ a. a < 2 ^ 128) e.segments → 1 < hop
       → stage ≡ goes (outcomes.Again n (on_from n s.behaviour)) (V6 (at_segment e bytes (suc i) (hop - 1)))
   mid-onward middle below all high =
-      stage-is ∙ ap given (at_segment-onward s allow e bytes i hop middle below all high)
+      let parts = and_parts (is_built s) (goes_on s) middle in
+      stage-is parts.0 ∙ ap given (at_segment-onward s allow e bytes i hop parts.1 below all high)
       ∙ ap (λ (j : ℕ). goes (outcomes.Again n (on_from n s.behaviour)) (V6 (at_segment e bytes j (hop - 1)))) (add-one i)
 
-  pub mid-low : goes_on s ≡ true → i + 1 < length e.segments → hop ≤ 1
+  pub mid-low : takes_step s ≡ true → i + 1 < length e.segments → hop ≤ 1
       → stage ≡ dropped net place.node reasons.HopLimit 0 (V6 (at_segment e bytes i hop))
-  mid-low middle below low = stage-is ∙ ap given (at_segment-hop_limit s allow e bytes i hop middle below low)
+  mid-low middle below low =
+      let parts = and_parts (is_built s) (goes_on s) middle in
+      stage-is parts.0 ∙ ap given (at_segment-hop_limit s allow e bytes i hop parts.1 below low)
 
-  pub mid-stays : goes_on s ≡ false → i + 1 < length e.segments
+  pub mid-stays : is_built s ≡ true → goes_on s ≡ false → i + 1 < length e.segments
       → stage ≡ dropped net place.node reasons.BadSegments (header_len + segments_left_at) (V6 (at_segment e bytes i hop))
-  mid-stays stays below = stage-is ∙ ap given (at_segment-bad_segments s allow e bytes i hop stays below)
+  mid-stays built stays below = stage-is built ∙ ap given (at_segment-bad_segments s allow e bytes i hop stays below)
 
   -- at the last segment
-  pub last-exposes : exposes s ipv6_inside ≡ true → i + 1 ≡ length e.segments
+  pub last-exposes : hands_over s ≡ true → i + 1 ≡ length e.segments
       → stage ≡ goes (outcomes.Hand n (on_from n s.behaviour) families.V6) (content_of bytes)
-  last-exposes shows end = stage-is ∙ ap given (at_segment-exposed s allow e bytes i hop shows end)
+  last-exposes shows end =
+      let parts = and_parts (is_built s) (exposes s ipv6_inside) shows in
+      stage-is parts.0 ∙ ap given (at_segment-exposed s allow e bytes i hop parts.1 end)
 
-  pub last-keeps : exposes s ipv6_inside ≡ false → i + 1 ≡ length e.segments
+  pub last-keeps : is_built s ≡ true → exposes s ipv6_inside ≡ false → i + 1 ≡ length e.segments
       → stage ≡ given (upper_layer allow (at_segment e bytes i hop) (inner_place e))
-  last-keeps keeps end = stage-is ∙ ap given (at_segment-upper_layer s allow e bytes i hop keeps end)
+  last-keeps built keeps end = stage-is built ∙ ap given (at_segment-upper_layer s allow e bytes i hop keeps end)
 
 -- the steps left behind an execution that meets the steps
 module _ (net : Network) (n : ℕ) where

@@ -3,7 +3,7 @@ use Rattle.std.specs.Prelude.{◌≡◌, ℕ, zero, suc, ◌+◌, ◌-◌, ◌<�
 use Rattle.std.specs.Option.{option_map, option_and_then}
 use Rattle.srv6_rules.specs.declared.sid.Family.TheVariants as families
 use Rattle.srv6_rules.specs.declared.sid.SidEntry.{SidEntry}
-use Rattle.srv6_rules.specs.Behaviours.{goes_on}
+use Rattle.srv6_rules.specs.Behaviours.{is_built}
 use Rattle.srv6_rules.specs.Packet.{Packet, Content, V6, Unreadable}
 use Rattle.srv6_rules.specs.Endpoint.{Endpoint, Onward, Exposed, Delivered, Refused, at_sid}
 use Rattle.net_model.specs.Network.{Network}
@@ -19,7 +19,7 @@ use Rattle.list_pack.specs.declared.types.Leg.{Leg}
 use Rattle.leg_table.specs.Tasks.{left_after}
 use Rattle.leg_table.specs.Choices.{ForAllChoices}
 use Rattle.leg_table.specs.Ride.{Ride, ride_of, with_hop_limit}
-use Rattle.leg_table.specs.Sids.{is_sid_at, is_middle, is_last, sid_address}
+use Rattle.leg_table.specs.Sids.{takes_step, is_sid_at, is_middle, is_last, sid_address}
 
 -- from where a packet goes to the next SID: from the headend, which made it, or from the SID that was executed last
 abbrev pub place_behind : ℕ → SidEntry → Place
@@ -87,14 +87,15 @@ is_exposed (Exposed family bytes) = true
 is_exposed (Delivered q) = false
 is_exposed (Refused reason at) = false
 
--- packets that a SID takes on to a next segment where the hop limit allows it, and packets from which it exposes one
+-- packets that a SID, which nodes run, takes on to a next segment where the hop limit allows it, and packets from which it
+-- exposes one
 abbrev pub takes_on : Option SidEntry → Packet → Bool
 takes_on None p = false
-takes_on (Some s) p = is_onward (at_sid s [] (with_hop_limit 2 p))
+takes_on (Some s) p = is_built s && is_onward (at_sid s [] (with_hop_limit 2 p))
 
 abbrev pub takes_out : Option SidEntry → Packet → Bool
 takes_out None p = false
-takes_out (Some s) p = is_exposed (at_sid s [] p)
+takes_out (Some s) p = is_built s && is_exposed (at_sid s [] p)
 
 abbrev pub has_next_segment : Network → ℕ → Packet → Bool
 has_next_segment net n p = takes_on (slice_get net.sids n) p
@@ -171,7 +172,7 @@ start_of net intent position via = if is_start net intent position via then plac
 -- from where a packet goes on behind the execution of a middle SID
 abbrev pub middle_place_by : ℕ → Option SidEntry → Option Place
 middle_place_by v None = None
-middle_place_by v (Some s) = if goes_on s then Some (place_behind v s) else None
+middle_place_by v (Some s) = if takes_step s then Some (place_behind v s) else None
 
 abbrev pub middle_place : Network → ℕ → Option Place
 middle_place net v = middle_place_by v (slice_get net.sids v)

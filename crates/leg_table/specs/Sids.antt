@@ -2,17 +2,25 @@
 use Rattle.std.specs.Prelude.{ℕ, zero, suc, Bool, true, false, ◌==◌, ◌&&◌, ◌||◌, nat_lt, if◌then◌else◌, List, [], ◌∷◌, take, length, slice_get, Option, Some, None, IsTrue, Contains, ◌↔◌}
 use Rattle.v6_addr.specs.Address.{PrefixValue}
 use Rattle.srv6_rules.specs.declared.sid.SidEntry.{SidEntry}
-use Rattle.srv6_rules.specs.Behaviours.{goes_on, exposes, ipv6_inside}
+use Rattle.srv6_rules.specs.Behaviours.{goes_on, exposes, is_built, ipv6_inside}
 use Rattle.net_model.specs.Network.{Network}
 use Rattle.intent_reader.specs.Rules.{stand_after, is_at}
 use Rattle.intent_reader.specs.declared.intent.Step.{Step}
 use Rattle.intent_reader.specs.declared.intent.Step.TheVariants.{Links, Function}
 use Rattle.intent_reader.specs.declared.intent.Intent.{Intent}
 
+-- nodes run the SID, and the packet goes on from it to a next segment
+abbrev pub takes_step : SidEntry → Bool
+takes_step s = is_built s && goes_on s
+
+-- nodes run the SID, and it exposes an IPv6 packet inside
+abbrev pub hands_over : SidEntry → Bool
+hands_over s = is_built s && exposes s ipv6_inside
+
 -- from a SID that is middle the packet goes on to a next segment
 abbrev pub sid_goes_on : Option SidEntry → Bool
 sid_goes_on None = false
-sid_goes_on (Some s) = goes_on s
+sid_goes_on (Some s) = takes_step s
 
 abbrev pub is_middle : Network → ℕ → Bool
 is_middle net n = sid_goes_on (slice_get net.sids n)
@@ -20,7 +28,7 @@ is_middle net n = sid_goes_on (slice_get net.sids n)
 -- a SID that exposes an IPv6 packet inside
 abbrev pub sid_exposes : Option SidEntry → Bool
 sid_exposes None = false
-sid_exposes (Some s) = exposes s ipv6_inside
+sid_exposes (Some s) = hands_over s
 
 abbrev pub is_last : Network → ℕ → Bool
 is_last net n = sid_exposes (slice_get net.sids n)

@@ -3,14 +3,13 @@ use Rattle.std.specs.Prelude.{◌≡◌, ℕ, ◌+◌, ◌≤◌, Bool, false, L
 use Rattle.v6_addr.specs.Address.{PrefixValue}
 use Rattle.srv6_rules.specs.declared.sid.Csid.TheVariants.{Plain}
 use Rattle.srv6_rules.specs.declared.sid.SidEntry.{SidEntry}
-use Rattle.srv6_rules.specs.Behaviours.{goes_on}
 use Rattle.net_model.specs.Network.{Network}
 use Rattle.net_model.specs.Rules.{IsNetwork}
 use Rattle.intent_reader.specs.Rules.{IsIntent}
 use Rattle.intent_reader.specs.declared.intent.Intent.{Intent}
 use Rattle.list_pack.specs.declared.types.Shape.{Shape}
 use Rattle.leg_table.specs.declared.reach.Reach.{Reach}
-use Rattle.leg_table.specs.Sids.{sids_of}
+use Rattle.leg_table.specs.Sids.{sids_of, takes_step}
 use Rattle.leg_table.specs.Reach.{AreReaches}
 
 -- a table is that of an intent in a network
@@ -36,7 +35,7 @@ plain_shape prefix middle = record { prefix = prefix; block = None; lbl = 0; csi
 
 abbrev pub shape_by : Option SidEntry → Shape
 shape_by None = plain_shape (record { value = 0; len = 0 }) false
-shape_by (Some s) = plain_shape s.prefix (goes_on s)
+shape_by (Some s) = plain_shape s.prefix (takes_step s)
 
 abbrev pub shape_of : Network → ℕ → Shape
 shape_of net n = shape_by (slice_get net.sids n)

@@ -12,6 +12,7 @@ use crate::rows::node_behind;
 use base::NoMemory;
 use intent_reader::Step;
 use net_model::{Net, NodeTable};
+use srv6_rules::Family;
 use std::alloc::Global;
 use walk_rules::{Place, Way, way_in_table, way_of};
 
@@ -112,7 +113,7 @@ fn ways_of(
     steps: &[Step],
     later: &[Option<Behind>],
 ) -> Result<Vec<Option<Behind>>, NoMemory>
-    requires is_table { table.now ≡ record { net = net.now; node = node; table = 0 } }
+    requires is_table { table.now ≡ record { net = net.now; node = node; table = 0; family = V6 } }
     requires few { length steps.now ≤ 48 }
     requires stands { IsTrue (is_some (rules.stand_after net.now node steps.now)) }
     requires later { AreLater net.now node steps.now later.now }
@@ -145,7 +146,7 @@ fn reach_of(
     requires few_lowered { (n : ℕ) → IfSome (way_at later.now n) (λ b. b.lowered ≤ 48) }
     ensures { IfOk result (λ reach. IsReach net.now steps.now node reach) }
 {
-    let table = NodeTable::gather(alloc, net, node, 0)?;
+    let table = NodeTable::gather(alloc, net, node, 0, Family::V6)?;
     let arrived = ways_of(alloc, net, node, &table, true, steps, later)?;
     let submitted = ways_of(alloc, net, node, &table, false, steps, later)?;
     Ok(Reach { arrived, submitted })

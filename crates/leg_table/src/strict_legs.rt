@@ -4,7 +4,7 @@ ghost use Rattle.std.specs.Prelude.{◌≡◌, ◌<◌, ◌≤◌, ℕ, length, 
 ghost use Rattle.net_model.specs.Keeps.{Keeps};
 ghost use Rattle.net_model.specs.Rules.{IsNetwork};
 ghost use Rattle.intent_reader.specs.Rules.{IsIntent};
-ghost use Rattle.leg_table.specs.Course.{way_behind};
+ghost use Rattle.leg_table.specs.Course.{finish_from_behind, way_behind};
 ghost use Rattle.leg_table.specs.Reach.{IsReach, IsStart, AreLater, way_at};
 ghost use Rattle.leg_table.specs.Leg as legs;
 ghost use Rattle.leg_table.specs.Sids as sids;
@@ -17,7 +17,7 @@ use intent_reader::{Intent, Step};
 use list_pack::{Leg, Legs, Shape};
 use net_model::Net;
 use srv6_rules::numbers::IPV6_INSIDE;
-use srv6_rules::{Csid, Family};
+use srv6_rules::{Csid, Family, SidEntry};
 use std::alloc::Global;
 use std::marker::Model;
 use walk_rules::{How, Place, on_from};
@@ -216,7 +216,7 @@ impl<'a> Legs for StrictLegs<'a> {
             block: None,
             lbl: 0,
             csid: Csid::Plain,
-            middle: sid.goes_on(),
+            middle: takes_step(sid),
         }
     }
 
@@ -238,24 +238,49 @@ impl<'a> Legs for StrictLegs<'a> {
             return None;
         }
         match self.way_behind(position, via, next) {
-            Some(behind) if behind.left == 0 => Some(behind.lowered),
-            _ => None,
+            Some(behind) => lowered_at_the_end(&behind),
+            None => None,
         }
     }
+}
+
+// how often the hop limit was lowered, where no step is left
+fn lowered_at_the_end(behind: &Behind) -> Option<u32>
+    ensures { result ≡ finish_from_behind behind.now }
+{
+    if behind.left == 0 {
+        Some(behind.lowered)
+    } else {
+        None
+    }
+}
+
+// nodes run the SID, and the packet goes on from it to a next segment
+fn takes_step(sid: &SidEntry) -> bool
+    ensures { result ≡ sids.takes_step sid.now }
+{
+    sid.is_built() && sid.goes_on()
+}
+
+// nodes run the SID, and it exposes an IPv6 packet inside
+fn hands_over(sid: &SidEntry) -> bool
+    ensures { result ≡ sids.hands_over sid.now }
+{
+    sid.is_built() && sid.exposes(IPV6_INSIDE)
 }
 
 // from a SID the packet goes on to a next segment
 fn is_middle(net: &Net, n: u32) -> bool
     ensures { result ≡ sids.is_middle net.now n }
 {
-    n < net.sids() && net.sid(n).goes_on()
+    n < net.sids() && takes_step(net.sid(n))
 }
 
 // a SID exposes an IPv6 packet inside
 fn is_last(net: &Net, n: u32) -> bool
     ensures { result ≡ sids.is_last net.now n }
 {
-    n < net.sids() && net.sid(n).exposes(IPV6_INSIDE)
+    n < net.sids() && hands_over(net.sid(n))
 }
 
 // where the packet stands behind the execution of a middle SID

@@ -1,10 +1,11 @@
 -- The longest of joined entries, and a scan one item on.
-use Rattle.std.proofs.Common.{◌≡◌, ℕ, ◌+◌, ltb, ◌==◌, ◌&&◌, List, [], ◌∷◌, ◌++◌, Option, Some, None, refl, sym, ap, ◌∙◌, arith, inl, inr}
+use Rattle.std.proofs.Common.{◌≡◌, ℕ, ◌+◌, ltb, ◌==◌, List, [], ◌∷◌, ◌++◌, Option, Some, None, refl, sym, ap, ◌∙◌, arith, inl, inr}
 use Rattle.std.proofs.lemmas.Bool.{cases_Bool, ltb-true, ltb-false, lt-ltb, le-ltb}
 use Rattle.v6_addr.specs.Address.{holds_address}
+use Rattle.srv6_rules.specs.declared.sid.Family.{Family}
 use Rattle.srv6_rules.specs.declared.sid.SidEntry.{SidEntry}
 use Rattle.net_model.specs.declared.parts.Route.{Route}
-use Rattle.net_model.specs.Best.{Entry, longer, longest, sid_entries, route_entries}
+use Rattle.net_model.specs.Best.{Entry, longer, longest, sid_entries, is_route_of, route_entries}
 
 longer_three : (e f g : Entry) → longer (longer (Some e) (Some f)) (Some g) ≡ longer (Some e) (longer (Some f) (Some g))
 longer_three e f g =
@@ -42,10 +43,10 @@ pub sid_entries-cons : (node n : ℕ) (s : SidEntry) (more : List SidEntry)
 sid_entries-cons node n s more =
     elim (cases_Bool (s.node == node)) [ inl h ↦ rw h refl | inr h ↦ rw h refl ]
 
-pub route_entries-cons : (node table n : ℕ) (r : Route) (more : List Route)
-    → route_entries node table n (r ∷ more) ≡ route_entries node table n (r ∷ []) ++ route_entries node table (n + 1) more
-route_entries-cons node table n r more =
-    elim (cases_Bool ((r.node == node) && (r.table == table))) [ inl h ↦ rw h refl | inr h ↦ rw h refl ]
+pub route_entries-cons : (node table : ℕ) (family : Family) (n : ℕ) (r : Route) (more : List Route)
+    → route_entries node table family n (r ∷ more) ≡ route_entries node table family n (r ∷ []) ++ route_entries node table family (n + 1) more
+route_entries-cons node table family n r more =
+    elim (cases_Bool (is_route_of node table family r)) [ inl h ↦ rw h refl | inr h ↦ rw h refl ]
 
 -- a scan of SIDs, one SID on: what was found joined with what the rest gives stays the same
 pub sid_scan_more : (a node n : ℕ) (s : SidEntry) (more : List SidEntry) (found next : Option Entry)
@@ -57,14 +58,14 @@ sid_scan_more a node n s more found next e =
     ∙ ap (longer found) (sym (longest-append a (sid_entries node n (s ∷ [])) (sid_entries node (n + 1) more))
     ∙ ap (longest a) (sym (sid_entries-cons node n s more)))
 
-pub route_scan_more : (a node table n : ℕ) (r : Route) (more : List Route) (found next : Option Entry)
-    → next ≡ longer found (longest a (route_entries node table n (r ∷ [])))
-    → longer next (longest a (route_entries node table (n + 1) more)) ≡ longer found (longest a (route_entries node table n (r ∷ more)))
-route_scan_more a node table n r more found next e =
-    ap (λ o. longer o (longest a (route_entries node table (n + 1) more))) e
-    ∙ longer_assoc found (longest a (route_entries node table n (r ∷ []))) (longest a (route_entries node table (n + 1) more))
-    ∙ ap (longer found) (sym (longest-append a (route_entries node table n (r ∷ [])) (route_entries node table (n + 1) more))
-    ∙ ap (longest a) (sym (route_entries-cons node table n r more)))
+pub route_scan_more : (a node table : ℕ) (family : Family) (n : ℕ) (r : Route) (more : List Route) (found next : Option Entry)
+    → next ≡ longer found (longest a (route_entries node table family n (r ∷ [])))
+    → longer next (longest a (route_entries node table family (n + 1) more)) ≡ longer found (longest a (route_entries node table family n (r ∷ more)))
+route_scan_more a node table family n r more found next e =
+    ap (λ o. longer o (longest a (route_entries node table family (n + 1) more))) e
+    ∙ longer_assoc found (longest a (route_entries node table family n (r ∷ []))) (longest a (route_entries node table family (n + 1) more))
+    ∙ ap (longer found) (sym (longest-append a (route_entries node table family n (r ∷ [])) (route_entries node table family (n + 1) more))
+    ∙ ap (longest a) (sym (route_entries-cons node table family n r more)))
 
 pub scan_end : (o : Option Entry) → longer o None ≡ o
 scan_end o = longer_none o

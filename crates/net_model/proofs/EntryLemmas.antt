@@ -1,17 +1,20 @@
 -- The entries of a table by what they are.
-use Rattle.std.proofs.Common.{◌≡◌, ℕ, zero, suc, ◌+◌, false, ◌==◌, ◌&&◌, ◌⊎◌, List, [], ◌∷◌, ◌++◌, Option, Some, None, refl, sym, ap, ◌∙◌, subst, arith, inl, inr}
+use Rattle.std.proofs.Common.{◌≡◌, ℕ, zero, suc, ◌+◌, true, false, ◌==◌, ◌⊎◌, List, [], ◌∷◌, ◌++◌, Option, Some, None, refl, sym, ap, ◌∙◌, subst, arith, inl, inr}
 use Rattle.std.specs.List.{slice_get, Contains}
 use Rattle.std.proofs.lemmas.Bool.{cases_Bool, and_parts, and_from, eqb-true, eq-eqb}
 use Rattle.std.proofs.lemmas.Option.{same_Some}
 use Rattle.std.proofs.lemmas.List.Elements.{Contains-append_left, Contains-append_right, Contains-append_cases}
 use Rattle.v6_addr.specs.Address.{PrefixValue}
+use Rattle.srv6_rules.specs.declared.sid.Family.{Family}
+use Rattle.srv6_rules.specs.declared.sid.Family.TheVariants as families
 use Rattle.srv6_rules.specs.declared.sid.SidEntry.{SidEntry}
 use Rattle.net_model.specs.declared.parts.Node.{Node}
 use Rattle.net_model.specs.declared.parts.Route.{Route}
 use Rattle.net_model.specs.declared.net.Hit.{Hit}
 use Rattle.net_model.specs.declared.net.Hit.TheVariants as hits
 use Rattle.net_model.specs.Network.{Network}
-use Rattle.net_model.specs.Best.{Entry, sid_entries, route_entries, address_entries, entries_of}
+use Rattle.net_model.specs.Rules.{same_family}
+use Rattle.net_model.specs.Best.{Entry, sid_entries, is_route_of, route_entries, address_entries, has_sids, entries_of}
 use Rattle.net_model.specs.Entries.{IsEntryAs, IsEntry}
 
 pub contains_none : {X : Type 0} (x : X) → Contains [] x → ⊥
@@ -71,139 +74,163 @@ sid_is_there node n (t ∷ sids) zero k s at of is =
 sid_is_there node n (t ∷ sids) (suc i) k s at of is =
     sid_in_front node n t sids _ (sid_is_there node (n + 1) sids i k s at of (omega arith))
 
--- a route of the node's table among those whose first has the number n
-abbrev pub IsRouteFrom : ℕ → ℕ → ℕ → List Route → Entry → Type 0
-IsRouteFrom node table n routes e = (i : ℕ) × (r : Route) × (slice_get routes i ≡ Some r) × (r.node ≡ node) × (r.table ≡ table)
-    × (e ≡ record { hit = hits.Route (n + i); prefix = r.prefix })
+pub same_family-is : (f g : Family) → same_family f g ≡ true → f ≡ g
+same_family-is families.V6 families.V6 e = refl
+same_family-is families.V6 families.V4 e = cc
+same_family-is families.V4 families.V6 e = cc
+same_family-is families.V4 families.V4 e = refl
 
-route_later : (node table n : ℕ) (r : Route) (routes : List Route) (e : Entry) → IsRouteFrom node table (n + 1) routes e
-    → IsRouteFrom node table n (r ∷ routes) e
-route_later node table n r routes e (i, t, at, of, in_table, is) =
+same_family-self : (f : Family) → same_family f f ≡ true
+same_family-self families.V6 = refl
+same_family-self families.V4 = refl
+
+pub same_family-from : (f g : Family) → f ≡ g → same_family f g ≡ true
+same_family-from f g e = subst (λ h. same_family f h ≡ true) e (same_family-self f)
+
+-- a route of the family in the node's table among those whose first has the number n
+abbrev pub IsRouteFrom : ℕ → ℕ → Family → ℕ → List Route → Entry → Type 0
+IsRouteFrom node table family n routes e = (i : ℕ) × (r : Route) × (slice_get routes i ≡ Some r) × (r.node ≡ node) × (r.table ≡ table)
+    × (r.family ≡ family) × (e ≡ record { hit = hits.Route (n + i); prefix = r.prefix })
+
+route_later : (node table : ℕ) (family : Family) (n : ℕ) (r : Route) (routes : List Route) (e : Entry) → IsRouteFrom node table family (n + 1) routes e
+    → IsRouteFrom node table family n (r ∷ routes) e
+route_later node table family n r routes e (i, t, at, of, in_table, of_family, is) =
     let shift : n + 1 + i ≡ n + suc i = omega arith in
-    (suc i, t, at, of, in_table, is ∙ ap (λ k. record { hit = hits.Route k; prefix = t.prefix }) shift)
+    (suc i, t, at, of, in_table, of_family, is ∙ ap (λ k. record { hit = hits.Route k; prefix = t.prefix }) shift)
 
-pub route_means : (node table n : ℕ) (routes : List Route) (e : Entry) → Contains (route_entries node table n routes) e
-    → IsRouteFrom node table n routes e
-route_means node table n [] e c = absurd (contains_none e c)
-route_means node table n (r ∷ routes) e c =
-    elim (cases_Bool ((r.node == node) && (r.table == table))) [
+pub route_means : (node table : ℕ) (family : Family) (n : ℕ) (routes : List Route) (e : Entry) → Contains (route_entries node table family n routes) e
+    → IsRouteFrom node table family n routes e
+route_means node table family n [] e c = absurd (contains_none e c)
+route_means node table family n (r ∷ routes) e c =
+    elim (cases_Bool (is_route_of node table family r)) [
       | inl mine ↦ elim (contains_cases _ _ e (rw mine at c)) [
         | inl is ↦ let shift : n ≡ n + 0 = omega arith in
-            let both = and_parts _ _ mine in (
+            let both = and_parts _ _ mine in
+            let two = and_parts _ _ both.1 in (
               0,
               r,
               refl,
               eqb-true _ _ both.0,
-              eqb-true _ _ both.1,
+              eqb-true _ _ two.0,
+              same_family-is _ _ two.1,
               sym is
                   ∙ ap (λ k. record { hit = hits.Route k; prefix = r.prefix }) shift,
             )
-        | inr more ↦ route_later node table n r routes e (route_means node table (n + 1) routes e more)
+        | inr more ↦ route_later node table family n r routes e (route_means node table family (n + 1) routes e more)
       ]
-      | inr other ↦ route_later node table n r routes e (route_means node table (n + 1) routes e (rw other at c))
+      | inr other ↦ route_later node table family n r routes e (route_means node table family (n + 1) routes e (rw other at c))
     ]
 
-route_in_front : (node table n : ℕ) (r : Route) (routes : List Route) (e : Entry) → Contains (route_entries node table (n + 1) routes) e
-    → Contains (route_entries node table n (r ∷ routes)) e
-route_in_front node table n r routes e c =
-    elim (cases_Bool ((r.node == node) && (r.table == table))) [ inl mine ↦ rw mine (contains_later _ _ e c) | inr other ↦ rw other c ]
+route_in_front : (node table : ℕ) (family : Family) (n : ℕ) (r : Route) (routes : List Route) (e : Entry) → Contains (route_entries node table family (n + 1) routes) e
+    → Contains (route_entries node table family n (r ∷ routes)) e
+route_in_front node table family n r routes e c =
+    elim (cases_Bool (is_route_of node table family r)) [ inl mine ↦ rw mine (contains_later _ _ e c) | inr other ↦ rw other c ]
 
-route_at_front : (node table n : ℕ) (r : Route) (routes : List Route) → r.node ≡ node → r.table ≡ table
-    → Contains (route_entries node table n (r ∷ routes)) (record { hit = hits.Route n; prefix = r.prefix })
-route_at_front node table n r routes of in_table =
-    let mine = and_from _ _ (eq-eqb r.node node of) (eq-eqb r.table table in_table) in rw mine (contains_first _ _)
+route_at_front : (node table : ℕ) (family : Family) (n : ℕ) (r : Route) (routes : List Route) → r.node ≡ node → r.table ≡ table → r.family ≡ family
+    → Contains (route_entries node table family n (r ∷ routes)) (record { hit = hits.Route n; prefix = r.prefix })
+route_at_front node table family n r routes of in_table of_family =
+    let mine = and_from _ _ (eq-eqb r.node node of) (and_from _ _ (eq-eqb r.table table in_table) (same_family-from _ _ of_family)) in
+    rw mine (contains_first _ _)
 
-pub route_is_there : (node table n : ℕ) (routes : List Route) (i k : ℕ) (r : Route) → slice_get routes i ≡ Some r → r.node ≡ node
-    → r.table ≡ table → k ≡ n + i → Contains (route_entries node table n routes) (record { hit = hits.Route k; prefix = r.prefix })
-route_is_there node table n [] i k r at of in_table is = cc
-route_is_there node table n (t ∷ routes) zero k r at of in_table is =
-    let P : Route → Type 0 = λ x. x.node ≡ node → x.table ≡ table
-    → Contains (route_entries node table n (t ∷ routes)) (record { hit = hits.Route k; prefix = x.prefix }) in
+pub route_is_there : (node table : ℕ) (family : Family) (n : ℕ) (routes : List Route) (i k : ℕ) (r : Route) → slice_get routes i ≡ Some r → r.node ≡ node
+    → r.table ≡ table → r.family ≡ family → k ≡ n + i → Contains (route_entries node table family n routes) (record { hit = hits.Route k; prefix = r.prefix })
+route_is_there node table family n [] i k r at of in_table of_family is = cc
+route_is_there node table family n (t ∷ routes) zero k r at of in_table of_family is =
+    let P : Route → Type 0 = λ x. x.node ≡ node → x.table ≡ table → x.family ≡ family
+    → Contains (route_entries node table family n (t ∷ routes)) (record { hit = hits.Route k; prefix = x.prefix }) in
     let same : n ≡ k = omega arith in
-    subst P (same_Some t r at) (λ mine mine_too. subst
-    (λ m. Contains (route_entries node table n (t ∷ routes)) (record { hit = hits.Route m; prefix = t.prefix })) same
-    (route_at_front node table n t routes mine mine_too)) of in_table
-route_is_there node table n (t ∷ routes) (suc i) k r at of in_table is =
-    route_in_front node table n t routes _ (route_is_there node table (n + 1) routes i k r at of in_table (omega arith))
+    subst P (same_Some t r at) (λ mine in_it family_too. subst
+    (λ m. Contains (route_entries node table family n (t ∷ routes)) (record { hit = hits.Route m; prefix = t.prefix })) same
+    (route_at_front node table family n t routes mine in_it family_too)) of in_table of_family
+route_is_there node table family n (t ∷ routes) (suc i) k r at of in_table of_family is =
+    route_in_front node table family n t routes _ (route_is_there node table family (n + 1) routes i k r at of in_table of_family (omega arith))
 
 -- the entries of a table by what they are, both ways
 
-by_sid : (net : Network) (node table : ℕ) (e : Entry) → table ≡ 0 → Contains (sid_entries node 0 net.sids) e → IsEntry net node table e
-by_sid net node table e first c =
+by_sid : (net : Network) (node table : ℕ) (family : Family) (e : Entry) → (table ≡ 0) × (family ≡ families.V6)
+    → Contains (sid_entries node 0 net.sids) e → IsEntry net node table family e
+by_sid net node table family e first c =
     let (i, s, at, of, is) = sid_means node 0 net.sids e c in
     let same : i ≡ 0 + i = omega arith in
-    subst (IsEntry net node table) (sym is) (s, subst (λ k. slice_get net.sids k ≡ Some s) same at, of, refl, first)
+    subst (IsEntry net node table family) (sym is) (s, subst (λ k. slice_get net.sids k ≡ Some s) same at, of, refl, first.0, first.1)
 
-by_address : (net : Network) (node table : ℕ) (e : Entry) (o : Option Node) → slice_get net.nodes node ≡ o → table ≡ 0
-    → Contains (address_entries o) e → IsEntry net node table e
-by_address net node table e None at first c = absurd (contains_none e c)
-by_address net node table e (Some n) at first c =
+by_address : (net : Network) (node table : ℕ) (family : Family) (e : Entry) (o : Option Node) → slice_get net.nodes node ≡ o
+    → (table ≡ 0) × (family ≡ families.V6) → Contains (address_entries o) e → IsEntry net node table family e
+by_address net node table family e None at first c = absurd (contains_none e c)
+by_address net node table family e (Some n) at first c =
     elim (contains_cases (record { hit = hits.Address; prefix = record { value = n.address.value; len = 128 } }) [] e c) [
-      | inl is ↦ subst (IsEntry net node table) is (n, at, refl, first)
+      | inl is ↦ subst (IsEntry net node table family) is (n, at, refl, first.0, first.1)
       | inr none ↦ absurd (contains_none e none)
     ]
 
-by_route : (net : Network) (node table : ℕ) (e : Entry) → Contains (route_entries node table 0 net.routes) e → IsEntry net node table e
-by_route net node table e c =
-    let (i, r, at, of, in_table, is) = route_means node table 0 net.routes e c in
+by_route : (net : Network) (node table : ℕ) (family : Family) (e : Entry) → Contains (route_entries node table family 0 net.routes) e → IsEntry net node table family e
+by_route net node table family e c =
+    let (i, r, at, of, in_table, of_family, is) = route_means node table family 0 net.routes e c in
     let same : i ≡ 0 + i = omega arith in
-    subst (IsEntry net node table) (sym is) (r, subst (λ k. slice_get net.routes k ≡ Some r) same at, of, in_table, refl)
+    subst (IsEntry net node table family) (sym is) (r, subst (λ k. slice_get net.routes k ≡ Some r) same at, of, in_table, of_family, refl)
 
--- the entries of table 0, and of another
-pub entries_of-first : (net : Network) (node table : ℕ) → table ≡ 0
-    → entries_of net node table ≡ sid_entries node 0 net.sids
-    ++ (address_entries (slice_get net.nodes node) ++ route_entries node table 0 net.routes)
-entries_of-first net node table first =
-    subst (λ t. entries_of net node t ≡ sid_entries node 0 net.sids
-    ++ (address_entries (slice_get net.nodes node) ++ route_entries node t 0 net.routes)) (sym first) refl
+-- the table with the node's SIDs is table 0 of IPv6
+has_sids-is : (table : ℕ) (family : Family) → has_sids table family ≡ true → (table ≡ 0) × (family ≡ families.V6)
+has_sids-is table families.V6 e = (eqb-true table 0 e, refl)
+has_sids-is table families.V4 e = cc
 
-pub entries_of-other : (net : Network) (node table : ℕ) → (table == 0) ≡ false
-    → entries_of net node table ≡ route_entries node table 0 net.routes
-entries_of-other net node table other = rw other refl
+has_sids-from : (table : ℕ) (family : Family) → (table ≡ 0) × (family ≡ families.V6) → has_sids table family ≡ true
+has_sids-from table family first = rw (first.0, first.1) refl
 
-pub entry_means : (net : Network) (node table : ℕ) (e : Entry) → Contains (entries_of net node table) e → IsEntry net node table e
-entry_means net node table e c =
-    elim (cases_Bool (table == 0)) [
-      | inl is ↦ let first = eqb-true table 0 is in
+-- the entries of that table, and of another
+pub entries_of-first : (net : Network) (node table : ℕ) (family : Family) → has_sids table family ≡ true
+    → entries_of net node table family ≡ sid_entries node 0 net.sids
+    ++ (address_entries (slice_get net.nodes node) ++ route_entries node table family 0 net.routes)
+entries_of-first net node table family first = rw first refl
+
+pub entries_of-other : (net : Network) (node table : ℕ) (family : Family) → has_sids table family ≡ false
+    → entries_of net node table family ≡ route_entries node table family 0 net.routes
+entries_of-other net node table family other = rw other refl
+
+pub entry_means : (net : Network) (node table : ℕ) (family : Family) (e : Entry) → Contains (entries_of net node table family) e → IsEntry net node table family e
+entry_means net node table family e c =
+    elim (cases_Bool (has_sids table family)) [
+      | inl is ↦ let first = has_sids-is table family is in
           elim (Contains-append_cases (sid_entries node 0 net.sids) _ e
-          (subst (λ es. Contains es e) (entries_of-first net node table first) c)) [
-            | inl sid ↦ by_sid net node table e first sid
+          (subst (λ es. Contains es e) (entries_of-first net node table family is) c)) [
+            | inl sid ↦ by_sid net node table family e first sid
             | inr more ↦ elim (Contains-append_cases (address_entries (slice_get net.nodes node))
-                (route_entries node table 0 net.routes) e more) [
-                  | inl own ↦ by_address net node table e (slice_get net.nodes node) refl first own
-                  | inr route ↦ by_route net node table e route
+                (route_entries node table family 0 net.routes) e more) [
+                  | inl own ↦ by_address net node table family e (slice_get net.nodes node) refl first own
+                  | inr route ↦ by_route net node table family e route
                 ]
           ]
-      | inr other ↦ by_route net node table e (subst (λ es. Contains es e) (entries_of-other net node table other) c)
+      | inr other ↦ by_route net node table family e (subst (λ es. Contains es e) (entries_of-other net node table family other) c)
     ]
 
-route_among : (net : Network) (node table : ℕ) (e : Entry) → Contains (route_entries node table 0 net.routes) e
-    → Contains (entries_of net node table) e
-route_among net node table e c =
-    elim (cases_Bool (table == 0)) [
-      | inl is ↦ subst (λ es. Contains es e) (sym (entries_of-first net node table (eqb-true table 0 is)))
+route_among : (net : Network) (node table : ℕ) (family : Family) (e : Entry) → Contains (route_entries node table family 0 net.routes) e
+    → Contains (entries_of net node table family) e
+route_among net node table family e c =
+    elim (cases_Bool (has_sids table family)) [
+      | inl is ↦ subst (λ es. Contains es e) (sym (entries_of-first net node table family is))
           (Contains-append_right (sid_entries node 0 net.sids) _ e
-          (Contains-append_right (address_entries (slice_get net.nodes node)) (route_entries node table 0 net.routes) e c))
-      | inr other ↦ subst (λ es. Contains es e) (sym (entries_of-other net node table other)) c
+          (Contains-append_right (address_entries (slice_get net.nodes node)) (route_entries node table family 0 net.routes) e c))
+      | inr other ↦ subst (λ es. Contains es e) (sym (entries_of-other net node table family other)) c
     ]
 
-pub entry_is_there : (net : Network) (node table : ℕ) (p : PrefixValue) (h : Hit) → IsEntryAs net node table p h
-    → Contains (entries_of net node table) (record { hit = h; prefix = p })
-entry_is_there net node table p (hits.Sid n) (s, at, of, is, first) =
+pub entry_is_there : (net : Network) (node table : ℕ) (family : Family) (p : PrefixValue) (h : Hit) → IsEntryAs net node table family p h
+    → Contains (entries_of net node table family) (record { hit = h; prefix = p })
+entry_is_there net node table family p (hits.Sid n) (s, at, of, is, first, v6) =
     let e : Entry = record { hit = hits.Sid n; prefix = p } in
     let there = subst (λ q. Contains (sid_entries node 0 net.sids) (record { hit = hits.Sid n; prefix = q })) is
     (sid_is_there node 0 net.sids n n s at of (omega arith)) in
-    subst (λ es. Contains es e) (sym (entries_of-first net node table first)) (Contains-append_left (sid_entries node 0 net.sids) _ e there)
-entry_is_there net node table p hits.Address (n, at, is, first) =
+    subst (λ es. Contains es e) (sym (entries_of-first net node table family (has_sids-from table family (first, v6))))
+    (Contains-append_left (sid_entries node 0 net.sids) _ e there)
+entry_is_there net node table family p hits.Address (n, at, is, first, v6) =
     let e : Entry = record { hit = hits.Address; prefix = p } in
     let own = subst (λ q. Contains (address_entries (Some n)) (record { hit = hits.Address; prefix = q })) (sym is)
     (contains_first (record { hit = hits.Address; prefix = record { value = n.address.value; len = 128 } }) []) in
     let there = subst (λ o. Contains (address_entries o) e) (sym at) own in
-    subst (λ es. Contains es e) (sym (entries_of-first net node table first))
+    subst (λ es. Contains es e) (sym (entries_of-first net node table family (has_sids-from table family (first, v6))))
     (Contains-append_right (sid_entries node 0 net.sids) _ e
-    (Contains-append_left (address_entries (slice_get net.nodes node)) (route_entries node table 0 net.routes) e there))
-entry_is_there net node table p (hits.Route n) (r, at, of, in_table, is) =
-    let there = subst (λ q. Contains (route_entries node table 0 net.routes) (record { hit = hits.Route n; prefix = q })) is
-    (route_is_there node table 0 net.routes n n r at of in_table (omega arith)) in
-    route_among net node table _ there
-entry_is_there net node table p hits.Nothing none = absurd none
+    (Contains-append_left (address_entries (slice_get net.nodes node)) (route_entries node table family 0 net.routes) e there))
+entry_is_there net node table family p (hits.Route n) (r, at, of, in_table, of_family, is) =
+    let there = subst (λ q. Contains (route_entries node table family 0 net.routes) (record { hit = hits.Route n; prefix = q })) is
+    (route_is_there node table family 0 net.routes n n r at of in_table of_family (omega arith)) in
+    route_among net node table family _ there
+entry_is_there net node table family p hits.Nothing none = absurd none

@@ -1,13 +1,14 @@
 -- A table's entries, gathered one by one, and the best of what was gathered.
-use Rattle.std.proofs.Common.{◌≡◌, ℕ, ◌+◌, ◌==◌, ◌&&◌, true, false, List, [], ◌∷◌, ◌++◌, map, Option, refl, sym, ap, ◌∙◌, inl, inr}
+use Rattle.std.proofs.Common.{◌≡◌, ℕ, ◌+◌, ◌==◌, true, false, List, [], ◌∷◌, ◌++◌, map, Option, refl, sym, ap, ◌∙◌, inl, inr}
 use Rattle.std.proofs.lemmas.Bool.{cases_Bool}
 use Rattle.std.proofs.lemmas.List.{append_assoc, map-append}
 use Rattle.v6_addr.specs.Address.{holds_address}
+use Rattle.srv6_rules.specs.declared.sid.Family.{Family}
 use Rattle.srv6_rules.specs.declared.sid.SidEntry.{SidEntry}
 use Rattle.net_model.specs.declared.lookup.Found.{Found}
 use Rattle.net_model.specs.declared.parts.Route.{Route}
 use Rattle.net_model.specs.declared.net.Hit.TheVariants as hits
-use Rattle.net_model.specs.Best.{Entry, longer, longest, sid_entries, route_entries}
+use Rattle.net_model.specs.Best.{Entry, longer, longest, sid_entries, is_route_of, route_entries}
 use Rattle.net_model.specs.Found.{entry_of, held}
 use Rattle.net_model.proofs.BestLemmas.{longer_assoc, sid_entries-cons, route_entries-cons}
 
@@ -28,15 +29,15 @@ pub sid_out : (node n : ℕ) (s : SidEntry) (xs ys : List Found) → (s.node == 
     → map entry_of ys ≡ map entry_of xs ++ sid_entries node n (s ∷ [])
 sid_out node n s xs ys there e = rw there (ap (map entry_of) e ∙ nothing_more (map entry_of xs))
 
-pub route_in : (node table n : ℕ) (r : Route) (xs ys : List Found) (f : Found) → ((r.node == node) && (r.table == table)) ≡ true
+pub route_in : (node table : ℕ) (family : Family) (n : ℕ) (r : Route) (xs ys : List Found) (f : Found) → is_route_of node table family r ≡ true
     → f ≡ record { hit = hits.Route n; prefix = r.prefix } → ys ≡ xs ++ f ∷ []
-    → map entry_of ys ≡ map entry_of xs ++ route_entries node table n (r ∷ [])
-route_in node table n r xs ys f here is e =
+    → map entry_of ys ≡ map entry_of xs ++ route_entries node table family n (r ∷ [])
+route_in node table family n r xs ys f here is e =
     rw here (pushed xs ys f e ∙ ap (λ (g : Found). map entry_of xs ++ entry_of g ∷ []) is)
 
-pub route_out : (node table n : ℕ) (r : Route) (xs ys : List Found) → ((r.node == node) && (r.table == table)) ≡ false → ys ≡ xs
-    → map entry_of ys ≡ map entry_of xs ++ route_entries node table n (r ∷ [])
-route_out node table n r xs ys there e = rw there (ap (map entry_of) e ∙ nothing_more (map entry_of xs))
+pub route_out : (node table : ℕ) (family : Family) (n : ℕ) (r : Route) (xs ys : List Found) → is_route_of node table family r ≡ false → ys ≡ xs
+    → map entry_of ys ≡ map entry_of xs ++ route_entries node table family n (r ∷ [])
+route_out node table family n r xs ys there e = rw there (ap (map entry_of) e ∙ nothing_more (map entry_of xs))
 
 -- the SIDs one SID on
 pub sids_more : (node n : ℕ) (s : SidEntry) (more : List SidEntry) (xs ys : List Entry)
@@ -46,13 +47,13 @@ sids_more node n s more xs ys e =
     ∙ append_assoc xs (sid_entries node n (s ∷ [])) (sid_entries node (n + 1) more)
     ∙ ap (λ zs. xs ++ zs) (sym (sid_entries-cons node n s more))
 
-pub routes_more : (node table n : ℕ) (r : Route) (more : List Route) (xs ys : List Entry)
-    → ys ≡ xs ++ route_entries node table n (r ∷ [])
-    → ys ++ route_entries node table (n + 1) more ≡ xs ++ route_entries node table n (r ∷ more)
-routes_more node table n r more xs ys e =
-    ap (λ zs. zs ++ route_entries node table (n + 1) more) e
-    ∙ append_assoc xs (route_entries node table n (r ∷ [])) (route_entries node table (n + 1) more)
-    ∙ ap (λ zs. xs ++ zs) (sym (route_entries-cons node table n r more))
+pub routes_more : (node table : ℕ) (family : Family) (n : ℕ) (r : Route) (more : List Route) (xs ys : List Entry)
+    → ys ≡ xs ++ route_entries node table family n (r ∷ [])
+    → ys ++ route_entries node table family (n + 1) more ≡ xs ++ route_entries node table family n (r ∷ more)
+routes_more node table family n r more xs ys e =
+    ap (λ zs. zs ++ route_entries node table family (n + 1) more) e
+    ∙ append_assoc xs (route_entries node table family n (r ∷ [])) (route_entries node table family (n + 1) more)
+    ∙ ap (λ zs. xs ++ zs) (sym (route_entries-cons node table family n r more))
 
 pub gathered_end : (xs : List Entry) → xs ≡ xs ++ []
 gathered_end = nothing_more

@@ -1,15 +1,16 @@
 -- Best match: the look-up meets the relation, and the relation has one answer.
-use Rattle.std.proofs.Common.{◌≡◌, ℕ, ◌≤◌, true, false, ltb, ◌==◌, List, [], ◌∷◌, ◌++◌, Option, Some, None, refl, sym, ap, ◌∙◌, subst, arith, inl, inr}
+use Rattle.std.proofs.Common.{◌≡◌, ℕ, ◌≤◌, true, false, ltb, List, [], ◌∷◌, ◌++◌, Option, Some, None, refl, sym, ap, ◌∙◌, subst, arith, inl, inr}
 use Rattle.std.specs.List.{slice_get, Contains}
-use Rattle.std.proofs.lemmas.Bool.{cases_Bool, both_ways, eqb-true, ltb-true, ltb-false}
+use Rattle.std.proofs.lemmas.Bool.{cases_Bool, both_ways, ltb-true, ltb-false}
 use Rattle.std.proofs.lemmas.List.Elements.{Contains-append_cases}
 use Rattle.v6_addr.specs.Address.{PrefixValue, IsPrefix, Holds, holds_address}
 use Rattle.v6_addr.proofs.PublicLaws.{holds_address_is, same_value}
+use Rattle.srv6_rules.specs.declared.sid.Family.{Family}
 use Rattle.net_model.specs.declared.parts.Node.{Node}
 use Rattle.net_model.specs.declared.net.Hit.{Hit}
 use Rattle.net_model.specs.declared.net.Hit.TheVariants as hits
 use Rattle.net_model.specs.Network.{Network}
-use Rattle.net_model.specs.Best.{Entry, sid_entries, route_entries, address_entries, entries_of, rank_of, FitsNoWorse, IsBestEntry, IsBest, longer, longest, hit_of, lookup_of}
+use Rattle.net_model.specs.Best.{Entry, sid_entries, route_entries, address_entries, has_sids, entries_of, rank_of, FitsNoWorse, IsBestEntry, IsBest, longer, longest, hit_of, lookup_of}
 use Rattle.net_model.specs.Rules.{IsNetwork}
 use Rattle.net_model.specs.Keeps.{Keeps}
 use Rattle.net_model.proofs.KeepsLemmas.{keeps_from_network}
@@ -113,8 +114,8 @@ ranked_append (x ∷ xs) ys first later between = (
 sids_rank : (node n : ℕ) (net : Network) → HasRank 0 (sid_entries node n net.sids)
 sids_rank node n net e c = let (i, s, at, of, is) = sid_means node n net.sids e c in ap (λ f. rank_of f.hit) is
 
-routes_rank : (node table n : ℕ) (net : Network) → HasRank 2 (route_entries node table n net.routes)
-routes_rank node table n net e c = let (i, r, at, of, in_table, is) = route_means node table n net.routes e c in ap (λ f. rank_of f.hit) is
+routes_rank : (node table : ℕ) (family : Family) (n : ℕ) (net : Network) → HasRank 2 (route_entries node table family n net.routes)
+routes_rank node table family n net e c = let (i, r, at, of, in_table, of_family, is) = route_means node table family n net.routes e c in ap (λ f. rank_of f.hit) is
 
 address_rank : (o : Option Node) → HasRank 1 (address_entries o)
 address_rank None e c = absurd (contains_none e c)
@@ -124,46 +125,46 @@ address_rank (Some n) e c =
       | inr none ↦ absurd (contains_none e none)
     ]
 
-first_ranked : (net : Network) (node table : ℕ)
-    → IsRanked (sid_entries node 0 net.sids ++ (address_entries (slice_get net.nodes node) ++ route_entries node table 0 net.routes))
-first_ranked net node table =
+first_ranked : (net : Network) (node table : ℕ) (family : Family)
+    → IsRanked (sid_entries node 0 net.sids ++ (address_entries (slice_get net.nodes node) ++ route_entries node table family 0 net.routes))
+first_ranked net node table family =
     let sids = sid_entries node 0 net.sids in
     let own = address_entries (slice_get net.nodes node) in
-    let routes = route_entries node table 0 net.routes in
+    let routes = route_entries node table family 0 net.routes in
     ranked_append sids (own ++ routes) (ranked_from 0 sids (sids_rank node 0 net))
     (ranked_append own routes (ranked_from 1 own (address_rank (slice_get net.nodes node)))
-    (ranked_from 2 routes (routes_rank node table 0 net))
-    (λ x y c d. omega (arith, address_rank (slice_get net.nodes node) x c, routes_rank node table 0 net y d)))
+    (ranked_from 2 routes (routes_rank node table family 0 net))
+    (λ x y c d. omega (arith, address_rank (slice_get net.nodes node) x c, routes_rank node table family 0 net y d)))
     (λ x y c d. omega (arith, sids_rank node 0 net x c))
 
-entries_ranked : (net : Network) (node table : ℕ) → IsRanked (entries_of net node table)
-entries_ranked net node table =
-    elim (cases_Bool (table == 0)) [
-      | inl is ↦ subst IsRanked (sym (entries_of-first net node table (eqb-true table 0 is))) (first_ranked net node table)
-      | inr other ↦ subst IsRanked (sym (entries_of-other net node table other))
-          (ranked_from 2 (route_entries node table 0 net.routes) (routes_rank node table 0 net))
+entries_ranked : (net : Network) (node table : ℕ) (family : Family) → IsRanked (entries_of net node table family)
+entries_ranked net node table family =
+    elim (cases_Bool (has_sids table family)) [
+      | inl is ↦ subst IsRanked (sym (entries_of-first net node table family is)) (first_ranked net node table family)
+      | inr other ↦ subst IsRanked (sym (entries_of-other net node table family other))
+          (ranked_from 2 (route_entries node table family 0 net.routes) (routes_rank node table family 0 net))
     ]
 
 -- the look-up is a best match
 
-best_by_hit : (net : Network) (node table a : ℕ) (p : PrefixValue) (h : Hit)
-    → IsBestEntry (entries_of net node table) a (record { hit = h; prefix = p }) → IsBest net node table a h
-best_by_hit net node table a p (hits.Sid n) best = (p, best)
-best_by_hit net node table a p hits.Address best = (p, best)
-best_by_hit net node table a p (hits.Route n) best = (p, best)
-best_by_hit net node table a p hits.Nothing best =
-    absurd (entry_means net node table (record { hit = hits.Nothing; prefix = p }) best.is_there)
+best_by_hit : (net : Network) (node table : ℕ) (family : Family) (a : ℕ) (p : PrefixValue) (h : Hit)
+    → IsBestEntry (entries_of net node table family) a (record { hit = h; prefix = p }) → IsBest net node table family a h
+best_by_hit net node table family a p (hits.Sid n) best = (p, best)
+best_by_hit net node table family a p hits.Address best = (p, best)
+best_by_hit net node table family a p (hits.Route n) best = (p, best)
+best_by_hit net node table family a p hits.Nothing best =
+    absurd (entry_means net node table family (record { hit = hits.Nothing; prefix = p }) best.is_there)
 
-best_from : (net : Network) (node table a : ℕ) (o : Option Entry) → IsLongest a (entries_of net node table) o
-    → IsBest net node table a (hit_of o)
-best_from net node table a None best = best
-best_from net node table a (Some e) best = best_by_hit net node table a e.prefix e.hit best
+best_from : (net : Network) (node table : ℕ) (family : Family) (a : ℕ) (o : Option Entry) → IsLongest a (entries_of net node table family) o
+    → IsBest net node table family a (hit_of o)
+best_from net node table family a None best = best
+best_from net node table family a (Some e) best = best_by_hit net node table family a e.prefix e.hit best
 
-pub lookup_is_best : (net : Network) (node table a : ℕ) → IsBest net node table a (lookup_of net node table a)
+pub lookup_is_best : (net : Network) (node table : ℕ) (family : Family) (a : ℕ) → IsBest net node table family a (lookup_of net node table family a)
 unfolding lookup_of
-lookup_is_best net node table a =
-    best_from net node table a (longest a (entries_of net node table))
-    (longest_best a (entries_of net node table) (entries_ranked net node table))
+lookup_is_best net node table family a =
+    best_from net node table family a (longest a (entries_of net node table family))
+    (longest_best a (entries_of net node table family) (entries_ranked net node table family))
 
 -- two best entries are equally long and of one rank
 best_agree : (es : List Entry) (a : ℕ) (e f : Entry) → IsBestEntry es a e → IsBestEntry es a f
@@ -184,55 +185,55 @@ same_best_prefix es a e f is_e is_f prefix_e prefix_f =
     let len = (best_agree es a e f is_e is_f).0 in
     same_prefix_value e.prefix f.prefix (same_value e.prefix f.prefix a prefix_e prefix_f len is_e.holds is_f.holds) len
 
-one_sid : (net : Network) (node table a m n : ℕ) (p q : PrefixValue) → Keeps net
-    → IsBestEntry (entries_of net node table) a (record { hit = hits.Sid m; prefix = p })
-    → IsBestEntry (entries_of net node table) a (record { hit = hits.Sid n; prefix = q }) → m ≡ n
-one_sid net node table a m n p q keeps is_m is_n =
-    let (s, at_m, of_s, prefix_s, first) = entry_means net node table _ is_m.is_there in
-    let (t, at_n, of_t, prefix_t, also) = entry_means net node table _ is_n.is_there in
-    let same = same_best_prefix (entries_of net node table) a _ _ is_m is_n
+one_sid : (net : Network) (node table : ℕ) (family : Family) (a m n : ℕ) (p q : PrefixValue) → Keeps net
+    → IsBestEntry (entries_of net node table family) a (record { hit = hits.Sid m; prefix = p })
+    → IsBestEntry (entries_of net node table family) a (record { hit = hits.Sid n; prefix = q }) → m ≡ n
+one_sid net node table family a m n p q keeps is_m is_n =
+    let (s, at_m, of_s, prefix_s, first, v6) = entry_means net node table family _ is_m.is_there in
+    let (t, at_n, of_t, prefix_t, also, too) = entry_means net node table family _ is_n.is_there in
+    let same = same_best_prefix (entries_of net node table family) a _ _ is_m is_n
     (subst IsPrefix prefix_s (keeps.sid m s at_m).prefix) (subst IsPrefix prefix_t (keeps.sid n t at_n).prefix) in
     keeps.sid_prefix m n s t at_m at_n (of_s ∙ sym of_t) (prefix_s ∙ same ∙ sym prefix_t)
 
-one_route : (net : Network) (node table a m n : ℕ) (p q : PrefixValue) → Keeps net
-    → IsBestEntry (entries_of net node table) a (record { hit = hits.Route m; prefix = p })
-    → IsBestEntry (entries_of net node table) a (record { hit = hits.Route n; prefix = q }) → m ≡ n
-one_route net node table a m n p q keeps is_m is_n =
-    let (r, at_m, of_r, in_r, prefix_r) = entry_means net node table _ is_m.is_there in
-    let (t, at_n, of_t, in_t, prefix_t) = entry_means net node table _ is_n.is_there in
-    let same = same_best_prefix (entries_of net node table) a _ _ is_m is_n
-    (subst IsPrefix prefix_r (keeps.route m r at_m).prefix) (subst IsPrefix prefix_t (keeps.route n t at_n).prefix) in
-    keeps.route_prefix m n r t at_m at_n (of_r ∙ sym of_t) (in_r ∙ sym in_t) (prefix_r ∙ same ∙ sym prefix_t)
+one_route : (net : Network) (node table : ℕ) (family : Family) (a m n : ℕ) (p q : PrefixValue) → Keeps net
+    → IsBestEntry (entries_of net node table family) a (record { hit = hits.Route m; prefix = p })
+    → IsBestEntry (entries_of net node table family) a (record { hit = hits.Route n; prefix = q }) → m ≡ n
+one_route net node table family a m n p q keeps is_m is_n =
+    let (r, at_m, of_r, in_r, family_r, prefix_r) = entry_means net node table family _ is_m.is_there in
+    let (t, at_n, of_t, in_t, family_t, prefix_t) = entry_means net node table family _ is_n.is_there in
+    let same = same_best_prefix (entries_of net node table family) a _ _ is_m is_n
+    (subst IsPrefix prefix_r (keeps.route m r at_m).prefix.prefix) (subst IsPrefix prefix_t (keeps.route n t at_n).prefix.prefix) in
+    keeps.route_prefix m n r t at_m at_n (of_r ∙ sym of_t) (in_r ∙ sym in_t) (family_r ∙ sym family_t) (prefix_r ∙ same ∙ sym prefix_t)
 
 -- a best match has one rank
-rank_of_best : (net : Network) (node table a : ℕ) (p q : PrefixValue) (h k : Hit)
-    → IsBestEntry (entries_of net node table) a (record { hit = h; prefix = p })
-    → IsBestEntry (entries_of net node table) a (record { hit = k; prefix = q }) → rank_of h ≡ rank_of k
-rank_of_best net node table a p q h k is_h is_k = (best_agree (entries_of net node table) a _ _ is_h is_k).1
+rank_of_best : (net : Network) (node table : ℕ) (family : Family) (a : ℕ) (p q : PrefixValue) (h k : Hit)
+    → IsBestEntry (entries_of net node table family) a (record { hit = h; prefix = p })
+    → IsBestEntry (entries_of net node table family) a (record { hit = k; prefix = q }) → rank_of h ≡ rank_of k
+rank_of_best net node table family a p q h k is_h is_k = (best_agree (entries_of net node table family) a _ _ is_h is_k).1
 
-pub best_is_one : (net : Network) (node table a : ℕ) (h k : Hit) → IsNetwork net → IsBest net node table a h → IsBest net node table a k
+pub best_is_one : (net : Network) (node table : ℕ) (family : Family) (a : ℕ) (h k : Hit) → IsNetwork net → IsBest net node table family a h → IsBest net node table family a k
     → h ≡ k
-best_is_one net node table a (hits.Sid m) (hits.Sid n) rules (p, is_h) (q, is_k) =
-    ap hits.Sid (one_sid net node table a m n p q (keeps_from_network net rules) is_h is_k)
-best_is_one net node table a (hits.Sid m) hits.Address rules (p, is_h) (q, is_k) =
-    absurd (omega (arith, rank_of_best net node table a p q (hits.Sid m) hits.Address is_h is_k))
-best_is_one net node table a (hits.Sid m) (hits.Route n) rules (p, is_h) (q, is_k) =
-    absurd (omega (arith, rank_of_best net node table a p q (hits.Sid m) (hits.Route n) is_h is_k))
-best_is_one net node table a (hits.Sid m) hits.Nothing rules (p, is_h) none = absurd (none _ is_h.is_there is_h.holds)
-best_is_one net node table a hits.Address (hits.Sid n) rules (p, is_h) (q, is_k) =
-    absurd (omega (arith, rank_of_best net node table a p q hits.Address (hits.Sid n) is_h is_k))
-best_is_one net node table a hits.Address hits.Address rules is_h is_k = refl
-best_is_one net node table a hits.Address (hits.Route n) rules (p, is_h) (q, is_k) =
-    absurd (omega (arith, rank_of_best net node table a p q hits.Address (hits.Route n) is_h is_k))
-best_is_one net node table a hits.Address hits.Nothing rules (p, is_h) none = absurd (none _ is_h.is_there is_h.holds)
-best_is_one net node table a (hits.Route m) (hits.Sid n) rules (p, is_h) (q, is_k) =
-    absurd (omega (arith, rank_of_best net node table a p q (hits.Route m) (hits.Sid n) is_h is_k))
-best_is_one net node table a (hits.Route m) hits.Address rules (p, is_h) (q, is_k) =
-    absurd (omega (arith, rank_of_best net node table a p q (hits.Route m) hits.Address is_h is_k))
-best_is_one net node table a (hits.Route m) (hits.Route n) rules (p, is_h) (q, is_k) =
-    ap hits.Route (one_route net node table a m n p q (keeps_from_network net rules) is_h is_k)
-best_is_one net node table a (hits.Route m) hits.Nothing rules (p, is_h) none = absurd (none _ is_h.is_there is_h.holds)
-best_is_one net node table a hits.Nothing (hits.Sid n) rules none (q, is_k) = absurd (none _ is_k.is_there is_k.holds)
-best_is_one net node table a hits.Nothing hits.Address rules none (q, is_k) = absurd (none _ is_k.is_there is_k.holds)
-best_is_one net node table a hits.Nothing (hits.Route n) rules none (q, is_k) = absurd (none _ is_k.is_there is_k.holds)
-best_is_one net node table a hits.Nothing hits.Nothing rules none also = refl
+best_is_one net node table family a (hits.Sid m) (hits.Sid n) rules (p, is_h) (q, is_k) =
+    ap hits.Sid (one_sid net node table family a m n p q (keeps_from_network net rules) is_h is_k)
+best_is_one net node table family a (hits.Sid m) hits.Address rules (p, is_h) (q, is_k) =
+    absurd (omega (arith, rank_of_best net node table family a p q (hits.Sid m) hits.Address is_h is_k))
+best_is_one net node table family a (hits.Sid m) (hits.Route n) rules (p, is_h) (q, is_k) =
+    absurd (omega (arith, rank_of_best net node table family a p q (hits.Sid m) (hits.Route n) is_h is_k))
+best_is_one net node table family a (hits.Sid m) hits.Nothing rules (p, is_h) none = absurd (none _ is_h.is_there is_h.holds)
+best_is_one net node table family a hits.Address (hits.Sid n) rules (p, is_h) (q, is_k) =
+    absurd (omega (arith, rank_of_best net node table family a p q hits.Address (hits.Sid n) is_h is_k))
+best_is_one net node table family a hits.Address hits.Address rules is_h is_k = refl
+best_is_one net node table family a hits.Address (hits.Route n) rules (p, is_h) (q, is_k) =
+    absurd (omega (arith, rank_of_best net node table family a p q hits.Address (hits.Route n) is_h is_k))
+best_is_one net node table family a hits.Address hits.Nothing rules (p, is_h) none = absurd (none _ is_h.is_there is_h.holds)
+best_is_one net node table family a (hits.Route m) (hits.Sid n) rules (p, is_h) (q, is_k) =
+    absurd (omega (arith, rank_of_best net node table family a p q (hits.Route m) (hits.Sid n) is_h is_k))
+best_is_one net node table family a (hits.Route m) hits.Address rules (p, is_h) (q, is_k) =
+    absurd (omega (arith, rank_of_best net node table family a p q (hits.Route m) hits.Address is_h is_k))
+best_is_one net node table family a (hits.Route m) (hits.Route n) rules (p, is_h) (q, is_k) =
+    ap hits.Route (one_route net node table family a m n p q (keeps_from_network net rules) is_h is_k)
+best_is_one net node table family a (hits.Route m) hits.Nothing rules (p, is_h) none = absurd (none _ is_h.is_there is_h.holds)
+best_is_one net node table family a hits.Nothing (hits.Sid n) rules none (q, is_k) = absurd (none _ is_k.is_there is_k.holds)
+best_is_one net node table family a hits.Nothing hits.Address rules none (q, is_k) = absurd (none _ is_k.is_there is_k.holds)
+best_is_one net node table family a hits.Nothing (hits.Route n) rules none (q, is_k) = absurd (none _ is_k.is_there is_k.holds)
+best_is_one net node table family a hits.Nothing hits.Nothing rules none also = refl

@@ -6,6 +6,7 @@ pub mod BestLemmas
 pub mod EntryLemmas
 pub mod IsBestLemmas
 pub mod FlatLemmas
+pub mod BlockLemmas
 pub mod AlikeLemmas
 pub mod GatheredLemmas
 pub mod PublicLaws

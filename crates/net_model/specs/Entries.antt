@@ -1,6 +1,8 @@
 -- What the entries of a node's table are, by what they are.
 use Rattle.std.specs.Prelude.{◌≡◌, ℕ, slice_get, Some}
 use Rattle.v6_addr.specs.Address.{PrefixValue}
+use Rattle.srv6_rules.specs.declared.sid.Family.{Family}
+use Rattle.srv6_rules.specs.declared.sid.Family.TheVariants as families
 use Rattle.srv6_rules.specs.declared.sid.SidEntry.{SidEntry}
 use Rattle.net_model.specs.declared.parts.Node.{Node}
 use Rattle.net_model.specs.declared.parts.Route.{Route}
@@ -9,14 +11,15 @@ use Rattle.net_model.specs.declared.net.Hit.TheVariants as hits
 use Rattle.net_model.specs.Network.{Network}
 use Rattle.net_model.specs.Best.{Entry}
 
--- the node's SIDs and its address are in its table 0, and its routes in their tables
-abbrev pub IsEntryAs : Network → ℕ → ℕ → PrefixValue → Hit → Type 0
-IsEntryAs net node table p (hits.Sid n) = (s : SidEntry) × (slice_get net.sids n ≡ Some s) × (s.node ≡ node) × (s.prefix ≡ p) × (table ≡ 0)
-IsEntryAs net node table p hits.Address = (n : Node) × (slice_get net.nodes node ≡ Some n)
-    × (p ≡ record { value = n.address.value; len = 128 }) × (table ≡ 0)
-IsEntryAs net node table p (hits.Route n) = (r : Route) × (slice_get net.routes n ≡ Some r) × (r.node ≡ node) × (r.table ≡ table)
-    × (r.prefix ≡ p)
-IsEntryAs net node table p hits.Nothing = ⊥
+-- the node's SIDs and its address are in its table 0 of IPv6, and its routes in their tables of their family
+abbrev pub IsEntryAs : Network → ℕ → ℕ → Family → PrefixValue → Hit → Type 0
+IsEntryAs net node table family p (hits.Sid n) = (s : SidEntry) × (slice_get net.sids n ≡ Some s) × (s.node ≡ node) × (s.prefix ≡ p)
+    × (table ≡ 0) × (family ≡ families.V6)
+IsEntryAs net node table family p hits.Address = (n : Node) × (slice_get net.nodes node ≡ Some n)
+    × (p ≡ record { value = n.address.value; len = 128 }) × (table ≡ 0) × (family ≡ families.V6)
+IsEntryAs net node table family p (hits.Route n) = (r : Route) × (slice_get net.routes n ≡ Some r) × (r.node ≡ node) × (r.table ≡ table)
+    × (r.family ≡ family) × (r.prefix ≡ p)
+IsEntryAs net node table family p hits.Nothing = ⊥
 
-abbrev pub IsEntry : Network → ℕ → ℕ → Entry → Type 0
-IsEntry net node table e = IsEntryAs net node table e.prefix e.hit
+abbrev pub IsEntry : Network → ℕ → ℕ → Family → Entry → Type 0
+IsEntry net node table family e = IsEntryAs net node table family e.prefix e.hit

@@ -1,12 +1,15 @@
 -- Flat networks: no entry lies strictly inside a SID's prefix (own rule).
-use Rattle.std.specs.Prelude.{◌≡◌, ℕ, ◌<◌, List, [], ◌∷◌, ◌++◌, slice_get, map, find, Option, Some, None, Result, Ok, Err, Contains}
+use Rattle.std.specs.Prelude.{◌≡◌, ℕ, ◌<◌, Bool, List, [], ◌∷◌, ◌++◌, slice_get, map, find, Option, Some, None, Result, Ok, Err, Contains}
+use Rattle.std.specs.List.{filter}
 use Rattle.v6_addr.specs.Address.{PrefixValue, IsInside, is_inside}
+use Rattle.srv6_rules.specs.declared.sid.Family.TheVariants as families
 use Rattle.srv6_rules.specs.declared.sid.SidEntry.{SidEntry}
 use Rattle.net_model.specs.declared.parts.Node.{Node}
 use Rattle.net_model.specs.declared.parts.Route.{Route}
 use Rattle.net_model.specs.declared.flat.NotFlat.{NotFlat}
 use Rattle.net_model.specs.declared.flat.NotFlat.TheVariants.{Nested}
 use Rattle.net_model.specs.Network.{Network}
+use Rattle.net_model.specs.Rules.{same_family}
 
 abbrev pub sid_prefix : SidEntry → PrefixValue
 sid_prefix s = s.prefix
@@ -14,14 +17,18 @@ sid_prefix s = s.prefix
 abbrev pub route_prefix : Route → PrefixValue
 route_prefix r = r.prefix
 
+abbrev pub is_ipv6_route : Route → Bool
+is_ipv6_route r = same_family r.family families.V6
+
 -- an address as a prefix of all its bits
 abbrev pub address_prefix : Node → PrefixValue
 address_prefix n = record { value = n.address.value; len = 128 }
 
--- the prefixes of all SIDs, then of the routes of all tables, then the nodes' addresses, each in the order of the
+-- the prefixes of all SIDs, then of the IPv6 routes of all tables, then the nodes' addresses, each in the order of the
 -- description
 abbrev pub inner_entries : Network → List PrefixValue
-inner_entries net = map sid_prefix net.sids ++ (map route_prefix net.routes ++ map address_prefix net.nodes)
+inner_entries net =
+    map sid_prefix net.sids ++ (map route_prefix (filter is_ipv6_route net.routes) ++ map address_prefix net.nodes)
 
 -- no entry lies strictly inside the prefix of a SID
 abbrev pub IsFlat : Network → Type 0

@@ -1,14 +1,16 @@
 //! Flat networks, over which lists are compiled.
 
 ghost use Rattle.std.specs.Prelude.{◌≡◌, ◌↔◌, List, ◌++◌, map, find, IsOk};
+ghost use Rattle.std.specs.List.{filter};
 ghost use Rattle.v6_addr.specs.Address.{PrefixValue, is_inside};
 ghost use Rattle.net_model.specs.Network.{network_of};
-ghost use Rattle.net_model.specs.Flat.{sid_prefix, route_prefix, address_prefix, inner_entries, first_inside, first_nested, flatness_of, IsFlat, IsJudged};
+ghost use Rattle.net_model.specs.Flat.{sid_prefix, route_prefix, is_ipv6_route, address_prefix, inner_entries, first_inside, first_nested, flatness_of, IsFlat, IsJudged};
 
 use crate::lookup::whole;
 use crate::net::Net;
 use crate::parts::{NetParts, Node, Route};
-use srv6_rules::SidEntry;
+use crate::rules::same_family;
+use srv6_rules::{Family, SidEntry};
 use v6_addr::Prefix;
 
 /// Why a network is not flat.
@@ -18,8 +20,8 @@ pub enum NotFlat {
     Nested {
         /// The SID's prefix.
         outer: Prefix,
-        /// The prefix of a SID or of a route of any table, or a node's address as a prefix of 128
-        /// bits.
+        /// The prefix of a SID or of an IPv6 route of any table, or a node's address as a prefix of
+        /// 128 bits.
         inner: Prefix,
     },
 }
@@ -31,9 +33,13 @@ fn first_sid_inside(outer: &Prefix, sids: &[SidEntry]) -> Option<Prefix>
 }
 
 fn first_route_inside(outer: &Prefix, routes: &[Route]) -> Option<Prefix>
-    ensures { result ≡ first_inside outer.now (map route_prefix routes.now) }
+    ensures { result ≡ first_inside outer.now (map route_prefix (filter is_ipv6_route routes.now)) }
 {
-    routes.iter().map(|r| r.prefix).find(|p| p.inside(outer))
+    routes
+        .iter()
+        .filter(|r| same_family(r.family, Family::V6))
+        .map(|r| r.prefix)
+        .find(|p| p.inside(outer))
 }
 
 fn first_address_inside(outer: &Prefix, nodes: &[Node]) -> Option<Prefix>
@@ -74,8 +80,8 @@ fn first_nested(sids: &[SidEntry], parts: &NetParts) -> Result<(), NotFlat>
 
 /// Whether lists may be compiled over the network: no entry lies strictly inside the prefix of a
 /// SID (own rule). The refusal is the first such pair by the SID's place in the description, then
-/// by the inner entry's, where the prefixes of SIDs come before those of the routes of all tables,
-/// and these before the nodes' addresses.
+/// by the inner entry's, where the prefixes of SIDs come before those of the IPv6 routes of all
+/// tables, and these before the nodes' addresses.
 pub fn compilable(net: &Net) -> Result<(), NotFlat>
     ensures answer { result ≡ flatness_of net.now }
     ensures flat { IsOk result ↔ IsFlat net.now }

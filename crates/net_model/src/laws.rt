@@ -1,52 +1,58 @@
 //! Laws of the definitions: each is the contract of an empty function.
 
 ghost use Rattle.std.specs.Prelude.{◌≡◌, ◌↔◌, ℕ, Bool, true, false, List, Some, None, slice_get, position, Contains};
-ghost use Rattle.v6_addr.specs.Address.{Holds};
+ghost use Rattle.v6_addr.specs.Address.{PrefixValue, Holds};
+ghost use Rattle.srv6_rules.specs.declared.sid.Family.{Family};
+ghost use Rattle.srv6_rules.specs.declared.sid.Family.TheVariants.{V6};
 ghost use Rattle.srv6_rules.specs.declared.sid.SidEntry.{SidEntry};
 ghost use Rattle.net_model.specs.declared.net.Hit.{Hit};
 ghost use Rattle.net_model.specs.declared.net.Hit.TheVariants.{Sid};
 ghost use Rattle.net_model.specs.Network.{Network};
 ghost use Rattle.net_model.specs.declared.parts.Link.{Link};
-ghost use Rattle.net_model.specs.Rules.{IsNetwork, is_link_set};
-ghost use Rattle.net_model.specs.Keeps.{IsLinkSet, Keeps};
+ghost use Rattle.net_model.specs.declared.parts.Block.{Block};
+ghost use Rattle.net_model.specs.Rules.{IsNetwork, is_link_set, block_of};
+ghost use Rattle.net_model.specs.Keeps.{IsLinkSet, IsBlockOf, Keeps};
 ghost use Rattle.net_model.specs.Best.{Entry, entries_of, IsBest, lookup_of};
 ghost use Rattle.net_model.specs.Flat.{IsFlat};
 ghost use Rattle.net_model.specs.Entries.{IsEntry};
 
 /// Best match has one answer in a network that keeps the rules, and the look-up gives it.
 pub fn best_match_is_one()
-    ensures found { (net : Network) (node table a : ℕ)
-        → IsBest net node table a (lookup_of net node table a) }
-    ensures one { (net : Network) (node table a : ℕ) (h k : Hit) → IsNetwork net
-        → IsBest net node table a h → IsBest net node table a k → h ≡ k }
+    ensures found { (net : Network) (node table : ℕ) (family : Family) (a : ℕ)
+        → IsBest net node table family a (lookup_of net node table family a) }
+    ensures one { (net : Network) (node table : ℕ) (family : Family) (a : ℕ) (h k : Hit)
+        → IsNetwork net → IsBest net node table family a h → IsBest net node table family a k
+        → h ≡ k }
 {}
 
-/// The entries of a node's table are its SIDs and its address in table 0, and its routes in their
-/// tables.
+/// The entries of a node's table are its SIDs and its address in table 0 of IPv6, and its routes in
+/// their tables of their family.
 pub fn entries_are_its_own()
-    ensures { (net : Network) (node table : ℕ) (e : Entry)
-        → Contains (entries_of net node table) e ↔ IsEntry net node table e }
+    ensures { (net : Network) (node table : ℕ) (family : Family) (e : Entry)
+        → Contains (entries_of net node table family) e ↔ IsEntry net node table family e }
 {}
 
 /// A flat network treats all addresses in the prefix of a SID alike: in each table of each node
-/// they have the same best match; at the SID's own node that match in table 0 is the SID; and SIDs
+/// they have the same best match as IPv6 addresses; at the SID's own node that match in table 0 is the SID; and SIDs
 /// that hold one address have one prefix.
 pub fn flat_networks_treat_addresses_alike()
     ensures alike { (net : Network) (n : ℕ) (s : SidEntry) (node table a b : ℕ) → IsFlat net
         → slice_get net.sids n ≡ Some s → Holds s.prefix a → Holds s.prefix b
-        → lookup_of net node table a ≡ lookup_of net node table b }
+        → lookup_of net node table V6 a ≡ lookup_of net node table V6 b }
     ensures own { (net : Network) (n : ℕ) (s : SidEntry) (a : ℕ) → IsNetwork net → IsFlat net
-        → slice_get net.sids n ≡ Some s → Holds s.prefix a → lookup_of net s.node 0 a ≡ Sid n }
+        → slice_get net.sids n ≡ Some s → Holds s.prefix a
+        → lookup_of net s.node 0 V6 a ≡ Sid n }
     ensures one { (net : Network) (n m : ℕ) (s t : SidEntry) (a : ℕ) → IsNetwork net → IsFlat net
         → slice_get net.sids n ≡ Some s → slice_get net.sids m ≡ Some t
         → Holds s.prefix a → Holds t.prefix a → s.prefix ≡ t.prefix }
 {}
 
-/// A SID that an address is looked up to is a SID of that node, in table 0, and holds the address.
+/// A SID that an address is looked up to is a SID of that node, in table 0 of IPv6, and holds the
+/// address.
 pub fn matched_sids_hold_the_address()
-    ensures { (net : Network) (m : ℕ) (t : SidEntry) (node table a : ℕ)
-        → lookup_of net node table a ≡ Sid m → slice_get net.sids m ≡ Some t
-        → (t.node ≡ node) × (table ≡ 0) × Holds t.prefix a }
+    ensures { (net : Network) (m : ℕ) (t : SidEntry) (node table : ℕ) (family : Family) (a : ℕ)
+        → lookup_of net node table family a ≡ Sid m → slice_get net.sids m ≡ Some t
+        → (t.node ≡ node) × (table ≡ 0) × (family ≡ V6) × Holds t.prefix a }
 {}
 
 /// A network that keeps the rules has each of the facts that follow from them, and a set that
@@ -55,6 +61,12 @@ pub fn rules_mean_their_facts()
     ensures network { (net : Network) → IsNetwork net → Keeps net }
     ensures set { (links : List Link) (node : ℕ) (set : List ℕ) → is_link_set links node set ≡ true
         → IsLinkSet links node set }
+{}
+
+/// The block of a prefix is one that it lies strictly inside; with none it lies strictly inside no
+/// block, so a block is not its own.
+pub fn blocks_hold_their_sids()
+    ensures { (blocks : List Block) (p : PrefixValue) → IsBlockOf blocks p (block_of blocks p) }
 {}
 
 /// What the place that a test finds in a list means: its item passes the test, and with no place

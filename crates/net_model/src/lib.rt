@@ -1,5 +1,5 @@
-//! A network: nodes with addresses, links, routes and SIDs, as lists in the order of its
-//! description.
+//! A network: blocks of compressed SIDs, nodes with addresses, links, routes, policies and SIDs, as
+//! lists in the order of its description.
 //!
 //! `Net::build` takes the parts that keep the rules of descriptions, and `Net::keeps_rules` tells
 //! them to proofs. `Net::lookup` gives the entry of a node's table that fits an address best, and
@@ -26,16 +26,18 @@ mod tests;
 pub use fault::{FaultPlace, Key, NetFault, TableKind};
 pub use flat::{NotFlat, compilable};
 pub use laws::{
-    best_match_is_one, entries_are_its_own, flat_networks_treat_addresses_alike,
-    matched_sids_hold_the_address, places_are_of_passing_items, rules_mean_their_facts,
+    best_match_is_one, blocks_hold_their_sids, entries_are_its_own,
+    flat_networks_treat_addresses_alike, matched_sids_hold_the_address,
+    places_are_of_passing_items, rules_mean_their_facts,
 };
 pub use limits::{
-    DEFAULT_HOP_LIMIT, LAST_FLOW_LABEL, LAST_OCTET, LAST_TABLE, LONG_CSID, MAX_ALLOWED_TYPES,
-    MAX_BLOCKS, MAX_LINKS, MAX_LINKS_OF_SET, MAX_NAME_BYTES, MAX_NODES, MAX_POLICIES, MAX_ROUTES,
-    MAX_SEGMENTS, MAX_SIDS, MAX_SIDS_OF_NODE, SHORT_CSID,
+    BLOCK_UNIT, DEFAULT_HOP_LIMIT, LAST_FLOW_LABEL, LAST_OCTET, LAST_TABLE, LONG_CSID,
+    MAX_ALLOWED_TYPES, MAX_BLOCK_LEN, MAX_BLOCKS, MAX_IPV4_PREFIX_LEN, MAX_LINKS, MAX_LINKS_OF_SET,
+    MAX_NAME_BYTES, MAX_NODES, MAX_POLICIES, MAX_ROUTES, MAX_SEGMENTS, MAX_SIDS, MAX_SIDS_OF_NODE,
+    SHORT_CSID,
 };
 pub use named::{place_of_link, place_of_node};
 pub use net::{Hit, Net};
 pub use node_table::NodeTable;
-pub use parts::{Link, Name, NetParts, Node, Route, TypeList};
+pub use parts::{Block, BlockKind, Link, Name, NamedPolicy, NetParts, Node, Route, TypeList};
 pub use rules::is_name;

@@ -31,6 +31,15 @@ pub const LAST_TABLE: u32 = 65535;
 /// Blocks of SIDs of a description.
 pub const MAX_BLOCKS: usize = 64;
 
+/// The bits that a block's length is a multiple of, and those of the shortest block.
+pub const BLOCK_UNIT: u8 = 16;
+
+/// The bits of the longest block.
+pub const MAX_BLOCK_LEN: u8 = 64;
+
+/// The bits of the longest IPv4 prefix (RFC 791).
+pub const MAX_IPV4_PREFIX_LEN: u8 = 32;
+
 /// Policies of a description.
 pub const MAX_POLICIES: usize = 256;
 

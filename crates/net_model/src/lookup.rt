@@ -1,13 +1,14 @@
 //! The look-up of an address: a scan of the entries of a node's table.
 
-ghost use Rattle.std.specs.Prelude.{◌≡◌, ℕ, ◌≤◌, ◌<◌, ◌^◌, ◌∷◌, [], length};
+ghost use Rattle.std.specs.Prelude.{◌≡◌, ℕ, ◌≤◌, ◌<◌, ◌^◌, ◌∷◌, [], true, length};
 ghost use Rattle.net_model.specs.Network.{network_of};
-ghost use Rattle.net_model.specs.Best.{longer, longest, sid_entries, route_entries, address_entries, entries_of, lookup_of};
+ghost use Rattle.net_model.specs.Best.{longer, longest, sid_entries, route_entries, address_entries, is_route_of, has_sids, entries_of, lookup_of};
 ghost use Rattle.net_model.specs.Found.{seen, held};
 
 use crate::net::Hit;
 use crate::parts::{NetParts, Node, Route};
-use srv6_rules::SidEntry;
+use crate::rules::same_family;
+use srv6_rules::{Family, SidEntry};
 use v6_addr::{Addr, Prefix};
 
 /// An entry that was found.
@@ -74,19 +75,27 @@ fn with_sid(best: Option<Found>, n: u32, s: &SidEntry, node: u32, a: Addr) -> Op
     }
 }
 
-/// The best after route `n`, if it is in the node's table.
+/// Whether a route is of a family and in the node's table.
+pub(crate) fn is_route_of(r: &Route, node: u32, table: u32, family: Family) -> bool
+    ensures { result ≡ is_route_of node table family r.now }
+{
+    r.node == node && r.table == table && same_family(r.family, family)
+}
+
+/// The best after route `n`, if it is of the family and in the node's table.
 fn with_route(
     best: Option<Found>,
     n: u32,
     r: &Route,
     node: u32,
     table: u32,
+    family: Family,
     a: Addr,
 ) -> Option<Found>
     ensures { seen result
-        ≡ longer (seen best) (longest a.value (route_entries node table n (r.now ∷ []))) }
+        ≡ longer (seen best) (longest a.value (route_entries node table family n (r.now ∷ []))) }
 {
-    if r.node == node && r.table == table {
+    if is_route_of(r, node, table, family) {
         with_entry(
             best,
             Found {
@@ -116,23 +125,24 @@ fn with_sids(best: Option<Found>, sids: &[SidEntry], node: u32, a: Addr) -> Opti
     found
 }
 
-/// The best after the routes of a node's table.
+/// The best after the routes of a family in a node's table.
 fn with_routes(
     best: Option<Found>,
     routes: &[Route],
     node: u32,
     table: u32,
+    family: Family,
     a: Addr,
 ) -> Option<Found>
     requires { length routes.now < 2 ^ 32 }
     ensures { seen result
-        ≡ longer (seen best) (longest a.value (route_entries node table 0 routes.now)) }
+        ≡ longer (seen best) (longest a.value (route_entries node table family 0 routes.now)) }
 {
     let mut found = best;
     let mut n = 0;
     let mut rest = routes;
     while let [r, more @ ..] = rest {
-        found = with_route(found, n, r, node, table, a);
+        found = with_route(found, n, r, node, table, family, a);
         n += 1;
         rest = more;
     }
@@ -154,42 +164,53 @@ fn with_address(best: Option<Found>, node: &Node, a: Addr) -> Option<Found>
     )
 }
 
-/// The best of the entries of a node's table 0.
-fn best_of_first(parts: &NetParts, node: u32, a: Addr) -> Option<Found>
+/// Whether a table has the node's SIDs and its address.
+pub(crate) fn has_sids(table: u32, family: Family) -> bool
+    ensures { result ≡ has_sids table family }
+{
+    match family {
+        Family::V6 => table == 0,
+        Family::V4 => false,
+    }
+}
+
+/// The best of the entries of a node's table that has its SIDs and its address.
+fn best_of_first(parts: &NetParts, node: u32, table: u32, family: Family, a: Addr) -> Option<Found>
+    requires first { has_sids table family ≡ true }
     requires there { node < length parts.now.nodes.items }
     requires sids { length parts.now.sids.items < 2 ^ 32 }
     requires routes { length parts.now.routes.items < 2 ^ 32 }
-    ensures { seen result ≡ longest a.value (entries_of (network_of parts.now) node 0) }
+    ensures { seen result ≡ longest a.value (entries_of (network_of parts.now) node table family) }
 {
     let by_sid = with_sids(None, &parts.sids, node, a);
     let own = &parts.nodes[node as usize];
     let by_address = with_address(by_sid, own, a);
-    with_routes(by_address, &parts.routes, node, 0, a)
+    with_routes(by_address, &parts.routes, node, table, family, a)
 }
 
 /// The best of the entries of a node's table.
-fn best_of(parts: &NetParts, node: u32, table: u32, a: Addr) -> Option<Found>
+fn best_of(parts: &NetParts, node: u32, table: u32, family: Family, a: Addr) -> Option<Found>
     requires there { node < length parts.now.nodes.items }
     requires sids { length parts.now.sids.items < 2 ^ 32 }
     requires routes { length parts.now.routes.items < 2 ^ 32 }
-    ensures { seen result ≡ longest a.value (entries_of (network_of parts.now) node table) }
+    ensures { seen result ≡ longest a.value (entries_of (network_of parts.now) node table family) }
 {
-    if table == 0 {
-        best_of_first(parts, node, a)
+    if has_sids(table, family) {
+        best_of_first(parts, node, table, family, a)
     } else {
-        with_routes(None, &parts.routes, node, table, a)
+        with_routes(None, &parts.routes, node, table, family, a)
     }
 }
 
-/// The look-up of an address in a node's table.
+/// The look-up of an address of a family in a node's table.
 #[tactic(auto, unfolding(crate::specs::Best::lookup_of))]
-pub(crate) fn lookup_in(parts: &NetParts, node: u32, table: u32, a: Addr) -> Hit
+pub(crate) fn lookup_in(parts: &NetParts, node: u32, table: u32, family: Family, a: Addr) -> Hit
     requires there { node < length parts.now.nodes.items }
     requires sids { length parts.now.sids.items < 2 ^ 32 }
     requires routes { length parts.now.routes.items < 2 ^ 32 }
-    ensures { result ≡ lookup_of (network_of parts.now) node table a.value }
+    ensures { result ≡ lookup_of (network_of parts.now) node table family a.value }
 {
-    match best_of(parts, node, table, a) {
+    match best_of(parts, node, table, family, a) {
         None => Hit::Nothing,
         Some(found) => found.hit,
     }

@@ -2,9 +2,9 @@
 
 use crate::lookup::lookup_in;
 use crate::named::{place_of_link, place_of_node};
-use crate::parts::{Link, Name, NetParts, Node, Route};
+use crate::parts::{Block, Link, Name, NetParts, Node, Route};
 use crate::rules::{is_link_set, is_network};
-use srv6_rules::SidEntry;
+use srv6_rules::{Family, Policy, SidEntry};
 use std::marker::Model;
 use v6_addr::Addr;
 
@@ -40,6 +40,7 @@ impl Model for Net {
 
 impl Net {
     ghost use Rattle.std.specs.Prelude.{◌≡◌, ◌↔◌, ℕ, ◌<◌, false, length, slice_get, IsTrue, IsSome, IfSome, IfNone};
+    ghost use Rattle.net_model.specs.declared.parts.NamedPolicy.{NamedPolicy};
     ghost use Rattle.net_model.specs.Network.{network_of};
     ghost use Rattle.net_model.specs.Rules.{IsNetwork, is_network, is_link_set};
     ghost use Rattle.net_model.specs.Keeps.{Keeps};
@@ -75,6 +76,14 @@ impl Net {
         &self.parts
     }
 
+    /// How many blocks there are, at most `MAX_BLOCKS`.
+    pub fn blocks(&self) -> u32
+        ensures { result ≡ length self.now.blocks }
+    {
+        self.keeps_rules();
+        self.parts.blocks.len() as u32
+    }
+
     /// How many nodes there are, at most `MAX_NODES`.
     pub fn nodes(&self) -> u32
         ensures { result ≡ length self.now.nodes }
@@ -99,6 +108,14 @@ impl Net {
         self.parts.routes.len() as u32
     }
 
+    /// How many policies there are, at most `MAX_POLICIES`.
+    pub fn policies(&self) -> u32
+        ensures { result ≡ length self.now.policies }
+    {
+        self.keeps_rules();
+        self.parts.policies.len() as u32
+    }
+
     /// How many titles there are.
     pub fn titles(&self) -> usize
         ensures { result ≡ length self.now.titles }
@@ -112,6 +129,15 @@ impl Net {
     {
         self.keeps_rules();
         self.parts.sids.len() as u32
+    }
+
+    /// The block with a number, counted from 0.
+    #[tactic(auto, using(std::proofs::lemmas::Option::gets))]
+    pub fn block(&self, n: u32) -> &Block
+        requires { n < length self.now.blocks }
+        ensures { slice_get self.now.blocks n ≡ Some result.now }
+    {
+        &self.parts.blocks[n as usize]
     }
 
     /// The node with a number, counted from 0.
@@ -154,16 +180,17 @@ impl Net {
         is_link_set(&self.parts.links, node, set)
     }
 
-    /// What in a node's table fits an address best: the longest of the entries that hold it, and of
-    /// equally long ones a SID before the node's address before a route. Table 0 has the node's
-    /// SIDs, its address and its routes, other tables have routes alone (own rule).
-    pub fn lookup(&self, node: u32, table: u32, a: Addr) -> Hit
+    /// What in a node's table fits an address of a family best: the longest of the entries that hold
+    /// it, and of equally long ones a SID before the node's address before a route. Table 0 of IPv6
+    /// has the node's SIDs, its address and its routes, other tables have routes alone; the IPv4
+    /// routes of a table stand apart, and their addresses in the first 32 bits (own rule).
+    pub fn lookup(&self, node: u32, table: u32, family: Family, a: Addr) -> Hit
         requires { node < length self.now.nodes }
-        ensures value { result ≡ lookup_of self.now node table a.value }
-        ensures best { IsBest self.now node table a.value result }
+        ensures value { result ≡ lookup_of self.now node table family a.value }
+        ensures best { IsBest self.now node table family a.value result }
     {
         self.keeps_rules();
-        lookup_in(&self.parts, node, table, a)
+        lookup_in(&self.parts, node, table, family, a)
     }
 
     /// The link with a number, counted from 0.
@@ -182,6 +209,15 @@ impl Net {
         ensures { slice_get self.now.routes n ≡ Some result.now }
     {
         &self.parts.routes[n as usize]
+    }
+
+    /// The policy with a number, counted from 0.
+    #[tactic(auto, using(std::proofs::lemmas::Option::gets))]
+    pub fn policy(&self, n: u32) -> &Policy
+        requires { n < length self.now.policies }
+        ensures { (p : NamedPolicy) × (slice_get self.now.policies n ≡ Some p) × (result.now ≡ p.policy) }
+    {
+        &self.parts.policies[n as usize].policy
     }
 
     /// The title with a number, counted from 0.

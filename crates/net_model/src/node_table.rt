@@ -1,16 +1,16 @@
 //! A node's table, gathered once for many look-ups.
 
-ghost use Rattle.std.specs.Prelude.{◌≡◌, ◌<◌, ◌^◌, ◌++◌, ◌∷◌, [], length, map, OnOk, IfOk};
+ghost use Rattle.std.specs.Prelude.{◌≡◌, ◌<◌, ◌^◌, ◌++◌, ◌∷◌, [], true, length, map, OnOk, IfOk};
 ghost use Rattle.net_model.specs.Network.{network_of};
-ghost use Rattle.net_model.specs.Best.{longest, sid_entries, route_entries, address_entries, entries_of, lookup_of};
+ghost use Rattle.net_model.specs.Best.{longest, sid_entries, route_entries, address_entries, has_sids, entries_of, lookup_of};
 ghost use Rattle.net_model.specs.Found.{entry_of, seen};
 ghost use Rattle.net_model.specs.Gathered.{IsGathered};
 
-use crate::lookup::{Found, whole, with_entry};
+use crate::lookup::{Found, has_sids, is_route_of, whole, with_entry};
 use crate::net::{Hit, Net};
 use crate::parts::{NetParts, Node, Route};
 use base::NoMemory;
-use srv6_rules::SidEntry;
+use srv6_rules::{Family, SidEntry};
 use std::alloc::Global;
 use std::marker::Model;
 use v6_addr::Addr;
@@ -22,6 +22,7 @@ pub struct NodeTable<'a> {
     net: &'a Net,
     node: u32,
     table: u32,
+    family: Family,
     entries: Vec<Found>,
 }
 
@@ -30,29 +31,31 @@ impl<'a> Model for NodeTable<'a> {
 
     ghost Value = { TableOf };
 
-    ghost view = { λ t. record { net = t.net.now; node = t.node; table = t.table } };
+    ghost view = { λ t. record { net = t.net.now; node = t.node; table = t.table; family = t.family } };
 
-    ghost invariant = { λ t. IsGathered t.net.now t.node t.table t.entries.items };
+    ghost invariant = { λ t. IsGathered t.net.now t.node t.table t.family t.entries.items };
 }
 
 impl<'a> NodeTable<'a> {
-    /// The table of a node, with its entries (own rule).
+    /// The table of a node for packets of a family, with its entries (own rule).
     pub fn gather(
         alloc: Global,
         net: &'a Net,
         node: u32,
         table: u32,
+        family: Family,
     ) -> Result<NodeTable<'a>, NoMemory>
         requires { node < length net.now.nodes }
         ensures { IfOk result (λ t. t
-            ≡ record { net = net.now; node = node; table = table }) }
+            ≡ record { net = net.now; node = node; table = table; family = family }) }
     {
         net.keeps_rules();
-        let entries = entries_in(alloc, net.parts(), node, table)?;
+        let entries = entries_in(alloc, net.parts(), node, table, family)?;
         Ok(NodeTable {
             net,
             node,
             table,
+            family,
             entries,
         })
     }
@@ -64,10 +67,18 @@ impl<'a> NodeTable<'a> {
         self.net
     }
 
+    /// The family of the packets that it is for.
+    pub fn family(&self) -> Family
+        ensures { result ≡ self.now.family }
+    {
+        self.family
+    }
+
     /// What fits an address best, as `Net::lookup` gives it.
     #[tactic(auto, unfolding(crate::specs::Best::lookup_of))]
     pub fn lookup(&self, a: Addr) -> Hit
-        ensures { result ≡ lookup_of self.now.net self.now.node self.now.table a.value }
+        ensures { result ≡ lookup_of self.now.net self.now.node self.now.table self.now.family
+            a.value }
     {
         match best_among(self.entries.as_slice(), a) {
             None => Hit::Nothing,
@@ -103,18 +114,19 @@ fn add_sid(entries: &mut Vec<Found>, n: u32, s: &SidEntry, node: u32) -> Result<
     Ok(())
 }
 
-/// Route `n` is put behind the others, if it is in the node's table.
+/// Route `n` is put behind the others, if it is of the family and in the node's table.
 fn add_route(
     entries: &mut Vec<Found>,
     n: u32,
     r: &Route,
     node: u32,
     table: u32,
+    family: Family,
 ) -> Result<(), NoMemory>
     ensures { OnOk result (map entry_of entries.new.items
-        ≡ map entry_of entries.old.items ++ route_entries node table n (r.now ∷ [])) }
+        ≡ map entry_of entries.old.items ++ route_entries node table family n (r.now ∷ [])) }
 {
-    if r.node == node && r.table == table {
+    if is_route_of(r, node, table, family) {
         entries.push(Found {
             hit: Hit::Route(n),
             prefix: r.prefix,
@@ -139,21 +151,22 @@ fn add_sids(entries: &mut Vec<Found>, sids: &[SidEntry], node: u32) -> Result<()
     Ok(())
 }
 
-/// The routes of a node's table are put behind the others.
+/// The routes of a family in a node's table are put behind the others.
 fn add_routes(
     entries: &mut Vec<Found>,
     routes: &[Route],
     node: u32,
     table: u32,
+    family: Family,
 ) -> Result<(), NoMemory>
     requires { length routes.now < 2 ^ 32 }
     ensures { OnOk result (map entry_of entries.new.items
-        ≡ map entry_of entries.old.items ++ route_entries node table 0 routes.now) }
+        ≡ map entry_of entries.old.items ++ route_entries node table family 0 routes.now) }
 {
     let mut n = 0;
     let mut rest = routes;
     while let [r, more @ ..] = rest {
-        add_route(entries, n, r, node, table)?;
+        add_route(entries, n, r, node, table, family)?;
         n += 1;
         rest = more;
     }
@@ -173,18 +186,25 @@ fn add_address(entries: &mut Vec<Found>, node: &Node) -> Result<(), NoMemory>
     Ok(())
 }
 
-/// The entries of a node's table 0.
-fn entries_of_first(alloc: Global, parts: &NetParts, node: u32) -> Result<Vec<Found>, NoMemory>
+/// The entries of a node's table that has its SIDs and its address.
+fn entries_of_first(
+    alloc: Global,
+    parts: &NetParts,
+    node: u32,
+    table: u32,
+    family: Family,
+) -> Result<Vec<Found>, NoMemory>
+    requires first { has_sids table family ≡ true }
     requires there { node < length parts.now.nodes.items }
     requires sids { length parts.now.sids.items < 2 ^ 32 }
     requires routes { length parts.now.routes.items < 2 ^ 32 }
     ensures { IfOk result (λ entries.
-        map entry_of entries.items ≡ entries_of (network_of parts.now) node 0) }
+        map entry_of entries.items ≡ entries_of (network_of parts.now) node table family) }
 {
     let mut entries = Vec::new(alloc);
     add_sids(&mut entries, &parts.sids, node)?;
     add_address(&mut entries, &parts.nodes[node as usize])?;
-    add_routes(&mut entries, &parts.routes, node, 0)?;
+    add_routes(&mut entries, &parts.routes, node, table, family)?;
     Ok(entries)
 }
 
@@ -194,17 +214,18 @@ fn entries_in(
     parts: &NetParts,
     node: u32,
     table: u32,
+    family: Family,
 ) -> Result<Vec<Found>, NoMemory>
     requires there { node < length parts.now.nodes.items }
     requires sids { length parts.now.sids.items < 2 ^ 32 }
     requires routes { length parts.now.routes.items < 2 ^ 32 }
     ensures { IfOk result (λ entries.
-        map entry_of entries.items ≡ entries_of (network_of parts.now) node table) }
+        map entry_of entries.items ≡ entries_of (network_of parts.now) node table family) }
 {
-    if table == 0 {
-        return entries_of_first(alloc, parts, node);
+    if has_sids(table, family) {
+        return entries_of_first(alloc, parts, node, table, family);
     }
     let mut entries = Vec::new(alloc);
-    add_routes(&mut entries, &parts.routes, node, table)?;
+    add_routes(&mut entries, &parts.routes, node, table, family)?;
     Ok(entries)
 }

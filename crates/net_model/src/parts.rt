@@ -3,12 +3,12 @@
 ghost use Rattle.std.specs.Prelude.{◌≡◌};
 
 use base::Seq;
-use srv6_rules::{LinkSet, SidEntry};
+use srv6_rules::{Family, LinkSet, Policy, SidEntry};
 use std::fmt;
 use std::marker::Model;
 use v6_addr::{Addr, Prefix};
 
-/// A node's, a link's or a title's name. Contracts see its bytes, which are UTF-8.
+/// A node's, a link's, a policy's or a title's name. Contracts see its bytes, which are UTF-8.
 #[derive(Debug, Drop)]
 pub struct Name {
     text: String,
@@ -61,6 +61,26 @@ impl fmt::Display for Name {
 /// The upper layers that a node takes at its SIDs, as next-header values.
 pub type TypeList = Seq<u8>;
 
+/// How SIDs of a block are compressed.
+#[derive(Clone, Copy, Debug, PartialEq, Eq)]
+pub enum BlockKind {
+    /// NEXT-CSID (RFC 9800 section 4.1).
+    Next,
+    /// REPLACE-CSID (RFC 9800 section 4.2).
+    Replace,
+}
+
+/// A block of compressed SIDs (RFC 9800 section 3).
+#[derive(Clone, Copy, Debug)]
+pub struct Block {
+    /// The bits that its SIDs share, a multiple of 16 of them from 16 to 64 (own rule).
+    pub prefix: Prefix,
+    /// How its SIDs are compressed.
+    pub kind: BlockKind,
+    /// The bits of its compressed SIDs behind the block's, 16 or 32.
+    pub csid: u8,
+}
+
 /// A node.
 #[derive(Debug, Drop)]
 pub struct Node {
@@ -83,28 +103,43 @@ pub struct Link {
     pub to: Option<u32>,
 }
 
-/// An IPv6 route.
+/// A route.
 #[derive(Debug, Drop)]
 pub struct Route {
     /// The number of its node.
     pub node: u32,
     /// The number of its table.
     pub table: u32,
-    /// Its prefix.
+    /// The family of the packets that it takes.
+    pub family: Family,
+    /// Its prefix; that of an IPv4 route stands in the first 32 bits.
     pub prefix: Prefix,
     /// The equal next hops.
     pub via: LinkSet,
 }
 
+/// A policy with its name.
+#[derive(Debug, Drop)]
+pub struct NamedPolicy {
+    /// Its name.
+    pub name: Name,
+    /// What it puts in front of a packet.
+    pub policy: Policy,
+}
+
 /// The parts of a network; an item's number is its place in its list, counted from 0.
 #[derive(Debug, Drop)]
 pub struct NetParts {
+    /// The blocks of compressed SIDs.
+    pub blocks: Vec<Block>,
     /// The nodes.
     pub nodes: Vec<Node>,
     /// The links.
     pub links: Vec<Link>,
     /// The routes.
     pub routes: Vec<Route>,
+    /// The policies.
+    pub policies: Vec<NamedPolicy>,
     /// The titles of SIDs.
     pub titles: Vec<Name>,
     /// The SIDs.

@@ -1,25 +1,29 @@
 //! The rules that the parts of a network keep, each as a test that answers one word of the
 //! definitions.
 
-ghost use Rattle.std.specs.Prelude.{◌≡◌, ℕ, Bool, IsTrue, length, count_by};
+ghost use Rattle.std.specs.Prelude.{◌≡◌, ℕ, Bool, IsTrue, length, count_by, Some};
 ghost use Rattle.std.specs.List.{list_all, list_any, filter_map};
 ghost use Rattle.net_model.specs.Network.{Network, network_of};
 ghost use Rattle.net_model.specs.Rules.{are_distinct, same_bytes, is_between, is_name_byte, is_name, is_address, is_prefix};
+ghost use Rattle.net_model.specs.Rules.{is_block_len, is_csid_len, keeps_block, overlap, keeps_blocks};
+ghost use Rattle.net_model.specs.Rules.{is_segment, keeps_segments, keeps_outer, keeps_policy, same_policy_name, keeps_policies};
+ghost use Rattle.net_model.specs.Rules.{suits_policy, suits_flavours, block_of, is_next_len, suits_next, suits_replace, suits_block, keeps_compression};
 ghost use Rattle.net_model.specs.Rules.{keeps_node, same_node_name, same_node_address, keeps_nodes};
 ghost use Rattle.net_model.specs.Rules.{ends_elsewhere, keeps_link, same_link_name, keeps_links};
 ghost use Rattle.net_model.specs.Rules.{starts_at, same_number, is_link_set};
-ghost use Rattle.net_model.specs.Rules.{is_table, keeps_route, same_prefix, same_route, keeps_routes};
+ghost use Rattle.net_model.specs.Rules.{is_table, is_prefix_of, keeps_route, same_prefix, same_family, same_route, keeps_routes};
 ghost use Rattle.net_model.specs.Rules.{suits_links, suits_table, keeps_behaviour, is_title};
 ghost use Rattle.net_model.specs.Rules.{keeps_sid, same_sid, is_sid_of};
 ghost use Rattle.net_model.specs.Rules.{has_room, title_of, keeps_sids, keeps_titles, is_network};
 ghost use Rattle.net_model.specs.Titles.{same_title};
 
 use crate::limits::{
-    LAST_TABLE, MAX_ALLOWED_TYPES, MAX_LINKS, MAX_LINKS_OF_SET, MAX_NAME_BYTES, MAX_NODES,
-    MAX_ROUTES, MAX_SIDS, MAX_SIDS_OF_NODE,
+    BLOCK_UNIT, LAST_FLOW_LABEL, LAST_OCTET, LAST_TABLE, LONG_CSID, MAX_ALLOWED_TYPES,
+    MAX_BLOCK_LEN, MAX_BLOCKS, MAX_IPV4_PREFIX_LEN, MAX_LINKS, MAX_LINKS_OF_SET, MAX_NAME_BYTES,
+    MAX_NODES, MAX_POLICIES, MAX_ROUTES, MAX_SEGMENTS, MAX_SIDS, MAX_SIDS_OF_NODE, SHORT_CSID,
 };
-use crate::parts::{Link, Name, NetParts, Node, Route};
-use srv6_rules::{Behaviour, SidEntry};
+use crate::parts::{Block, BlockKind, Link, Name, NamedPolicy, NetParts, Node, Route};
+use srv6_rules::{Csid, Family, SidEntry};
 use v6_addr::{Addr, Prefix};
 
 /// A way in which two items may be the same.
@@ -50,6 +54,17 @@ fn are_distinct<X, S: Sameness<X>>(items: &[X]) -> bool
         rest = others;
     }
     true
+}
+
+/// Blocks that overlap.
+struct Overlaps;
+
+impl Sameness<Block> for Overlaps {
+    ghost same = { overlap };
+
+    fn are_same(a: &Block, b: &Block) -> bool {
+        a.prefix.holds(b.prefix.value()) || b.prefix.holds(a.prefix.value())
+    }
 }
 
 /// Nodes with the same name.
@@ -96,14 +111,28 @@ impl Sameness<u32> for Numbers {
     }
 }
 
-/// Routes of one table of one node with the same prefix.
+/// Policies with the same name.
+struct PolicyNames;
+
+impl Sameness<NamedPolicy> for PolicyNames {
+    ghost same = { same_policy_name };
+
+    fn are_same(a: &NamedPolicy, b: &NamedPolicy) -> bool {
+        same_bytes(a.name.as_bytes(), b.name.as_bytes())
+    }
+}
+
+/// Routes of one family and one table of one node with the same prefix.
 struct Routes;
 
 impl Sameness<Route> for Routes {
     ghost same = { same_route };
 
     fn are_same(a: &Route, b: &Route) -> bool {
-        a.node == b.node && a.table == b.table && same_prefix(&a.prefix, &b.prefix)
+        a.node == b.node
+            && a.table == b.table
+            && same_family(a.family, b.family)
+            && same_prefix(&a.prefix, &b.prefix)
     }
 }
 
@@ -183,6 +212,40 @@ fn is_prefix(p: &Prefix) -> bool
 {
     let _ = p.len();
     true
+}
+
+/// Whether a block may have this length in bits.
+fn is_block_len(len: u8) -> bool
+    ensures { result ≡ is_block_len len }
+{
+    BLOCK_UNIT <= len && len <= MAX_BLOCK_LEN && len % BLOCK_UNIT == 0
+}
+
+/// Whether compressed SIDs may have so many bits.
+fn is_csid_len(bits: u8) -> bool
+    ensures { result ≡ is_csid_len bits }
+{
+    u32::from(bits) == SHORT_CSID || u32::from(bits) == LONG_CSID
+}
+
+fn keeps_block(b: &Block) -> bool
+    ensures { result ≡ keeps_block b.now }
+{
+    is_prefix(&b.prefix) && is_block_len(b.prefix.len()) && is_csid_len(b.csid)
+}
+
+fn each_keeps_block(blocks: &[Block]) -> bool
+    ensures { result ≡ list_all keeps_block blocks.now }
+{
+    blocks.iter().all(keeps_block)
+}
+
+fn keeps_blocks(blocks: &[Block]) -> bool
+    ensures { result ≡ keeps_blocks blocks.now }
+{
+    blocks.len() <= MAX_BLOCKS
+        && each_keeps_block(blocks)
+        && are_distinct::<Block, Overlaps>(blocks)
 }
 
 fn keeps_node(n: &Node) -> bool
@@ -271,12 +334,29 @@ fn is_table(table: u32) -> bool
     table <= LAST_TABLE
 }
 
+/// Whether a prefix is one of a family.
+fn is_prefix_of(family: Family, p: &Prefix) -> bool
+    ensures { result ≡ is_prefix_of family p.now }
+{
+    match family {
+        Family::V6 => is_prefix(p),
+        Family::V4 => is_prefix(p) && p.len() <= MAX_IPV4_PREFIX_LEN,
+    }
+}
+
+/// Whether two families are one.
+pub(crate) fn same_family(a: Family, b: Family) -> bool
+    ensures { result ≡ same_family a b }
+{
+    a == b
+}
+
 fn keeps_route(node_count: usize, links: &[Link], r: &Route) -> bool
     ensures { result ≡ keeps_route node_count links.now r.now }
 {
     (r.node as usize) < node_count
         && is_table(r.table)
-        && is_prefix(&r.prefix)
+        && is_prefix_of(r.family, &r.prefix)
         && is_link_set(links, r.node, r.via.as_slice())
 }
 
@@ -300,6 +380,59 @@ fn keeps_routes(node_count: usize, links: &[Link], routes: &[Route]) -> bool
         && are_distinct::<Route, Routes>(routes)
 }
 
+fn is_segment(a: Addr) -> bool
+    ensures { result ≡ is_segment a }
+{
+    is_address(a)
+}
+
+fn are_segments(segments: &[Addr]) -> bool
+    ensures { result ≡ list_all is_segment segments.now }
+{
+    segments.iter().all(|a| is_segment(*a))
+}
+
+/// Whether a policy has some segments and not too many.
+fn keeps_segments(segments: &[Addr]) -> bool
+    ensures { result ≡ keeps_segments segments.now }
+{
+    1 <= segments.len() && segments.len() <= MAX_SEGMENTS && are_segments(segments)
+}
+
+/// Whether the numbers of an outer header are in their ranges.
+fn keeps_outer(traffic_class: u8, flow_label: u32, hop_limit: u8) -> bool
+    ensures { result ≡ keeps_outer traffic_class flow_label hop_limit }
+{
+    u32::from(traffic_class) <= LAST_OCTET
+        && flow_label <= LAST_FLOW_LABEL
+        && 1 <= hop_limit
+        && u32::from(hop_limit) <= LAST_OCTET
+}
+
+fn keeps_policy(p: &NamedPolicy) -> bool
+    ensures { result ≡ keeps_policy p.now }
+{
+    let policy = &p.policy;
+    is_name(p.name.as_bytes())
+        && is_address(policy.source)
+        && keeps_segments(policy.segments.as_slice())
+        && keeps_outer(policy.traffic_class, policy.flow_label, policy.hop_limit)
+}
+
+fn each_keeps_policy(policies: &[NamedPolicy]) -> bool
+    ensures { result ≡ list_all keeps_policy policies.now }
+{
+    policies.iter().all(keeps_policy)
+}
+
+fn keeps_policies(policies: &[NamedPolicy]) -> bool
+    ensures { result ≡ keeps_policies policies.now }
+{
+    policies.len() <= MAX_POLICIES
+        && each_keeps_policy(policies)
+        && are_distinct::<NamedPolicy, PolicyNames>(policies)
+}
+
 /// Whether a SID that takes links has a set of them, and another none.
 fn suits_links(links: &[Link], node: u32, takes: bool, set: &[u32]) -> bool
     ensures { result ≡ suits_links links.now node takes set.now }
@@ -321,11 +454,97 @@ fn suits_table(table: Option<u32>) -> bool
     }
 }
 
-/// Whether the table and the links of a SID are as its behaviour takes them.
-fn keeps_behaviour(links: &[Link], node: u32, behaviour: Behaviour, set: &[u32]) -> bool
-    ensures { result ≡ keeps_behaviour links.now node behaviour set.now }
+/// Whether a policy that a SID names is there.
+fn suits_policy(policy_count: usize, policy: Option<u32>) -> bool
+    ensures { result ≡ suits_policy policy_count policy }
 {
-    suits_table(behaviour.table()) && suits_links(links, node, behaviour.takes_links(), set)
+    match policy {
+        None => true,
+        Some(policy) => (policy as usize) < policy_count,
+    }
+}
+
+/// Whether flavours stand at a SID that takes them alone.
+fn suits_flavours(takes: bool, psp: bool, usp: bool, usd: bool) -> bool
+    ensures { result ≡ suits_flavours takes psp usp usd }
+{
+    takes || (!psp && !usp && !usd)
+}
+
+/// Whether the table, the policy, the links and the flavours of a SID are as its behaviour takes
+/// them.
+fn keeps_behaviour(parts: &NetParts, s: &SidEntry) -> bool
+    ensures { result ≡ keeps_behaviour (network_of parts.now) s.now }
+{
+    let takes_links = s.behaviour.takes_links();
+    let takes_flavours = s.behaviour.takes_flavours();
+    suits_table(s.behaviour.table())
+        && suits_policy(parts.policies.len(), s.behaviour.policy())
+        && suits_links(
+            parts.links.as_slice(),
+            s.node,
+            takes_links,
+            s.links.as_slice(),
+        )
+        && suits_flavours(takes_flavours, s.psp, s.usp, s.usd)
+}
+
+/// The block that a prefix lies strictly inside.
+fn block_of(blocks: &[Block], p: &Prefix) -> Option<Block>
+    ensures { result ≡ block_of blocks.now p.now }
+{
+    blocks.iter().copied().find(|b| p.inside(&b.prefix))
+}
+
+/// Whether a prefix of so many bits is a NEXT-CSID SID's in a block.
+fn is_next_len(b: &Block, len: u8) -> bool
+    ensures { result ≡ is_next_len b.now len }
+{
+    let block = u32::from(b.prefix.len());
+    let len = u32::from(len);
+    len == block + u32::from(b.csid) || len == block + LONG_CSID
+}
+
+fn suits_next(b: &Block, len: u8, goes_on: bool) -> bool
+    ensures { result ≡ suits_next b.now.kind b.now len goes_on }
+{
+    match b.kind {
+        BlockKind::Next => goes_on && is_next_len(b, len),
+        BlockKind::Replace => false,
+    }
+}
+
+fn suits_replace(b: &Block, len: u8) -> bool
+    ensures { result ≡ suits_replace b.now.kind b.now len }
+{
+    match b.kind {
+        BlockKind::Next => false,
+        BlockKind::Replace => u32::from(len) == u32::from(b.prefix.len()) + u32::from(b.csid),
+    }
+}
+
+/// Whether a SID's compression suits its block.
+fn suits_block(csid: Csid, b: &Block, len: u8, goes_on: bool) -> bool
+    ensures { result ≡ suits_block csid b.now len goes_on }
+{
+    match csid {
+        Csid::Plain => true,
+        Csid::Next => suits_next(b, len, goes_on),
+        Csid::Replace => suits_replace(b, len),
+    }
+}
+
+/// Whether a SID tells the length of its block, and its compression suits the block.
+fn keeps_compression(block: Option<Block>, s: &SidEntry) -> bool
+    ensures { result ≡ keeps_compression block s.now }
+{
+    match block {
+        None => s.block_len == 0 && s.csid == Csid::Plain,
+        Some(b) => {
+            let goes_on = s.behaviour.goes_on();
+            s.block_len == b.prefix.len() && suits_block(s.csid, &b, s.prefix.len(), goes_on)
+        }
+    }
 }
 
 fn is_title(title_count: usize, title: Option<u32>) -> bool
@@ -337,14 +556,15 @@ fn is_title(title_count: usize, title: Option<u32>) -> bool
     }
 }
 
-fn keeps_sid(node_count: usize, links: &[Link], title_count: usize, s: &SidEntry) -> bool
-    ensures { result ≡ keeps_sid node_count links.now title_count s.now }
+fn keeps_sid(parts: &NetParts, s: &SidEntry) -> bool
+    ensures { result ≡ keeps_sid (network_of parts.now) s.now }
 {
-    (s.node as usize) < node_count
+    (s.node as usize) < parts.nodes.len()
         && 1 <= s.prefix.len()
         && is_prefix(&s.prefix)
-        && keeps_behaviour(links, s.node, s.behaviour, s.links.as_slice())
-        && is_title(title_count, s.title)
+        && keeps_behaviour(parts, s)
+        && keeps_compression(block_of(parts.blocks.as_slice(), &s.prefix), s)
+        && is_title(parts.titles.len(), s.title)
 }
 
 /// Whether not too many SIDs stand at the node of a SID.
@@ -355,11 +575,10 @@ fn has_room(sids: &[SidEntry], s: &SidEntry) -> bool
     sids.iter().filter(|other| other.node == node).count() <= MAX_SIDS_OF_NODE
 }
 
-fn each_keeps_sid(node_count: usize, links: &[Link], title_count: usize, sids: &[SidEntry]) -> bool
-    ensures { result ≡ list_all (keeps_sid node_count links.now title_count) sids.now }
+fn each_keeps_sid(parts: &NetParts, sids: &[SidEntry]) -> bool
+    ensures { result ≡ list_all (keeps_sid (network_of parts.now)) sids.now }
 {
-    sids.iter()
-        .all(|s| keeps_sid(node_count, links, title_count, s))
+    sids.iter().all(|s| keeps_sid(parts, s))
 }
 
 fn each_has_room(sids: &[SidEntry]) -> bool
@@ -388,11 +607,12 @@ fn have_distinct_titles(sids: &[SidEntry]) -> bool
     are_distinct::<SidEntry, Titles>(sids)
 }
 
-fn keeps_sids(node_count: usize, links: &[Link], titles: &[Name], sids: &[SidEntry]) -> bool
-    ensures { result ≡ keeps_sids node_count links.now titles.now sids.now }
+fn keeps_sids(parts: &NetParts) -> bool
+    ensures { result ≡ keeps_sids (network_of parts.now) }
 {
+    let sids = parts.sids.as_slice();
     sids.len() <= MAX_SIDS
-        && each_keeps_sid(node_count, links, titles.len(), sids)
+        && each_keeps_sid(parts, sids)
         && are_distinct::<SidEntry, Sids>(sids)
         && each_has_room(sids)
         && have_distinct_titles(sids)
@@ -417,10 +637,11 @@ pub(crate) fn is_network(parts: &NetParts) -> bool
 {
     let nodes = parts.nodes.as_slice();
     let links = parts.links.as_slice();
-    let titles = parts.titles.as_slice();
-    keeps_nodes(nodes)
+    keeps_blocks(parts.blocks.as_slice())
+        && keeps_nodes(nodes)
         && keeps_links(nodes.len(), links)
         && keeps_routes(nodes.len(), links, parts.routes.as_slice())
-        && keeps_titles(titles)
-        && keeps_sids(nodes.len(), links, titles, parts.sids.as_slice())
+        && keeps_policies(parts.policies.as_slice())
+        && keeps_titles(parts.titles.as_slice())
+        && keeps_sids(parts)
 }

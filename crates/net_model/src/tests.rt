@@ -1,9 +1,10 @@
 //! A network of two nodes.
 
 use crate::{
-    Hit, Link, Name, Net, NetParts, Node, NodeTable, NotFlat, Route, TypeList, compilable,
+    Block, BlockKind, Hit, Link, Name, Net, NetParts, Node, NodeTable, NotFlat, Route, TypeList,
+    compilable,
 };
-use srv6_rules::{Behaviour, LinkSet, SidEntry};
+use srv6_rules::{Behaviour, Csid, Family, LinkSet, SidEntry};
 use std::alloc::{AllocError, Global};
 use std::process::Abort;
 use std::test::Fail;
@@ -13,6 +14,10 @@ use v6_addr::{Addr, Prefix};
 const OWN_A: u128 = 0x2001_0db8_0000_0000_0000_0000_0000_0001;
 /// 2001:db8::2
 const OWN_B: u128 = 0x2001_0db8_0000_0000_0000_0000_0000_0002;
+/// 10.0.0.0, in the first 32 bits
+const NET_10: u128 = 0x0a00_0000_0000_0000_0000_0000_0000_0000;
+/// fcbb:bb00::
+const BLOCK: u128 = 0xfcbb_bb00_0000_0000_0000_0000_0000_0000;
 /// fcbb:bb00:2::
 const SID: u128 = 0xfcbb_bb00_0002_0000_0000_0000_0000_0000;
 /// fcbb:bb00:2:e001::
@@ -34,11 +39,17 @@ fn node(alloc: Global, text: &str, address: u128) -> Result<Node, AllocError> {
     })
 }
 
+/// An End at B that is not compressed, in no block.
 fn end_at_b(alloc: Global, prefix: Prefix) -> SidEntry {
     SidEntry {
         node: 1,
         prefix,
         behaviour: Behaviour::End,
+        csid: Csid::Plain,
+        block_len: 0,
+        psp: false,
+        usp: false,
+        usd: false,
         title: None,
         links: LinkSet::new(Vec::new(alloc)),
     }
@@ -67,13 +78,16 @@ fn two_nodes(
     routes.push(Route {
         node: 0,
         table: 0,
+        family: Family::V6,
         prefix: all,
         via: LinkSet::new(via),
     })?;
     Ok(NetParts {
+        blocks: Vec::new(alloc),
         nodes,
         links,
         routes,
+        policies: Vec::new(alloc),
         titles: Vec::new(alloc),
         sids,
     })
@@ -107,9 +121,68 @@ fn nodes_look_addresses_up(rt: HostRuntime) -> Result<(), Fail> {
         (1, 0, OWN_A, Hit::Nothing),
     ] {
         assert!(rt; node < net.nodes());
-        assert!(rt; net.lookup(node, table, Addr { value }) == hit);
-        let gathered = NodeTable::gather(rt.alloc(), &net, node, table)?;
+        assert!(rt; net.lookup(node, table, Family::V6, Addr { value }) == hit);
+        let gathered = NodeTable::gather(rt.alloc(), &net, node, table, Family::V6)?;
         assert!(rt; gathered.lookup(Addr { value }) == hit);
+    }
+    Ok(())
+}
+
+#[test]
+fn ipv4_has_tables_of_its_own(rt: HostRuntime) -> Result<(), Fail> {
+    let alloc = rt.alloc();
+    let mut parts = two_nodes(alloc, ("A", "B"), prefix(&rt, 0, 0), Vec::new(alloc))?;
+    let mut via = Vec::new(alloc);
+    via.push(0)?;
+    parts.routes.push(Route {
+        node: 0,
+        table: 0,
+        family: Family::V4,
+        prefix: prefix(&rt, NET_10, 8),
+        via: LinkSet::new(via),
+    })?;
+    let net = Net::build(parts).expect(&rt, "a network");
+    for (family, value, hit) in [
+        (Family::V6, NET_10, Hit::Route(0)),
+        (Family::V4, NET_10, Hit::Route(1)),
+        (Family::V6, OWN_A, Hit::Address),
+        (Family::V4, OWN_A, Hit::Nothing),
+    ] {
+        assert!(rt; 0 < net.nodes());
+        assert!(rt; net.lookup(0, 0, family, Addr { value }) == hit);
+        let gathered = NodeTable::gather(alloc, &net, 0, 0, family)?;
+        assert!(rt; gathered.lookup(Addr { value }) == hit);
+    }
+    Ok(())
+}
+
+/// Whether a network has a block of 32 bits, and at B an End with NEXT-CSID and a prefix of so many
+/// bits in it.
+fn takes_next(rt: &impl Abort, alloc: Global, len: u8) -> Result<bool, AllocError> {
+    let mut sid = end_at_b(alloc, prefix(rt, BLOCK, len));
+    sid.csid = Csid::Next;
+    sid.block_len = 32;
+    let mut sids = Vec::new(alloc);
+    sids.push(sid)?;
+    let mut parts = two_nodes(alloc, ("A", "B"), prefix(rt, 0, 0), sids)?;
+    parts.blocks.push(Block {
+        prefix: prefix(rt, BLOCK, 32),
+        kind: BlockKind::Next,
+        csid: 16,
+    })?;
+    Ok(Net::build(parts).is_some())
+}
+
+#[test]
+fn compressed_sids_lie_strictly_inside_a_block(rt: HostRuntime) -> Result<(), Fail> {
+    for (len, takes) in [
+        (32, false),
+        (33, false),
+        (48, true),
+        (64, true),
+        (80, false),
+    ] {
+        assert!(rt; takes_next(&rt, rt.alloc(), len)? == takes);
     }
     Ok(())
 }

@@ -6,12 +6,11 @@ use Rattle.toml.specs.Data.{Members}
 use Rattle.net_model.specs.declared.limits.TheConstants.{MAX_NODES, MAX_LINKS, MAX_SIDS}
 use Rattle.net_model.specs.declared.parts.Node.{Node}
 use Rattle.net_model.specs.declared.parts.Link.{Link}
-use Rattle.net_model.specs.declared.parts.Route.{Route}
 use Rattle.net_model.specs.Network.{Network}
-use Rattle.net_model.specs.Rules.{is_network, keeps_nodes}
+use Rattle.net_model.specs.Rules.{is_network, keeps_blocks}
 use Rattle.net_reader.specs.declared.described.DescribedSid.{DescribedSid}
 use Rattle.net_reader.specs.Tree.{◌>>=◌, each_at}
-use Rattle.net_reader.specs.Description.{node_of, link_of, route_of, sid_of, titles_of, numbered, if_kept, network_with, is_plain, network_of_document}
+use Rattle.net_reader.specs.Description.{node_of, link_of, route_of, sid_of, numbered, if_kept, network_from, network_with, is_plain, network_of_document}
 use Rattle.net_reader.proofs.Numbers.{length-numbered}
 
 and-false : (b : Bool) → (b && false) ≡ false
@@ -24,29 +23,19 @@ too_many_nodes : (net : Network) → MAX_NODES < length net.nodes → is_network
 unfolding is_network
 too_many_nodes net many =
     let over : nat_le (length net.nodes) MAX_NODES ≡ false = grind (arith, nat_tests) in
-    rw over
+    rw over (and-false (keeps_blocks net.blocks))
 
 too_many_links : (net : Network) → MAX_LINKS < length net.links → is_network net ≡ false
 unfolding is_network
 too_many_links net many =
     let over : nat_le (length net.links) MAX_LINKS ≡ false = grind (arith, nat_tests) in
-    rw over (and-false (keeps_nodes net.nodes))
+    rw over (simp and-false)
 
 too_many_sids : (net : Network) → MAX_SIDS < length net.sids → is_network net ≡ false
 unfolding is_network
 too_many_sids net many =
     let over : nat_le (length net.sids) MAX_SIDS ≡ false = grind (arith, nat_tests) in
     rw over (simp and-false)
-
-abbrev network_from : List Node → List Link → List Route → List DescribedSid → Network
-network_from nodes links routes sids = record {
-  nodes = nodes;
-  links = links;
-  routes = routes;
-  titles = titles_of sids;
-  sids =
-      numbered 0 sids;
-}
 
 broken : (net : Network) → is_network net ≡ false → if_kept net ≡ None
 broken net rule = rw rule

@@ -7,11 +7,11 @@ use Rattle.std.proofs.lemmas.List.{length_push}
 use Rattle.std.proofs.lemmas.List.Elements.{filter_map-append}
 use Rattle.srv6_rules.specs.declared.sid.SidEntry.{SidEntry}
 use Rattle.net_reader.specs.declared.described.DescribedSid.{DescribedSid}
-use Rattle.net_reader.specs.Description.{numbered, number_of_title, after_title, title_in, titles_of}
+use Rattle.net_reader.specs.Description.{plain_entry, numbered, number_of_title, after_title, title_in, titles_of}
 
 -- the entry of a SID before whose title n others stand
 abbrev pub entry_of : ℕ → DescribedSid → SidEntry
-entry_of n s = record { node = s.node; prefix = s.prefix; behaviour = s.behaviour; title = number_of_title n s.title; links = s.links }
+entry_of n s = plain_entry s (number_of_title n s.title)
 
 -- how many titles the first title adds
 titles_counted : (n : ℕ) (title : Option (List ℕ)) (titles : List (List ℕ))
@@ -41,7 +41,7 @@ titles_more titles done s same = rw (same, titles_of-append done s)
 
 pub entries_more : (entries : List SidEntry) (titles : List (List ℕ)) (done : List DescribedSid) (s : DescribedSid) (title : Option ℕ)
     → entries ≡ numbered 0 done → titles ≡ titles_of done → title ≡ number_of_title (length titles) s.title
-    → entries ++ record { node = s.node; prefix = s.prefix; behaviour = s.behaviour; title = title; links = s.links } ∷ [] ≡ numbered 0
+    → entries ++ plain_entry s title ∷ [] ≡ numbered 0
     (done ++ s ∷ [])
 entries_more entries titles done s title same titles_same given =
     rw (given, titles_same, same, numbered-append 0 done s, zero-add (length (titles_of done)))

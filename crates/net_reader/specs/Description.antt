@@ -4,6 +4,8 @@ use Rattle.std.specs.Prelude.{ℕ, ◌+◌, Bool, false, ◌&&◌, if◌then◌e
 use Rattle.toml.specs.Data.{Data, Members, get_member, as_str}
 use Rattle.v6_addr.specs.Address.{PrefixValue}
 use Rattle.v6_addr.specs.Text.{address_of_text, prefix_of_text}
+use Rattle.srv6_rules.specs.declared.sid.Csid.TheVariants.{Plain}
+use Rattle.srv6_rules.specs.declared.sid.Family.TheVariants.{V6}
 use Rattle.srv6_rules.specs.declared.sid.SidEntry.{SidEntry}
 use Rattle.srv6_rules.specs.declared.sid.Behaviour.TheVariants.{End, EndX, Dt6}
 use Rattle.net_model.specs.declared.limits.TheConstants.{LAST_TABLE}
@@ -81,7 +83,7 @@ links_in links = array_of (link_in links)
 abbrev pub route_keys : List (List ℕ)
 route_keys = codes "node" ∷ codes "table" ∷ codes "prefix" ∷ codes "via" ∷ []
 
--- a route is in table 0 by default
+-- a route is of IPv6, and in table 0 by default
 abbrev pub route_of : List Node → List Link → Data → Option Route
 route_of nodes links d = do
   t ← table_with route_keys d
@@ -89,7 +91,7 @@ route_of nodes links d = do
   table ← optional table_in 0 (codes "table") t
   prefix ← needed prefix_in (codes "prefix") t
   via ← needed (links_in links) (codes "via") t
-  Some (record { node = node; table = table; prefix = prefix; via = via })
+  Some (record { node = node; table = table; family = V6; prefix = prefix; via = via })
 
 -- SIDs
 
@@ -153,12 +155,25 @@ abbrev pub after_title : ℕ → Option (List ℕ) → ℕ
 after_title n None = n
 after_title n (Some title) = n + 1
 
+-- the entry of a SID that is not compressed, in no block and without flavours, with its title's number
+abbrev pub plain_entry : DescribedSid → Option ℕ → SidEntry
+plain_entry s title = record {
+  node = s.node;
+  prefix = s.prefix;
+  behaviour = s.behaviour;
+  csid = Plain;
+  block_len = 0;
+  psp = false;
+  usp = false;
+  usd = false;
+  title = title;
+  links = s.links;
+}
+
 -- the entries of SIDs, before whose titles n others stand
 abbrev pub numbered : ℕ → List DescribedSid → List SidEntry
 numbered n [] = []
-numbered n (s ∷ ss) =
-    record { node = s.node; prefix = s.prefix; behaviour = s.behaviour; title = number_of_title n s.title; links = s.links }
-    ∷ numbered (after_title n s.title) ss
+numbered n (s ∷ ss) = plain_entry s (number_of_title n s.title) ∷ numbered (after_title n s.title) ss
 
 abbrev pub title_in : DescribedSid → Option (List ℕ)
 title_in s = s.title
@@ -175,12 +190,24 @@ root_keys = codes "block" ∷ codes "node" ∷ codes "link" ∷ codes "route" �
 abbrev pub if_kept : Network → Option Network
 if_kept net = if is_network net then Some net else None
 
+-- a network without blocks and policies
+abbrev pub network_from : List Node → List Link → List Route → List DescribedSid → Network
+network_from nodes links routes sids = record {
+  blocks = [];
+  nodes = nodes;
+  links = links;
+  routes = routes;
+  policies = [];
+  titles = titles_of sids;
+  sids = numbered 0 sids;
+}
+
 -- the network of nodes and links, if it keeps the rules
 abbrev pub network_with : List Node → List Link → Members → Option Network
 network_with nodes links root = do
   routes ← each_at (route_of nodes links) (codes "route") root
   sids ← each_at (sid_of nodes links) (codes "sid") root
-  if_kept (record { nodes = nodes; links = links; routes = routes; titles = titles_of sids; sids = numbered 0 sids })
+  if_kept (network_from nodes links routes sids)
 
 -- there are no other keys, no blocks and no policies
 abbrev pub is_plain : Members → Bool

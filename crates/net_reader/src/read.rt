@@ -63,9 +63,11 @@ fn network_with(
     }
     let (titles, sids) = numbered(alloc, sids)?;
     Ok(Net::build(NetParts {
+        blocks: Vec::new(alloc),
         nodes,
         links,
         routes,
+        policies: Vec::new(alloc),
         titles,
         sids,
     }))

@@ -10,6 +10,7 @@ use crate::nodes::node_at;
 use crate::texts::{prefix_at, table_at};
 use crate::tree::{array_at, table_with};
 use net_model::{Link, Node, Route};
+use srv6_rules::Family;
 use std::alloc::{AllocError, Global};
 use toml::{Table, Value};
 
@@ -42,6 +43,7 @@ fn route(
     Ok(Some(Route {
         node,
         table,
+        family: Family::V6,
         prefix,
         via,
     }))

@@ -5,7 +5,7 @@ ghost use Rattle.net_reader.specs.Description.{number_of_title, titles_of, numbe
 
 use crate::described::DescribedSid;
 use net_model::Name;
-use srv6_rules::SidEntry;
+use srv6_rules::{Csid, SidEntry};
 use std::alloc::{AllocError, Global};
 
 /// Puts a title behind the titles, and gives its number.
@@ -46,6 +46,11 @@ pub(crate) fn numbered(
             node,
             prefix,
             behaviour,
+            csid: Csid::Plain,
+            block_len: 0,
+            psp: false,
+            usp: false,
+            usd: false,
             title,
             links,
         })?;

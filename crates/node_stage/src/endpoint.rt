@@ -1,6 +1,7 @@
 //! What a node does with a packet that came to one of its SIDs or to its own address.
 
 ghost use Rattle.std.specs.Prelude.{◌≡◌, ◌+◌, ◌<◌, ◌≤◌, true, length};
+ghost use Rattle.srv6_rules.specs.Behaviours.{family_inside};
 ghost use Rattle.srv6_rules.specs.Packet.{Packet as PacketValue};
 ghost use Rattle.srv6_rules.specs.Chain.{LiesIn, is_extension};
 ghost use Rattle.srv6_rules.specs.Endpoint.{Endpoint, at_address, at_address_header, at_header, at_sid, at_sid_routing, at_upper, is_allowed, next_segment};
@@ -12,8 +13,8 @@ use crate::packet::Packet;
 use ip6_headers::{ChainPlace, Fault, Stands, stands_at};
 use srh_codec::{SrhView, tlvs};
 use srv6_rules::numbers::{
-    EXTENSION_UNIT, IPV6_HEADER_LEN, MOST_LEN, ROUTING, ROUTING_TYPE_AT, SEGMENT_ROUTING,
-    SEGMENTS_LEFT_AT,
+    EXTENSION_UNIT, IPV4_INSIDE, IPV6_HEADER_LEN, MOST_LEN, ROUTING, ROUTING_TYPE_AT,
+    SEGMENT_ROUTING, SEGMENTS_LEFT_AT,
 };
 use srv6_rules::{Family, Reason, SidEntry};
 use v6_addr::Addr;
@@ -167,6 +168,17 @@ fn judge_header(
     refused(header_fault(place, header))
 }
 
+/// The family of a packet inside, by its kind as an upper layer (RFC 8986 sections 4.6 and 4.7).
+fn family_inside(kind: u8) -> Family
+    ensures { result ≡ family_inside kind }
+{
+    if kind == IPV4_INSIDE {
+        Family::V4
+    } else {
+        Family::V6
+    }
+}
+
 /// The upper layer at a SID: a SID that exposes it exposes the packet inside.
 fn judge_upper(entry: &SidEntry, allow: &[u8], packet: &Packet, place: ChainPlace) -> Judged
     requires behind { IPV6_HEADER_LEN ≤ place.at }
@@ -176,7 +188,7 @@ fn judge_upper(entry: &SidEntry, allow: &[u8], packet: &Packet, place: ChainPlac
 {
     if entry.exposes(place.kind) {
         return Judged::Expose {
-            family: Family::V6,
+            family: family_inside(place.kind),
             at: place.at,
         };
     }

@@ -7,8 +7,8 @@ use crate::content::{Content, Held};
 use crate::packet::Packet;
 use crate::pkt_buf::PktBuf;
 use ip6_headers::read_fault;
-use srv6_rules::Family;
 use srv6_rules::numbers::MOST_LEN;
+use srv6_rules::{Family, Reason};
 
 impl Content {
     /// How bytes read as IPv6, in place: what stands behind the packet's end is cut.
@@ -23,12 +23,15 @@ impl Content {
         }
     }
 
-    /// How bytes read as a packet of a family, in place.
+    /// How bytes read as a packet of a family, in place; IPv4 is not built yet.
     pub(crate) fn read_as(family: Family, bytes: PktBuf) -> Content
         ensures { result ≡ read_as family bytes.bytes }
     {
         match family {
             Family::V6 => Content::read(bytes),
+            Family::V4 => Content {
+                held: Held::Unreadable(bytes, Reason::NotBuilt),
+            },
         }
     }
 

@@ -135,15 +135,19 @@ fn treated_at_sid(sid: u32, entry: &SidEntry, allow: &[u8], packet: Packet) -> S
     }
 }
 
-/// At a SID of a node of the network.
+/// At a SID of a node of the network; one that is not built drops the packet.
 fn treated_in(net: &Net, node: u32, sid: u32, packet: Packet) -> Staged
     requires node { node < length net.now.nodes }
     requires sid { sid < length net.now.sids }
     ensures { gave_of result
         ≡ treated_in net.now node sid (slice_get net.now.sids sid) packet }
 {
+    let entry = net.sid(sid);
+    if !entry.is_built() {
+        return dropped_for(Reason::NotBuilt, packet);
+    }
     let allow = net.node(node).allow.as_slice();
-    treated_at_sid(sid, net.sid(sid), allow, packet)
+    treated_at_sid(sid, entry, allow, packet)
 }
 
 /// The packet on a way.

@@ -1,63 +1,27 @@
 -- What an endpoint keeps of a packet.
-use Rattle.std.proofs.Common.{◌≡◌, ℕ, ◌+◌, ◌-◌, ◌*◌, ◌^◌, ◌<◌, ◌≤◌, Bool, true, false, ◌==◌, ◌≢◌, nat_le, if◌then◌else◌, List, ◌++◌, length, take, drop, slice_index, All, refl, sym, ap, subst, ◌∙◌, ◌⊎◌, ◌↔◌, arith, inl, inr}
-use Rattle.std.proofs.lemmas.Bool.{leb-false, eqb-true, eqb-false}
+use Rattle.std.proofs.Common.{◌≡◌, ℕ, ◌+◌, ◌-◌, ◌*◌, ◌^◌, ◌<◌, ◌≤◌, Bool, true, false, ◌==◌, ◌≢◌, nat_le, if◌then◌else◌, List, ◌++◌, length, take, drop, slice_index, All, refl, sym, ap, subst, ◌∙◌, arith, inl, inr}
+use Rattle.std.proofs.lemmas.Bool.{leb-false, eqb-false}
 use Rattle.std.proofs.lemmas.List.{get_or-set_other, get_or-set_same, length-set}
 use Rattle.std.proofs.lemmas.List.Elements.{All-drop, All-set, All-take}
 use Rattle.std.specs.Prelude.{Option, None}
-use Rattle.srv6_rules.specs.declared.sid.Behaviour.{Behaviour}
-use Rattle.srv6_rules.specs.declared.sid.Behaviour.TheVariants.{End, EndX, Dt6}
 use Rattle.srv6_rules.specs.declared.sid.Family.{Family}
 use Rattle.srv6_rules.specs.declared.sid.Family.TheVariants as families
 use Rattle.srv6_rules.specs.declared.sid.Reason.{Reason}
 use Rattle.srv6_rules.specs.declared.sid.Reason.TheVariants as reasons
 use Rattle.srv6_rules.specs.declared.sid.SidEntry.{SidEntry}
-use Rattle.srv6_rules.specs.Behaviours.{behaviour_goes_on, behaviour_exposes, goes_on, exposes, ipv6_inside}
+use Rattle.srv6_rules.specs.Behaviours.{goes_on, exposes, family_inside}
 use Rattle.srv6_rules.specs.Packet.{Packet, V6, Unreadable, IsSpellable, IsContent, header_len, spelling, read_as, bytes_of}
 use Rattle.srv6_rules.specs.Srh.{srh_of, entry_of, segments_left_at, routing_type_at}
 use Rattle.srv6_rules.specs.Areas.{Fault, tlvs_fault}
 use Rattle.srv6_rules.specs.Chain.{ChainPlace, Header, ChainEnd, Upper, Cut, LiesIn, StandsIn, segments_left, is_segment_routing, start_of, place_of, from_place, chain_at, chain_of}
 use Rattle.srv6_rules.specs.Endpoint.{Endpoint, Onward, Exposed, Delivered, Refused, StepsTo, ChangesFewBytes, ExposesFrom, IsPassed, IsReached, unless_fault, is_allowed, has_bad_segments, advanced, next_segment, at_segment_routing, unknown_routing, at_sid_routing, at_header, at_end, at_sid, at_address_header, at_address_end, at_address}
+use Rattle.srv6_rules.proofs.BehaviourLaws.{exposes-family}
 use Rattle.srv6_rules.proofs.Bytes.{address_number-below, byte_below}
 use Rattle.srv6_rules.proofs.Packets.{content_of-is_content, content_of-bytes_of, length-spelling, reads-spelled, unreadable, spelling-agrees, spelling-hop_limit, spelling-payload}
 use Rattle.srv6_rules.proofs.AreaItems.{tlvs_fault-within}
 use Rattle.srv6_rules.proofs.Chains.{start-stands, chain_at-stand, lies-at, lies-bytes}
 use Rattle.srv6_rules.proofs.Reached.{over-reached, reached-lies, reached-stands}
 use Rattle.srv6_rules.proofs.Treatments.{fault_cases, by-kind}
-
--- ---- the behaviours
-
-goes_on-by : (b : Behaviour) → (behaviour_goes_on b ≡ true) ↔ ((b ≡ End) ⊎ (b ≡ EndX))
-goes_on-by End = (λ e. inl refl, λ e. refl)
-goes_on-by EndX = (λ e. inr refl, λ e. refl)
-goes_on-by (Dt6 table) = (λ e. cc, λ e. elim e [ inl same ↦ cc | inr same ↦ cc ])
-
--- End and End.X go on
-pub goes_on-is : (s : SidEntry) → (goes_on s ≡ true) ↔ ((s.behaviour ≡ End) ⊎ (s.behaviour ≡ EndX))
-goes_on-is s = goes_on-by s.behaviour
-
-exposes-by : (b : Behaviour) (kind : ℕ) → behaviour_exposes b kind ≡ true → (kind ≡ ipv6_inside) × ((table : ℕ) × (b ≡ Dt6 table))
-exposes-by End kind e = cc
-exposes-by EndX kind e = cc
-exposes-by (Dt6 table) kind e = (eqb-true kind ipv6_inside e, (table, refl))
-
--- End.DT6 exposes an IPv6 packet, and nothing else exposes anything
-pub exposes-is : (s : SidEntry) (kind : ℕ) → exposes s kind ≡ true → (kind ≡ ipv6_inside) × ((table : ℕ) × (s.behaviour ≡ Dt6 table))
-exposes-is s kind e = exposes-by s.behaviour kind e
-
-dt6-exposes_by : (b : Behaviour) (table : ℕ) → b ≡ Dt6 table → (behaviour_exposes b ipv6_inside ≡ true) × (behaviour_goes_on b ≡ false)
-dt6-exposes_by b table e = rw e (refl, refl)
-
-pub dt6-exposes : (s : SidEntry) (table : ℕ) → s.behaviour ≡ Dt6 table → (exposes s ipv6_inside ≡ true) × (goes_on s ≡ false)
-dt6-exposes s table e = dt6-exposes_by s.behaviour table e
-
-goes_on-exposes_by : (b : Behaviour) (kind : ℕ) → behaviour_goes_on b ≡ true → behaviour_exposes b kind ≡ false
-goes_on-exposes_by End kind e = refl
-goes_on-exposes_by EndX kind e = refl
-goes_on-exposes_by (Dt6 table) kind e = cc
-
--- a SID that goes on exposes nothing
-pub goes_on-exposes : (s : SidEntry) (kind : ℕ) → goes_on s ≡ true → exposes s kind ≡ false
-goes_on-exposes s kind e = goes_on-exposes_by s.behaviour kind e
 
 -- ---- what is so of each outcome at a SID
 
@@ -152,7 +116,7 @@ module _ (s : SidEntry) (p : Packet) where
 
   upper-by : (place : ChainPlace) → (chain_of p).end ≡ Upper place → All (IsPassed (at_header s p)) (chain_of p).headers
       → StandsIn p place → (exposed allowed : Bool) → exposes s place.kind ≡ exposed
-      → AtSid s p (if exposed then Exposed families.V6 (from_place p place.at)
+      → AtSid s p (if exposed then Exposed (family_inside place.kind) (from_place p place.at)
       else if allowed then Delivered p else Refused reasons.UpperLayer place.at)
   upper-by place upper passed stands true allowed e =
       record {
@@ -160,7 +124,7 @@ module _ (s : SidEntry) (p : Packet) where
         upper = upper;
         passed = passed;
         exposed = e;
-        is_family = ((exposes-is s place.kind e).0, refl);
+        is_family = exposes-family s place.kind e;
         within = stands.within;
         inside = refl;
       }
@@ -303,20 +267,24 @@ at_sid-exposed_bytes s allow p family bytes ok e =
 -- what bytes of a family read as is a content that bytes can spell
 pub read_as-is_content : (family : Family) (bytes : List ℕ) → All (λ b. b < 2 ^ 8) bytes → IsContent (read_as family bytes)
 read_as-is_content families.V6 bytes all = content_of-is_content bytes all
+read_as-is_content families.V4 bytes all = all
 
 -- and its bytes read as it again
 pub read_as-bytes_of : (family : Family) (bytes : List ℕ) → All (λ b. b < 2 ^ 8) bytes
     → read_as family (bytes_of (read_as family bytes)) ≡ read_as family bytes
 read_as-bytes_of families.V6 bytes all = content_of-bytes_of bytes all
+read_as-bytes_of families.V4 bytes all = refl
 
 -- bytes that read as a packet begin with its spelling
 pub read_as-spelled : (family : Family) (bytes : List ℕ) (q : Packet) → All (λ b. b < 2 ^ 8) bytes → read_as family bytes ≡ V6 q
     → bytes ≡ spelling q ++ drop (length (spelling q)) bytes
 read_as-spelled families.V6 bytes q all e = reads-spelled bytes q all e
+read_as-spelled families.V4 bytes q all e = cc
 
 -- bytes that do not read are kept as they are
 pub read_as-unreadable : (family : Family) (bytes kept : List ℕ) (why : Reason) → read_as family bytes ≡ Unreadable kept why → bytes ≡ kept
 read_as-unreadable families.V6 bytes kept why e = unreadable bytes kept why e
+read_as-unreadable families.V4 bytes kept why e = cc
 
 pub at_sid-content : (s : SidEntry) (allow : List ℕ) (p : Packet) (family : Family) (bytes : List ℕ) → IsSpellable p
     → at_sid s allow p ≡ Exposed family bytes → IsContent (read_as family bytes)

@@ -6,6 +6,7 @@ pub mod Chains
 pub mod AreaItems
 pub mod Reached
 pub mod Treatments
+pub mod BehaviourLaws
 pub mod Endpoints
 pub mod Encapsulations
 pub mod Without

@@ -8,7 +8,8 @@ pub use Rattle.srv6_rules.proofs.Without.{without-others, without-length, withou
 pub use Rattle.srv6_rules.proofs.AreaItems.{area_fault-empty, area_fault-item, area_fault-within, options_fault-within, tlvs_fault-within, pad1-skipped, option-skipped, option-discarded, option-told, option-bad, tlv-hmac, tlv-bad, tlv-pad1, tlv-skipped}
 pub use Rattle.srv6_rules.proofs.Reached.{over-goes_on, over-passed, over-all_passed, over-decides, reached-contained, reached-lies, reached-stands, first-there}
 pub use Rattle.srv6_rules.proofs.Treatments.{first-passed, late-refused, options-judged, options-passed, options-refused, fragment-refused, routing-by, unknown-passed, unknown-refused, at_header-either, at_header-passed, at_header-steps, at_header-refuses, at_header-unknown, at_address_header-either, at_address_header-passed, at_address_header-refuses}
-pub use Rattle.srv6_rules.proofs.Endpoints.{goes_on-is, exposes-is, dt6-exposes, goes_on-exposes, at_sid-steps, at_sid-spellable, at_sid-bytes, at_sid-exposes, at_sid-exposed_packet, at_sid-content, at_sid-exposed_back, read_as-unreadable, at_sid-delivered, at_sid-place, at_address-delivered, at_address-not_onward, at_address-not_exposed, at_address-place}
+pub use Rattle.srv6_rules.proofs.BehaviourLaws.{goes_on-is, exposes-ipv6, exposes-ipv4, exposes-kinds, goes_on-exposes, built-is}
+pub use Rattle.srv6_rules.proofs.Endpoints.{at_sid-steps, at_sid-spellable, at_sid-bytes, at_sid-exposes, at_sid-exposed_packet, at_sid-content, at_sid-exposed_back, read_as-unreadable, at_sid-delivered, at_sid-place, at_address-delivered, at_address-not_onward, at_address-not_exposed, at_address-place}
 pub use Rattle.srv6_rules.proofs.Encapsulations.{at_segment-onward, at_segment-hop_limit, at_segment-bad_segments, at_segment-upper_layer, at_segment-exposed, at_segment-spellable, outer-chain, outer-inner, lowered-spellable, lowered-spelling, encapsulated-spellable}
 pub use Rattle.srv6_rules.proofs.Checksums.{ones_sum-carried, word_sum-append, carried-again, carried-small}
 pub use Rattle.srv6_rules.proofs.ErrorLaws.{upper_layer_sum-carried, error_checksum-parts, error-start, error-goes_on, error-behind, error-none, error-is_error, error-once, error-most, error-length, quote-short, kind_of-fits, error-spellable, error-verifies}

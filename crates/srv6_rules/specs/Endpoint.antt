@@ -8,7 +8,7 @@ use Rattle.srv6_rules.specs.declared.sid.Family.TheVariants as families
 use Rattle.srv6_rules.specs.declared.sid.Reason.{Reason}
 use Rattle.srv6_rules.specs.declared.sid.Reason.TheVariants as reasons
 use Rattle.srv6_rules.specs.declared.sid.SidEntry.{SidEntry}
-use Rattle.srv6_rules.specs.Behaviours.{goes_on, exposes, ipv6_inside}
+use Rattle.srv6_rules.specs.Behaviours.{goes_on, exposes, ipv6_inside, ipv4_inside, family_inside}
 use Rattle.srv6_rules.specs.Packet.{Packet, header_len}
 use Rattle.srv6_rules.specs.Srh.{Srh, srh_of, entries_of, entry_of, segments_left_at, routing_type_at}
 use Rattle.srv6_rules.specs.Areas.{Fault, options_fault, tlvs_fault}
@@ -99,10 +99,10 @@ at_sid_routing s p h behind =
 abbrev pub at_header : SidEntry → Packet → Header → Endpoint → Endpoint
 at_header s p h behind = at_header_by (at_sid_routing s p) h behind
 
--- the upper layer at a SID: a SID that exposes it exposes the packet inside
+-- the upper layer at a SID: a SID that exposes it exposes the packet inside, of the family that its kind names
 abbrev pub at_upper : SidEntry → List ℕ → Packet → ChainPlace → Endpoint
 at_upper s allow p place =
-    if exposes s place.kind then Exposed families.V6 (from_place p place.at) else upper_layer allow p place
+    if exposes s place.kind then Exposed (family_inside place.kind) (from_place p place.at) else upper_layer allow p place
 
 abbrev pub at_end : SidEntry → List ℕ → Packet → ChainEnd → Endpoint
 at_end s allow p (Upper place) = at_upper s allow p place
@@ -175,6 +175,7 @@ pub record ExposesFrom (s : SidEntry) (p : Packet) (family : Family) (bytes : Li
   pub upper : (chain_of p).end ≡ Upper place
   pub passed : All (IsPassed (at_header s p)) (chain_of p).headers
   pub exposed : exposes s place.kind ≡ true
-  pub is_family : (place.kind ≡ ipv6_inside) × (family ≡ families.V6)
+  pub is_family : ((place.kind ≡ ipv6_inside) × (family ≡ families.V6))
+      ⊎ ((place.kind ≡ ipv4_inside) × (family ≡ families.V4))
   pub within : place.at ≤ header_len + length p.payload
   pub inside : bytes ≡ from_place p place.at

@@ -5,7 +5,7 @@ use Rattle.srv6_rules.specs.declared.numbers.TheConstants.{IPV6_HEADER_LEN, MOST
 use Rattle.srv6_rules.specs.declared.sid.Family.{Family}
 use Rattle.srv6_rules.specs.declared.sid.Family.TheVariants as families
 use Rattle.srv6_rules.specs.declared.sid.Reason.{Reason}
-use Rattle.srv6_rules.specs.declared.sid.Reason.TheVariants.{Truncated, BadVersion}
+use Rattle.srv6_rules.specs.declared.sid.Reason.TheVariants.{Truncated, BadVersion, NotBuilt}
 
 -- a packet: the fields of its IPv6 header but for the version and the payload length, and the bytes after that header
 pub record Packet : Type 0 where
@@ -107,9 +107,10 @@ content_of bytes =
     else V6 (packet_at bytes))
     else Unreadable bytes BadVersion
 
--- how bytes read as a packet of a family
+-- how bytes read as a packet of a family; IPv4 is not built yet
 abbrev pub read_as : Family → List ℕ → Content
 read_as families.V6 bytes = content_of bytes
+read_as families.V4 bytes = Unreadable bytes NotBuilt
 
 -- what enters a node: of bytes that do not read at most a longest packet's length is kept (own rule)
 abbrev pub entered : List ℕ → Content

@@ -1,14 +1,15 @@
 //! Laws about the definitions, each the contract of a function that does nothing.
 
 ghost use Rattle.std.specs.Prelude.{◌≡◌, ◌≢◌, ◌⊎◌, ◌↔◌, ◌<◌, ◌≤◌, ◌+◌, ◌-◌, ◌*◌, ◌^◌, true, false, if◌then◌else◌, List, [], ℕ, ◌∷◌, ◌++◌, length, take, drop, slice_index, slice_set, All, flat_map, Contains, Option, Some, None};
-ghost use Rattle.srv6_rules.specs.Behaviours.{ipv6_inside, goes_on, exposes};
+ghost use Rattle.srv6_rules.specs.Behaviours.{ipv6_inside, ipv4_inside, goes_on, exposes, is_built};
 ghost use Rattle.srv6_rules.specs.declared.numbers.TheConstants.{NEXT_HEADER_AT, PAD1, HMAC, OPTIONS_AT, SEGMENT_LIST_AT, SEGMENT_LEN};
 ghost use Rattle.srv6_rules.specs.Areas.{Fault, item_bytes, first_of, area_fault, option_fault, options_fault, tlv_fault, tlvs_fault};
 ghost use Rattle.srv6_rules.specs.Chain.{ChainPlace, Header, ChainEnd, Upper, Cut, LiesIn, StandsIn, EndsIn, Follow, is_extension, hop_by_hop, routing, fragment, destination_options, is_first, is_whole, extension_bytes, header_in, behind_in, behind, place_of, place_behind, without, lowered, renamed, in_front, start_of, chain_of, chain_at, from_place, segments_left, is_segment_routing};
 ghost use Rattle.srv6_rules.specs.Endpoint.{Endpoint, Onward, Exposed, Delivered, Refused, StepsTo, ChangesFewBytes, ExposesFrom, IsPassed, IsReached, Decides, next_segment, over_headers, over_chain, at_header_by, at_header, at_sid, at_address_header, at_address};
 ghost use Rattle.srv6_rules.specs.Packet.{Packet, V6, Unreadable, IsSpellable, IsContent, Spells, spelling, content_of, read_as, entered, bytes_of, header_len, stated_len, packet_at, two_bytes, four_bytes, first_word, address_bytes, two_number, four_number, address_number};
 ghost use Rattle.srv6_rules.specs.Srh.{Srh, IsSrhSpellable, srh_of, srh_spelling, segment_routing, segments_left_at, routing_type_at};
-ghost use Rattle.srv6_rules.specs.declared.sid.Behaviour.TheVariants.{End, EndX, Dt6};
+ghost use Rattle.srv6_rules.specs.declared.sid.Behaviour.TheVariants.{End, EndX, EndT, Dx6, Dx4, Dt6, Dt4, Dt46, B6, B6Red};
+ghost use Rattle.srv6_rules.specs.declared.sid.Csid.TheVariants.{Plain};
 ghost use Rattle.srv6_rules.specs.declared.sid.Family.{Family};
 ghost use Rattle.srv6_rules.specs.declared.sid.Reason.{Reason};
 ghost use Rattle.srv6_rules.specs.declared.sid.Reason.TheVariants.{BadChain, LateHopByHop, OptionDiscard, OptionUnknown, Fragment, BadSegments, HmacTlv, BadTlv, UnknownRouting};
@@ -453,17 +454,32 @@ pub fn outcome_goes_on()
         else end (Upper place)) }
 {}
 
-/// Which behaviours go on to the next segment, and which expose the packet inside: End and End.X go
-/// on; End.DT6 exposes an IPv6 packet and does not go on; nothing else exposes anything (RFC 8986
-/// sections 4.1, 4.2 and 4.6).
+/// Which behaviours go on to the next segment, and which expose the packet inside: End, End.X,
+/// End.T, End.B6.Encaps and its reduced form go on; End.DX6, End.DT6 and End.DT46 expose an IPv6
+/// packet, End.DX4, End.DT4 and End.DT46 an IPv4 packet, and nothing else exposes anything (RFC
+/// 8986 sections 4.1 to 4.8, 4.13 and 4.14).
 pub fn behaviours_go_on_or_expose()
-    ensures goes_on { (s : SidEntry)
-        → (goes_on s ≡ true) ↔ ((s.behaviour ≡ End) ⊎ (s.behaviour ≡ EndX)) }
-    ensures exposes { (s : SidEntry) (kind : ℕ) → exposes s kind ≡ true
-        → (kind ≡ ipv6_inside) × ((table : ℕ) × (s.behaviour ≡ Dt6 table)) }
-    ensures dt6 { (s : SidEntry) (table : ℕ) → s.behaviour ≡ Dt6 table
-        → (exposes s ipv6_inside ≡ true) × (goes_on s ≡ false) }
+    ensures goes_on { (s : SidEntry) → (goes_on s ≡ true) ↔ ((s.behaviour ≡ End)
+        ⊎ ((s.behaviour ≡ EndX) ⊎ (((table : ℕ) × (s.behaviour ≡ EndT table))
+        ⊎ (((policy : ℕ) × (s.behaviour ≡ B6 policy))
+        ⊎ ((policy : ℕ) × (s.behaviour ≡ B6Red policy)))))) }
+    ensures ipv6 { (s : SidEntry) → (exposes s ipv6_inside ≡ true) ↔ ((s.behaviour ≡ Dx6)
+        ⊎ (((table : ℕ) × (s.behaviour ≡ Dt6 table))
+        ⊎ ((table : ℕ) × (s.behaviour ≡ Dt46 table)))) }
+    ensures ipv4 { (s : SidEntry) → (exposes s ipv4_inside ≡ true) ↔ ((s.behaviour ≡ Dx4)
+        ⊎ (((table : ℕ) × (s.behaviour ≡ Dt4 table))
+        ⊎ ((table : ℕ) × (s.behaviour ≡ Dt46 table)))) }
+    ensures kinds { (s : SidEntry) (kind : ℕ) → exposes s kind ≡ true
+        → (kind ≡ ipv6_inside) ⊎ (kind ≡ ipv4_inside) }
     ensures one { (s : SidEntry) (kind : ℕ) → goes_on s ≡ true → exposes s kind ≡ false }
+{}
+
+/// Nodes run so far the SIDs of End, End.X and End.DT6 that are not compressed and have no flavours
+/// (RFC 8986 sections 4.1, 4.2 and 4.6).
+pub fn plain_sids_are_built()
+    ensures { (s : SidEntry) → (is_built s ≡ true) ↔ ((s.csid ≡ Plain) × ((s.psp ≡ false)
+        × ((s.usp ≡ false) × ((s.usd ≡ false) × ((s.behaviour ≡ End) ⊎ ((s.behaviour ≡ EndX)
+        ⊎ ((table : ℕ) × (s.behaviour ≡ Dt6 table)))))))) }
 {}
 
 /// A packet that goes on from a SID has taken the step over a segment routing header: the hop limit

@@ -11,7 +11,9 @@ pub mod encapsulation;
 pub mod icmp;
 pub mod laws;
 pub mod numbers;
+mod policy;
 mod sid;
 
 pub use icmp::IcmpKind;
+pub use policy::{Policy, SegmentList};
 pub use sid::{Behaviour, Csid, Family, LinkSet, Reason, SidEntry};

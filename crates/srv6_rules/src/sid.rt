@@ -2,10 +2,10 @@
 
 ghost use Rattle.std.specs.Prelude.{◌≡◌, Some};
 ghost use Rattle.srv6_rules.specs.Reasons.{reason_name};
-ghost use Rattle.srv6_rules.specs.Behaviours.{behaviour_goes_on, behaviour_exposes, behaviour_takes_links, behaviour_table};
-ghost use Rattle.srv6_rules.specs.Behaviours.{goes_on, exposes};
+ghost use Rattle.srv6_rules.specs.Behaviours.{behaviour_goes_on, behaviour_exposes, behaviour_takes_links, behaviour_table, behaviour_policy, behaviour_takes_flavours, behaviour_is_built};
+ghost use Rattle.srv6_rules.specs.Behaviours.{goes_on, exposes, is_built};
 
-use crate::numbers::IPV6_INSIDE;
+use crate::numbers::{IPV4_INSIDE, IPV6_INSIDE};
 use base::Seq;
 use std::fmt;
 use std::fmt::{Display, Formatter};
@@ -16,6 +16,8 @@ use v6_addr::Prefix;
 pub enum Family {
     /// IPv6 (RFC 8200).
     V6,
+    /// IPv4 (RFC 791).
+    V4,
 }
 
 /// How a SID's part of a segment list is compressed (RFC 9800 sections 4.1 and 4.2).
@@ -36,10 +38,42 @@ pub enum Behaviour {
     End,
     /// End.X: the next segment, over the SID's own links (RFC 8986 section 4.2).
     EndX,
+    /// End.T: the next segment, looked up in a table (RFC 8986 section 4.3).
+    EndT {
+        /// The table's number.
+        table: u32,
+    },
+    /// End.DX6: decapsulation of an IPv6 packet, which goes over the SID's own links (RFC 8986
+    /// section 4.4).
+    Dx6,
+    /// End.DX4: decapsulation of an IPv4 packet, which goes over the SID's own links (RFC 8986
+    /// section 4.5).
+    Dx4,
     /// End.DT6: decapsulation, and a look-up of the inner packet in a table (RFC 8986 section 4.6).
     Dt6 {
         /// The table's number.
         table: u32,
+    },
+    /// End.DT4: the same of an inner IPv4 packet (RFC 8986 section 4.7).
+    Dt4 {
+        /// The table's number.
+        table: u32,
+    },
+    /// End.DT46: the same of an inner packet of either family (RFC 8986 section 4.8).
+    Dt46 {
+        /// The table's number.
+        table: u32,
+    },
+    /// End.B6.Encaps: the next segment, and a policy's header in front, in the full form (RFC 8986
+    /// section 4.13).
+    B6 {
+        /// The policy's number.
+        policy: u32,
+    },
+    /// End.B6.Encaps.Red: the same in the reduced form (RFC 8986 section 4.14).
+    B6Red {
+        /// The policy's number.
+        policy: u32,
     },
 }
 
@@ -119,52 +153,146 @@ pub struct SidEntry {
     pub prefix: Prefix,
     /// What it does.
     pub behaviour: Behaviour,
+    /// How its part of a segment list is compressed.
+    pub csid: Csid,
+    /// The length in bits of the block that the prefix lies strictly inside, 0 where it lies in
+    /// none (RFC 9800 section 3).
+    pub block_len: u8,
+    /// It takes the segment routing header out where Segments Left becomes 0: PSP (RFC 8986 section
+    /// 4.16.1).
+    pub psp: bool,
+    /// It takes the segment routing header out where it passes it over: USP (RFC 8986 section
+    /// 4.16.2).
+    pub usp: bool,
+    /// It exposes a packet inside as the upper layer: USD (RFC 8986 section 4.16.3).
+    pub usd: bool,
     /// The number of its title; a SID with a title is a function.
     pub title: Option<u32>,
-    /// The links of an End.X, none of others.
+    /// The links of an End.X, an End.DX6 or an End.DX4, none of others.
     pub links: LinkSet,
 }
 
 impl Behaviour {
-    /// It makes the next segment the destination: End and End.X (RFC 8986 sections 4.1 and 4.2).
+    /// It makes the next segment the destination: End, End.X, End.T, End.B6.Encaps and its reduced
+    /// form (RFC 8986 sections 4.1 to 4.3, 4.13 and 4.14).
     pub fn goes_on(&self) -> bool
         ensures { result ≡ behaviour_goes_on self.now }
     {
         match self {
-            Behaviour::End | Behaviour::EndX => true,
-            Behaviour::Dt6 { .. } => false,
+            Behaviour::End
+            | Behaviour::EndX
+            | Behaviour::EndT { .. }
+            | Behaviour::B6 { .. }
+            | Behaviour::B6Red { .. } => true,
+            Behaviour::Dx6
+            | Behaviour::Dx4
+            | Behaviour::Dt6 { .. }
+            | Behaviour::Dt4 { .. }
+            | Behaviour::Dt46 { .. } => false,
         }
     }
 
-    /// It exposes the packet inside, an upper layer of this kind: End.DT6 of IPv6 (RFC 8986 section
-    /// 4.6).
+    /// It exposes the packet inside, an upper layer of this kind: End.DX6 and End.DT6 of IPv6,
+    /// End.DX4 and End.DT4 of IPv4, End.DT46 of both (RFC 8986 sections 4.4 to 4.8).
     pub fn exposes(&self, kind: u8) -> bool
         ensures { result ≡ behaviour_exposes self.now kind }
     {
         match self {
-            Behaviour::End | Behaviour::EndX => false,
-            Behaviour::Dt6 { .. } => kind == IPV6_INSIDE,
+            Behaviour::End
+            | Behaviour::EndX
+            | Behaviour::EndT { .. }
+            | Behaviour::B6 { .. }
+            | Behaviour::B6Red { .. } => false,
+            Behaviour::Dx6 | Behaviour::Dt6 { .. } => kind == IPV6_INSIDE,
+            Behaviour::Dx4 | Behaviour::Dt4 { .. } => kind == IPV4_INSIDE,
+            Behaviour::Dt46 { .. } => kind == IPV6_INSIDE || kind == IPV4_INSIDE,
         }
     }
 
-    /// It sends over links of its own: End.X (RFC 8986 section 4.2).
+    /// It sends over links of its own: End.X, End.DX6 and End.DX4 (RFC 8986 sections 4.2, 4.4 and
+    /// 4.5).
     pub fn takes_links(&self) -> bool
         ensures { result ≡ behaviour_takes_links self.now }
     {
         match self {
-            Behaviour::EndX => true,
-            Behaviour::Dt6 { .. } | Behaviour::End => false,
+            Behaviour::EndX | Behaviour::Dx6 | Behaviour::Dx4 => true,
+            Behaviour::End
+            | Behaviour::EndT { .. }
+            | Behaviour::Dt6 { .. }
+            | Behaviour::Dt4 { .. }
+            | Behaviour::Dt46 { .. }
+            | Behaviour::B6 { .. }
+            | Behaviour::B6Red { .. } => false,
         }
     }
 
-    /// The number of the table that it looks the packet inside up in, where it has one of its own:
-    /// End.DT6's (RFC 8986 section 4.6).
+    /// The number of the table of its own that it looks a packet up in: the packet itself, of
+    /// End.T, or the packet inside, of End.DT6, End.DT4 and End.DT46 (RFC 8986 sections 4.3 and 4.6
+    /// to 4.8).
     pub fn table(&self) -> Option<u32>
         ensures { result ≡ behaviour_table self.now }
     {
         match self {
-            Behaviour::End | Behaviour::EndX => None,
-            Behaviour::Dt6 { table } => Some(*table),
+            Behaviour::EndT { table }
+            | Behaviour::Dt6 { table }
+            | Behaviour::Dt4 { table }
+            | Behaviour::Dt46 { table } => Some(*table),
+            Behaviour::End
+            | Behaviour::EndX
+            | Behaviour::Dx6
+            | Behaviour::Dx4
+            | Behaviour::B6 { .. }
+            | Behaviour::B6Red { .. } => None,
+        }
+    }
+
+    /// The number of the policy whose header it puts in front, and whether it is the reduced form:
+    /// End.B6.Encaps and its reduced form (RFC 8986 sections 4.13 and 4.14).
+    pub fn policy(&self) -> Option<u32>
+        ensures { result ≡ behaviour_policy self.now }
+    {
+        match self {
+            Behaviour::B6 { policy } | Behaviour::B6Red { policy } => Some(*policy),
+            Behaviour::End
+            | Behaviour::EndX
+            | Behaviour::EndT { .. }
+            | Behaviour::Dx6
+            | Behaviour::Dx4
+            | Behaviour::Dt6 { .. }
+            | Behaviour::Dt4 { .. }
+            | Behaviour::Dt46 { .. } => None,
+        }
+    }
+
+    /// It takes flavours: End, End.X and End.T (RFC 8986 section 4.16).
+    pub fn takes_flavours(&self) -> bool
+        ensures { result ≡ behaviour_takes_flavours self.now }
+    {
+        match self {
+            Behaviour::End | Behaviour::EndX | Behaviour::EndT { .. } => true,
+            Behaviour::Dx6
+            | Behaviour::Dx4
+            | Behaviour::Dt6 { .. }
+            | Behaviour::Dt4 { .. }
+            | Behaviour::Dt46 { .. }
+            | Behaviour::B6 { .. }
+            | Behaviour::B6Red { .. } => false,
+        }
+    }
+
+    /// Nodes run it: so far End, End.X and End.DT6.
+    fn is_built(&self) -> bool
+        ensures { result ≡ behaviour_is_built self.now }
+    {
+        match self {
+            Behaviour::End | Behaviour::EndX | Behaviour::Dt6 { .. } => true,
+            Behaviour::EndT { .. }
+            | Behaviour::Dx6
+            | Behaviour::Dx4
+            | Behaviour::Dt4 { .. }
+            | Behaviour::Dt46 { .. }
+            | Behaviour::B6 { .. }
+            | Behaviour::B6Red { .. } => false,
         }
     }
 }
@@ -182,5 +310,12 @@ impl SidEntry {
         ensures { result ≡ exposes self.now kind }
     {
         self.behaviour.exposes(kind)
+    }
+
+    /// Nodes run it: so far the plain SIDs of End, End.X and End.DT6 without flavours.
+    pub fn is_built(&self) -> bool
+        ensures { result ≡ is_built self.now }
+    {
+        self.csid == Csid::Plain && !self.psp && !self.usp && !self.usd && self.behaviour.is_built()
     }
 }

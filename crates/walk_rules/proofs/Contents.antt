@@ -17,16 +17,22 @@ use Rattle.walk_rules.specs.Walk.{far_end, arrival, next_place}
 use Rattle.walk_rules.specs.Laws.{family_after}
 use Rattle.walk_rules.proofs.Outcomes.{treated-each}
 
--- a content that can be spelled and reads again from its bytes as a packet of a family
-abbrev IsBack : Family → Content → Type 0
-IsBack family content = IsContent content × (read_as family (bytes_of content) ≡ content)
+-- a content that can be spelled and, if something is so, reads again from its bytes as a packet of a family
+abbrev IsBack : Type 0 → Family → Content → Type 0
+IsBack If family content = IsContent content × (If → read_as family (bytes_of content) ≡ content)
 
+-- the same where the packet stood at a place of IPv6
 abbrev GaveBack : Place → Gave → Type 0
-GaveBack place gave = IsBack (family_after place gave.outcome) gave.after
+GaveBack place gave = IsBack (place.family ≡ families.V6) (family_after place gave.outcome) gave.after
 
 -- an IPv6 packet reads again as one
-packet-back : (family : Family) (p : Packet) → IsSpellable p → IsBack family (V6 p)
-packet-back families.V6 p ok = (ok, content_of-spelling_alone p ok)
+packet-back : (family : Family) (p : Packet) → IsSpellable p → IsBack (family ≡ families.V6) family (V6 p)
+packet-back family p ok = (ok, λ e. rw e (content_of-spelling_alone p ok))
+
+-- what reads as an IPv6 packet is one of IPv6
+reads-v6 : (family : Family) (p : Packet) (bytes : List ℕ) → read_as family bytes ≡ V6 p → family ≡ families.V6
+reads-v6 families.V6 p bytes e = refl
+reads-v6 families.V4 p bytes e = cc
 
 lowered-spellable : (lower : Bool) (p : Packet) → IsSpellable p → IsSpellable (lowered lower p)
 lowered-spellable false p ok = ok
@@ -42,7 +48,7 @@ lowered-spellable true p ok =
       payload = ok.payload;
     }
 
-same-back : (family : Family) (p q : Packet) → q ≡ p → IsSpellable p → IsBack family (V6 q)
+same-back : (family : Family) (p q : Packet) → q ≡ p → IsSpellable p → IsBack (family ≡ families.V6) family (V6 q)
 same-back family p q same ok = packet-back family q (subst IsSpellable (sym same) ok)
 
 address-back : (net : Network) (place : Place) (p : Packet) (e : Endpoint) → IsSpellable p → at_address p ≡ e
@@ -56,7 +62,7 @@ endpoint-back : (net : Network) (place : Place) (n : ℕ) (s : SidEntry) (allow 
     → at_sid s allow p ≡ e → GaveBack place (treated_at_sid net place.node n s.behaviour p e)
 endpoint-back net place n s allow p (Onward q) ok same = packet-back place.family q (at_sid-spellable s allow p q ok same)
 endpoint-back net place n s allow p (Exposed family bytes) ok same =
-    (at_sid-content s allow p family bytes ok same, at_sid-exposed_back s allow p family bytes ok same)
+    (at_sid-content s allow p family bytes ok same, λ v6. at_sid-exposed_back s allow p family bytes ok same)
 endpoint-back net place n s allow p (Delivered q) ok same = same-back place.family p q (at_sid-delivered s allow p q same) ok
 endpoint-back net place n s allow p (Refused reason at) ok same = packet-back place.family p ok
 
@@ -69,7 +75,7 @@ step-packet net place p choice ok =
       drop = λ reason at. packet-back place.family p ok;
       send = λ set lower over. packet-back place.family (lowered lower p) (lowered-spellable lower p ok);
       own = address-back net place p (at_address p) ok refl;
-      sid = λ n s into there. endpoint-back net place n s allow p (at_sid s allow p) ok refl;
+      sid = λ n s into there built. endpoint-back net place n s allow p (at_sid s allow p) ok refl;
     })
 
 -- what stands there stays a content that bytes can spell
@@ -83,7 +89,7 @@ pub step-back : (net : Network) (place : Place) (content : Content) (choice : �
     → read_as place.family (bytes_of content) ≡ content
     → let gave = step_of net place content choice in read_as (family_after place gave.outcome) (bytes_of gave.after) ≡ gave.after
 step-back net place (Unreadable bytes reason) choice is same = same
-step-back net place (V6 p) choice is same = (step-packet net place p choice is).1
+step-back net place (V6 p) choice is same = (step-packet net place p choice is).1 (reads-v6 place.family p (bytes_of (V6 p)) same)
 
 -- the next place has the family of what stands there
 next-family : (place next : Place) (family : Family) → place.family ≡ family → Some place ≡ Some next → next.family ≡ family

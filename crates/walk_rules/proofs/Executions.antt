@@ -1,8 +1,9 @@
 -- Where a stage executes a SID: the SID is there and stands at the node, and the hop limit falls by one before a packet
 -- goes on.
-use Rattle.std.proofs.Common.{◌≡◌, ℕ, ◌+◌, ◌<◌, List, Some, slice_get, refl, sym, ◌∙◌, subst, ap}
+use Rattle.std.proofs.Common.{◌≡◌, ℕ, ◌+◌, ◌<◌, true, List, Some, slice_get, refl, sym, ◌∙◌, subst, ap}
 use Rattle.srv6_rules.specs.declared.sid.Family.{Family}
 use Rattle.srv6_rules.specs.declared.sid.SidEntry.{SidEntry}
+use Rattle.srv6_rules.specs.Behaviours.{is_built}
 use Rattle.srv6_rules.specs.Packet.{Packet, Content, V6, Unreadable}
 use Rattle.srv6_rules.specs.Endpoint.{Endpoint, Onward, Exposed, Delivered, Refused, at_sid, at_address}
 use Rattle.srv6_rules.proofs.PublicLaws.{at_sid-steps}
@@ -36,15 +37,35 @@ address-executes net place content p (Delivered q) = tt
 address-executes net place content p (Refused reason at) = tt
 
 endpoint-executes : (net : Network) (place : Place) (p : Packet) (n : ℕ) (s : SidEntry) (e : Endpoint)
-    → way_of net place p.destination ≡ Into n → slice_get net.sids n ≡ Some s → s.node ≡ place.node
+    → way_of net place p.destination ≡ Into n → slice_get net.sids n ≡ Some s → s.node ≡ place.node → is_built s ≡ true
     → treated_at_sid net place.node n s.behaviour p e ≡ at_entry net place.node n s p
     → IfExecutes net place (V6 p) (treated_at_sid net place.node n s.behaviour p e)
-endpoint-executes net place p n s (Onward q) way there stands same =
-    record { packet = p; is_packet = refl; way = way; sid = s; is_there = there; stands = stands; goes_on = refl; gives = same }
-endpoint-executes net place p n s (Exposed family bytes) way there stands same =
-    record { packet = p; is_packet = refl; way = way; sid = s; is_there = there; stands = stands; goes_on = refl; gives = same }
-endpoint-executes net place p n s (Delivered q) way there stands same = tt
-endpoint-executes net place p n s (Refused reason at) way there stands same = tt
+endpoint-executes net place p n s (Onward q) way there stands built same =
+    record {
+      packet = p;
+      is_packet = refl;
+      way = way;
+      sid = s;
+      is_there = there;
+      stands = stands;
+      built = built;
+      goes_on = refl;
+      gives = same;
+    }
+endpoint-executes net place p n s (Exposed family bytes) way there stands built same =
+    record {
+      packet = p;
+      is_packet = refl;
+      way = way;
+      sid = s;
+      is_there = there;
+      stands = stands;
+      built = built;
+      goes_on = refl;
+      gives = same;
+    }
+endpoint-executes net place p n s (Delivered q) way there stands built same = tt
+endpoint-executes net place p n s (Refused reason at) way there stands built same = tt
 
 -- the SID that is there is the one that stands at the node
 stands-there : (net : Network) (node n : ℕ) (s : SidEntry) → slice_get net.sids n ≡ Some s → StandsAt net node n → s.node ≡ node
@@ -60,9 +81,9 @@ step-executes net place (V6 p) choice =
       drop = λ reason at. tt;
       send = λ set lower e. tt;
       own = address-executes net place (V6 p) p (at_address p);
-      sid = λ n s into there.
+      sid = λ n s into there built.
           endpoint-executes net place p n s (at_sid s (allow_of (slice_get net.nodes place.node)) p) into there
-          (stands-there net place.node n s there (way-into net place p.destination n into)) refl;
+          (stands-there net place.node n s there (way-into net place p.destination n into)) built refl;
     })
 
 -- Again names the SID that was executed

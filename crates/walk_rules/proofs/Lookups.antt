@@ -2,13 +2,15 @@
 use Rattle.std.proofs.Common.{◌≡◌, ℕ, suc, ◌+◌, Bool, true, false, ◌==◌, ◌&&◌, nat_lt, if◌then◌else◌, List, [], ◌∷◌, ◌++◌, Option, Some, None, slice_get, refl, arith, add-zero, eqb-true, subst, sym}
 use Rattle.std.proofs.lemmas.Option.{slice_get_within}
 use Rattle.v6_addr.specs.Address.{holds_address}
+use Rattle.srv6_rules.specs.declared.sid.Family.{Family}
 use Rattle.srv6_rules.specs.declared.sid.SidEntry.{SidEntry}
 use Rattle.net_model.specs.declared.parts.Node.{Node}
 use Rattle.net_model.specs.declared.parts.Route.{Route}
 use Rattle.net_model.specs.declared.net.Hit.{Hit}
 use Rattle.net_model.specs.declared.net.Hit.TheVariants as hits
 use Rattle.net_model.specs.Network.{Network}
-use Rattle.net_model.specs.Best.{Entry, sid_entries, route_entries, address_entries, entries_of, longer, longest, hit_of, lookup_of}
+use Rattle.net_model.specs.Rules.{same_family}
+use Rattle.net_model.specs.Best.{Entry, sid_entries, route_entries, address_entries, has_sids, entries_of, longer, longest, hit_of, lookup_of}
 use Rattle.walk_rules.specs.Way.{StandsAt, IsRouteOf, IsNumbered, IsThere}
 
 abbrev Each : (Entry → Type 0) → List Entry → Type 0
@@ -74,16 +76,16 @@ sids-there net node n (s ∷ ss) same =
     by_test true e rest = (stands-at net node n s (IsFrom-head net.sids n s ss same) e, rest)
     by_test false e rest = rest
 
-routes-there : (net : Network) (node table n : ℕ) (rs : List Route) → IsFrom net.routes n rs
-    → Each (EntryIsThere net node) (route_entries node table n rs)
-routes-there net node table n [] same = tt
-routes-there net node table n (r ∷ rs) same =
-    by_test (r.node == node) (r.table == table) refl (routes-there net node table (n + 1) rs (IsFrom-tail net.routes n r rs same))
+routes-there : (net : Network) (node table : ℕ) (family : Family) (n : ℕ) (rs : List Route) → IsFrom net.routes n rs
+    → Each (EntryIsThere net node) (route_entries node table family n rs)
+routes-there net node table family n [] same = tt
+routes-there net node table family n (r ∷ rs) same =
+    by_test (r.node == node) ((r.table == table) && same_family r.family family) refl (routes-there net node table family (n + 1) rs (IsFrom-tail net.routes n r rs same))
   where
-    by_test : (t u : Bool) → (r.node == node) ≡ t → Each (EntryIsThere net node) (route_entries node table (n + 1) rs)
+    by_test : (t u : Bool) → (r.node == node) ≡ t → Each (EntryIsThere net node) (route_entries node table family (n + 1) rs)
         → Each (EntryIsThere net node)
-        (if t && u then record { hit = hits.Route n; prefix = r.prefix } ∷ route_entries node table (n + 1) rs
-        else route_entries node table (n + 1) rs)
+        (if t && u then record { hit = hits.Route n; prefix = r.prefix } ∷ route_entries node table family (n + 1) rs
+        else route_entries node table family (n + 1) rs)
     by_test true true e rest = (route-of net node n r (IsFrom-head net.routes n r rs same) e, rest)
     by_test true false e rest = rest
     by_test false u e rest = rest
@@ -92,28 +94,28 @@ address-there : (net : Network) (node : ℕ) (at : Option Node) → Each (EntryI
 address-there net node None = tt
 address-there net node (Some n) = (tt, tt)
 
-entries-there : (net : Network) (node table : ℕ) → Each (EntryIsThere net node) (entries_of net node table)
-entries-there net node table = by_test (table == 0)
+entries-there : (net : Network) (node table : ℕ) (family : Family) → Each (EntryIsThere net node) (entries_of net node table family)
+entries-there net node table family = by_test (has_sids table family)
   where
     by_test : (t : Bool) → Each (EntryIsThere net node)
-        (if t then sid_entries node 0 net.sids ++ (address_entries (slice_get net.nodes node) ++ route_entries node 0 0 net.routes)
-        else route_entries node table 0 net.routes)
+        (if t then sid_entries node 0 net.sids ++ (address_entries (slice_get net.nodes node) ++ route_entries node table family 0 net.routes)
+        else route_entries node table family 0 net.routes)
     by_test true =
         Each-append (EntryIsThere net node) _ _ (sids-there net node 0 net.sids (IsFrom-whole net.sids))
         (Each-append (EntryIsThere net node) _ _ (address-there net node (slice_get net.nodes node))
-        (routes-there net node 0 0 net.routes (IsFrom-whole net.routes)))
-    by_test false = routes-there net node table 0 net.routes (IsFrom-whole net.routes)
+        (routes-there net node table family 0 net.routes (IsFrom-whole net.routes)))
+    by_test false = routes-there net node table family 0 net.routes (IsFrom-whole net.routes)
 
 hit-there : (net : Network) (node : ℕ) (found : Option Entry) → IfEntry (EntryIsThere net node) found → IsThere net node (hit_of found)
 hit-there net node None there = tt
 hit-there net node (Some e) there = there
 
 -- what a look-up gives is there, and the node's
-pub lookup-there : (net : Network) (node table a : ℕ) → IsThere net node (lookup_of net node table a)
+pub lookup-there : (net : Network) (node table : ℕ) (family : Family) (a : ℕ) → IsThere net node (lookup_of net node table family a)
 unfolding lookup_of
-lookup-there net node table a =
-    hit-there net node (longest a (entries_of net node table))
-    (longest-one (EntryIsThere net node) a (entries_of net node table) (entries-there net node table))
+lookup-there net node table family a =
+    hit-there net node (longest a (entries_of net node table family))
+    (longest-one (EntryIsThere net node) a (entries_of net node table family) (entries-there net node table family))
 
 -- so its number is one of the network's
 numbered : (net : Network) (node : ℕ) (hit : Hit) → IsThere net node hit → IsNumbered net hit
@@ -122,6 +124,6 @@ numbered net node hits.Address there = tt
 numbered net node (hits.Route n) there = there.within
 numbered net node hits.Nothing there = tt
 
-pub lookup-numbered : (net : Network) (node table a : ℕ) (hit : Hit) → hit ≡ lookup_of net node table a → IsNumbered net hit
-lookup-numbered net node table a hit e =
-    subst (IsNumbered net) (sym e) (numbered net node (lookup_of net node table a) (lookup-there net node table a))
+pub lookup-numbered : (net : Network) (node table : ℕ) (family : Family) (a : ℕ) (hit : Hit) → hit ≡ lookup_of net node table family a → IsNumbered net hit
+lookup-numbered net node table family a hit e =
+    subst (IsNumbered net) (sym e) (numbered net node (lookup_of net node table family a) (lookup-there net node table family a))

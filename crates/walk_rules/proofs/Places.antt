@@ -70,7 +70,7 @@ on_from-how net node n s b keeps there stands is =
     rw there (
       stands,
       links-some net.links s.node (behaviour_takes_links s.behaviour) s.links
-          (ap behaviour_takes_links is ∙ takes) (keeps.sid n s there).links.links,
+          (ap behaviour_takes_links is ∙ takes) (keeps.sid n s there).behaviour.links,
     ))
 
 pub sid-how : (net : Network) (n : ℕ) (s : SidEntry) → Keeps net → slice_get net.sids n ≡ Some s → IsHow net s.node (on_from n s.behaviour)

@@ -2,6 +2,7 @@
 use Rattle.std.proofs.Common.{◌≡◌, ℕ, ◌<◌, Bool, true, false, if◌then◌else◌, List, [], length, Option, Some, None, slice_get, refl, sym, subst, ap, arith}
 use Rattle.std.specs.Prelude.{MatchBool}
 use Rattle.srv6_rules.specs.Behaviours.{behaviour_takes_links}
+use Rattle.srv6_rules.specs.declared.sid.Family.{Family}
 use Rattle.srv6_rules.specs.declared.sid.Reason.TheVariants as reasons
 use Rattle.srv6_rules.specs.declared.sid.SidEntry.{SidEntry}
 use Rattle.net_model.specs.declared.parts.Link.{Link}
@@ -13,7 +14,7 @@ use Rattle.net_model.specs.Keeps.{Keeps, IsLinkSet}
 use Rattle.walk_rules.specs.declared.place.How.{How}
 use Rattle.walk_rules.specs.declared.place.How.TheVariants.{Arrived, Submitted, Through}
 use Rattle.walk_rules.specs.declared.place.Place.{Place}
-use Rattle.walk_rules.specs.Way.{Way, Away, Over, Own, Into, is_multicast, route_links, sid_links, way_by_hit, way_by_table, way_by, way_of, StandsAt, IsRouteOf, IsThere, IsWayFrom}
+use Rattle.walk_rules.specs.Way.{Way, Away, Over, Own, Into, is_multicast_of, route_links, sid_links, way_by_hit, way_by_table, way_by, way_of, StandsAt, IsRouteOf, IsThere, IsWayFrom}
 use Rattle.walk_rules.specs.Relation.{IsThrough, IsHow}
 use Rattle.walk_rules.proofs.Lookups.{lookup-there}
 
@@ -31,27 +32,27 @@ hit-stands net node lower (hits.Route n) there = tt
 hit-stands net node lower hits.Nothing there = tt
 
 -- what holds of the way that a hit gives, and of no way to a multicast address, holds of a look-up's way
-by_table : (P : Way → Type 0) (net : Network) (node table : ℕ) (lower : Bool) (a : ℕ) → P (Away reasons.Multicast)
-    → P (way_by_hit net lower (lookup_of net node table a)) → P (way_by_table net node table lower a)
-by_table P net node table lower a away hit = by_test (is_multicast a)
+by_table : (P : Way → Type 0) (net : Network) (node table : ℕ) (family : Family) (lower : Bool) (a : ℕ) → P (Away reasons.Multicast)
+    → P (way_by_hit net lower (lookup_of net node table family a)) → P (way_by_table net node table family lower a)
+by_table P net node table family lower a away hit = by_test (is_multicast_of family a)
   where
-    by_test : (t : Bool) → P (if t then Away reasons.Multicast else way_by_hit net lower (lookup_of net node table a))
+    by_test : (t : Bool) → P (if t then Away reasons.Multicast else way_by_hit net lower (lookup_of net node table family a))
     by_test true = away
     by_test false = hit
 
-table-stands : (net : Network) (node table : ℕ) (lower : Bool) (a : ℕ) → IntoStands net node (way_by_table net node table lower a)
-table-stands net node table lower a =
-    by_table (IntoStands net node) net node table lower a tt
-    (hit-stands net node lower (lookup_of net node table a) (lookup-there net node table a))
+table-stands : (net : Network) (node table : ℕ) (family : Family) (lower : Bool) (a : ℕ) → IntoStands net node (way_by_table net node table family lower a)
+table-stands net node table family lower a =
+    by_table (IntoStands net node) net node table family lower a tt
+    (hit-stands net node lower (lookup_of net node table family a) (lookup-there net node table family a))
 
-how-stands : (net : Network) (node : ℕ) (how : How) (a : ℕ) → IntoStands net node (way_by net node how a)
-how-stands net node (Arrived table) a = table-stands net node table true a
-how-stands net node (Submitted table) a = table-stands net node table false a
-how-stands net node (Through sid lower) a = tt
+how-stands : (net : Network) (node : ℕ) (how : How) (family : Family) (a : ℕ) → IntoStands net node (way_by net node how family a)
+how-stands net node (Arrived table) family a = table-stands net node table family true a
+how-stands net node (Submitted table) family a = table-stands net node table family false a
+how-stands net node (Through sid lower) family a = tt
 
 pub way-stands : (net : Network) (place : Place) (a : ℕ) → IntoStands net place.node (way_of net place a)
 unfolding way_of
-way-stands net place a = how-stands net place.node place.how a
+way-stands net place a = how-stands net place.node place.how place.family a
 
 -- the links of a route that is there
 route-set : (net : Network) (node n : ℕ) → Keeps net → IsRouteOf net node n
@@ -68,11 +69,11 @@ hit-from net node lower keeps hits.Address there = tt
 hit-from net node lower keeps (hits.Route n) there = route-set net node n keeps there
 hit-from net node lower keeps hits.Nothing there = tt
 
-table-from : (net : Network) (node table : ℕ) (lower : Bool) (a : ℕ) → Keeps net
-    → IsWayFrom net node (way_by_table net node table lower a)
-table-from net node table lower a keeps =
-    by_table (IsWayFrom net node) net node table lower a tt
-    (hit-from net node lower keeps (lookup_of net node table a) (lookup-there net node table a))
+table-from : (net : Network) (node table : ℕ) (family : Family) (lower : Bool) (a : ℕ) → Keeps net
+    → IsWayFrom net node (way_by_table net node table family lower a)
+table-from net node table family lower a keeps =
+    by_table (IsWayFrom net node) net node table family lower a tt
+    (hit-from net node lower keeps (lookup_of net node table family a) (lookup-there net node table family a))
 
 -- a SID with links takes them
 suited-set : (links : List Link) (node : ℕ) (takes : Bool) (set : List ℕ) → 0 < length set
@@ -85,18 +86,18 @@ through-set : (net : Network) (node n : ℕ) → Keeps net → (o : Option SidEn
 through-set net node n keeps None e there = absurd there
 through-set net node n keeps (Some s) e there =
     let P : ℕ → Type 0 = λ m. IsLinkSet net.links m s.links in
-    subst P there.0 (suited-set net.links s.node (behaviour_takes_links s.behaviour) s.links there.1 (keeps.sid n s e).links.links)
+    subst P there.0 (suited-set net.links s.node (behaviour_takes_links s.behaviour) s.links there.1 (keeps.sid n s e).behaviour.links)
 
-how-from : (net : Network) (node : ℕ) (how : How) (a : ℕ) → Keeps net → IsHow net node how → IsWayFrom net node (way_by net node how a)
-how-from net node (Arrived table) a keeps is = table-from net node table true a keeps
-how-from net node (Submitted table) a keeps is = table-from net node table false a keeps
-how-from net node (Through sid lower) a keeps is = through-set net node sid keeps (slice_get net.sids sid) refl is
+how-from : (net : Network) (node : ℕ) (how : How) (family : Family) (a : ℕ) → Keeps net → IsHow net node how → IsWayFrom net node (way_by net node how family a)
+how-from net node (Arrived table) family a keeps is = table-from net node table family true a keeps
+how-from net node (Submitted table) family a keeps is = table-from net node table family false a keeps
+how-from net node (Through sid lower) family a keeps is = through-set net node sid keeps (slice_get net.sids sid) refl is
 
 -- from a place the links of a way are a set of the node's, and its SID stands at the node
 pub way-from : (net : Network) (place : Place) (a : ℕ) → Keeps net → IsHow net place.node place.how
     → IsWayFrom net place.node (way_of net place a)
 unfolding way_of
-way-from net place a keeps is = how-from net place.node place.how a keeps is
+way-from net place a keeps is = how-from net place.node place.how place.family a keeps is
 
 pub way-into : (net : Network) (place : Place) (a n : ℕ) → way_of net place a ≡ Into n → StandsAt net place.node n
 way-into net place a n e = subst (IntoStands net place.node) e (way-stands net place a)

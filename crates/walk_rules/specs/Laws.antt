@@ -1,7 +1,8 @@
 -- What the laws about stages and walks say, in words.
-use Rattle.std.specs.Prelude.{◌≡◌, ◌≢◌, ℕ, ◌+◌, ◌<◌, List, [], ◌∷◌, slice_get, Option, Some, None, is_some, Contains}
+use Rattle.std.specs.Prelude.{◌≡◌, ◌≢◌, ℕ, true, ◌+◌, ◌<◌, List, [], ◌∷◌, slice_get, Option, Some, None, is_some, Contains}
 use Rattle.srv6_rules.specs.declared.sid.Family.{Family}
 use Rattle.srv6_rules.specs.declared.sid.SidEntry.{SidEntry}
+use Rattle.srv6_rules.specs.Behaviours.{is_built}
 use Rattle.srv6_rules.specs.Packet.{Packet, Content, V6, Unreadable}
 use Rattle.srv6_rules.specs.Endpoint.{at_sid}
 use Rattle.net_model.specs.Network.{Network}
@@ -50,8 +51,8 @@ IsLoweredByOne (V6 p) (V6 q) = (1 < p.hop_limit) × (q.hop_limit + 1 ≡ p.hop_l
 IsLoweredByOne (V6 p) (Unreadable bytes reason) = ⊥
 IsLoweredByOne (Unreadable bytes reason) after = ⊥
 
--- SID n was executed on a packet: the way leads into it, it is there and stands at the node, the packet goes on from
--- it in its way, and what the stage gave is what the SID does
+-- SID n was executed on a packet: the way leads into it, it is there, stands at the node and is built, the packet goes on
+-- from it in its way, and what the stage gave is what the SID does
 pub record Executes (net : Network) (place : Place) (content : Content) (gave : Gave) (n : ℕ) (how : How) : Type 0 where
   pub packet : Packet
   pub is_packet : content ≡ V6 packet
@@ -59,6 +60,7 @@ pub record Executes (net : Network) (place : Place) (content : Content) (gave : 
   pub sid : SidEntry
   pub is_there : slice_get net.sids n ≡ Some sid
   pub stands : sid.node ≡ place.node
+  pub built : is_built sid ≡ true
   pub goes_on : how ≡ on_from n sid.behaviour
   pub gives : gave
       ≡ treated_at_sid net place.node n sid.behaviour packet (at_sid sid (allow_of (slice_get net.nodes place.node)) packet)

@@ -1,7 +1,7 @@
 -- One node's treatment of one packet, as a function of the place, the packet and the choice among equal next hops.
 use Rattle.std.specs.Prelude.{ℕ, ◌-◌, ◌%◌, Bool, true, false, not, ◌&&◌, nat_le, if◌then◌else◌, List, [], length, slice_index, slice_get, Option, Some, None, is_some}
 use Rattle.srv6_rules.specs.declared.sid.Behaviour.{Behaviour}
-use Rattle.srv6_rules.specs.Behaviours.{behaviour_goes_on, behaviour_takes_links, behaviour_table}
+use Rattle.srv6_rules.specs.Behaviours.{behaviour_goes_on, behaviour_takes_links, behaviour_table, is_built}
 use Rattle.srv6_rules.specs.declared.sid.Reason.{Reason}
 use Rattle.srv6_rules.specs.declared.sid.Reason.TheVariants as reasons
 use Rattle.srv6_rules.specs.declared.sid.SidEntry.{SidEntry}
@@ -82,10 +82,16 @@ treated_at_sid net node n b p (Exposed family bytes) = goes (outcomes.Hand n (on
 treated_at_sid net node n b p (Delivered q) = goes outcomes.Local (V6 q)
 treated_at_sid net node n b p (Refused reason at) = dropped net node reason at (V6 p)
 
+-- a SID that nodes do not run yet drops the packet before its headers are looked at (own rule)
+abbrev pub treated_by_entry : Network → ℕ → ℕ → SidEntry → Packet → Gave
+treated_by_entry net node n s p =
+    if is_built s then treated_at_sid net node n s.behaviour p (at_sid s (allow_of (slice_get net.nodes node)) p)
+    else dropped net node reasons.NotBuilt 0 (V6 p)
+
 -- a look-up gives no SID that is not there
 abbrev pub treated_in : Network → ℕ → ℕ → Option SidEntry → Packet → Gave
 treated_in net node n None p = dropped net node reasons.NoRoute 0 (V6 p)
-treated_in net node n (Some s) p = treated_at_sid net node n s.behaviour p (at_sid s (allow_of (slice_get net.nodes node)) p)
+treated_in net node n (Some s) p = treated_by_entry net node n s p
 
 abbrev pub treated : Network → ℕ → Way → Packet → ℕ → Gave
 treated net node (Away reason) p choice = dropped net node reason 0 (V6 p)

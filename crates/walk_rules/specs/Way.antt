@@ -1,6 +1,8 @@
 -- Where a packet goes from a place, by its destination alone.
 use Rattle.std.specs.Prelude.{◌≡◌, ℕ, ◌<◌, Bool, true, false, if◌then◌else◌, List, [], length, slice_get, Option, Some, None}
 pub use Rattle.v6_addr.specs.Kinds.{is_multicast}
+use Rattle.srv6_rules.specs.declared.sid.Family.{Family}
+use Rattle.srv6_rules.specs.declared.sid.Family.TheVariants as families
 use Rattle.srv6_rules.specs.declared.sid.Reason.{Reason}
 use Rattle.srv6_rules.specs.declared.sid.Reason.TheVariants as reasons
 use Rattle.srv6_rules.specs.declared.sid.SidEntry.{SidEntry}
@@ -39,18 +41,24 @@ way_by_hit net lower hits.Address = Own
 way_by_hit net lower (hits.Route n) = Over (route_links (slice_get net.routes n)) lower
 way_by_hit net lower hits.Nothing = Away reasons.NoRoute
 
--- the way by a look-up in a table
-abbrev pub way_by_table : Network → ℕ → ℕ → Bool → ℕ → Way
-way_by_table net node table lower destination =
-    if is_multicast destination then Away reasons.Multicast else way_by_hit net lower (lookup_of net node table destination)
+-- an IPv6 destination that is multicast (RFC 4291 section 2.7); those of IPv4 are not told apart (own rule)
+abbrev pub is_multicast_of : Family → ℕ → Bool
+is_multicast_of families.V6 destination = is_multicast destination
+is_multicast_of families.V4 destination = false
 
-abbrev pub way_by : Network → ℕ → How → ℕ → Way
-way_by net node (Arrived table) destination = way_by_table net node table true destination
-way_by net node (Submitted table) destination = way_by_table net node table false destination
-way_by net node (Through sid lower) destination = Over (sid_links (slice_get net.sids sid)) lower
+-- the way by a look-up in a table for packets of a family
+abbrev pub way_by_table : Network → ℕ → ℕ → Family → Bool → ℕ → Way
+way_by_table net node table family lower destination =
+    if is_multicast_of family destination then Away reasons.Multicast
+    else way_by_hit net lower (lookup_of net node table family destination)
+
+abbrev pub way_by : Network → ℕ → How → Family → ℕ → Way
+way_by net node (Arrived table) family destination = way_by_table net node table family true destination
+way_by net node (Submitted table) family destination = way_by_table net node table family false destination
+way_by net node (Through sid lower) family destination = Over (sid_links (slice_get net.sids sid)) lower
 
 unfoldable pub way_of : Network → Place → ℕ → Way
-way_of net place destination = way_by net place.node place.how destination
+way_of net place destination = way_by net place.node place.how place.family destination
 
 -- SID n is there, and stands at the node
 pub record StandsAt (net : Network) (node n : ℕ) : Type 0 where

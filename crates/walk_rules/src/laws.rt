@@ -5,7 +5,8 @@ ghost use Rattle.net_model.specs.Best.{lookup_of};
 ghost use Rattle.net_model.specs.Keeps.{Keeps, StartsAt};
 ghost use Rattle.net_model.specs.Network.{Network};
 ghost use Rattle.srv6_rules.specs.Packet.{Content, IsContent, Packet, V6, bytes_of, read_as};
-ghost use Rattle.srv6_rules.specs.declared.sid.Behaviour.TheVariants.{Dt6, End, EndX};
+ghost use Rattle.srv6_rules.specs.Behaviours.{is_built};
+ghost use Rattle.srv6_rules.specs.declared.sid.Behaviour.TheVariants.{B6, B6Red, Dt4, Dt46, Dt6, Dx4, Dx6, End, EndT, EndX};
 ghost use Rattle.srv6_rules.specs.declared.sid.Family.{Family};
 ghost use Rattle.srv6_rules.specs.declared.sid.Reason.{Reason};
 ghost use Rattle.srv6_rules.specs.declared.sid.SidEntry.{SidEntry};
@@ -23,8 +24,8 @@ ghost use Rattle.walk_rules.specs.declared.place.Place.{Place};
 /// What a look-up finds is there, and the node's; the SID that a way leads into stands at the node,
 /// and from a place of a network the links that it goes over are a set of the node's.
 pub fn a_way_leads_from_its_place()
-    ensures hit { (net : Network) (node table destination : ℕ) →
-        IsThere net node (lookup_of net node table destination) }
+    ensures hit { (net : Network) (node table : ℕ) (family : Family) (destination : ℕ) →
+        IsThere net node (lookup_of net node table family destination) }
     ensures into { (net : Network) (place : Place) (destination n : ℕ) →
         way_of net place destination ≡ Into n → StandsAt net place.node n }
     ensures way { (net : Network) (place : Place) (destination : ℕ) →
@@ -148,8 +149,8 @@ pub fn a_drop_tells_of_its_error()
         TellsOfError gave.outcome gave.error }
 {}
 
-/// Where a SID was executed, the outcome names it: the way leads into it, it stands at the node,
-/// and the packet goes on in its way.
+/// Where a SID was executed, the outcome names it: the way leads into it, it stands at the node and
+/// is built, and the packet goes on in its way.
 pub fn an_execution_names_its_sid()
     ensures again { (net : Network) (place : Place) (content : Content) (choice : ℕ) →
         (n : ℕ) (how : How) →
@@ -172,13 +173,30 @@ pub fn a_place_leads_to_a_place()
         slice_get net.sids n ≡ Some s → IsHow net s.node (on_from n s.behaviour) }
 {}
 
-/// How packets go on from SIDs: from End by table 0, from End.X over the SID's links without
-/// another lowering, and from End.DT6 the exposed packet by its table (RFC 8986 sections 4.1, 4.2
-/// and 4.6).
+/// A SID that nodes do not run yet drops each packet that its way leads into, whatever its headers
+/// are (own rule).
+pub fn sids_that_are_not_built_drop_the_packet()
+    ensures { (net : Network) (place : Place) (p : Packet) (choice n : ℕ) (s : SidEntry) →
+        way_of net place p.destination ≡ Into n → slice_get net.sids n ≡ Some s →
+        is_built s ≡ false →
+        step_of net place (V6 p) choice ≡ dropped net place.node Reason.NotBuilt 0 (V6 p) }
+{}
+
+/// How packets go on from SIDs: from End and binding SIDs by table 0, from End.T by its table, and
+/// from End.X over the SID's links without another lowering; the exposed packet from End.DX6 and
+/// End.DX4 over the SID's links with a lowering, and from End.DT6, End.DT4 and End.DT46 by the table
+/// (RFC 8986 sections 4.1 to 4.8, 4.13 and 4.14).
 pub fn ways_on_are_by_behaviour()
     ensures end { (n : ℕ) → on_from n End ≡ Submitted 0 }
     ensures end_x { (n : ℕ) → on_from n EndX ≡ Through n false }
+    ensures end_t { (n table : ℕ) → on_from n (EndT table) ≡ Submitted table }
+    ensures dx6 { (n : ℕ) → on_from n Dx6 ≡ Through n true }
+    ensures dx4 { (n : ℕ) → on_from n Dx4 ≡ Through n true }
     ensures dt6 { (n table : ℕ) → on_from n (Dt6 table) ≡ Arrived table }
+    ensures dt4 { (n table : ℕ) → on_from n (Dt4 table) ≡ Arrived table }
+    ensures dt46 { (n table : ℕ) → on_from n (Dt46 table) ≡ Arrived table }
+    ensures b6 { (n policy : ℕ) → on_from n (B6 policy) ≡ Submitted 0 }
+    ensures b6_red { (n policy : ℕ) → on_from n (B6Red policy) ≡ Submitted 0 }
 {}
 
 /// What bytes can spell stays so in a stage, and what reads as itself from its bytes, as a

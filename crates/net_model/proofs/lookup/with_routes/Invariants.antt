@@ -8,8 +8,8 @@ abbrev pub invariant-loop-rest : goal.invariant-loop-rest
 invariant-loop-rest l =
     record {
       place : l.n + length l.rest ≡ length l.routes;
-      answer : longer (seen l.found) (longest l.a.value (route_entries l.node l.table l.n l.rest)) ≡ longer (seen l.fn.best)
-          (longest l.a.value (route_entries l.node l.table 0 l.routes));
+      answer : longer (seen l.found) (longest l.a.value (route_entries l.node l.table l.family l.n l.rest)) ≡ longer (seen l.fn.best)
+          (longest l.a.value (route_entries l.node l.table l.family 0 l.routes));
     }
 
 abbrev pub decreases-loop-rest : goal.decreases-loop-rest

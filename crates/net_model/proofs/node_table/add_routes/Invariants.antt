@@ -8,8 +8,8 @@ abbrev pub invariant-loop-rest : goal.invariant-loop-rest
 invariant-loop-rest l =
     record {
       place : l.n + length l.rest ≡ length l.routes;
-      answer : map entry_of l.entries.items ++ route_entries l.node l.table l.n l.rest
-          ≡ map entry_of l.fn.entries.items ++ route_entries l.node l.table 0 l.routes;
+      answer : map entry_of l.entries.items ++ route_entries l.node l.table l.family l.n l.rest
+          ≡ map entry_of l.fn.entries.items ++ route_entries l.node l.table l.family 0 l.routes;
     }
 
 abbrev pub decreases-loop-rest : goal.decreases-loop-rest

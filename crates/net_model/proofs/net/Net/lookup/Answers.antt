@@ -8,6 +8,7 @@ returns-clause-best c =
     let net = c.args.self.now in
     let node = c.args.node in
     let table = c.args.table in
+    let family = c.args.family in
     let a = c.args.a.value in
-    subst (IsBest net node table a) (sym (c.lookup_in.ensures ∙ ap (λ n. lookup_of n node table a) c.self.view_is))
-    (lookup_is_best net node table a)
+    subst (IsBest net node table family a) (sym (c.lookup_in.ensures ∙ ap (λ n. lookup_of n node table family a) c.self.view_is))
+    (lookup_is_best net node table family a)

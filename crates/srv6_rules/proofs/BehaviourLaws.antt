@@ -1,0 +1,175 @@
+-- What each behaviour does, and which SIDs are built.
+use Rattle.std.proofs.Common.{◌≡◌, ℕ, Bool, true, false, ◌==◌, ◌&&◌, not, refl, ap, ◌⊎◌, ◌↔◌, inl, inr}
+use Rattle.std.proofs.lemmas.Bool.{eqb-true, or_cases}
+use Rattle.srv6_rules.specs.declared.sid.Behaviour.{Behaviour}
+use Rattle.srv6_rules.specs.declared.sid.Behaviour.TheVariants.{End, EndX, EndT, Dx6, Dx4, Dt6, Dt4, Dt46, B6, B6Red}
+use Rattle.srv6_rules.specs.declared.sid.Csid.{Csid}
+use Rattle.srv6_rules.specs.declared.sid.Csid.TheVariants as csids
+use Rattle.srv6_rules.specs.declared.sid.Family.TheVariants as families
+use Rattle.srv6_rules.specs.declared.sid.SidEntry.{SidEntry}
+use Rattle.srv6_rules.specs.Behaviours.{behaviour_goes_on, behaviour_exposes, behaviour_is_built, goes_on, exposes, is_plain, is_built, ipv6_inside, ipv4_inside, family_inside}
+
+-- ---- what goes on
+
+abbrev GoesOn : Behaviour → Type 0
+GoesOn b =
+    (b ≡ End) ⊎ ((b ≡ EndX) ⊎ (((table : ℕ) × (b ≡ EndT table)) ⊎ (((policy : ℕ) × (b ≡ B6 policy)) ⊎ ((policy : ℕ) × (b ≡ B6Red policy)))))
+
+goes_on-forth : (b : Behaviour) → behaviour_goes_on b ≡ true → GoesOn b
+goes_on-forth End e = inl refl
+goes_on-forth EndX e = inr (inl refl)
+goes_on-forth (EndT table) e = inr (inr (inl (table, refl)))
+goes_on-forth Dx6 e = cc
+goes_on-forth Dx4 e = cc
+goes_on-forth (Dt6 table) e = cc
+goes_on-forth (Dt4 table) e = cc
+goes_on-forth (Dt46 table) e = cc
+goes_on-forth (B6 policy) e = inr (inr (inr (inl (policy, refl))))
+goes_on-forth (B6Red policy) e = inr (inr (inr (inr (policy, refl))))
+
+goes_on-back : (b : Behaviour) → GoesOn b → behaviour_goes_on b ≡ true
+goes_on-back b (inl e) = ap behaviour_goes_on e
+goes_on-back b (inr (inl e)) = ap behaviour_goes_on e
+goes_on-back b (inr (inr (inl t))) = ap behaviour_goes_on t.1
+goes_on-back b (inr (inr (inr (inl t)))) = ap behaviour_goes_on t.1
+goes_on-back b (inr (inr (inr (inr t)))) = ap behaviour_goes_on t.1
+
+pub goes_on-is : (s : SidEntry) → (goes_on s ≡ true) ↔ GoesOn s.behaviour
+goes_on-is s = (λ e. goes_on-forth s.behaviour e, λ h. goes_on-back s.behaviour h)
+
+-- ---- what exposes
+
+abbrev ExposesIpv6 : Behaviour → Type 0
+ExposesIpv6 b = (b ≡ Dx6) ⊎ (((table : ℕ) × (b ≡ Dt6 table)) ⊎ ((table : ℕ) × (b ≡ Dt46 table)))
+
+ipv6-forth : (b : Behaviour) → behaviour_exposes b ipv6_inside ≡ true → ExposesIpv6 b
+ipv6-forth End e = cc
+ipv6-forth EndX e = cc
+ipv6-forth (EndT table) e = cc
+ipv6-forth Dx6 e = inl refl
+ipv6-forth Dx4 e = cc
+ipv6-forth (Dt6 table) e = inr (inl (table, refl))
+ipv6-forth (Dt4 table) e = cc
+ipv6-forth (Dt46 table) e = inr (inr (table, refl))
+ipv6-forth (B6 policy) e = cc
+ipv6-forth (B6Red policy) e = cc
+
+ipv6-back : (b : Behaviour) → ExposesIpv6 b → behaviour_exposes b ipv6_inside ≡ true
+ipv6-back b (inl e) = ap (λ x. behaviour_exposes x ipv6_inside) e
+ipv6-back b (inr (inl t)) = ap (λ x. behaviour_exposes x ipv6_inside) t.1
+ipv6-back b (inr (inr t)) = ap (λ x. behaviour_exposes x ipv6_inside) t.1
+
+pub exposes-ipv6 : (s : SidEntry) → (exposes s ipv6_inside ≡ true) ↔ ExposesIpv6 s.behaviour
+exposes-ipv6 s = (λ e. ipv6-forth s.behaviour e, λ h. ipv6-back s.behaviour h)
+
+abbrev ExposesIpv4 : Behaviour → Type 0
+ExposesIpv4 b = (b ≡ Dx4) ⊎ (((table : ℕ) × (b ≡ Dt4 table)) ⊎ ((table : ℕ) × (b ≡ Dt46 table)))
+
+ipv4-forth : (b : Behaviour) → behaviour_exposes b ipv4_inside ≡ true → ExposesIpv4 b
+ipv4-forth End e = cc
+ipv4-forth EndX e = cc
+ipv4-forth (EndT table) e = cc
+ipv4-forth Dx6 e = cc
+ipv4-forth Dx4 e = inl refl
+ipv4-forth (Dt6 table) e = cc
+ipv4-forth (Dt4 table) e = inr (inl (table, refl))
+ipv4-forth (Dt46 table) e = inr (inr (table, refl))
+ipv4-forth (B6 policy) e = cc
+ipv4-forth (B6Red policy) e = cc
+
+ipv4-back : (b : Behaviour) → ExposesIpv4 b → behaviour_exposes b ipv4_inside ≡ true
+ipv4-back b (inl e) = ap (λ x. behaviour_exposes x ipv4_inside) e
+ipv4-back b (inr (inl t)) = ap (λ x. behaviour_exposes x ipv4_inside) t.1
+ipv4-back b (inr (inr t)) = ap (λ x. behaviour_exposes x ipv4_inside) t.1
+
+pub exposes-ipv4 : (s : SidEntry) → (exposes s ipv4_inside ≡ true) ↔ ExposesIpv4 s.behaviour
+exposes-ipv4 s = (λ e. ipv4-forth s.behaviour e, λ h. ipv4-back s.behaviour h)
+
+kinds-by : (b : Behaviour) (kind : ℕ) → behaviour_exposes b kind ≡ true → (kind ≡ ipv6_inside) ⊎ (kind ≡ ipv4_inside)
+kinds-by End kind e = cc
+kinds-by EndX kind e = cc
+kinds-by (EndT table) kind e = cc
+kinds-by Dx6 kind e = inl (eqb-true kind ipv6_inside e)
+kinds-by Dx4 kind e = inr (eqb-true kind ipv4_inside e)
+kinds-by (Dt6 table) kind e = inl (eqb-true kind ipv6_inside e)
+kinds-by (Dt4 table) kind e = inr (eqb-true kind ipv4_inside e)
+kinds-by (Dt46 table) kind e = elim (or_cases (kind == ipv6_inside) (kind == ipv4_inside) e) [
+  | inl six ↦ inl (eqb-true kind ipv6_inside six)
+  | inr four ↦ inr (eqb-true kind ipv4_inside four)
+]
+kinds-by (B6 policy) kind e = cc
+kinds-by (B6Red policy) kind e = cc
+
+-- a packet inside is one of IPv6 or of IPv4
+pub exposes-kinds : (s : SidEntry) (kind : ℕ) → exposes s kind ≡ true → (kind ≡ ipv6_inside) ⊎ (kind ≡ ipv4_inside)
+exposes-kinds s kind e = kinds-by s.behaviour kind e
+
+-- and its kind names its family
+pub exposes-family : (s : SidEntry) (kind : ℕ) → exposes s kind ≡ true
+    → ((kind ≡ ipv6_inside) × (family_inside kind ≡ families.V6)) ⊎ ((kind ≡ ipv4_inside) × (family_inside kind ≡ families.V4))
+exposes-family s kind e = elim (exposes-kinds s kind e) [
+  | inl six ↦ inl (six, ap family_inside six)
+  | inr four ↦ inr (four, ap family_inside four)
+]
+
+goes_on-exposes_by : (b : Behaviour) (kind : ℕ) → behaviour_goes_on b ≡ true → behaviour_exposes b kind ≡ false
+goes_on-exposes_by End kind e = refl
+goes_on-exposes_by EndX kind e = refl
+goes_on-exposes_by (EndT table) kind e = refl
+goes_on-exposes_by Dx6 kind e = cc
+goes_on-exposes_by Dx4 kind e = cc
+goes_on-exposes_by (Dt6 table) kind e = cc
+goes_on-exposes_by (Dt4 table) kind e = cc
+goes_on-exposes_by (Dt46 table) kind e = cc
+goes_on-exposes_by (B6 policy) kind e = refl
+goes_on-exposes_by (B6Red policy) kind e = refl
+
+-- a SID that goes on exposes nothing
+pub goes_on-exposes : (s : SidEntry) (kind : ℕ) → goes_on s ≡ true → exposes s kind ≡ false
+goes_on-exposes s kind e = goes_on-exposes_by s.behaviour kind e
+
+-- ---- what is built
+
+abbrev IsBuilt : Behaviour → Type 0
+IsBuilt b = (b ≡ End) ⊎ ((b ≡ EndX) ⊎ ((table : ℕ) × (b ≡ Dt6 table)))
+
+built-forth : (b : Behaviour) → behaviour_is_built b ≡ true → IsBuilt b
+built-forth End e = inl refl
+built-forth EndX e = inr (inl refl)
+built-forth (EndT table) e = cc
+built-forth Dx6 e = cc
+built-forth Dx4 e = cc
+built-forth (Dt6 table) e = inr (inr (table, refl))
+built-forth (Dt4 table) e = cc
+built-forth (Dt46 table) e = cc
+built-forth (B6 policy) e = cc
+built-forth (B6Red policy) e = cc
+
+built-back : (b : Behaviour) → IsBuilt b → behaviour_is_built b ≡ true
+built-back b (inl e) = ap behaviour_is_built e
+built-back b (inr (inl e)) = ap behaviour_is_built e
+built-back b (inr (inr t)) = ap behaviour_is_built t.1
+
+parts-forth : (c : Csid) (psp usp usd built : Bool) → (is_plain c && (not psp && (not usp && (not usd && built)))) ≡ true
+    → (c ≡ csids.Plain) × ((psp ≡ false) × ((usp ≡ false) × ((usd ≡ false) × (built ≡ true))))
+parts-forth csids.Plain false false false true e = (refl, (refl, (refl, (refl, refl))))
+parts-forth csids.Plain false false false false e = cc
+parts-forth csids.Plain false false true built e = cc
+parts-forth csids.Plain false true usd built e = cc
+parts-forth csids.Plain true usp usd built e = cc
+parts-forth csids.Next psp usp usd built e = cc
+parts-forth csids.Replace psp usp usd built e = cc
+
+parts-back : (c : Csid) (psp usp usd built : Bool)
+    → (c ≡ csids.Plain) × ((psp ≡ false) × ((usp ≡ false) × ((usd ≡ false) × (built ≡ true))))
+    → (is_plain c && (not psp && (not usp && (not usd && built)))) ≡ true
+parts-back c psp usp usd built h = rw (h.0, h.1.0, h.1.1.0, h.1.1.1.0, h.1.1.1.1) refl
+
+pub built-is : (s : SidEntry) → (is_built s ≡ true) ↔ ((s.csid ≡ csids.Plain) × ((s.psp ≡ false) × ((s.usp ≡ false) × ((s.usd ≡ false)
+    × IsBuilt s.behaviour))))
+built-is s = (
+  λ e. let h = parts-forth s.csid s.psp s.usp s.usd (behaviour_is_built s.behaviour) e in
+      (h.0, (h.1.0, (h.1.1.0, (h.1.1.1.0, built-forth s.behaviour h.1.1.1.1)))),
+  λ h. parts-back s.csid s.psp s.usp s.usd (behaviour_is_built s.behaviour)
+      (h.0, (h.1.0, (h.1.1.0, (h.1.1.1.0, built-back s.behaviour h.1.1.1.1)))),
+)
