@@ -4,8 +4,9 @@ use Rattle.std.specs.Str.{bytes_eq}
 use Rattle.std.specs.Borrow.{Bor}
 use Rattle.std.specs.List.{position_or_len, position_from}
 use Rattle.std.specs.Map.{lookup}
+use Rattle.std.proofs.lemmas.Bool.{ltb-false}
 use Rattle.std.proofs.lemmas.Iterator.Adapters.{position_from-zero}
-use Rattle.std.proofs.lemmas.List.{map_more, length-map, length-take-le}
+use Rattle.std.proofs.lemmas.List.{map-append, map_more, length-map, length-take-le}
 use Rattle.std.proofs.lemmas.List.Sums.{prefix_len-le-length}
 use Rattle.std.proofs.lemmas.Slice.Eq.{bytes_eq-Decides}
 use Rattle.indexmap.specs.IndexMap.{IndexMap, get_by, insert_entry}
@@ -37,7 +38,7 @@ position_from-pushed test n [] x = let same : n + 0 ≡ n = omega arith in ap (�
 position_from-pushed test n (y ∷ ys) x =
     let same : n + 1 + length ys ≡ n + suc (length ys) = omega arith in
     let more : position_from test (n + 1) (ys ++ x ∷ [])
-        ≡ first_some (position_from test (n + 1) ys) (cond (test x) (Some (n + suc (length ys))) None) =
+    ≡ first_some (position_from test (n + 1) ys) (cond (test x) (Some (n + suc (length ys))) None) =
     position_from-pushed test (n + 1) ys x
     ∙ ap (λ m. first_some (position_from test (n + 1) ys) (cond (test x) (Some m) None)) same in
     ap (cond (test y) (Some n)) more
@@ -46,7 +47,9 @@ position_from-pushed test n (y ∷ ys) x =
 position-pushed : (test : List ℕ → Bool) (names : List (List ℕ)) (x : List ℕ)
     → position test (names ++ x ∷ []) ≡ first_some (position test names) (cond (test x) (Some (length names)) None)
 position-pushed test names x =
+    let same : 0 + length names ≡ length names = omega arith in
     position_from-zero test (names ++ x ∷ []) ∙ position_from-pushed test 0 names x
+    ∙ ap (λ n. first_some (position_from test 0 names) (cond (test x) (Some n) None)) same
     ∙ ap (λ o. first_some o (cond (test x) (Some (length names)) None)) (sym (position_from-zero test names))
 
 -- a name that is there already leaves the numbers as they are
@@ -90,7 +93,27 @@ names_more name items i x within is =
 
 pub names_so_far : {X : Type 0} (name : X → List ℕ) (items : List X) (i : ℕ) → i ≤ length items
     → length (map name (take i items)) ≡ i
-names_so_far name items i within = length-map name (take i items) ∙ length-take-le i items within
+names_so_far name items i within = length-map (take i items) name ∙ length-take-le i items within
+
+-- a turn at a name that is there already
+pub known_turn : {S : Type 0} (numbers : IndexMap (Bor (List ℕ)) ℕ S) (names : List (Bor (List ℕ))) (i : ℕ) (d : Bor (List ℕ))
+    → i < length names → HasNumbers numbers (map (λ s. s.now) (take i names))
+    → is_some (get_by (λ k. bytes_eq (get_or names i d).now k.now) numbers) ≡ true
+    → HasNumbers numbers (map (λ s. s.now) (take (i + 1) names))
+known_turn numbers names i d within has there =
+    subst (HasNumbers numbers) (sym (map_more (λ (s : Bor (List ℕ)). s.now) names i d within))
+    (numbers-known numbers (map (λ s. s.now) (take i names)) (get_or names i d).now has there)
+
+-- a turn at a new name
+pub new_turn : {S : Type 0} (old new : IndexMap (Bor (List ℕ)) ℕ S) (names : List (Bor (List ℕ))) (i : ℕ) (d : Bor (List ℕ))
+    → i < length names → HasNumbers old (map (λ s. s.now) (take i names))
+    → is_some (get_by (λ other. bytes_eq (get_or names i d).now other.now) old) ≡ false
+    → new.entries ≡ insert_entry (λ a b. bytes_eq a.now b.now) old.entries (get_or names i d) i
+    → HasNumbers new (map (λ s. s.now) (take (i + 1) names))
+new_turn old new names i d within has absent entries =
+    subst (HasNumbers new) (sym (map_more (λ (s : Bor (List ℕ)). s.now) names i d within))
+    (numbers-new old new (map (λ s. s.now) (take i names)) (get_or names i d) i has
+    (sym (names_so_far (λ (s : Bor (List ℕ)). s.now) names i (omega (arith, within)))) absent entries)
 
 -- looking up
 
@@ -106,7 +129,7 @@ number-found numbers names name n has is =
 
 past : (place count : ℕ) (b : Bool) → ltb place count ≡ b → place ≤ count → cond b (Some place) None ≡ None → count ≡ place
 past place count true e within none = cc
-past place count false e within none = omega (arith, e)
+past place count false e within none = let above : count ≤ place = ltb-false place count e in omega arith
 
 pub number-absent : {S : Type 0} (numbers : IndexMap (Bor (List ℕ)) ℕ S) (names : List (List ℕ)) (name : List ℕ) (count : ℕ)
     → HasNumbers numbers names → length names ≡ count → None ≡ get_by (λ k. bytes_eq name k.now) numbers → count ≡ number_of names name
@@ -114,6 +137,15 @@ number-absent numbers names name count has is none =
     sym is ∙ past (position_or_len (bytes_eq name) names) (length names) (ltb (position_or_len (bytes_eq name) names) (length names)) refl
     (prefix_len-le-length _ names) (sym (none ∙ has name))
 
-pub ruleset numbering = (numbers-known, numbers-new, names_more, names_so_far)
+-- one more of what is read from a list
+pub kept_names : {X : Type 0} (name : X → List ℕ) (items : List X) (i : ℕ) (x : X) (names : List (Bor (List ℕ))) (s : Bor (List ℕ))
+    → map (λ t. t.now) names ≡ map name (take i items) → i < length items → x ≡ get_or items i x → s.now ≡ name x
+    → map (λ t. t.now) (names ++ s ∷ []) ≡ map name (take (i + 1) items)
+kept_names name items i x names s so_far within is same =
+    map-append (λ (t : Bor (List ℕ)). t.now) names (s ∷ [])
+    ∙ ap (λ front. front ++ s.now ∷ []) so_far ∙ ap (λ last. map name (take i items) ++ last ∷ []) same
+    ∙ sym (names_more name items i x within is)
+
+pub ruleset naming = (kept_names)
 
 pub ruleset looking = (number-found, number-absent)

@@ -7,6 +7,7 @@ use indexmap::IndexMap;
 use net_model::Name;
 use net_words::{DescribedLink, DescribedNode, DescribedPolicy};
 use std::alloc::{AllocError, Global};
+use std::marker::Model;
 
 /// What has a name.
 pub trait Named {
@@ -42,33 +43,82 @@ impl Named for DescribedPolicy {
     }
 }
 
-/// The number of each name that is there.
-pub type Numbers<'a> = IndexMap<&'a str, u32>;
+/// The names of items, in their order.
+#[tactic(auto, using(crate::proofs::NumberLemmas::naming))]
+fn names_of<'a, X: Named>(alloc: Global, items: &'a [X]) -> Result<Vec<&'a str>, AllocError>
+    ensures { IfOk result (λ names. map (λ s. s.now) names.items ≡ map X.name items.now) }
+{
+    let mut names = Vec::new(alloc);
+    for item in items {
+        names.push(item.name().as_str())?;
+    }
+    Ok(names)
+}
 
-/// The numbers of the names of items, in their order from 0; of a name that stands twice the first.
-#[tactic(auto, using(crate::proofs::NumberLemmas::numbering))]
-pub fn numbers_of<'a, X: Named>(alloc: Global, items: &'a [X]) -> Result<Numbers<'a>, AllocError>
-    requires { length items.now < 2 ^ 32 }
-    ensures { IfOk result (λ numbers. HasNumbers numbers (map X.name items.now)) }
+/// The numbers of names, in their order from 0; of one that stands twice the first.
+fn numbers_of<'a>(alloc: Global, names: &[&'a str]) -> Result<IndexMap<&'a str, u32>, AllocError>
+    requires { length names.now < 2 ^ 32 }
+    ensures { IfOk result (λ numbers. HasNumbers numbers (map (λ s. s.now) names.now)) }
 {
     let mut numbers = IndexMap::new(alloc);
-    for (i, item) in items.iter().enumerate() {
-        let name = item.name().as_str();
-        if !numbers.contains_key(name) {
-            numbers.insert(name, i as u32)?;
+    for (i, name) in names.iter().enumerate() {
+        if !numbers.contains_key(*name) {
+            numbers.insert(*name, i as u32)?;
         }
     }
     Ok(numbers)
 }
 
-/// The number of a name; the count of the names where it is none of them.
+/// The number that a map has for a name, and the count where it has none.
 #[tactic(auto, using(crate::proofs::NumberLemmas::looking))]
-pub fn number_of(numbers: &Numbers<'_>, count: u32, name: &Name) -> u32
+fn number_in(numbers: &IndexMap<&str, u32>, count: u32, name: &str) -> u32
     ensures { (names : List (List ℕ)) → HasNumbers numbers.now names → length names ≡ count
         → result ≡ number_of names name.now }
 {
-    match numbers.get(name.as_str()) {
+    match numbers.get(name) {
         Some(number) => *number,
         None => count,
+    }
+}
+
+/// The names of the items of a kind. Contracts see them as a list, in the order of the items.
+#[derive(Debug, Drop)]
+pub struct Numbering<'a> {
+    names: Vec<&'a str>,
+    numbers: IndexMap<&'a str, u32>,
+}
+
+impl<'a> Model for Numbering<'a> {
+    ghost use Rattle.std.specs.Prelude.{List, ℕ, ◌<◌, ◌^◌, map, length};
+    ghost use Rattle.net_joining.specs.Numbering.{HasNumbers};
+
+    ghost Value = { List (List ℕ) };
+
+    ghost view = { λ n. map (λ s. s.now) n.names.items };
+
+    ghost invariant = { λ n. (length n.names.items < 2 ^ 32)
+        × HasNumbers n.numbers (map (λ s. s.now) n.names.items) };
+}
+
+impl<'a> Numbering<'a> {
+    ghost use Rattle.std.specs.Prelude.{◌≡◌, ◌<◌, ◌^◌, IfOk, map, length};
+    ghost use Rattle.net_joining.specs.Numbering.{number_of};
+
+    /// The names of items.
+    pub fn of<X: Named>(alloc: Global, items: &'a [X]) -> Result<Numbering<'a>, AllocError>
+        requires { length items.now < 2 ^ 32 }
+        ensures { IfOk result (λ names. names ≡ map X.name items.now) }
+    {
+        let names = names_of::<X>(alloc, items)?;
+        let numbers = numbers_of(alloc, names.as_slice())?;
+        Ok(Numbering { names, numbers })
+    }
+
+    /// The number of a name: the place of the first item that has it, and the count of the items
+    /// where none has it.
+    pub fn number(&self, name: &Name) -> u32
+        ensures { result ≡ number_of self.now name.now }
+    {
+        number_in(&self.numbers, self.names.len() as u32, name.as_str())
     }
 }

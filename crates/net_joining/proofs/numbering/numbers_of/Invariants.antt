@@ -3,4 +3,4 @@ use Rattle.net_joining.specs.Numbering.{HasNumbers}
 use Rattle.net_joining.proofs.numbering.numbers_of.Given as goal
 
 abbrev pub invariant-loop-i : goal.invariant-loop-i
-invariant-loop-i g l = HasNumbers l.numbers (map g.X.Named.name (take l.i l.items))
+invariant-loop-i l = HasNumbers l.numbers (map (λ s. s.now) (take l.i l.names))
