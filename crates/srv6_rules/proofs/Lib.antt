@@ -13,4 +13,6 @@ pub mod Checksums
 pub mod ErrorLaws
 pub mod Containers
 pub mod PackedEntries
+pub mod SteppedPackets
+pub mod SteppedEntries
 pub mod PublicLaws

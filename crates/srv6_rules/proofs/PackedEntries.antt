@@ -22,7 +22,7 @@ pub count_most : (count : ℕ) → (count ≡ 8) ⊎ (count ≡ 4) → count ≤
 count_most count (inl e) = omega arith
 count_most count (inr e) = omega arith
 
-count_some : (csid_len : ℕ) → IsCsidLen csid_len → 0 < csid_count csid_len
+pub count_some : (csid_len : ℕ) → IsCsidLen csid_len → 0 < csid_count csid_len
 count_some csid_len (inl e) = let is : csid_count csid_len ≡ 8 = ap (λ n. 128 / n) e in omega arith
 count_some csid_len (inr e) = let is : csid_count csid_len ≡ 4 = ap (λ n. 128 / n) e in omega arith
 

@@ -14,3 +14,5 @@ pub use Rattle.srv6_rules.proofs.Checksums.{ones_sum-carried, word_sum-append, c
 pub use Rattle.srv6_rules.proofs.ErrorLaws.{upper_layer_sum-carried, error_checksum-parts, error-start, error-goes_on, error-behind, error-none, error-is_error, error-once, error-most, error-length, quote-short, kind_of-fits, error-spellable, error-verifies}
 pub use Rattle.srv6_rules.proofs.Containers.{container-shift, container-rest, argument-container, argument-zero, container-holds, container-address, container-one}
 pub use Rattle.srv6_rules.proofs.PackedEntries.{entry-csid, entry-past, entry-address, next-sid, index-back, index-holds, index-written}
+pub use Rattle.srv6_rules.proofs.SteppedPackets.{shifted-spellable, step-spellable, step-hop_limit, StepMoves, step-moves}
+pub use Rattle.srv6_rules.proofs.SteppedEntries.{entry-next, entry-last, entry-first, entry-ended}
