@@ -138,9 +138,9 @@ replace_step c p at srh =
     (if has_bad_list c srh p.destination then Dropped (segments_fault at)
     else unless_dropped (tlvs_fault at srh) (let m = move_of c srh p.destination in Moved (moved p at m) m.ended))
 
--- a SID that decapsulates refuses a segment routing header that is not at its end, or whose end can't be judged (RFC 8986 section 4.6)
-abbrev pub refuses_to_end : Compression → Srh → ℕ → Bool
-refuses_to_end c srh destination = lacks_entry c srh destination || not (is_ended c srh srh.segments_left destination)
+-- the header is at its end, which can be judged: else a SID that decapsulates refuses it (RFC 8986 section 4.6)
+abbrev pub is_at_end : Compression → Srh → ℕ → Bool
+is_at_end c srh destination = not (lacks_entry c srh destination) && is_ended c srh srh.segments_left destination
 
 -- ---- entries of CSIDs
 
