@@ -5,7 +5,7 @@ use Rattle.std.proofs.lemmas.List.Elements.{All-nil, All-cons, All-head, All-tai
 use Rattle.v6_addr.specs.Address.{PrefixValue}
 use Rattle.srv6_rules.specs.declared.compression.Compression.{Compression}
 use Rattle.srv6_rules.specs.Srh.{Srh, entry_of}
-use Rattle.srv6_rules.specs.Compressed.{IsCsidLen, IsReplaceSid, csid_of, csid_count, csid_at, packed_entry, replace_of}
+use Rattle.srv6_rules.specs.Compressed.{IsCsidLen, IsReplaceSid, csid_of, csid_count, csid_at, replace_of}
 use Rattle.srv6_rules.specs.CompressedSteps.{Move, IsEntryOf, csid_len_of, index_behind, index_in, listed_csid, is_ended, to_csid, to_entry, move_of}
 use Rattle.srv6_rules.proofs.Containers.{csid_below}
 use Rattle.srv6_rules.proofs.PackedEntries.{count_some, entry-csid, next-sid, index-back}

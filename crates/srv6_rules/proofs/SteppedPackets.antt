@@ -1,5 +1,5 @@
 -- Packets after the steps of compressed SIDs.
-use Rattle.std.proofs.Common.{◌≡◌, ◌⊎◌, inl, inr, ℕ, ◌+◌, ◌-◌, ◌*◌, ◌/◌, ◌%◌, ◌^◌, ◌<◌, ◌≤◌, Bool, true, false, cond, ◌==◌, nat_le, List, length, drop, slice_set, All, Option, Some, None, refl, sym, ◌∙◌, ap, subst, arith}
+use Rattle.std.proofs.Common.{◌≡◌, ◌⊎◌, inl, inr, ℕ, ◌+◌, ◌-◌, ◌*◌, ◌/◌, ◌%◌, ◌^◌, ◌<◌, ◌≤◌, Bool, true, false, cond, ◌==◌, nat_le, drop, All, Option, Some, None, refl, sym, ◌∙◌, ap, subst, arith}
 use Rattle.std.proofs.lemmas.Bool.{leb-false}
 use Rattle.std.proofs.lemmas.Nat.{shr_below, shl_below, mul-add-lt, mod_below, pow_pos, pow-add}
 use Rattle.std.proofs.lemmas.List.{length-set}
@@ -11,7 +11,7 @@ use Rattle.srv6_rules.specs.Packet.{Packet, IsSpellable, header_len}
 use Rattle.srv6_rules.specs.Srh.{Srh, entry_of, segments_left_at}
 use Rattle.srv6_rules.specs.Areas.{Fault, tlvs_fault}
 use Rattle.srv6_rules.specs.Compressed.{argument_of, shift_of, csid_count, index_of, csid_at, with_index, replace_of}
-use Rattle.srv6_rules.specs.CompressedSteps.{IsNext, IsReplace, Move, ReplaceStep, Moved, AtEnd, Dropped, csid_len_of, hop_limit_fault, shifted, index_in, listed_csid, is_ended, lacks_entry, has_bad_list, to_csid, to_entry, move_of, moved, unless_dropped, segments_fault, replace_step}
+use Rattle.srv6_rules.specs.CompressedSteps.{IsNext, IsReplace, Move, Moved, AtEnd, Dropped, csid_len_of, shifted, index_in, listed_csid, is_ended, lacks_entry, has_bad_list, to_csid, to_entry, move_of, moved, unless_dropped, segments_fault, replace_step}
 use Rattle.srv6_rules.proofs.Bytes.{address_number-below}
 use Rattle.srv6_rules.proofs.PackedEntries.{count_is, count_some}
 
