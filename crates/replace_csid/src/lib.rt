@@ -12,4 +12,4 @@ mod step;
 #[cfg(test)]
 mod tests;
 
-pub use step::{ReplaceOutcome, replace};
+pub use step::{ReplaceOutcome, is_at_end, replace};

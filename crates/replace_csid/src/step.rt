@@ -2,12 +2,14 @@
 
 ghost use Rattle.std.specs.Prelude.{◌≡◌, ◌+◌, ◌<◌, ◌≤◌, true, length};
 ghost use Rattle.srv6_rules.specs.Packet.{V6, content_of, header_len, packet_at};
+ghost use Rattle.srv6_rules.specs.Srh.{srh_of};
 ghost use Rattle.srv6_rules.specs.Chain.{from_place, is_whole, routing};
-ghost use Rattle.srv6_rules.specs.CompressedSteps.{IsReplace, moved};
+ghost use Rattle.srv6_rules.specs.CompressedSteps.{IsReplace, is_at_end, moved};
 ghost use Rattle.ip6_headers.specs.Reading.{HoldsPacket};
 ghost use Rattle.replace_csid.specs.Judging.{IsJudged, step_view};
 ghost use Rattle.replace_csid.specs.Replacing.{IsReplaced, step_at, with_move};
 
+use crate::csids::{is_ended, lacks_entry};
 use crate::judge::{Judged, Step, judge};
 use ip6_headers::{Ip6Edit, Ip6View};
 use srh_codec::SrhView;
@@ -34,6 +36,19 @@ pub enum ReplaceOutcome {
     },
 }
 
+/// The whole segment routing header at a place of a packet.
+fn header_at<'a>(packet: &Ip6View<'a>, at: usize) -> SrhView<'a>
+    requires behind { header_len ≤ at }
+    requires whole { is_whole routing (from_place packet.now at) ≡ true }
+    ensures { result ≡ srh_of (from_place packet.now at) }
+{
+    let header = packet.payload().split_at(at - IPV6_HEADER_LEN).1;
+    let Ok(srh) = SrhView::read(header) else {
+        unreachable!();
+    };
+    srh
+}
+
 /// Judges the packet's segment routing header at a place.
 fn judge_bytes(compression: Compression, at: usize, bytes: &[u8]) -> Judged
     requires packet { HoldsPacket bytes.now }
@@ -43,11 +58,30 @@ fn judge_bytes(compression: Compression, at: usize, bytes: &[u8]) -> Judged
     ensures { IsJudged (packet_at bytes.now) at (step_at compression bytes.now at) result }
 {
     let packet = Ip6View::over(bytes);
-    let header = packet.payload().split_at(at - IPV6_HEADER_LEN).1;
-    let Ok(srh) = SrhView::read(header) else {
-        unreachable!();
-    };
+    let srh = header_at(&packet, at);
     judge(compression, &packet, at, &srh)
+}
+
+/// Whether the whole segment routing header that stands at a place of a packet, in bytes from its
+/// first, is at its end for a SID with REPLACE-CSID: Segments Left is 0, and the destination's
+/// index is 0, or the entry at 0 is there and its CSID at the index below is 0. A SID that
+/// decapsulates refuses the header where it is not (RFC 8986 section 4.6, RFC 9800 section 4.2).
+pub fn is_at_end(compression: Compression, at: usize, bytes: &[u8]) -> bool
+    requires packet { HoldsPacket bytes.now }
+    requires replace { IsReplace compression }
+    requires behind { header_len ≤ at }
+    requires whole { is_whole routing (from_place (packet_at bytes.now) at) ≡ true }
+    ensures { result
+        ≡ is_at_end compression (srh_of (from_place (packet_at bytes.now) at))
+        (packet_at bytes.now).destination }
+{
+    let packet = Ip6View::over(bytes);
+    let srh = header_at(&packet, at);
+    let destination = packet.destination();
+    if lacks_entry(compression, &srh, destination) {
+        return false;
+    }
+    is_ended(compression, &srh, srh.segments_left(), destination)
 }
 
 /// Writes a step: Segments Left of the header at a place, the hop limit and the destination.

@@ -17,4 +17,6 @@ pub mod ErrorLaws
 pub mod Containers
 pub mod PackedEntries
 pub mod PolicyLaws
+pub mod SteppedPackets
+pub mod SteppedEntries
 pub mod PublicLaws

@@ -1,11 +1,11 @@
 -- Entries that hold CSIDs, and destinations under REPLACE-CSID.
 use Rattle.std.proofs.Common.{◌≡◌, ◌≢◌, ◌⊎◌, inl, inr, ℕ, zero, suc, ◌+◌, ◌-◌, ◌*◌, ◌/◌, ◌%◌, ◌^◌, ◌<◌, ◌≤◌, ◌↔◌, List, [], ◌∷◌, length, get_or, All, refl, sym, ◌∙◌, ap, subst, arith, lit<}
 use Rattle.std.proofs.lemmas.Nat.{shr-shr, shr_high, shr_le, mod_low, mul-add-lt, pow_pos, pow-add}
-use Rattle.std.proofs.lemmas.List.Elements.{All-head, All-tail, All-get_or}
+use Rattle.std.proofs.lemmas.List.Elements.{All-head, All-tail}
 use Rattle.std.proofs.Math.Nat.{div-one, zero-mod, mul-le-mul_right, pow-le-pow_right}
 use Rattle.v6_addr.specs.Address.{PrefixValue, Holds, field_of, with_field_of}
 use Rattle.v6_addr.proofs.PublicLaws.{same_below}
-use Rattle.srv6_rules.specs.Compressed.{IsSidOf, IsCsidLen, IsReplaceSid, csid_of, csid_count, csid_at, index_of, with_index, replace_of, downward, packed_entry}
+use Rattle.srv6_rules.specs.Compressed.{IsCsidLen, IsReplaceSid, csid_of, csid_count, csid_at, index_of, with_index, replace_of, downward, packed_entry}
 use Rattle.srv6_rules.proofs.Containers.{sid_parts, csid_below, high_is}
 
 -- ---- how many CSIDs there are
@@ -22,7 +22,7 @@ pub count_most : (count : ℕ) → (count ≡ 8) ⊎ (count ≡ 4) → count ≤
 count_most count (inl e) = omega arith
 count_most count (inr e) = omega arith
 
-count_some : (csid_len : ℕ) → IsCsidLen csid_len → 0 < csid_count csid_len
+pub count_some : (csid_len : ℕ) → IsCsidLen csid_len → 0 < csid_count csid_len
 count_some csid_len (inl e) = let is : csid_count csid_len ≡ 8 = ap (λ n. 128 / n) e in omega arith
 count_some csid_len (inr e) = let is : csid_count csid_len ≡ 4 = ap (λ n. 128 / n) e in omega arith
 

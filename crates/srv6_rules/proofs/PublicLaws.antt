@@ -18,3 +18,5 @@ pub use Rattle.srv6_rules.proofs.ErrorLaws.{upper_layer_sum-carried, error_check
 pub use Rattle.srv6_rules.proofs.Containers.{container-shift, container-rest, argument-container, argument-zero, container-holds, container-address, container-one}
 pub use Rattle.srv6_rules.proofs.PackedEntries.{entry-csid, entry-past, entry-address, next-sid, index-back, index-holds, index-written}
 pub use Rattle.srv6_rules.proofs.PolicyLaws.{round-front, round-payload, round-length, round-inner, round-next_header, round-spellable, round-edit, made-fits, made-big, headend-low, headend-high}
+pub use Rattle.srv6_rules.proofs.SteppedPackets.{shifted-spellable, step-spellable, step-hop_limit, StepMoves, step-moves}
+pub use Rattle.srv6_rules.proofs.SteppedEntries.{entry-next, entry-last, entry-first, entry-ended}

@@ -1,7 +1,7 @@
 -- The numbers under compressed SIDs (RFC 9800 sections 4.1 and 4.2). A SID is a prefix. Its block is the front that it shares with the
 -- other SIDs of the block, and its CSID is what stands behind the block, up to the SID's end. Lengths and places count bits, and an
 -- address has 128.
-use Rattle.std.specs.Prelude.{◌≡◌, ◌≢◌, ◌⊎◌, ℕ, ◌+◌, ◌-◌, ◌*◌, ◌/◌, ◌%◌, ◌^◌, ◌<◌, ◌≤◌, List, [], ◌∷◌}
+use Rattle.std.specs.Prelude.{◌≡◌, ◌≢◌, ◌⊎◌, ℕ, ◌+◌, ◌-◌, ◌*◌, ◌/◌, ◌%◌, ◌^◌, ◌≤◌, List, [], ◌∷◌}
 use Rattle.v6_addr.specs.Address.{PrefixValue, IsPrefix, IsInside, field_of, with_field_of}
 
 -- the CSID of a SID, of a block of so many bits (RFC 9800 section 3)

@@ -1,6 +1,7 @@
 -- The steps of compressed SIDs over packets (RFC 9800 sections 4.1 and 4.2): NEXT-CSID shifts the destination, and REPLACE-CSID takes the
 -- next CSID, or the next entry, of the segment list.
-use Rattle.std.specs.Prelude.{◌≡◌, ℕ, ◌+◌, ◌-◌, ◌<◌, ◌≤◌, Bool, true, false, ◌==◌, ◌&&◌, ◌||◌, not, nat_lt, nat_le, if◌then◌else◌, List, ◌++◌, take, drop, slice_set, Option, Some, None}
+use Rattle.std.specs.Prelude.{◌≡◌, ℕ, ◌+◌, ◌-◌, ◌<◌, ◌≤◌, Bool, true, false, ◌==◌, ◌&&◌, ◌||◌, not, nat_lt, nat_le, if◌then◌else◌, List, ◌++◌, length, map, take, drop, slice_set, All, Option, Some, None}
+use Rattle.v6_addr.specs.Address.{PrefixValue}
 use Rattle.srv6_rules.specs.declared.numbers.TheConstants.{HOP_LIMIT_AT, DESTINATION_AT}
 use Rattle.srv6_rules.specs.declared.sid.Csid.{Csid}
 use Rattle.srv6_rules.specs.declared.sid.Csid.TheVariants as kinds
@@ -9,7 +10,7 @@ use Rattle.srv6_rules.specs.declared.compression.Compression.{Compression}
 use Rattle.srv6_rules.specs.Packet.{Packet, header_len, address_bytes}
 use Rattle.srv6_rules.specs.Srh.{Srh, entries_of, entry_of, segments_left_at}
 use Rattle.srv6_rules.specs.Areas.{Fault, tlvs_fault}
-use Rattle.srv6_rules.specs.Compressed.{IsCsidLen, argument_of, shift_of, csid_count, index_of, csid_at, replace_of}
+use Rattle.srv6_rules.specs.Compressed.{IsCsidLen, IsReplaceSid, csid_of, argument_of, shift_of, csid_count, index_of, csid_at, replace_of, packed_entry}
 
 -- the length of the CSIDs of a SID's block
 abbrev pub csid_len_of : Compression → ℕ
@@ -137,6 +138,19 @@ replace_step c p at srh =
     (if has_bad_list c srh p.destination then Dropped (segments_fault at)
     else unless_dropped (tlvs_fault at srh) (let m = move_of c srh p.destination in Moved (moved p at m) m.ended))
 
--- a SID that decapsulates refuses a segment routing header that is not at its end, or whose end can't be judged (RFC 8986 section 4.6)
-abbrev pub refuses_to_end : Compression → Srh → ℕ → Bool
-refuses_to_end c srh destination = lacks_entry c srh destination || not (is_ended c srh srh.segments_left destination)
+-- the header is at its end, which can be judged: else a SID that decapsulates refuses it (RFC 8986 section 4.6)
+abbrev pub is_at_end : Compression → Srh → ℕ → Bool
+is_at_end c srh destination = not (lacks_entry c srh destination) && is_ended c srh srh.segments_left destination
+
+-- ---- entries of CSIDs
+
+-- an entry holds the CSIDs of SIDs of one block, which find room in it
+pub record IsEntryOf (c : Compression) (block : PrefixValue) (sids : List PrefixValue) (entry : ℕ) : Type 0 where
+  pub block_len : c.block_len ≡ block.len
+  pub each : All (λ s. IsReplaceSid block (csid_len_of c) s) sids
+  pub few : length sids ≤ csid_count (csid_len_of c)
+  pub packed : entry ≡ packed_entry (csid_len_of c) (map (csid_of block.len) sids)
+
+-- the index behind so many CSIDs of an entry
+abbrev pub index_behind : Compression → ℕ → ℕ
+index_behind c count = csid_count (csid_len_of c) - 1 - count

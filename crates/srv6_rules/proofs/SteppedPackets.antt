@@ -1,0 +1,178 @@
+-- Packets after the steps of compressed SIDs.
+use Rattle.std.proofs.Common.{◌≡◌, ◌⊎◌, inl, inr, ℕ, ◌+◌, ◌-◌, ◌*◌, ◌/◌, ◌%◌, ◌^◌, ◌<◌, ◌≤◌, Bool, true, false, cond, ◌==◌, nat_le, drop, All, Option, Some, None, refl, sym, ◌∙◌, ap, subst, arith}
+use Rattle.std.proofs.lemmas.Bool.{leb-false}
+use Rattle.std.proofs.lemmas.Nat.{shr_below, shl_below, mul-add-lt, mod_below, pow_pos, pow-add}
+use Rattle.std.proofs.lemmas.List.{length-set}
+use Rattle.std.proofs.lemmas.List.Elements.{All-set, All-drop}
+use Rattle.v6_addr.specs.Address.{field_of, with_field_of}
+use Rattle.v6_addr.proofs.PublicLaws.{with_field_of_bound}
+use Rattle.srv6_rules.specs.declared.compression.Compression.{Compression}
+use Rattle.srv6_rules.specs.Packet.{Packet, IsSpellable, header_len}
+use Rattle.srv6_rules.specs.Srh.{Srh, entry_of, segments_left_at}
+use Rattle.srv6_rules.specs.Areas.{Fault, tlvs_fault}
+use Rattle.srv6_rules.specs.Compressed.{argument_of, shift_of, csid_count, index_of, csid_at, with_index, replace_of}
+use Rattle.srv6_rules.specs.CompressedSteps.{IsNext, IsReplace, Move, Moved, AtEnd, Dropped, csid_len_of, shifted, index_in, listed_csid, is_ended, lacks_entry, has_bad_list, to_csid, to_entry, move_of, moved, unless_dropped, segments_fault, replace_step}
+use Rattle.srv6_rules.proofs.Bytes.{address_number-below}
+use Rattle.srv6_rules.proofs.PackedEntries.{count_is, count_some}
+
+-- ---- destinations are addresses
+
+high_and_low : (d k b v : ℕ) → d < 2 ^ (b + k) → v < 2 ^ k → d / 2 ^ k * 2 ^ k + v < 2 ^ (b + k)
+high_and_low d k b v below fits =
+    let turned : k + b ≡ b + k = omega arith in
+    let P : ℕ → Type 0 = λ n. d / 2 ^ k * 2 ^ k + v < n in
+    subst P (sym (pow-add 2 k b) ∙ ap (λ n. 2 ^ n) turned) (mul-add-lt (d / 2 ^ k) (2 ^ k) v (2 ^ b) (shr_below d b k below) fits)
+
+shift-address : (d block len : ℕ) → block < len → len ≤ 128 → d < 2 ^ 128 → shift_of d block len < 2 ^ 128
+unfolding shift_of argument_of
+shift-address d block len longer within below =
+    let m : ℕ = 128 - len in
+    let w : ℕ = len - block in
+    let k : ℕ = 128 - block in
+    let sum : m + w ≡ k = omega arith in
+    let all : block + k ≡ 128 = omega arith in
+    let P : ℕ → Type 0 = λ n. d % 2 ^ m * 2 ^ w < 2 ^ n in
+    let Q : ℕ → Type 0 = λ n. d < 2 ^ n in
+    let R : ℕ → Type 0 = λ n. d / 2 ^ k * 2 ^ k + d % 2 ^ m * 2 ^ w < 2 ^ n in
+    let fits = subst P sum (shl_below (d % 2 ^ m) m w (mod_below d (2 ^ m) (pow_pos m))) in
+    subst R all (high_and_low d k block (d % 2 ^ m * 2 ^ w) (subst Q (sym all) below) fits)
+
+index-address : (x j count : ℕ) → (count ≡ 8) ⊎ (count ≡ 4) → x < 2 ^ 128 → j < count → x / count * count + j < 2 ^ 128
+index-address x j count (inl e) below fits =
+    let P : ℕ → Type 0 = λ n. j < n → x / n * n + j < 2 ^ 128 in
+    let at : j < 8 → x / 8 * 8 + j < 2 ^ 128 = λ h. mul-add-lt (x / 8) 8 j (2 ^ 125) (shr_below x 125 3 below) h in
+    subst P (sym e) at fits
+index-address x j count (inr e) below fits =
+    let P : ℕ → Type 0 = λ n. j < n → x / n * n + j < 2 ^ 128 in
+    let at : j < 4 → x / 4 * 4 + j < 2 ^ 128 = λ h. mul-add-lt (x / 4) 4 j (2 ^ 126) (shr_below x 126 2 below) h in
+    subst P (sym e) at fits
+
+csid-fits : (w entry index : ℕ) → csid_at w entry index < 2 ^ w
+unfolding csid_at field_of
+csid-fits w entry index = mod_below (entry / 2 ^ (128 - index * w - w)) (2 ^ w) (pow_pos w)
+
+replace-address : (c : Compression) (d csid index : ℕ) → IsReplace c → d < 2 ^ 128 → csid < 2 ^ csid_len_of c
+    → index < csid_count (csid_len_of c) → replace_of d c.block_len (csid_len_of c) csid index < 2 ^ 128
+unfolding replace_of with_index
+replace-address c d csid index is below fits index_fits =
+    let longer = is.longer in
+    let within = is.within in
+    let w : ℕ = csid_len_of c in
+    index-address (with_field_of d c.block_len w csid) index (csid_count w) (count_is w is.csid_len).cases
+    (with_field_of_bound d c.block_len w csid (omega arith) below fits) index_fits
+
+entry-below : (srh : Srh) (i : ℕ) → All (λ b. b < 2 ^ 8) srh.body → entry_of srh i < 2 ^ 128
+entry-below srh i all =
+    let P : ℕ → Type 0 = λ b. b < 2 ^ 8 in
+    address_number-below (drop (16 * i) srh.body) (All-drop P (16 * i) srh.body all)
+
+-- ---- moves
+
+record IsFit (m : Move) : Type 0 where
+  segments_left : m.segments_left < 2 ^ 8
+  destination : m.destination < 2 ^ 128
+
+either_move : (zero none : Bool) (x y z : Move) → IsFit x → IsFit y → IsFit z → IsFit (cond zero x (cond none y z))
+either_move true none x y z fit_x fit_y fit_z = fit_x
+either_move false true x y z fit_x fit_y fit_z = fit_y
+either_move false false x y z fit_x fit_y fit_z = fit_z
+
+csid-fit : (c : Compression) (srh : Srh) (d left index : ℕ) → IsReplace c → d < 2 ^ 128 → left < 2 ^ 8
+    → index < csid_count (csid_len_of c) → IsFit (to_csid c srh d left index)
+csid-fit c srh d left index is below small fits = record {
+  segments_left = small;
+  destination = replace-address c d (listed_csid c srh left index) index is below (csid-fits (csid_len_of c) (entry_of srh left) index) fits;
+}
+
+move-fit : (c : Compression) (srh : Srh) (d : ℕ) → IsReplace c → d < 2 ^ 128 → srh.segments_left < 2 ^ 8
+    → All (λ b. b < 2 ^ 8) srh.body → IsFit (move_of c srh d)
+unfolding index_of
+move-fit c srh d is below small all =
+    let k : ℕ = csid_count (csid_len_of c) in
+    let left : ℕ = srh.segments_left in
+    let index : ℕ = index_in c d in
+    let some = count_some (csid_len_of c) is.csid_len in
+    let least : index < k = mod_below d k some in
+    let entry : IsFit (to_entry srh) = record { segments_left = omega arith; destination = entry-below srh (left - 1) all } in
+    either_move (index == 0) (listed_csid c srh left (index - 1) == 0) (to_csid c srh d (left - 1) (k - 1)) (to_entry srh)
+    (to_csid c srh d left (index - 1)) (csid-fit c srh d (left - 1) (k - 1) is below (omega arith) (omega arith)) entry
+    (csid-fit c srh d left (index - 1) is below small (omega arith))
+
+moved-spellable : (p : Packet) (at : ℕ) (m : Move) → IsSpellable p → IsFit m → IsSpellable (moved p at m)
+moved-spellable p at m ok fit =
+    let hop = ok.hop_limit in
+    let k : ℕ = at + segments_left_at - header_len in
+    record {
+      traffic_class = ok.traffic_class;
+      flow_label = ok.flow_label;
+      next_header = ok.next_header;
+      hop_limit = omega arith;
+      source = ok.source;
+      destination = fit.destination;
+      payload_len = subst (λ n. n < 2 ^ 16) (sym (length-set p.payload k m.segments_left)) ok.payload_len;
+      payload = All-set (λ b. b < 2 ^ 8) p.payload k m.segments_left fit.segments_left ok.payload;
+    }
+
+pub shifted-spellable : (c : Compression) (p : Packet) → IsNext c → IsSpellable p → IsSpellable (shifted c p)
+shifted-spellable c p is ok =
+    let hop = ok.hop_limit in
+    record {
+      traffic_class = ok.traffic_class;
+      flow_label = ok.flow_label;
+      next_header = ok.next_header;
+      hop_limit = omega arith;
+      source = ok.source;
+      destination = shift-address p.destination c.block_len c.prefix_len is.longer is.within ok.destination;
+      payload_len = ok.payload_len;
+      payload = ok.payload;
+    }
+
+-- ---- a step that moves
+
+-- what holds where it does
+pub record StepMoves (c : Compression) (p : Packet) (at : ℕ) (srh : Srh) (q : Packet) (ended : Bool) : Type 0 where
+  pub going_on : is_ended c srh srh.segments_left p.destination ≡ false
+  pub low : nat_le p.hop_limit 1 ≡ false
+  pub list : has_bad_list c srh p.destination ≡ false
+  pub no_fault : tlvs_fault at srh ≡ None
+  pub packet : moved p at (move_of c srh p.destination) ≡ q
+  pub is_ended : (move_of c srh p.destination).ended ≡ ended
+
+moves-by : (c : Compression) (p : Packet) (at : ℕ) (srh : Srh) (q : Packet) (ended : Bool) (lacks end low bad : Bool) (tlv : Option Fault)
+    (fault hop : Fault)
+    → is_ended c srh srh.segments_left p.destination ≡ end → nat_le p.hop_limit 1 ≡ low → has_bad_list c srh p.destination ≡ bad
+    → tlvs_fault at srh ≡ tlv
+    → cond lacks (Dropped fault)
+    (cond end AtEnd
+    (unless_dropped (cond low (Some hop) None)
+    (cond bad (Dropped fault)
+    (unless_dropped tlv (Moved (moved p at (move_of c srh p.destination)) (move_of c srh p.destination).ended))))) ≡ Moved q ended
+    → StepMoves c p at srh q ended
+moves-by c p at srh q ended true end low bad tlv fault hop e1 e2 e3 e4 e = cc
+moves-by c p at srh q ended false true low bad tlv fault hop e1 e2 e3 e4 e = cc
+moves-by c p at srh q ended false false true bad tlv fault hop e1 e2 e3 e4 e = cc
+moves-by c p at srh q ended false false false true tlv fault hop e1 e2 e3 e4 e = cc
+moves-by c p at srh q ended false false false false (Some found) fault hop e1 e2 e3 e4 e = cc
+moves-by c p at srh q ended false false false false None fault hop e1 e2 e3 e4 e =
+    record { going_on = e1; low = e2; list = e3; no_fault = e4; packet = cc; is_ended = cc }
+
+pub step-moves : (c : Compression) (p : Packet) (at : ℕ) (srh : Srh) (q : Packet) (ended : Bool)
+    → replace_step c p at srh ≡ Moved q ended → StepMoves c p at srh q ended
+step-moves c p at srh q ended e =
+    moves-by c p at srh q ended (lacks_entry c srh p.destination) (is_ended c srh srh.segments_left p.destination)
+    (nat_le p.hop_limit 1) (has_bad_list c srh p.destination) (tlvs_fault at srh) (segments_fault at) _ refl refl refl refl e
+
+pub step-spellable : (c : Compression) (p q : Packet) (at : ℕ) (srh : Srh) (ended : Bool) → IsReplace c → IsSpellable p
+    → srh.segments_left < 2 ^ 8 → All (λ b. b < 2 ^ 8) srh.body → replace_step c p at srh ≡ Moved q ended → IsSpellable q
+step-spellable c p q at srh ended is ok small all e =
+    let P : Packet → Type 0 = λ x. IsSpellable x in
+    subst P (step-moves c p at srh q ended e).packet
+    (moved-spellable p at (move_of c srh p.destination) ok (move-fit c srh p.destination is ok.destination small all))
+
+pub step-hop_limit : (c : Compression) (p q : Packet) (at : ℕ) (srh : Srh) (ended : Bool) → replace_step c p at srh ≡ Moved q ended
+    → p.hop_limit ≡ q.hop_limit + 1
+step-hop_limit c p q at srh ended e =
+    let step = step-moves c p at srh q ended e in
+    let above : 1 < p.hop_limit = leb-false p.hop_limit 1 step.low in
+    let lowered : p.hop_limit - 1 ≡ q.hop_limit = ap (λ (x : Packet). x.hop_limit) step.packet in
+    omega arith
