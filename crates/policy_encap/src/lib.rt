@@ -8,6 +8,7 @@
 mod encapsulation;
 mod faults;
 mod headers;
+mod inner;
 
 pub use encapsulation::{encap, push};
 pub use faults::{EncapFault, PushFault};

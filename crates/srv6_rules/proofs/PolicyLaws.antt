@@ -1,12 +1,12 @@
 -- The packet that a policy's header makes: its lengths, and what stands where.
-use Rattle.std.proofs.Common.{◌≡◌, ℕ, ◌+◌, ◌-◌, ◌^◌, ◌<◌, ◌≤◌, Bool, true, false, if◌then◌else◌, List, [], ◌∷◌, ◌++◌, length, drop, slice_index, slice_set, All, refl, sym, ap, subst, ◌∙◌, arith, length-append}
+use Rattle.std.proofs.Common.{◌≡◌, ℕ, ◌+◌, ◌-◌, ◌^◌, ◌<◌, ◌≤◌, Bool, true, false, if◌then◌else◌, List, [], ◌∷◌, ◌++◌, length, take, drop, slice_index, slice_set, All, refl, sym, ap, subst, ◌∙◌, arith, length-append}
 use Rattle.std.proofs.lemmas.Bool.{lt-ltb, le-ltb, le-leb, lt-leb}
-use Rattle.std.proofs.lemmas.List.{drop_at, set-append_right}
+use Rattle.std.proofs.lemmas.List.{drop_at, take_at, append_assoc, set-append_right}
 use Rattle.std.proofs.lemmas.List.Elements.{All-cons, All-tail}
 use Rattle.srv6_rules.specs.declared.policy.Policy.{Policy}
 use Rattle.srv6_rules.specs.declared.sid.Family.{Family}
 use Rattle.srv6_rules.specs.declared.sid.Family.TheVariants.{V6, V4}
-use Rattle.srv6_rules.specs.Packet.{Packet, IsSpellable, most_len, spelling, two_bytes}
+use Rattle.srv6_rules.specs.Packet.{Packet, IsSpellable, most_len, header_spelling, spelling, two_bytes}
 use Rattle.srv6_rules.specs.Srh.{Srh, srh_spelling, segment_routing}
 use Rattle.srv6_rules.specs.Chain.{routing}
 use Rattle.srv6_rules.specs.Behaviours.{ipv6_inside}
@@ -101,6 +101,53 @@ module _ (e : Encapsulation) (inner : Family) (bytes : List ℕ) (hop : ℕ) whe
         payload = kinds-bytes (has_segment_routing e) (inner_kind inner) ipv6_inside (behind_kind (routing_header e inner)) bytes
             (small_kind inner) v6.payload;
       }
+
+-- the outer packets round bytes of one length have one header
+same-header : (p q : Packet) → p.traffic_class ≡ q.traffic_class → p.flow_label ≡ q.flow_label → p.next_header ≡ q.next_header
+    → p.hop_limit ≡ q.hop_limit → p.source ≡ q.source → p.destination ≡ q.destination → length p.payload ≡ length q.payload
+    → header_spelling p ≡ header_spelling q
+unfolding header_spelling
+same-header p q a b c d e f g = rw (a, b, c, d, e, f, g) refl
+
+round-header : (e : Encapsulation) (inner : Family) (xs ys : List ℕ) (hop : ℕ) → length xs ≡ length ys
+    → header_spelling (pushed_round e inner xs hop) ≡ header_spelling (pushed_round e inner ys hop)
+round-header e inner xs ys hop same =
+    let one = round-payload e inner xs hop in
+    let two = round-payload e inner ys hop in
+    same-header (pushed_round e inner xs hop) (pushed_round e inner ys hop) refl refl refl refl refl refl (omega (arith, one, two))
+
+-- the bytes in front of the inner packet's
+round-split : (e : Encapsulation) (inner : Family) (bytes : List ℕ) (hop : ℕ)
+    → spelling (pushed_round e inner bytes hop)
+    ≡ (header_spelling (pushed_round e inner bytes hop) ++ front_of e inner) ++ bytes
+round-split e inner bytes hop =
+    let p : Packet = pushed_round e inner bytes hop in
+    ap (λ xs. header_spelling p ++ xs) (round-front e inner bytes hop) ∙ sym (append_assoc (header_spelling p) (front_of e inner) bytes)
+
+-- the front of an outer packet, up to the inner packet, and other inner bytes of one length
+pub round-other : (e : Encapsulation) (inner : Family) (xs ys : List ℕ) (hop n : ℕ) → length xs ≡ length ys
+    → n + length xs ≡ length (spelling (pushed_round e inner xs hop))
+    → take n (spelling (pushed_round e inner xs hop)) ++ ys ≡ spelling (pushed_round e inner ys hop)
+round-other e inner xs ys hop n same place =
+    let front : List ℕ = header_spelling (pushed_round e inner xs hop) ++ front_of e inner in
+    let split = round-split e inner xs hop in
+    let len : length (spelling (pushed_round e inner xs hop)) ≡ length front + length xs =
+    ap length split ∙ length-append front xs in
+    ap (λ zs. take n zs ++ ys) split
+    ∙ ap (λ zs. zs ++ ys) (take_at front xs n (omega (arith, len)))
+    ∙ ap (λ zs. (zs ++ front_of e inner) ++ ys) (round-header e inner xs ys hop same)
+    ∙ sym (round-split e inner ys hop)
+
+-- the inner bytes behind that front
+pub round-behind : (e : Encapsulation) (inner : Family) (bytes : List ℕ) (hop n : ℕ)
+    → n + length bytes ≡ length (spelling (pushed_round e inner bytes hop))
+    → drop n (spelling (pushed_round e inner bytes hop)) ≡ bytes
+round-behind e inner bytes hop n place =
+    let front : List ℕ = header_spelling (pushed_round e inner bytes hop) ++ front_of e inner in
+    let split = round-split e inner bytes hop in
+    let len : length (spelling (pushed_round e inner bytes hop)) ≡ length front + length bytes =
+    ap length split ∙ length-append front bytes in
+    ap (drop n) split ∙ drop_at front bytes n (omega (arith, len))
 
 -- a byte of the inner packet that changes changes in the outer packet behind the header bytes
 pub round-edit : (e : Encapsulation) (inner : Family) (bytes : List ℕ) (hop k v : ℕ)

@@ -5,7 +5,8 @@ use Rattle.v6_addr.specs.declared.address.Addr.{Addr}
 use Rattle.srv6_rules.specs.declared.policy.Policy.{Policy}
 use Rattle.srv6_rules.specs.declared.sid.Family.{Family}
 use Rattle.srv6_rules.specs.declared.sid.Family.TheVariants.{V6, V4}
-use Rattle.srv6_rules.specs.Packet.{Packet, header_len, most_len, spelling}
+use Rattle.srv6_rules.specs.Packet.{Packet, header_len, most_len, packet_at, spelling}
+use Rattle.srv6_rules.specs.Packet4.{packet4_at, spelling4, ttl, lowered4}
 use Rattle.srv6_rules.specs.Srh.{Srh, srh_spelling}
 use Rattle.srv6_rules.specs.Chain.{routing}
 use Rattle.srv6_rules.specs.Behaviours.{ipv6_inside, ipv4_inside}
@@ -71,6 +72,16 @@ abbrev pub headend_by : Policy → Family → ℕ → List ℕ → Encapsulating
 headend_by policy inner hop lowered =
     if nat_le hop 1 then InnerHop else pushed_by policy policy.reduced inner lowered
 
--- H.Encaps of an IPv6 packet
-abbrev pub encapsulated_by : Policy → Packet → Encapsulating
-encapsulated_by policy p = headend_by policy V6 p.hop_limit (spelling (inner_lowered p))
+-- the hop limit or the TTL of the packet of a family that bytes hold
+abbrev pub inner_hop : Family → List ℕ → ℕ
+inner_hop V6 bytes = (packet_at bytes).hop_limit
+inner_hop V4 bytes = ttl (packet4_at bytes)
+
+-- the bytes of that packet, lowered by one: the hop limit, or the TTL and the checksum that follows it
+abbrev pub inner_lowered_bytes : Family → List ℕ → List ℕ
+inner_lowered_bytes V6 bytes = spelling (inner_lowered (packet_at bytes))
+inner_lowered_bytes V4 bytes = spelling4 (lowered4 (packet4_at bytes))
+
+-- H.Encaps of the packet of a family that bytes hold
+abbrev pub encapsulated_by : Policy → Family → List ℕ → Encapsulating
+encapsulated_by policy inner bytes = headend_by policy inner (inner_hop inner bytes) (inner_lowered_bytes inner bytes)
