@@ -47,6 +47,10 @@ pushed_round e inner bytes hop =
       payload = if has_segment_routing e then srh_spelling (routing_header e inner) ++ bytes else bytes;
     }
 
+-- the outer packet of a policy round the bytes of a packet of a family, in the full or the reduced form
+abbrev pub outer_by : Policy → Bool → Family → List ℕ → Packet
+outer_by policy reduced inner bytes = pushed_round (encapsulation_by policy reduced) inner bytes policy.hop_limit
+
 -- the greatest payload length in bytes that a header can state
 abbrev pub most_payload : ℕ
 most_payload = most_len - header_len
@@ -63,8 +67,7 @@ unless_too_big p = if nat_lt most_payload (length p.payload) then TooBig (length
 
 -- the header of a policy put in front of the bytes of a packet of a family, in the full or the reduced form
 abbrev pub pushed_by : Policy → Bool → Family → List ℕ → Encapsulating
-pushed_by policy reduced inner bytes =
-    unless_too_big (pushed_round (encapsulation_by policy reduced) inner bytes policy.hop_limit)
+pushed_by policy reduced inner bytes = unless_too_big (outer_by policy reduced inner bytes)
 
 -- H.Encaps of a packet of a family with a policy, in the policy's own form: of a packet with this hop limit or TTL, whose
 -- bytes are these once it is lowered by one
