@@ -9,16 +9,16 @@ use Rattle.srv6_rules.specs.declared.sid.Family.TheVariants.{V6, V4}
 use Rattle.srv6_rules.specs.Packet.{Packet, IsSpellable, Spells, header_len, stated_len, packet_at, spelling, two_number}
 use Rattle.srv6_rules.specs.Packet4.{total_len, packet4_at, spelling4, ttl_lowered}
 use Rattle.srv6_rules.specs.Encapsulation.{header_bytes}
-use Rattle.srv6_rules.specs.Policies.{IsPolicy, encapsulation_by, inner_hop, inner_lowered_bytes, pushed_round, pushed_by, encapsulated_by, TooBig, InnerHop}
-use Rattle.srv6_rules.proofs.PublicLaws.{two_number-below, spelling-behind, lowered-spelling, lowered4-spelling, ttl_lowered-length, round-next_header, round-length, round-other, round-behind, made-fits, made-big, headend-low, headend-high}
+use Rattle.srv6_rules.specs.Policies.{IsPolicy, encapsulation_by, inner_hop, inner_lowered_bytes, outer_by, pushed_by, encapsulated_by, Outer, TooBig, InnerHop}
+use Rattle.srv6_rules.proofs.PublicLaws.{two_number-below, spelling-behind, lowered-spelling, lowered4-spelling, ttl_lowered-length, round-next_header, by-length, round-other, round-behind, made-fits, made-big, headend-low, headend-high}
 use Rattle.policy_encap.specs.Inner.{HoldsInner}
-use Rattle.ip6_headers.proofs.PublicLaws.{holds-spellable, holds-payload_len, holds-front, holds4-spellable, holds4-byte, holds4-front}
+use Rattle.ip6_headers.proofs.PublicLaws.{holds-spellable, holds-payload_len, holds-front, holds4-spellable, holds4-byte, holds4-length, holds4-front}
 use Rattle.policy_encap.specs.Headers.{FitsOuter}
 use Rattle.policy_encap.specs.Answers.{Makes, Wants, Refuses}
 
 module _ (policy : Policy) (reduced : Bool) (inner : Family) (bytes : List ℕ) where
-  abbrev pub whole : Packet
-  whole = pushed_round (encapsulation_by policy reduced) inner bytes policy.hop_limit
+  abbrev whole : Packet
+  whole = outer_by policy reduced inner bytes
 
   made-spells : (out : List ℕ) → IsPolicy policy → FitsOuter policy → length whole.payload ≤ 65535 → All (λ b. b < 2 ^ 8) out
       → out ≡ spelling whole → Spells out whole
@@ -91,7 +91,8 @@ lowered-6 V6 bytes is h =
     ap (λ n. slice_set bytes 7 (n - 1)) (hop-6 V6 bytes refl)
     ∙ ap (λ xs. slice_set xs 7 v) (whole-6 bytes h) ∙ sym (lowered-spelling (packet_at bytes))
 
-pub lowered-4 : (inner : Family) (bytes : List ℕ) → inner ≡ V4 → HoldsInner inner bytes → ttl_lowered bytes ≡ inner_lowered_bytes inner bytes
+pub lowered-4 : (inner : Family) (bytes : List ℕ) → inner ≡ V4 → HoldsInner inner bytes
+    → ttl_lowered bytes ≡ inner_lowered_bytes inner bytes
 lowered-4 V6 bytes is h = cc
 lowered-4 V4 bytes is h =
     ap ttl_lowered (whole-4 bytes h) ∙ sym (lowered4-spelling (packet4_at bytes) (holds4-spellable bytes h.0).least)
@@ -125,18 +126,18 @@ written-over all w n len fits size =
     ∙ take_all len (take n all ++ w) (omega arith)
 
 module _ (policy : Policy) (reduced : Bool) (inner : Family) (bytes : List ℕ) (h : HoldsInner inner bytes) (all : List ℕ)
-    (is : all ≡ spelling (whole policy reduced inner bytes)) where
+    (is : all ≡ spelling (outer_by policy reduced inner bytes)) where
   pub inner-place : (len k : ℕ) → len ≡ length all → k ≡ length bytes → len - k + length bytes ≡ length all
   inner-place len k lens ks =
-      let size : length all ≡ header_bytes reduced (length (map (λ (a : Addr). a.value) policy.segments)) + length bytes =
-      ap length is ∙ round-length (encapsulation_by policy reduced) inner bytes policy.hop_limit in
+      let size : length all ≡ header_bytes reduced (length policy.segments) + length bytes =
+      ap length is ∙ by-length policy reduced inner bytes in
       omega (arith, size)
 
   -- the inner packet's bytes in the outer packet
   pub inner-inside : (n m : ℕ) → n + length bytes ≡ length all → m ≡ length bytes → take m (drop n all) ≡ bytes
   inner-inside n m place size =
       let e = encapsulation_by policy reduced in
-      let len : length all ≡ length (spelling (whole policy reduced inner bytes)) = ap length is in
+      let len : length all ≡ length (spelling (outer_by policy reduced inner bytes)) = ap length is in
       ap (λ xs. take m (drop n xs)) is
       ∙ ap (take m) (round-behind e inner bytes policy.hop_limit n (place ∙ len))
       ∙ take_all m bytes (omega arith)
@@ -146,15 +147,15 @@ module _ (policy : Policy) (reduced : Bool) (inner : Family) (bytes : List ℕ) 
       → w ≡ inner_lowered_bytes inner bytes
       → take len (take n all ++ (w ++ drop (length w) (drop n all)) ++ drop
       (length (take n all ++ (w ++ drop (length w) (drop n all)))) all)
-      ≡ spelling (whole policy reduced inner (inner_lowered_bytes inner bytes))
+      ≡ spelling (outer_by policy reduced inner (inner_lowered_bytes inner bytes))
   lowered-inside w n len place size written =
       let e = encapsulation_by policy reduced in
       let lowered : List ℕ = inner_lowered_bytes inner bytes in
       let same : length w ≡ length bytes = ap length written ∙ length-lowered inner bytes h in
-      let whole_len : length all ≡ length (spelling (whole policy reduced inner bytes)) = ap length is in
+      let whole_len : length all ≡ length (spelling (outer_by policy reduced inner bytes)) = ap length is in
       written-over all w n len (omega arith) size
       ∙ ap (λ xs. take n xs ++ w) is
-      ∙ ap (λ xs. take n (spelling (whole policy reduced inner bytes)) ++ xs) written
+      ∙ ap (λ xs. take n (spelling (outer_by policy reduced inner bytes)) ++ xs) written
       ∙ round-other e inner bytes lowered policy.hop_limit n (sym (length-lowered inner bytes h)) (place ∙ whole_len)
 
 -- ---- what is answered
@@ -167,13 +168,15 @@ module _ (policy : Policy) (inner : Family) (bytes : List ℕ) where
   encap-low hop is low =
       record { told_so = headend-low policy inner (inner_hop inner bytes) lowered (omega arith); same = refl }
 
-  pub encap-refuses : (hop n : ℕ) → hop ≡ inner_hop inner bytes → 1 < hop → n ≡ length (whole policy policy.reduced inner lowered).payload
+  pub encap-refuses : (hop n : ℕ) → hop ≡ inner_hop inner bytes → 1 < hop
+      → n ≡ length (outer_by policy policy.reduced inner lowered).payload
       → 65535 < n → Refuses (encapsulated_by policy inner bytes) (TooBig n) bytes bytes
   encap-refuses hop n is high len big =
       let told = push-refuses policy policy.reduced inner lowered bytes n len big in
       record { told_so = headend-high policy inner (inner_hop inner bytes) lowered (omega arith) ∙ told.told_so; same = refl }
 
-  pub encap-wants : (hop : ℕ) → hop ≡ inner_hop inner bytes → 1 < hop → length (whole policy policy.reduced inner lowered).payload ≤ 65535
+  pub encap-wants : (hop : ℕ) → hop ≡ inner_hop inner bytes → 1 < hop
+      → length (outer_by policy policy.reduced inner lowered).payload ≤ 65535
       → Wants (encapsulated_by policy inner bytes) bytes bytes
   encap-wants hop is high short =
       let wants = push-wants policy policy.reduced inner lowered bytes short in
@@ -184,8 +187,8 @@ module _ (policy : Policy) (inner : Family) (bytes : List ℕ) where
       }
 
   pub encap-makes : (hop : ℕ) (out : List ℕ) → hop ≡ inner_hop inner bytes → 1 < hop → IsPolicy policy → FitsOuter policy
-      → length (whole policy policy.reduced inner lowered).payload ≤ 65535 → All (λ b. b < 2 ^ 8) out
-      → out ≡ spelling (whole policy policy.reduced inner lowered) → Makes (encapsulated_by policy inner bytes) out
+      → length (outer_by policy policy.reduced inner lowered).payload ≤ 65535 → All (λ b. b < 2 ^ 8) out
+      → out ≡ spelling (outer_by policy policy.reduced inner lowered) → Makes (encapsulated_by policy inner bytes) out
   encap-makes hop out is high ok fits short all spelled =
       let makes = push-makes policy policy.reduced inner lowered out ok fits short all spelled in
       record {
@@ -193,3 +196,6 @@ module _ (policy : Policy) (inner : Family) (bytes : List ℕ) where
         outer = headend-high policy inner (inner_hop inner bytes) lowered (omega arith) ∙ makes.outer;
         spelled = makes.spelled;
       }
+
+-- the lengths that packets state
+pub ruleset lengths = (holds-payload_len, holds4-length)

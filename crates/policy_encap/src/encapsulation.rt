@@ -38,13 +38,8 @@ pub fn push(
         });
     }
     outer_fits(policy);
-    *packet = outer_bytes(
-        *packet.allocator(),
-        policy,
-        reduced,
-        inner,
-        packet.as_slice(),
-    )?;
+    let alloc = *packet.allocator();
+    *packet = outer_bytes(alloc, policy, reduced, inner, packet.as_slice())?;
     Ok(())
 }
 

@@ -1,9 +1,9 @@
 use Rattle.std.proofs.Common.{◌≡◌, ◌-◌, ◌≤◌, ◌∙◌, List, ℕ, length, sym, ap, subst, arith}
 use Rattle.std.proofs.lemmas.Result.{err_from_is_err_and}
 use Rattle.srv6_rules.specs.Packet.{spelling}
-use Rattle.srv6_rules.specs.Policies.{inner_hop, inner_lowered_bytes}
+use Rattle.srv6_rules.specs.Policies.{inner_hop, inner_lowered_bytes, outer_by}
 use Rattle.policy_encap.specs.Inner.{HoldsInner}
-use Rattle.policy_encap.proofs.EncapLemmas.{whole, length-lowered, inner-place, inner-inside, lowered-inside, encap-refuses, encap-wants, encap-makes}
+use Rattle.policy_encap.proofs.EncapLemmas.{length-lowered, inner-place, inner-inside, lowered-inside, encap-refuses, encap-wants, encap-makes}
 use Rattle.policy_encap.proofs.encapsulation.encap.Goals as goal
 
 pub returns-then-length-gt-MOST_PAYLOAD_LEN : goal.returns-then-length-gt-MOST_PAYLOAD_LEN
@@ -30,7 +30,8 @@ returns-in_err-outer c =
     c.inner_len-inner_len.ensures.len ∙ ap length c.as_slice-2.ensures.value in
     let size = c.payload_len-length.ensures.value inner (inner_lowered_bytes inner bytes) (length-lowered inner bytes holds ∙ sym k) in
     let low = c.if-length-gt-MOST_PAYLOAD_LEN.false in
-    let short : length (whole policy policy.reduced inner (inner_lowered_bytes inner bytes)).payload ≤ 65535 = omega (arith, size, low) in
+    let short : length (outer_by policy policy.reduced inner (inner_lowered_bytes inner bytes)).payload ≤ 65535 =
+    omega (arith, size, low) in
     let p = err_from_is_err_and c.from_residual.result c.from_residual.ensures.1 in
     rw (p.1, p.2) (encap-wants policy inner bytes c.inner_hop.result hop c.if-inner_hop-le1.false short)
 
@@ -41,8 +42,8 @@ lower-requires-clause-holds c =
     let bytes : List ℕ = c.args.packet.now.items in
     let k : c.inner_len-inner_len.result ≡ length bytes =
     c.inner_len-inner_len.ensures.len ∙ ap length c.as_slice-2.ensures.value in
-    let outer : c.in_ok-outer.outer.items ≡ spelling (whole policy policy.reduced inner bytes) =
-    c.in_ok-outer.ensures ∙ ap (λ xs. spelling (whole policy policy.reduced inner xs)) c.as_slice-3.ensures.value in
+    let outer : c.in_ok-outer.outer.items ≡ spelling (outer_by policy policy.reduced inner bytes) =
+    c.in_ok-outer.ensures ∙ ap (λ xs. spelling (outer_by policy policy.reduced inner xs)) c.as_slice-3.ensures.value in
     let n : c.len.result ≡ length c.in_ok-outer.outer.items = c.len.ensures ∙ c.in_ok-outer.outer.ok.0 in
     let place = inner-place policy policy.reduced inner bytes c.requires.packet c.in_ok-outer.outer.items outer c.len.result
     c.inner_len-inner_len.result n k in
@@ -62,8 +63,8 @@ lower-requires-clause-some c =
     let bytes : List ℕ = c.args.packet.now.items in
     let k : c.inner_len-inner_len.result ≡ length bytes =
     c.inner_len-inner_len.ensures.len ∙ ap length c.as_slice-2.ensures.value in
-    let outer : c.in_ok-outer.outer.items ≡ spelling (whole policy policy.reduced inner bytes) =
-    c.in_ok-outer.ensures ∙ ap (λ xs. spelling (whole policy policy.reduced inner xs)) c.as_slice-3.ensures.value in
+    let outer : c.in_ok-outer.outer.items ≡ spelling (outer_by policy policy.reduced inner bytes) =
+    c.in_ok-outer.ensures ∙ ap (λ xs. spelling (outer_by policy policy.reduced inner xs)) c.as_slice-3.ensures.value in
     let n : c.len.result ≡ length c.in_ok-outer.outer.items = c.len.ensures ∙ c.in_ok-outer.outer.ok.0 in
     let place = inner-place policy policy.reduced inner bytes c.requires.packet c.in_ok-outer.outer.items outer c.len.result
     c.inner_len-inner_len.result n k in
@@ -89,9 +90,10 @@ returns c =
     c.inner_len-inner_len.ensures.len ∙ ap length c.as_slice-2.ensures.value in
     let size = c.payload_len-length.ensures.value inner (inner_lowered_bytes inner bytes) (length-lowered inner bytes holds ∙ sym k) in
     let low = c.if-length-gt-MOST_PAYLOAD_LEN.false in
-    let short : length (whole policy policy.reduced inner (inner_lowered_bytes inner bytes)).payload ≤ 65535 = omega (arith, size, low) in
-    let outer : c.in_ok-outer.outer.items ≡ spelling (whole policy policy.reduced inner bytes) =
-    c.in_ok-outer.ensures ∙ ap (λ xs. spelling (whole policy policy.reduced inner xs)) c.as_slice-3.ensures.value in
+    let short : length (outer_by policy policy.reduced inner (inner_lowered_bytes inner bytes)).payload ≤ 65535 =
+    omega (arith, size, low) in
+    let outer : c.in_ok-outer.outer.items ≡ spelling (outer_by policy policy.reduced inner bytes) =
+    c.in_ok-outer.ensures ∙ ap (λ xs. spelling (outer_by policy policy.reduced inner xs)) c.as_slice-3.ensures.value in
     let n : c.len.result ≡ length c.in_ok-outer.outer.items = c.len.ensures ∙ c.in_ok-outer.outer.ok.0 in
     let place = inner-place policy policy.reduced inner bytes c.requires.packet c.in_ok-outer.outer.items outer c.len.result
     c.inner_len-inner_len.result n k in
