@@ -1,22 +1,24 @@
 -- An IPv6 packet that is encapsulated, in bytes.
-use Rattle.std.proofs.Common.{◌≡◌, ℕ, ◌+◌, ◌-◌, ◌^◌, ◌<◌, ◌≤◌, Bool, List, length, drop, slice_set, All, refl, sym, ap, subst, ◌∙◌, arith}
-use Rattle.std.proofs.lemmas.List.{take_all, length-set}
+use Rattle.std.proofs.Common.{◌≡◌, ℕ, ◌+◌, ◌-◌, ◌^◌, ◌<◌, ◌≤◌, Bool, List, [], ◌++◌, length, take, drop, map, slice_index, slice_set, All, refl, sym, ap, subst, ◌∙◌, arith, length-append, length-drop}
+use Rattle.std.proofs.lemmas.List.{take_all, drop_all, append-nil, length-set, length-take-le}
 use Rattle.std.proofs.lemmas.List.Elements.{All-drop}
+use Rattle.v6_addr.specs.declared.address.Addr.{Addr}
 use Rattle.srv6_rules.specs.declared.policy.Policy.{Policy}
 use Rattle.srv6_rules.specs.declared.sid.Family.{Family}
-use Rattle.srv6_rules.specs.declared.sid.Family.TheVariants.{V6}
-use Rattle.srv6_rules.specs.Packet.{Packet, IsSpellable, Spells, header_len, stated_len, packet_at, spelling}
-use Rattle.srv6_rules.specs.Encapsulation.{header_bytes, inner_lowered}
-use Rattle.srv6_rules.specs.Policies.{IsPolicy, encapsulation_by, pushed_round, pushed_by, encapsulated_by, TooBig, InnerHop}
-use Rattle.srv6_rules.proofs.PublicLaws.{spelling-behind, lowered-spelling, round-next_header, round-length, round-edit, made-fits, made-big, headend-low, headend-high}
-use Rattle.ip6_headers.specs.Reading.{HoldsPacket}
-use Rattle.ip6_headers.proofs.PublicLaws.{holds-spellable, holds-payload_len, holds-front}
+use Rattle.srv6_rules.specs.declared.sid.Family.TheVariants.{V6, V4}
+use Rattle.srv6_rules.specs.Packet.{Packet, IsSpellable, Spells, header_len, stated_len, packet_at, spelling, two_number}
+use Rattle.srv6_rules.specs.Packet4.{total_len, packet4_at, spelling4, ttl_lowered}
+use Rattle.srv6_rules.specs.Encapsulation.{header_bytes}
+use Rattle.srv6_rules.specs.Policies.{IsPolicy, encapsulation_by, inner_hop, inner_lowered_bytes, outer_by, pushed_by, encapsulated_by, Outer, TooBig, InnerHop}
+use Rattle.srv6_rules.proofs.PublicLaws.{two_number-below, spelling-behind, lowered-spelling, lowered4-spelling, ttl_lowered-length, round-next_header, by-length, round-other, round-behind, made-fits, made-big, headend-low, headend-high}
+use Rattle.policy_encap.specs.Inner.{HoldsInner}
+use Rattle.ip6_headers.proofs.PublicLaws.{holds-spellable, holds-payload_len, holds-front, holds4-spellable, holds4-byte, holds4-length, holds4-front}
 use Rattle.policy_encap.specs.Headers.{FitsOuter}
 use Rattle.policy_encap.specs.Answers.{Makes, Wants, Refuses}
 
 module _ (policy : Policy) (reduced : Bool) (inner : Family) (bytes : List ℕ) where
-  abbrev pub whole : Packet
-  whole = pushed_round (encapsulation_by policy reduced) inner bytes policy.hop_limit
+  abbrev whole : Packet
+  whole = outer_by policy reduced inner bytes
 
   made-spells : (out : List ℕ) → IsPolicy policy → FitsOuter policy → length whole.payload ≤ 65535 → All (λ b. b < 2 ^ 8) out
       → out ≡ spelling whole → Spells out whole
@@ -47,70 +49,153 @@ module _ (policy : Policy) (reduced : Bool) (inner : Family) (bytes : List ℕ) 
       → Refuses (pushed_by policy reduced inner bytes) (TooBig n) old old
   push-refuses old n is big = record { told_so = made-big whole (omega arith) ∙ ap TooBig (sym is); same = refl }
 
-module _ (bytes : List ℕ) (h : HoldsPacket bytes) (end : length bytes ≡ header_len + stated_len bytes) where
-  abbrev held : Packet
-  held = packet_at bytes
+-- ---- a packet of a family
 
-  whole-bytes : bytes ≡ spelling held
-  whole-bytes = sym (take_all (header_len + stated_len bytes) bytes (omega arith)) ∙ holds-front bytes h
+whole-6 : (bytes : List ℕ) → HoldsInner V6 bytes → bytes ≡ spelling (packet_at bytes)
+whole-6 bytes h =
+    let end = h.1 in
+    sym (take_all (header_len + stated_len bytes) bytes (omega arith)) ∙ holds-front bytes h.0
 
-  pub held-short : length bytes ≤ 65575
-  held-short =
-      let len = holds-payload_len bytes h in
-      let most : length held.payload < 2 ^ 16 = (holds-spellable bytes h).payload_len in
-      omega arith
+whole-4 : (bytes : List ℕ) → HoldsInner V4 bytes → bytes ≡ spelling4 (packet4_at bytes)
+whole-4 bytes h = let end = h.1 in sym (take_all (total_len bytes) bytes (omega arith)) ∙ holds4-front bytes h.0
 
-  lowered-bytes : spelling (inner_lowered held) ≡ slice_set bytes 7 (held.hop_limit - 1)
-  lowered-bytes = lowered-spelling held ∙ ap (λ xs. slice_set xs 7 (held.hop_limit - 1)) (sym whole-bytes)
+pub inner-short : (inner : Family) (bytes : List ℕ) → HoldsInner inner bytes → length bytes ≤ 65575
+unfolding total_len two_number
+inner-short V6 bytes h =
+    let len = holds-payload_len bytes h.0 in
+    let most : length (packet_at bytes).payload < 2 ^ 16 = (holds-spellable bytes h.0).payload_len in
+    let end = h.1 in
+    omega arith
+inner-short V4 bytes h =
+    let end : length bytes ≡ two_number (drop 2 bytes) = h.1 in
+    let all = h.0.in_range in
+    let most : two_number (drop 2 bytes) < 2 ^ 16 = two_number-below (drop 2 bytes) (All-drop (λ b. b < 2 ^ 8) 2 bytes all) in
+    omega arith
 
-  pub length-lowered : length (spelling (inner_lowered held)) ≡ length bytes
-  length-lowered = ap length lowered-bytes ∙ length-set bytes 7 (held.hop_limit - 1)
+-- the place of its hop limit or TTL
+pub hop-6 : (inner : Family) (bytes : List ℕ) → inner ≡ V6 → slice_index bytes 7 ≡ inner_hop inner bytes
+unfolding packet_at
+hop-6 V6 bytes is = refl
+hop-6 V4 bytes is = cc
 
-  -- the hop limit's byte written in the outer packet
-  pub lowered-inside : (policy : Policy) (reduced : Bool) (out : List ℕ) (n m : ℕ) → n ≡ length out → m ≡ length bytes
-      → out ≡ spelling (whole policy reduced V6 bytes)
-      → slice_set out (n - m + 7) (held.hop_limit - 1) ≡ spelling (whole policy reduced V6 (spelling (inner_lowered held)))
-  lowered-inside policy reduced out n m ns ms is =
+pub hop-4 : (inner : Family) (bytes : List ℕ) → inner ≡ V4 → HoldsInner inner bytes → slice_index bytes 8 ≡ inner_hop inner bytes
+hop-4 V6 bytes is h = cc
+hop-4 V4 bytes is h = sym (holds4-byte bytes 8 h.0 (omega arith))
+
+-- it is lowered in its bytes
+pub lowered-6 : (inner : Family) (bytes : List ℕ) → inner ≡ V6 → HoldsInner inner bytes
+    → slice_set bytes 7 (slice_index bytes 7 - 1) ≡ inner_lowered_bytes inner bytes
+lowered-6 V4 bytes is h = cc
+lowered-6 V6 bytes is h =
+    let v : ℕ = (packet_at bytes).hop_limit - 1 in
+    ap (λ n. slice_set bytes 7 (n - 1)) (hop-6 V6 bytes refl)
+    ∙ ap (λ xs. slice_set xs 7 v) (whole-6 bytes h) ∙ sym (lowered-spelling (packet_at bytes))
+
+pub lowered-4 : (inner : Family) (bytes : List ℕ) → inner ≡ V4 → HoldsInner inner bytes
+    → ttl_lowered bytes ≡ inner_lowered_bytes inner bytes
+lowered-4 V6 bytes is h = cc
+lowered-4 V4 bytes is h =
+    ap ttl_lowered (whole-4 bytes h) ∙ sym (lowered4-spelling (packet4_at bytes) (holds4-spellable bytes h.0).least)
+
+pub length-lowered : (inner : Family) (bytes : List ℕ) → HoldsInner inner bytes
+    → length (inner_lowered_bytes inner bytes) ≡ length bytes
+length-lowered V6 bytes h =
+    sym (ap length (lowered-6 V6 bytes refl h)) ∙ length-set bytes 7 (slice_index bytes 7 - 1)
+length-lowered V4 bytes h =
+    let least = h.0.least in
+    let header = h.0.header in
+    let total = h.0.whole in
+    sym (ap length (lowered-4 V4 bytes refl h)) ∙ ttl_lowered-length bytes (omega arith)
+
+-- ---- bytes written over the last ones
+
+written-over : (all w : List ℕ) (n len : ℕ) → n + length w ≡ length all → len ≡ length all
+    → take len (take n all ++ (w ++ drop (length w) (drop n all)) ++ drop
+    (length (take n all ++ (w ++ drop (length w) (drop n all)))) all)
+    ≡ take n all ++ w
+written-over all w n len fits size =
+    let none : drop (length w) (drop n all) ≡ [] = drop_all (length w) (drop n all) (omega (arith, length-drop n all)) in
+    let laid : take n all ++ (w ++ drop (length w) (drop n all)) ≡ take n all ++ w =
+    ap (λ xs. take n all ++ (w ++ xs)) none ∙ ap (λ xs. take n all ++ xs) (append-nil w) in
+    let lens : length (take n all ++ w) ≡ length all =
+    length-append (take n all) w ∙ ap (λ k. k + length w) (length-take-le n all (omega arith)) ∙ fits in
+    let rest : drop (length (take n all ++ w)) all ≡ [] = drop_all (length (take n all ++ w)) all (omega arith) in
+    ap (λ xs. take len (xs ++ drop (length xs) all)) laid
+    ∙ ap (λ xs. take len ((take n all ++ w) ++ xs)) rest
+    ∙ ap (take len) (append-nil (take n all ++ w))
+    ∙ take_all len (take n all ++ w) (omega arith)
+
+module _ (policy : Policy) (reduced : Bool) (inner : Family) (bytes : List ℕ) (h : HoldsInner inner bytes) (all : List ℕ)
+    (is : all ≡ spelling (outer_by policy reduced inner bytes)) where
+  pub inner-place : (len k : ℕ) → len ≡ length all → k ≡ length bytes → len - k + length bytes ≡ length all
+  inner-place len k lens ks =
+      let size : length all ≡ header_bytes reduced (length policy.segments) + length bytes =
+      ap length is ∙ by-length policy reduced inner bytes in
+      omega (arith, size)
+
+  -- the inner packet's bytes in the outer packet
+  pub inner-inside : (n m : ℕ) → n + length bytes ≡ length all → m ≡ length bytes → take m (drop n all) ≡ bytes
+  inner-inside n m place size =
       let e = encapsulation_by policy reduced in
-      let size = round-length e V6 bytes policy.hop_limit in
-      let len : length out ≡ length (spelling (whole policy reduced V6 bytes)) = ap length is in
-      let place : n - m + 7 ≡ header_bytes e.reduced (length e.segments) + 7 = omega (arith, size, len) in
-      ap (λ xs. slice_set xs (n - m + 7) (held.hop_limit - 1)) is
-      ∙ ap (λ k. slice_set (spelling (whole policy reduced V6 bytes)) k (held.hop_limit - 1)) place
-      ∙ sym (round-edit e V6 bytes policy.hop_limit 7 (held.hop_limit - 1))
-      ∙ ap (λ xs. spelling (whole policy reduced V6 xs)) (sym lowered-bytes)
+      let len : length all ≡ length (spelling (outer_by policy reduced inner bytes)) = ap length is in
+      ap (λ xs. take m (drop n xs)) is
+      ∙ ap (take m) (round-behind e inner bytes policy.hop_limit n (place ∙ len))
+      ∙ take_all m bytes (omega arith)
 
-  module _ (policy : Policy) where
-    abbrev lowered : List ℕ
-    lowered = spelling (inner_lowered held)
+  -- they are lowered there
+  pub lowered-inside : (w : List ℕ) (n len : ℕ) → n + length bytes ≡ length all → len ≡ length all
+      → w ≡ inner_lowered_bytes inner bytes
+      → take len (take n all ++ (w ++ drop (length w) (drop n all)) ++ drop
+      (length (take n all ++ (w ++ drop (length w) (drop n all)))) all)
+      ≡ spelling (outer_by policy reduced inner (inner_lowered_bytes inner bytes))
+  lowered-inside w n len place size written =
+      let e = encapsulation_by policy reduced in
+      let lowered : List ℕ = inner_lowered_bytes inner bytes in
+      let same : length w ≡ length bytes = ap length written ∙ length-lowered inner bytes h in
+      let whole_len : length all ≡ length (spelling (outer_by policy reduced inner bytes)) = ap length is in
+      written-over all w n len (omega arith) size
+      ∙ ap (λ xs. take n xs ++ w) is
+      ∙ ap (λ xs. take n (spelling (outer_by policy reduced inner bytes)) ++ xs) written
+      ∙ round-other e inner bytes lowered policy.hop_limit n (sym (length-lowered inner bytes h)) (place ∙ whole_len)
 
-    pub encap-low : (hop : ℕ) → hop ≡ held.hop_limit → hop ≤ 1 → Refuses (encapsulated_by policy held) InnerHop bytes bytes
-    encap-low hop is low =
-        record { told_so = headend-low policy V6 held.hop_limit lowered (omega arith); same = refl }
+-- ---- what is answered
 
-    pub encap-refuses : (hop n : ℕ) → hop ≡ held.hop_limit → 1 < hop → n ≡ length (whole policy policy.reduced V6 lowered).payload
-        → 65535 < n → Refuses (encapsulated_by policy held) (TooBig n) bytes bytes
-    encap-refuses hop n is high len big =
-        let told = push-refuses policy policy.reduced V6 lowered bytes n len big in
-        record { told_so = headend-high policy V6 held.hop_limit lowered (omega arith) ∙ told.told_so; same = refl }
+module _ (policy : Policy) (inner : Family) (bytes : List ℕ) where
+  abbrev lowered : List ℕ
+  lowered = inner_lowered_bytes inner bytes
 
-    pub encap-wants : (hop : ℕ) → hop ≡ held.hop_limit → 1 < hop → length (whole policy policy.reduced V6 lowered).payload ≤ 65535
-        → Wants (encapsulated_by policy held) bytes bytes
-    encap-wants hop is high short =
-        let wants = push-wants policy policy.reduced V6 lowered bytes short in
-        record {
-          packet = wants.packet;
-          outer = headend-high policy V6 held.hop_limit lowered (omega arith) ∙ wants.outer;
-          same = refl;
-        }
+  pub encap-low : (hop : ℕ) → hop ≡ inner_hop inner bytes → hop ≤ 1 → Refuses (encapsulated_by policy inner bytes) InnerHop bytes bytes
+  encap-low hop is low =
+      record { told_so = headend-low policy inner (inner_hop inner bytes) lowered (omega arith); same = refl }
 
-    pub encap-makes : (hop : ℕ) (out : List ℕ) → hop ≡ held.hop_limit → 1 < hop → IsPolicy policy → FitsOuter policy
-        → length (whole policy policy.reduced V6 lowered).payload ≤ 65535 → All (λ b. b < 2 ^ 8) out
-        → out ≡ spelling (whole policy policy.reduced V6 lowered) → Makes (encapsulated_by policy held) out
-    encap-makes hop out is high ok fits short all spelled =
-        let makes = push-makes policy policy.reduced V6 lowered out ok fits short all spelled in
-        record {
-          packet = makes.packet;
-          outer = headend-high policy V6 held.hop_limit lowered (omega arith) ∙ makes.outer;
-          spelled = makes.spelled;
-        }
+  pub encap-refuses : (hop n : ℕ) → hop ≡ inner_hop inner bytes → 1 < hop
+      → n ≡ length (outer_by policy policy.reduced inner lowered).payload
+      → 65535 < n → Refuses (encapsulated_by policy inner bytes) (TooBig n) bytes bytes
+  encap-refuses hop n is high len big =
+      let told = push-refuses policy policy.reduced inner lowered bytes n len big in
+      record { told_so = headend-high policy inner (inner_hop inner bytes) lowered (omega arith) ∙ told.told_so; same = refl }
+
+  pub encap-wants : (hop : ℕ) → hop ≡ inner_hop inner bytes → 1 < hop
+      → length (outer_by policy policy.reduced inner lowered).payload ≤ 65535
+      → Wants (encapsulated_by policy inner bytes) bytes bytes
+  encap-wants hop is high short =
+      let wants = push-wants policy policy.reduced inner lowered bytes short in
+      record {
+        packet = wants.packet;
+        outer = headend-high policy inner (inner_hop inner bytes) lowered (omega arith) ∙ wants.outer;
+        same = refl;
+      }
+
+  pub encap-makes : (hop : ℕ) (out : List ℕ) → hop ≡ inner_hop inner bytes → 1 < hop → IsPolicy policy → FitsOuter policy
+      → length (outer_by policy policy.reduced inner lowered).payload ≤ 65535 → All (λ b. b < 2 ^ 8) out
+      → out ≡ spelling (outer_by policy policy.reduced inner lowered) → Makes (encapsulated_by policy inner bytes) out
+  encap-makes hop out is high ok fits short all spelled =
+      let makes = push-makes policy policy.reduced inner lowered out ok fits short all spelled in
+      record {
+        packet = makes.packet;
+        outer = headend-high policy inner (inner_hop inner bytes) lowered (omega arith) ∙ makes.outer;
+        spelled = makes.spelled;
+      }
+
+-- the lengths that packets state
+pub ruleset lengths = (holds-payload_len, holds4-length)

@@ -8,9 +8,9 @@ use Rattle.srv6_rules.specs.declared.sid.Family.{Family}
 use Rattle.srv6_rules.specs.Packet.{Packet, header_spelling, spelling, first_word, two_bytes, four_bytes, address_bytes}
 use Rattle.srv6_rules.specs.Srh.{Srh, srh_spelling}
 use Rattle.srv6_rules.specs.Chain.{routing}
-use Rattle.srv6_rules.specs.Encapsulation.{segment_list, has_segment_routing, header_bytes}
-use Rattle.srv6_rules.specs.Policies.{encapsulation_by, inner_kind, pushed_round}
-use Rattle.srv6_rules.proofs.PublicLaws.{round-payload}
+use Rattle.srv6_rules.specs.Encapsulation.{Encapsulation, segment_list, has_segment_routing, header_bytes}
+use Rattle.srv6_rules.specs.Policies.{encapsulation_by, inner_kind, outer_by}
+use Rattle.srv6_rules.proofs.PublicLaws.{by-payload}
 use Rattle.srh_codec.specs.Writing.{numbers_of, header_over}
 use Rattle.policy_encap.specs.Headers.{listed, framed, routing_bytes}
 
@@ -64,33 +64,43 @@ header_on kind left list =
     }
 
 module _ (policy : Policy) (reduced : Bool) (inner : Family) (bytes : List ℕ) where
-  abbrev rounded : Packet
-  rounded = pushed_round (encapsulation_by policy reduced) inner bytes policy.hop_limit
+  -- the outer packet with a segment routing header or without one, with these Segments Left and segment list
+  shaped : Bool → ℕ → List ℕ → Packet
+  shaped has left list =
+      framed policy (if has then routing else inner_kind inner)
+      (if has then srh_spelling (header_on (inner_kind inner) left list) ++ bytes else bytes)
+
+  by-shape : outer_by policy reduced inner bytes
+      ≡ shaped (has_segment_routing (encapsulation_by policy reduced)) (length (numbers_of policy.segments) - 1)
+      (segment_list (encapsulation_by policy reduced))
+  unfolding shaped
+  by-shape = refl
 
   -- with a segment routing header
   pub round-routed : 0 < length (listed policy reduced)
-      → rounded
+      → outer_by policy reduced inner bytes
       ≡ framed policy routing
       (srh_spelling (header_over (inner_kind inner) (length policy.segments - 1) (reverse (numbers_of (listed policy reduced)))) ++ bytes)
+  unfolding shaped
   round-routed some =
+      let e : Encapsulation = encapsulation_by policy reduced in
       let entries : List ℕ = reverse (numbers_of (listed policy reduced)) in
-      let left : length (map (λ (a : Addr). a.value) policy.segments) - 1 ≡ length policy.segments - 1 =
+      let left : length (numbers_of policy.segments) - 1 ≡ length policy.segments - 1 =
       ap (λ n. n - 1) (length-map policy.segments (λ (a : Addr). a.value)) in
-      let list : segment_list (encapsulation_by policy reduced) ≡ reverse (reverse entries) =
-      listed-numbers policy reduced ∙ sym (reverse-reverse entries) in
-      let has = has-routing policy reduced some in
-      ap (λ b. framed policy (if b then routing else inner_kind inner) (if b then
-      srh_spelling (header_on (inner_kind inner) (length (map (λ (a : Addr). a.value) policy.segments) - 1) (segment_list (encapsulation_by policy reduced))) ++ bytes else bytes)) has
-      ∙ ap (λ n. framed policy routing (srh_spelling (header_on (inner_kind inner) n (segment_list (encapsulation_by policy reduced))) ++ bytes)) left
-      ∙ ap (λ xs. framed policy routing (srh_spelling (header_on (inner_kind inner) (length policy.segments - 1) xs) ++ bytes)) list
+      let list : segment_list e ≡ reverse (reverse entries) = listed-numbers policy reduced ∙ sym (reverse-reverse entries) in
+      by-shape
+      ∙ ap (λ b. shaped b (length (numbers_of policy.segments) - 1) (segment_list e)) (has-routing policy reduced some)
+      ∙ ap (λ n. shaped true n (segment_list e)) left
+      ∙ ap (shaped true (length policy.segments - 1)) list
 
   -- without one
   pub round-bare : 0 < length policy.segments → length (listed policy reduced) ≡ 0
-      → rounded ≡ framed policy (inner_kind inner) bytes
+      → outer_by policy reduced inner bytes ≡ framed policy (inner_kind inner) bytes
+  unfolding shaped
   round-bare some none =
-      let has = has-none policy reduced some none in
-      ap (λ b. framed policy (if b then routing else inner_kind inner) (if b then
-      srh_spelling (header_on (inner_kind inner) (length (map (λ (a : Addr). a.value) policy.segments) - 1) (segment_list (encapsulation_by policy reduced))) ++ bytes else bytes)) has
+      by-shape
+      ∙ ap (λ b. shaped b (length (numbers_of policy.segments) - 1) (segment_list (encapsulation_by policy reduced)))
+      (has-none policy reduced some none)
 
 -- the bytes in front of the inner packet, by the segments that are listed
 listed-bytes : (reduced : Bool) (n m : ℕ) → 0 < n → m ≡ (if reduced then n - 1 else n)
@@ -102,18 +112,17 @@ listed-bytes true n m some is = elim (cases_lt 1 n) [
 listed-bytes false n m some is = let full = ne_eqb m 0 (omega arith) in rw full (omega arith)
 
 pub round-len : (policy : Policy) (reduced : Bool) (inner : Family) (bytes : List ℕ) → 0 < length policy.segments
-    → routing_bytes (listed policy reduced) + length bytes
-    ≡ length (pushed_round (encapsulation_by policy reduced) inner bytes policy.hop_limit).payload
+    → routing_bytes (listed policy reduced) + length bytes ≡ length (outer_by policy reduced inner bytes).payload
 round-len policy reduced inner bytes some =
     let size = listed-bytes reduced (length policy.segments) (length (listed policy reduced)) some (length-listed policy reduced) in
-    let whole = round-payload (encapsulation_by policy reduced) inner bytes policy.hop_limit in
-    let same = ap (header_bytes reduced) (length-map policy.segments (λ (a : Addr). a.value)) in
-    omega (arith, size, whole, same)
+    let whole = by-payload policy reduced inner bytes in
+    omega (arith, size, whole)
 
 -- ---- headers written
 
 -- what is written over the bytes behind others stands there
-pub written-behind : (out zeros w : List ℕ) (start n : ℕ) → start ≡ length out → length w ≡ length zeros → n ≡ length (out ++ zeros)
+pub written-behind : (out zeros w : List ℕ) (start n : ℕ) → start ≡ length out → length w ≡ length zeros
+    → n ≡ length (out ++ zeros)
     → take n (take start (out ++ zeros) ++ (w ++ drop (length w) (drop start (out ++ zeros))) ++ drop
     (length (take start (out ++ zeros) ++ (w ++ drop (length w) (drop start (out ++ zeros))))) (out ++ zeros))
     ≡ out ++ w
@@ -166,23 +175,18 @@ unfolding header_spelling first_word
 outer-written policy next_header len word to out o1 o2 o3 o4 o5 four two one other payload some long w t f1 e1 f2 e2 e3 f4 e4 f5 e5 =
     let parts : o5 ≡ ((((out ++ four_bytes word) ++ two_bytes len) ++ next_header ∷ policy.hop_limit ∷ []) ++
     address_bytes policy.source.value) ++ address_bytes to = cc in
+    let laid : ℕ → ℕ → ℕ → List ℕ = λ n k a. out ++ (four_bytes n ++ (two_bytes k ++ (next_header ∷ policy.hop_limit ∷
+    (address_bytes policy.source.value ++ address_bytes a)))) in
     let joined : ((((out ++ four_bytes word) ++ two_bytes len) ++ next_header ∷ policy.hop_limit ∷ []) ++
-    address_bytes policy.source.value) ++ address_bytes to
-    ≡ out ++ (four_bytes word ++ (two_bytes len ++ (next_header ∷ policy.hop_limit ∷ (address_bytes policy.source.value ++
-    address_bytes to)))) = simp append_assoc in
-    parts ∙ joined
-    ∙ ap (λ n. out ++ (four_bytes n ++ (two_bytes len ++ (next_header ∷ policy.hop_limit ∷ (address_bytes policy.source.value ++
-    address_bytes to))))) w
-    ∙ ap (λ n. out ++ (four_bytes (1610612736 + policy.traffic_class * 1048576 + policy.flow_label) ++ (two_bytes n ++ (next_header ∷ policy.hop_limit ∷ (address_bytes policy.source.value ++
-    address_bytes to))))) (sym long)
-    ∙ ap (λ a. out ++ (four_bytes (1610612736 + policy.traffic_class * 1048576 + policy.flow_label) ++ (two_bytes (length payload) ++ (next_header ∷ policy.hop_limit ∷ (address_bytes policy.source.value ++
-    address_bytes a))))) t
+    address_bytes policy.source.value) ++ address_bytes to ≡ laid word len to = simp append_assoc in
+    let number : ℕ = 1610612736 + policy.traffic_class * 1048576 + policy.flow_label in
+    parts ∙ joined ∙ ap (λ n. laid n len to) w ∙ ap (λ k. laid number k to) (sym long) ∙ ap (laid number (length payload)) t
 
 -- ---- the whole packet
 
 module _ (policy : Policy) (reduced : Bool) (inner : Family) (bytes : List ℕ) where
   abbrev whole : Packet
-  whole = pushed_round (encapsulation_by policy reduced) inner bytes policy.hop_limit
+  whole = outer_by policy reduced inner bytes
 
   pub made-bare : (kind : ℕ) (list : List Addr) (out items : List ℕ) → 0 < length policy.segments → list ≡ listed policy reduced
       → (length list == 0) ≡ true → kind ≡ inner_kind inner → out ≡ []

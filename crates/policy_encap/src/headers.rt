@@ -2,7 +2,7 @@
 
 ghost use Rattle.std.specs.Prelude.{◌≡◌, ◌+◌, ◌-◌, ◌<◌, ◌≤◌, ◌++◌, ℕ, ◌^◌, List, length, reverse, OnOk, IfOk};
 ghost use Rattle.srv6_rules.specs.Packet.{header_spelling, spelling};
-ghost use Rattle.srv6_rules.specs.Policies.{IsPolicy, encapsulation_by, inner_kind, pushed_round};
+ghost use Rattle.srv6_rules.specs.Policies.{IsPolicy, inner_kind, outer_by};
 ghost use Rattle.srv6_rules.specs.Srh.{srh_spelling};
 ghost use Rattle.srv6_rules.specs.declared.sid.Family.{Family as FamilyValue};
 ghost use Rattle.srh_codec.specs.Writing.{header_over, numbers_of};
@@ -58,7 +58,7 @@ pub(crate) fn payload_len(policy: &Policy, reduced: bool, inner_len: usize) -> u
     requires inner { inner_len ≤ MOST_LEN }
     ensures most { result ≤ 2040 + inner_len }
     ensures value { (inner : FamilyValue) (bytes : List ℕ) → length bytes ≡ inner_len
-        → result ≡ length (pushed_round (encapsulation_by policy.now reduced) inner bytes policy.now.hop_limit).payload }
+        → result ≡ length (outer_by policy.now reduced inner bytes).payload }
 {
     routing_len(listed(policy, reduced)) + inner_len
 }
@@ -120,9 +120,9 @@ pub(crate) fn outer_bytes(
     packet: &[u8],
 ) -> Result<Vec<u8>, AllocError>
     requires policy { IsPolicy policy.now }
-    requires fits { length (pushed_round (encapsulation_by policy.now reduced) inner packet.now policy.now.hop_limit).payload ≤ 65535 }
-    ensures { IfOk result (λ bytes. bytes.items
-        ≡ spelling (pushed_round (encapsulation_by policy.now reduced) inner packet.now policy.now.hop_limit)) }
+    requires fits { length (outer_by policy.now reduced inner packet.now).payload ≤ 65535 }
+    ensures { IfOk result
+        (λ bytes. bytes.items ≡ spelling (outer_by policy.now reduced inner packet.now)) }
 {
     let listed = listed(policy, reduced);
     let len = routing_len(listed) + packet.len();

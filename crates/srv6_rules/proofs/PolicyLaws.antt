@@ -1,17 +1,18 @@
 -- The packet that a policy's header makes: its lengths, and what stands where.
-use Rattle.std.proofs.Common.{◌≡◌, ℕ, ◌+◌, ◌-◌, ◌^◌, ◌<◌, ◌≤◌, Bool, true, false, if◌then◌else◌, List, [], ◌∷◌, ◌++◌, length, drop, slice_index, slice_set, All, refl, sym, ap, subst, ◌∙◌, arith, length-append}
-use Rattle.std.proofs.lemmas.Bool.{lt-ltb, le-ltb, le-leb, lt-leb}
-use Rattle.std.proofs.lemmas.List.{drop_at, set-append_right}
+use Rattle.std.proofs.Common.{◌≡◌, ℕ, ◌+◌, ◌-◌, ◌*◌, ◌^◌, ◌<◌, ◌≤◌, Bool, true, false, if◌then◌else◌, List, [], ◌∷◌, ◌++◌, length, map, flat_map, take, drop, slice_index, slice_set, All, refl, sym, ap, subst, ◌∙◌, arith, inl, inr, length-append}
+use Rattle.std.proofs.lemmas.Bool.{cases_lt, lt-ltb, le-ltb, le-leb, lt-leb}
+use Rattle.std.proofs.lemmas.List.{length-map, drop_at, take_at, append_assoc, set-append_right}
 use Rattle.std.proofs.lemmas.List.Elements.{All-cons, All-tail}
+use Rattle.v6_addr.specs.declared.address.Addr.{Addr}
 use Rattle.srv6_rules.specs.declared.policy.Policy.{Policy}
 use Rattle.srv6_rules.specs.declared.sid.Family.{Family}
 use Rattle.srv6_rules.specs.declared.sid.Family.TheVariants.{V6, V4}
-use Rattle.srv6_rules.specs.Packet.{Packet, IsSpellable, most_len, spelling, two_bytes}
+use Rattle.srv6_rules.specs.Packet.{Packet, IsSpellable, most_len, header_spelling, spelling, two_bytes, address_bytes}
 use Rattle.srv6_rules.specs.Srh.{Srh, srh_spelling, segment_routing}
 use Rattle.srv6_rules.specs.Chain.{routing}
 use Rattle.srv6_rules.specs.Behaviours.{ipv6_inside}
-use Rattle.srv6_rules.specs.Encapsulation.{Encapsulation, has_segment_routing, outer, pushed, header_bytes, IsSpellableEncapsulation}
-use Rattle.srv6_rules.specs.Policies.{inner_kind, routing_header, pushed_round, most_payload, Outer, TooBig, InnerHop, unless_too_big, headend_by, pushed_by}
+use Rattle.srv6_rules.specs.Encapsulation.{Encapsulation, segment_list, has_segment_routing, outer, pushed, header_bytes, IsSpellableEncapsulation}
+use Rattle.srv6_rules.specs.Policies.{encapsulation_by, outer_by, inner_kind, routing_header, pushed_round, most_payload, Outer, TooBig, InnerHop, unless_too_big, headend_by, pushed_by}
 use Rattle.srv6_rules.proofs.Packets.{length-spelling}
 use Rattle.srv6_rules.proofs.Edits.{edit-payload}
 use Rattle.srv6_rules.proofs.Encapsulations.{length-outer, at_segment-spellable}
@@ -102,6 +103,53 @@ module _ (e : Encapsulation) (inner : Family) (bytes : List ℕ) (hop : ℕ) whe
             (small_kind inner) v6.payload;
       }
 
+-- the outer packets round bytes of one length have one header
+same-header : (p q : Packet) → p.traffic_class ≡ q.traffic_class → p.flow_label ≡ q.flow_label → p.next_header ≡ q.next_header
+    → p.hop_limit ≡ q.hop_limit → p.source ≡ q.source → p.destination ≡ q.destination → length p.payload ≡ length q.payload
+    → header_spelling p ≡ header_spelling q
+unfolding header_spelling
+same-header p q a b c d e f g = rw (a, b, c, d, e, f, g) refl
+
+round-header : (e : Encapsulation) (inner : Family) (xs ys : List ℕ) (hop : ℕ) → length xs ≡ length ys
+    → header_spelling (pushed_round e inner xs hop) ≡ header_spelling (pushed_round e inner ys hop)
+round-header e inner xs ys hop same =
+    let one = round-payload e inner xs hop in
+    let two = round-payload e inner ys hop in
+    same-header (pushed_round e inner xs hop) (pushed_round e inner ys hop) refl refl refl refl refl refl (omega (arith, one, two))
+
+-- the bytes in front of the inner packet's
+round-split : (e : Encapsulation) (inner : Family) (bytes : List ℕ) (hop : ℕ)
+    → spelling (pushed_round e inner bytes hop)
+    ≡ (header_spelling (pushed_round e inner bytes hop) ++ front_of e inner) ++ bytes
+round-split e inner bytes hop =
+    let p : Packet = pushed_round e inner bytes hop in
+    ap (λ xs. header_spelling p ++ xs) (round-front e inner bytes hop) ∙ sym (append_assoc (header_spelling p) (front_of e inner) bytes)
+
+-- the front of an outer packet, up to the inner packet, and other inner bytes of one length
+pub round-other : (e : Encapsulation) (inner : Family) (xs ys : List ℕ) (hop n : ℕ) → length xs ≡ length ys
+    → n + length xs ≡ length (spelling (pushed_round e inner xs hop))
+    → take n (spelling (pushed_round e inner xs hop)) ++ ys ≡ spelling (pushed_round e inner ys hop)
+round-other e inner xs ys hop n same place =
+    let front : List ℕ = header_spelling (pushed_round e inner xs hop) ++ front_of e inner in
+    let split = round-split e inner xs hop in
+    let len : length (spelling (pushed_round e inner xs hop)) ≡ length front + length xs =
+    ap length split ∙ length-append front xs in
+    ap (λ zs. take n zs ++ ys) split
+    ∙ ap (λ zs. zs ++ ys) (take_at front xs n (omega (arith, len)))
+    ∙ ap (λ zs. (zs ++ front_of e inner) ++ ys) (round-header e inner xs ys hop same)
+    ∙ sym (round-split e inner ys hop)
+
+-- the inner bytes behind that front
+pub round-behind : (e : Encapsulation) (inner : Family) (bytes : List ℕ) (hop n : ℕ)
+    → n + length bytes ≡ length (spelling (pushed_round e inner bytes hop))
+    → drop n (spelling (pushed_round e inner bytes hop)) ≡ bytes
+round-behind e inner bytes hop n place =
+    let front : List ℕ = header_spelling (pushed_round e inner bytes hop) ++ front_of e inner in
+    let split = round-split e inner bytes hop in
+    let len : length (spelling (pushed_round e inner bytes hop)) ≡ length front + length bytes =
+    ap length split ∙ length-append front bytes in
+    ap (drop n) split ∙ drop_at front bytes n (omega (arith, len))
+
 -- a byte of the inner packet that changes changes in the outer packet behind the header bytes
 pub round-edit : (e : Encapsulation) (inner : Family) (bytes : List ℕ) (hop k v : ℕ)
     → spelling (pushed_round e inner (slice_set bytes k v) hop)
@@ -136,3 +184,74 @@ module _ (policy : Policy) (inner : Family) (hop : ℕ) (lowered : List ℕ) whe
 
   pub headend-high : 1 < hop → headend_by policy inner hop lowered ≡ pushed_by policy policy.reduced inner lowered
   headend-high high = rw (lt-leb hop 1 high) refl
+
+-- ---- the laws
+
+module _ (policy : Policy) (reduced : Bool) (inner : Family) (bytes : List ℕ) where
+  abbrev size : ℕ
+  size = header_bytes reduced (length policy.segments)
+
+  values-length : header_bytes reduced (length (map (λ (a : Addr). a.value) policy.segments)) ≡ size
+  values-length = ap (header_bytes reduced) (length-map policy.segments (λ (a : Addr). a.value))
+
+  pub by-length : length (spelling (outer_by policy reduced inner bytes)) ≡ size + length bytes
+  by-length = round-length (encapsulation_by policy reduced) inner bytes policy.hop_limit ∙ ap (λ n. n + length bytes) values-length
+
+  pub by-payload : 40 + length (outer_by policy reduced inner bytes).payload ≡ size + length bytes
+  by-payload = round-payload (encapsulation_by policy reduced) inner bytes policy.hop_limit ∙ ap (λ n. n + length bytes) values-length
+
+  pub by-inner : drop size (spelling (outer_by policy reduced inner bytes)) ≡ bytes
+  by-inner = round-behind (encapsulation_by policy reduced) inner bytes policy.hop_limit size (sym by-length)
+
+  pub by-fits : size + length bytes ≤ 65575 → pushed_by policy reduced inner bytes ≡ Outer (outer_by policy reduced inner bytes)
+  by-fits short = made-fits (outer_by policy reduced inner bytes) (omega (arith, by-payload))
+
+  pub by-big : (n : ℕ) → 65535 < n → 40 + n ≡ size + length bytes → pushed_by policy reduced inner bytes ≡ TooBig n
+  by-big n big is =
+      let same : length (outer_by policy reduced inner bytes).payload ≡ n = omega (arith, by-payload) in
+      made-big (outer_by policy reduced inner bytes) (omega (arith, same)) ∙ ap TooBig same
+
+  pub by-only_big : (n : ℕ) → pushed_by policy reduced inner bytes ≡ TooBig n → (65535 < n) × (40 + n ≡ size + length bytes)
+  by-only_big n told = elim (cases_lt 65535 (length (outer_by policy reduced inner bytes).payload)) [
+    | inl big ↦
+        let same : length (outer_by policy reduced inner bytes).payload ≡ n =
+        big-length (sym (made-big (outer_by policy reduced inner bytes) big) ∙ told) in
+        (omega (arith, same), omega (arith, same, by-payload))
+    | inr fits ↦ cc (sym (made-fits (outer_by policy reduced inner bytes) fits) ∙ told)
+  ]
+    where
+      big-length : {m k : ℕ} → TooBig m ≡ TooBig k → m ≡ k
+      big-length e = cc
+
+pub headend-only_low : (policy : Policy) (inner : Family) (hop : ℕ) (lowered : List ℕ)
+    → headend_by policy inner hop lowered ≡ InnerHop → hop ≤ 1
+headend-only_low policy inner hop lowered told = elim (cases_lt 1 hop) [
+  | inl high ↦
+      elim (cases_lt 65535 (length (outer_by policy policy.reduced inner lowered).payload)) [
+        | inl big ↦
+            cc (sym (headend-high policy inner hop lowered high ∙ made-big (outer_by policy policy.reduced inner lowered) big) ∙ told)
+        | inr fits ↦
+            cc (sym (headend-high policy inner hop lowered high ∙ made-fits (outer_by policy policy.reduced inner lowered) fits) ∙ told)
+      ]
+  | inr low ↦ low
+]
+
+-- the parts of the outer packet
+pub round-with_header : (e : Encapsulation) (inner : Family) (bytes : List ℕ) (hop : ℕ) → has_segment_routing e ≡ true
+    → ((pushed_round e inner bytes hop).next_header ≡ routing)
+    × ((pushed_round e inner bytes hop).payload ≡ srh_spelling (routing_header e inner) ++ bytes)
+round-with_header e inner bytes hop has = (rw has refl, rw has refl)
+
+pub round-without_header : (e : Encapsulation) (inner : Family) (bytes : List ℕ) (hop : ℕ) → has_segment_routing e ≡ false
+    → ((pushed_round e inner bytes hop).next_header ≡ inner_kind inner) × ((pushed_round e inner bytes hop).payload ≡ bytes)
+round-without_header e inner bytes hop has = (rw has refl, rw has refl)
+
+pub round-header_bytes : (e : Encapsulation) (inner : Family) → srh_spelling (routing_header e inner)
+    ≡ inner_kind inner ∷ (2 * length (segment_list e)) ∷ 4 ∷ (length e.segments - 1) ∷ (length (segment_list e) - 1) ∷ 0 ∷ 0 ∷ 0 ∷
+    flat_map address_bytes (segment_list e)
+unfolding two_bytes
+round-header_bytes e inner = refl
+
+-- round an IPv6 packet it is the encapsulation's
+pub round-ipv6 : (e : Encapsulation) (bytes : List ℕ) (hop : ℕ) → pushed_round e V6 bytes hop ≡ pushed e bytes hop
+round-ipv6 e bytes hop = sym (pushed-left e V6 bytes hop)

@@ -1,5 +1,5 @@
 -- The laws of this crate as lemmas, each the proof of a clause of `laws` or `encapsulation`: what crates above cite.
-pub use Rattle.srv6_rules.proofs.Bytes.{length-two_bytes, length-four_bytes, length-address_bytes, all-two_bytes, all-four_bytes, all-address_bytes, two_number-append, four_number-append, address_number-append}
+pub use Rattle.srv6_rules.proofs.Bytes.{length-two_bytes, length-four_bytes, length-address_bytes, all-two_bytes, all-four_bytes, all-address_bytes, two_number-below, two_number-append, four_number-append, address_number-append}
 pub use Rattle.srv6_rules.proofs.Packets.{content_of-spelling, content_of-spelling_alone, length-spelling, all-spelling, packet_at-spellable, reads-spellable, reads-spelled, entered-is_content, entered-back}
 pub use Rattle.srv6_rules.proofs.Packets4.{read4-spelling, read4-alone, read4-version, read4-short, read4-header, read4-total, read4-cut, read4-whole, reads4-spellable, reads4-spelled, spells4-value, ttl_lowered-ttl, ttl_lowered-length, ttl_lowered-other, ttl_lowered-front, ttl_lowered-all, lowered4-spelling, lowered4-spellable, lowered4-checksum, lowered4-other, lowered4-sum, lowered4-verifies}
 pub use Rattle.srv6_rules.proofs.Edits.{spelling-behind, edit-hop_limit, edit-destination, edit-payload}
@@ -17,6 +17,6 @@ pub use Rattle.srv6_rules.proofs.Checksums.{ones_sum-carried, word_sum-append, c
 pub use Rattle.srv6_rules.proofs.ErrorLaws.{upper_layer_sum-carried, error_checksum-parts, error-start, error-goes_on, error-behind, error-none, error-is_error, error-once, error-most, error-length, quote-short, kind_of-fits, error-spellable, error-verifies}
 pub use Rattle.srv6_rules.proofs.Containers.{container-shift, container-rest, argument-container, argument-zero, container-holds, container-address, container-one}
 pub use Rattle.srv6_rules.proofs.PackedEntries.{entry-csid, entry-past, entry-address, next-sid, index-back, index-holds, index-written}
-pub use Rattle.srv6_rules.proofs.PolicyLaws.{round-front, round-payload, round-length, round-inner, round-next_header, round-spellable, round-edit, made-fits, made-big, headend-low, headend-high}
 pub use Rattle.srv6_rules.proofs.SteppedPackets.{shifted-spellable, step-spellable, step-hop_limit, StepMoves, step-moves}
 pub use Rattle.srv6_rules.proofs.SteppedEntries.{entry-next, entry-last, entry-first, entry-ended}
+pub use Rattle.srv6_rules.proofs.PolicyLaws.{round-front, round-payload, round-length, round-inner, round-next_header, round-spellable, round-edit, round-other, round-behind, made-fits, made-big, headend-low, headend-high}

@@ -5,7 +5,8 @@ use Rattle.v6_addr.specs.declared.address.Addr.{Addr}
 use Rattle.srv6_rules.specs.declared.policy.Policy.{Policy}
 use Rattle.srv6_rules.specs.declared.sid.Family.{Family}
 use Rattle.srv6_rules.specs.declared.sid.Family.TheVariants.{V6, V4}
-use Rattle.srv6_rules.specs.Packet.{Packet, header_len, most_len, spelling}
+use Rattle.srv6_rules.specs.Packet.{Packet, header_len, most_len, packet_at, spelling}
+use Rattle.srv6_rules.specs.Packet4.{packet4_at, spelling4, ttl, lowered4}
 use Rattle.srv6_rules.specs.Srh.{Srh, srh_spelling}
 use Rattle.srv6_rules.specs.Chain.{routing}
 use Rattle.srv6_rules.specs.Behaviours.{ipv6_inside, ipv4_inside}
@@ -46,6 +47,10 @@ pushed_round e inner bytes hop =
       payload = if has_segment_routing e then srh_spelling (routing_header e inner) ++ bytes else bytes;
     }
 
+-- the outer packet of a policy round the bytes of a packet of a family, in the full or the reduced form
+abbrev pub outer_by : Policy → Bool → Family → List ℕ → Packet
+outer_by policy reduced inner bytes = pushed_round (encapsulation_by policy reduced) inner bytes policy.hop_limit
+
 -- the greatest payload length in bytes that a header can state
 abbrev pub most_payload : ℕ
 most_payload = most_len - header_len
@@ -62,8 +67,7 @@ unless_too_big p = if nat_lt most_payload (length p.payload) then TooBig (length
 
 -- the header of a policy put in front of the bytes of a packet of a family, in the full or the reduced form
 abbrev pub pushed_by : Policy → Bool → Family → List ℕ → Encapsulating
-pushed_by policy reduced inner bytes =
-    unless_too_big (pushed_round (encapsulation_by policy reduced) inner bytes policy.hop_limit)
+pushed_by policy reduced inner bytes = unless_too_big (outer_by policy reduced inner bytes)
 
 -- H.Encaps of a packet of a family with a policy, in the policy's own form: of a packet with this hop limit or TTL, whose
 -- bytes are these once it is lowered by one
@@ -71,6 +75,16 @@ abbrev pub headend_by : Policy → Family → ℕ → List ℕ → Encapsulating
 headend_by policy inner hop lowered =
     if nat_le hop 1 then InnerHop else pushed_by policy policy.reduced inner lowered
 
--- H.Encaps of an IPv6 packet
-abbrev pub encapsulated_by : Policy → Packet → Encapsulating
-encapsulated_by policy p = headend_by policy V6 p.hop_limit (spelling (inner_lowered p))
+-- the hop limit or the TTL of the packet of a family that bytes hold
+abbrev pub inner_hop : Family → List ℕ → ℕ
+inner_hop V6 bytes = (packet_at bytes).hop_limit
+inner_hop V4 bytes = ttl (packet4_at bytes)
+
+-- the bytes of that packet, lowered by one: the hop limit, or the TTL and the checksum that follows it
+abbrev pub inner_lowered_bytes : Family → List ℕ → List ℕ
+inner_lowered_bytes V6 bytes = spelling (inner_lowered (packet_at bytes))
+inner_lowered_bytes V4 bytes = spelling4 (lowered4 (packet4_at bytes))
+
+-- H.Encaps of the packet of a family that bytes hold
+abbrev pub encapsulated_by : Policy → Family → List ℕ → Encapsulating
+encapsulated_by policy inner bytes = headend_by policy inner (inner_hop inner bytes) (inner_lowered_bytes inner bytes)

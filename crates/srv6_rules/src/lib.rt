@@ -14,6 +14,7 @@ pub mod icmp;
 pub mod ip4;
 pub mod laws;
 pub mod numbers;
+pub mod policies;
 mod policy;
 mod sid;
 

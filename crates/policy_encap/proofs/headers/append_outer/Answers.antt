@@ -11,6 +11,7 @@ returns c = λ payload long.
     c.extend_from_slice-5.new.self.items c.to_be_bytes.result c.to_be_bytes-2.result c.to_be_bytes-3.result c.to_be_bytes-4.result
     payload c.requires.some long
     (ap (λ n. 1610612736 + n * 1048576 + c.args.policy.now.flow_label) c.from.ensures)
-    (first-segment c.args.policy.now c.as_slice.result.now c.requires.some c.as_slice.ensures) c.to_be_bytes.ensures c.in_ok-extend_from_slice.ensures.items c.to_be_bytes-2.ensures
+    (first-segment c.args.policy.now c.as_slice.result.now c.requires.some c.as_slice.ensures) c.to_be_bytes.ensures
+    c.in_ok-extend_from_slice.ensures.items c.to_be_bytes-2.ensures
     c.in_ok-extend_from_slice-2.ensures.items c.in_ok-extend_from_slice-3.ensures.items c.to_be_bytes-3.ensures
     c.in_ok-extend_from_slice-4.ensures.items c.to_be_bytes-4.ensures c.in_ok-extend_from_slice-5.ensures.items

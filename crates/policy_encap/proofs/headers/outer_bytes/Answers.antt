@@ -1,5 +1,5 @@
 use Rattle.std.proofs.Common.{◌≡◌, ◌+◌, ◌∙◌, ◌++◌, length, refl, sym, ap, arith}
-use Rattle.srv6_rules.specs.Policies.{encapsulation_by, pushed_round}
+use Rattle.srv6_rules.specs.Policies.{outer_by}
 use Rattle.policy_encap.specs.Headers.{routing_bytes}
 use Rattle.policy_encap.proofs.RoundLemmas.{round-len, made-bare, made-routed}
 use Rattle.policy_encap.proofs.headers.outer_bytes.Goals as goal
@@ -10,7 +10,7 @@ overflow_cast-len-else-is_empty c =
     let policy = c.args.policy.now in
     let bytes = c.args.packet.now in
     let len : c.routing_len.result + length bytes
-    ≡ length (pushed_round (encapsulation_by policy c.args.reduced) c.args.inner bytes policy.hop_limit).payload =
+    ≡ length (outer_by policy c.args.reduced c.args.inner bytes).payload =
     ap (λ n. n + length bytes) (c.routing_len.ensures ∙ ap routing_bytes c.listed-listed.ensures)
     ∙ round-len policy c.args.reduced c.args.inner bytes c.requires.policy.some in
     let fits = c.requires.fits in
@@ -20,7 +20,7 @@ pub returns : goal.returns
 returns c =
     let policy = c.args.policy.now in
     let bytes = c.args.packet.now in
-    let whole = pushed_round (encapsulation_by policy c.args.reduced) c.args.inner bytes policy.hop_limit in
+    let whole = outer_by policy c.args.reduced c.args.inner bytes in
     let len : length whole.payload ≡ c.routing_len.result + length bytes =
     sym (round-len policy c.args.reduced c.args.inner bytes c.requires.policy.some)
     ∙ ap (λ n. n + length bytes) (sym (c.routing_len.ensures ∙ ap routing_bytes c.listed-listed.ensures)) in
