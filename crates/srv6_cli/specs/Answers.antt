@@ -95,6 +95,11 @@ abbrev pub CommandsUnread : Command → Result Told Halt → FilesSeen → Files
 CommandsUnread command answer files_old files_new out_old out_new =
     (input : SourceSeen) → CommandsOut command answer files_old files_new input input out_old out_new
 
+-- the same of one that reads no files, whatever they are
+abbrev pub CommandsOfInput : Command → Result Told Halt → SourceSeen → SourceSeen → SinkSeen → SinkSeen → Type 0
+CommandsOfInput command answer input_old input_new out_old out_new =
+    (files : FilesSeen) → CommandsOut command answer files files input_old input_new out_old out_new
+
 -- what a line on `err` leaves: it went out whole, with its own status, or in part
 pub record Tells (last : List ℕ) (own status : Status) (old new : SinkSeen) : Type 0 where
   pub wrote : Wrote (ending_of_status status) last old new

@@ -1,6 +1,7 @@
 -- The words of the command line, and the shapes of the commands that they name (own rules).
 pub mod Run
 pub mod Compile
+pub mod Show
 use Rattle.std.specs.Prelude.{◌≡◌, ℕ, ◌<◌, true, false, if◌then◌else◌, List, [], ◌∷◌, length, map, Option, Some, None, String, string_bytes, ⊤}
 use Rattle.std.specs.declared.alloc.Global.{Global}
 use Rattle.srv6_cli.specs.declared.status.Status.TheVariants as statuses
@@ -14,6 +15,10 @@ use Rattle.srv6_cli.specs.Words.{Command}
 use Rattle.srv6_cli.specs.Words as commands
 use Rattle.srv6_cli.specs.Command.Run.{is_run, no_choices, run_shape}
 use Rattle.srv6_cli.specs.Command.Compile.{is_compile, compile_shape}
+use Rattle.srv6_cli.specs.Command.Show.{is_show, show_shape}
+
+abbrev pub command_of_one : List ℕ → Command
+command_of_one verb = if is_show verb then commands.Show else commands.Unknown
 
 abbrev pub run_with : List ℕ → List ℕ → Option (List ℕ) → Command
 run_with file node None = commands.Unknown
@@ -32,7 +37,7 @@ command_of_four verb first second third =
 
 abbrev pub command_of : List (List ℕ) → Command
 command_of [] = commands.Unknown
-command_of (verb ∷ []) = commands.Unknown
+command_of (verb ∷ []) = command_of_one verb
 command_of (verb ∷ first ∷ []) = commands.Unknown
 command_of (verb ∷ first ∷ second ∷ []) = command_of_three verb first second
 command_of (verb ∷ first ∷ second ∷ third ∷ []) = command_of_four verb first second third
@@ -57,16 +62,19 @@ usage_shape = record {
 abbrev pub shape_of : Command → Shape
 shape_of (commands.Run file node choices) = run_shape file node choices
 shape_of (commands.Compile file intent) = compile_shape file intent
+shape_of commands.Show = show_shape
 shape_of commands.Unknown = usage_shape
 
 -- the command as the code names it
 abbrev pub command_seen : Words → Command
 command_seen (words.Run file node choices) = commands.Run file.now node.now choices.items
 command_seen (words.Compile file intent) = commands.Compile file.now intent.now
+command_seen words.Show = commands.Show
 command_seen words.Unknown = commands.Unknown
 
 -- a run has at least one choice
 abbrev pub HasChoices : Words → Type 0
 HasChoices (words.Run file node choices) = 0 < length choices.items
 HasChoices (words.Compile file intent) = ⊤
+HasChoices words.Show = ⊤
 HasChoices words.Unknown = ⊤

@@ -1,5 +1,5 @@
 -- The judgements of files and words: what each gives, or its refusal.
-use Rattle.std.specs.Prelude.{ℕ, nat_lt, if◌then◌else◌, List, [], ◌∷◌, length, Option, Some, None, Result, Ok, Err}
+use Rattle.std.specs.Prelude.{ℕ, nat_lt, if◌then◌else◌, List, [], ◌∷◌, ◌++◌, length, Option, Some, None, Result, Ok, Err}
 use Rattle.toml.specs.Data.{Members}
 use Rattle.net_model.specs.Network.{Network}
 use Rattle.net_model.specs.Named.{node_numbered}
@@ -12,7 +12,7 @@ use Rattle.srv6_cli.specs.declared.refusal.Refusal.{Refusal}
 use Rattle.srv6_cli.specs.declared.refusal.Refusal.TheVariants as refusals
 use Rattle.srv6_cli.specs.declared.status.Status.TheVariants as statuses
 use Rattle.srv6_cli.specs.Lines.{refusal_line}
-use Rattle.srv6_cli.specs.Pieces.{ForErr, Output}
+use Rattle.srv6_cli.specs.Pieces.{Piece, ForErr, Output}
 
 -- the network of a description
 
@@ -57,3 +57,8 @@ refused refusal = record { pieces = ForErr (refusal_line refusal) ∷ []; status
 abbrev pub after : {A : Type 0} → Result A Refusal → (A → Output) → Output
 after (Ok a) follow = follow a
 after (Err refusal) follow = refused refusal
+
+-- the output of a command that writes pieces for packets: at the end what is behind their frames is refused, if anything is
+abbrev pub ended_by : List Piece → Option Refusal → Output
+ended_by pieces None = record { pieces = pieces ++ ForErr [] ∷ []; status = statuses.Done }
+ended_by pieces (Some refusal) = record { pieces = pieces ++ ForErr (refusal_line refusal) ∷ []; status = statuses.Refused }

@@ -8,6 +8,7 @@ ghost use Rattle.srv6_cli.specs.Outside.{outside};
 
 mod compile;
 mod run;
+mod show;
 
 use crate::choices::choices_of;
 use crate::halt::Halt;
@@ -36,6 +37,8 @@ pub enum Words<'a> {
         /// The intent's name.
         intent: &'a str,
     },
+    /// The headers of the packets of the input as lines.
+    Show,
     /// Nothing that there is.
     Unknown,
 }
@@ -67,6 +70,7 @@ fn read_words(alloc: Global, words: &[String]) -> Result<Words<'_>, AllocError>
     ensures some { IfOk result HasChoices }
 {
     match words {
+        [verb] if verb.as_str() == "show" => Ok(Words::Show),
         [verb, file, node] if verb.as_str() == "run" && !file.is_empty() && !node.is_empty() => {
             Ok(Words::Run {
                 file: file.as_str(),
@@ -130,6 +134,7 @@ pub fn command<F: Files, S: Source, O: Sink, E: Sink>(
             err,
         ),
         Words::Compile { file, intent } => compile::compile(alloc, file, intent, files, out),
+        Words::Show => show::show(alloc, input, out),
         Words::Unknown => usage(),
     }
 }

@@ -17,7 +17,7 @@ use Rattle.srv6_cli.specs.declared.packets.Unread.{Unread}
 use Rattle.srv6_cli.specs.declared.refusal.Refusal.{Refusal}
 use Rattle.srv6_cli.specs.declared.status.Status.TheVariants as statuses
 use Rattle.srv6_cli.specs.Capture.{frames_of}
-use Rattle.srv6_cli.specs.Judgements.{network_in, node_in, after}
+use Rattle.srv6_cli.specs.Judgements.{network_in, node_in, after, ended_by}
 use Rattle.srv6_cli.specs.Lines.{packet_line, refusal_line, unread_line}
 use Rattle.srv6_cli.specs.Packets.{packets_in, reading_of, unread_in, fault_of}
 use Rattle.srv6_cli.specs.Pieces.{Piece, ForOut, ForErr, Output}
@@ -67,11 +67,6 @@ walked_of_frame net node choices frame = walked_by net node choices frame.number
 abbrev pub packets_pieces : Network → ℕ → List ℕ → List Frame → List Piece
 packets_pieces net node choices frames =
     ForOut written_head_bytes ∷ ForErr (unread_lines frames) ∷ flat_map (walked_of_frame net node choices) frames
-
--- at the end what is behind the frames is refused, if anything is
-abbrev pub ended_by : List Piece → Option Refusal → Output
-ended_by pieces None = record { pieces = pieces ++ ForErr [] ∷ []; status = statuses.Done }
-ended_by pieces (Some refusal) = record { pieces = pieces ++ ForErr (refusal_line refusal) ∷ []; status = statuses.Refused }
 
 abbrev pub ran : Network → ℕ → List ℕ → Packets → Output
 ran net node choices packets =

@@ -17,12 +17,12 @@ use Rattle.srv6_cli.specs.declared.packets.Packets.{Packets}
 use Rattle.srv6_cli.specs.declared.told.Told.{Told}
 use Rattle.srv6_cli.specs.Answers.{ending_of_failure, JudgesFile, JudgesInput, Commands}
 use Rattle.srv6_cli.specs.Words.{Run}
-use Rattle.srv6_cli.specs.Judgements.{network_in, node_in, refused}
+use Rattle.srv6_cli.specs.Judgements.{network_in, node_in, refused, ended_by}
 use Rattle.srv6_cli.specs.Lines.{bytes_of_text, refusal_line}
 use Rattle.srv6_cli.specs.Outside.{outside, IsFrontOf, Asks, Reads, files_left_by}
 use Rattle.srv6_cli.specs.Packets.{packets_in, reading_of, fault_of}
 use Rattle.srv6_cli.specs.Pieces.{Piece, Output, Which, Stop, Never, AtFiles, AtInput, At, Elsewhere, sinks_of, gone, stop_at, WroteAll}
-use Rattle.srv6_cli.specs.Command.Run.{packets_pieces, ended_by, ran, run_output, has_start, reads_input, run_shape}
+use Rattle.srv6_cli.specs.Command.Run.{packets_pieces, ran, run_output, has_start, reads_input, run_shape}
 use Rattle.srv6_cli.specs.Serves.{Takes}
 use Rattle.srv6_cli.specs.Shape.{Held, names_of, WantedOf}
 use Rattle.srv6_cli.proofs.Asking.{each, some-map, front_whole, asks_all, asks_front}

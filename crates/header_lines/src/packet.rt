@@ -1,0 +1,80 @@
+//! The lines of a packet.
+
+ghost use Rattle.std.specs.Prelude.{◌≡◌, ◌++◌, List, ℕ, IfOk, OnOk, string_bytes};
+ghost use Rattle.header_lines.specs.Lines.{content_lines, ip6_line, number_line, packet_lines};
+ghost use Rattle.ip6_headers.specs.Reading.{unreadable};
+ghost use Rattle.srv6_rules.specs.Packet.{content_of};
+
+use crate::chain::append_chain;
+use ip6_headers::{Ip6View, ReadFault};
+use std::alloc::{AllocError, Global};
+
+/// Appends the line over a packet's lines.
+#[tactic(auto, unfolding(crate::specs::Lines::number_line))]
+fn append_number(number: u32, out: &mut String) -> Result<(), AllocError>
+    ensures { OnOk result (string_bytes out.new ≡ string_bytes out.old ++ number_line number) }
+{
+    write!(out, "packet {number}\n")
+}
+
+/// Appends the line of a packet's IPv6 header.
+#[tactic(auto, unfolding(crate::specs::Lines::ip6_line))]
+fn append_ip6(packet: &Ip6View<'_>, out: &mut String) -> Result<(), AllocError>
+    ensures { OnOk result (string_bytes out.new ≡ string_bytes out.old ++ ip6_line packet.now) }
+{
+    let class = packet.traffic_class();
+    let flow = packet.flow_label();
+    let payload = packet.payload_len();
+    let next = packet.next_header();
+    let hop = packet.hop_limit();
+    let src = packet.source();
+    let dst = packet.destination();
+    write!(
+        out,
+        "ip6 class {class} flow {flow} payload {payload} next {next} hop {hop} src {src} dst {dst}\n"
+    )
+}
+
+/// Appends the line of bytes that do not read as a packet.
+#[tactic(auto, unfolding(crate::specs::Lines::truncated_line, crate::specs::Lines::bad_version_line))]
+fn append_fault(fault: ReadFault, out: &mut String) -> Result<(), AllocError>
+    ensures { OnOk result ((bytes : List ℕ) → string_bytes out.new
+        ≡ string_bytes out.old ++ content_lines (unreadable bytes fault)) }
+{
+    match fault {
+        ReadFault::Truncated => write!(out, "truncated\n"),
+        ReadFault::BadVersion => write!(out, "bad version\n"),
+    }
+}
+
+/// Appends the lines of what bytes read as.
+fn append_content(bytes: &[u8], out: &mut String) -> Result<(), AllocError>
+    ensures { OnOk result (string_bytes out.new
+        ≡ string_bytes out.old ++ content_lines (content_of bytes.now)) }
+{
+    match Ip6View::read(bytes) {
+        Ok(packet) => {
+            append_ip6(&packet, out)?;
+            append_chain(&packet, out)
+        }
+        Err(fault) => append_fault(fault, out),
+    }
+}
+
+/// The lines of the packet of a number that bytes begin with; what stands behind its end is not
+/// looked at. `packet NUMBER` is the first; then comes `truncated` or `bad version` where the bytes
+/// do not read as IPv6, and else the IPv6 header and the chain of extension headers, each header
+/// with its place and its length in bytes, in order. The last line is the upper layer with the
+/// length of its bytes, an extension header that is cut, or a fragment header. Of a segment routing
+/// header, a routing header of type 4, the entries are shown that are there up to Last Entry, and
+/// then the length of the type-length-value area, or that Last Entry is beyond the entries (own
+/// rule; RFC 8200 sections 3 and 4, RFC 8754 section 2).
+pub fn lines_of_packet(alloc: Global, number: u32, bytes: &[u8]) -> Result<String, AllocError>
+    ensures { IfOk result (λ lines. string_bytes lines
+        ≡ packet_lines number (content_of bytes.now)) }
+{
+    let mut lines = String::new(alloc);
+    append_number(number, &mut lines)?;
+    append_content(bytes, &mut lines)?;
+    Ok(lines)
+}
