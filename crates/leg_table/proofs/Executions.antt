@@ -1,7 +1,7 @@
 -- What the execution of a SID gives: a packet with a next segment goes on, lowered; a packet inside is exposed.
 use Rattle.std.proofs.Common.{◌≡◌, ℕ, ◌-◌, ◌<◌, ◌≤◌, ◌⊎◌, inl, inr, Bool, true, false, ◌==◌, ◌&&◌, nat_le, if◌then◌else◌, List, [], ◌∷◌, Option, Some, None, IsTrue, slice_get, refl, sym, ◌∙◌, ap, subst, eqb-true, ◌+◌}
 use Rattle.std.specs.Prelude.{◌↔◌}
-use Rattle.std.proofs.lemmas.Bool.{false≢true, and_parts, and_from, eq-eqb, le-leb, lt-leb}
+use Rattle.std.proofs.lemmas.Bool.{cases_Bool, false≢true, and_parts, and_from, eq-eqb, le-leb, lt-leb}
 use Rattle.std.proofs.lemmas.Bool.Decides.{leb_tells}
 use Rattle.srv6_rules.specs.declared.sid.Behaviour.{Behaviour}
 use Rattle.srv6_rules.specs.declared.sid.Family.{Family}
@@ -77,9 +77,11 @@ exposed_back h (Refused reason at) on = on
 
 out_opens : (p : Packet) (h : Header) (rest : Packet → Endpoint) → GoesOnAbove p rest → GoesOnAbove p (λ q. outcome_without h (rest q))
 out_opens p h rest opens = (
-  λ limit high. let r = opens.0 limit high in
-      (without r.0 (as_in r.0 h), ap (outcome_without h) r.1,
-      ap (λ (x : Packet). x.hop_limit) (without-others r.0 (as_in r.0 h)) ∙ r.2),
+  λ limit high. let r = opens.0 limit high in (
+    without r.0 (as_in r.0 h),
+    ap (outcome_without h) r.1,
+    ap (λ (x : Packet). x.hop_limit) (without-others r.0 (as_in r.0 h)) ∙ r.2,
+  ),
   λ limit low. ap (outcome_without h) (opens.1 limit low),
 )
 
@@ -216,7 +218,10 @@ some_packet destination limit =
 some_packet-onward : (s : SidEntry) (destination limit : ℕ) → goes_on s ≡ true
     → is_onward (at_sid s [] (with_hop_limit 2 (some_packet destination limit))) ≡ true
 unfolding some_packet chain_from
-some_packet-onward s destination limit goes = rw goes refl
+some_packet-onward s destination limit goes = elim (cases_Bool s.psp) [
+  | inl pops ↦ rw (goes, pops) refl
+  | inr stays ↦ rw (goes, stays) refl
+]
 
 some_packet-fields : (destination limit : ℕ)
     → ((some_packet destination limit).destination ≡ destination) × ((some_packet destination limit).hop_limit ≡ limit)
