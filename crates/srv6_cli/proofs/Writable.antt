@@ -1,8 +1,10 @@
 -- What a stage sends can be written: its link is there, and its packet is no longer than a packet can be.
-use Rattle.std.proofs.Common.{◌≡◌, ℕ, zero, suc, ◌<◌, ◌≤◌, Bool, true, false, List, [], ◌∷◌, length, slice_get, Option, Some, None, sym, arith, subst}
+use Rattle.std.proofs.Common.{◌≡◌, ℕ, zero, suc, ◌<◌, ◌≤◌, Bool, true, false, if◌then◌else◌, List, [], ◌∷◌, length, slice_get, Option, Some, None, sym, arith, subst}
 use Rattle.srv6_rules.specs.declared.sid.Behaviour.{Behaviour}
 use Rattle.srv6_rules.specs.declared.sid.Reason.{Reason}
+use Rattle.srv6_rules.specs.declared.sid.Reason.TheVariants as reasons
 use Rattle.srv6_rules.specs.declared.sid.SidEntry.{SidEntry}
+use Rattle.srv6_rules.specs.Behaviours.{is_built}
 use Rattle.srv6_rules.specs.Packet.{Packet, Content, V6, Unreadable, IsContent, bytes_of, most_len}
 use Rattle.srv6_rules.specs.Endpoint.{Endpoint, Onward, Exposed, Delivered, Refused, at_sid, at_address}
 use Rattle.srv6_rules.proofs.PublicLaws.{length-spelling}
@@ -13,7 +15,7 @@ use Rattle.walk_rules.specs.declared.place.Place.{Place}
 use Rattle.walk_rules.specs.declared.place.Outcome.{Outcome}
 use Rattle.walk_rules.specs.declared.place.Outcome.TheVariants as outcomes
 use Rattle.walk_rules.specs.Way.{Way, Away, Over, Own, Into, way_of}
-use Rattle.walk_rules.specs.Treatment.{Gave, step_of, treated_at_address, treated_in, treated_at_sid, allow_of}
+use Rattle.walk_rules.specs.Treatment.{Gave, dropped, step_of, treated_at_address, treated_in, treated_at_sid, allow_of}
 use Rattle.walk_rules.specs.Relation.{Treats, Stage, IsPlace}
 use Rattle.walk_rules.specs.Walk.{far_end, left_or_stages, end_by}
 use Rattle.walk_rules.proofs.PublicLaws.{stage-member, hops-start, stage-step, step-content}
@@ -42,9 +44,15 @@ endpoint-sends net node n b p (Refused reason at) link h = drop-sends _ _ link h
 
 sid-sends : (net : Network) (node n : ℕ) (s : Option SidEntry) (p : Packet) (link : ℕ)
     → outcomes.Send link ≡ (treated_in net node n s p).outcome → ⊥
-sid-sends net node n None p link h = drop-sends _ _ link h
-sid-sends net node n (Some s) p link h =
-    endpoint-sends net node n s.behaviour p (at_sid s (allow_of (slice_get net.nodes node)) p) link h
+sid-sends net node n None p link = λ h. drop-sends _ _ link h
+sid-sends net node n (Some s) p link = by_built (is_built s)
+  where
+    by_built : (built : Bool)
+        → outcomes.Send link
+        ≡ (if built then treated_at_sid net node n s.behaviour p (at_sid s (allow_of (slice_get net.nodes node)) p)
+        else dropped net node reasons.NotBuilt 0 (V6 p)).outcome → ⊥
+    by_built true h = endpoint-sends net node n s.behaviour p (at_sid s (allow_of (slice_get net.nodes node)) p) link h
+    by_built false h = drop-sends _ _ link h
 
 way-packet : (net : Network) (node : ℕ) (w : Way) (p : Packet) (link : ℕ) (after : Content) (error : Option Packet)
     → Treats net node w p (outcomes.Send link) after error → IsPacket after
