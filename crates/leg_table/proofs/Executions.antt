@@ -1,7 +1,7 @@
 -- What the execution of a SID gives: a packet with a next segment goes on, lowered; a packet inside is exposed.
 use Rattle.std.proofs.Common.{◌≡◌, ℕ, ◌-◌, ◌<◌, ◌≤◌, ◌⊎◌, inl, inr, Bool, true, false, ◌==◌, ◌&&◌, nat_le, if◌then◌else◌, List, [], ◌∷◌, Option, Some, None, IsTrue, slice_get, refl, sym, ◌∙◌, ap, subst, eqb-true, ◌+◌}
 use Rattle.std.specs.Prelude.{◌↔◌}
-use Rattle.std.proofs.lemmas.Bool.{false≢true, and_parts, and_from, eq-eqb, le-leb, lt-leb}
+use Rattle.std.proofs.lemmas.Bool.{cases_Bool, false≢true, and_parts, and_from, eq-eqb, le-leb, lt-leb}
 use Rattle.std.proofs.lemmas.Bool.Decides.{leb_tells}
 use Rattle.srv6_rules.specs.declared.sid.Behaviour.{Behaviour}
 use Rattle.srv6_rules.specs.declared.sid.Family.{Family}
@@ -11,8 +11,9 @@ use Rattle.srv6_rules.specs.Behaviours.{goes_on, exposes, is_built, ipv6_inside,
 use Rattle.srv6_rules.specs.Packet.{Packet, V6, read_as}
 use Rattle.srv6_rules.specs.Srh.{Srh, srh_of, segments_left_at, routing_type_at}
 use Rattle.srv6_rules.specs.Areas.{Fault, options_fault, tlvs_fault}
-use Rattle.srv6_rules.specs.Chain.{Header, ChainEnd, Upper, Cut, hop_by_hop, fragment, destination_options, is_first, segments_left, is_segment_routing, from_place, chain_of, chain_from}
-use Rattle.srv6_rules.specs.Endpoint.{Endpoint, Onward, Exposed, Delivered, Refused, at_sid, at_header, at_end, over_headers, upper_layer, unless_fault, next_segment, has_bad_segments, advanced}
+use Rattle.srv6_rules.specs.Chain.{Header, ChainEnd, Upper, Cut, hop_by_hop, fragment, destination_options, is_first, segments_left, is_segment_routing, from_place, chain_of, chain_from, without}
+use Rattle.srv6_rules.specs.Endpoint.{Endpoint, Onward, Exposed, Delivered, Refused, at_sid, at_header, at_end, over_headers, upper_layer, unless_fault, next_segment, has_bad_segments, advanced, as_in, outcome_without, leaves_none}
+use Rattle.srv6_rules.proofs.PublicLaws.{without-others}
 use Rattle.net_model.specs.Network.{Network}
 use Rattle.walk_rules.specs.declared.place.Place.{Place}
 use Rattle.walk_rules.specs.declared.place.Outcome.{Outcome}
@@ -60,14 +61,40 @@ segment_hides p at s on = by_tests (nat_le p.hop_limit 1) (has_bad_segments s) (
     by_tests false false (Some x) on = false≢true on
     by_tests false false None on = false≢true on
 
--- what comes of a header at a SID, by its tests, the step over it and what came of those behind it
-abbrev chosen : Bool → Bool → Bool → Bool → Option Fault → Bool → Bool → Bool → Header → Endpoint → Endpoint → Endpoint
-chosen hop first options part fault known none goes h step behind =
+-- a header that is taken out of what came of those behind it makes no difference to these
+onward_back : (h : Header) (x : Endpoint) → is_onward (outcome_without h x) ≡ true → is_onward x ≡ true
+onward_back h (Onward q) on = refl
+onward_back h (Exposed family bytes) on = on
+onward_back h (Delivered q) on = on
+onward_back h (Refused reason at) on = on
+
+exposed_back : (h : Header) (x : Endpoint) → is_exposed (outcome_without h x) ≡ true → is_exposed x ≡ true
+exposed_back h (Onward q) on = on
+exposed_back h (Exposed family bytes) on = refl
+exposed_back h (Delivered q) on = on
+exposed_back h (Refused reason at) on = on
+
+out_opens : (p : Packet) (h : Header) (rest : Packet → Endpoint) → GoesOnAbove p rest → GoesOnAbove p (λ q. outcome_without h (rest q))
+out_opens p h rest opens = (
+  λ limit high. let r = opens.0 limit high in (
+    without r.0 (as_in r.0 h),
+    ap (outcome_without h) r.1,
+    ap (λ (x : Packet). x.hop_limit) (without-others r.0 (as_in r.0 h)) ∙ r.2,
+  ),
+  λ limit low. ap (outcome_without h) (opens.1 limit low),
+)
+
+-- what comes of a header at a SID, by its tests, the flavours that take it out, the step over it and what came of those
+-- behind it
+abbrev chosen : Bool → Bool → Bool → Bool → Option Fault → Bool → Bool → Bool → Bool → Bool → Header → Endpoint → Endpoint → Endpoint
+chosen hop first options part fault known none goes usp pops h step behind =
     if hop then (if first then behind else Refused reasons.LateHopByHop h.place.named_at)
     else if options then unless_fault fault behind
     else if part then Refused reasons.Fragment h.place.at
     else if known
-    then (if none then behind else if goes then step else Refused reasons.BadSegments (h.place.at + segments_left_at))
+    then (if none then (if usp then outcome_without h behind else behind)
+    else if goes then (if pops then outcome_without h step else step)
+    else Refused reasons.BadSegments (h.place.at + segments_left_at))
     else (if none then behind else Refused reasons.UnknownRouting (h.place.at + routing_type_at))
 
 module _ (s : SidEntry) where
@@ -85,23 +112,27 @@ module _ (s : SidEntry) where
       → GoesOnAbove p (λ q. at_header s q h (rest q))
   header_opens p h behind rest ih on =
       by_tests (h.place.kind == hop_by_hop) (is_first h.place) (h.place.kind == destination_options) (h.place.kind == fragment)
-      (options_fault h) (is_segment_routing h) (segments_left h == 0) (goes_on s) on
+      (options_fault h) (is_segment_routing h) (segments_left h == 0) (goes_on s) s.usp (s.psp && leaves_none (srh_of h.bytes)) on
     where
-      by_tests : (hop first options part : Bool) (fault : Option Fault) (known none goes : Bool)
-          → is_onward (chosen hop first options part fault known none goes h
+      by_tests : (hop first options part : Bool) (fault : Option Fault) (known none goes usp pops : Bool)
+          → is_onward (chosen hop first options part fault known none goes usp pops h
           (next_segment (with_hop_limit 2 p) h.place.at (srh_of h.bytes)) behind) ≡ true
-          → GoesOnAbove p (λ q. chosen hop first options part fault known none goes h
+          → GoesOnAbove p (λ q. chosen hop first options part fault known none goes usp pops h
           (next_segment q h.place.at (srh_of h.bytes)) (rest q))
-      by_tests true true options part fault known none goes on = ih on
-      by_tests true false options part fault known none goes on = absurd (false≢true on)
-      by_tests false first true part None known none goes on = ih on
-      by_tests false first true part (Some x) known none goes on = absurd (false≢true on)
-      by_tests false first false true fault known none goes on = absurd (false≢true on)
-      by_tests false first false false fault true true goes on = ih on
-      by_tests false first false false fault true false true on = segment_opens p h.place.at (srh_of h.bytes) on
-      by_tests false first false false fault true false false on = absurd (false≢true on)
-      by_tests false first false false fault false true goes on = ih on
-      by_tests false first false false fault false false goes on = absurd (false≢true on)
+      by_tests true true options part fault known none goes usp pops on = ih on
+      by_tests true false options part fault known none goes usp pops on = absurd (false≢true on)
+      by_tests false first true part None known none goes usp pops on = ih on
+      by_tests false first true part (Some x) known none goes usp pops on = absurd (false≢true on)
+      by_tests false first false true fault known none goes usp pops on = absurd (false≢true on)
+      by_tests false first false false fault true true goes true pops on = out_opens p h rest (ih (onward_back h behind on))
+      by_tests false first false false fault true true goes false pops on = ih on
+      by_tests false first false false fault true false true usp true on =
+          out_opens p h (λ q. next_segment q h.place.at (srh_of h.bytes)) (segment_opens p h.place.at (srh_of h.bytes)
+          (onward_back h (next_segment (with_hop_limit 2 p) h.place.at (srh_of h.bytes)) on))
+      by_tests false first false false fault true false true usp false on = segment_opens p h.place.at (srh_of h.bytes) on
+      by_tests false first false false fault true false false usp pops on = absurd (false≢true on)
+      by_tests false first false false fault false true goes usp pops on = ih on
+      by_tests false first false false fault false false goes usp pops on = absurd (false≢true on)
 
   headers_open : (allow : List ℕ) (p : Packet) (hs : List Header) (end : ChainEnd)
       → is_onward (over_headers (at_header s (with_hop_limit 2 p)) hs (at_end s [] (with_hop_limit 2 p) end)) ≡ true
@@ -119,6 +150,9 @@ module _ (s : SidEntry) where
   abbrev Shows : Endpoint → Type 0
   Shows e = (family : Family) × (bytes : List ℕ) × (e ≡ Exposed family bytes)
 
+  out_shows : (h : Header) (x : Endpoint) → Shows x → Shows (outcome_without h x)
+  out_shows h x shows = (shows.0, shows.1, ap (outcome_without h) shows.2)
+
   end_shows : (allow : List ℕ) (p : Packet) (limit : ℕ) (end : ChainEnd) → is_exposed (at_end s [] p end) ≡ true
       → Shows (at_end s allow (with_hop_limit limit p) end)
   end_shows allow p limit (Cut place) on = absurd (false≢true on)
@@ -133,22 +167,25 @@ module _ (s : SidEntry) where
       → is_exposed (at_header s p h behind) ≡ true → Shows (at_header s q h rest)
   header_shows p q h behind rest ih on =
       by_tests (h.place.kind == hop_by_hop) (is_first h.place) (h.place.kind == destination_options) (h.place.kind == fragment)
-      (options_fault h) (is_segment_routing h) (segments_left h == 0) (goes_on s) on
+      (options_fault h) (is_segment_routing h) (segments_left h == 0) (goes_on s) s.usp (s.psp && leaves_none (srh_of h.bytes)) on
     where
-      by_tests : (hop first options part : Bool) (fault : Option Fault) (known none goes : Bool)
-          → is_exposed (chosen hop first options part fault known none goes h
+      by_tests : (hop first options part : Bool) (fault : Option Fault) (known none goes usp pops : Bool)
+          → is_exposed (chosen hop first options part fault known none goes usp pops h
           (next_segment p h.place.at (srh_of h.bytes)) behind) ≡ true
-          → Shows (chosen hop first options part fault known none goes h (next_segment q h.place.at (srh_of h.bytes)) rest)
-      by_tests true true options part fault known none goes on = ih on
-      by_tests true false options part fault known none goes on = absurd (false≢true on)
-      by_tests false first true part None known none goes on = ih on
-      by_tests false first true part (Some x) known none goes on = absurd (false≢true on)
-      by_tests false first false true fault known none goes on = absurd (false≢true on)
-      by_tests false first false false fault true true goes on = ih on
-      by_tests false first false false fault true false true on = absurd (segment_hides p h.place.at (srh_of h.bytes) on)
-      by_tests false first false false fault true false false on = absurd (false≢true on)
-      by_tests false first false false fault false true goes on = ih on
-      by_tests false first false false fault false false goes on = absurd (false≢true on)
+          → Shows (chosen hop first options part fault known none goes usp pops h (next_segment q h.place.at (srh_of h.bytes)) rest)
+      by_tests true true options part fault known none goes usp pops on = ih on
+      by_tests true false options part fault known none goes usp pops on = absurd (false≢true on)
+      by_tests false first true part None known none goes usp pops on = ih on
+      by_tests false first true part (Some x) known none goes usp pops on = absurd (false≢true on)
+      by_tests false first false true fault known none goes usp pops on = absurd (false≢true on)
+      by_tests false first false false fault true true goes true pops on = out_shows h rest (ih (exposed_back h behind on))
+      by_tests false first false false fault true true goes false pops on = ih on
+      by_tests false first false false fault true false true usp true on =
+          absurd (segment_hides p h.place.at (srh_of h.bytes) (exposed_back h (next_segment p h.place.at (srh_of h.bytes)) on))
+      by_tests false first false false fault true false true usp false on = absurd (segment_hides p h.place.at (srh_of h.bytes) on)
+      by_tests false first false false fault true false false usp pops on = absurd (false≢true on)
+      by_tests false first false false fault false true goes usp pops on = ih on
+      by_tests false first false false fault false false goes usp pops on = absurd (false≢true on)
 
   headers_show : (allow : List ℕ) (p : Packet) (limit : ℕ) (hs : List Header) (end : ChainEnd)
       → is_exposed (over_headers (at_header s p) hs (at_end s [] p end)) ≡ true
@@ -180,7 +217,10 @@ some_packet destination limit =
 some_packet-onward : (s : SidEntry) (destination limit : ℕ) → goes_on s ≡ true
     → is_onward (at_sid s [] (with_hop_limit 2 (some_packet destination limit))) ≡ true
 unfolding some_packet chain_from
-some_packet-onward s destination limit goes = rw goes refl
+some_packet-onward s destination limit goes = elim (cases_Bool s.psp) [
+  | inl pops ↦ rw (goes, pops) refl
+  | inr stays ↦ rw (goes, stays) refl
+]
 
 some_packet-fields : (destination limit : ℕ)
     → ((some_packet destination limit).destination ≡ destination) × ((some_packet destination limit).hop_limit ≡ limit)

@@ -1,6 +1,6 @@
 -- Encapsulated packets at the SIDs of their segments.
 use Rattle.std.proofs.Common.{◌≡◌, ℕ, suc, ◌+◌, ◌-◌, ◌^◌, ◌<◌, ◌≤◌, Bool, true, false, ◌==◌, ◌&&◌, if◌then◌else◌, List, [], ◌∷◌, ◌++◌, length, drop, Some, None, slice_get, slice_index, refl, sym, ◌∙◌, ap, arith, eqb-true, add-one}
-use Rattle.std.proofs.Common.{append-nil}
+use Rattle.std.proofs.Common.{append-nil, inl}
 use Rattle.std.specs.List.{All}
 use Rattle.std.proofs.lemmas.Bool.{false≢true, and_parts, eq-eqb}
 use Rattle.v6_addr.specs.Address.{PrefixValue, Holds}
@@ -12,7 +12,7 @@ use Rattle.srv6_rules.specs.Packet.{V6, header_len, content_of}
 use Rattle.srv6_rules.specs.Endpoint.{Endpoint, at_sid, upper_layer}
 use Rattle.srv6_rules.specs.Srh.{segments_left_at}
 use Rattle.srv6_rules.specs.Encapsulation.{Encapsulation, inner_place, at_segment}
-use Rattle.srv6_rules.proofs.PublicLaws.{at_segment-onward, at_segment-hop_limit, at_segment-bad_segments, at_segment-upper_layer, at_segment-exposed}
+use Rattle.srv6_rules.proofs.PublicLaws.{at_segment-onward, at_segment-hop_limit, at_segment-bad_segments, at_segment-upper_layer, at_segment-exposed, built-psp, built-usp}
 use Rattle.net_model.specs.declared.net.Hit.{Hit}
 use Rattle.net_model.specs.declared.net.Hit.TheVariants as hits
 use Rattle.net_model.specs.Network.{Network}
@@ -103,7 +103,7 @@ module _ (net : Network) (e : Encapsulation) (bytes : List ℕ) (place : Place) 
       → stage ≡ goes (outcomes.Again n (on_from n s.behaviour)) (V6 (at_segment e bytes (suc i) (hop - 1)))
   mid-onward middle below all high =
       let parts = and_parts (is_built s) (goes_on s) middle in
-      stage-is parts.0 ∙ ap given (at_segment-onward s allow e bytes i hop parts.1 below all high)
+      stage-is parts.0 ∙ ap given (at_segment-onward s allow e bytes i hop parts.1 (inl (built-psp s parts.0)) below all high)
       ∙ ap (λ (j : ℕ). goes (outcomes.Again n (on_from n s.behaviour)) (V6 (at_segment e bytes j (hop - 1)))) (add-one i)
 
   pub mid-low : takes_step s ≡ true → i + 1 < length e.segments → hop ≤ 1
@@ -125,7 +125,7 @@ module _ (net : Network) (e : Encapsulation) (bytes : List ℕ) (place : Place) 
 
   pub last-keeps : is_built s ≡ true → exposes s ipv6_inside ≡ false → i + 1 ≡ length e.segments
       → stage ≡ given (upper_layer allow (at_segment e bytes i hop) (inner_place e))
-  last-keeps built keeps end = stage-is built ∙ ap given (at_segment-upper_layer s allow e bytes i hop keeps end)
+  last-keeps built keeps end = stage-is built ∙ ap given (at_segment-upper_layer s allow e bytes i hop (built-usp s built) keeps end)
 
 -- the steps left behind an execution that meets the steps
 module _ (net : Network) (n : ℕ) where

@@ -1,6 +1,6 @@
 //! What a node does with a packet that came to one of its SIDs or to its own address.
 
-ghost use Rattle.std.specs.Prelude.{◌≡◌, ◌+◌, ◌<◌, ◌≤◌, true, length};
+ghost use Rattle.std.specs.Prelude.{◌≡◌, ◌+◌, ◌<◌, ◌≤◌, true, false, length};
 ghost use Rattle.srv6_rules.specs.Behaviours.{family_inside};
 ghost use Rattle.srv6_rules.specs.Packet.{Packet as PacketValue};
 ghost use Rattle.srv6_rules.specs.Chain.{LiesIn, is_extension};
@@ -118,7 +118,8 @@ fn refused(fault: Option<Fault>) -> Option<Judged>
     }
 }
 
-/// A routing header at a SID, or none where it is passed over: one with no segments left. A SID
+/// A routing header at a SID without flavours, or none where it is passed over: one with no segments
+/// left. A SID
 /// that goes on takes the step over a segment routing header with segments left, and other routing
 /// headers are unknown (RFC 8754 section 4.3.1.1, RFC 8200 section 4.4).
 fn judge_routing(
@@ -127,6 +128,8 @@ fn judge_routing(
     place: ChainPlace,
     header: &[u8],
 ) -> Option<Judged>
+    requires psp { entry.now.psp ≡ false }
+    requires usp { entry.now.usp ≡ false }
     requires routing { place.kind ≡ ROUTING }
     requires lies { LiesIn packet.now (header_at place header.now) }
     ensures { IsJudgedHeader packet.now
@@ -150,14 +153,16 @@ fn judge_routing(
     Some(judge_segment(packet, place.at, &srh))
 }
 
-/// A header at a SID, or none where it is passed over.
+/// A header at a SID without flavours, or none where it is passed over.
 fn judge_header(
     entry: &SidEntry,
     packet: &Packet,
     place: ChainPlace,
     header: &[u8],
 ) -> Option<Judged>
-    requires { LiesIn packet.now (header_at place header.now) }
+    requires psp { entry.now.psp ≡ false }
+    requires usp { entry.now.usp ≡ false }
+    requires lies { LiesIn packet.now (header_at place header.now) }
     ensures { IsJudgedHeader packet.now
         (at_header entry.now packet.now (header_at place header.now)) result }
 {
@@ -203,9 +208,11 @@ fn judge_upper(entry: &SidEntry, allow: &[u8], packet: &Packet, place: ChainPlac
     }
 }
 
-/// A packet at a SID of a node that takes some upper layers at its SIDs (RFC 8986 sections 4.1, 4.2
-/// and 4.6). The first header that is not passed over decides, and else the chain's end.
+/// A packet at a SID, one without flavours, of a node that takes some upper layers at its SIDs (RFC
+/// 8986 sections 4.1, 4.2 and 4.6). The first header that is not passed over decides, and else the chain's end.
 pub(crate) fn judge_at_sid(entry: &SidEntry, allow: &[u8], packet: &Packet) -> Judged
+    requires psp { entry.now.psp ≡ false }
+    requires usp { entry.now.usp ≡ false }
     ensures { IsJudged packet.now (at_sid entry.now allow.now packet.now) result }
 {
     packet.keeps_rules();

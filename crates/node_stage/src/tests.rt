@@ -236,6 +236,24 @@ fn end_makes_the_next_segment_the_destination(rt: HostRuntime) -> Result<(), Fai
     Ok(())
 }
 
+/// End.T makes the next segment the destination, to be looked up in its table.
+#[test]
+fn end_t_looks_the_next_segment_up_in_its_table(rt: HostRuntime) -> Result<(), Fail> {
+    let net = net_with(&rt, rt.alloc(), Behaviour::EndT { table: 5 })?;
+    assert_eq!(rt; net.nodes(), 2);
+    let bytes = joined(rt.alloc(), &HEADER, &SEGMENTS, &INSIDE)?;
+    let mut content = Content::enter(bytes);
+    let place = Place {
+        node: 1,
+        how: How::Arrived { table: 0 },
+        family: Family::V6,
+    };
+    let outcome = stage(&net, &place, &mut content, 0);
+    let how = How::Submitted { table: 5 };
+    assert_eq!(rt; outcome, Outcome::Again { sid: 0, how });
+    Ok(())
+}
+
 /// The second SID exposes the packet inside.
 #[test]
 fn decapsulation_exposes_the_packet_inside(rt: HostRuntime) -> Result<(), Fail> {
@@ -273,7 +291,7 @@ fn decapsulation_exposes_the_packet_inside(rt: HostRuntime) -> Result<(), Fail> 
 /// A SID that is not built yet drops the packet as it is.
 #[test]
 fn a_sid_that_is_not_built_drops_the_packet(rt: HostRuntime) -> Result<(), Fail> {
-    let net = net_with(&rt, rt.alloc(), Behaviour::EndT { table: 5 })?;
+    let net = net_with(&rt, rt.alloc(), Behaviour::Dt46 { table: 5 })?;
     assert_eq!(rt; net.nodes(), 2);
     let bytes = joined(rt.alloc(), &HEADER, &SEGMENTS, &INSIDE)?;
     let mut content = Content::enter(bytes);

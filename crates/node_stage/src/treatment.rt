@@ -1,6 +1,7 @@
 //! The stage: what one node does with what stands at a place.
 
 ghost use Rattle.std.specs.Prelude.{◌≡◌, ℕ, true, ◌+◌, ◌<◌, ◌≤◌, [], length, slice_get, IfSome};
+ghost use Rattle.srv6_rules.specs.Behaviours.{is_built};
 ghost use Rattle.srv6_rules.specs.Endpoint.{at_address, at_sid};
 ghost use Rattle.srv6_rules.specs.Packet.{V6};
 ghost use Rattle.net_model.specs.Network.{Network};
@@ -123,8 +124,9 @@ fn moved_on(mut packet: Packet, at: usize, left: u8, destination: Addr) -> Packe
     packet
 }
 
-/// At a SID with a number, of a node that takes some upper layers at its SIDs.
+/// At a SID with a number, one that is built, of a node that takes some upper layers at its SIDs.
 fn treated_at_sid(sid: u32, entry: &SidEntry, allow: &[u8], packet: Packet) -> Staged
+    requires { is_built entry.now ≡ true }
     ensures { (net : Network) (node : ℕ)
         → gave_of net node result
         ≡ treated_at_sid net node sid entry.now.behaviour packet

@@ -173,15 +173,15 @@ goes_on-exposes_usd s kind e usd = rw (goes_on-exposes_by s.behaviour kind e, us
 -- ---- what is built
 
 abbrev IsBuilt : Behaviour → Type 0
-IsBuilt b = (b ≡ End) ⊎ ((b ≡ EndX) ⊎ ((table : ℕ) × (b ≡ Dt6 table)))
+IsBuilt b = (b ≡ End) ⊎ ((b ≡ EndX) ⊎ (((table : ℕ) × (b ≡ EndT table)) ⊎ ((b ≡ Dx6) ⊎ ((table : ℕ) × (b ≡ Dt6 table)))))
 
 built-forth : (b : Behaviour) → behaviour_is_built b ≡ true → IsBuilt b
 built-forth End e = inl refl
 built-forth EndX e = inr (inl refl)
-built-forth (EndT table) e = cc
-built-forth Dx6 e = cc
+built-forth (EndT table) e = inr (inr (inl (table, refl)))
+built-forth Dx6 e = inr (inr (inr (inl refl)))
 built-forth Dx4 e = cc
-built-forth (Dt6 table) e = inr (inr (table, refl))
+built-forth (Dt6 table) e = inr (inr (inr (inr (table, refl))))
 built-forth (Dt4 table) e = cc
 built-forth (Dt46 table) e = cc
 built-forth (B6 policy) e = cc
@@ -190,7 +190,9 @@ built-forth (B6Red policy) e = cc
 built-back : (b : Behaviour) → IsBuilt b → behaviour_is_built b ≡ true
 built-back b (inl e) = ap behaviour_is_built e
 built-back b (inr (inl e)) = ap behaviour_is_built e
-built-back b (inr (inr t)) = ap behaviour_is_built t.1
+built-back b (inr (inr (inl t))) = ap behaviour_is_built t.1
+built-back b (inr (inr (inr (inl e)))) = ap behaviour_is_built e
+built-back b (inr (inr (inr (inr t)))) = ap behaviour_is_built t.1
 
 parts-forth : (c : Csid) (psp usp usd built : Bool) → (is_plain c && (not psp && (not usp && (not usd && built)))) ≡ true
     → (c ≡ csids.Plain) × ((psp ≡ false) × ((usp ≡ false) × ((usd ≡ false) × (built ≡ true))))

@@ -114,13 +114,13 @@ is_packet_inside kind = (kind == ipv6_inside) || (kind == ipv4_inside)
 abbrev pub exposes : SidEntry → ℕ → Bool
 exposes s kind = behaviour_exposes s.behaviour kind || (s.usd && is_packet_inside kind)
 
--- ---- what nodes run so far: plain End, End.X and End.DT6 without flavours
+-- ---- what nodes run so far: plain End, End.X, End.T, End.DX6 and End.DT6 without flavours
 
 abbrev pub behaviour_is_built : Behaviour → Bool
 behaviour_is_built End = true
 behaviour_is_built EndX = true
-behaviour_is_built (EndT table) = false
-behaviour_is_built Dx6 = false
+behaviour_is_built (EndT table) = true
+behaviour_is_built Dx6 = true
 behaviour_is_built Dx4 = false
 behaviour_is_built (Dt6 table) = true
 behaviour_is_built (Dt4 table) = false

@@ -497,12 +497,13 @@ pub fn behaviours_go_on_or_expose()
         → exposes s kind ≡ is_packet_inside kind }
 {}
 
-/// Nodes run so far the SIDs of End, End.X and End.DT6 that are not compressed and have no flavours
-/// (RFC 8986 sections 4.1, 4.2 and 4.6).
+/// Nodes run so far the SIDs of End, End.X, End.T, End.DX6 and End.DT6 that are not compressed and
+/// have no flavours (RFC 8986 sections 4.1 to 4.4 and 4.6).
 pub fn plain_sids_are_built()
     ensures { (s : SidEntry) → (is_built s ≡ true) ↔ ((s.csid ≡ Plain) × ((s.psp ≡ false)
         × ((s.usp ≡ false) × ((s.usd ≡ false) × ((s.behaviour ≡ End) ⊎ ((s.behaviour ≡ EndX)
-        ⊎ ((table : ℕ) × (s.behaviour ≡ Dt6 table)))))))) }
+        ⊎ (((table : ℕ) × (s.behaviour ≡ EndT table)) ⊎ ((s.behaviour ≡ Dx6)
+        ⊎ ((table : ℕ) × (s.behaviour ≡ Dt6 table)))))))))) }
 {}
 
 /// A packet that goes on from a SID, whichever its flavours, had a hop limit above 1 and has one

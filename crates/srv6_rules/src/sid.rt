@@ -280,15 +280,17 @@ impl Behaviour {
         }
     }
 
-    /// Nodes run it: so far End, End.X and End.DT6.
+    /// Nodes run it: so far End, End.X, End.T, End.DX6 and End.DT6.
     fn is_built(&self) -> bool
         ensures { result ≡ behaviour_is_built self.now }
     {
         match self {
-            Behaviour::End | Behaviour::EndX | Behaviour::Dt6 { .. } => true,
-            Behaviour::EndT { .. }
+            Behaviour::End
+            | Behaviour::EndX
+            | Behaviour::EndT { .. }
             | Behaviour::Dx6
-            | Behaviour::Dx4
+            | Behaviour::Dt6 { .. } => true,
+            Behaviour::Dx4
             | Behaviour::Dt4 { .. }
             | Behaviour::Dt46 { .. }
             | Behaviour::B6 { .. }
@@ -313,7 +315,7 @@ impl SidEntry {
         self.behaviour.exposes(kind) || (self.usd && (kind == IPV6_INSIDE || kind == IPV4_INSIDE))
     }
 
-    /// Nodes run it: so far the plain SIDs of End, End.X and End.DT6 without flavours.
+    /// Nodes run it: so far the plain SIDs of End, End.X, End.T, End.DX6 and End.DT6 without flavours.
     pub fn is_built(&self) -> bool
         ensures { result ≡ is_built self.now }
     {

@@ -1,5 +1,11 @@
-use Rattle.srv6_rules.proofs.PublicLaws.{at_sid-place}
+use Rattle.srv6_rules.proofs.PublicLaws.{at_sid-place, built-psp, built-usp}
 use Rattle.node_stage.proofs.treatment.treated_at_sid.Goals as goal
+
+pub judge_at_sid-requires-clause-psp : goal.judge_at_sid-requires-clause-psp
+judge_at_sid-requires-clause-psp c = built-psp c.args.entry.now c.requires
+
+pub judge_at_sid-requires-clause-usp : goal.judge_at_sid-requires-clause-usp
+judge_at_sid-requires-clause-usp c = built-usp c.args.entry.now c.requires
 
 pub refused-requires : goal.refused-requires
 refused-requires c =
