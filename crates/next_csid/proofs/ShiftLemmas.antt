@@ -1,13 +1,11 @@
 -- Shifts of addresses by their fields, and of packets in bytes.
-use Rattle.std.proofs.Common.{◌≡◌, ℕ, ◌+◌, ◌-◌, ◌*◌, ◌/◌, ◌%◌, ◌^◌, ◌<◌, ◌≤◌, Bool, true, false, not, ◌&&◌, ◌==◌, inl, inr, List, refl, sym, ◌∙◌, ap, subst, arith}
-use Rattle.std.specs.Prelude.{Some, None, take, drop, slice_set, ◌++◌}
+use Rattle.std.proofs.Common.{◌≡◌, ℕ, ◌+◌, ◌-◌, ◌*◌, ◌/◌, ◌%◌, ◌^◌, ◌<◌, ◌≤◌, Bool, true, false, not, ◌&&◌, ◌==◌, inl, inr, List, refl, sym, ◌∙◌, ap, arith}
+use Rattle.std.specs.Prelude.{take, drop, slice_set, ◌++◌}
 use Rattle.std.proofs.lemmas.Bool.{eqb-false}
 use Rattle.std.proofs.lemmas.Nat.{shr_high, mod_below, pow_pos, pow-add}
 use Rattle.std.proofs.Math.Nat.{div-one, eq-or-lt_of_le}
 use Rattle.v6_addr.specs.Address.{field_of, with_field_of}
 use Rattle.srv6_rules.specs.declared.compression.Compression.{Compression}
-use Rattle.srv6_rules.specs.declared.sid.Csid.{Csid}
-use Rattle.srv6_rules.specs.declared.sid.Csid.TheVariants as kinds
 use Rattle.srv6_rules.specs.Packet.{Packet, V6, content_of, address_bytes}
 use Rattle.srv6_rules.specs.Compressed.{argument_of, shift_of}
 use Rattle.srv6_rules.specs.CompressedSteps.{is_next, shifts, shifted}

@@ -81,7 +81,8 @@ csid-fit : (c : Compression) (srh : Srh) (d left index : ℕ) → IsReplace c �
     → index < csid_count (csid_len_of c) → IsFit (to_csid c srh d left index)
 csid-fit c srh d left index is below small fits = record {
   segments_left = small;
-  destination = replace-address c d (listed_csid c srh left index) index is below (csid-fits (csid_len_of c) (entry_of srh left) index) fits;
+  destination = replace-address c d (listed_csid c srh left index) index is below
+      (csid-fits (csid_len_of c) (entry_of srh left) index) fits;
 }
 
 move-fit : (c : Compression) (srh : Srh) (d : ℕ) → IsReplace c → d < 2 ^ 128 → srh.segments_left < 2 ^ 8
