@@ -14,4 +14,4 @@ pub use Rattle.srv6_rules.proofs.Endpoints.{at_sid-steps, at_sid-spellable, at_s
 pub use Rattle.srv6_rules.proofs.Encapsulations.{at_segment-onward, at_segment-hop_limit, at_segment-bad_segments, at_segment-upper_layer, at_segment-exposed, at_segment-spellable, outer-chain, outer-inner, lowered-spellable, lowered-spelling, encapsulated-spellable}
 pub use Rattle.srv6_rules.proofs.Checksums.{ones_sum-carried, word_sum-append, carried-again, carried-small}
 pub use Rattle.srv6_rules.proofs.ErrorLaws.{upper_layer_sum-carried, error_checksum-parts, error-start, error-goes_on, error-behind, error-none, error-is_error, error-once, error-most, error-length, quote-short, kind_of-fits, error-spellable, error-verifies}
-pub use Rattle.srv6_rules.proofs.PolicyLaws.{round-front, round-payload, round-length, round-inner, round-next_header, round-spellable, round-edit, round-other, round-behind, made-fits, made-big, headend-low, headend-high}
+pub use Rattle.srv6_rules.proofs.PolicyLaws.{round-front, round-payload, round-length, round-inner, round-next_header, round-spellable, round-edit, round-other, round-behind, by-length, by-payload, by-inner, by-fits, by-big, by-only_big, made-fits, made-big, headend-low, headend-high}
