@@ -1,6 +1,7 @@
 -- The headers that a policy puts in front of a packet.
 use Rattle.std.specs.Prelude.{ℕ, Bool, ◌+◌, ◌*◌, ◌^◌, ◌<◌, ◌==◌, if◌then◌else◌, List, length, drop, map, slice_index}
 use Rattle.v6_addr.specs.declared.address.Addr.{Addr}
+use Rattle.srv6_rules.specs.declared.numbers.TheConstants.{SEGMENT_LIST_AT, SEGMENT_LEN}
 use Rattle.srv6_rules.specs.declared.policy.Policy.{Policy}
 use Rattle.srv6_rules.specs.Packet.{Packet}
 
@@ -10,7 +11,7 @@ listed policy reduced = if reduced then drop 1 policy.segments else policy.segme
 
 -- the length in bytes of the segment routing header over the segments that are listed; there is none over none
 abbrev pub routing_bytes : List Addr → ℕ
-routing_bytes list = if length list == 0 then 0 else 8 + 16 * length list
+routing_bytes list = if length list == 0 then 0 else SEGMENT_LIST_AT + SEGMENT_LEN * length list
 
 -- the packet of the policy's outer header with a next header, and a payload
 abbrev pub framed : Policy → ℕ → List ℕ → Packet

@@ -6,13 +6,10 @@ ghost use Rattle.policy_encap.specs.Answers.{IsPushed, IsEncapsulated};
 ghost use Rattle.policy_encap.specs.Inner.{HoldsInner};
 
 use crate::faults::{EncapFault, PushFault};
-use crate::headers::{outer_bytes, outer_fits, payload_len};
+use crate::headers::{MOST_PAYLOAD_LEN, outer_bytes, outer_fits, payload_len};
 use crate::inner::{inner_hop, inner_len, lower};
-use srv6_rules::numbers::{IPV6_HEADER_LEN, MOST_LEN};
+use srv6_rules::numbers::MOST_LEN;
 use srv6_rules::{Family, Policy};
-
-/// The greatest payload length: 65,535 (RFC 8200 section 3).
-const MOST_PAYLOAD_LEN: usize = MOST_LEN - IPV6_HEADER_LEN;
 
 /// Puts a policy's header in front of the bytes of a packet of a family, in the reduced form
 /// exactly where `reduced` says so, whatever form the policy has. The outer header has the policy's

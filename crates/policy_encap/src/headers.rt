@@ -1,6 +1,6 @@
 //! The headers in front of a packet, in bytes.
 
-ghost use Rattle.std.specs.Prelude.{◌≡◌, ◌+◌, ◌-◌, ◌<◌, ◌≤◌, ◌++◌, ℕ, ◌^◌, List, length, reverse, OnOk, IfOk};
+ghost use Rattle.std.specs.Prelude.{◌≡◌, ◌+◌, ◌-◌, ◌<◌, ◌≤◌, ◌++◌, ℕ, ◌*◌, ◌^◌, List, length, reverse, OnOk, IfOk};
 ghost use Rattle.srv6_rules.specs.Packet.{header_spelling, spelling};
 ghost use Rattle.srv6_rules.specs.Policies.{IsPolicy, inner_kind, outer_by};
 ghost use Rattle.srv6_rules.specs.Srh.{srh_spelling};
@@ -8,13 +8,16 @@ ghost use Rattle.srv6_rules.specs.declared.sid.Family.{Family as FamilyValue};
 ghost use Rattle.srh_codec.specs.Writing.{header_over, numbers_of};
 ghost use Rattle.policy_encap.specs.Headers.{FitsOuter, framed, listed, routing_bytes};
 
-use srh_codec::{SrhParts, write_srh};
+use srh_codec::{MOST_ENTRIES, SrhParts, write_srh};
 use srv6_rules::numbers::{
     IPV4_INSIDE, IPV6_HEADER_LEN, IPV6_INSIDE, MOST_LEN, ROUTING, SEGMENT_LEN, SEGMENT_LIST_AT,
 };
 use srv6_rules::{Family, Policy};
 use std::alloc::{AllocError, Global};
 use v6_addr::Addr;
+
+/// The greatest payload length: 65,535 (RFC 8200 section 3).
+pub(crate) const MOST_PAYLOAD_LEN: usize = MOST_LEN - IPV6_HEADER_LEN;
 
 /// The value that names a packet of a family inside a packet.
 fn inner_kind(inner: Family) -> u8
@@ -42,7 +45,7 @@ fn listed(policy: &Policy, reduced: bool) -> &[Addr]
 
 /// The length of the segment routing header; there is none over no segments.
 fn routing_len(listed: &[Addr]) -> usize
-    requires { length listed.now ≤ 127 }
+    requires { length listed.now ≤ MOST_ENTRIES }
     ensures { result ≡ routing_bytes listed.now }
 {
     if listed.is_empty() {
@@ -56,7 +59,7 @@ fn routing_len(listed: &[Addr]) -> usize
 pub(crate) fn payload_len(policy: &Policy, reduced: bool, inner_len: usize) -> usize
     requires policy { IsPolicy policy.now }
     requires inner { inner_len ≤ MOST_LEN }
-    ensures most { result ≤ 2040 + inner_len }
+    ensures most { result ≤ SEGMENT_LIST_AT + SEGMENT_LEN * MOST_ENTRIES + inner_len }
     ensures value { (inner : FamilyValue) (bytes : List ℕ) → length bytes ≡ inner_len
         → result ≡ length (outer_by policy.now reduced inner bytes).payload }
 {
@@ -94,7 +97,7 @@ fn append_routing(
     segments_left: u8,
 ) -> Result<(), AllocError>
     requires some { 0 < length listed.now }
-    requires most { length listed.now ≤ 127 }
+    requires most { length listed.now ≤ MOST_ENTRIES }
     ensures { OnOk result (out.new.items ≡ out.old.items
         ++ srh_spelling (header_over next_header segments_left (reverse (numbers_of listed.now)))) }
 {
@@ -120,7 +123,8 @@ pub(crate) fn outer_bytes(
     packet: &[u8],
 ) -> Result<Vec<u8>, AllocError>
     requires policy { IsPolicy policy.now }
-    requires fits { length (outer_by policy.now reduced inner packet.now).payload ≤ 65535 }
+    requires fits { length (outer_by policy.now reduced inner packet.now).payload
+        ≤ MOST_PAYLOAD_LEN }
     ensures { IfOk result
         (λ bytes. bytes.items ≡ spelling (outer_by policy.now reduced inner packet.now)) }
 {

@@ -19,4 +19,4 @@ pub use Rattle.srv6_rules.proofs.Containers.{container-shift, container-rest, ar
 pub use Rattle.srv6_rules.proofs.PackedEntries.{entry-csid, entry-past, entry-address, next-sid, index-back, index-holds, index-written}
 pub use Rattle.srv6_rules.proofs.SteppedPackets.{shifted-spellable, step-spellable, step-hop_limit, StepMoves, step-moves}
 pub use Rattle.srv6_rules.proofs.SteppedEntries.{entry-next, entry-last, entry-first, entry-ended}
-pub use Rattle.srv6_rules.proofs.PolicyLaws.{round-front, round-payload, round-length, round-inner, round-next_header, round-spellable, round-edit, round-other, round-behind, made-fits, made-big, headend-low, headend-high}
+pub use Rattle.srv6_rules.proofs.PolicyLaws.{round-front, round-payload, round-length, round-inner, round-next_header, round-spellable, round-edit, round-other, round-behind, by-length, by-payload, by-inner, by-fits, by-big, by-only_big, made-fits, made-big, headend-low, headend-high}
