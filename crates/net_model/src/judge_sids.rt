@@ -41,13 +41,13 @@ fn standing_of(standings: &[Standing], n: usize, s: &SidEntry) -> Standing
 }
 
 /// Whether a SID has the keys that its behaviour takes, and no links where it takes none.
-fn suits_keys(k: Standing, s: &SidEntry) -> bool
-    ensures { result ≡ suits_keys k s.now }
+fn suits_keys(standing: Standing, s: &SidEntry) -> bool
+    ensures { result ≡ suits_keys standing s.now }
 {
     let takes_links = s.behaviour.takes_links();
-    k.links == takes_links
-        && k.table == s.behaviour.table().is_some()
-        && k.policy == s.behaviour.policy().is_some()
+    standing.links == takes_links
+        && standing.table == s.behaviour.table().is_some()
+        && standing.policy == s.behaviour.policy().is_some()
         && (takes_links || s.links.as_slice().len() == 0)
 }
 
@@ -100,16 +100,16 @@ fn is_full(before: &[SidEntry], s: &SidEntry) -> bool
 /// The first fault of a SID's references and of its sets.
 fn judge_joins(
     parts: &NetParts,
-    k: Standing,
+    standing: Standing,
     place: FaultPlace,
     s: &SidEntry,
 ) -> Result<(), NetFault>
-    ensures { result ≡ judge_joins (network_of parts.now) k place s.now }
+    ensures { result ≡ judge_joins (network_of parts.now) standing place s.now }
 {
     let links = s.links.as_slice();
     let takes_links = s.behaviour.takes_links();
     refuse_if(is_unknown(parts.nodes.len(), s.node), place.unknown_name())?;
-    refuse_if(!suits_keys(k, s), place.bad_structure())?;
+    refuse_if(!suits_keys(standing, s), place.bad_structure())?;
     refuse_if(has_unknown(parts.links.len(), links), place.unknown_name())?;
     refuse_if(
         is_unknown_policy(parts.policies.len(), s.behaviour.policy()),
@@ -134,14 +134,14 @@ fn suits_compression(block: Option<Block>, s: &SidEntry) -> bool
 /// The first fault of a SID's flavours and of its compression.
 fn judge_flavours(
     parts: &NetParts,
-    k: Standing,
+    standing: Standing,
     place: FaultPlace,
     s: &SidEntry,
 ) -> Result<(), NetFault>
-    ensures { result ≡ judge_flavours (network_of parts.now) k place s.now }
+    ensures { result ≡ judge_flavours (network_of parts.now) standing place s.now }
 {
     let block = block_of(parts.blocks.as_slice(), &s.prefix);
-    refuse_if(k.double_flavour, place.bad_flavour())?;
+    refuse_if(standing.double_flavour, place.bad_flavour())?;
     refuse_if(
         !suits_flavours(s.behaviour.takes_flavours(), s.psp, s.usp, s.usd),
         place.bad_flavour(),
@@ -180,9 +180,9 @@ impl<'a> Judge<SidEntry> for SidRules<'a> {
     ghost rules = { λ r. judge_sid (network_of r.parts.now) r.standings.now };
 
     fn judge(&self, before: &[SidEntry], place: FaultPlace, s: &SidEntry) -> Result<(), NetFault> {
-        let k = standing_of(self.standings, before.len(), s);
-        judge_joins(self.parts, k, place, s)?;
-        judge_flavours(self.parts, k, place, s)?;
+        let standing = standing_of(self.standings, before.len(), s);
+        judge_joins(self.parts, standing, place, s)?;
+        judge_flavours(self.parts, standing, place, s)?;
         judge_apart(self.parts.titles.as_slice(), before, place, s)
     }
 }
