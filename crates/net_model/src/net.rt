@@ -182,8 +182,8 @@ impl Net {
 
     /// What in a node's table fits an address of a family best: the longest of the entries that
     /// hold it, and of equally long ones a SID before the node's address before a route. Table 0 of
-    /// IPv6 has the node's SIDs, its address and its routes, other tables have routes alone; the IPv4
-    /// routes of a table stand apart, and their addresses in the first 32 bits (own rule).
+    /// IPv6 has the node's SIDs, its address and its routes, other tables have routes alone; the
+    /// IPv4 routes of a table stand apart, and their addresses in the first 32 bits (own rule).
     pub fn lookup(&self, node: u32, table: u32, family: Family, a: Addr) -> Hit
         requires { node < length self.now.nodes }
         ensures value { result ≡ lookup_of self.now node table family a.value }
