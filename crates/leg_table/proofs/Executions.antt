@@ -103,7 +103,8 @@ module _ (s : SidEntry) where
   end_stays p (Cut place) on = false≢true on
   end_stays p (Upper place) on = by_test (exposes s place.kind) on
     where
-      by_test : (t : Bool) → is_onward (if t then Exposed (family_inside place.kind) (from_place p place.at) else upper_layer [] p place) ≡ true → ⊥
+      by_test : (t : Bool) → is_onward (if t then Exposed (family_inside place.kind) (from_place p place.at)
+          else upper_layer [] p place) ≡ true → ⊥
       by_test true on = false≢true on
       by_test false on = false≢true on
 
@@ -158,8 +159,10 @@ module _ (s : SidEntry) where
   end_shows allow p limit (Cut place) on = absurd (false≢true on)
   end_shows allow p limit (Upper place) on = by_test (exposes s place.kind) on
     where
-      by_test : (t : Bool) → is_exposed (if t then Exposed (family_inside place.kind) (from_place p place.at) else upper_layer [] p place) ≡ true
-          → Shows (if t then Exposed (family_inside place.kind) (from_place p place.at) else upper_layer allow (with_hop_limit limit p) place)
+      by_test : (t : Bool) → is_exposed (if t then Exposed (family_inside place.kind) (from_place p place.at)
+          else upper_layer [] p place) ≡ true
+          → Shows (if t then Exposed (family_inside place.kind) (from_place p place.at)
+          else upper_layer allow (with_hop_limit limit p) place)
       by_test true on = (family_inside place.kind, from_place p place.at, refl)
       by_test false on = absurd (false≢true on)
 

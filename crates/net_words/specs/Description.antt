@@ -113,7 +113,8 @@ sid_of p t = do
 -- the tables in their order
 abbrev pub description_of : Members → Result Description NetFault
 description_of root = do
-  known ← only (keys.Block ∷ keys.Node ∷ keys.Link ∷ keys.Route ∷ keys.Policy ∷ keys.Sid ∷ []) (record { table = tables.Net; item = 0 }) root
+  known ← only (keys.Block ∷ keys.Node ∷ keys.Link ∷ keys.Route ∷ keys.Policy ∷ keys.Sid ∷ [])
+      (record { table = tables.Net; item = 0 }) root
   blocks ← items_at tables.Block keys.Block MAX_BLOCKS block_of known
   nodes ← items_at tables.Node keys.Node MAX_NODES node_of known
   links ← items_at tables.Link keys.Link MAX_LINKS link_of known

@@ -118,10 +118,9 @@ fn refused(fault: Option<Fault>) -> Option<Judged>
     }
 }
 
-/// A routing header at a SID without flavours, or none where it is passed over: one with no segments
-/// left. A SID
-/// that goes on takes the step over a segment routing header with segments left, and other routing
-/// headers are unknown (RFC 8754 section 4.3.1.1, RFC 8200 section 4.4).
+/// A routing header at a SID without flavours, or none where it is passed over: one with no
+/// segments left. A SID that goes on takes the step over a segment routing header with segments
+/// left, and other routing headers are unknown (RFC 8754 section 4.3.1.1, RFC 8200 section 4.4).
 fn judge_routing(
     entry: &SidEntry,
     packet: &Packet,
@@ -209,7 +208,8 @@ fn judge_upper(entry: &SidEntry, allow: &[u8], packet: &Packet, place: ChainPlac
 }
 
 /// A packet at a SID, one without flavours, of a node that takes some upper layers at its SIDs (RFC
-/// 8986 sections 4.1, 4.2 and 4.6). The first header that is not passed over decides, and else the chain's end.
+/// 8986 sections 4.1, 4.2 and 4.6). The first header that is not passed over decides, and else the
+/// chain's end.
 pub(crate) fn judge_at_sid(entry: &SidEntry, allow: &[u8], packet: &Packet) -> Judged
     requires psp { entry.now.psp ≡ false }
     requires usp { entry.now.usp ≡ false }
