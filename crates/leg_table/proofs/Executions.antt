@@ -5,7 +5,6 @@ use Rattle.std.proofs.lemmas.Bool.{false≢true, and_parts, and_from, eq-eqb, le
 use Rattle.std.proofs.lemmas.Bool.Decides.{leb_tells}
 use Rattle.srv6_rules.specs.declared.sid.Behaviour.{Behaviour}
 use Rattle.srv6_rules.specs.declared.sid.Family.{Family}
-use Rattle.srv6_rules.specs.declared.sid.Family.TheVariants as families
 use Rattle.srv6_rules.specs.declared.sid.Reason.TheVariants as reasons
 use Rattle.srv6_rules.specs.declared.sid.SidEntry.{SidEntry}
 use Rattle.srv6_rules.specs.Behaviours.{goes_on, exposes, is_built, ipv6_inside, family_inside}

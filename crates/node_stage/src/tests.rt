@@ -128,10 +128,11 @@ fn sid_at_b(alloc: Global, prefix: Prefix, behaviour: Behaviour) -> SidEntry {
     }
 }
 
-/// A has a route to B over ab. B has the SIDs `end` and `decapsulation` (End.DT6 of table 5), and
-/// in table 5 a route to `inside` out of the network.
+/// A has a route to B over ab. B has the SIDs `end`, of a behaviour, and `decapsulation` (End.DT6 of
+/// table 5), and in table 5 a route to `inside` out of the network.
 fn two_nodes(
     alloc: Global,
+    behaviour: Behaviour,
     end: Prefix,
     decapsulation: Prefix,
     inside: Prefix,
@@ -154,7 +155,7 @@ fn two_nodes(
     routes.push(route(alloc, 0, 0, end, 0)?)?;
     routes.push(route(alloc, 1, 5, inside, 1)?)?;
     let mut sids = Vec::new(alloc);
-    sids.push(sid_at_b(alloc, end, Behaviour::End))?;
+    sids.push(sid_at_b(alloc, end, behaviour))?;
     sids.push(sid_at_b(alloc, decapsulation, Behaviour::Dt6 { table: 5 }))?;
     Ok(NetParts {
         blocks: Vec::new(alloc),
@@ -173,10 +174,16 @@ fn spelled(alloc: Global, content: &Content) -> Result<Vec<u8>, AllocError> {
     Ok(out)
 }
 
-/// The network, built.
+/// The network with an End.
 fn net(rt: &impl Abort, alloc: Global) -> Result<Net, AllocError> {
+    net_with(rt, alloc, Behaviour::End)
+}
+
+/// The network with a behaviour, built.
+fn net_with(rt: &impl Abort, alloc: Global, behaviour: Behaviour) -> Result<Net, AllocError> {
     let parts = two_nodes(
         alloc,
+        behaviour,
         prefix(rt, 0xfc00_000b_0000_0000_0000_0000_0000_0000, 32),
         prefix(rt, 0xfc00_000b_0001_0000_0000_0000_0000_0000, 48),
         prefix(rt, 0x2001_0db8_0000_0000_0000_0000_0000_0000, 32),
@@ -251,6 +258,31 @@ fn decapsulation_exposes_the_packet_inside(rt: HostRuntime) -> Result<(), Fail> 
         spelled(rt.alloc(), &content)?.as_slice(),
         INSIDE.as_slice()
     );
+    Ok(())
+}
+
+/// A SID that is not built yet drops the packet as it is.
+#[test]
+fn a_sid_that_is_not_built_drops_the_packet(rt: HostRuntime) -> Result<(), Fail> {
+    let net = net_with(&rt, rt.alloc(), Behaviour::EndT { table: 5 })?;
+    assert_eq!(rt; net.nodes(), 2);
+    let bytes = joined(rt.alloc(), &HEADER, &SEGMENTS, &INSIDE)?;
+    let mut content = Content::enter(bytes);
+    let place = Place {
+        node: 1,
+        how: How::Arrived { table: 0 },
+        family: Family::V6,
+    };
+    let outcome = stage(&net, &place, &mut content, 0);
+    assert_eq!(rt;
+        outcome,
+        Outcome::Drop {
+            reason: Reason::NotBuilt,
+            error: false
+        }
+    );
+    let same = joined(rt.alloc(), &HEADER, &SEGMENTS, &INSIDE)?;
+    assert_eq!(rt; spelled(rt.alloc(), &content)?.as_slice(), same.as_slice());
     Ok(())
 }
 
