@@ -52,7 +52,7 @@ sid_in_range blocks title_count s =
     && (nat_le (length s.links) MAX_LINKS_OF_SET && ((s.block_len == block_len_of (block_of blocks s.prefix))
     && is_title title_count s.title))))
 
--- these are the numbers from one number on to another
+-- these are the numbers from one number on, up to the one before another
 abbrev pub are_numbers : ℕ → ℕ → List ℕ → Bool
 are_numbers from to [] = from == to
 are_numbers from to (n ∷ ns) = (n == from) && are_numbers (from + 1) to ns
