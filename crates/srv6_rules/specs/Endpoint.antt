@@ -57,8 +57,8 @@ abbrev pub unless_fault : Option Fault → Endpoint → Endpoint
 unless_fault (Some fault) behind = Refused fault.reason fault.at
 unless_fault None behind = behind
 
--- the step over a segment routing header with segments left: the hop limit is judged, then the segments, then the
--- type-length-value area (RFC 8754 section 4.3.1.1)
+-- the step over a segment routing header with segments left: the hop limit is judged, then the segments (RFC 8986 section
+-- 4.1.1), then the type-length-value area (that it comes last is an own rule)
 abbrev pub next_segment : Packet → ℕ → Srh → Endpoint
 next_segment p at s =
     if nat_le p.hop_limit 1 then Refused reasons.HopLimit 0

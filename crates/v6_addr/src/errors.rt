@@ -1,6 +1,6 @@
 /// A text that is outside the grammar of addresses, or of prefixes.
 #[derive(thiserror::Error, Debug, Clone, Copy, PartialEq, Eq)]
-#[error("not an IPv6 address or prefix")]
+#[error("not an address or prefix")]
 pub struct BadAddr {
     /// The place of the fault (own rule): the length in bytes of the text's longest beginning that
     /// some accepted text begins with. It is the whole text's length where the text is an address,

@@ -58,9 +58,8 @@ links-some links node false set e suits = cc
 way_on-how : (net : Network) (node n : ℕ) (takes goes_on : Bool) (table : Option ℕ)
     → (takes ≡ true → IsThrough node (slice_get net.sids n)) → IsHow net node (way_on n takes goes_on table)
 way_on-how net node n true goes_on table through = through refl
-way_on-how net node n false goes_on None through = tt
-way_on-how net node n false true (Some table) through = tt
-way_on-how net node n false false (Some table) through = tt
+way_on-how net node n false true table through = tt
+way_on-how net node n false false table through = tt
 
 -- how a packet goes on from a SID that is there and stands at the node
 on_from-how : (net : Network) (node n : ℕ) (s : SidEntry) (b : Behaviour) → Keeps net → slice_get net.sids n ≡ Some s

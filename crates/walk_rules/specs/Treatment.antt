@@ -80,14 +80,18 @@ treated_at_address net node p (Exposed family bytes) = dropped net node reasons.
 treated_at_address net node p (Delivered q) = goes outcomes.Local (V6 q)
 treated_at_address net node p (Refused reason at) = dropped net node reason at (V6 p)
 
+-- the table, or table 0 where there is none
+abbrev pub table_or_first : Option ℕ → ℕ
+table_or_first None = 0
+table_or_first (Some table) = table
+
 -- how a packet goes on from SID n, by whether the SID takes links, whether the packet itself goes on, and the table that
 -- the SID has of its own: over its links, where what was exposed has its hop limit lowered; else by a look-up, of the
 -- packet itself submitted to the table or to table 0, and of what was exposed as one that has arrived (RFC 8986 section 4)
 abbrev pub way_on : ℕ → Bool → Bool → Option ℕ → How
 way_on n true goes_on table = Through n (not goes_on)
-way_on n false goes_on None = Submitted 0
-way_on n false true (Some table) = Submitted table
-way_on n false false (Some table) = Arrived table
+way_on n false true table = Submitted (table_or_first table)
+way_on n false false table = Arrived (table_or_first table)
 
 abbrev pub on_from : ℕ → Behaviour → How
 on_from n b = way_on n (behaviour_takes_links b) (behaviour_goes_on b) (behaviour_table b)

@@ -23,10 +23,11 @@ pub fn on_from(sid: u32, behaviour: &Behaviour) -> How
             lower: !goes_on,
         };
     }
-    match behaviour.table() {
-        None => How::Submitted { table: 0 },
-        Some(table) if goes_on => How::Submitted { table },
-        Some(table) => How::Arrived { table },
+    let table = behaviour.table().unwrap_or(0);
+    if goes_on {
+        How::Submitted { table }
+    } else {
+        How::Arrived { table }
     }
 }
 
