@@ -47,7 +47,8 @@ contains_filtered test (y ∷ ys) x passes c =
     ]
 
 -- the prefix of each IPv6 route is among those that flatness looks at
-route_among : (net : Network) (n : ℕ) (r : Route) (p : PrefixValue) → slice_get net.routes n ≡ Some r → r.family ≡ families.V6 → r.prefix ≡ p
+route_among : (net : Network) (n : ℕ) (r : Route) (p : PrefixValue) → slice_get net.routes n ≡ Some r → r.family ≡ families.V6
+    → r.prefix ≡ p
     → Contains (inner_entries net) p
 route_among net n r p at v6 is =
     let routes = filter is_ipv6_route net.routes in
@@ -102,7 +103,8 @@ pub lookups_alike : (net : Network) (n : ℕ) (s : SidEntry) (node table a b : �
     → Holds s.prefix a → Holds s.prefix b → lookup_of net node table families.V6 a ≡ lookup_of net node table families.V6 b
 unfolding lookup_of
 lookups_alike net n s node table a b flat at s_a s_b =
-    ap hit_of (longest_alike a b (entries_of net node table families.V6) (λ e there. entry_alike net node table n a b s e flat at s_a s_b there))
+    ap hit_of (longest_alike a b (entries_of net node table families.V6)
+    (λ e there. entry_alike net node table n a b s e flat at s_a s_b there))
 
 -- at its own node the SID is the best match of each address that it holds
 pub own_sid_is_best : (net : Network) (n : ℕ) (s : SidEntry) (a : ℕ) → IsNetwork net → IsFlat net → slice_get net.sids n ≡ Some s
@@ -113,7 +115,8 @@ own_sid_is_best net n s a rules flat at s_a =
       holds = s_a;
       no_better = λ other there other_a. (no_longer net s.node 0 n a s other flat at s_a there other_a, λ same. omega arith);
     } in
-    best_is_one net s.node 0 families.V6 a (lookup_of net s.node 0 families.V6 a) (hits.Sid n) rules (lookup_is_best net s.node 0 families.V6 a) (s.prefix, best)
+    best_is_one net s.node 0 families.V6 a (lookup_of net s.node 0 families.V6 a) (hits.Sid n) rules
+    (lookup_is_best net s.node 0 families.V6 a) (s.prefix, best)
 
 -- in a flat network two SIDs that hold one address have equally long prefixes
 sid_no_longer : (net : Network) (n m a : ℕ) (s t : SidEntry) → IsFlat net → slice_get net.sids n ≡ Some s → slice_get net.sids m ≡ Some t
@@ -137,7 +140,8 @@ one_sid_prefix net n m s t a rules flat at_n at_m s_a t_a =
     len
 
 -- a SID that an address is looked up to holds the address
-pub matched_sid_holds : (net : Network) (m : ℕ) (t : SidEntry) (node table : ℕ) (family : Family) (a : ℕ) → lookup_of net node table family a ≡ hits.Sid m
+pub matched_sid_holds : (net : Network) (m : ℕ) (t : SidEntry) (node table : ℕ) (family : Family) (a : ℕ)
+    → lookup_of net node table family a ≡ hits.Sid m
     → slice_get net.sids m ≡ Some t → (t.node ≡ node) × (table ≡ 0) × (family ≡ families.V6) × Holds t.prefix a
 matched_sid_holds net m t node table family a hit at_m =
     let (p, best) = subst (IsBest net node table family a) hit (lookup_is_best net node table family a) in

@@ -44,7 +44,8 @@ sid_entries-cons node n s more =
     elim (cases_Bool (s.node == node)) [ inl h ↦ rw h refl | inr h ↦ rw h refl ]
 
 pub route_entries-cons : (node table : ℕ) (family : Family) (n : ℕ) (r : Route) (more : List Route)
-    → route_entries node table family n (r ∷ more) ≡ route_entries node table family n (r ∷ []) ++ route_entries node table family (n + 1) more
+    → route_entries node table family n (r ∷ more)
+    ≡ route_entries node table family n (r ∷ []) ++ route_entries node table family (n + 1) more
 route_entries-cons node table family n r more =
     elim (cases_Bool (is_route_of node table family r)) [ inl h ↦ rw h refl | inr h ↦ rw h refl ]
 
@@ -60,7 +61,8 @@ sid_scan_more a node n s more found next e =
 
 pub route_scan_more : (a node table : ℕ) (family : Family) (n : ℕ) (r : Route) (more : List Route) (found next : Option Entry)
     → next ≡ longer found (longest a (route_entries node table family n (r ∷ [])))
-    → longer next (longest a (route_entries node table family (n + 1) more)) ≡ longer found (longest a (route_entries node table family n (r ∷ more)))
+    → longer next (longest a (route_entries node table family (n + 1) more))
+    ≡ longer found (longest a (route_entries node table family n (r ∷ more)))
 route_scan_more a node table family n r more found next e =
     ap (λ o. longer o (longest a (route_entries node table family (n + 1) more))) e
     ∙ longer_assoc found (longest a (route_entries node table family n (r ∷ []))) (longest a (route_entries node table family (n + 1) more))

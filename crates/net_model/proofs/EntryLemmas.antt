@@ -92,13 +92,15 @@ abbrev pub IsRouteFrom : ℕ → ℕ → Family → ℕ → List Route → Entry
 IsRouteFrom node table family n routes e = (i : ℕ) × (r : Route) × (slice_get routes i ≡ Some r) × (r.node ≡ node) × (r.table ≡ table)
     × (r.family ≡ family) × (e ≡ record { hit = hits.Route (n + i); prefix = r.prefix })
 
-route_later : (node table : ℕ) (family : Family) (n : ℕ) (r : Route) (routes : List Route) (e : Entry) → IsRouteFrom node table family (n + 1) routes e
+route_later : (node table : ℕ) (family : Family) (n : ℕ) (r : Route) (routes : List Route) (e : Entry)
+    → IsRouteFrom node table family (n + 1) routes e
     → IsRouteFrom node table family n (r ∷ routes) e
 route_later node table family n r routes e (i, t, at, of, in_table, of_family, is) =
     let shift : n + 1 + i ≡ n + suc i = omega arith in
     (suc i, t, at, of, in_table, of_family, is ∙ ap (λ k. record { hit = hits.Route k; prefix = t.prefix }) shift)
 
-pub route_means : (node table : ℕ) (family : Family) (n : ℕ) (routes : List Route) (e : Entry) → Contains (route_entries node table family n routes) e
+pub route_means : (node table : ℕ) (family : Family) (n : ℕ) (routes : List Route) (e : Entry)
+    → Contains (route_entries node table family n routes) e
     → IsRouteFrom node table family n routes e
 route_means node table family n [] e c = absurd (contains_none e c)
 route_means node table family n (r ∷ routes) e c =
@@ -121,19 +123,22 @@ route_means node table family n (r ∷ routes) e c =
       | inr other ↦ route_later node table family n r routes e (route_means node table family (n + 1) routes e (rw other at c))
     ]
 
-route_in_front : (node table : ℕ) (family : Family) (n : ℕ) (r : Route) (routes : List Route) (e : Entry) → Contains (route_entries node table family (n + 1) routes) e
+route_in_front : (node table : ℕ) (family : Family) (n : ℕ) (r : Route) (routes : List Route) (e : Entry)
+    → Contains (route_entries node table family (n + 1) routes) e
     → Contains (route_entries node table family n (r ∷ routes)) e
 route_in_front node table family n r routes e c =
     elim (cases_Bool (is_route_of node table family r)) [ inl mine ↦ rw mine (contains_later _ _ e c) | inr other ↦ rw other c ]
 
-route_at_front : (node table : ℕ) (family : Family) (n : ℕ) (r : Route) (routes : List Route) → r.node ≡ node → r.table ≡ table → r.family ≡ family
+route_at_front : (node table : ℕ) (family : Family) (n : ℕ) (r : Route) (routes : List Route) → r.node ≡ node → r.table ≡ table
+    → r.family ≡ family
     → Contains (route_entries node table family n (r ∷ routes)) (record { hit = hits.Route n; prefix = r.prefix })
 route_at_front node table family n r routes of in_table of_family =
     let mine = and_from _ _ (eq-eqb r.node node of) (and_from _ _ (eq-eqb r.table table in_table) (same_family-from _ _ of_family)) in
     rw mine (contains_first _ _)
 
-pub route_is_there : (node table : ℕ) (family : Family) (n : ℕ) (routes : List Route) (i k : ℕ) (r : Route) → slice_get routes i ≡ Some r → r.node ≡ node
-    → r.table ≡ table → r.family ≡ family → k ≡ n + i → Contains (route_entries node table family n routes) (record { hit = hits.Route k; prefix = r.prefix })
+pub route_is_there : (node table : ℕ) (family : Family) (n : ℕ) (routes : List Route) (i k : ℕ) (r : Route) → slice_get routes i ≡ Some r
+    → r.node ≡ node → r.table ≡ table → r.family ≡ family → k ≡ n + i
+    → Contains (route_entries node table family n routes) (record { hit = hits.Route k; prefix = r.prefix })
 route_is_there node table family n [] i k r at of in_table of_family is = cc
 route_is_there node table family n (t ∷ routes) zero k r at of in_table of_family is =
     let P : Route → Type 0 = λ x. x.node ≡ node → x.table ≡ table → x.family ≡ family
@@ -143,7 +148,8 @@ route_is_there node table family n (t ∷ routes) zero k r at of in_table of_fam
     (λ m. Contains (route_entries node table family n (t ∷ routes)) (record { hit = hits.Route m; prefix = t.prefix })) same
     (route_at_front node table family n t routes mine in_it family_too)) of in_table of_family
 route_is_there node table family n (t ∷ routes) (suc i) k r at of in_table of_family is =
-    route_in_front node table family n t routes _ (route_is_there node table family (n + 1) routes i k r at of in_table of_family (omega arith))
+    route_in_front node table family n t routes _
+    (route_is_there node table family (n + 1) routes i k r at of in_table of_family (omega arith))
 
 -- the entries of a table by what they are, both ways
 
@@ -163,7 +169,8 @@ by_address net node table family e (Some n) at first c =
       | inr none ↦ absurd (contains_none e none)
     ]
 
-by_route : (net : Network) (node table : ℕ) (family : Family) (e : Entry) → Contains (route_entries node table family 0 net.routes) e → IsEntry net node table family e
+by_route : (net : Network) (node table : ℕ) (family : Family) (e : Entry) → Contains (route_entries node table family 0 net.routes) e
+    → IsEntry net node table family e
 by_route net node table family e c =
     let (i, r, at, of, in_table, of_family, is) = route_means node table family 0 net.routes e c in
     let same : i ≡ 0 + i = omega arith in
@@ -187,7 +194,8 @@ pub entries_of-other : (net : Network) (node table : ℕ) (family : Family) → 
     → entries_of net node table family ≡ route_entries node table family 0 net.routes
 entries_of-other net node table family other = rw other refl
 
-pub entry_means : (net : Network) (node table : ℕ) (family : Family) (e : Entry) → Contains (entries_of net node table family) e → IsEntry net node table family e
+pub entry_means : (net : Network) (node table : ℕ) (family : Family) (e : Entry) → Contains (entries_of net node table family) e
+    → IsEntry net node table family e
 entry_means net node table family e c =
     elim (cases_Bool (has_sids table family)) [
       | inl is ↦ let first = has_sids-is table family is in

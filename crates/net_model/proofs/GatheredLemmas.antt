@@ -29,13 +29,15 @@ pub sid_out : (node n : ℕ) (s : SidEntry) (xs ys : List Found) → (s.node == 
     → map entry_of ys ≡ map entry_of xs ++ sid_entries node n (s ∷ [])
 sid_out node n s xs ys there e = rw there (ap (map entry_of) e ∙ nothing_more (map entry_of xs))
 
-pub route_in : (node table : ℕ) (family : Family) (n : ℕ) (r : Route) (xs ys : List Found) (f : Found) → is_route_of node table family r ≡ true
+pub route_in : (node table : ℕ) (family : Family) (n : ℕ) (r : Route) (xs ys : List Found) (f : Found)
+    → is_route_of node table family r ≡ true
     → f ≡ record { hit = hits.Route n; prefix = r.prefix } → ys ≡ xs ++ f ∷ []
     → map entry_of ys ≡ map entry_of xs ++ route_entries node table family n (r ∷ [])
 route_in node table family n r xs ys f here is e =
     rw here (pushed xs ys f e ∙ ap (λ (g : Found). map entry_of xs ++ entry_of g ∷ []) is)
 
-pub route_out : (node table : ℕ) (family : Family) (n : ℕ) (r : Route) (xs ys : List Found) → is_route_of node table family r ≡ false → ys ≡ xs
+pub route_out : (node table : ℕ) (family : Family) (n : ℕ) (r : Route) (xs ys : List Found) → is_route_of node table family r ≡ false
+    → ys ≡ xs
     → map entry_of ys ≡ map entry_of xs ++ route_entries node table family n (r ∷ [])
 route_out node table family n r xs ys there e = rw there (ap (map entry_of) e ∙ nothing_more (map entry_of xs))
 

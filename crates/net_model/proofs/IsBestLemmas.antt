@@ -115,7 +115,8 @@ sids_rank : (node n : ℕ) (net : Network) → HasRank 0 (sid_entries node n net
 sids_rank node n net e c = let (i, s, at, of, is) = sid_means node n net.sids e c in ap (λ f. rank_of f.hit) is
 
 routes_rank : (node table : ℕ) (family : Family) (n : ℕ) (net : Network) → HasRank 2 (route_entries node table family n net.routes)
-routes_rank node table family n net e c = let (i, r, at, of, in_table, of_family, is) = route_means node table family n net.routes e c in ap (λ f. rank_of f.hit) is
+routes_rank node table family n net e c =
+    let (i, r, at, of, in_table, of_family, is) = route_means node table family n net.routes e c in ap (λ f. rank_of f.hit) is
 
 address_rank : (o : Option Node) → HasRank 1 (address_entries o)
 address_rank None e c = absurd (contains_none e c)
@@ -160,7 +161,8 @@ best_from : (net : Network) (node table : ℕ) (family : Family) (a : ℕ) (o : 
 best_from net node table family a None best = best
 best_from net node table family a (Some e) best = best_by_hit net node table family a e.prefix e.hit best
 
-pub lookup_is_best : (net : Network) (node table : ℕ) (family : Family) (a : ℕ) → IsBest net node table family a (lookup_of net node table family a)
+pub lookup_is_best : (net : Network) (node table : ℕ) (family : Family) (a : ℕ)
+    → IsBest net node table family a (lookup_of net node table family a)
 unfolding lookup_of
 lookup_is_best net node table family a =
     best_from net node table family a (longest a (entries_of net node table family))
@@ -211,7 +213,8 @@ rank_of_best : (net : Network) (node table : ℕ) (family : Family) (a : ℕ) (p
     → IsBestEntry (entries_of net node table family) a (record { hit = k; prefix = q }) → rank_of h ≡ rank_of k
 rank_of_best net node table family a p q h k is_h is_k = (best_agree (entries_of net node table family) a _ _ is_h is_k).1
 
-pub best_is_one : (net : Network) (node table : ℕ) (family : Family) (a : ℕ) (h k : Hit) → IsNetwork net → IsBest net node table family a h → IsBest net node table family a k
+pub best_is_one : (net : Network) (node table : ℕ) (family : Family) (a : ℕ) (h k : Hit) → IsNetwork net
+    → IsBest net node table family a h → IsBest net node table family a k
     → h ≡ k
 best_is_one net node table family a (hits.Sid m) (hits.Sid n) rules (p, is_h) (q, is_k) =
     ap hits.Sid (one_sid net node table family a m n p q (keeps_from_network net rules) is_h is_k)

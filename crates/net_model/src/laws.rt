@@ -33,8 +33,8 @@ pub fn entries_are_its_own()
 {}
 
 /// A flat network treats all addresses in the prefix of a SID alike: in each table of each node
-/// they have the same best match as IPv6 addresses; at the SID's own node that match in table 0 is the SID; and SIDs
-/// that hold one address have one prefix.
+/// they have the same best match as IPv6 addresses; at the SID's own node that match in table 0 is
+/// the SID; and SIDs that hold one address have one prefix.
 pub fn flat_networks_treat_addresses_alike()
     ensures alike { (net : Network) (n : ℕ) (s : SidEntry) (node table a b : ℕ) → IsFlat net
         → slice_get net.sids n ≡ Some s → Holds s.prefix a → Holds s.prefix b

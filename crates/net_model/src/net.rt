@@ -180,10 +180,10 @@ impl Net {
         is_link_set(&self.parts.links, node, set)
     }
 
-    /// What in a node's table fits an address of a family best: the longest of the entries that hold
-    /// it, and of equally long ones a SID before the node's address before a route. Table 0 of IPv6
-    /// has the node's SIDs, its address and its routes, other tables have routes alone; the IPv4
-    /// routes of a table stand apart, and their addresses in the first 32 bits (own rule).
+    /// What in a node's table fits an address of a family best: the longest of the entries that
+    /// hold it, and of equally long ones a SID before the node's address before a route. Table 0 of
+    /// IPv6 has the node's SIDs, its address and its routes, other tables have routes alone; the
+    /// IPv4 routes of a table stand apart, and their addresses in the first 32 bits (own rule).
     pub fn lookup(&self, node: u32, table: u32, family: Family, a: Addr) -> Hit
         requires { node < length self.now.nodes }
         ensures value { result ≡ lookup_of self.now node table family a.value }
@@ -215,7 +215,8 @@ impl Net {
     #[tactic(auto, using(std::proofs::lemmas::Option::gets))]
     pub fn policy(&self, n: u32) -> &Policy
         requires { n < length self.now.policies }
-        ensures { (p : NamedPolicy) × (slice_get self.now.policies n ≡ Some p) × (result.now ≡ p.policy) }
+        ensures { (p : NamedPolicy) × (slice_get self.now.policies n ≡ Some p)
+            × (result.now ≡ p.policy) }
     {
         &self.parts.policies[n as usize].policy
     }

@@ -31,7 +31,12 @@ impl<'a> Model for NodeTable<'a> {
 
     ghost Value = { TableOf };
 
-    ghost view = { λ t. record { net = t.net.now; node = t.node; table = t.table; family = t.family } };
+    ghost view = { λ t. record {
+      net = t.net.now;
+      node = t.node;
+      table = t.table;
+      family = t.family;
+    } };
 
     ghost invariant = { λ t. IsGathered t.net.now t.node t.table t.family t.entries.items };
 }

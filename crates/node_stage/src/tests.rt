@@ -128,8 +128,8 @@ fn sid_at_b(alloc: Global, prefix: Prefix, behaviour: Behaviour) -> SidEntry {
     }
 }
 
-/// A has a route to B over ab. B has the SIDs `end`, of a behaviour, and `decapsulation` (End.DT6 of
-/// table 5), and in table 5 a route to `inside` out of the network.
+/// A has a route to B over ab. B has the SIDs `end`, of a behaviour, and `decapsulation` (End.DT6
+/// of table 5), and in table 5 a route to `inside` out of the network.
 fn two_nodes(
     alloc: Global,
     behaviour: Behaviour,

@@ -80,7 +80,8 @@ routes-there : (net : Network) (node table : ℕ) (family : Family) (n : ℕ) (r
     → Each (EntryIsThere net node) (route_entries node table family n rs)
 routes-there net node table family n [] same = tt
 routes-there net node table family n (r ∷ rs) same =
-    by_test (r.node == node) ((r.table == table) && same_family r.family family) refl (routes-there net node table family (n + 1) rs (IsFrom-tail net.routes n r rs same))
+    by_test (r.node == node) ((r.table == table) && same_family r.family family) refl
+    (routes-there net node table family (n + 1) rs (IsFrom-tail net.routes n r rs same))
   where
     by_test : (t u : Bool) → (r.node == node) ≡ t → Each (EntryIsThere net node) (route_entries node table family (n + 1) rs)
         → Each (EntryIsThere net node)
@@ -98,7 +99,8 @@ entries-there : (net : Network) (node table : ℕ) (family : Family) → Each (E
 entries-there net node table family = by_test (has_sids table family)
   where
     by_test : (t : Bool) → Each (EntryIsThere net node)
-        (if t then sid_entries node 0 net.sids ++ (address_entries (slice_get net.nodes node) ++ route_entries node table family 0 net.routes)
+        (if t then sid_entries node 0 net.sids ++
+        (address_entries (slice_get net.nodes node) ++ route_entries node table family 0 net.routes)
         else route_entries node table family 0 net.routes)
     by_test true =
         Each-append (EntryIsThere net node) _ _ (sids-there net node 0 net.sids (IsFrom-whole net.sids))
@@ -124,6 +126,7 @@ numbered net node hits.Address there = tt
 numbered net node (hits.Route n) there = there.within
 numbered net node hits.Nothing there = tt
 
-pub lookup-numbered : (net : Network) (node table : ℕ) (family : Family) (a : ℕ) (hit : Hit) → hit ≡ lookup_of net node table family a → IsNumbered net hit
+pub lookup-numbered : (net : Network) (node table : ℕ) (family : Family) (a : ℕ) (hit : Hit) → hit ≡ lookup_of net node table family a
+    → IsNumbered net hit
 lookup-numbered net node table family a hit e =
     subst (IsNumbered net) (sym e) (numbered net node (lookup_of net node table family a) (lookup-there net node table family a))

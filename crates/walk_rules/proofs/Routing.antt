@@ -40,7 +40,8 @@ by_table P net node table family lower a away hit = by_test (is_multicast_of fam
     by_test true = away
     by_test false = hit
 
-table-stands : (net : Network) (node table : ℕ) (family : Family) (lower : Bool) (a : ℕ) → IntoStands net node (way_by_table net node table family lower a)
+table-stands : (net : Network) (node table : ℕ) (family : Family) (lower : Bool) (a : ℕ)
+    → IntoStands net node (way_by_table net node table family lower a)
 table-stands net node table family lower a =
     by_table (IntoStands net node) net node table family lower a tt
     (hit-stands net node lower (lookup_of net node table family a) (lookup-there net node table family a))
@@ -88,7 +89,8 @@ through-set net node n keeps (Some s) e there =
     let P : ℕ → Type 0 = λ m. IsLinkSet net.links m s.links in
     subst P there.0 (suited-set net.links s.node (behaviour_takes_links s.behaviour) s.links there.1 (keeps.sid n s e).behaviour.links)
 
-how-from : (net : Network) (node : ℕ) (how : How) (family : Family) (a : ℕ) → Keeps net → IsHow net node how → IsWayFrom net node (way_by net node how family a)
+how-from : (net : Network) (node : ℕ) (how : How) (family : Family) (a : ℕ) → Keeps net → IsHow net node how
+    → IsWayFrom net node (way_by net node how family a)
 how-from net node (Arrived table) family a keeps is = table-from net node table family true a keeps
 how-from net node (Submitted table) family a keeps is = table-from net node table family false a keeps
 how-from net node (Through sid lower) family a keeps is = through-set net node sid keeps (slice_get net.sids sid) refl is

@@ -184,8 +184,8 @@ pub fn sids_that_are_not_built_drop_the_packet()
 
 /// How packets go on from SIDs: from End and binding SIDs by table 0, from End.T by its table, and
 /// from End.X over the SID's links without another lowering; the exposed packet from End.DX6 and
-/// End.DX4 over the SID's links with a lowering, and from End.DT6, End.DT4 and End.DT46 by the table
-/// (RFC 8986 sections 4.1 to 4.8, 4.13 and 4.14).
+/// End.DX4 over the SID's links with a lowering, and from End.DT6, End.DT4 and End.DT46 by the
+/// table (RFC 8986 sections 4.1 to 4.8, 4.13 and 4.14).
 pub fn ways_on_are_by_behaviour()
     ensures end { (n : ℕ) → on_from n End ≡ Submitted 0 }
     ensures end_x { (n : ℕ) → on_from n EndX ≡ Through n false }

@@ -11,8 +11,8 @@ use srv6_rules::{Behaviour, Family};
 /// How a packet goes on from a SID with a number: after End and a binding SID by a look-up in table
 /// 0, after End.T in its table, after End.X over the SID's links; what was exposed goes over the
 /// links of an End.DX6 or End.DX4, and by a look-up in the table of an End.DT6, End.DT4 or End.DT46
-/// (RFC 8986 sections 4.1 to 4.8, 4.13 and 4.14). Over the links of a SID the hop limit of what was exposed is lowered, and not of a packet
-/// that goes on itself.
+/// (RFC 8986 sections 4.1 to 4.8, 4.13 and 4.14). Over the links of a SID the hop limit of what was
+/// exposed is lowered, and not of a packet that goes on itself.
 pub fn on_from(sid: u32, behaviour: &Behaviour) -> How
     ensures { result ≡ on_from sid behaviour.now }
 {

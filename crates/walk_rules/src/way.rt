@@ -112,9 +112,9 @@ fn way_by<'a>(net: &'a Net, node: u32, how: &How, family: Family, destination: A
     }
 }
 
-/// Where a packet to a destination goes from a place of the network: away where an IPv6 destination is
-/// multicast or nothing in the table holds it, else by what a look-up finds; through a SID over its
-/// links without a look-up (own rule; RFC 8200 section 3, RFC 8986 section 4).
+/// Where a packet to a destination goes from a place of the network: away where an IPv6
+/// destination is multicast or nothing in the table holds it, else by what a look-up finds; through
+/// a SID over its links without a look-up (own rule; RFC 8200 section 3, RFC 8986 section 4).
 #[tactic(auto, unfolding(crate::specs::Way::way_of))]
 pub fn way_of<'a>(net: &'a Net, place: &Place, destination: Addr) -> Way<'a>
     requires { IsPlace net.now place.now }

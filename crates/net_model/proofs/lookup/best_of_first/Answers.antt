@@ -22,6 +22,7 @@ returns c =
     (seen c.with_sids-by_sid.result) (seen c.with_address-by_address.result) (seen c.with_routes.result)
     (c.with_sids-by_sid.ensures ∙ ap (λ sids. longest a (sid_entries node 0 sids)) c.deref.ensures.value)
     (c.with_address-by_address.ensures ∙ ap (λ o. longer (seen c.with_sids-by_sid.result) (longest a (address_entries o))) (sym own))
-    (c.with_routes.ensures ∙ ap (λ routes. longer (seen c.with_address-by_address.result) (longest a (route_entries node table family 0 routes)))
+    (c.with_routes.ensures ∙ ap
+    (λ routes. longer (seen c.with_address-by_address.result) (longest a (route_entries node table family 0 routes)))
     c.deref-2.ensures.value)
     ∙ ap (longest a) (sym (entries_of-first (network_of parts) node table family c.requires.first))

@@ -11,9 +11,11 @@ loop-rest-preserved c =
     let parts = first_and_more c.loop-rest.rest.now c.r-item.result c.in-len1-up.len_at_least c.r-item.is in
     record {
       place = omega (arith, ap length parts);
-      answer = route_scan_more c.args.a.value c.args.node c.args.table c.args.family c.loop-rest.n c.r-item.result _ (seen c.loop-rest.found)
+      answer = route_scan_more c.args.a.value c.args.node c.args.table c.args.family c.loop-rest.n c.r-item.result _
+          (seen c.loop-rest.found)
           (seen c.with_route-found.result) c.with_route-found.ensures
-          ∙ ap (λ xs. longer (seen c.loop-rest.found) (longest c.args.a.value (route_entries c.args.node c.args.table c.args.family c.loop-rest.n xs)))
+          ∙ ap (λ xs. longer (seen c.loop-rest.found)
+          (longest c.args.a.value (route_entries c.args.node c.args.table c.args.family c.loop-rest.n xs)))
           (sym parts)
           ∙ c.loop-rest.invariant.answer;
     }
@@ -22,6 +24,7 @@ pub returns : goal.returns
 returns c =
     let none = nil_from_length c.loop-rest.rest.now (omega arith) in
     sym (scan_end (seen c.loop-rest.found))
-    ∙ ap (λ xs. longer (seen c.loop-rest.found) (longest c.args.a.value (route_entries c.args.node c.args.table c.args.family c.loop-rest.n xs)))
+    ∙ ap (λ xs. longer (seen c.loop-rest.found)
+    (longest c.args.a.value (route_entries c.args.node c.args.table c.args.family c.loop-rest.n xs)))
     (sym none)
     ∙ c.loop-rest.invariant.answer
