@@ -118,10 +118,9 @@ fn refused(fault: Option<Fault>) -> Option<Judged>
     }
 }
 
-/// A routing header at a SID without flavours, or none where it is passed over: one with no segments
-/// left. A SID
-/// that goes on takes the step over a segment routing header with segments left, and other routing
-/// headers are unknown (RFC 8754 section 4.3.1.1, RFC 8200 section 4.4).
+/// A routing header at a SID without flavours, or none where it is passed over: one with no
+/// segments left. A SID that goes on takes the step over a segment routing header with segments
+/// left, and other routing headers are unknown (RFC 8754 section 4.3.1.1, RFC 8200 section 4.4).
 fn judge_routing(
     entry: &SidEntry,
     packet: &Packet,

@@ -315,7 +315,8 @@ impl SidEntry {
         self.behaviour.exposes(kind) || (self.usd && (kind == IPV6_INSIDE || kind == IPV4_INSIDE))
     }
 
-    /// Nodes run it: so far the plain SIDs of End, End.X, End.T, End.DX6 and End.DT6 without flavours.
+    /// Nodes run it: so far the plain SIDs of End, End.X, End.T, End.DX6 and End.DT6 without
+    /// flavours.
     pub fn is_built(&self) -> bool
         ensures { result ≡ is_built self.now }
     {
