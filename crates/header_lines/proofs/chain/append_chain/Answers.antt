@@ -8,8 +8,8 @@ use Rattle.header_lines.proofs.ChainLines.{behind-header, shown-behind, shown-cu
 use Rattle.header_lines.proofs.chain.append_chain.Goals as goal
 
 pub headers-init : goal.headers-init
-headers-init c = shown-start c.args.packet.now c.bytes-bytes.result.now (string_bytes c.args.out.now) (place_view c.chain_start-place.result)
-    c.bytes-bytes.ensures c.chain_start-place.ensures
+headers-init c = shown-start c.args.packet.now c.bytes-bytes.result.now (string_bytes c.args.out.now)
+    (place_view c.chain_start-place.result) c.bytes-bytes.ensures c.chain_start-place.ensures
 
 pub returns-then-place-eq-FRAGMENT : goal.returns-then-place-eq-FRAGMENT
 returns-then-place-eq-FRAGMENT c =
