@@ -19,3 +19,6 @@ pub use intent::{Intent, Step, Steps};
 pub use laws::{intents_have_walks, steps_lead_on, walks_stay_at_nodes};
 pub use read::read_intent;
 pub use rules::is_intent;
+
+#[cfg(test)]
+mod tests;
