@@ -1,1 +1,3 @@
+pub mod JoiningLemmas
 pub mod NumberLemmas
+pub mod SidLemmas

@@ -5,7 +5,9 @@
 //! items, read once into a map.
 #![tactic(auto)]
 
+mod joining;
 mod numbering;
+mod sids;
 #[cfg(test)]
 mod tests;
 
