@@ -93,13 +93,16 @@ impl Joins<DescribedNode, Node> for Nodes {
     }
 }
 
-/// Links, over the names of nodes.
-pub(crate) struct Links<'a> {
-    pub(crate) nodes: &'a Numbering<'a>,
+/// The names that a description has.
+#[derive(Drop)]
+pub(crate) struct Names<'a> {
+    pub(crate) nodes: Numbering<'a>,
+    pub(crate) links: Numbering<'a>,
+    pub(crate) policies: Numbering<'a>,
 }
 
-impl<'a> Joins<DescribedLink, Link> for Links<'a> {
-    ghost of = { λ by l. joined_link by.nodes.now l };
+impl<'a> Joins<DescribedLink, Link> for Names<'a> {
+    ghost of = { λ names l. joined_link names.nodes l };
 
     fn join(&self, alloc: Global, link: &DescribedLink) -> Result<Link, AllocError> {
         let name = same_name(alloc, &link.name)?;
@@ -115,17 +118,11 @@ impl<'a> Joins<DescribedLink, Link> for Links<'a> {
     }
 }
 
-/// Routes, over the names of nodes and links.
-pub(crate) struct Routes<'a> {
-    pub(crate) nodes: &'a Numbering<'a>,
-    pub(crate) links: &'a Numbering<'a>,
-}
-
-impl<'a> Joins<DescribedRoute, Route> for Routes<'a> {
-    ghost of = { λ by r. joined_route by.nodes.now by.links.now r };
+impl<'a> Joins<DescribedRoute, Route> for Names<'a> {
+    ghost of = { λ names r. joined_route names.nodes names.links r };
 
     fn join(&self, alloc: Global, route: &DescribedRoute) -> Result<Route, AllocError> {
-        let via = numbers(alloc, self.links, route.via.as_slice())?;
+        let via = numbers(alloc, &self.links, route.via.as_slice())?;
         Ok(Route {
             node: self.nodes.number(&route.node),
             table: route.table,

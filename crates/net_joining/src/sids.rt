@@ -6,7 +6,7 @@ ghost use Rattle.net_model.specs.Rules.{block_of};
 ghost use Rattle.net_joining.specs.Numbering.{number_of};
 ghost use Rattle.net_joining.specs.Joining.{behaviour_with, length_of, is_psp, is_usp, is_usd, or_zero, or_none, title_number, joined_sid, joined_sids, title_in};
 
-use crate::joining::{numbers, same_name};
+use crate::joining::{Names, numbers, same_name};
 use crate::numbering::Numbering;
 use net_model::{Block, Name};
 use net_words::{BehaviourWord, DescribedSid, Flavour};
@@ -130,14 +130,6 @@ fn link_numbers(
     }
 }
 
-/// What SIDs are joined to.
-pub(crate) struct Around<'a> {
-    pub(crate) nodes: &'a Numbering<'a>,
-    pub(crate) links: &'a Numbering<'a>,
-    pub(crate) policies: &'a Numbering<'a>,
-    pub(crate) blocks: &'a [Block],
-}
-
 /// Puts a title behind the titles, and gives its number.
 fn push_title(
     alloc: Global,
@@ -159,24 +151,25 @@ fn push_title(
 /// The entry of a SID, before whose title so many others stand.
 fn entry(
     alloc: Global,
-    around: &Around<'_>,
+    names: &Names<'_>,
+    blocks: &[Block],
     title: Option<u32>,
     sid: &DescribedSid,
 ) -> Result<SidEntry, AllocError>
     ensures { (n : ℕ) → title ≡ title_number n sid.now.title
-        → IfOk result (λ entry. entry ≡ joined_sid around.now.nodes.now around.now.links.now
-        around.now.policies.now around.now.blocks.now n sid.now) }
+        → IfOk result (λ entry. entry ≡ joined_sid names.now.nodes names.now.links
+        names.now.policies blocks.now n sid.now) }
 {
     let table = or_zero(sid.table);
-    let policy = policy_number(around.policies, &sid.policy);
+    let policy = policy_number(&names.policies, &sid.policy);
     let flavours = sid.flavours.as_slice();
-    let links = link_numbers(alloc, around.links, sid)?;
+    let links = link_numbers(alloc, &names.links, sid)?;
     Ok(SidEntry {
-        node: around.nodes.number(&sid.node),
+        node: names.nodes.number(&sid.node),
         prefix: sid.prefix,
         behaviour: behaviour_with(sid.behaviour, table, policy),
         csid: sid.csid,
-        block_len: block_len(around.blocks, &sid.prefix),
+        block_len: block_len(blocks, &sid.prefix),
         psp: has_psp(flavours),
         usp: has_usp(flavours),
         usd: has_usd(flavours),
@@ -189,19 +182,20 @@ fn entry(
 #[tactic(auto, using(crate::proofs::SidLemmas::sids))]
 pub(crate) fn join_sids(
     alloc: Global,
-    around: &Around<'_>,
+    names: &Names<'_>,
+    blocks: &[Block],
     sids: &[DescribedSid],
 ) -> Result<(Vec<Name>, Vec<SidEntry>), AllocError>
     requires { length sids.now < 2 ^ 32 }
     ensures titles { IfOk result (λ r. r.0.items ≡ filter_map title_in sids.now) }
-    ensures entries { IfOk result (λ r. r.1.items ≡ joined_sids around.now.nodes.now
-        around.now.links.now around.now.policies.now around.now.blocks.now 0 sids.now) }
+    ensures entries { IfOk result (λ r. r.1.items ≡ joined_sids names.now.nodes
+        names.now.links names.now.policies blocks.now 0 sids.now) }
 {
     let mut titles = Vec::new(alloc);
     let mut entries = Vec::new(alloc);
     for sid in sids {
         let title = push_title(alloc, &mut titles, &sid.title)?;
-        let entry = entry(alloc, around, title, sid)?;
+        let entry = entry(alloc, names, blocks, title, sid)?;
         entries.push(entry)?;
     }
     Ok((titles, entries))

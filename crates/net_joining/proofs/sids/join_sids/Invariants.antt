@@ -7,6 +7,6 @@ abbrev pub invariant-loop-sid : goal.invariant-loop-sid
 invariant-loop-sid l = record {
   titles : l.titles.items ≡ filter_map title_in (take l.sid-index l.sids);
   entries : l.entries.items
-      ≡ joined_sids l.around.nodes.now l.around.links.now l.around.policies.now l.around.blocks.now 0 (take l.sid-index l.sids);
+      ≡ joined_sids l.names.nodes l.names.links l.names.policies l.blocks 0 (take l.sid-index l.sids);
   few : length l.titles.items ≤ l.sid-index;
 }
