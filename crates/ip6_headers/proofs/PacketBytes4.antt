@@ -92,8 +92,8 @@ pub ttl_lowered-written : (bytes : List ℕ) (n : ℕ) → n ≡ checksum_lowere
     ≡ ttl_lowered bytes
 unfolding ttl_lowered header_checksum two_bytes two_number
 ttl_lowered-written bytes n e =
-    ap (λ k. take 10 (slice_set bytes 8 (slice_index bytes 8 - 1)) ++ (two_bytes k ++ drop 12 (slice_set bytes 8
-    (slice_index bytes 8 - 1)))) e
+    let fewer : List ℕ = slice_set bytes 8 (slice_index bytes 8 - 1) in
+    ap (λ k. take 10 fewer ++ (two_bytes k ++ drop 12 fewer)) e
 
 -- bytes that read as a packet read, where the time to live was lowered, as that packet with a lower one
 pub read4-lowered : (bytes : List ℕ) (p : Packet4) → All (λ b. b < 2 ^ 8) bytes → read4 bytes ≡ Ok p

@@ -52,6 +52,10 @@ sound-nearer p at near (Refused reason place) le k = tt
 
 -- ---- a header taken out
 
+-- a header that lies in a packet is the one that stands at its place there
+pub as_in-lies : (p : Packet) (h : Header) → LiesIn p h → as_in p h ≡ h
+as_in-lies p h lies = ap (λ xs. record { place = h.place; bytes = xs }) (sym lies.bytes)
+
 module _ (p : Packet) (h : Header) (start : header_len ≤ h.place.at) (lower : ℕ) (q : Packet)
     (k : Kept p (h.place.at + length h.bytes) lower q) where
   as_in-length : length (as_in q h).bytes ≡ length h.bytes

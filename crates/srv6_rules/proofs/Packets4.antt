@@ -53,14 +53,14 @@ module _ (bytes : List ℕ) (version : slice_index bytes 0 / 16 ≡ 4) where
 
   pub read4-total : total_len bytes < stated_header_len bytes → read4 bytes ≡ Err Truncated
   read4-total below = read4-by (nat_lt (length bytes) 20) refl
-      (cut-by (nat_lt (stated_header_len bytes) 20) (nat_lt (total_len bytes) (stated_header_len bytes)) (nat_lt (length bytes)
-      (total_len bytes))
+      (cut-by (nat_lt (stated_header_len bytes) 20) (nat_lt (total_len bytes) (stated_header_len bytes))
+      (nat_lt (length bytes) (total_len bytes))
       (lt-ltb (total_len bytes) (stated_header_len bytes) below))
 
   pub read4-cut : length bytes < total_len bytes → read4 bytes ≡ Err Truncated
   read4-cut cut = read4-by (nat_lt (length bytes) 20) refl
-      (cut-last (nat_lt (stated_header_len bytes) 20) (nat_lt (total_len bytes) (stated_header_len bytes)) (nat_lt (length bytes)
-      (total_len bytes))
+      (cut-last (nat_lt (stated_header_len bytes) 20) (nat_lt (total_len bytes) (stated_header_len bytes))
+      (nat_lt (length bytes) (total_len bytes))
       (lt-ltb (length bytes) (total_len bytes) cut))
 
   pub read4-whole : 20 ≤ length bytes → 20 ≤ stated_header_len bytes → stated_header_len bytes ≤ total_len bytes
@@ -282,8 +282,7 @@ written-other xs w k two long past ten eleven =
     higher n h a b = elim (cases_lt n 12) [
       | inl low ↦ elim (cases_lt n 11) [
         | inl ten ↦ absurd (a (omega arith))
-        | inr ele ↦ absurd (b
-            (omega arith))
+        | inr eleven ↦ absurd (b (omega arith))
       ]
       | inr high ↦ high
     ]
@@ -535,8 +534,8 @@ module _ (xs : List ℕ) (long : 20 ≤ length xs) (all : All (λ b. b < 2 ^ 8) 
             let up : checksum_lowered (header_checksum xs) ≡ header_checksum xs + 256 = rw (lt-ltb (header_checksum xs) 65279 low) refl in
             ap carried (omega arith)
         | inr high ↦
-            let down : checksum_lowered (header_checksum xs)
-            ≡ header_checksum xs - 65279 = rw (le-ltb (header_checksum xs) 65279 high) refl in
+            let down : checksum_lowered (header_checksum xs) ≡ header_checksum xs - 65279 =
+            rw (le-ltb (header_checksum xs) 65279 high) refl in
             let same : word_sum (ttl_lowered xs) + 65535 ≡ word_sum xs = omega arith in
             sym (carried-down (word_sum (ttl_lowered xs)) (omega arith)) ∙ ap carried same
       ]

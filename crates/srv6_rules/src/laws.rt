@@ -5,7 +5,7 @@ ghost use Rattle.srv6_rules.specs.Behaviours.{ipv6_inside, ipv4_inside, is_packe
 ghost use Rattle.srv6_rules.specs.declared.numbers.TheConstants.{NEXT_HEADER_AT, PAD1, HMAC, OPTIONS_AT, SEGMENT_LIST_AT, SEGMENT_LEN};
 ghost use Rattle.srv6_rules.specs.Areas.{Fault, item_bytes, first_of, area_fault, option_fault, options_fault, tlv_fault, tlvs_fault};
 ghost use Rattle.srv6_rules.specs.Chain.{ChainPlace, Header, ChainEnd, Upper, Cut, LiesIn, StandsIn, EndsIn, Follow, is_extension, hop_by_hop, routing, fragment, destination_options, is_first, is_whole, extension_bytes, header_in, behind_in, behind, place_of, place_behind, without, lowered, renamed, in_front, start_of, chain_of, chain_at, from_place, segments_left, is_segment_routing};
-ghost use Rattle.srv6_rules.specs.Endpoint.{Endpoint, Onward, Exposed, Delivered, Refused, StepsTo, StepsWithPsp, ChangesFewBytes, ExposesFrom, IsPassed, IsTakenOut, IsSkipped, IsReached, Decides, outcome_without, next_segment, over_headers, over_chain, at_header_by, at_header, at_sid, at_address_header, at_address};
+ghost use Rattle.srv6_rules.specs.Endpoint.{Endpoint, Onward, Exposed, Delivered, Refused, StepsTo, StepsWithPsp, ChangesFewBytes, ExposesFrom, IsPassed, IsTakenOut, IsSkipped, IsReached, Decides, as_in, outcome_without, next_segment, over_headers, over_chain, at_header_by, at_header, at_sid, at_address_header, at_address};
 ghost use Rattle.srv6_rules.specs.Packet.{Packet, V6, Unreadable, IsSpellable, IsContent, Spells, spelling, content_of, read_as, entered, bytes_of, header_len, stated_len, packet_at, two_bytes, four_bytes, first_word, address_bytes, two_number, four_number, address_number};
 ghost use Rattle.srv6_rules.specs.Srh.{Srh, IsSrhSpellable, srh_of, srh_spelling, segment_routing, segments_left_at, routing_type_at};
 ghost use Rattle.srv6_rules.specs.declared.sid.Behaviour.TheVariants.{End, EndX, EndT, Dx6, Dx4, Dt6, Dt4, Dt46, B6, B6Red};
@@ -253,6 +253,7 @@ pub fn header_has_bytes_of_the_packet()
         → length h.bytes ≡ extension_bytes h.place.kind (from_place p h.place.at) }
     ensures below { (p : Packet) (h : Header) → LiesIn p h → All (λ b. b < 2 ^ 8) p.payload
         → All (λ b. b < 2 ^ 8) h.bytes }
+    ensures there { (p : Packet) (h : Header) → LiesIn p h → as_in p h ≡ h }
 {}
 
 /// A packet without a header: but for the next header of the IPv6 header, where that named it, and

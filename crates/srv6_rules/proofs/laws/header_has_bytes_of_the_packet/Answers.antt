@@ -1,4 +1,5 @@
 use Rattle.srv6_rules.proofs.Chains.{lies-at, lies-spelled, lies-stated, lies-bytes}
+use Rattle.srv6_rules.proofs.Flavours.{as_in-lies}
 use Rattle.srv6_rules.proofs.laws.header_has_bytes_of_the_packet.Goals as goal
 
 pub returns-clause-each : goal.returns-clause-each
@@ -12,3 +13,6 @@ returns-clause-stated c = lies-stated
 
 pub returns-clause-below : goal.returns-clause-below
 returns-clause-below c = lies-bytes
+
+pub returns-clause-there : goal.returns-clause-there
+returns-clause-there c = as_in-lies
