@@ -1,3 +1,2 @@
-pub mod Tree
-pub mod Description
+pub mod Standings
 pub mod Reading

@@ -1,20 +1,23 @@
--- The document that a text is, and what reading it answers.
-use Rattle.std.specs.Prelude.{◌≡◌, ℕ, List, Option, Some, None, Result, Ok, Err, if◌then◌else◌}
-use Rattle.std.specs.Str.{is_utf8}
-use Rattle.toml.specs.Data.{Members}
-use Rattle.toml.specs.Parse.{parse_document}
+-- The network that the text of a description gives, or its first fault (own rules): first whether the text is TOML, then the
+-- faults of shape in the order of the tables, and once there is none the faults of the parts in the order of the tables.
+use Rattle.std.specs.Prelude.{ℕ, List, Result, Ok, Err}
+use Rattle.net_model.specs.declared.fault.NetFault.{NetFault}
 use Rattle.net_model.specs.Network.{Network}
-use Rattle.net_reader.specs.declared.fault.NetFault.{NetFault}
-use Rattle.net_reader.specs.declared.fault.NetFault.TheVariants.{NotToml, NotBuilt, NoMemory}
-use Rattle.net_reader.specs.Description.{network_of_document}
+use Rattle.net_model.specs.Judging.{judging}
+use Rattle.toml_words.specs.Reading.{◌>>=◌}
+use Rattle.net_words.specs.declared.description.Description.{Description}
+use Rattle.net_words.specs.Description.{description_in}
+use Rattle.net_joining.specs.Joining.{joined}
+use Rattle.net_reader.specs.Standings.{standings_of}
 
--- none where the bytes aren't UTF-8, or aren't TOML
-abbrev pub document_of : List ℕ → Option Members
-document_of text = if is_utf8 text then parse_document text else None
+-- the network of what is described, or the first fault of its parts
+abbrev pub judged_network : Description → Result Network NetFault
+judged_network said = do
+  fine ← judging (joined said) (standings_of said)
+  Ok (joined said)
 
--- what is answered is exactly what the text gives; want of memory says nothing
-abbrev pub ReadsAs : List ℕ → Result Network NetFault → Type 0
-ReadsAs text (Ok net) = (root : Members) × (document_of text ≡ Some root) × (network_of_document root ≡ Some net)
-ReadsAs text (Err NotToml) = document_of text ≡ None
-ReadsAs text (Err NotBuilt) = (root : Members) × (document_of text ≡ Some root) × (network_of_document root ≡ None)
-ReadsAs text (Err NoMemory) = Unit {0}
+-- the network that a text gives, or its first fault
+abbrev pub net_in : List ℕ → Result Network NetFault
+net_in text = do
+  said ← description_in text
+  judged_network said
