@@ -1,13 +1,13 @@
 //! A network: blocks of compressed SIDs, nodes with addresses, links, routes, policies and SIDs, as
 //! lists in the order of its description.
 //!
-//! `Net::build` takes the parts that keep the rules of descriptions, `Net::judged` takes them too
-//! or names the first fault, and `Net::keeps_rules` tells the rules to proofs. `Net::lookup` gives
-//! the entry of a node's table that fits an address best, and `NodeTable` gathers the entries of
-//! one table for many look-ups. `compilable` tells whether the network is flat: then no entry lies
-//! strictly inside the prefix of a SID, and all addresses of that prefix are looked up alike. Only
-//! gathering and judging take memory. The laws about the definitions are the contracts of empty
-//! functions. `NetFault` says why a text gives no network or no intent, and where in it.
+//! `Net::build` takes the parts that keep the rules of descriptions, or names the first fault, and
+//! `Net::keeps_rules` tells the rules to proofs. `Net::lookup` gives the entry of a node's table
+//! that fits an address best, and `NodeTable` gathers the entries of one table for many look-ups.
+//! `compilable` tells whether the network is flat: then no entry lies strictly inside the prefix of
+//! a SID, and all addresses of that prefix are looked up alike. Only gathering and building take
+//! memory. The laws about the definitions are the contracts of empty functions. `NetFault` says why
+//! a text gives no network or no intent, and where in it.
 #![tactic(auto)]
 
 mod fault;

@@ -5,7 +5,7 @@ use crate::judge_sids::judge_parts;
 use crate::lookup::lookup_in;
 use crate::named::{place_of_link, place_of_node};
 use crate::parts::{Block, Link, Name, NetParts, Node, Route};
-use crate::rules::{is_link_set, is_network};
+use crate::rules::is_link_set;
 use crate::standing::Standing;
 use srv6_rules::{Family, Policy, SidEntry};
 use std::alloc::Global;
@@ -52,20 +52,6 @@ impl Net {
     ghost use Rattle.net_model.specs.Best.{IsBest, lookup_of};
     ghost use Rattle.net_model.specs.Named.{node_numbered, link_numbered, IsNodeNumbered, IsLinkNumbered};
 
-    /// The network with these parts; `None` exactly where they break a rule of descriptions (own
-    /// rules). The parts of a network that is not made are given up.
-    pub fn build(parts: NetParts) -> Option<Net>
-        ensures keeps { IsSome result ↔ IsTrue (is_network (network_of parts)) }
-        ensures breaks { IfNone result (is_network (network_of parts) ≡ false) }
-        ensures value { IfSome result (λ net. net ≡ network_of parts) }
-    {
-        if is_network(&parts) {
-            Some(Net { parts })
-        } else {
-            None
-        }
-    }
-
     /// The network with these parts, or the first fault of them (own rules): the tables in the
     /// order block, node, link, route, policy, sid, of a table its items in their order, counted
     /// from 1, and of an item
@@ -89,7 +75,7 @@ impl Net {
     /// them: the standing with a SID's number is that SID's, and a SID without one has the keys
     /// that its behaviour takes and no flavour twice. The parts of a network that is not made are
     /// given up. `NoMemory` says nothing about them.
-    pub fn judged(alloc: Global, parts: NetParts, standings: &[Standing]) -> Result<Net, NetFault>
+    pub fn build(alloc: Global, parts: NetParts, standings: &[Standing]) -> Result<Net, NetFault>
         requires { InRange (network_of parts) }
         ensures first { Judges result (judging (network_of parts) standings.now) }
         ensures value { IfOk result (λ net. net ≡ network_of parts) }

@@ -158,7 +158,7 @@ fn are_numbered(title_count: usize, sids: &[SidEntry]) -> bool
     next == title_count
 }
 
-/// Whether the parts are in the ranges that `Net::judged` needs: their counts are at most those of
+/// Whether the parts are in the ranges that `Net::build` needs: their counts are at most those of
 /// a network, each name is one, each number, prefix and list is in its range, a SID tells the
 /// length of the block that it lies strictly inside (of the first in the list; 0 with none), and
 /// the titles are those of the SIDs, one for each SID with a title, in the SIDs' order (own rules).

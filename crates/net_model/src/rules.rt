@@ -3,19 +3,16 @@
 
 ghost use Rattle.std.specs.Prelude.{◌≡◌, ℕ, Bool, IsTrue, length, count_by, Some};
 ghost use Rattle.std.specs.List.{list_all, list_any, filter_map};
-ghost use Rattle.net_model.specs.Network.{Network, network_of};
 ghost use Rattle.net_model.specs.Rules.{are_distinct, same_bytes, is_between, is_name_byte, is_name, is_address, is_prefix};
-ghost use Rattle.net_model.specs.Rules.{is_block_len, is_csid_len, keeps_block, overlap, keeps_blocks};
-ghost use Rattle.net_model.specs.Rules.{is_segment, keeps_segments, keeps_outer, keeps_policy, same_policy_name, keeps_policies};
-ghost use Rattle.net_model.specs.Rules.{suits_policy, suits_flavours, block_of, is_next_len, suits_next, suits_replace, suits_block, keeps_compression};
-ghost use Rattle.net_model.specs.Rules.{keeps_node, same_node_name, same_node_address, keeps_nodes};
-ghost use Rattle.net_model.specs.Rules.{ends_elsewhere, keeps_link, same_link_name, keeps_links};
+ghost use Rattle.net_model.specs.Rules.{is_block_len, is_csid_len, overlap};
+ghost use Rattle.net_model.specs.Rules.{is_segment, keeps_outer, same_policy_name};
+ghost use Rattle.net_model.specs.Rules.{suits_flavours, block_of, is_next_len, suits_next, suits_replace, suits_block};
+ghost use Rattle.net_model.specs.Rules.{keeps_node, same_node_name, same_node_address};
+ghost use Rattle.net_model.specs.Rules.{same_link_name};
 ghost use Rattle.net_model.specs.Rules.{starts_at, same_number, is_link_set};
-ghost use Rattle.net_model.specs.Rules.{is_table, is_prefix_of, keeps_route, same_prefix, same_family, same_route, keeps_routes};
-ghost use Rattle.net_model.specs.Rules.{suits_links, suits_table, keeps_behaviour, is_title};
-ghost use Rattle.net_model.specs.Rules.{keeps_sid, same_sid, is_sid_of};
-ghost use Rattle.net_model.specs.Rules.{has_room, title_of, keeps_sids, keeps_titles, is_network};
-ghost use Rattle.net_model.specs.Titles.{same_title};
+ghost use Rattle.net_model.specs.Rules.{is_table, is_prefix_of, same_prefix, same_family};
+ghost use Rattle.net_model.specs.Rules.{suits_table, is_title};
+ghost use Rattle.net_model.specs.Rules.{same_sid};
 
 use crate::limits::{
     BLOCK_UNIT, LAST_FLOW_LABEL, LAST_OCTET, LAST_TABLE, LONG_CSID, MAX_ALLOWED_TYPES,
@@ -122,20 +119,6 @@ impl Sameness<NamedPolicy> for PolicyNames {
     }
 }
 
-/// Routes of one family and one table of one node with the same prefix.
-pub(crate) struct Routes;
-
-impl Sameness<Route> for Routes {
-    ghost same = { same_route };
-
-    fn are_same(a: &Route, b: &Route) -> bool {
-        a.node == b.node
-            && a.table == b.table
-            && same_family(a.family, b.family)
-            && same_prefix(&a.prefix, &b.prefix)
-    }
-}
-
 /// SIDs of one node with the same prefix.
 pub(crate) struct Sids;
 
@@ -144,17 +127,6 @@ impl Sameness<SidEntry> for Sids {
 
     fn are_same(a: &SidEntry, b: &SidEntry) -> bool {
         a.node == b.node && same_prefix(&a.prefix, &b.prefix)
-    }
-}
-
-/// The same text.
-struct Texts;
-
-impl Sameness<Name> for Texts {
-    ghost same = { same_bytes };
-
-    fn are_same(a: &Name, b: &Name) -> bool {
-        same_bytes(a.as_bytes(), b.as_bytes())
     }
 }
 
@@ -228,26 +200,6 @@ pub(crate) fn is_csid_len(bits: u8) -> bool
     u32::from(bits) == SHORT_CSID || u32::from(bits) == LONG_CSID
 }
 
-fn keeps_block(b: &Block) -> bool
-    ensures { result ≡ keeps_block b.now }
-{
-    is_prefix(&b.prefix) && is_block_len(b.prefix.len()) && is_csid_len(b.csid)
-}
-
-fn each_keeps_block(blocks: &[Block]) -> bool
-    ensures { result ≡ list_all keeps_block blocks.now }
-{
-    blocks.iter().all(keeps_block)
-}
-
-fn keeps_blocks(blocks: &[Block]) -> bool
-    ensures { result ≡ keeps_blocks blocks.now }
-{
-    blocks.len() <= MAX_BLOCKS
-        && each_keeps_block(blocks)
-        && are_distinct::<Block, Overlaps>(blocks)
-}
-
 fn keeps_node(n: &Node) -> bool
     ensures { result ≡ keeps_node n.now }
 {
@@ -260,46 +212,6 @@ pub(crate) fn each_keeps_node(nodes: &[Node]) -> bool
     ensures { result ≡ list_all keeps_node nodes.now }
 {
     nodes.iter().all(keeps_node)
-}
-
-fn keeps_nodes(nodes: &[Node]) -> bool
-    ensures { result ≡ keeps_nodes nodes.now }
-{
-    nodes.len() <= MAX_NODES
-        && each_keeps_node(nodes)
-        && are_distinct::<Node, NodeNames>(nodes)
-        && are_distinct::<Node, NodeAddresses>(nodes)
-}
-
-fn ends_elsewhere(node_count: usize, from: u32, to: Option<u32>) -> bool
-    ensures { result ≡ ends_elsewhere node_count from to }
-{
-    match to {
-        None => true,
-        Some(to) => (to as usize) < node_count && to != from,
-    }
-}
-
-fn keeps_link(node_count: usize, l: &Link) -> bool
-    ensures { result ≡ keeps_link node_count l.now }
-{
-    is_name(l.name.as_bytes())
-        && (l.from as usize) < node_count
-        && ends_elsewhere(node_count, l.from, l.to)
-}
-
-fn each_keeps_link(node_count: usize, links: &[Link]) -> bool
-    ensures { result ≡ list_all (keeps_link node_count) links.now }
-{
-    links.iter().all(|l| keeps_link(node_count, l))
-}
-
-fn keeps_links(node_count: usize, links: &[Link]) -> bool
-    ensures { result ≡ keeps_links node_count links.now }
-{
-    links.len() <= MAX_LINKS
-        && each_keeps_link(node_count, links)
-        && are_distinct::<Link, LinkNames>(links)
 }
 
 /// Whether a link is there, and starts at the node.
@@ -351,33 +263,10 @@ pub(crate) fn same_family(a: Family, b: Family) -> bool
     a == b
 }
 
-fn keeps_route(node_count: usize, links: &[Link], r: &Route) -> bool
-    ensures { result ≡ keeps_route node_count links.now r.now }
-{
-    (r.node as usize) < node_count
-        && is_table(r.table)
-        && is_prefix_of(r.family, &r.prefix)
-        && is_link_set(links, r.node, r.via.as_slice())
-}
-
 fn same_prefix(p: &Prefix, q: &Prefix) -> bool
     ensures { result ≡ same_prefix p.now q.now }
 {
     p.value().value == q.value().value && p.len() == q.len()
-}
-
-fn each_keeps_route(node_count: usize, links: &[Link], routes: &[Route]) -> bool
-    ensures { result ≡ list_all (keeps_route node_count links.now) routes.now }
-{
-    routes.iter().all(|r| keeps_route(node_count, links, r))
-}
-
-fn keeps_routes(node_count: usize, links: &[Link], routes: &[Route]) -> bool
-    ensures { result ≡ keeps_routes node_count links.now routes.now }
-{
-    routes.len() <= MAX_ROUTES
-        && each_keeps_route(node_count, links, routes)
-        && are_distinct::<Route, Routes>(routes)
 }
 
 fn is_segment(a: Addr) -> bool
@@ -392,13 +281,6 @@ pub(crate) fn are_segments(segments: &[Addr]) -> bool
     segments.iter().all(|a| is_segment(*a))
 }
 
-/// Whether a policy has some segments and not too many.
-fn keeps_segments(segments: &[Addr]) -> bool
-    ensures { result ≡ keeps_segments segments.now }
-{
-    1 <= segments.len() && segments.len() <= MAX_SEGMENTS && are_segments(segments)
-}
-
 /// Whether the numbers of an outer header are in their ranges.
 pub(crate) fn keeps_outer(traffic_class: u8, flow_label: u32, hop_limit: u8) -> bool
     ensures { result ≡ keeps_outer traffic_class flow_label hop_limit }
@@ -407,41 +289,6 @@ pub(crate) fn keeps_outer(traffic_class: u8, flow_label: u32, hop_limit: u8) -> 
         && flow_label <= LAST_FLOW_LABEL
         && 1 <= hop_limit
         && u32::from(hop_limit) <= LAST_OCTET
-}
-
-fn keeps_policy(p: &NamedPolicy) -> bool
-    ensures { result ≡ keeps_policy p.now }
-{
-    let policy = &p.policy;
-    is_name(p.name.as_bytes())
-        && is_address(policy.source)
-        && keeps_segments(policy.segments.as_slice())
-        && keeps_outer(policy.traffic_class, policy.flow_label, policy.hop_limit)
-}
-
-fn each_keeps_policy(policies: &[NamedPolicy]) -> bool
-    ensures { result ≡ list_all keeps_policy policies.now }
-{
-    policies.iter().all(keeps_policy)
-}
-
-fn keeps_policies(policies: &[NamedPolicy]) -> bool
-    ensures { result ≡ keeps_policies policies.now }
-{
-    policies.len() <= MAX_POLICIES
-        && each_keeps_policy(policies)
-        && are_distinct::<NamedPolicy, PolicyNames>(policies)
-}
-
-/// Whether a SID that takes links has a set of them, and another none.
-fn suits_links(links: &[Link], node: u32, takes: bool, set: &[u32]) -> bool
-    ensures { result ≡ suits_links links.now node takes set.now }
-{
-    if takes {
-        is_link_set(links, node, set)
-    } else {
-        set.len() == 0
-    }
 }
 
 /// Whether a table of a SID's own has a table's number.
@@ -454,39 +301,11 @@ pub(crate) fn suits_table(table: Option<u32>) -> bool
     }
 }
 
-/// Whether a policy that a SID names is there.
-fn suits_policy(policy_count: usize, policy: Option<u32>) -> bool
-    ensures { result ≡ suits_policy policy_count policy }
-{
-    match policy {
-        None => true,
-        Some(policy) => (policy as usize) < policy_count,
-    }
-}
-
 /// Whether flavours stand at a SID that takes them alone.
 pub(crate) fn suits_flavours(takes: bool, psp: bool, usp: bool, usd: bool) -> bool
     ensures { result ≡ suits_flavours takes psp usp usd }
 {
     takes || (!psp && !usp && !usd)
-}
-
-/// Whether the table, the policy, the links and the flavours of a SID are as its behaviour takes
-/// them.
-fn keeps_behaviour(parts: &NetParts, s: &SidEntry) -> bool
-    ensures { result ≡ keeps_behaviour (network_of parts.now) s.now }
-{
-    let takes_links = s.behaviour.takes_links();
-    let takes_flavours = s.behaviour.takes_flavours();
-    suits_table(s.behaviour.table())
-        && suits_policy(parts.policies.len(), s.behaviour.policy())
-        && suits_links(
-            parts.links.as_slice(),
-            s.node,
-            takes_links,
-            s.links.as_slice(),
-        )
-        && suits_flavours(takes_flavours, s.psp, s.usp, s.usd)
 }
 
 /// The block that a prefix lies strictly inside.
@@ -534,19 +353,6 @@ pub(crate) fn suits_block(csid: Csid, b: &Block, len: u8, goes_on: bool) -> bool
     }
 }
 
-/// Whether a SID tells the length of its block, and its compression suits the block.
-fn keeps_compression(block: Option<Block>, s: &SidEntry) -> bool
-    ensures { result ≡ keeps_compression block s.now }
-{
-    match block {
-        None => s.block_len == 0 && s.csid == Csid::Plain,
-        Some(b) => {
-            let goes_on = s.behaviour.goes_on();
-            s.block_len == b.prefix.len() && suits_block(s.csid, &b, s.prefix.len(), goes_on)
-        }
-    }
-}
-
 pub(crate) fn is_title(title_count: usize, title: Option<u32>) -> bool
     ensures { result ≡ is_title title_count title }
 {
@@ -556,92 +362,8 @@ pub(crate) fn is_title(title_count: usize, title: Option<u32>) -> bool
     }
 }
 
-fn keeps_sid(parts: &NetParts, s: &SidEntry) -> bool
-    ensures { result ≡ keeps_sid (network_of parts.now) s.now }
-{
-    (s.node as usize) < parts.nodes.len()
-        && 1 <= s.prefix.len()
-        && is_prefix(&s.prefix)
-        && keeps_behaviour(parts, s)
-        && keeps_compression(block_of(parts.blocks.as_slice(), &s.prefix), s)
-        && is_title(parts.titles.len(), s.title)
-}
-
-/// Whether not too many SIDs stand at the node of a SID.
-fn has_room(sids: &[SidEntry], s: &SidEntry) -> bool
-    ensures { result ≡ has_room sids.now s.now }
-{
-    let node = s.node;
-    sids.iter().filter(|other| other.node == node).count() <= MAX_SIDS_OF_NODE
-}
-
-fn each_keeps_sid(parts: &NetParts, sids: &[SidEntry]) -> bool
-    ensures { result ≡ list_all (keeps_sid (network_of parts.now)) sids.now }
-{
-    sids.iter().all(|s| keeps_sid(parts, s))
-}
-
-fn each_has_room(sids: &[SidEntry]) -> bool
-    ensures { result ≡ list_all (has_room sids.now) sids.now }
-{
-    sids.iter().all(|s| has_room(sids, s))
-}
-
-/// SIDs with the same title.
-struct Titles;
-
-impl Sameness<SidEntry> for Titles {
-    ghost same = { same_title };
-
-    fn are_same(a: &SidEntry, b: &SidEntry) -> bool {
-        match (a.title, b.title) {
-            (Some(t), Some(u)) => t == u,
-            _ => false,
-        }
-    }
-}
-
-fn have_distinct_titles(sids: &[SidEntry]) -> bool
-    ensures { result ≡ are_distinct same_number (filter_map title_of sids.now) }
-{
-    are_distinct::<SidEntry, Titles>(sids)
-}
-
-fn keeps_sids(parts: &NetParts) -> bool
-    ensures { result ≡ keeps_sids (network_of parts.now) }
-{
-    let sids = parts.sids.as_slice();
-    sids.len() <= MAX_SIDS
-        && each_keeps_sid(parts, sids)
-        && are_distinct::<SidEntry, Sids>(sids)
-        && each_has_room(sids)
-        && have_distinct_titles(sids)
-}
-
 pub(crate) fn are_names(titles: &[Name]) -> bool
     ensures { result ≡ list_all is_name titles.now }
 {
     titles.iter().all(|t| is_name(t.as_bytes()))
-}
-
-fn keeps_titles(titles: &[Name]) -> bool
-    ensures { result ≡ keeps_titles titles.now }
-{
-    are_names(titles) && are_distinct::<Name, Texts>(titles)
-}
-
-/// Whether the parts keep all rules.
-#[tactic(auto, unfolding(crate::specs::Rules::is_network))]
-pub(crate) fn is_network(parts: &NetParts) -> bool
-    ensures { result ≡ is_network (network_of parts.now) }
-{
-    let nodes = parts.nodes.as_slice();
-    let links = parts.links.as_slice();
-    keeps_blocks(parts.blocks.as_slice())
-        && keeps_nodes(nodes)
-        && keeps_links(nodes.len(), links)
-        && keeps_routes(nodes.len(), links, parts.routes.as_slice())
-        && keeps_policies(parts.policies.as_slice())
-        && keeps_titles(parts.titles.as_slice())
-        && keeps_sids(parts)
 }

@@ -93,11 +93,32 @@ fn two_nodes(
     })
 }
 
+/// The first fault of parts, none where they are a network's.
+fn fault_of(
+    rt: &impl Abort,
+    alloc: Global,
+    parts: NetParts,
+    standings: &[Standing],
+) -> Option<NetFault> {
+    assert!(rt; are_in_range(&parts));
+    Net::build(alloc, parts, standings).err()
+}
+
+/// The network of parts.
+fn network(rt: &impl Abort, alloc: Global, parts: NetParts) -> Net {
+    assert!(rt; are_in_range(&parts));
+    Net::build(alloc, parts, &[]).ok().expect(rt, "a network")
+}
+
 #[test]
 fn one_name_for_two_nodes_is_no_network(rt: HostRuntime) -> Result<(), Fail> {
     let alloc = rt.alloc();
     let parts = two_nodes(alloc, ("A", "A"), prefix(&rt, 0, 0), Vec::new(alloc))?;
-    assert!(rt; Net::build(parts).is_none());
+    let double = NetFault::DoubleName {
+        table: TableKind::Node,
+        item: 2,
+    };
+    assert!(rt; fault_of(&rt, alloc, parts, &[]) == Some(double));
     Ok(())
 }
 
@@ -106,7 +127,7 @@ fn two_sids(rt: &impl Abort, alloc: Global) -> Result<Net, AllocError> {
     sids.push(end_at_b(alloc, prefix(rt, SID, 48)))?;
     sids.push(end_at_b(alloc, prefix(rt, INNER_SID, 64)))?;
     let parts = two_nodes(alloc, ("A", "B"), prefix(rt, 0, 0), sids)?;
-    Ok(Net::build(parts).expect(rt, "a network"))
+    Ok(network(rt, alloc, parts))
 }
 
 #[test]
@@ -141,7 +162,7 @@ fn ipv4_has_tables_of_its_own(rt: HostRuntime) -> Result<(), Fail> {
         prefix: prefix(&rt, NET_10, 8),
         via: LinkSet::new(via),
     })?;
-    let net = Net::build(parts).expect(&rt, "a network");
+    let net = network(&rt, alloc, parts);
     for (family, value, hit) in [
         (Family::V6, NET_10, Hit::Route(0)),
         (Family::V4, NET_10, Hit::Route(1)),
@@ -161,7 +182,7 @@ fn ipv4_has_tables_of_its_own(rt: HostRuntime) -> Result<(), Fail> {
 fn takes_next(rt: &impl Abort, alloc: Global, len: u8) -> Result<bool, AllocError> {
     let mut sid = end_at_b(alloc, prefix(rt, BLOCK, len));
     sid.csid = Csid::Next;
-    sid.block_len = 32;
+    sid.block_len = if len > 32 { 32 } else { 0 };
     let mut sids = Vec::new(alloc);
     sids.push(sid)?;
     let mut parts = two_nodes(alloc, ("A", "B"), prefix(rt, 0, 0), sids)?;
@@ -170,7 +191,7 @@ fn takes_next(rt: &impl Abort, alloc: Global, len: u8) -> Result<bool, AllocErro
         kind: BlockKind::Next,
         csid: 16,
     })?;
-    Ok(Net::build(parts).is_some())
+    Ok(fault_of(rt, alloc, parts, &[]).is_none())
 }
 
 #[test]
@@ -212,7 +233,7 @@ fn one_sid_is_flat(rt: HostRuntime) -> Result<(), Fail> {
     let mut sids = Vec::new(alloc);
     sids.push(end_at_b(alloc, prefix(&rt, SID, 48)))?;
     let parts = two_nodes(alloc, ("A", "B"), prefix(&rt, 0, 0), sids)?;
-    let net = Net::build(parts).expect(&rt, "a network");
+    let net = network(&rt, alloc, parts);
     assert!(rt; compilable(&net) == Ok(()));
     Ok(())
 }
@@ -223,17 +244,6 @@ fn a_name_in_a_line(rt: HostRuntime) -> Result<(), Fail> {
     let line = format!(in rt.alloc(); "at {name}\n")?;
     assert_eq!(rt; line.as_str(), "at b.2\n");
     Ok(())
-}
-
-/// The first fault of parts, none where they are a network's.
-fn fault_of(
-    rt: &impl Abort,
-    alloc: Global,
-    parts: NetParts,
-    standings: &[Standing],
-) -> Option<NetFault> {
-    assert!(rt; are_in_range(&parts));
-    Net::judged(alloc, parts, standings).err()
 }
 
 #[test]

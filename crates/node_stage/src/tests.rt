@@ -5,7 +5,7 @@ ghost use Rattle.std.specs.Prelude.{◌≡◌, ◌<◌, length};
 use crate::{Content, PktBuf, stage};
 use icmp6_errors::IcmpSlot;
 use ip6_headers::four_at;
-use net_model::{Link, Name, Net, NetParts, Node, Route, TypeList};
+use net_model::{Link, Name, Net, NetParts, Node, Route, TypeList, are_in_range};
 use srv6_rules::{Behaviour, Csid, Family, LinkSet, Reason, SidEntry};
 use std::alloc::{AllocError, Global};
 use std::process::Abort;
@@ -197,7 +197,8 @@ fn net_with(rt: &impl Abort, alloc: Global, behaviour: Behaviour) -> Result<Net,
         prefix(rt, 0xfc00_000b_0001_0000_0000_0000_0000_0000, 48),
         prefix(rt, 0x2001_0db8_0000_0000_0000_0000_0000_0000, 32),
     )?;
-    Ok(Net::build(parts).expect(rt, "a network"))
+    assert!(rt; are_in_range(&parts));
+    Ok(Net::build(alloc, parts, &[]).ok().expect(rt, "a network"))
 }
 
 fn joined(alloc: Global, a: &[u8], b: &[u8], c: &[u8]) -> Result<Vec<u8>, AllocError> {

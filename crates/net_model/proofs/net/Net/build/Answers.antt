@@ -1,6 +1,6 @@
 use Rattle.net_model.specs.Network.{network_of}
 use Rattle.net_model.proofs.SidLaws.{enough_law}
-use Rattle.net_model.proofs.net.Net.judged.Goals as goal
+use Rattle.net_model.proofs.net.Net.build.Goals as goal
 
 pub invariant_of-result : goal.invariant_of-result
 invariant_of-result c = enough_law (network_of c.args.parts) c.args.standings.now c.requires c.in_ok-judge_parts.ensures
