@@ -105,11 +105,7 @@ fn show_packets<O: Sink>(
 
 /// Shows the headers of the packets of the input, one packet after the other. What is behind the
 /// last frame of a capture is refused once all packets were shown.
-pub fn show<S: Source, O: Sink>(
-    alloc: Global,
-    input: &mut S,
-    out: &mut O,
-) -> Result<Told, Halt>
+pub fn show<S: Source, O: Sink>(alloc: Global, input: &mut S, out: &mut O) -> Result<Told, Halt>
     ensures { CommandsOfInput Show result
         (S.seen input.old) (S.seen input.new) (O.seen out.old) (O.seen out.new) }
 {
