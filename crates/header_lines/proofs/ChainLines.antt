@@ -65,8 +65,8 @@ module _ (p : Packet) (bytes first now new : List ℕ) (q : chains.ChainPlace) (
         → new ++ (if last then [] else chain_lines p (chain_at p next)) ≡ first ++ chain_lines p (chain_of p)
     shown-by last kind =
         ap (λ xs. xs ++ (if last then [] else chain_lines p (chain_at p next))) added
-        ∙ append_assoc now (header_lines (record { place = q; bytes = take len (drop q.at bytes) })) (if last then []
-        else chain_lines p (chain_at p next))
+        ∙ append_assoc now (header_lines (record { place = q; bytes = take len (drop q.at bytes) }))
+        (if last then [] else chain_lines p (chain_at p next))
         ∙ ap (λ b. now ++ (header_lines (record { place = q; bytes = take len (drop q.at bytes) })
         ++ (if b then [] else chain_lines p (chain_at p next)))) (sym kind)
         ∙ shown-header

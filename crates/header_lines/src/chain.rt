@@ -14,7 +14,7 @@ use std::alloc::AllocError;
 fn append_upper(kind: u8, at: usize, len: usize, out: &mut String) -> Result<(), AllocError>
     ensures { OnOk result (string_bytes out.new ≡ string_bytes out.old ++ upper_line kind at len) }
 {
-    write!(out, "upper {kind} at {at} bytes {len}\n")
+    writeln!(out, "upper {kind} at {at} bytes {len}")
 }
 
 /// Appends the line of an extension header that is cut.
@@ -22,7 +22,7 @@ fn append_upper(kind: u8, at: usize, len: usize, out: &mut String) -> Result<(),
 fn append_bad_chain(at: usize, out: &mut String) -> Result<(), AllocError>
     ensures { OnOk result (string_bytes out.new ≡ string_bytes out.old ++ bad_chain_line at) }
 {
-    write!(out, "bad chain at {at}\n")
+    writeln!(out, "bad chain at {at}")
 }
 
 /// Appends the lines of what stands behind a packet's IPv6 header, up to a Fragment header or the

@@ -16,7 +16,7 @@ use std::alloc::AllocError;
 fn append_hop_by_hop(at: usize, len: usize, out: &mut String) -> Result<(), AllocError>
     ensures { OnOk result (string_bytes out.new ≡ string_bytes out.old ++ hop_by_hop_line at len) }
 {
-    write!(out, "hop-by-hop at {at} bytes {len}\n")
+    writeln!(out, "hop-by-hop at {at} bytes {len}")
 }
 
 /// Appends the line of a Destination Options header.
@@ -24,7 +24,7 @@ fn append_hop_by_hop(at: usize, len: usize, out: &mut String) -> Result<(), Allo
 fn append_destination(at: usize, len: usize, out: &mut String) -> Result<(), AllocError>
     ensures { OnOk result (string_bytes out.new ≡ string_bytes out.old ++ destination_line at len) }
 {
-    write!(out, "destination at {at} bytes {len}\n")
+    writeln!(out, "destination at {at} bytes {len}")
 }
 
 /// Appends the line of a Fragment header.
@@ -32,7 +32,7 @@ fn append_destination(at: usize, len: usize, out: &mut String) -> Result<(), All
 fn append_fragment(at: usize, out: &mut String) -> Result<(), AllocError>
     ensures { OnOk result (string_bytes out.new ≡ string_bytes out.old ++ fragment_line at) }
 {
-    write!(out, "fragment at {at}\n")
+    writeln!(out, "fragment at {at}")
 }
 
 /// Appends the lines of the extension header of these bytes, which stands at a place.

@@ -8,5 +8,7 @@ mod chain;
 mod header;
 mod packet;
 mod routing;
+#[cfg(test)]
+mod tests;
 
 pub use packet::lines_of_packet;

@@ -14,7 +14,7 @@ use std::alloc::{AllocError, Global};
 fn append_number(number: u32, out: &mut String) -> Result<(), AllocError>
     ensures { OnOk result (string_bytes out.new ≡ string_bytes out.old ++ number_line number) }
 {
-    write!(out, "packet {number}\n")
+    writeln!(out, "packet {number}")
 }
 
 /// Appends the line of a packet's IPv6 header.
@@ -29,9 +29,9 @@ fn append_ip6(packet: &Ip6View<'_>, out: &mut String) -> Result<(), AllocError>
     let hop = packet.hop_limit();
     let src = packet.source();
     let dst = packet.destination();
-    write!(
+    writeln!(
         out,
-        "ip6 class {class} flow {flow} payload {payload} next {next} hop {hop} src {src} dst {dst}\n"
+        "ip6 class {class} flow {flow} payload {payload} next {next} hop {hop} src {src} dst {dst}"
     )
 }
 
@@ -42,8 +42,8 @@ fn append_fault(fault: ReadFault, out: &mut String) -> Result<(), AllocError>
         ≡ string_bytes out.old ++ content_lines (unreadable bytes fault)) }
 {
     match fault {
-        ReadFault::Truncated => write!(out, "truncated\n"),
-        ReadFault::BadVersion => write!(out, "bad version\n"),
+        ReadFault::Truncated => writeln!(out, "truncated"),
+        ReadFault::BadVersion => writeln!(out, "bad version"),
     }
 }
 

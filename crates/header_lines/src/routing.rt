@@ -25,9 +25,9 @@ fn append_fields(
     let last = srh.last_entry();
     let flags = srh.flags();
     let tag = srh.tag();
-    write!(
+    writeln!(
         out,
-        "srh next {next} left {left} last {last} flags {flags} tag {tag} at {at} bytes {len}\n"
+        "srh next {next} left {left} last {last} flags {flags} tag {tag} at {at} bytes {len}"
     )
 }
 
@@ -38,7 +38,7 @@ fn append_entry(srh: &SrhView<'_>, i: usize, out: &mut String) -> Result<(), All
     ensures { OnOk result (string_bytes out.new ≡ string_bytes out.old ++ entry_line srh.now i) }
 {
     let entry = srh.entry(i);
-    write!(out, "entry {i} {entry}\n")
+    writeln!(out, "entry {i} {entry}")
 }
 
 /// Appends the lines of the segment list's entries: those up to Last Entry that are there.
@@ -60,9 +60,9 @@ fn append_area(srh: &SrhView<'_>, out: &mut String) -> Result<(), AllocError>
 {
     if usize::from(srh.last_entry()) < srh.entries() {
         let len = srh.tlv_bytes().len();
-        write!(out, "tlvs {len}\n")
+        writeln!(out, "tlvs {len}")
     } else {
-        write!(out, "bad last entry\n")
+        writeln!(out, "bad last entry")
     }
 }
 
@@ -92,5 +92,5 @@ pub(crate) fn append_routing(
     ensures { OnOk result
         (string_bytes out.new ≡ string_bytes out.old ++ routing_line kind left at len) }
 {
-    write!(out, "routing type {kind} left {left} at {at} bytes {len}\n")
+    writeln!(out, "routing type {kind} left {left} at {at} bytes {len}")
 }

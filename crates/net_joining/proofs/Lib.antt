@@ -1,1 +1,4 @@
+pub mod JoinedLemmas
+pub mod JoiningLemmas
 pub mod NumberLemmas
+pub mod SidLemmas

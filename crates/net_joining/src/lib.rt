@@ -5,8 +5,12 @@
 //! items, read once into a map.
 #![tactic(auto)]
 
+mod joining;
 mod numbering;
+mod parts;
+mod sids;
 #[cfg(test)]
 mod tests;
 
 pub use numbering::{Named, Numbering};
+pub use parts::join;

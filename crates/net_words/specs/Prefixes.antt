@@ -8,8 +8,8 @@ use Rattle.net_model.specs.declared.fault.FaultPlace.{FaultPlace}
 use Rattle.net_model.specs.declared.fault.Key.{Key}
 use Rattle.net_model.specs.declared.fault.NetFault.{NetFault}
 use Rattle.net_model.specs.declared.fault.NetFault.TheVariants as faults
-use Rattle.net_words.specs.declared.prefixes.Family.{Family}
-use Rattle.net_words.specs.declared.prefixes.Family.TheVariants.{V6, V4}
+use Rattle.srv6_rules.specs.declared.sid.Family.{Family}
+use Rattle.srv6_rules.specs.declared.sid.Family.TheVariants.{V6, V4}
 use Rattle.net_words.specs.declared.prefixes.FamilyPrefix.{FamilyPrefix}
 use Rattle.toml_words.specs.Reading.{◌>>=◌, or_fault}
 use Rattle.toml_words.specs.Tree.{text_in}

@@ -3,10 +3,10 @@ use Rattle.std.specs.Prelude.{ℕ, ℤ, pos, negsuc, ◌==◌, ◌||◌, if◌th
 use Rattle.srv6_rules.specs.declared.sid.Csid.{Csid}
 use Rattle.srv6_rules.specs.declared.sid.Csid.TheVariants as csids
 use Rattle.net_model.specs.declared.limits.TheConstants.{SHORT_CSID, LONG_CSID}
-use Rattle.net_words.specs.declared.block.BlockKind.{BlockKind}
-use Rattle.net_words.specs.declared.block.BlockKind.TheVariants as blocks
-use Rattle.net_words.specs.declared.prefixes.Family.{Family}
-use Rattle.net_words.specs.declared.prefixes.Family.TheVariants.{V6, V4}
+use Rattle.net_model.specs.declared.parts.BlockKind.{BlockKind}
+use Rattle.net_model.specs.declared.parts.BlockKind.TheVariants as blocks
+use Rattle.srv6_rules.specs.declared.sid.Family.{Family}
+use Rattle.srv6_rules.specs.declared.sid.Family.TheVariants.{V6, V4}
 use Rattle.net_words.specs.declared.sid.BehaviourWord.{BehaviourWord}
 use Rattle.net_words.specs.declared.sid.BehaviourWord.TheVariants as behaviours
 use Rattle.net_words.specs.declared.sid.Flavour.{Flavour}

@@ -12,20 +12,11 @@ ghost use Rattle.net_words.specs.Words.{block_kind_of, csid_bits_of};
 ghost use Rattle.net_words.specs.Description.{csid_bits_in, block_of};
 
 use crate::words::{Word, needed_word};
-use net_model::{FaultPlace, Key, LONG_CSID, NetFault, SHORT_CSID};
+use net_model::{BlockKind, FaultPlace, Key, LONG_CSID, NetFault, SHORT_CSID};
 use std::alloc::Global;
 use toml::Table;
 use toml_words::{Describes, integer_in, meant, needed, only, value_at};
 use v6_addr::Prefix;
-
-/// How the SIDs of a block are compressed (RFC 9800 sections 4.1 and 4.2).
-#[derive(Clone, Copy, Debug, PartialEq, Eq)]
-pub enum BlockKind {
-    /// NEXT-CSID.
-    Next,
-    /// REPLACE-CSID.
-    Replace,
-}
 
 /// A block of SIDs, as it is described (RFC 9800 section 3).
 #[derive(Debug, Drop)]

@@ -8,11 +8,11 @@ ghost use Rattle.net_words.specs.Intent.{intent_of, intent_in};
 
 use crate::limits::{DEFAULT_CONTAINERS, MAX_CONTAINERS};
 use crate::numbers::octet_at;
-use crate::prefixes::Family;
 use crate::step::{DescribedStep, steps_at};
 use crate::words::{Word, needed_word};
 use base::Seq;
 use net_model::{DEFAULT_HOP_LIMIT, FaultPlace, Key, LAST_FLOW_LABEL, Name, NetFault, TableKind};
+use srv6_rules::Family;
 use std::alloc::Global;
 use toml::Table;
 use toml_words::{document, needed, only, optional_number};

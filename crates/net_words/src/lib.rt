@@ -22,14 +22,14 @@ mod step;
 mod tests;
 mod words;
 
-pub use block::{BlockKind, DescribedBlock};
+pub use block::DescribedBlock;
 pub use description::{Description, describe, read_description};
 pub use intent::{DescribedIntent, Mode, describe_intent, read_intent};
 pub use limits::{DEFAULT_CONTAINERS, MAX_CONTAINERS, MAX_STEPS};
 pub use link::DescribedLink;
 pub use node::DescribedNode;
 pub use policy::DescribedPolicy;
-pub use prefixes::{Family, FamilyPrefix};
+pub use prefixes::FamilyPrefix;
 pub use route::DescribedRoute;
 pub use sid::{BehaviourWord, DescribedSid, Flavour};
 pub use step::DescribedStep;

@@ -6,19 +6,11 @@ ghost use Rattle.net_words.specs.Prefixes.{family_prefix_of, family_prefix_in};
 ghost use Rattle.toml_words.specs.Reading.{Gives};
 
 use net_model::{FaultPlace, Key, NetFault};
+use srv6_rules::Family;
 use std::alloc::Global;
 use toml::Value;
 use toml_words::{Kind, text_in};
 use v6_addr::{Prefix, parse_prefix, parse_prefix4};
-
-/// The family of a packet.
-#[derive(Clone, Copy, Debug, PartialEq, Eq)]
-pub enum Family {
-    /// IPv6 (RFC 8200).
-    V6,
-    /// IPv4 (RFC 791).
-    V4,
-}
 
 /// A prefix of either family. An IPv4 prefix holds addresses whose top 32 bits are the IPv4
 /// address, and its length is at most 32.

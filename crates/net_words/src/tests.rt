@@ -1,11 +1,11 @@
 //! Each reader once, on a text that has what may be there.
 
 use crate::{
-    BehaviourWord, BlockKind, DescribedIntent, DescribedSid, DescribedStep, Description, Family,
-    Flavour, Mode, read_description, read_intent,
+    BehaviourWord, DescribedIntent, DescribedSid, DescribedStep, Description, Flavour, Mode,
+    read_description, read_intent,
 };
-use net_model::Name;
-use srv6_rules::Csid;
+use net_model::{BlockKind, Name};
+use srv6_rules::{Csid, Family};
 use std::process::Abort;
 use std::test::Fail;
 

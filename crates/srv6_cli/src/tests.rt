@@ -81,6 +81,12 @@ function = "vpn"
 /// One segment, and no routing header: 40 bytes of outer header.
 const REPORT: &str = "# container fcbb:bb00:f001::\n# containers 1\n# header 40\n# need 1\n";
 
+/// The headers of the packet.
+const SHOWN: &str = "packet 1
+ip6 class 0 flow 0 payload 0 next 59 hop 64 src 2001:db8:1::1 dst fcbb:bb00:f001::
+upper 59 at 40 bytes 0
+";
+
 /// To the SID of C, with nothing behind the header: hop limit 64, next header 59.
 const PACKET: [u8; 40] = [
     0x60, 0, 0, 0, 0, 0, 59, 64, 0x20, 0x01, 0x0d, 0xb8, 0, 1, 0, 0, 0, 0, 0, 0, 0, 0, 0, 1, 0xfc,
@@ -177,6 +183,8 @@ const RUN: &[&str] = &["run", "net.toml", "A"];
 
 const COMPILE: &[&str] = &["compile", "net.toml", "intent.toml"];
 
+const SHOW: &[&str] = &["show"];
+
 /// The description is read by one call; the input by one, and a second one finds its end; the head
 /// and each of three frames are written by one, and so is the line.
 const OF_RUN: &[Faults] = &[
@@ -190,6 +198,14 @@ const OF_RUN: &[Faults] = &[
     Faults { err: 1, ..NONE },
 ];
 
+/// The input is read by one call, and a second one finds its end; the lines of the packet are
+/// written by one.
+const OF_SHOW: &[Faults] = &[
+    Faults { input: 1, ..NONE },
+    Faults { input: 2, ..NONE },
+    Faults { out: 1, ..NONE },
+];
+
 /// Each file is read by one call, and the report and the line are written by one.
 const OF_COMPILE: &[Faults] = &[
     Faults { files: 1, ..NONE },
@@ -201,6 +217,16 @@ const OF_COMPILE: &[Faults] = &[
 #[test]
 fn each_call_of_run_fails(rt: HostRuntime) -> Result<(), Fail> {
     expect_fronts(&rt, rt.alloc(), RUN, OF_RUN)
+}
+
+#[test]
+fn each_call_of_show_fails(rt: HostRuntime) -> Result<(), Fail> {
+    expect_fronts(&rt, rt.alloc(), SHOW, OF_SHOW)?;
+    let whole = serve_words(rt.alloc(), SHOW, &NONE)?;
+    assert_eq!(rt; whole.status, Status::Done);
+    assert_eq!(rt; whole.out.as_slice(), SHOWN.as_bytes());
+    assert_eq!(rt; whole.err.len(), 0);
+    Ok(())
 }
 
 #[test]

@@ -1,5 +1,5 @@
 -- The command `run`: the packets of the input, one after the other, from a node of the network that a file describes.
-use Rattle.std.specs.Prelude.{◌≡◌, ℕ, Bool, true, false, List, [], ◌∷◌, ◌++◌, codes, Option, Some, None, Result, Ok, Err, IsSomeAnd, is_ok}
+use Rattle.std.specs.Prelude.{◌≡◌, ℕ, Bool, true, false, List, [], ◌∷◌, codes, Option, Some, None, Result, Ok, Err, IsSomeAnd, is_ok}
 use Rattle.std.specs.List.{flat_map}
 use Rattle.pcap_io.specs.declared.frame.Body.{Body}
 use Rattle.pcap_io.specs.declared.frame.Body.TheVariants as bodies
@@ -18,7 +18,7 @@ use Rattle.srv6_cli.specs.declared.refusal.Refusal.{Refusal}
 use Rattle.srv6_cli.specs.declared.status.Status.TheVariants as statuses
 use Rattle.srv6_cli.specs.Capture.{frames_of}
 use Rattle.srv6_cli.specs.Judgements.{network_in, node_in, after, ended_by}
-use Rattle.srv6_cli.specs.Lines.{packet_line, refusal_line, unread_line}
+use Rattle.srv6_cli.specs.Lines.{packet_line, unread_line}
 use Rattle.srv6_cli.specs.Packets.{packets_in, reading_of, unread_in, fault_of}
 use Rattle.srv6_cli.specs.Pieces.{Piece, ForOut, ForErr, Output}
 use Rattle.srv6_cli.specs.Shape.{Shape}

@@ -9,8 +9,7 @@ use Rattle.header_lines.proofs.chain.append_chain.Goals as goal
 
 pub headers-init : goal.headers-init
 headers-init c = shown-start c.args.packet.now c.bytes-bytes.result.now (string_bytes c.args.out.now)
-    (place_view c.chain_start-place.result)
-    c.bytes-bytes.ensures c.chain_start-place.ensures
+    (place_view c.chain_start-place.result) c.bytes-bytes.ensures c.chain_start-place.ensures
 
 pub returns-then-place-eq-FRAGMENT : goal.returns-then-place-eq-FRAGMENT
 returns-then-place-eq-FRAGMENT c =

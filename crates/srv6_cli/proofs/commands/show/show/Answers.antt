@@ -1,5 +1,5 @@
 -- What `show` leaves, by where it ends.
-use Rattle.std.proofs.Common.{◌≡◌, inl, inr, ℕ, true, false, List, [], ◌∷◌, Option, None, Some, IfSome, Ok, Err, refl, sym, ap, ◌∙◌, subst}
+use Rattle.std.proofs.Common.{◌≡◌, inl, inr, ℕ, List, [], ◌∷◌, Option, None, Some, IfSome, Ok, Err, refl, sym, ap, ◌∙◌, subst}
 use Rattle.srx_edge.specs.FilesRead.{FilesSeen}
 use Rattle.srx_edge.specs.Sources.{SourceSeen}
 use Rattle.srx_edge.specs.Sinks.{SinkSeen, sent}
@@ -16,7 +16,7 @@ use Rattle.srv6_cli.specs.Answers.{ending_of_failure, JudgesInput, CommandsOut}
 use Rattle.srv6_cli.specs.Words.{Show}
 use Rattle.srv6_cli.specs.Judgements.{refused, ended_by}
 use Rattle.srv6_cli.specs.Lines.{bytes_of_text, refusal_line}
-use Rattle.srv6_cli.specs.Outside.{outside, Asks, AsksAs, Reads, files_left_by}
+use Rattle.srv6_cli.specs.Outside.{outside, AsksAs, Reads, files_left_by}
 use Rattle.srv6_cli.specs.Packets.{packets_in, reading_of, fault_of}
 use Rattle.srv6_cli.specs.Pieces.{ForOut, Output, Stop, Never, AtInput, At, Elsewhere, ToOut, stop_at}
 use Rattle.srv6_cli.specs.Command.Show.{frames_lines, shown, show_output, show_shape}
