@@ -1,5 +1,6 @@
 pub mod Rules
 pub mod Functions
-pub mod Document
 pub mod Reading
+pub mod Judging
+pub mod Described
 pub mod Keeps

@@ -1,16 +1,42 @@
--- What reading an intent answers.
-use Rattle.std.specs.Prelude.{◌≡◌, ℕ, List, Some, None, Result, Ok, Err}
-use Rattle.toml.specs.Data.{Members}
-use Rattle.net_model.specs.Network.{Network}
-use Rattle.net_reader.specs.Reading.{document_of}
-use Rattle.intent_reader.specs.declared.intent.Intent.{Intent}
+-- What reading an intent gives: a value, or the first fault.
+use Rattle.std.specs.Prelude.{◌≡◌, ◌≢◌, Bool, List, [], ◌∷◌, Option, Some, None, Result, Ok, Err, if◌then◌else◌}
+use Rattle.net_model.specs.declared.fault.NetFault.{NetFault}
 use Rattle.intent_reader.specs.declared.fault.IntentFault.{IntentFault}
-use Rattle.intent_reader.specs.declared.fault.IntentFault.TheVariants.{NotToml, NotBuilt, NoMemory}
-use Rattle.intent_reader.specs.Document.{intent_of_document}
+use Rattle.intent_reader.specs.declared.fault.IntentFault.TheVariants.{Text, NoMemory}
 
--- what is answered is exactly what the text gives in the network; want of memory says nothing
-abbrev pub ReadsAs : Network → List ℕ → Result Intent IntentFault → Type 0
-ReadsAs net text (Ok i) = (root : Members) × (document_of text ≡ Some root) × (intent_of_document net root ≡ Some i)
-ReadsAs net text (Err NotToml) = document_of text ≡ None
-ReadsAs net text (Err NotBuilt) = (root : Members) × (document_of text ≡ Some root) × (intent_of_document net root ≡ None)
-ReadsAs net text (Err NoMemory) = Unit {0}
+-- what follows for a value; a fault stays the first
+abbrev pub ◌>>=◌ : {X Y : Type 0} → Result X IntentFault → (X → Result Y IntentFault) → Result Y IntentFault
+◌>>=◌ (Ok x) next = next x
+◌>>=◌ (Err fault) next = Err fault
+
+-- a value as it is seen
+abbrev pub read_map : {X Y : Type 0} → (X → Y) → Result X IntentFault → Result Y IntentFault
+read_map see (Ok x) = Ok (see x)
+read_map see (Err fault) = Err fault
+
+-- the value that is there, and else this fault
+abbrev pub or_fault : {X : Type 0} → IntentFault → Option X → Result X IntentFault
+or_fault fault None = Err fault
+or_fault fault (Some x) = Ok x
+
+-- a value that passes a test, and else this fault
+abbrev pub checked : {X : Type 0} → IntentFault → Bool → X → Result X IntentFault
+checked fault passes x = if passes then Ok x else Err fault
+
+-- what a text says, with its fault as one of the intent's text
+abbrev pub of_text : {X : Type 0} → Result X NetFault → Result X IntentFault
+of_text (Ok x) = Ok x
+of_text (Err fault) = Err (Text fault)
+
+-- one after another, up to the first fault
+abbrev pub each_of : {X Y : Type 0} → (X → Result Y IntentFault) → List X → Result (List Y) IntentFault
+each_of read [] = Ok []
+each_of read (x ∷ xs) = do
+  y ← read x
+  ys ← each_of read xs
+  Ok (y ∷ ys)
+
+-- a result, as it is seen, is the one that is wanted; want of memory says nothing
+abbrev pub Gives : {X Y : Type 0} → (X → Y) → Result X IntentFault → Result Y IntentFault → Type 0
+Gives see (Ok x) wanted = wanted ≡ Ok (see x)
+Gives see (Err fault) wanted = (fault ≢ NoMemory) → wanted ≡ Err fault

@@ -1,20 +1,12 @@
 //! Laws of the definitions: each is the contract of an empty function.
 
 ghost use Rattle.std.specs.Prelude.{◌≡◌, ◌<◌, ℕ, List, length, Some};
-ghost use Rattle.toml.specs.Data.{Members};
 ghost use Rattle.net_model.specs.Network.{Network};
 ghost use Rattle.net_model.specs.Keeps.{Keeps};
 ghost use Rattle.intent_reader.specs.declared.intent.Step.{Step};
 ghost use Rattle.intent_reader.specs.declared.intent.Intent.{Intent};
 ghost use Rattle.intent_reader.specs.Rules.{IsIntent, node_after, stand_after};
-ghost use Rattle.intent_reader.specs.Document.{intent_of_document};
 ghost use Rattle.intent_reader.specs.Keeps.{Steps, KeepsIntent};
-
-/// An intent that a document gives in a network keeps the rules in that network.
-pub fn intents_that_are_read_keep_the_rules()
-    ensures { (net : Network) (root : Members) (i : Intent) → intent_of_document net root ≡ Some i
-        → IsIntent net i }
-{}
 
 /// An intent that keeps the rules in a network has its headend there, its numbers in their ranges,
 /// and 1 to 48 steps; the walk stands at a node before and after each of them, and the last is a

@@ -1,81 +1,78 @@
-//! Nodes, links and functions by their names in the tree.
+//! Nodes, links and functions by their names.
 
-ghost use Rattle.std.specs.Prelude.{◌≡◌, IfOk, Some, None, option_map, length};
-ghost use Rattle.toml.specs.View.{view, table_view, items_view};
+ghost use Rattle.std.specs.Prelude.{◌≡◌, Some, None, length};
+ghost use Rattle.std.specs.List.{list_any};
 ghost use Rattle.net_model.specs.Network.{Network};
 ghost use Rattle.net_model.specs.Keeps.{IsTitleOf};
-ghost use Rattle.net_reader.specs.Tree.{needed, each_of};
-ghost use Rattle.net_reader.specs.Description.{node_in, link_in, links_in};
+ghost use Rattle.net_model.specs.Named.{node_numbered};
+ghost use Rattle.net_model.specs.Rules.{are_distinct, same_number};
+ghost use Rattle.intent_reader.specs.declared.fault.IntentFault.TheVariants as faults;
 ghost use Rattle.intent_reader.specs.Functions.{has_title, function_numbered, IsFunctionNumbered};
-ghost use Rattle.intent_reader.specs.Document.{function_in};
+ghost use Rattle.intent_reader.specs.Reading.{or_fault, each_of, Gives};
+ghost use Rattle.intent_reader.specs.Judging.{link_at};
 
-use net_model::Net;
-use net_reader::tree::{at, items_of};
+use crate::fault::IntentFault;
+use net_model::{Name, Net};
 use srv6_rules::{LinkSet, SidEntry};
-use std::alloc::{AllocError, Global};
-use toml::{Table, Value};
+use std::alloc::Global;
 
-/// The number of the node that a text value names.
-fn node_in(net: &Net, value: &Value) -> Option<u32>
-    ensures { result ≡ node_in net.now.nodes (view value.now) }
+/// The number of the headend.
+pub(crate) fn headend(net: &Net, name: &Name) -> Result<u32, IntentFault>
+    ensures { result ≡ or_fault (faults.UnknownName 0) (node_numbered name.now net.now.nodes) }
 {
-    match value.as_str() {
-        Some(name) => net.node_named(name.as_bytes()),
-        None => None,
+    match net.node_named(name.as_bytes()) {
+        Some(node) => Ok(node),
+        None => Err(IntentFault::UnknownName { step: 0 }),
     }
 }
 
-/// The number of the node that a key names.
-pub(crate) fn node_at(net: &Net, table: &Table, key: &str) -> Option<u32>
-    ensures { result ≡ needed (node_in net.now.nodes) key.now (table_view table.now) }
+/// The number of a link of a step.
+fn link_at(net: &Net, step: u32, name: &Name) -> Result<u32, IntentFault>
+    ensures { result ≡ link_at net.now step name.now }
 {
-    match at(table, key) {
-        Some(value) => node_in(net, value),
-        None => None,
+    match net.link_named(name.as_bytes()) {
+        Some(link) => Ok(link),
+        None => Err(IntentFault::UnknownName { step }),
     }
 }
 
-/// The number of the link that a text value names.
-fn link_in(net: &Net, value: &Value) -> Option<u32>
-    ensures { result ≡ link_in net.now.links (view value.now) }
-{
-    match value.as_str() {
-        Some(name) => net.link_named(name.as_bytes()),
-        None => None,
-    }
-}
-
-/// The numbers of the links that items name.
-#[tactic(auto, using(net_reader::proofs::PublicLaws::reading))]
-fn each_link_in(alloc: Global, net: &Net, items: &[Value]) -> Result<Option<Vec<u32>>, AllocError>
-    ensures { IfOk result (λ r. option_map (λ v. v.items) r ≡ each_of (link_in net.now.links)
-        (items_view items.now)) }
-{
-    let mut numbers = Vec::new(alloc);
-    for item in items {
-        let Some(number) = link_in(net, item) else {
-            return Ok(None);
-        };
-        numbers.push(number)?;
-    }
-    Ok(Some(numbers))
-}
-
-/// The links that an array of names gives.
-pub(crate) fn links_in(
+/// The numbers of the links of a step.
+#[tactic(auto, using(crate::proofs::ListReading::reading))]
+pub(crate) fn links_at(
     alloc: Global,
     net: &Net,
-    value: &Value,
-) -> Result<Option<LinkSet>, AllocError>
-    ensures { IfOk result (λ r. r ≡ links_in net.now.links (view value.now)) }
+    step: u32,
+    names: &[Name],
+) -> Result<LinkSet, IntentFault>
+    ensures { Gives (λ s. s) result (each_of (link_at net.now step) names.now) }
 {
-    let Some(items) = items_of(value) else {
-        return Ok(None);
-    };
-    let Some(numbers) = each_link_in(alloc, net, items)? else {
-        return Ok(None);
-    };
-    Ok(Some(LinkSet::new(numbers)))
+    let mut links = Vec::new(alloc);
+    for name in names {
+        let link = link_at(net, step, name)?;
+        links.push(link)?;
+    }
+    Ok(LinkSet::new(links))
+}
+
+/// Whether a link is one of others.
+fn stands_among(link: u32, others: &[u32]) -> bool
+    ensures { result ≡ list_any (same_number link) others.now }
+{
+    others.iter().any(|other| link == *other)
+}
+
+/// Whether each link stands once.
+pub(crate) fn are_distinct(links: &[u32]) -> bool
+    ensures { result ≡ are_distinct same_number links.now }
+{
+    let mut rest = links;
+    while let [first, others @ ..] = rest {
+        if stands_among(*first, others) {
+            return false;
+        }
+        rest = others;
+    }
+    true
 }
 
 /// Whether a SID of the network has the title.
@@ -104,19 +101,9 @@ fn first_function(net: &Net, title: &[u8]) -> Option<u32>
 }
 
 /// The number of the first SID with a title; `None` exactly where no SID has it.
-fn function_named(net: &Net, title: &[u8]) -> Option<u32>
+pub(crate) fn function_named(net: &Net, title: &[u8]) -> Option<u32>
     ensures number { result ≡ function_numbered title.now net.now }
     ensures meaning { IsFunctionNumbered title.now net.now result }
 {
     first_function(net, title)
-}
-
-/// The number of the function whose title a text value writes.
-pub(crate) fn function_in(net: &Net, value: &Value) -> Option<u32>
-    ensures { result ≡ function_in net.now (view value.now) }
-{
-    match value.as_str() {
-        Some(title) => function_named(net, title.as_bytes()),
-        None => None,
-    }
 }

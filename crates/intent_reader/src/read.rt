@@ -1,193 +1,95 @@
 //! From the text of an intent to its value.
 
-ghost use Rattle.std.specs.Prelude.{◌≡◌, ◌<◌, ◌≤◌, IfOk, IfSome, option_map};
-ghost use Rattle.toml.specs.View.{view, table_view};
-ghost use Rattle.net_reader.specs.Tree.{has_only, needed, optional, number_at_most};
-ghost use Rattle.intent_reader.specs.Document.{family_of, is_reduced_of, family_in, is_reduced_in, root_keys, if_kept, intent_with, intent_of_document};
-ghost use Rattle.intent_reader.specs.Reading.{ReadsAs};
+ghost use Rattle.std.specs.Prelude.{◌≡◌, ◌≢◌, IfOk, Err};
+ghost use Rattle.net_model.specs.declared.fault.NetFault.TheVariants as net_faults;
+ghost use Rattle.net_words.specs.Intent.{intent_in};
+ghost use Rattle.intent_reader.specs.declared.fault.IntentFault.TheVariants as faults;
+ghost use Rattle.intent_reader.specs.Reading.{of_text, Gives};
+ghost use Rattle.intent_reader.specs.Judging.{family_of, is_reduced, judged, intent_of_text};
+ghost use Rattle.intent_reader.specs.Described.{InRange};
 ghost use Rattle.intent_reader.specs.Rules.{IsIntent};
 
 use crate::fault::IntentFault;
 use crate::intent::Intent;
-use crate::names::node_at;
-use crate::rules::is_intent;
-use crate::steps::steps_at;
-use net_model::Net;
-use net_reader::tree::{at, has_only, number_at_most, text_at};
-use net_reader::{address_at, document};
+use crate::names::headend;
+use crate::rules::ends_in_function;
+use crate::steps::steps_from;
+use net_model::{Net, NetFault};
+use net_words::{DescribedIntent, Mode};
 use srv6_rules::Family;
-use std::alloc::{AllocError, Global};
-use toml::Table;
-use v6_addr::Addr;
+use std::alloc::Global;
 
-/// The family that a word names.
-fn family_of(word: &str) -> Option<Family>
-    ensures { result ≡ family_of word.now }
+/// The family of an intent's packets.
+fn family_of(family: net_words::Family) -> Family
+    ensures { result ≡ family_of family }
 {
-    if word == "ipv6" {
-        Some(Family::V6)
-    } else {
-        None
+    match family {
+        net_words::Family::V6 => Family::V6,
+        net_words::Family::V4 => Family::V4,
     }
 }
 
-/// The family that the word at a key names.
-fn family_at(table: &Table, key: &str) -> Option<Family>
-    ensures { result ≡ needed family_in key.now (table_view table.now) }
+/// Whether a form is the reduced one.
+fn is_reduced(mode: Mode) -> bool
+    ensures { result ≡ is_reduced mode }
 {
-    match text_at(table, key) {
-        Some(word) => family_of(word),
-        None => None,
+    matches!(mode, Mode::Reduced)
+}
+
+/// What a text says.
+#[tactic(auto, using(crate::proofs::RangeLemmas::ranges))]
+fn described(alloc: Global, text: &[u8]) -> Result<DescribedIntent, IntentFault>
+    ensures said { Gives (λ d. d) result (of_text (intent_in text.now)) }
+    ensures range { IfOk result (λ d. InRange d) }
+    ensures memory { result ≢ Err (faults.Text net_faults.NoMemory) }
+{
+    match net_words::read_intent(alloc, text) {
+        Ok(intent) => Ok(intent),
+        Err(NetFault::NoMemory) => Err(IntentFault::NoMemory),
+        Err(fault) => Err(IntentFault::Text(fault)),
     }
 }
 
-/// Whether a mode is the reduced one; `None` where the word names no mode.
-fn is_reduced_of(word: &str) -> Option<bool>
-    ensures { result ≡ is_reduced_of word.now }
+/// The intent in the network that a description gives.
+fn judged(alloc: Global, net: &Net, described: DescribedIntent) -> Result<Intent, IntentFault>
+    requires { InRange described }
+    ensures { Gives (λ i. i) result (judged net.now described) }
 {
-    if word == "full" {
-        return Some(false);
+    let headend = headend(net, &described.headend)?;
+    let steps = steps_from(alloc, net, headend, described.steps.as_slice())?;
+    if !ends_in_function(steps.as_slice()) {
+        return Err(IntentFault::NotFunctionLast);
     }
-    if word == "reduced" {
-        return Some(true);
-    }
-    None
+    Ok(Intent {
+        headend,
+        source: described.source,
+        inner: family_of(described.inner),
+        reduced: is_reduced(described.mode),
+        hop_limit: described.hop_limit,
+        max_containers: described.max_containers,
+        traffic_class: described.traffic_class,
+        flow_label: described.flow_label,
+        steps,
+    })
 }
 
-/// Whether the mode at a key is the reduced one.
-fn is_reduced_at(table: &Table, key: &str) -> Option<bool>
-    ensures { result ≡ needed is_reduced_in key.now (table_view table.now) }
-{
-    match text_at(table, key) {
-        Some(word) => is_reduced_of(word),
-        None => None,
-    }
-}
-
-/// The number at a key that may be absent, from 0 to the most.
-fn number_at(table: &Table, key: &str, most: u32, default: u32) -> Option<u32>
-    requires { default ≤ most }
-    ensures exact { result ≡ optional (number_at_most most) default key.now (table_view table.now) }
-    ensures within { IfSome result (λ n. n ≤ most) }
-{
-    match at(table, key) {
-        Some(value) => number_at_most(value, most),
-        None => Some(default),
-    }
-}
-
-/// The intent, if it keeps the rules in the network.
-fn if_kept(net: &Net, intent: Intent) -> Option<Intent>
-    ensures { result ≡ if_kept net.now intent }
-{
-    if is_intent(net, &intent) {
-        Some(intent)
-    } else {
-        None
-    }
-}
-
-/// The intent with these words, and with the numbers and steps of a document.
-fn intent_with(
-    alloc: Global,
-    net: &Net,
-    headend: u32,
-    source: Addr,
-    inner: Family,
-    reduced: bool,
-    root: &Table,
-) -> Result<Option<Intent>, AllocError>
-    ensures { IfOk result (λ r. r ≡ intent_with net.now headend source.value inner reduced
-        (table_view root.now)) }
-{
-    let Some(hop_limit) = number_at(root, "hop_limit", 255, 64) else {
-        return Ok(None);
-    };
-    let Some(max_containers) = number_at(root, "max_containers", 127, 10) else {
-        return Ok(None);
-    };
-    let Some(traffic_class) = number_at(root, "traffic_class", 255, 0) else {
-        return Ok(None);
-    };
-    let Some(flow_label) = number_at(root, "flow_label", 0xf_ffff, 0) else {
-        return Ok(None);
-    };
-    let Some(steps) = steps_at(alloc, net, root, "step")? else {
-        return Ok(None);
-    };
-    Ok(if_kept(
-        net,
-        Intent {
-            headend,
-            source,
-            inner,
-            reduced,
-            hop_limit: hop_limit as u8,
-            max_containers,
-            traffic_class: traffic_class as u8,
-            flow_label,
-            steps,
-        },
-    ))
-}
-
-/// Whether a document has no other keys than an intent's.
-fn has_root_keys(root: &Table) -> bool
-    ensures { result ≡ has_only root_keys (table_view root.now) }
-{
-    has_only(
-        root,
-        &[
-            "headend",
-            "source",
-            "inner",
-            "mode",
-            "hop_limit",
-            "max_containers",
-            "traffic_class",
-            "flow_label",
-            "step",
-        ],
-    )
-}
-
-/// The intent that a document gives.
-fn intent(alloc: Global, net: &Net, root: &Table) -> Result<Option<Intent>, AllocError>
-    ensures { IfOk result (λ r. r ≡ intent_of_document net.now (table_view root.now)) }
-{
-    if !has_root_keys(root) {
-        return Ok(None);
-    }
-    let Some(headend) = node_at(net, root, "headend") else {
-        return Ok(None);
-    };
-    let Some(source) = address_at(root, "source") else {
-        return Ok(None);
-    };
-    let Some(inner) = family_at(root, "inner") else {
-        return Ok(None);
-    };
-    let Some(reduced) = is_reduced_at(root, "mode") else {
-        return Ok(None);
-    };
-    intent_with(alloc, net, headend, source, inner, reduced, root)
-}
-
-/// The intent that a text gives in a network.
+/// The intent that a text gives in a network, or its first fault (own rules).
 ///
-/// `NotToml` comes exactly where the text is no TOML, and `NotBuilt` exactly where it is TOML that
-/// gives no intent that keeps the rules in the network. `NoMemory` may come at any time, and says
-/// nothing about the text.
-#[tactic(auto, using(crate::proofs::DocumentLemmas::documents))]
+/// First comes `Text`, with the fault of the text itself: that it is not TOML, or the first fault
+/// of an intent's keys and values as `net_words::read_intent` gives it. Then `UnknownName` at step
+/// 0, where no node has the headend's name. Then the steps in their order: the first stands at the
+/// headend, and each later one where the one before it ended, a step of links at their common end
+/// and a function where it stands. Of a step comes `UnknownName` where no link has one of its
+/// names; `DoubleLink` where a link stands twice in it; `Broken` where its links do not start where
+/// it stands, end apart or leave the network; `NoFunction` where no SID has its title, or the SID
+/// is not where the step stands. Last comes `NotFunctionLast`. `NoMemory` may come at any time, and
+/// says nothing about the text.
+#[tactic(auto, using(crate::proofs::JudgingLemmas::kept_intents))]
 pub fn read_intent(alloc: Global, text: &[u8], net: &Net) -> Result<Intent, IntentFault>
-    ensures reads { ReadsAs net.now text.now result }
+    ensures reads { Gives (λ i. i) result (intent_of_text net.now text.now) }
+    ensures memory { result ≢ Err (faults.Text net_faults.NoMemory) }
     ensures keeps { IfOk result (λ i. IsIntent net.now i) }
 {
-    let Some(root) = document(alloc, text)? else {
-        return Err(IntentFault::NotToml);
-    };
-    match intent(alloc, net, &root)? {
-        Some(intent) => Ok(intent),
-        None => Err(IntentFault::NotBuilt),
-    }
+    let described = described(alloc, text)?;
+    judged(alloc, net, described)
 }

@@ -89,7 +89,7 @@ fn function_node(net: &Net, node: u32, n: u32) -> Option<u32>
 }
 
 /// The node where a walk stands after a step from a node, if the step starts there.
-fn node_after(net: &Net, node: u32, step: &Step) -> Option<u32>
+pub(crate) fn node_after(net: &Net, node: u32, step: &Step) -> Option<u32>
     ensures { result ≡ node_after net.now node step.now }
 {
     match step {
@@ -125,7 +125,7 @@ fn is_function(step: &Step) -> bool
 }
 
 /// Whether there is a last step, and it is a function.
-fn ends_in_function(steps: &[Step]) -> bool
+pub(crate) fn ends_in_function(steps: &[Step]) -> bool
     ensures { result ≡ ends_in_function steps.now }
 {
     match steps {

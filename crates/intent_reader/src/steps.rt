@@ -1,102 +1,81 @@
-//! The steps of an intent in the tree.
+//! The steps of an intent, each from the node where the one before it ended.
 
-ghost use Rattle.std.specs.Prelude.{◌≡◌, IfOk, Some, None, option_map, codes};
-ghost use Rattle.toml.specs.Data.{get_member};
-ghost use Rattle.toml.specs.View.{view, table_view, items_view};
-ghost use Rattle.net_reader.specs.Tree.{needed, each_of, array_of};
-ghost use Rattle.intent_reader.specs.Document.{links_step, function_step, step_from, step_of};
+ghost use Rattle.std.specs.Prelude.{◌≡◌, ◌-◌, ◌<◌, ◌^◌, length};
+ghost use Rattle.intent_reader.specs.Reading.{or_fault, Gives};
+ghost use Rattle.intent_reader.specs.Rules.{node_after};
+ghost use Rattle.intent_reader.specs.Judging.{step_named, astray, steps_from};
 
+use crate::fault::IntentFault;
 use crate::intent::{Step, Steps};
-use crate::names::{function_in, links_in};
+use crate::names::{are_distinct, function_named, links_at};
+use crate::rules::node_after;
 use net_model::Net;
-use net_reader::tree::{at, items_of, table_with};
-use std::alloc::{AllocError, Global};
-use toml::{Table, Value};
+use net_words::DescribedStep;
+use std::alloc::Global;
 
-/// The step over the links that an array names.
-fn links_step(alloc: Global, net: &Net, value: &Value) -> Result<Option<Step>, AllocError>
-    ensures { IfOk result (λ r. r ≡ links_step net.now (view value.now)) }
-{
-    match links_in(alloc, net, value)? {
-        Some(set) => Ok(Some(Step::Links(set))),
-        None => Ok(None),
-    }
-}
-
-/// The step of the function whose title a value writes.
-fn function_step(net: &Net, value: &Value) -> Option<Step>
-    ensures { result ≡ function_step net.now (view value.now) }
-{
-    match function_in(net, value) {
-        Some(sid) => Some(Step::Function(sid)),
-        None => None,
-    }
-}
-
-/// The step that a table with no other keys describes.
-fn step_from(alloc: Global, net: &Net, table: &Table) -> Result<Option<Step>, AllocError>
-    ensures { IfOk result (λ r. r ≡ step_from net.now
-        (get_member (codes "links") (table_view table.now))
-        (get_member (codes "function") (table_view table.now))) }
-{
-    match (at(table, "links"), at(table, "function")) {
-        (Some(names), None) => links_step(alloc, net, names),
-        (None, Some(title)) => Ok(function_step(net, title)),
-        _ => Ok(None),
-    }
-}
-
-/// The step that an item describes.
-fn step(alloc: Global, net: &Net, item: &Value) -> Result<Option<Step>, AllocError>
-    ensures { IfOk result (λ r. r ≡ step_of net.now (view item.now)) }
-{
-    match table_with(item, &["links", "function"]) {
-        Some(table) => step_from(alloc, net, table),
-        None => Ok(None),
-    }
-}
-
-/// The steps that items describe.
-#[tactic(auto, using(net_reader::proofs::PublicLaws::reading))]
-fn each_step(alloc: Global, net: &Net, items: &[Value]) -> Result<Option<Vec<Step>>, AllocError>
-    ensures { IfOk result (λ r. option_map (λ v. v.items) r ≡ each_of (step_of net.now)
-        (items_view items.now)) }
-{
-    let mut steps = Vec::new(alloc);
-    for item in items {
-        let Some(step) = step(alloc, net, item)? else {
-            return Ok(None);
-        };
-        steps.push(step)?;
-    }
-    Ok(Some(steps))
-}
-
-/// The steps that an array of tables describes.
-fn steps_in(alloc: Global, net: &Net, value: &Value) -> Result<Option<Steps>, AllocError>
-    ensures { IfOk result (λ r. r ≡ array_of (step_of net.now) (view value.now)) }
-{
-    let Some(items) = items_of(value) else {
-        return Ok(None);
-    };
-    let Some(steps) = each_step(alloc, net, items)? else {
-        return Ok(None);
-    };
-    Ok(Some(Steps::new(steps)))
-}
-
-/// The steps at a key.
-pub(crate) fn steps_at(
+/// The step with a number, by its names.
+fn step_named(
     alloc: Global,
     net: &Net,
-    table: &Table,
-    key: &str,
-) -> Result<Option<Steps>, AllocError>
-    ensures { IfOk result (λ r. r ≡ needed (array_of (step_of net.now)) key.now
-        (table_view table.now)) }
+    number: u32,
+    described: &DescribedStep,
+) -> Result<Step, IntentFault>
+    ensures { Gives (λ s. s) result (step_named net.now number described.now) }
 {
-    match at(table, key) {
-        Some(value) => steps_in(alloc, net, value),
-        None => Ok(None),
+    match described {
+        DescribedStep::Links(names) => {
+            let links = links_at(alloc, net, number, names.as_slice())?;
+            if are_distinct(links.as_slice()) {
+                Ok(Step::Links(links))
+            } else {
+                Err(IntentFault::DoubleLink { step: number })
+            }
+        }
+        DescribedStep::Function(title) => match function_named(net, title.as_bytes()) {
+            Some(sid) => Ok(Step::Function(sid)),
+            None => Err(IntentFault::NoFunction { step: number }),
+        },
     }
+}
+
+/// The fault of a step that does not lead on from the node where it stands.
+fn astray(number: u32, step: &Step) -> IntentFault
+    ensures { result ≡ astray number step.now }
+{
+    match step {
+        Step::Links(_) => IntentFault::Broken { step: number },
+        Step::Function(_) => IntentFault::NoFunction { step: number },
+    }
+}
+
+/// The node where a step from a node ends.
+fn step_from(net: &Net, number: u32, node: u32, step: &Step) -> Result<u32, IntentFault>
+    ensures { result ≡ or_fault (astray number step.now) (node_after net.now node step.now) }
+{
+    match node_after(net, node, step) {
+        Some(next) => Ok(next),
+        None => Err(astray(number, step)),
+    }
+}
+
+/// The steps from the headend.
+#[tactic(auto, using(crate::proofs::ListReading::stepping))]
+pub(crate) fn steps_from(
+    alloc: Global,
+    net: &Net,
+    headend: u32,
+    described: &[DescribedStep],
+) -> Result<Steps, IntentFault>
+    requires { length described.now < 2 ^ 32 - 1 }
+    ensures { Gives (λ s. s) result (steps_from net.now 1 headend described.now) }
+{
+    let mut steps = Vec::new(alloc);
+    let mut node = headend;
+    for (i, one) in described.iter().enumerate() {
+        let number = i as u32 + 1;
+        let step = step_named(alloc, net, number, one)?;
+        node = step_from(net, number, node, &step)?;
+        steps.push(step)?;
+    }
+    Ok(Steps::new(steps))
 }

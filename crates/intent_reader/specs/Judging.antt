@@ -1,0 +1,92 @@
+-- The intent in a network that a description gives, or its first fault (own rules): first the headend, then the steps in their
+-- order, each from the node where the one before it ended, and last whether the last step is a function.
+use Rattle.std.specs.Prelude.{ℕ, suc, Bool, true, false, List, [], ◌∷◌, Result, Ok}
+use Rattle.srv6_rules.specs.declared.sid.Family.{Family}
+use Rattle.srv6_rules.specs.declared.sid.Family.TheVariants as families
+use Rattle.net_model.specs.Network.{Network}
+use Rattle.net_model.specs.Named.{node_numbered, link_numbered}
+use Rattle.net_model.specs.Rules.{are_distinct, same_number}
+use Rattle.net_words.specs.declared.prefixes.Family.TheVariants as family_words
+use Rattle.net_words.specs.declared.prefixes.Family as words
+use Rattle.net_words.specs.declared.intent.Mode.{Mode}
+use Rattle.net_words.specs.declared.intent.Mode.TheVariants as modes
+use Rattle.net_words.specs.declared.step.DescribedStep.{DescribedStep}
+use Rattle.net_words.specs.declared.step.DescribedStep.TheVariants as described
+use Rattle.net_words.specs.declared.intent.DescribedIntent.{DescribedIntent}
+use Rattle.net_words.specs.Intent.{intent_in}
+use Rattle.intent_reader.specs.declared.intent.Step.{Step}
+use Rattle.intent_reader.specs.declared.intent.Step.TheVariants.{Links, Function}
+use Rattle.intent_reader.specs.declared.intent.Intent.{Intent}
+use Rattle.intent_reader.specs.declared.fault.IntentFault.{IntentFault}
+use Rattle.intent_reader.specs.declared.fault.IntentFault.TheVariants as faults
+use Rattle.intent_reader.specs.Functions.{function_numbered}
+use Rattle.intent_reader.specs.Reading.{◌>>=◌, or_fault, checked, each_of, of_text}
+use Rattle.intent_reader.specs.Rules.{node_after, ends_in_function}
+
+-- ---- steps; they are counted from 1, and k is a step's number
+
+-- the number of a link in step k
+abbrev pub link_at : Network → ℕ → List ℕ → Result ℕ IntentFault
+link_at net k name = or_fault (faults.UnknownName k) (link_numbered name net.links)
+
+-- step k by its names: its links, each once, or the SID with its title
+abbrev pub step_named : Network → ℕ → DescribedStep → Result Step IntentFault
+step_named net k (described.Links names) = do
+  set ← each_of (link_at net k) names
+  checked (faults.DoubleLink k) (are_distinct same_number set) (Links set)
+step_named net k (described.Function title) = do
+  sid ← or_fault (faults.NoFunction k) (function_numbered title net)
+  Ok (Function sid)
+
+-- step k doesn't lead on from the node where it stands: its links don't start there, end apart or leave the network, or its
+-- SID isn't there
+abbrev pub astray : ℕ → Step → IntentFault
+astray k (Links set) = faults.Broken k
+astray k (Function sid) = faults.NoFunction k
+
+-- steps, the first of which has number k and stands at the node; each later one stands where the one before it ended
+abbrev pub steps_from : Network → ℕ → ℕ → List DescribedStep → Result (List Step) IntentFault
+steps_from net k node [] = Ok []
+steps_from net k node (d ∷ ds) = do
+  step ← step_named net k d
+  next ← or_fault (astray k step) (node_after net node step)
+  steps ← steps_from net (suc k) next ds
+  Ok (step ∷ steps)
+
+-- ---- the whole
+
+abbrev pub family_of : words.Family → Family
+family_of family_words.V6 = families.V6
+family_of family_words.V4 = families.V4
+
+-- whether the first segment is left out of the segment routing header (RFC 8986 section 5.2)
+abbrev pub is_reduced : Mode → Bool
+is_reduced modes.Full = false
+is_reduced modes.Reduced = true
+
+-- the intent over these numbers
+abbrev pub intent_with : DescribedIntent → ℕ → List Step → Intent
+intent_with d headend steps = record {
+  headend = headend;
+  source = d.source;
+  inner = family_of d.inner;
+  reduced = is_reduced d.mode;
+  hop_limit = d.hop_limit;
+  max_containers = d.max_containers;
+  traffic_class = d.traffic_class;
+  flow_label = d.flow_label;
+  steps = steps;
+}
+
+-- the headend counts as step 0
+abbrev pub judged : Network → DescribedIntent → Result Intent IntentFault
+judged net d = do
+  headend ← or_fault (faults.UnknownName 0) (node_numbered d.headend net.nodes)
+  steps ← steps_from net 1 headend d.steps
+  checked faults.NotFunctionLast (ends_in_function steps) (intent_with d headend steps)
+
+-- the intent that a text gives in a network: first what the text says
+abbrev pub intent_of_text : Network → List ℕ → Result Intent IntentFault
+intent_of_text net text = do
+  d ← of_text (intent_in text)
+  judged net d
