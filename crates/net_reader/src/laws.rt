@@ -1,15 +1,15 @@
 //! Laws about the definitions, each the contract of a function that does nothing.
 
-ghost use Rattle.std.specs.Prelude.{◌≡◌, ℕ, List, option_map, option_and_then, slice_get};
-ghost use Rattle.net_reader.specs.declared.described.DescribedSid.{DescribedSid};
-ghost use Rattle.net_reader.specs.Description.{numbered, titles_of, title_in};
+ghost use Rattle.std.specs.Prelude.{◌≡◌, Ok};
+ghost use Rattle.toml.specs.Data.{Members};
+ghost use Rattle.net_model.specs.Judging.{InRange};
+ghost use Rattle.net_words.specs.declared.description.Description.{Description};
+ghost use Rattle.net_words.specs.Description.{description_of};
+ghost use Rattle.net_joining.specs.Joining.{joined};
 
-/// The title that a SID's number leads to is its own, and a SID without a title has no number
-/// (own rule: titles are numbered from 0 in the order of the description's SIDs).
-#[tactic(auto, using(crate::proofs::Numbers::title_numbers))]
-pub fn titles_have_their_numbers()
-    ensures { (sids : List DescribedSid) (i : ℕ)
-        → option_map (λ e. option_and_then (slice_get (titles_of sids)) e.title)
-        (slice_get (numbered 0 sids) i)
-        ≡ option_map title_in (slice_get sids i) }
+/// The parts of what a tree describes are in the ranges that judging takes for granted.
+#[tactic(auto, using(crate::proofs::RangeLemmas::ranges))]
+pub fn described_parts_are_in_range()
+    ensures { (root : Members) (said : Description) → description_of root ≡ Ok said
+        → InRange (joined said) }
 {}

@@ -1,0 +1,151 @@
+-- What reading gives, where it gives something, has a property.
+use Rattle.std.proofs.Common.{◌≡◌, ◌∙◌, ℕ, suc, ◌≤◌, Bool, true, false, ◌&&◌, nat_le, cond, List, [], ◌∷◌, length, Option, Some, None, refl, sym, ap, subst, arith}
+use Rattle.std.specs.Prelude.{ℤ, pos, negsuc, Result, Ok, Err, if◌then◌else◌}
+use Rattle.std.specs.List.{list_all}
+use Rattle.std.proofs.lemmas.Bool.{and_from, and_parts, leb-true, le-leb}
+use Rattle.toml.specs.Data.{Data, Members, get_member}
+use Rattle.net_model.specs.declared.fault.TableKind.{TableKind}
+use Rattle.net_model.specs.declared.fault.Key.{Key}
+use Rattle.net_model.specs.declared.fault.FaultPlace.{FaultPlace}
+use Rattle.net_model.specs.declared.fault.NetFault.{NetFault}
+use Rattle.net_model.specs.declared.fault.NetFault.TheVariants as faults
+use Rattle.net_model.specs.Keys.{key_text}
+use Rattle.net_model.specs.Judging as judging
+use Rattle.toml_words.specs.Reading.{◌>>=◌, read_map, or_fault}
+use Rattle.toml_words.specs.Tree.{integer_in, number_within, number_in, given, array_in, count_in, few, each_from, list_in, needed, or_default, optional, tables_in, items_at}
+
+-- what is given has the property; a fault says nothing
+abbrev pub Yields : {X : Type 0} → (X → Type 0) → Result X NetFault → Type 0
+Yields P (Ok x) = P x
+Yields P (Err fault) = Unit {0}
+
+-- nothing is known
+abbrev pub Any : {X : Type 0} → X → Type 0
+Any x = Unit {0}
+
+pub yielded : {X : Type 0} (P : X → Type 0) (r : Result X NetFault) (x : X) → Yields P r → r ≡ Ok x → P x
+yielded P r x holds is = let Q : Result _ NetFault → Type 0 = λ q. Yields P q in subst Q is holds
+
+pub yields-any : {X : Type 0} (r : Result X NetFault) → Yields Any r
+yields-any (Ok x) = tt
+yields-any (Err fault) = tt
+
+pub yields-next : {X Y : Type 0} (K : X → Type 0) (P : Y → Type 0) (r : Result X NetFault) (next : X → Result Y NetFault) → Yields K r
+    → ((x : X) → K x → Yields P (next x)) → Yields P (◌>>=◌ r next)
+yields-next K P (Ok x) next known goes_on = goes_on x known
+yields-next K P (Err fault) next known goes_on = tt
+
+-- nothing is known of what comes first
+pub yields-behind : {X Y : Type 0} (P : Y → Type 0) (r : Result X NetFault) (next : X → Result Y NetFault)
+    → ((x : X) → Yields P (next x)) → Yields P (◌>>=◌ r next)
+yields-behind P (Ok x) next goes_on = goes_on x
+yields-behind P (Err fault) next goes_on = tt
+
+pub yields-or_fault : {X : Type 0} (P : X → Type 0) (fault : NetFault) (o : Option X) → ((x : X) → o ≡ Some x → P x)
+    → Yields P (or_fault fault o)
+yields-or_fault P fault None holds = tt
+yields-or_fault P fault (Some x) holds = holds x refl
+
+pub yields-if : {X : Type 0} (P : X → Type 0) (b : Bool) (x : X) (fault : NetFault) → (b ≡ true → P x)
+    → Yields P (if b then Ok x else Err fault)
+yields-if P true x fault holds = holds refl
+yields-if P false x fault holds = tt
+
+-- ---- values
+
+abbrev pub IsWithin : ℕ → ℕ → ℕ → Type 0
+IsWithin least most n = (nat_le least n && nat_le n most) ≡ true
+
+within : (p : FaultPlace) (k : Key) (least most : ℕ) (z : ℤ) → Yields (IsWithin least most) (number_within p k least most z)
+within p k least most (pos n) = yields-if (IsWithin least most) (nat_le least n && nat_le n most) n _ (λ e. e)
+within p k least most (negsuc n) = tt
+
+pub yields-number : (least most : ℕ) (p : FaultPlace) (k : Key) (d : Data) → Yields (IsWithin least most) (number_in least most p k d)
+yields-number least most p k d = yields-behind (IsWithin least most) (integer_in p d) _ (λ z. within p k least most z)
+
+-- what may be absent has the property where it is there
+abbrev pub IfGiven : {X : Type 0} → (X → Type 0) → Option X → Type 0
+IfGiven P None = Unit {0}
+IfGiven P (Some x) = P x
+
+given_if : {X : Type 0} (P : X → Type 0) (r : Result X NetFault) → Yields P r → Yields (IfGiven P) (read_map Some r)
+given_if P (Ok x) holds = holds
+given_if P (Err fault) holds = tt
+
+pub yields-given : {X : Type 0} (P : X → Type 0) (kind : FaultPlace → Key → Data → Result X NetFault)
+    → ((p : FaultPlace) (k : Key) (d : Data) → Yields P (kind p k d)) → (p : FaultPlace) (k : Key) (d : Data)
+    → Yields (IfGiven P) (given kind p k d)
+yields-given P kind each p k d = given_if P (kind p k d) (each p k d)
+
+-- ---- lists
+
+-- not more than so many, each of which passes a test
+abbrev pub AreFew : {X : Type 0} → ℕ → (X → Bool) → List X → Type 0
+AreFew most test xs = judging.few most test xs ≡ true
+
+abbrev Each : {X Y : Type 0} → (Y → Bool) → List X → List Y → Type 0
+Each test xs ys = (length ys ≡ length xs) × (list_all test ys ≡ true)
+
+yields-each : {X Y : Type 0} (test : Y → Bool) (read : ℕ → X → Result Y NetFault) (n : ℕ) (xs : List X)
+    → ((n : ℕ) (x : X) → Yields (λ y. test y ≡ true) (read n x)) → Yields (Each test xs) (each_from read n xs)
+yields-each test read n [] each = (refl, refl)
+yields-each test read n (x ∷ xs) each =
+    yields-next (λ y. test y ≡ true) (Each test (x ∷ xs)) (read n x) _ (each n x)
+    (λ y passes. yields-next (Each test xs) (Each test (x ∷ xs)) (each_from read (suc n) xs) _ (yields-each test read (suc n) xs each)
+    (λ ys rest. (ap suc rest.0, and_from _ _ passes rest.1)))
+
+yields-count : (p : FaultPlace) (k : Key) (most count : ℕ) → Yields (λ n. nat_le count most ≡ true) (count_in p k most count)
+yields-count p k most count = yields-if (λ n. nat_le count most ≡ true) (nat_le count most) count _ (λ e. e)
+
+yields-few : {X : Type 0} (p : FaultPlace) (k : Key) (most : ℕ) (xs : List X) → Yields (λ ys. nat_le (length ys) most ≡ true) (few p k most xs)
+yields-few p k most xs =
+    yields-next (λ n. nat_le (length xs) most ≡ true) (λ ys. nat_le (length ys) most ≡ true) (count_in p k most (length xs)) _
+    (yields-count p k most (length xs)) (λ n short. short)
+
+-- few items, one after another
+few_each : {X Y : Type 0} (most : ℕ) (test : Y → Bool) (read : ℕ → X → Result Y NetFault) (n : ℕ) (xs : List X)
+    → nat_le (length xs) most ≡ true → ((n : ℕ) (x : X) → Yields (λ y. test y ≡ true) (read n x))
+    → Yields (AreFew most test) (each_from read n xs)
+few_each {Y = Y} most test read n xs short each =
+    weaker (each_from read n xs) (yields-each test read n xs each)
+  where
+    weaker : (r : Result (List Y) NetFault) → Yields (Each test xs) r → Yields (AreFew most test) r
+    weaker (Ok ys) h = and_from _ _ (ap (λ count. nat_le count most) h.0 ∙ short) h.1
+    weaker (Err fault) h = tt
+
+pub yields-list : {X : Type 0} (most : ℕ) (test : X → Bool) (kind : FaultPlace → Key → Data → Result X NetFault)
+    → ((p : FaultPlace) (k : Key) (d : Data) → Yields (λ x. test x ≡ true) (kind p k d)) → (p : FaultPlace) (k : Key) (d : Data)
+    → Yields (AreFew most test) (list_in most kind p k d)
+yields-list most test kind each p k d =
+    yields-behind (AreFew most test) (array_in p d) _
+    (λ ds. yields-next (λ ms. nat_le (length ms) most ≡ true) (AreFew most test) (few p k most ds) _ (yields-few p k most ds)
+    (λ ms short. few_each most test (λ n. kind p k) 0 ms short (λ n x. each p k x)))
+
+-- ---- keys and tables
+
+pub yields-needed : {X : Type 0} (P : X → Type 0) (kind : FaultPlace → Key → Data → Result X NetFault)
+    → ((p : FaultPlace) (k : Key) (d : Data) → Yields P (kind p k d)) → (p : FaultPlace) (t : Members) (k : Key)
+    → Yields P (needed kind p t k)
+yields-needed P kind each p t k =
+    yields-behind P (or_fault (faults.MissingKey p.table p.item k) (get_member (key_text k) t)) _ (λ d. each p k d)
+
+or_default-yields : {X : Type 0} (P : X → Type 0) (kind : FaultPlace → Key → Data → Result X NetFault) (default : X)
+    → ((p : FaultPlace) (k : Key) (d : Data) → Yields P (kind p k d)) → P default → (p : FaultPlace) (k : Key) (o : Option Data)
+    → Yields P (or_default kind default p k o)
+or_default-yields P kind default each holds p k None = holds
+or_default-yields P kind default each holds p k (Some d) = each p k d
+
+pub yields-optional : {X : Type 0} (P : X → Type 0) (kind : FaultPlace → Key → Data → Result X NetFault) (default : X)
+    → ((p : FaultPlace) (k : Key) (d : Data) → Yields P (kind p k d)) → P default → (p : FaultPlace) (t : Members) (k : Key)
+    → Yields P (optional kind default p t k)
+yields-optional P kind default each holds p t k = or_default-yields P kind default each holds p k (get_member (key_text k) t)
+
+pub yields-items : {X : Type 0} (kind : TableKind) (k : Key) (most : ℕ) (test : X → Bool)
+    (read : FaultPlace → Members → Result X NetFault) → ((p : FaultPlace) (t : Members) → Yields (λ x. test x ≡ true) (read p t))
+    → (root : Members) → Yields (AreFew most test) (items_at kind k most read root)
+yields-items kind k most test read each root =
+    let p : FaultPlace = record { table = kind; item = 0 } in
+    yields-behind (AreFew most test) (optional tables_in [] p root k) _
+    (λ all. yields-next (λ ts. nat_le (length ts) most ≡ true) (AreFew most test) (few p k most all) _ (yields-few p k most all)
+    (λ ts short. few_each most test (λ n. read (record { table = kind; item = n })) 1 ts short
+    (λ n t. each (record { table = kind; item = n }) t)))
