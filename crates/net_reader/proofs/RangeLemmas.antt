@@ -8,7 +8,7 @@ use Rattle.toml.specs.Data.{Members}
 use Rattle.srv6_rules.specs.Behaviours.{behaviour_table}
 use Rattle.net_model.specs.declared.limits.TheConstants.{MAX_LINKS_OF_SET, MAX_SIDS}
 use Rattle.net_model.specs.declared.parts.Block.{Block}
-use Rattle.net_model.specs.Rules.{is_name, is_table, is_title, suits_table, block_of, title_of}
+use Rattle.net_model.specs.Rules.{is_name, is_prefix, is_table, is_title, suits_table, block_of, title_of}
 use Rattle.net_model.specs.Judging.{few, link_in_range, route_in_range, block_len_of, sid_in_range, are_numbers, InRange}
 use Rattle.net_words.specs.declared.link.DescribedLink.{DescribedLink}
 use Rattle.net_words.specs.declared.route.DescribedRoute.{DescribedRoute}
@@ -51,13 +51,20 @@ named : (title : Option (List ℕ)) (titles : List (List ℕ)) → title_fits ti
 named None titles is rest = rest
 named (Some title) titles is rest = and_from _ _ is rest
 
+title_fitting : (s : DescribedSid) → sid_fits s ≡ true → title_fits s.title ≡ true
+title_fitting s h =
+    let links_on = links_fit s.links && title_fits s.title in
+    let table_on = table_fits s.table && links_on in
+    let prefix = and_parts (nat_le 1 s.prefix.len) (is_prefix s.prefix && table_on) h in
+    let table = and_parts (is_prefix s.prefix) table_on prefix.1 in
+    let links = and_parts (table_fits s.table) links_on table.1 in
+    (and_parts (links_fit s.links) (title_fits s.title) links.1).1
+
 titles_named : (sids : List DescribedSid) → list_all sid_fits sids ≡ true → list_all is_name (filter_map title_in sids) ≡ true
 titles_named [] h = refl
 titles_named (s ∷ ss) h =
-    let parts = and_parts _ _ h in
-    let prefix = and_parts _ _ (and_parts _ _ parts.0).1 in
-    let links = and_parts _ _ (and_parts _ _ prefix.1).1 in
-    named s.title (filter_map title_in ss) links.1 (titles_named ss parts.1)
+    let parts = and_parts (sid_fits s) (list_all sid_fits ss) h in
+    named s.title (filter_map title_in ss) (title_fitting s parts.0) (titles_named ss parts.1)
 
 behind : (n : ℕ) (title : Option (List ℕ)) (titles : List (List ℕ)) (count : ℕ) → n + length (cons_option title titles) ≡ count
     → behind_title n title + length titles ≡ count
@@ -139,7 +146,7 @@ module _ (nodes links policies : List (List ℕ)) (blocks : List Block) where
 
 -- ---- the whole
 
-in_range : (said : Description) → Fits said → InRange (joined said)
+pub in_range : (said : Description) → Fits said → InRange (joined said)
 in_range said fits =
     let nodes = node_names said in
     let links = link_names said in
@@ -162,5 +169,3 @@ in_range said fits =
 
 pub parts_in_range : (root : Members) (said : Description) → description_of root ≡ Ok said → InRange (joined said)
 parts_in_range root said is = in_range said (yielded Fits (description_of root) said (description-fits root) is)
-
-pub ruleset ranges = (parts_in_range)

@@ -1,0 +1,102 @@
+-- From what a text describes to its network, or to its first fault.
+use Rattle.std.proofs.Common.{◌≡◌, ◌≢◌, ◌∙◌, ◌↔◌, ℕ, ◌+◌, ◌<◌, ◌≤◌, ◌^◌, List, [], ◌∷◌, ◌++◌, length, take, map, get_or, refl, sym, ap, arith}
+use Rattle.std.specs.Prelude.{Result, Ok, Err, IfOk}
+use Rattle.std.proofs.lemmas.Bool.{and_parts, leb-true}
+use Rattle.std.proofs.lemmas.List.{map_more}
+use Rattle.net_model.specs.declared.limits.TheConstants.{MAX_NODES, MAX_LINKS, MAX_POLICIES, MAX_SIDS}
+use Rattle.net_model.specs.declared.fault.NetFault.{NetFault}
+use Rattle.net_model.specs.declared.fault.NetFault.TheVariants as faults
+use Rattle.net_model.specs.declared.standing.Standing.{Standing}
+use Rattle.net_model.specs.Network.{Network}
+use Rattle.net_model.specs.Rules.{IsNetwork}
+use Rattle.net_model.specs.Judging.{InRange, few, judging, Judges}
+use Rattle.net_model.proofs.PublicLaws.{enough_law}
+use Rattle.toml_words.specs.Reading.{◌>>=◌, or_fault, document_of, Gives}
+use Rattle.net_words.specs.declared.sid.DescribedSid.{DescribedSid}
+use Rattle.net_words.specs.declared.description.Description.{Description}
+use Rattle.net_words.specs.Description.{description_of, description_in}
+use Rattle.net_joining.specs.Joining.{joined}
+use Rattle.net_reader.specs.Standings.{standing_of, standings_of}
+use Rattle.net_reader.specs.Reading.{judged_network, net_in}
+use Rattle.net_reader.proofs.YieldLemmas.{Yields, yielded, yields-behind, yields-next}
+use Rattle.net_reader.proofs.DescribedLemmas.{Fits, description-fits}
+use Rattle.net_reader.proofs.RangeLemmas.{in_range}
+
+-- ---- standings
+
+pub standings-more : (sids : List DescribedSid) (i : ℕ) (d : DescribedSid) (standings : List Standing) (standing : Standing)
+    → standings ≡ map standing_of (take i sids) → i < length sids → standing ≡ standing_of (get_or sids i d)
+    → standings ++ standing ∷ [] ≡ map standing_of (take (i + 1) sids)
+standings-more sids i d standings standing so_far within is =
+    ap (λ front. front ++ standing ∷ []) so_far ∙ ap (λ last. map standing_of (take i sids) ++ last ∷ []) is
+    ∙ sym (map_more standing_of sids i d within)
+
+pub ruleset standing = (standings-more)
+
+-- ---- what a text describes
+
+text_fits : (text : List ℕ) → Yields Fits (description_in text)
+text_fits text = yields-behind Fits (or_fault faults.NotToml (document_of text)) _ description-fits
+
+said_fits : (text : List ℕ) (said : Description) → description_in text ≡ Ok said → Fits said
+said_fits text said is = yielded Fits (description_in text) said (text_fits text) is
+
+pub said_in_range : (text : List ℕ) (said : Description) → description_in text ≡ Ok said → InRange (joined said)
+said_in_range text said is = in_range said (said_fits text said is)
+
+pub said_few : (text : List ℕ) (said : Description) → description_in text ≡ Ok said
+    → (length said.nodes < 2 ^ 32) × (length said.links < 2 ^ 32) × (length said.policies < 2 ^ 32) × (length said.sids < 2 ^ 32)
+said_few text said is =
+    let fits = said_fits text said is in
+    let nodes : length said.nodes ≤ MAX_NODES = leb-true _ _ (and_parts _ _ fits.nodes).0 in
+    let links : length said.links ≤ MAX_LINKS = leb-true _ _ (and_parts _ _ fits.links).0 in
+    let policies : length said.policies ≤ MAX_POLICIES = leb-true _ _ (and_parts _ _ fits.policies).0 in
+    let sids : length said.sids ≤ MAX_SIDS = leb-true _ _ (and_parts _ _ fits.sids).0 in
+    (omega (arith, nodes), omega (arith, links), omega (arith, policies), omega (arith, sids))
+
+-- ---- what is read
+
+pub read-judged : (text : List ℕ) (said : Description) (r : Result Network NetFault) → description_in text ≡ Ok said
+    → Judges r (judging (joined said) (standings_of said)) → IfOk r (λ net. net ≡ joined said) → Gives (λ net. net) r (net_in text)
+read-judged text said (Ok net) is fine same =
+    ap (λ d. ◌>>=◌ d judged_network) is ∙ ap (λ u. ◌>>=◌ u (λ v. Ok (joined said))) fine ∙ ap Ok (sym same)
+read-judged text said (Err fault) is first same = λ other.
+    ap (λ d. ◌>>=◌ d judged_network) is ∙ ap (λ u. ◌>>=◌ u (λ v. Ok (joined said))) (first other)
+
+pub read-refused : (text : List ℕ) (fault : NetFault) → description_in text ≡ Err fault → net_in text ≡ Err fault
+read-refused text fault is = ap (λ d. ◌>>=◌ d judged_network) is
+
+pub ruleset reading = (read-judged, read-refused)
+
+-- ---- laws
+
+none_read : {X : Type 0} (fault : NetFault) (x : X) → Err fault ≡ Ok x → ⊥
+none_read fault x e = cc
+
+by_parts : (text : List ℕ) (net : Network) (d : Result Description NetFault) → description_in text ≡ d → ◌>>=◌ d judged_network ≡ Ok net
+    → (said : Description) × (description_in text ≡ Ok said) × (judging (joined said) (standings_of said) ≡ Ok tt) × (joined said ≡ net)
+by_parts text net (Err fault) is e = absurd (none_read fault net e)
+by_parts text net (Ok said) is e = by_judging (judging (joined said) (standings_of said)) refl e
+  where
+    by_judging : (r : Result (Unit {0}) NetFault) → judging (joined said) (standings_of said) ≡ r
+        → ◌>>=◌ r (λ v. Ok (joined said)) ≡ Ok net
+        → (said : Description) × (description_in text ≡ Ok said) × (judging (joined said) (standings_of said) ≡ Ok tt) × (joined said ≡ net)
+    by_judging (Ok u) fine e = let same : joined said ≡ net = cc in (said, is, fine, same)
+    by_judging (Err fault) fine e = absurd (none_read fault net e)
+
+from_parts : (text : List ℕ) (net : Network) (said : Description) → description_in text ≡ Ok said
+    → judging (joined said) (standings_of said) ≡ Ok tt → joined said ≡ net → net_in text ≡ Ok net
+from_parts text net said is fine same =
+    ap (λ d. ◌>>=◌ d judged_network) is ∙ ap (λ u. ◌>>=◌ u (λ v. Ok (joined said))) fine ∙ ap Ok same
+
+pub exact-networks : (text : List ℕ) (net : Network) → (net_in text ≡ Ok net)
+    ↔ ((said : Description) × (description_in text ≡ Ok said) × (judging (joined said) (standings_of said) ≡ Ok tt) × (joined said ≡ net))
+exact-networks text net =
+    (λ e. by_parts text net (description_in text) refl e, λ h. from_parts text net h.0 h.1 h.2 h.3)
+
+pub kept-rules : (text : List ℕ) (net : Network) → net_in text ≡ Ok net → IsNetwork net
+kept-rules text net e =
+    let h = by_parts text net (description_in text) refl e in
+    rw (← h.3) (enough_law (joined h.0) (standings_of h.0) (said_in_range text h.0 h.1) h.2)
+
+pub ruleset networks = (exact-networks, kept-rules)

@@ -1,0 +1,17 @@
+use Rattle.net_reader.proofs.ReadLemmas.{said_few, said_in_range}
+use Rattle.net_reader.proofs.read.read_net.Goals as goal
+
+pub join-requires-clause-few_nodes : goal.join-requires-clause-few_nodes
+join-requires-clause-few_nodes c = (said_few c.args.text.now c.in_ok-said.said c.in_ok-said.ensures).0
+
+pub join-requires-clause-few_links : goal.join-requires-clause-few_links
+join-requires-clause-few_links c = (said_few c.args.text.now c.in_ok-said.said c.in_ok-said.ensures).1
+
+pub join-requires-clause-few_policies : goal.join-requires-clause-few_policies
+join-requires-clause-few_policies c = (said_few c.args.text.now c.in_ok-said.said c.in_ok-said.ensures).2
+
+pub join-requires-clause-few_sids : goal.join-requires-clause-few_sids
+join-requires-clause-few_sids c = (said_few c.args.text.now c.in_ok-said.said c.in_ok-said.ensures).3
+
+pub judged-requires : goal.judged-requires
+judged-requires c = rw c.in_ok-parts.ensures (said_in_range c.args.text.now c.in_ok-said.said c.in_ok-said.ensures)

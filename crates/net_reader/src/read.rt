@@ -1,0 +1,28 @@
+//! From the text of a description to its network.
+
+ghost use Rattle.toml_words.specs.Reading.{Gives};
+ghost use Rattle.net_reader.specs.Reading.{net_in};
+
+use crate::standings::standings;
+use net_joining::join;
+use net_model::{Net, NetFault};
+use net_words::read_description;
+use std::alloc::Global;
+
+/// The network that a description's text gives, or its first fault (own rules).
+///
+/// `NotToml` comes exactly where the bytes are not UTF-8 or not TOML. Else the faults of shape come
+/// first: `UnknownKey` of the whole, and then those of the tables block, node, link, route, policy
+/// and sid in this order, as `net_words::describe` says them. Where there is none, the faults of the
+/// parts come, the tables once more in this order, as `net_model::Net::judged` says them: so each
+/// fault of shape stands before each `DoubleName`, `DoublePrefix`, `UnknownName` and
+/// `BadStructure`. `NoMemory` may come at any time, and says nothing about the text.
+#[tactic(auto, using(crate::proofs::ReadLemmas::reading))]
+pub fn read_net(alloc: Global, text: &[u8]) -> Result<Net, NetFault>
+    ensures { Gives (λ net. net) result (net_in text.now) }
+{
+    let said = read_description(alloc, text)?;
+    let standings = standings(alloc, said.sids.as_slice())?;
+    let parts = join(alloc, &said)?;
+    Net::judged(alloc, parts, standings.as_slice())
+}
