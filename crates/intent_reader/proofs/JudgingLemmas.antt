@@ -20,8 +20,8 @@ use Rattle.intent_reader.specs.Described.{InRange}
 use Rattle.intent_reader.specs.Judging.{step_named, astray, steps_from, intent_with, judged}
 
 -- a value that is given has the fact
-record Holds {X : Type 0} (fact : X → Type 0) (r : Result X IntentFault) : Type 0 where
-  given : (x : X) → r ≡ Ok x → fact x
+pub record Holds {X : Type 0} (fact : X → Type 0) (r : Result X IntentFault) : Type 0 where
+  pub given : (x : X) → r ≡ Ok x → fact x
 
 value : {X : Type 0} → Result X IntentFault → Option X
 value (Ok x) = Some x
@@ -34,20 +34,20 @@ same_Ok x y e = same_Some x y (ap value e)
 of_fault : {X : Type 0} (fact : X → Type 0) (fault : IntentFault) → Holds fact (Err fault)
 of_fault fact fault = record { given = λ x h. absurd (let no : ◌≡◌ {A = Result _ IntentFault} (Err fault) (Ok x) = h in cc) }
 
-of_value : {X : Type 0} (fact : X → Type 0) (x : X) → fact x → Holds fact (Ok x)
+pub of_value : {X : Type 0} (fact : X → Type 0) (x : X) → fact x → Holds fact (Ok x)
 of_value fact x f = record { given = λ y h. subst fact (same_Ok x y h) f }
 
-after : {X Y : Type 0} (fact : Y → Type 0) (r : Result X IntentFault) (next : X → Result Y IntentFault)
+pub after : {X Y : Type 0} (fact : Y → Type 0) (r : Result X IntentFault) (next : X → Result Y IntentFault)
     → ((x : X) → r ≡ Ok x → Holds fact (next x)) → Holds fact (◌>>=◌ r next)
 after fact (Ok x) next each = each x refl
 after fact (Err fault) next each = of_fault fact fault
 
-tested : {X : Type 0} (fact : X → Type 0) (b : Bool) (x : X) (fault : IntentFault) → (b ≡ true → fact x)
+pub tested : {X : Type 0} (fact : X → Type 0) (b : Bool) (x : X) (fault : IntentFault) → (b ≡ true → fact x)
     → Holds fact (cond b (Ok x) (Err fault))
 tested fact true x fault f = of_value fact x (f refl)
 tested fact false x fault f = of_fault fact fault
 
-found : {X : Type 0} (fault : IntentFault) (o : Option X) (x : X) → or_fault fault o ≡ Ok x → o ≡ Some x
+pub found : {X : Type 0} (fault : IntentFault) (o : Option X) (x : X) → or_fault fault o ≡ Ok x → o ≡ Some x
 found fault None x h = absurd (let no : ◌≡◌ {A = Result _ IntentFault} (Err fault) (Ok x) = h in cc)
 found fault (Some y) x h = ap Some (same_Ok y x h)
 

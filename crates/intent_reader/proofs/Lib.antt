@@ -6,3 +6,4 @@ pub mod KeepsLemmas
 pub mod RangeLemmas
 pub mod JudgingLemmas
 pub mod FaultLemmas
+pub mod NoFaultLemmas

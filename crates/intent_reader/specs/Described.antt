@@ -1,8 +1,18 @@
--- What holds of what an intent's text says.
-use Rattle.std.specs.Prelude.{◌≤◌, length}
+-- What holds of what an intent's text says, and the intent over its names whether or not it keeps the rules.
+use Rattle.std.specs.Prelude.{◌≤◌, List, [], ◌∷◌, length, Option, Some, option_map}
+use Rattle.std.specs.Option.{option_and_then}
 use Rattle.net_model.specs.declared.limits.TheConstants.{LAST_FLOW_LABEL}
+use Rattle.net_model.specs.Network.{Network}
+use Rattle.net_model.specs.Named.{node_numbered, link_numbered}
 use Rattle.net_words.specs.declared.limits.TheConstants.{MAX_STEPS, MAX_CONTAINERS}
+use Rattle.net_words.specs.declared.step.DescribedStep.{DescribedStep}
+use Rattle.net_words.specs.declared.step.DescribedStep.TheVariants as described
 use Rattle.net_words.specs.declared.intent.DescribedIntent.{DescribedIntent}
+use Rattle.intent_reader.specs.declared.intent.Step.{Step}
+use Rattle.intent_reader.specs.declared.intent.Step.TheVariants.{Links, Function}
+use Rattle.intent_reader.specs.declared.intent.Intent.{Intent}
+use Rattle.intent_reader.specs.Functions.{function_numbered}
+use Rattle.intent_reader.specs.Judging.{intent_with}
 
 -- its numbers are in their ranges, and it has some steps, but not too many
 pub record InRange (d : DescribedIntent) : Type 0 where
@@ -12,3 +22,19 @@ pub record InRange (d : DescribedIntent) : Type 0 where
   pub flow_label : d.flow_label ≤ LAST_FLOW_LABEL
   pub some_steps : 1 ≤ length d.steps
   pub most_steps : length d.steps ≤ MAX_STEPS
+
+-- what each item of a list gives, if each gives something
+abbrev pub all_some : {X Y : Type 0} → (X → Option Y) → List X → Option (List Y)
+all_some give [] = Some []
+all_some give (x ∷ xs) = option_and_then (λ y. option_map (λ ys. y ∷ ys) (all_some give xs)) (give x)
+
+-- a step over the numbers of its names, if each is known
+abbrev pub step_by_names : Network → DescribedStep → Option Step
+step_by_names net (described.Links names) = option_map Links (all_some (λ name. link_numbered name net.links) names)
+step_by_names net (described.Function title) = option_map Function (function_numbered title net)
+
+-- the intent over the numbers of its names, if each is known
+abbrev pub intent_by_names : Network → DescribedIntent → Option Intent
+intent_by_names net d = option_and_then
+    (λ headend. option_map (intent_with d headend) (all_some (step_by_names net) d.steps))
+    (node_numbered d.headend net.nodes)

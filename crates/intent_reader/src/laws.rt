@@ -1,12 +1,22 @@
 //! Laws of the definitions: each is the contract of an empty function.
 
-ghost use Rattle.std.specs.Prelude.{◌≡◌, ◌<◌, ℕ, List, length, Some};
+ghost use Rattle.std.specs.Prelude.{◌≡◌, ◌↔◌, ◌<◌, ℕ, List, length, Some, Ok};
 ghost use Rattle.net_model.specs.Network.{Network};
 ghost use Rattle.net_model.specs.Keeps.{Keeps};
+ghost use Rattle.net_words.specs.declared.intent.DescribedIntent.{DescribedIntent};
 ghost use Rattle.intent_reader.specs.declared.intent.Step.{Step};
 ghost use Rattle.intent_reader.specs.declared.intent.Intent.{Intent};
 ghost use Rattle.intent_reader.specs.Rules.{IsIntent, node_after, stand_after};
 ghost use Rattle.intent_reader.specs.Keeps.{Steps, KeepsIntent};
+ghost use Rattle.intent_reader.specs.Described.{InRange, intent_by_names};
+ghost use Rattle.intent_reader.specs.Judging.{judged};
+
+/// What a text says gives an intent in a network, without a fault, exactly where all its names are
+/// known and the intent over their numbers keeps the rules.
+pub fn no_fault_is_keeping_the_rules()
+    ensures { (net : Network) (d : DescribedIntent) (i : Intent) → InRange d
+        → (judged net d ≡ Ok i) ↔ ((intent_by_names net d ≡ Some i) × IsIntent net i) }
+{}
 
 /// An intent that keeps the rules in a network has its headend there, its numbers in their ranges,
 /// and 1 to 48 steps; the walk stands at a node before and after each of them, and the last is a

@@ -16,6 +16,11 @@ mod steps;
 
 pub use fault::IntentFault;
 pub use intent::{Intent, Step, Steps};
-pub use laws::{intents_have_walks, steps_lead_on, walks_stay_at_nodes};
+pub use laws::{
+    intents_have_walks, no_fault_is_keeping_the_rules, steps_lead_on, walks_stay_at_nodes,
+};
 pub use read::read_intent;
 pub use rules::is_intent;
+
+#[cfg(test)]
+mod tests;
