@@ -1,13 +1,9 @@
 -- The intent in a network that a description gives, or its first fault (own rules): first the headend, then the steps in their
 -- order, each from the node where the one before it ended, and last whether the last step is a function.
 use Rattle.std.specs.Prelude.{ℕ, suc, Bool, true, false, List, [], ◌∷◌, Result, Ok}
-use Rattle.srv6_rules.specs.declared.sid.Family.{Family}
-use Rattle.srv6_rules.specs.declared.sid.Family.TheVariants as families
 use Rattle.net_model.specs.Network.{Network}
 use Rattle.net_model.specs.Named.{node_numbered, link_numbered}
 use Rattle.net_model.specs.Rules.{are_distinct, same_number}
-use Rattle.net_words.specs.declared.prefixes.Family.TheVariants as family_words
-use Rattle.net_words.specs.declared.prefixes.Family as words
 use Rattle.net_words.specs.declared.intent.Mode.{Mode}
 use Rattle.net_words.specs.declared.intent.Mode.TheVariants as modes
 use Rattle.net_words.specs.declared.step.DescribedStep.{DescribedStep}
@@ -55,10 +51,6 @@ steps_from net k node (d ∷ ds) = do
 
 -- ---- the whole
 
-abbrev pub family_of : words.Family → Family
-family_of family_words.V6 = families.V6
-family_of family_words.V4 = families.V4
-
 -- whether the first segment is left out of the segment routing header (RFC 8986 section 5.2)
 abbrev pub is_reduced : Mode → Bool
 is_reduced modes.Full = false
@@ -69,7 +61,7 @@ abbrev pub intent_with : DescribedIntent → ℕ → List Step → Intent
 intent_with d headend steps = record {
   headend = headend;
   source = d.source;
-  inner = family_of d.inner;
+  inner = d.inner;
   reduced = is_reduced d.mode;
   hop_limit = d.hop_limit;
   max_containers = d.max_containers;

@@ -5,7 +5,7 @@ ghost use Rattle.net_model.specs.declared.fault.NetFault.TheVariants as net_faul
 ghost use Rattle.net_words.specs.Intent.{intent_in};
 ghost use Rattle.intent_reader.specs.declared.fault.IntentFault.TheVariants as faults;
 ghost use Rattle.intent_reader.specs.Reading.{of_text, Gives};
-ghost use Rattle.intent_reader.specs.Judging.{family_of, is_reduced, judged, intent_of_text};
+ghost use Rattle.intent_reader.specs.Judging.{is_reduced, judged, intent_of_text};
 ghost use Rattle.intent_reader.specs.Described.{InRange};
 ghost use Rattle.intent_reader.specs.Rules.{IsIntent};
 
@@ -16,18 +16,7 @@ use crate::rules::ends_in_function;
 use crate::steps::steps_from;
 use net_model::{Net, NetFault};
 use net_words::{DescribedIntent, Mode};
-use srv6_rules::Family;
 use std::alloc::Global;
-
-/// The family of an intent's packets.
-fn family_of(family: net_words::Family) -> Family
-    ensures { result ≡ family_of family }
-{
-    match family {
-        net_words::Family::V6 => Family::V6,
-        net_words::Family::V4 => Family::V4,
-    }
-}
 
 /// Whether a form is the reduced one.
 fn is_reduced(mode: Mode) -> bool
@@ -63,7 +52,7 @@ fn judged(alloc: Global, net: &Net, described: DescribedIntent) -> Result<Intent
     Ok(Intent {
         headend,
         source: described.source,
-        inner: family_of(described.inner),
+        inner: described.inner,
         reduced: is_reduced(described.mode),
         hop_limit: described.hop_limit,
         max_containers: described.max_containers,

@@ -167,6 +167,7 @@ yields-node p t =
     true_any : {X : Type 0} (r : Result X NetFault) → Yields (λ x. true ≡ true) r
     true_any (Ok x) = refl
     true_any (Err fault) = tt
+
     any_number : (p : FaultPlace) (k : Key) (d : Data) → Yields (λ n. true ≡ true) (number_in 0 LAST_OCTET p k d)
     any_number p k d = true_any (number_in 0 LAST_OCTET p k d)
 

@@ -93,7 +93,10 @@ link = [{ name = "l", from = "A" }]
 "#;
 
 fn expect_ground(rt: &impl Abort, net: &Net) {
-    assert_eq!(rt; (net.blocks(), net.block(0).prefix.len(), net.block(0).csid), (1, 32, 16));
+    assert_eq!(rt;
+        (net.blocks(), net.block(0).prefix.len(), net.block(0).csid),
+        (1, 32, 16)
+    );
     assert_eq!(rt; net.nodes(), 2);
     assert_eq!(rt;
         net.node(1).address.value,
@@ -112,7 +115,10 @@ fn expect_ways(rt: &impl Abort, net: &Net) {
     assert_eq!(rt; (route.node, route.table, route.family), (0, 0, Family::V6));
     assert_eq!(rt; route.via.as_slice(), [0].as_slice());
     let route = net.route(1);
-    assert_eq!(rt; (route.node, route.table, route.family), (1, 100, Family::V4));
+    assert_eq!(rt;
+        (route.node, route.table, route.family),
+        (1, 100, Family::V4)
+    );
     assert_eq!(rt; route.via.as_slice(), [2, 1].as_slice());
     assert_eq!(rt; net.policies(), 2);
     assert_eq!(rt; net.policy(1).segments.as_slice().len(), 2);
@@ -122,7 +128,10 @@ fn expect_ways(rt: &impl Abort, net: &Net) {
 fn expect_sids(rt: &impl Abort, net: &Net) {
     assert_eq!(rt; (net.sids(), net.titles()), (4, 3));
     let sid = net.sid(0);
-    assert_eq!(rt; (sid.node, sid.behaviour, sid.csid), (1, Behaviour::End, Csid::Next));
+    assert_eq!(rt;
+        (sid.node, sid.behaviour, sid.csid),
+        (1, Behaviour::End, Csid::Next)
+    );
     assert_eq!(rt; (sid.block_len, sid.title), (32, Some(0)));
     assert_eq!(rt; (sid.psp, sid.usp, sid.usd), (true, false, true));
     let sid = net.sid(1);
@@ -178,10 +187,7 @@ fn first_faults_of_shape(rt: HostRuntime) -> Result<(), Fail> {
             "node = [{ name = \"A\" }]\nlink = [{ x = 1 }]",
             node.missing_key(Key::Address),
         ),
-        (
-            "node = [{ name = 1, address = \"x\" }]",
-            node.wrong_kind(),
-        ),
+        ("node = [{ name = 1, address = \"x\" }]", node.wrong_kind()),
         (
             "node = [{ name = \"A b\", address = \"x\" }]",
             node.bad_name(),
