@@ -11,21 +11,24 @@ use Rattle.pcap_io.specs.declared.fault.CaptureFault.{CaptureFault}
 use Rattle.pcap_io.specs.declared.head.CaptureHead.{CaptureHead}
 use Rattle.pcap_io.specs.Head.{head_of}
 use Rattle.net_model.specs.Network.{Network}
-use Rattle.net_reader.specs.declared.fault.NetFault.{NetFault}
-use Rattle.net_reader.specs.declared.fault.NetFault.TheVariants as nets
-use Rattle.net_reader.specs.Reading.{ReadsAs}
+use Rattle.net_model.specs.declared.fault.NetFault.{NetFault}
+use Rattle.net_model.specs.declared.fault.NetFault.TheVariants as nets
+use Rattle.toml_words.specs.Reading.{Gives as ReadsAs}
+use Rattle.net_reader.specs.Reading.{net_in}
 use Rattle.intent_reader.specs.declared.intent.Intent.{Intent}
 use Rattle.intent_reader.specs.declared.fault.IntentFault.{IntentFault}
 use Rattle.intent_reader.specs.declared.fault.IntentFault.TheVariants as intents
-use Rattle.intent_reader.specs.Reading.{ReadsAs as ReadsIntentAs}
+use Rattle.intent_reader.specs.Reading.{Gives as ReadsIntentAs}
+use Rattle.intent_reader.specs.Judging.{intent_of_text}
 use Rattle.srv6_cli.specs.declared.limits.TheConstants.{FILE_LIMIT, INPUT_LIMIT}
 use Rattle.srv6_cli.specs.declared.packets.Packets.{Packets}
 use Rattle.srv6_cli.specs.declared.packets.Packets.TheVariants.{Bare, Capture}
+use Rattle.srv6_cli.specs.declared.halt.Halt.TheVariants as halts
 use Rattle.srv6_cli.specs.declared.refusal.Refusal.{Refusal}
 use Rattle.srv6_cli.specs.declared.refusal.Refusal.TheVariants as refusals
 use Rattle.srv6_cli.specs.Answers.{JudgesFile, JudgesInput}
 use Rattle.srv6_cli.specs.Halts.{halt_of_net, halt_of_intent, halt_of_draw, halt_of_refusal}
-use Rattle.srv6_cli.specs.Judgements.{network_in, intent_in}
+use Rattle.srv6_cli.specs.Judgements.{network_by, network_in, intent_by, intent_in}
 use Rattle.srv6_cli.specs.Outside.{AsksForFront}
 use Rattle.srv6_cli.specs.Packets.{packets_in, is_bare}
 
@@ -41,48 +44,93 @@ judged-text judge judged text name (Some held) reads is =
 asks-one : (name : List ℕ) (old new : FilesSeen) → new ≡ asked_for name old → AsksForFront (name ∷ []) old new
 asks-one name old new seen = record { names = name ∷ []; front = record { rest = []; whole = refl }; seen = seen }
 
--- a text within the limit that was read as the description of a network
+-- a text within the limit that was read as the description of a network, or has a fault
 
-network-read : (net : Network) (text : List ℕ) → length text ≤ FILE_LIMIT → ReadsAs text (Ok net) → network_in text ≡ Ok net
-network-read net text fits h =
+net-small : (text : List ℕ) (read : Result Network NetFault) → length text ≤ FILE_LIMIT → net_in text ≡ read
+    → network_in text ≡ network_by read
+net-small text read fits is =
     let small : nat_lt FILE_LIMIT (length text) ≡ false = le-ltb FILE_LIMIT (length text) fits in
-    rw (small, h.1, h.2) refl
+    rw small (ap network_by is)
 
 pub network_judged : (net : Network) (text name : List ℕ) (old new : FilesSeen) → length text ≤ FILE_LIMIT
-    → IfSome old.told (λ files. file_named files name ≡ Some text) → new ≡ asked_for name old → ReadsAs text (Ok net)
+    → IfSome old.told (λ files. file_named files name ≡ Some text) → new ≡ asked_for name old → ReadsAs (λ n. n) (Ok net) (net_in text)
     → JudgesFile network_in name (Ok net) old new
 network_judged net text name old new fits reads seen h =
-    (judged-text network_in (Ok net) text name old.told reads (network-read net text fits h), seen)
+    (judged-text network_in (Ok net) text name old.told reads (net-small text (Ok net) fits h), seen)
+
+net-fault : (fault : NetFault) (text name : List ℕ) (old new : FilesSeen) → length text ≤ FILE_LIMIT
+    → IfSome old.told (λ files. file_named files name ≡ Some text) → new ≡ asked_for name old → net_in text ≡ Err fault
+    → JudgesFile network_in name (Err (halts.Refused (refusals.Net fault))) old new
+net-fault fault text name old new fits reads seen is =
+    (judged-text network_in (Err (refusals.Net fault)) text name old.told reads (net-small text (Err fault) fits is), seen)
 
 pub network_refused : (fault : NetFault) (text name : List ℕ) (old new : FilesSeen) → length text ≤ FILE_LIMIT
-    → IfSome old.told (λ files. file_named files name ≡ Some text) → new ≡ asked_for name old → ReadsAs text (Err fault)
+    → IfSome old.told (λ files. file_named files name ≡ Some text) → new ≡ asked_for name old → ReadsAs (λ (n : Network). n) (Err fault) (net_in text)
     → JudgesFile network_in name (Err (halt_of_net fault)) old new
 network_refused nets.NotToml text name old new fits reads seen h =
-    let small : nat_lt FILE_LIMIT (length text) ≡ false = le-ltb FILE_LIMIT (length text) fits in
-    (judged-text network_in (Err refusals.NotToml) text name old.told reads (rw (small, h) refl), seen)
-network_refused nets.NotBuilt text name old new fits reads seen h =
-    let small : nat_lt FILE_LIMIT (length text) ≡ false = le-ltb FILE_LIMIT (length text) fits in
-    (judged-text network_in (Err refusals.NotBuilt) text name old.told reads (rw (small, h.1, h.2) refl), seen)
+    net-fault nets.NotToml text name old new fits reads seen (h (λ e. cc))
+network_refused (nets.MissingKey table item key) text name old new fits reads seen h =
+    net-fault (nets.MissingKey table item key) text name old new fits reads seen (h (λ e. cc))
+network_refused (nets.WrongKind table item) text name old new fits reads seen h =
+    net-fault (nets.WrongKind table item) text name old new fits reads seen (h (λ e. cc))
+network_refused (nets.UnknownKey table item) text name old new fits reads seen h =
+    net-fault (nets.UnknownKey table item) text name old new fits reads seen (h (λ e. cc))
+network_refused (nets.BadName table item) text name old new fits reads seen h =
+    net-fault (nets.BadName table item) text name old new fits reads seen (h (λ e. cc))
+network_refused (nets.UnknownName table item) text name old new fits reads seen h =
+    net-fault (nets.UnknownName table item) text name old new fits reads seen (h (λ e. cc))
+network_refused (nets.DoubleName table item) text name old new fits reads seen h =
+    net-fault (nets.DoubleName table item) text name old new fits reads seen (h (λ e. cc))
+network_refused (nets.BadAddress table item) text name old new fits reads seen h =
+    net-fault (nets.BadAddress table item) text name old new fits reads seen (h (λ e. cc))
+network_refused (nets.BadFlavour table item) text name old new fits reads seen h =
+    net-fault (nets.BadFlavour table item) text name old new fits reads seen (h (λ e. cc))
+network_refused (nets.BadStructure table item) text name old new fits reads seen h =
+    net-fault (nets.BadStructure table item) text name old new fits reads seen (h (λ e. cc))
+network_refused (nets.DoublePrefix table item) text name old new fits reads seen h =
+    net-fault (nets.DoublePrefix table item) text name old new fits reads seen (h (λ e. cc))
+network_refused (nets.Limit table item what value) text name old new fits reads seen h =
+    net-fault (nets.Limit table item what value) text name old new fits reads seen (h (λ e. cc))
 network_refused nets.NoMemory text name old new fits reads seen h = asks-one name old new seen
 
 -- the same of an intent
 
+intent-small : (net : Network) (text : List ℕ) (read : Result Intent IntentFault) → length text ≤ FILE_LIMIT
+    → intent_of_text net text ≡ read
+    → intent_in net text ≡ intent_by read
+intent-small net text read fits is =
+    let small : nat_lt FILE_LIMIT (length text) ≡ false = le-ltb FILE_LIMIT (length text) fits in
+    rw small (ap intent_by is)
+
 pub intent_judged : (net : Network) (intent : Intent) (text name : List ℕ) (old new : FilesSeen) → length text ≤ FILE_LIMIT
-    → IfSome old.told (λ files. file_named files name ≡ Some text) → new ≡ asked_for name old → ReadsIntentAs net text (Ok intent)
+    → IfSome old.told (λ files. file_named files name ≡ Some text) → new ≡ asked_for name old
+    → ReadsIntentAs (λ i. i) (Ok intent) (intent_of_text net text)
     → JudgesFile (intent_in net) name (Ok intent) old new
 intent_judged net intent text name old new fits reads seen h =
-    let small : nat_lt FILE_LIMIT (length text) ≡ false = le-ltb FILE_LIMIT (length text) fits in
-    (judged-text (intent_in net) (Ok intent) text name old.told reads (rw (small, h.1, h.2) refl), seen)
+    (judged-text (intent_in net) (Ok intent) text name old.told reads (intent-small net text (Ok intent) fits h), seen)
+
+intent-fault : (net : Network) (fault : IntentFault) (text name : List ℕ) (old new : FilesSeen) → length text ≤ FILE_LIMIT
+    → IfSome old.told (λ files. file_named files name ≡ Some text) → new ≡ asked_for name old → intent_of_text net text ≡ Err fault
+    → JudgesFile (intent_in net) name (Err (halts.Refused (refusals.Intent fault))) old new
+intent-fault net fault text name old new fits reads seen is =
+    (judged-text (intent_in net) (Err (refusals.Intent fault)) text name old.told reads (intent-small net text (Err fault) fits is), seen)
 
 pub intent_refused : (net : Network) (fault : IntentFault) (text name : List ℕ) (old new : FilesSeen) → length text ≤ FILE_LIMIT
-    → IfSome old.told (λ files. file_named files name ≡ Some text) → new ≡ asked_for name old → ReadsIntentAs net text (Err fault)
+    → IfSome old.told (λ files. file_named files name ≡ Some text) → new ≡ asked_for name old
+    → ReadsIntentAs (λ (i : Intent). i) (Err fault) (intent_of_text net text)
     → JudgesFile (intent_in net) name (Err (halt_of_intent fault)) old new
-intent_refused net intents.NotToml text name old new fits reads seen h =
-    let small : nat_lt FILE_LIMIT (length text) ≡ false = le-ltb FILE_LIMIT (length text) fits in
-    (judged-text (intent_in net) (Err refusals.IntentNotToml) text name old.told reads (rw (small, h) refl), seen)
-intent_refused net intents.NotBuilt text name old new fits reads seen h =
-    let small : nat_lt FILE_LIMIT (length text) ≡ false = le-ltb FILE_LIMIT (length text) fits in
-    (judged-text (intent_in net) (Err refusals.NotBuilt) text name old.told reads (rw (small, h.1, h.2) refl), seen)
+intent_refused net (intents.Text fault) text name old new fits reads seen h =
+    intent-fault net (intents.Text fault) text name old new fits reads seen (h (λ e. cc))
+intent_refused net (intents.UnknownName step) text name old new fits reads seen h =
+    intent-fault net (intents.UnknownName step) text name old new fits reads seen (h (λ e. cc))
+intent_refused net (intents.Broken step) text name old new fits reads seen h =
+    intent-fault net (intents.Broken step) text name old new fits reads seen (h (λ e. cc))
+intent_refused net (intents.NoFunction step) text name old new fits reads seen h =
+    intent-fault net (intents.NoFunction step) text name old new fits reads seen (h (λ e. cc))
+intent_refused net intents.NotFunctionLast text name old new fits reads seen h =
+    intent-fault net intents.NotFunctionLast text name old new fits reads seen (h (λ e. cc))
+intent_refused net (intents.DoubleLink step) text name old new fits reads seen h =
+    intent-fault net (intents.DoubleLink step) text name old new fits reads seen (h (λ e. cc))
 intent_refused net intents.NoMemory text name old new fits reads seen h = asks-one name old new seen
 
 pub ruleset files = (network_judged, network_refused, intent_judged, intent_refused)

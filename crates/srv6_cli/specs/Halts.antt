@@ -5,8 +5,8 @@ use Rattle.srx_edge.specs.declared.input.DrawFault.{DrawFault}
 use Rattle.srx_edge.specs.declared.input.DrawFault.TheVariants as draws
 use Rattle.srx_edge.specs.declared.output.PourFault.{PourFault}
 use Rattle.srx_edge.specs.declared.output.PourFault.TheVariants as pours
-use Rattle.net_reader.specs.declared.fault.NetFault.{NetFault}
-use Rattle.net_reader.specs.declared.fault.NetFault.TheVariants as nets
+use Rattle.net_model.specs.declared.fault.NetFault.{NetFault}
+use Rattle.net_model.specs.declared.fault.NetFault.TheVariants as nets
 use Rattle.intent_reader.specs.declared.fault.IntentFault.{IntentFault}
 use Rattle.intent_reader.specs.declared.fault.IntentFault.TheVariants as intents
 use Rattle.srv6_cli.specs.declared.halt.Failure.{Failure}
@@ -40,11 +40,25 @@ halt_of_draw (draws.TooBig limit) = halts.Refused (refusals.TooBig limit)
 halt_of_draw draws.NoMemory = halts.Failed failures.NoMemory
 
 abbrev pub halt_of_net : NetFault → Halt
-halt_of_net nets.NotToml = halts.Refused refusals.NotToml
-halt_of_net nets.NotBuilt = halts.Refused refusals.NotBuilt
+halt_of_net nets.NotToml = halts.Refused (refusals.Net nets.NotToml)
+halt_of_net (nets.MissingKey table item key) = halts.Refused (refusals.Net (nets.MissingKey table item key))
+halt_of_net (nets.WrongKind table item) = halts.Refused (refusals.Net (nets.WrongKind table item))
+halt_of_net (nets.UnknownKey table item) = halts.Refused (refusals.Net (nets.UnknownKey table item))
+halt_of_net (nets.BadName table item) = halts.Refused (refusals.Net (nets.BadName table item))
+halt_of_net (nets.UnknownName table item) = halts.Refused (refusals.Net (nets.UnknownName table item))
+halt_of_net (nets.DoubleName table item) = halts.Refused (refusals.Net (nets.DoubleName table item))
+halt_of_net (nets.BadAddress table item) = halts.Refused (refusals.Net (nets.BadAddress table item))
+halt_of_net (nets.BadFlavour table item) = halts.Refused (refusals.Net (nets.BadFlavour table item))
+halt_of_net (nets.BadStructure table item) = halts.Refused (refusals.Net (nets.BadStructure table item))
+halt_of_net (nets.DoublePrefix table item) = halts.Refused (refusals.Net (nets.DoublePrefix table item))
+halt_of_net (nets.Limit table item what value) = halts.Refused (refusals.Net (nets.Limit table item what value))
 halt_of_net nets.NoMemory = halts.Failed failures.NoMemory
 
 abbrev pub halt_of_intent : IntentFault → Halt
-halt_of_intent intents.NotToml = halts.Refused refusals.IntentNotToml
-halt_of_intent intents.NotBuilt = halts.Refused refusals.NotBuilt
+halt_of_intent (intents.Text fault) = halts.Refused (refusals.Intent (intents.Text fault))
+halt_of_intent (intents.UnknownName step) = halts.Refused (refusals.Intent (intents.UnknownName step))
+halt_of_intent (intents.Broken step) = halts.Refused (refusals.Intent (intents.Broken step))
+halt_of_intent (intents.NoFunction step) = halts.Refused (refusals.Intent (intents.NoFunction step))
+halt_of_intent intents.NotFunctionLast = halts.Refused (refusals.Intent intents.NotFunctionLast)
+halt_of_intent (intents.DoubleLink step) = halts.Refused (refusals.Intent (intents.DoubleLink step))
 halt_of_intent intents.NoMemory = halts.Failed failures.NoMemory

@@ -1,12 +1,12 @@
 -- The judgements of files and words: what each gives, or its refusal.
 use Rattle.std.specs.Prelude.{ℕ, nat_lt, if◌then◌else◌, List, [], ◌∷◌, ◌++◌, length, Option, Some, None, Result, Ok, Err}
-use Rattle.toml.specs.Data.{Members}
+use Rattle.net_model.specs.declared.fault.NetFault.{NetFault}
 use Rattle.net_model.specs.Network.{Network}
 use Rattle.net_model.specs.Named.{node_numbered}
-use Rattle.net_reader.specs.Reading.{document_of}
-use Rattle.net_reader.specs.Description.{network_of_document}
+use Rattle.net_reader.specs.Reading.{net_in}
 use Rattle.intent_reader.specs.declared.intent.Intent.{Intent}
-use Rattle.intent_reader.specs.Document.{intent_of_document}
+use Rattle.intent_reader.specs.declared.fault.IntentFault.{IntentFault}
+use Rattle.intent_reader.specs.Judging.{intent_of_text}
 use Rattle.srv6_cli.specs.declared.limits.TheConstants.{FILE_LIMIT}
 use Rattle.srv6_cli.specs.declared.refusal.Refusal.{Refusal}
 use Rattle.srv6_cli.specs.declared.refusal.Refusal.TheVariants as refusals
@@ -14,18 +14,18 @@ use Rattle.srv6_cli.specs.declared.status.Status.TheVariants as statuses
 use Rattle.srv6_cli.specs.Lines.{refusal_line}
 use Rattle.srv6_cli.specs.Pieces.{Piece, ForErr, Output}
 
--- the network of a description
+-- a fault as the refusal that tells it
+abbrev pub refused_as : {A F : Type 0} → (F → Refusal) → Result A F → Result A Refusal
+refused_as refusal (Ok a) = Ok a
+refused_as refusal (Err fault) = Err (refusal fault)
 
-abbrev pub network_or : Option Network → Result Network Refusal
-network_or None = Err refusals.NotBuilt
-network_or (Some net) = Ok net
+-- the network of a description, or its first fault
 
-abbrev pub network_by : Option Members → Result Network Refusal
-network_by None = Err refusals.NotToml
-network_by (Some document) = network_or (network_of_document document)
+abbrev pub network_by : Result Network NetFault → Result Network Refusal
+network_by read = refused_as (λ fault. refusals.Net fault) read
 
 abbrev pub network_in : List ℕ → Result Network Refusal
-network_in text = if nat_lt FILE_LIMIT (length text) then Err (refusals.TooBig FILE_LIMIT) else network_by (document_of text)
+network_in text = if nat_lt FILE_LIMIT (length text) then Err (refusals.TooBig FILE_LIMIT) else network_by (net_in text)
 
 -- the number of the node of a name
 
@@ -36,18 +36,14 @@ node_or (Some node) = Ok node
 abbrev pub node_in : Network → List ℕ → Result ℕ Refusal
 node_in net name = node_or (node_numbered name net.nodes)
 
--- the intent that a text gives in a network
+-- the intent that a text gives in a network, or its first fault
 
-abbrev pub intent_or : Option Intent → Result Intent Refusal
-intent_or None = Err refusals.NotBuilt
-intent_or (Some intent) = Ok intent
-
-abbrev pub intent_by : Network → Option Members → Result Intent Refusal
-intent_by net None = Err refusals.IntentNotToml
-intent_by net (Some document) = intent_or (intent_of_document net document)
+abbrev pub intent_by : Result Intent IntentFault → Result Intent Refusal
+intent_by read = refused_as (λ fault. refusals.Intent fault) read
 
 abbrev pub intent_in : Network → List ℕ → Result Intent Refusal
-intent_in net text = if nat_lt FILE_LIMIT (length text) then Err (refusals.TooBig FILE_LIMIT) else intent_by net (document_of text)
+intent_in net text =
+    if nat_lt FILE_LIMIT (length text) then Err (refusals.TooBig FILE_LIMIT) else intent_by (intent_of_text net text)
 
 -- the output of a refusal: its line
 abbrev pub refused : Refusal → Output

@@ -5,7 +5,7 @@ ghost use Rattle.std.specs.Prelude.{◌≡◌};
 use crate::refusal::Refusal;
 use base::NoMemory;
 use intent_reader::IntentFault;
-use net_reader::NetFault;
+use net_model::NetFault;
 use srx_edge::{DrawFault, FileFault, PourFault};
 use std::alloc::AllocError;
 
@@ -125,9 +125,19 @@ impl From<NetFault> for Halt {
 
     fn from(fault: NetFault) -> Halt {
         match fault {
-            NetFault::NotToml => Halt::Refused(Refusal::NotToml),
-            NetFault::NotBuilt => Halt::Refused(Refusal::NotBuilt),
             NetFault::NoMemory => Halt::Failed(Failure::NoMemory),
+            NetFault::NotToml
+            | NetFault::MissingKey { .. }
+            | NetFault::WrongKind { .. }
+            | NetFault::UnknownKey { .. }
+            | NetFault::BadName { .. }
+            | NetFault::UnknownName { .. }
+            | NetFault::DoubleName { .. }
+            | NetFault::BadAddress { .. }
+            | NetFault::BadFlavour { .. }
+            | NetFault::BadStructure { .. }
+            | NetFault::DoublePrefix { .. }
+            | NetFault::Limit { .. } => Halt::Refused(Refusal::Net(fault)),
         }
     }
 }
@@ -139,9 +149,13 @@ impl From<IntentFault> for Halt {
 
     fn from(fault: IntentFault) -> Halt {
         match fault {
-            IntentFault::NotToml => Halt::Refused(Refusal::IntentNotToml),
-            IntentFault::NotBuilt => Halt::Refused(Refusal::NotBuilt),
             IntentFault::NoMemory => Halt::Failed(Failure::NoMemory),
+            IntentFault::Text(_)
+            | IntentFault::UnknownName { .. }
+            | IntentFault::Broken { .. }
+            | IntentFault::NoFunction { .. }
+            | IntentFault::NotFunctionLast
+            | IntentFault::DoubleLink { .. } => Halt::Refused(Refusal::Intent(fault)),
         }
     }
 }

@@ -1,5 +1,10 @@
 //! Why a command is refused.
 
+ghost use Rattle.std.specs.Prelude.{◌≡◌};
+ghost use Rattle.srv6_cli.specs.Lines.{fault_number};
+
+use intent_reader::IntentFault;
+use net_model::NetFault;
 use pcap_io::CaptureFault;
 use std::fmt;
 use v6_addr::Prefix;
@@ -19,10 +24,11 @@ pub enum Refusal {
         /// The frame's number, from 1.
         frame: u32,
     },
-    /// 21: the description isn't TOML.
-    NotToml,
-    /// 33: the intent isn't TOML.
-    IntentNotToml,
+    /// 21 to 32: the description gives no network; the first fault, which is never `NoMemory`.
+    Net(NetFault),
+    /// 33 to 38: the intent's text gives no intent in the network; the first fault, which is never
+    /// `NoMemory`.
+    Intent(IntentFault),
     /// 39: no node has the name.
     BadNode,
     /// 41: an entry's prefix lies strictly inside a SID's.
@@ -32,8 +38,93 @@ pub enum Refusal {
         /// The prefix inside.
         inner: Prefix,
     },
-    /// 90: a form that isn't built yet.
+    /// 90: `compile` doesn't take the network or the intent yet: nodes don't run one of the SIDs, or
+    /// the packets of the intent are IPv4.
     NotBuilt,
+}
+
+/// The number of a fault of a text; want of memory, which is no refusal, has none. (own rule)
+fn number_of(fault: NetFault) -> u8
+    ensures { result ≡ fault_number fault }
+{
+    match fault {
+        NetFault::NotToml => 21,
+        NetFault::MissingKey { .. } => 22,
+        NetFault::WrongKind { .. } => 23,
+        NetFault::UnknownKey { .. } => 24,
+        NetFault::BadName { .. } => 25,
+        NetFault::UnknownName { .. } => 26,
+        NetFault::DoubleName { .. } => 27,
+        NetFault::BadAddress { .. } => 28,
+        NetFault::BadFlavour { .. } => 29,
+        NetFault::BadStructure { .. } => 30,
+        NetFault::DoublePrefix { .. } => 31,
+        NetFault::Limit { .. } => 32,
+        NetFault::NoMemory => 0,
+    }
+}
+
+/// A fault of a text as a refusal tells it.
+struct FaultText {
+    fault: NetFault,
+}
+
+/// The fault's name and its fields; the key and the number of a limit aren't told. (own rule)
+impl fmt::Display for FaultText {
+    ghost use Rattle.std.specs.Prelude.{Some};
+    ghost use Rattle.srv6_cli.specs.Lines.{fault_text};
+
+    ghost output = { λ text. Some (fault_text text.fault) };
+
+    #[tactic(auto, unfolding(crate::specs::Lines::fault_text))]
+    fn fmt<W: fmt::Write>(&self, f: &mut fmt::Formatter<W>) -> fmt::Result {
+        match &self.fault {
+            NetFault::NotToml => write!(f, "NotToml"),
+            NetFault::MissingKey { table, item, key } => {
+                write!(f, "MissingKey {table} {item} {key}")
+            }
+            NetFault::WrongKind { table, item } => write!(f, "WrongKind {table} {item}"),
+            NetFault::UnknownKey { table, item } => write!(f, "UnknownKey {table} {item}"),
+            NetFault::BadName { table, item } => write!(f, "BadName {table} {item}"),
+            NetFault::UnknownName { table, item } => write!(f, "UnknownName {table} {item}"),
+            NetFault::DoubleName { table, item } => write!(f, "DoubleName {table} {item}"),
+            NetFault::BadAddress { table, item } => write!(f, "BadAddress {table} {item}"),
+            NetFault::BadFlavour { table, item } => write!(f, "BadFlavour {table} {item}"),
+            NetFault::BadStructure { table, item } => write!(f, "BadStructure {table} {item}"),
+            NetFault::DoublePrefix { table, item } => write!(f, "DoublePrefix {table} {item}"),
+            NetFault::Limit { table, item, .. } => write!(f, "Limit {table} {item}"),
+            NetFault::NoMemory => write!(f, "NoMemory"),
+        }
+    }
+}
+
+/// A fault of an intent as a refusal tells it.
+struct IntentFaultText {
+    fault: IntentFault,
+}
+
+/// The fault's number, its name and its fields. (own rule)
+impl fmt::Display for IntentFaultText {
+    ghost use Rattle.std.specs.Prelude.{Some};
+    ghost use Rattle.srv6_cli.specs.Lines.{intent_fault_text};
+
+    ghost output = { λ text. Some (intent_fault_text text.fault) };
+
+    #[tactic(auto, unfolding(crate::specs::Lines::intent_fault_text))]
+    fn fmt<W: fmt::Write>(&self, f: &mut fmt::Formatter<W>) -> fmt::Result {
+        match &self.fault {
+            IntentFault::Text(fault) => {
+                let text = FaultText { fault: *fault };
+                write!(f, "refused 33 Text {text}")
+            }
+            IntentFault::UnknownName { step } => write!(f, "refused 34 UnknownName {step}"),
+            IntentFault::Broken { step } => write!(f, "refused 35 Broken {step}"),
+            IntentFault::NoFunction { step } => write!(f, "refused 36 NoFunction {step}"),
+            IntentFault::NotFunctionLast => write!(f, "refused 37 NotFunctionLast"),
+            IntentFault::DoubleLink { step } => write!(f, "refused 38 DoubleLink {step}"),
+            IntentFault::NoMemory => write!(f, "refused 0 NoMemory"),
+        }
+    }
 }
 
 /// The refusal's number, its name, and its fields. (own rule)
@@ -56,8 +147,15 @@ impl fmt::Display for Refusal {
             Refusal::Capture(CaptureFault::CutHead) => write!(f, "refused 15 CutHead"),
             Refusal::Capture(CaptureFault::FrameLimit) => write!(f, "refused 17 FrameLimit"),
             Refusal::CutFrame { frame } => write!(f, "refused 16 CutFrame {frame}"),
-            Refusal::NotToml => write!(f, "refused 21 NotToml"),
-            Refusal::IntentNotToml => write!(f, "refused 33 Text NotToml"),
+            Refusal::Net(fault) => {
+                let number = number_of(*fault);
+                let text = FaultText { fault: *fault };
+                write!(f, "refused {number} {text}")
+            }
+            Refusal::Intent(fault) => {
+                let text = IntentFaultText { fault: *fault };
+                write!(f, "{text}")
+            }
             Refusal::BadNode => write!(f, "refused 39 BadNode"),
             Refusal::Nested { outer, inner } => write!(f, "refused 41 Nested {outer} {inner}"),
             Refusal::NotBuilt => write!(f, "refused 90 NotBuilt"),

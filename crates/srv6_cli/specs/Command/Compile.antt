@@ -1,9 +1,12 @@
 -- The command `compile`: a list for the intent of a file in the network that another describes.
-use Rattle.std.specs.Prelude.{◌≡◌, ℕ, Bool, true, false, List, [], ◌∷◌, ◌++◌, codes, Option, Result, Ok, Err, IsSomeAnd, is_ok, ⊤}
-use Rattle.std.specs.List.{flat_map}
+use Rattle.std.specs.Prelude.{◌≡◌, ℕ, Bool, true, false, ◌&&◌, List, [], ◌∷◌, ◌++◌, codes, Option, Result, Ok, Err, IsSomeAnd, is_ok, ⊤}
+use Rattle.std.specs.List.{flat_map, list_all}
 use Rattle.std.specs.Fmt.{decimal}
 use Rattle.v6_addr.specs.Address.{PrefixValue}
 use Rattle.v6_addr.specs.Text.{address_text}
+use Rattle.srv6_rules.specs.declared.sid.Family.{Family}
+use Rattle.srv6_rules.specs.declared.sid.Family.TheVariants as families
+use Rattle.srv6_rules.specs.Behaviours.{is_built}
 use Rattle.net_model.specs.Network.{Network}
 use Rattle.net_model.specs.declared.flat.NotFlat.{NotFlat}
 use Rattle.net_model.specs.declared.flat.NotFlat.TheVariants as flats
@@ -82,11 +85,24 @@ AnswerWants (Err (faults.TooLong found)) output = output ≡ reported (report_of
 AnswerWants (Err (faults.HopLimit found)) output = output ≡ reported (report_of found) (hop_limit_line found.need) statuses.NoAnswer
 AnswerWants (Err faults.NoMemory) output = ⊥
 
--- the description is judged, then the intent, and then any answer of the compiler will do
+-- what the compiler takes so far: a network all of whose SIDs nodes run, and an intent of IPv6 packets
+
+abbrev pub is_ipv6 : Family → Bool
+is_ipv6 families.V6 = true
+is_ipv6 families.V4 = false
+
+abbrev pub takes : Network → Intent → Bool
+takes net intent = is_ipv6 intent.inner && list_all is_built net.sids
+
+-- the description is judged, then the intent, then whether the compiler takes them, and then any answer of it will do
+
+abbrev pub TakenWants : Network → Intent → Bool → Output → Type 0
+TakenWants net intent false output = output ≡ refused refusals.NotBuilt
+TakenWants net intent true output = (answer : Result Compiled CompileFault) × CompileAnswers net intent answer × AnswerWants answer output
 
 abbrev pub IntentWants : Network → Result Intent Refusal → Output → Type 0
 IntentWants net (Err refusal) output = output ≡ refused refusal
-IntentWants net (Ok intent) output = (answer : Result Compiled CompileFault) × CompileAnswers net intent answer × AnswerWants answer output
+IntentWants net (Ok intent) output = TakenWants net intent (takes net intent) output
 
 abbrev pub NetworkWants : Result Network Refusal → Option (List ℕ) → Output → Type 0
 NetworkWants (Err refusal) intent output = output ≡ refused refusal
@@ -113,10 +129,18 @@ compile_shape file intent = record {
 abbrev pub output_of_answer : Answer → Output
 output_of_answer answer = reported (bytes_of_text answer.report) (bytes_of_text answer.told.line) answer.told.status
 
--- what is to be written is what the compiler's answer has
+-- what is to be written is what is wanted
+abbrev pub GivesWanted : (Output → Type 0) → Result Answer Halt → Type 0
+GivesWanted Wants (Ok answer) =
+    Wants (output_of_answer answer) × IsOneOf (statuses.Done ∷ statuses.NoAnswer ∷ []) answer.told.status
+GivesWanted Wants (Err (halts.Refused refusal)) = Wants (refused refusal)
+GivesWanted Wants (Err (halts.Failed failures.Fault)) = ⊥
+GivesWanted Wants (Err (halts.Failed failures.NoMemory)) = ⊤
+
+-- what the compiler's answer has
 abbrev pub Gives : Result Compiled CompileFault → Result Answer Halt → Type 0
-Gives compiled (Ok answer) =
-    AnswerWants compiled (output_of_answer answer) × IsOneOf (statuses.Done ∷ statuses.NoAnswer ∷ []) answer.told.status
-Gives compiled (Err (halts.Refused refusal)) = AnswerWants compiled (refused refusal)
-Gives compiled (Err (halts.Failed failures.Fault)) = ⊥
-Gives compiled (Err (halts.Failed failures.NoMemory)) = ⊤
+Gives compiled answer = GivesWanted (AnswerWants compiled) answer
+
+-- what an intent has in a network
+abbrev pub GivesOf : Network → Intent → Result Answer Halt → Type 0
+GivesOf net intent answer = GivesWanted (IntentWants net (Ok intent)) answer

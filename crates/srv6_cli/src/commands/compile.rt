@@ -1,10 +1,12 @@
 //! The command `compile`: a list for the intent of a file in the network that another describes.
 
 ghost use Rattle.std.specs.Prelude.{◌≡◌, IfOk, string_bytes};
-ghost use Rattle.std.specs.List.{flat_map};
+ghost use Rattle.std.specs.List.{flat_map, list_all};
+ghost use Rattle.srv6_rules.specs.Behaviours.{is_built};
 ghost use Rattle.srv6_cli.specs.Answers.{CommandsUnread};
 ghost use Rattle.srv6_cli.specs.Words.{Compile};
-ghost use Rattle.srv6_cli.specs.Command.Compile.{container_address, container_line, numbers_lines, report_of};
+ghost use Rattle.intent_reader.specs.Rules.{IsIntent};
+ghost use Rattle.srv6_cli.specs.Command.Compile.{container_address, container_line, is_ipv6, numbers_lines, report_of, takes};
 ghost use Rattle.srv6_cli.specs.Lines.{bytes_of_text};
 
 use crate::halt::{Failure, Halt};
@@ -13,9 +15,11 @@ use crate::refusal::Refusal;
 use crate::status::Status;
 use crate::told::{Text, Told};
 use crate::walk::write_all;
+use intent_reader::Intent;
 use leg_table::Container;
-use net_model::NotFlat;
+use net_model::{Net, NotFlat};
 use path_compiler::{CompileFault, Compiled};
+use srv6_rules::Family;
 use srx_edge::{Files, Sink};
 use std::alloc::{AllocError, Global};
 use v6_addr::Addr;
@@ -75,6 +79,34 @@ fn report_of_list(alloc: Global, compiled: &Compiled) -> Result<String, AllocErr
     Ok(report)
 }
 
+/// Whether a family is IPv6.
+fn is_ipv6(family: Family) -> bool
+    ensures { result ≡ is_ipv6 family }
+{
+    matches!(family, Family::V6)
+}
+
+/// Whether nodes run all SIDs of the network.
+#[tactic(auto, using(crate::proofs::SidSearches::passing))]
+fn runs_all(net: &Net) -> bool
+    ensures { result ≡ list_all is_built net.now.sids }
+{
+    for n in 0..net.sids() {
+        if !net.sid(n).is_built() {
+            return false;
+        }
+    }
+    true
+}
+
+/// Whether the compiler takes the network and the intent: nodes run all SIDs, and the packets are
+/// IPv6. (own rule)
+fn takes(net: &Net, intent: &Intent) -> bool
+    ensures { result ≡ takes net.now intent.now }
+{
+    is_ipv6(intent.inner) && runs_all(net)
+}
+
 /// What `compile` has to write: its report on `out`, and what it has to say.
 #[derive(Drop)]
 struct Answer {
@@ -83,7 +115,7 @@ struct Answer {
 }
 
 impl Answer {
-    ghost use Rattle.srv6_cli.specs.Command.Compile.{reported, no_report, none_line, too_long_line, hop_limit_line, output_of_answer, Gives};
+    ghost use Rattle.srv6_cli.specs.Command.Compile.{reported, no_report, none_line, too_long_line, hop_limit_line, output_of_answer, Gives, GivesOf};
 
     /// The answer of a list that was found.
     fn of_list(
@@ -155,6 +187,20 @@ impl Answer {
             Err(CompileFault::NoMemory) => Err(Halt::Failed(Failure::NoMemory)),
         }
     }
+
+    /// What is to be written of an intent in a network: the compiler's answer, or the refusal of
+    /// what it does not take yet.
+    #[tactic(auto, using(crate::proofs::Compiling::taken))]
+    fn of_intent(alloc: Global, net: &Net, intent: &Intent) -> Result<Answer, Halt>
+        requires { IsIntent net.now intent.now }
+        ensures { GivesOf net.now intent.now result }
+    {
+        if !takes(net, intent) {
+            return Err(Halt::Refused(Refusal::NotBuilt));
+        }
+        let compiled = path_compiler::compile(alloc, net, intent);
+        Answer::of_compiled(alloc, &compiled)
+    }
 }
 
 /// Compiles the intent of a file in the network that another describes. The description is judged,
@@ -172,8 +218,7 @@ pub fn compile<F: Files, O: Sink>(
 {
     let net = network_of_file(alloc, files, file)?;
     let intent = intent_of_file(alloc, files, &net, intent)?;
-    let compiled = path_compiler::compile(alloc, &net, &intent);
-    let answer = Answer::of_compiled(alloc, &compiled)?;
+    let answer = Answer::of_intent(alloc, &net, &intent)?;
     write_all(out, answer.report.as_bytes())?;
     let Answer { told, .. } = answer;
     Ok(told)

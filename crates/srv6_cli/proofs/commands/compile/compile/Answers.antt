@@ -8,9 +8,6 @@ use Rattle.srx_edge.specs.Sinks.{SinkSeen, sent}
 use Rattle.srx_edge.specs.Steps.{Whole, How, Wrote}
 use Rattle.net_model.specs.Network.{Network}
 use Rattle.intent_reader.specs.declared.intent.Intent.{Intent}
-use Rattle.path_compiler.specs.declared.compiled.Compiled.{Compiled}
-use Rattle.path_compiler.specs.declared.compiled.CompileFault.{CompileFault}
-use Rattle.path_compiler.specs.Compiled.{CompileAnswers}
 use Rattle.srv6_cli.specs.declared.commands.compile.Answer.{Answer}
 use Rattle.srv6_cli.specs.declared.halt.Failure.{Failure}
 use Rattle.srv6_cli.specs.declared.halt.Failure.TheVariants as failures
@@ -21,7 +18,7 @@ use Rattle.srv6_cli.specs.declared.status.Status.{Status}
 use Rattle.srv6_cli.specs.declared.status.Status.TheVariants as statuses
 use Rattle.srv6_cli.specs.Answers.{ending_of_failure, JudgesFile, CommandsUnread}
 use Rattle.srv6_cli.specs.Words.{Compile}
-use Rattle.srv6_cli.specs.Command.Compile.{AnswerWants, IntentWants, NetworkWants, asks_for_intent, compile_shape, output_of_answer, Gives}
+use Rattle.srv6_cli.specs.Command.Compile.{IntentWants, NetworkWants, asks_for_intent, compile_shape, output_of_answer, GivesOf}
 use Rattle.srv6_cli.specs.Judgements.{network_in, intent_in, refused}
 use Rattle.srv6_cli.specs.Lines.{bytes_of_text}
 use Rattle.srv6_cli.specs.Outside.{IsFrontOf, Asks, Reads, asked_for_all, files_left_by}
@@ -143,21 +140,20 @@ module _ (file intent : List ℕ) where
         (names-ok net f.told judged.0))
         (h.seen ∙ ap (asked_for_all h.names) judged.1)) refl)
 
-    module _ (value : Intent) (read : JudgesFile (intent_in net) intent (Ok value) mid g) (compiled : Result Compiled CompileFault)
-        (answers : CompileAnswers net value compiled) where
-      wants-answer : (left : Option (List ℕ)) (output : Output) → AnswerWants compiled output
+    module _ (value : Intent) (read : JudgesFile (intent_in net) intent (Ok value) mid g) where
+      wants-answer : (left : Option (List ℕ)) (output : Output) → IntentWants net (Ok value) output
           → WantedOf (compile_shape file intent) f.told left output
-      wants-answer left output w = wants-intent (Ok value) left output read.0 (compiled, answers, w)
+      wants-answer left output w = wants-intent (Ok value) left output read.0 w
 
-      -- the network isn't flat, or memory was wanting
-      pub compile_halted_at_answer : (halt : Halt) → Gives compiled (Err halt) → CommandsUnread (Compile file intent) (Err halt) f g o o
+      -- the compiler doesn't take the intent, the network isn't flat, or memory was wanting
+      pub compile_halted_at_answer : (halt : Halt) → GivesOf net value (Err halt) → CommandsUnread (Compile file intent) (Err halt) f g o o
       compile_halted_at_answer (halts.Refused refusal) h = λ s. refused_commands (Compile file intent) refusal f g s s o
           (wants-answer s.left (refused refusal) h) (inr (inl refl)) (takes Never f g s (asks-both Never read.1) refl)
       compile_halted_at_answer (halts.Failed failures.Fault) h = absurd h
       compile_halted_at_answer (halts.Failed failures.NoMemory) h = λ s. memory_wants (Compile file intent) f g s s o
           (takes Elsewhere f g s (asks-both Elsewhere read.1) refl)
 
-      module _ (answer : Answer) (gives : Gives compiled (Ok answer)) where
+      module _ (answer : Answer) (gives : GivesOf net value (Ok answer)) where
         takes-how : (s : SourceSeen) (how : Option How) → Takes (compile_shape file intent) (stop_at ToOut how) f g s s
         takes-how s None = takes Elsewhere f g s (asks-both Elsewhere read.1) refl
         takes-how s (Some how) = takes (At ToOut how) f g s (asks-both (At ToOut how) read.1) refl
@@ -197,7 +193,6 @@ returns-in_err-answer g c =
     rw (p.1, p.2) (compile_halted_at_answer c.args.file.now c.args.intent.now _ _ _
     (g.O.Sink.seen c.args.out.now) (g.O.Sink.seen c.args.out.now)
     c.in_ok-net.net c.in_ok-net.ensures c.in_ok-intent.intent c.in_ok-intent.ensures.judged
-    c.compile-compiled.result c.compile-compiled.ensures
     c.in_err-answer.field-0.0 c.in_err-answer.ensures)
 
 pub returns-in_err-write_all : goal.returns-in_err-write_all
@@ -205,7 +200,6 @@ returns-in_err-write_all g c =
     let p = err_from_is_err_and c.from_residual-in_err-write_all.result c.from_residual-in_err-write_all.ensures.1 in
     rw (p.1, p.2) (compile_halted_at_out c.args.file.now c.args.intent.now _ _ _ _ _
     c.in_ok-net.net c.in_ok-net.ensures c.in_ok-intent.intent c.in_ok-intent.ensures.judged
-    c.compile-compiled.result c.compile-compiled.ensures
     c.in_ok-answer.answer c.in_ok-answer.ensures c.in_err-write_all.field-0.0
     (rw c.as_bytes.ensures at c.in_err-write_all.ensures))
 
@@ -213,5 +207,4 @@ pub returns : goal.returns
 returns g c =
     compile_done c.args.file.now c.args.intent.now _ _ _ _ _
     c.in_ok-net.net c.in_ok-net.ensures c.in_ok-intent.intent c.in_ok-intent.ensures.judged
-    c.compile-compiled.result c.compile-compiled.ensures
     c.in_ok-answer.answer c.in_ok-answer.ensures (rw c.as_bytes.ensures at c.in_ok-write_all.ensures)
