@@ -28,5 +28,6 @@ pub joined_from : (said : Description) (ns ls ps : List (List ℕ)) (blocks : Li
     → nodes ≡ map joined_node said.nodes → links ≡ map (joined_link ns) said.links → routes ≡ map (joined_route ns ls) said.routes
     → policies ≡ map joined_policy said.policies → titles ≡ filter_map title_in said.sids
     → sids ≡ joined_sids ns ls ps blocks 0 said.sids → parts_of blocks nodes links routes policies titles sids ≡ joined said
-joined_from said ns ls ps blocks nodes links routes policies titles sids n l p b are_nodes are_links are_routes are_policies are_titles are_sids =
+joined_from said ns ls ps blocks nodes links routes policies titles sids n l p b are_nodes are_links are_routes are_policies are_titles
+    are_sids =
     rw (are_sids, are_titles, are_policies, are_routes, are_links, are_nodes, b, n, l, p) refl

@@ -40,7 +40,8 @@ module _ (nodes links policies : List (List ℕ)) (blocks : List Block) where
       ∙ ap (λ m. joined_sids nodes links policies blocks (behind_title n first.title) ss
       ++ joined_sid nodes links policies blocks m s ∷ []) (titles_counted n first.title (filter_map title_in ss)))
 
-  pub entries-more : (sids : List DescribedSid) (i : ℕ) (d : DescribedSid) (titles : List (List ℕ)) (entries : List SidEntry) (entry : SidEntry)
+  pub entries-more : (sids : List DescribedSid) (i : ℕ) (d : DescribedSid) (titles : List (List ℕ)) (entries : List SidEntry)
+      (entry : SidEntry)
       → i < length sids → titles ≡ filter_map title_in (take i sids) → entries ≡ joined_sids nodes links policies blocks 0 (take i sids)
       → entry ≡ joined_sid nodes links policies blocks (length titles) (get_or sids i d)
       → entries ++ entry ∷ [] ≡ joined_sids nodes links policies blocks 0 (take (i + 1) sids)

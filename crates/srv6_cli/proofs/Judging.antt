@@ -65,7 +65,8 @@ net-fault fault text name old new fits reads seen is =
     (judged-text network_in (Err (refusals.Net fault)) text name old.told reads (net-small text (Err fault) fits is), seen)
 
 pub network_refused : (fault : NetFault) (text name : List ℕ) (old new : FilesSeen) → length text ≤ FILE_LIMIT
-    → IfSome old.told (λ files. file_named files name ≡ Some text) → new ≡ asked_for name old → ReadsAs (λ (n : Network). n) (Err fault) (net_in text)
+    → IfSome old.told (λ files. file_named files name ≡ Some text) → new ≡ asked_for name old
+    → ReadsAs (λ (n : Network). n) (Err fault) (net_in text)
     → JudgesFile network_in name (Err (halt_of_net fault)) old new
 network_refused nets.NotToml text name old new fits reads seen h =
     net-fault nets.NotToml text name old new fits reads seen (h (λ e. cc))
