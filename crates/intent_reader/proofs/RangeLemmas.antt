@@ -45,7 +45,8 @@ after : {X Y : Type 0} (fact : Y → Type 0) (r : Result X NetFault) (next : X �
 after fact (Ok x) next each = each x refl
 after fact (Err fault) next each = of_fault fact fault
 
-tested : {X : Type 0} (fact : X → Type 0) (b : Bool) (x : X) (fault : NetFault) → (b ≡ true → fact x) → Holds fact (cond b (Ok x) (Err fault))
+tested : {X : Type 0} (fact : X → Type 0) (b : Bool) (x : X) (fault : NetFault) → (b ≡ true → fact x)
+    → Holds fact (cond b (Ok x) (Err fault))
 tested fact true x fault f = of_value fact x (f refl)
 tested fact false x fault f = of_fault fact fault
 
