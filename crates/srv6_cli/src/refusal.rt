@@ -65,6 +65,7 @@ fn number_of(fault: NetFault) -> u8
 }
 
 /// A fault of a text as a refusal tells it.
+#[derive(Clone, Copy)]
 struct FaultText {
     fault: NetFault,
 }
@@ -99,6 +100,7 @@ impl fmt::Display for FaultText {
 }
 
 /// A fault of an intent as a refusal tells it.
+#[derive(Clone, Copy)]
 struct IntentFaultText {
     fault: IntentFault,
 }
