@@ -125,7 +125,7 @@ module _ (nodes links policies : List (List ℕ)) (blocks : List Block) where
       and_from _ _ (sid_joined n count s titles e parts.0)
       (sids_joined (behind_title n s.title) count ss (behind n s.title titles count e) parts.1)
 
-  as_many : (n : ℕ) (ss : List DescribedSid) → length (joined_sids nodes links policies blocks n ss) ≡ length ss
+  pub as_many : (n : ℕ) (ss : List DescribedSid) → length (joined_sids nodes links policies blocks n ss) ≡ length ss
   as_many n [] = refl
   as_many n (s ∷ ss) = ap suc (as_many (behind_title n s.title) ss)
 

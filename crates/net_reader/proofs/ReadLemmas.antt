@@ -1,8 +1,8 @@
 -- From what a text describes to its network, or to its first fault.
-use Rattle.std.proofs.Common.{◌≡◌, ◌≢◌, ◌∙◌, ◌↔◌, ℕ, ◌+◌, ◌<◌, ◌≤◌, ◌^◌, List, [], ◌∷◌, ◌++◌, length, take, map, get_or, refl, sym, ap, arith}
+use Rattle.std.proofs.Common.{◌≡◌, ◌≢◌, ◌∙◌, ◌↔◌, ℕ, ◌+◌, ◌<◌, ◌≤◌, ◌^◌, List, [], ◌∷◌, ◌++◌, length, take, map, get_or, refl, sym, ap, subst, arith}
 use Rattle.std.specs.Prelude.{Result, Ok, Err, IfOk}
 use Rattle.std.proofs.lemmas.Bool.{and_parts, leb-true}
-use Rattle.std.proofs.lemmas.List.{map_more}
+use Rattle.std.proofs.lemmas.List.{map_more, length-map}
 use Rattle.net_model.specs.declared.limits.TheConstants.{MAX_NODES, MAX_LINKS, MAX_POLICIES, MAX_SIDS}
 use Rattle.net_model.specs.declared.fault.NetFault.{NetFault}
 use Rattle.net_model.specs.declared.fault.NetFault.TheVariants as faults
@@ -10,17 +10,18 @@ use Rattle.net_model.specs.declared.standing.Standing.{Standing}
 use Rattle.net_model.specs.Network.{Network}
 use Rattle.net_model.specs.Rules.{IsNetwork}
 use Rattle.net_model.specs.Judging.{InRange, few, judging, Judges}
-use Rattle.net_model.proofs.PublicLaws.{enough_law}
+use Rattle.net_model.proofs.PublicLaws.{exact_law, enough_law}
 use Rattle.toml_words.specs.Reading.{◌>>=◌, or_fault, document_of, Gives}
 use Rattle.net_words.specs.declared.sid.DescribedSid.{DescribedSid}
 use Rattle.net_words.specs.declared.description.Description.{Description}
 use Rattle.net_words.specs.Description.{description_of, description_in}
-use Rattle.net_joining.specs.Joining.{joined}
-use Rattle.net_reader.specs.Standings.{standing_of, standings_of}
+use Rattle.net_joining.specs.Joining.{node_names, link_names, policy_names, joined_block, joined}
+use Rattle.net_reader.specs.Standings.{standing_of, standings_of, HaveTheirKeys}
 use Rattle.net_reader.specs.Reading.{judged_network, net_in}
 use Rattle.net_reader.proofs.YieldLemmas.{Yields, yielded, yields-behind, yields-next}
 use Rattle.net_reader.proofs.DescribedLemmas.{Fits, description-fits}
-use Rattle.net_reader.proofs.RangeLemmas.{in_range}
+use Rattle.net_reader.proofs.RangeLemmas.{in_range, as_many}
+use Rattle.net_reader.proofs.ExactLemmas.{well_from, judging_alike}
 
 -- ---- standings
 
@@ -73,30 +74,37 @@ pub ruleset reading = (read-judged, read-refused)
 none_read : {X : Type 0} (fault : NetFault) (x : X) → Err fault ≡ Ok x → ⊥
 none_read fault x e = cc
 
+-- as many SIDs stand as there are entries
+counted : (said : Description) → length (standings_of said) ≡ length (joined said).sids
+counted said =
+    length-map said.sids standing_of
+    ∙ sym (as_many (node_names said) (link_names said) (policy_names said) (map joined_block said.blocks) 0 said.sids)
+
 by_parts : (text : List ℕ) (net : Network) (d : Result Description NetFault) → description_in text ≡ d → ◌>>=◌ d judged_network ≡ Ok net
-    → (said : Description) × (description_in text ≡ Ok said) × (judging (joined said) (standings_of said) ≡ Ok tt) × (joined said ≡ net)
+    → (said : Description) × (description_in text ≡ Ok said) × (joined said ≡ net) × IsNetwork net × HaveTheirKeys said
 by_parts text net (Err fault) is e = absurd (none_read fault net e)
 by_parts text net (Ok said) is e = by_judging (judging (joined said) (standings_of said)) refl e
   where
     by_judging : (r : Result (Unit {0}) NetFault) → judging (joined said) (standings_of said) ≡ r
         → ◌>>=◌ r (λ v. Ok (joined said)) ≡ Ok net
-        → (said : Description) × (description_in text ≡ Ok said) × (judging (joined said) (standings_of said) ≡ Ok tt) × (joined said ≡ net)
-    by_judging (Ok u) fine e = let same : joined said ≡ net = cc in (said, is, fine, same)
+        → (said : Description) × (description_in text ≡ Ok said) × (joined said ≡ net) × IsNetwork net × HaveTheirKeys said
+    by_judging (Ok u) fine e =
+        let same : joined said ≡ net = cc in
+        let rules : IsNetwork (joined said) = enough_law (joined said) (standings_of said) (said_in_range text said is) fine in
+        let P : Network → Type 0 = λ n. IsNetwork n in
+        (said, is, same, subst P same rules, well_from (joined said) (standings_of said) fine (counted said))
     by_judging (Err fault) fine e = absurd (none_read fault net e)
 
-from_parts : (text : List ℕ) (net : Network) (said : Description) → description_in text ≡ Ok said
-    → judging (joined said) (standings_of said) ≡ Ok tt → joined said ≡ net → net_in text ≡ Ok net
-from_parts text net said is fine same =
+from_parts : (text : List ℕ) (net : Network) (said : Description) → description_in text ≡ Ok said → joined said ≡ net → IsNetwork net
+    → HaveTheirKeys said → net_in text ≡ Ok net
+from_parts text net said is same rules keys =
+    let P : Network → Type 0 = λ n. IsNetwork n in
+    let kept : IsNetwork (joined said) = subst P (sym same) rules in
+    let fine : judging (joined said) (standings_of said) ≡ Ok tt =
+    ap (judging (joined said)) keys ∙ judging_alike (joined said) ∙ (exact_law (joined said) (said_in_range text said is)).1 kept in
     ap (λ d. ◌>>=◌ d judged_network) is ∙ ap (λ u. ◌>>=◌ u (λ v. Ok (joined said))) fine ∙ ap Ok same
 
 pub exact-networks : (text : List ℕ) (net : Network) → (net_in text ≡ Ok net)
-    ↔ ((said : Description) × (description_in text ≡ Ok said) × (judging (joined said) (standings_of said) ≡ Ok tt) × (joined said ≡ net))
+    ↔ ((said : Description) × (description_in text ≡ Ok said) × (joined said ≡ net) × IsNetwork net × HaveTheirKeys said)
 exact-networks text net =
-    (λ e. by_parts text net (description_in text) refl e, λ h. from_parts text net h.0 h.1 h.2 h.3)
-
-pub kept-rules : (text : List ℕ) (net : Network) → net_in text ≡ Ok net → IsNetwork net
-kept-rules text net e =
-    let h = by_parts text net (description_in text) refl e in
-    rw (← h.3) (enough_law (joined h.0) (standings_of h.0) (said_in_range text h.0 h.1) h.2)
-
-pub ruleset networks = (exact-networks, kept-rules)
+    (λ e. by_parts text net (description_in text) refl e, λ h. from_parts text net h.0 h.1 h.2 h.3 h.4)

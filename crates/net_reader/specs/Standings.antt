@@ -1,10 +1,12 @@
 -- How the SIDs of a description stand, as far as their entries don't tell (own rules).
-use Rattle.std.specs.Prelude.{ℕ, Bool, true, false, ◌||◌, nat_lt, count_by, List, map, is_some}
+use Rattle.std.specs.Prelude.{◌≡◌, ℕ, Bool, true, false, ◌||◌, nat_lt, count_by, List, map, is_some}
 use Rattle.net_model.specs.declared.standing.Standing.{Standing}
+use Rattle.net_model.specs.Judging.{fitting}
 use Rattle.net_words.specs.declared.sid.DescribedSid.{DescribedSid}
 use Rattle.net_words.specs.declared.sid.Flavour.{Flavour}
 use Rattle.net_words.specs.declared.sid.Flavour.TheVariants.{Psp, Usp, Usd}
 use Rattle.net_words.specs.declared.description.Description.{Description}
+use Rattle.net_joining.specs.Joining.{joined}
 
 abbrev pub same_flavour : Flavour → Flavour → Bool
 same_flavour Psp Psp = true
@@ -35,3 +37,7 @@ standing_of s = record {
 
 abbrev pub standings_of : Description → List Standing
 standings_of said = map standing_of said.sids
+
+-- each SID has the keys that its behaviour takes, and no flavour twice
+abbrev pub HaveTheirKeys : Description → Type 0
+HaveTheirKeys said = standings_of said ≡ map fitting (joined said).sids

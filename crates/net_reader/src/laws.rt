@@ -1,14 +1,14 @@
 //! Laws about the definitions, each the contract of a function that does nothing.
 
-ghost use Rattle.std.specs.Prelude.{◌≡◌, ◌↔◌, ℕ, List, Ok, map, option_map, option_and_then, slice_get};
+ghost use Rattle.std.specs.Prelude.{◌≡◌, ◌↔◌, ℕ, List, Ok, option_map, option_and_then, slice_get};
 ghost use Rattle.toml.specs.Data.{Members};
 ghost use Rattle.net_model.specs.Network.{Network};
 ghost use Rattle.net_model.specs.Rules.{IsNetwork};
-ghost use Rattle.net_model.specs.Judging.{InRange, judging};
+ghost use Rattle.net_model.specs.Judging.{InRange};
 ghost use Rattle.net_words.specs.declared.description.Description.{Description};
 ghost use Rattle.net_words.specs.Description.{description_of, description_in};
 ghost use Rattle.net_joining.specs.Joining.{joined, title_in};
-ghost use Rattle.net_reader.specs.Standings.{standings_of};
+ghost use Rattle.net_reader.specs.Standings.{HaveTheirKeys};
 ghost use Rattle.net_reader.specs.Reading.{net_in};
 
 /// The parts of what a tree describes are in the ranges that judging takes for granted.
@@ -17,14 +17,13 @@ pub fn described_parts_are_in_range()
         → InRange (joined said) }
 {}
 
-/// A text gives a network exactly where it describes something in whose parts no fault is found;
-/// these parts are the network, and it keeps the rules.
-#[tactic(auto, using(crate::proofs::ReadLemmas::networks))]
+/// A text gives a network exactly where it is TOML that describes something, whose parts with
+/// numbers in place of names keep the rules of networks, and whose SIDs have the keys that their
+/// behaviours take and no flavour twice; these parts are the network.
 pub fn networks_keep_the_rules()
-    ensures exact { (text : List ℕ) (net : Network) → (net_in text ≡ Ok net)
-        ↔ ((said : Description) × (description_in text ≡ Ok said)
-        × (judging (joined said) (standings_of said) ≡ Ok tt) × (joined said ≡ net)) }
-    ensures rules { (text : List ℕ) (net : Network) → net_in text ≡ Ok net → IsNetwork net }
+    ensures { (text : List ℕ) (net : Network) → (net_in text ≡ Ok net)
+        ↔ ((said : Description) × (description_in text ≡ Ok said) × (joined said ≡ net)
+        × IsNetwork net × HaveTheirKeys said) }
 {}
 
 /// The title that a SID's number leads to is its own, and a SID without a title has no number

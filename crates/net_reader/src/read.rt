@@ -13,10 +13,9 @@ use std::alloc::Global;
 ///
 /// `NotToml` comes exactly where the bytes are not UTF-8 or not TOML. Else the faults of shape come
 /// first: `UnknownKey` of the whole, and then those of the tables block, node, link, route, policy
-/// and sid in this order, as `net_words::describe` says them. Where there is none, the faults of the
-/// parts come, the tables once more in this order, as `net_model::Net::build` says them: so each
-/// fault of shape stands before each `DoubleName`, `DoublePrefix`, `UnknownName` and
-/// `BadStructure`. `NoMemory` may come at any time, and says nothing about the text.
+/// and sid in this order, as `net_words::describe` says them. Where there is none in any table, the
+/// faults of the parts come, the tables once more in this order, as `net_model::Net::build` says
+/// them. `NoMemory` may come at any time, and says nothing about the text.
 #[tactic(auto, using(crate::proofs::ReadLemmas::reading))]
 pub fn read_net(alloc: Global, text: &[u8]) -> Result<Net, NetFault>
     ensures { Gives (λ net. net) result (net_in text.now) }
