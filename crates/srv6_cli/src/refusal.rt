@@ -38,8 +38,8 @@ pub enum Refusal {
         /// The prefix inside.
         inner: Prefix,
     },
-    /// 90: `compile` doesn't take the network or the intent yet: nodes don't run one of the SIDs, or
-    /// the packets of the intent are IPv4.
+    /// 90: `compile` doesn't take the network or the intent yet: nodes don't run one of the SIDs,
+    /// or the packets of the intent are IPv4.
     NotBuilt,
 }
 
