@@ -249,7 +249,7 @@ fn end_t_looks_the_next_segment_up_in_its_table(rt: HostRuntime) -> Result<(), F
         how: How::Arrived { table: 0 },
         family: Family::V6,
     };
-    let outcome = stage(&net, &place, &mut content, 0);
+    let outcome = stage(&net, &place, &mut content, 0, &mut IcmpSlot::new());
     let how = How::Submitted { table: 5 };
     assert_eq!(rt; outcome, Outcome::Again { sid: 0, how });
     Ok(())
