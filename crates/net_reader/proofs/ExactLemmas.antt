@@ -128,7 +128,8 @@ module _ (net : Network) (ks : List Standing) where
       behind_ok (judged tables.Policy judge_policy [] net.policies) sids
       (behind_ok (judged tables.Route (judge_route (length net.nodes) net.links) [] net.routes) policies
       (behind_ok (judged tables.Link (judge_link (length net.nodes)) [] net.links) routes
-      (behind_ok (judged tables.Node judge_node [] net.nodes) links (behind_ok (judged tables.Block judge_block [] net.blocks) nodes e)))) in
+      (behind_ok (judged tables.Node judge_node [] net.nodes) links
+      (behind_ok (judged tables.Block judge_block [] net.blocks) nodes e)))) in
       all_stand_well [] ks [] net.sids refl refl as_many last
 
 -- SIDs that stand as their behaviours take them are judged as with no standings

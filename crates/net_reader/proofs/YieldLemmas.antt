@@ -97,7 +97,8 @@ yields-each test read n (x ∷ xs) each =
 yields-count : (p : FaultPlace) (k : Key) (most count : ℕ) → Yields (λ n. nat_le count most ≡ true) (count_in p k most count)
 yields-count p k most count = yields-if (λ n. nat_le count most ≡ true) (nat_le count most) count _ (λ e. e)
 
-yields-few : {X : Type 0} (p : FaultPlace) (k : Key) (most : ℕ) (xs : List X) → Yields (λ ys. nat_le (length ys) most ≡ true) (few p k most xs)
+yields-few : {X : Type 0} (p : FaultPlace) (k : Key) (most : ℕ) (xs : List X)
+    → Yields (λ ys. nat_le (length ys) most ≡ true) (few p k most xs)
 yields-few p k most xs =
     yields-next (λ n. nat_le (length xs) most ≡ true) (λ ys. nat_le (length ys) most ≡ true) (count_in p k most (length xs)) _
     (yields-count p k most (length xs)) (λ n short. short)

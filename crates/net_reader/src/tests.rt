@@ -93,10 +93,9 @@ link = [{ name = "l", from = "A" }]
 "#;
 
 fn expect_ground(rt: &impl Abort, net: &Net) {
-    assert_eq!(rt;
-        (net.blocks(), net.block(0).prefix.len(), net.block(0).csid),
-        (1, 32, 16)
-    );
+    assert_eq!(rt; net.blocks(), 1);
+    let block = net.block(0);
+    assert_eq!(rt; (block.prefix.len(), block.csid), (32, 16));
     assert_eq!(rt; net.nodes(), 2);
     assert_eq!(rt;
         net.node(1).address.value,
@@ -126,7 +125,8 @@ fn expect_ways(rt: &impl Abort, net: &Net) {
 }
 
 fn expect_sids(rt: &impl Abort, net: &Net) {
-    assert_eq!(rt; (net.sids(), net.titles()), (4, 3));
+    assert_eq!(rt; net.sids(), 4);
+    assert_eq!(rt; net.titles(), 3);
     let sid = net.sid(0);
     assert_eq!(rt;
         (sid.node, sid.behaviour, sid.csid),
