@@ -1,5 +1,5 @@
 -- What the items of a description are, whatever tree they are read from.
-use Rattle.std.proofs.Common.{◌≡◌, ◌∙◌, ◌↔◌, ℕ, ◌≤◌, Bool, true, false, ◌&&◌, ◌||◌, nat_le, List, [], ◌∷◌, length, Option, Some, None, option_map, refl, sym, ap}
+use Rattle.std.proofs.Common.{◌≡◌, ℕ, Bool, true, false, ◌&&◌, nat_le, List, [], ◌∷◌, length, Option, Some, None, option_map, refl}
 use Rattle.std.specs.Prelude.{ℤ, pos, negsuc, Result, Ok, Err, if◌then◌else◌}
 use Rattle.std.proofs.lemmas.Bool.{and_from, and_parts, le-leb, lt-ltb, eq-eqb}
 use Rattle.toml.specs.Data.{Data, Members}
@@ -12,7 +12,6 @@ use Rattle.v6_addr.specs.declared.address.Addr.{Addr}
 use Rattle.v6_addr.proofs.GrammarLaws.{address_text_is}
 use Rattle.v6_addr.proofs.PrefixGrammar.{address_below, prefix_text_is}
 use Rattle.v6_addr.proofs.PublicLaws.{prefix4_text_is}
-use Rattle.srv6_rules.specs.declared.sid.Family.{Family}
 use Rattle.srv6_rules.specs.declared.sid.Family.TheVariants.{V6, V4}
 use Rattle.srv6_rules.specs.declared.sid.Csid.TheVariants.{Plain}
 use Rattle.net_model.specs.declared.fault.FaultPlace.{FaultPlace}
@@ -21,10 +20,9 @@ use Rattle.net_model.specs.declared.fault.Key.TheVariants as keys
 use Rattle.net_model.specs.declared.fault.TableKind.TheVariants as tables
 use Rattle.net_model.specs.declared.fault.NetFault.{NetFault}
 use Rattle.net_model.specs.declared.fault.NetFault.TheVariants as faults
-use Rattle.net_model.specs.declared.limits.TheConstants.{MAX_BLOCKS, MAX_NODES, MAX_LINKS, MAX_ROUTES, MAX_POLICIES, MAX_SIDS, MAX_ALLOWED_TYPES, MAX_LINKS_OF_SET, MAX_SEGMENTS, LAST_TABLE, LAST_OCTET, LAST_FLOW_LABEL, DEFAULT_HOP_LIMIT, SHORT_CSID, LONG_CSID}
+use Rattle.net_model.specs.declared.limits.TheConstants.{MAX_BLOCKS, MAX_NODES, MAX_LINKS, MAX_ROUTES, MAX_POLICIES, MAX_SIDS, MAX_ALLOWED_TYPES, MAX_LINKS_OF_SET, MAX_SEGMENTS, LAST_TABLE, LAST_OCTET, LAST_FLOW_LABEL, DEFAULT_HOP_LIMIT}
 use Rattle.net_model.specs.Rules.{is_name, is_address, is_prefix, is_prefix_of, is_csid_len, is_segment, is_table, keeps_node}
-use Rattle.net_model.specs.Judging.{few, block_in_range, policy_in_range}
-use Rattle.toml_words.specs.Reading.{or_fault}
+use Rattle.net_model.specs.Judging.{block_in_range, policy_in_range}
 use Rattle.toml_words.specs.Tree.{text_in, name_in, addr_of_value, addr_in, prefix_in, word_in, integer_in, number_in, given, array_of, list_in, needed, optional, only, items_at}
 use Rattle.net_words.specs.declared.block.DescribedBlock.{DescribedBlock}
 use Rattle.net_words.specs.declared.node.DescribedNode.{DescribedNode}
@@ -38,7 +36,7 @@ use Rattle.net_words.specs.Prefixes.{of_family, or_else, family_prefix_of, famil
 use Rattle.net_words.specs.Words.{block_kind_of, csid_bits_of, behaviour_of, csid_of, flavour_of}
 use Rattle.net_words.specs.Description.{csid_bits_in, block_of, node_of, link_of, route_of, policy_of, sid_prefix_in, sid_of, description_of}
 use Rattle.net_joining.specs.Joining.{joined_block, joined_node, joined_policy}
-use Rattle.net_reader.proofs.YieldLemmas.{Yields, Any, AreFew, IfGiven, IsWithin, yields-any, yields-next, yields-behind, yields-or_fault, yields-if, yields-number, yields-given, yields-list, yields-needed, yields-optional, yields-items}
+use Rattle.net_reader.proofs.YieldLemmas.{Yields, AreFew, IfGiven, IsWithin, yields-next, yields-behind, yields-or_fault, yields-if, yields-number, yields-given, yields-list, yields-needed, yields-optional, yields-items}
 
 -- ---- values
 

@@ -1,5 +1,5 @@
 -- From what a text describes to its network, or to its first fault.
-use Rattle.std.proofs.Common.{◌≡◌, ◌≢◌, ◌∙◌, ◌↔◌, ℕ, ◌+◌, ◌<◌, ◌≤◌, ◌^◌, List, [], ◌∷◌, ◌++◌, length, take, map, get_or, refl, sym, ap, subst, arith}
+use Rattle.std.proofs.Common.{◌≡◌, ◌∙◌, ◌↔◌, ℕ, ◌+◌, ◌<◌, ◌≤◌, ◌^◌, List, [], ◌∷◌, ◌++◌, length, take, map, get_or, refl, sym, ap, subst, arith}
 use Rattle.std.specs.Prelude.{Result, Ok, Err, IfOk}
 use Rattle.std.proofs.lemmas.Bool.{and_parts, leb-true}
 use Rattle.std.proofs.lemmas.List.{map_more, length-map}
@@ -9,16 +9,16 @@ use Rattle.net_model.specs.declared.fault.NetFault.TheVariants as faults
 use Rattle.net_model.specs.declared.standing.Standing.{Standing}
 use Rattle.net_model.specs.Network.{Network}
 use Rattle.net_model.specs.Rules.{IsNetwork}
-use Rattle.net_model.specs.Judging.{InRange, few, judging, Judges}
+use Rattle.net_model.specs.Judging.{InRange, judging, Judges}
 use Rattle.net_model.proofs.PublicLaws.{exact_law, enough_law}
 use Rattle.toml_words.specs.Reading.{◌>>=◌, or_fault, document_of, Gives}
 use Rattle.net_words.specs.declared.sid.DescribedSid.{DescribedSid}
 use Rattle.net_words.specs.declared.description.Description.{Description}
-use Rattle.net_words.specs.Description.{description_of, description_in}
+use Rattle.net_words.specs.Description.{description_in}
 use Rattle.net_joining.specs.Joining.{node_names, link_names, policy_names, joined_block, joined}
 use Rattle.net_reader.specs.Standings.{standing_of, standings_of, HaveTheirKeys}
 use Rattle.net_reader.specs.Reading.{judged_network, net_in}
-use Rattle.net_reader.proofs.YieldLemmas.{Yields, yielded, yields-behind, yields-next}
+use Rattle.net_reader.proofs.YieldLemmas.{Yields, yielded, yields-behind}
 use Rattle.net_reader.proofs.DescribedLemmas.{Fits, description-fits}
 use Rattle.net_reader.proofs.RangeLemmas.{in_range, as_many}
 use Rattle.net_reader.proofs.ExactLemmas.{well_from, judging_alike}

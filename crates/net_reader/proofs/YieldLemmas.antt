@@ -1,8 +1,8 @@
 -- What reading gives, where it gives something, has a property.
-use Rattle.std.proofs.Common.{◌≡◌, ◌∙◌, ℕ, suc, ◌≤◌, Bool, true, false, ◌&&◌, nat_le, cond, List, [], ◌∷◌, length, Option, Some, None, refl, sym, ap, subst, arith}
+use Rattle.std.proofs.Common.{◌≡◌, ◌∙◌, ℕ, suc, Bool, true, false, ◌&&◌, nat_le, List, [], ◌∷◌, length, Option, Some, None, refl, ap, subst}
 use Rattle.std.specs.Prelude.{ℤ, pos, negsuc, Result, Ok, Err, if◌then◌else◌}
 use Rattle.std.specs.List.{list_all}
-use Rattle.std.proofs.lemmas.Bool.{and_from, and_parts, leb-true, le-leb}
+use Rattle.std.proofs.lemmas.Bool.{and_from}
 use Rattle.toml.specs.Data.{Data, Members, get_member}
 use Rattle.net_model.specs.declared.fault.TableKind.{TableKind}
 use Rattle.net_model.specs.declared.fault.Key.{Key}

@@ -1,6 +1,6 @@
 -- The network that the text of a description gives, or its first fault (own rules): first whether the text is TOML, then the
 -- faults of shape in the order of the tables, and once there is none the faults of the parts in the order of the tables.
-use Rattle.std.specs.Prelude.{ℕ, List, Result, Ok, Err}
+use Rattle.std.specs.Prelude.{ℕ, List, Result, Ok}
 use Rattle.net_model.specs.declared.fault.NetFault.{NetFault}
 use Rattle.net_model.specs.Network.{Network}
 use Rattle.net_model.specs.Judging.{judging}

@@ -1,5 +1,5 @@
 -- How the SIDs of a description stand, as far as their entries don't tell (own rules).
-use Rattle.std.specs.Prelude.{◌≡◌, ℕ, Bool, true, false, ◌||◌, nat_lt, count_by, List, map, is_some}
+use Rattle.std.specs.Prelude.{◌≡◌, Bool, true, false, ◌||◌, nat_lt, count_by, List, map, is_some}
 use Rattle.net_model.specs.declared.standing.Standing.{Standing}
 use Rattle.net_model.specs.Judging.{fitting}
 use Rattle.net_words.specs.declared.sid.DescribedSid.{DescribedSid}
