@@ -1,7 +1,9 @@
 //! Intents in a network of four nodes: their values, and each fault with a later one behind it.
 
 use crate::{Intent, IntentFault, Step, is_intent, read_intent};
-use net_model::{Key, Link, Name, Net, NetFault, NetParts, Node, TableKind, TypeList};
+use net_model::{
+    Key, Link, Name, Net, NetFault, NetParts, Node, TableKind, TypeList, are_in_range,
+};
 use srv6_rules::{Behaviour, Csid, Family, LinkSet, SidEntry};
 use std::alloc::{AllocError, Global};
 use std::process::Abort;
@@ -86,7 +88,7 @@ fn four_nodes(rt: &impl Abort, alloc: Global) -> Result<Net, AllocError> {
     let mut sids = Vec::new(alloc);
     sids.push(function(rt, alloc, 1, MARK, 0))?;
     sids.push(function(rt, alloc, 3, VPN, 1))?;
-    let net = Net::build(NetParts {
+    let parts = NetParts {
         blocks: Vec::new(alloc),
         nodes: nodes(alloc)?,
         links: links(alloc)?,
@@ -94,8 +96,9 @@ fn four_nodes(rt: &impl Abort, alloc: Global) -> Result<Net, AllocError> {
         policies: Vec::new(alloc),
         titles,
         sids,
-    });
-    Ok(net.expect(rt, "a network"))
+    };
+    assert!(rt; are_in_range(&parts));
+    Ok(Net::build(alloc, parts, &[]).ok().expect(rt, "a network"))
 }
 
 /// The keys of an intent at A but for its steps.

@@ -13,5 +13,5 @@ join-requires-clause-few_policies c = (said_few c.args.text.now c.in_ok-said.sai
 pub join-requires-clause-few_sids : goal.join-requires-clause-few_sids
 join-requires-clause-few_sids c = (said_few c.args.text.now c.in_ok-said.said c.in_ok-said.ensures).3
 
-pub judged-requires : goal.judged-requires
-judged-requires c = rw c.in_ok-parts.ensures (said_in_range c.args.text.now c.in_ok-said.said c.in_ok-said.ensures)
+pub build-requires : goal.build-requires
+build-requires c = rw c.in_ok-parts.ensures (said_in_range c.args.text.now c.in_ok-said.said c.in_ok-said.ensures)
