@@ -1,0 +1,44 @@
+-- A table of prefixes as a plain list of pairs, each a prefix and its value, in the order of insertion.
+use Rattle.std.specs.Prelude.{◌≡◌, ℕ, ◌<◌, ◌≤◌, List, [], ◌∷◌, Option, Some, None, Contains}
+use Rattle.v6_addr.specs.Address.{PrefixValue, IsPrefix, Holds}
+use Rattle.prefix_table.specs.declared.fault.TableFault.{TableFault}
+use Rattle.prefix_table.specs.declared.fault.TableFault.TheVariants.{Taken, NoMemory}
+
+-- a prefix is that of one of the entries
+abbrev pub HasPrefix : {T : Type 0} → List (PrefixValue × T) → PrefixValue → Type 0
+HasPrefix {T} entries p = (t : T) × Contains entries (p, t)
+
+-- each prefix stands once: none stands again behind its entry
+abbrev pub EachOnce : {T : Type 0} → List (PrefixValue × T) → Type 0
+EachOnce [] = Unit {0}
+EachOnce (e ∷ es) = (¬ HasPrefix es e.0) × EachOnce es
+
+-- what is true of every table: its prefixes are prefixes, and each stands once (own rule)
+pub record IsTable {T : Type 0} (entries : List (PrefixValue × T)) : Type 0 where
+  pub prefixes : (e : PrefixValue × T) → Contains entries e → IsPrefix e.0
+  pub once : EachOnce entries
+
+-- no entry holds the address
+abbrev pub HoldsNone : {T : Type 0} → List (PrefixValue × T) → ℕ → Type 0
+HoldsNone {T} entries a = (e : PrefixValue × T) → Contains entries e → ¬ Holds e.0 a
+
+-- the longest prefix that holds the address (RFC 1812 section 5.2.4.3, rule 2): the entry holds it, and no longer one does
+pub record IsBest {T : Type 0} (entries : List (PrefixValue × T)) (a : ℕ) (e : PrefixValue × T) : Type 0 where
+  pub is_there : Contains entries e
+  pub holds : Holds e.0 a
+  pub none_longer : (other : PrefixValue × T) → Contains entries other → Holds other.0 a → other.0.len ≤ e.0.len
+
+-- the best entry, or none exactly where no entry holds the address
+abbrev pub IsBestMatch : {T : Type 0} → List (PrefixValue × T) → ℕ → Option (PrefixValue × T) → Type 0
+IsBestMatch entries a None = HoldsNone entries a
+IsBestMatch entries a (Some e) = IsBest entries a e
+
+-- an entry takes the place of the best so far: it holds the address, and is longer
+abbrev pub IsBetter : {T : Type 0} → Option (PrefixValue × T) → ℕ → PrefixValue × T → Type 0
+IsBetter None a e = Holds e.0 a
+IsBetter (Some best) a e = Holds e.0 a × (best.0.len < e.0.len)
+
+-- why an entry isn't added: its prefix is there; want of memory may come where it isn't
+abbrev pub InsertFails : {T : Type 0} → List (PrefixValue × T) → PrefixValue → TableFault → Type 0
+InsertFails entries p (Taken prefix) = HasPrefix entries p × (prefix ≡ p)
+InsertFails entries p NoMemory = ¬ HasPrefix entries p

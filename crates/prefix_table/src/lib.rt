@@ -1,0 +1,17 @@
+//! A table of prefixes with a value each, and the longest of them that holds an address.
+//!
+//! Contracts see a table as the plain list of its entries, in the order of insertion. Each prefix
+//! stands once (own rule).
+#![tactic(auto)]
+
+mod fault;
+mod laws;
+mod scan;
+mod table;
+
+pub use fault::TableFault;
+pub use laws::best_is_one;
+pub use table::Table;
+
+#[cfg(test)]
+mod tests;
