@@ -23,7 +23,8 @@ pub(crate) fn with_entry<'a, T>(
     entry: &'a (Prefix, T),
     a: Addr,
 ) -> Option<&'a (Prefix, T)>
-    ensures { (before : List (PrefixValue × T)) → IsBestMatch before a.value (option_copied best.entry)
+    ensures { (before : List (PrefixValue × T))
+        → IsBestMatch before a.value (option_copied best.entry)
         → IsBestMatch (before ++ entry.now ∷ []) a.value (option_copied result) }
 {
     if is_better(best, entry, a) {
