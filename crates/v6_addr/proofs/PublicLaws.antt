@@ -5,3 +5,5 @@ pub use Rattle.v6_addr.proofs.Prefixes.{same_above}
 pub use Rattle.v6_addr.proofs.Fields.{same_below, put_same, put_above, put_below, put_bound, field_of-same, field_of-before, field_of-behind, with_field_of_bound, Holds-with_field}
 pub use Rattle.v6_addr.proofs.BitLaws.{same_from_both, put_cut, with_field_of-same, Holds-longer}
 pub use Rattle.v6_addr.proofs.PrefixGrammar4.{prefix4_text_is}
+pub use Rattle.v6_addr.proofs.GrammarLaws.{address_text_is}
+pub use Rattle.v6_addr.proofs.PrefixGrammar.{address_below, prefix_text_is}
