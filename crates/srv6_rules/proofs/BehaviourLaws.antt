@@ -7,7 +7,7 @@ use Rattle.srv6_rules.specs.declared.sid.Csid.{Csid}
 use Rattle.srv6_rules.specs.declared.sid.Csid.TheVariants as csids
 use Rattle.srv6_rules.specs.declared.sid.Family.TheVariants as families
 use Rattle.srv6_rules.specs.declared.sid.SidEntry.{SidEntry}
-use Rattle.srv6_rules.specs.Behaviours.{behaviour_goes_on, behaviour_exposes, behaviour_is_built, goes_on, exposes, is_plain, is_built, ipv6_inside, ipv4_inside, family_inside, is_packet_inside}
+use Rattle.srv6_rules.specs.Behaviours.{behaviour_goes_on, behaviour_exposes, behaviour_is_built, behaviour_is_listed, goes_on, exposes, is_plain, is_built, is_listed, ipv6_inside, ipv4_inside, family_inside, is_packet_inside}
 
 -- ---- what goes on
 
@@ -170,60 +170,103 @@ goes_on-exposes s kind e no_usd = rw (goes_on-exposes_by s.behaviour kind e, no_
 pub goes_on-exposes_usd : (s : SidEntry) (kind : ℕ) → goes_on s ≡ true → s.usd ≡ true → exposes s kind ≡ is_packet_inside kind
 goes_on-exposes_usd s kind e usd = rw (goes_on-exposes_by s.behaviour kind e, usd) refl
 
--- ---- what is built
+-- ---- what lists take
 
-abbrev IsBuilt : Behaviour → Type 0
-IsBuilt b = (b ≡ End) ⊎ ((b ≡ EndX) ⊎ (((table : ℕ) × (b ≡ EndT table)) ⊎ ((b ≡ Dx6) ⊎ ((table : ℕ) × (b ≡ Dt6 table)))))
+abbrev IsListed : Behaviour → Type 0
+IsListed b = (b ≡ End) ⊎ ((b ≡ EndX) ⊎ (((table : ℕ) × (b ≡ EndT table)) ⊎ ((b ≡ Dx6) ⊎ ((table : ℕ) × (b ≡ Dt6 table)))))
 
-built-forth : (b : Behaviour) → behaviour_is_built b ≡ true → IsBuilt b
-built-forth End e = inl refl
-built-forth EndX e = inr (inl refl)
-built-forth (EndT table) e = inr (inr (inl (table, refl)))
-built-forth Dx6 e = inr (inr (inr (inl refl)))
-built-forth Dx4 e = cc
-built-forth (Dt6 table) e = inr (inr (inr (inr (table, refl))))
-built-forth (Dt4 table) e = cc
-built-forth (Dt46 table) e = cc
-built-forth (B6 policy) e = cc
-built-forth (B6Red policy) e = cc
+listed-forth : (b : Behaviour) → behaviour_is_listed b ≡ true → IsListed b
+listed-forth End e = inl refl
+listed-forth EndX e = inr (inl refl)
+listed-forth (EndT table) e = inr (inr (inl (table, refl)))
+listed-forth Dx6 e = inr (inr (inr (inl refl)))
+listed-forth Dx4 e = cc
+listed-forth (Dt6 table) e = inr (inr (inr (inr (table, refl))))
+listed-forth (Dt4 table) e = cc
+listed-forth (Dt46 table) e = cc
+listed-forth (B6 policy) e = cc
+listed-forth (B6Red policy) e = cc
 
-built-back : (b : Behaviour) → IsBuilt b → behaviour_is_built b ≡ true
-built-back b (inl e) = ap behaviour_is_built e
-built-back b (inr (inl e)) = ap behaviour_is_built e
-built-back b (inr (inr (inl t))) = ap behaviour_is_built t.1
-built-back b (inr (inr (inr (inl e)))) = ap behaviour_is_built e
-built-back b (inr (inr (inr (inr t)))) = ap behaviour_is_built t.1
+listed-back : (b : Behaviour) → IsListed b → behaviour_is_listed b ≡ true
+listed-back b (inl e) = ap behaviour_is_listed e
+listed-back b (inr (inl e)) = ap behaviour_is_listed e
+listed-back b (inr (inr (inl t))) = ap behaviour_is_listed t.1
+listed-back b (inr (inr (inr (inl e)))) = ap behaviour_is_listed e
+listed-back b (inr (inr (inr (inr t)))) = ap behaviour_is_listed t.1
 
-parts-forth : (c : Csid) (psp usp usd built : Bool) → (is_plain c && (not psp && (not usp && (not usd && built)))) ≡ true
-    → (c ≡ csids.Plain) × ((psp ≡ false) × ((usp ≡ false) × ((usd ≡ false) × (built ≡ true))))
+parts-forth : (c : Csid) (psp usp usd listed : Bool) → (is_plain c && (not psp && (not usp && (not usd && listed)))) ≡ true
+    → (c ≡ csids.Plain) × ((psp ≡ false) × ((usp ≡ false) × ((usd ≡ false) × (listed ≡ true))))
 parts-forth csids.Plain false false false true e = (refl, (refl, (refl, (refl, refl))))
 parts-forth csids.Plain false false false false e = cc
-parts-forth csids.Plain false false true built e = cc
-parts-forth csids.Plain false true usd built e = cc
-parts-forth csids.Plain true usp usd built e = cc
-parts-forth csids.Next psp usp usd built e = cc
-parts-forth csids.Replace psp usp usd built e = cc
+parts-forth csids.Plain false false true listed e = cc
+parts-forth csids.Plain false true usd listed e = cc
+parts-forth csids.Plain true usp usd listed e = cc
+parts-forth csids.Next psp usp usd listed e = cc
+parts-forth csids.Replace psp usp usd listed e = cc
 
-parts-back : (c : Csid) (psp usp usd built : Bool)
-    → (c ≡ csids.Plain) × ((psp ≡ false) × ((usp ≡ false) × ((usd ≡ false) × (built ≡ true))))
-    → (is_plain c && (not psp && (not usp && (not usd && built)))) ≡ true
-parts-back c psp usp usd built h = rw (h.0, h.1.0, h.1.1.0, h.1.1.1.0, h.1.1.1.1) refl
+parts-back : (c : Csid) (psp usp usd listed : Bool)
+    → (c ≡ csids.Plain) × ((psp ≡ false) × ((usp ≡ false) × ((usd ≡ false) × (listed ≡ true))))
+    → (is_plain c && (not psp && (not usp && (not usd && listed)))) ≡ true
+parts-back c psp usp usd listed h = rw (h.0, h.1.0, h.1.1.0, h.1.1.1.0, h.1.1.1.1) refl
 
-pub built-is : (s : SidEntry) → (is_built s ≡ true) ↔ ((s.csid ≡ csids.Plain) × ((s.psp ≡ false) × ((s.usp ≡ false) × ((s.usd ≡ false)
-    × IsBuilt s.behaviour))))
-built-is s = (
-  λ e. let h = parts-forth s.csid s.psp s.usp s.usd (behaviour_is_built s.behaviour) e in
-      (h.0, (h.1.0, (h.1.1.0, (h.1.1.1.0, built-forth s.behaviour h.1.1.1.1)))),
-  λ h. parts-back s.csid s.psp s.usp s.usd (behaviour_is_built s.behaviour)
-      (h.0, (h.1.0, (h.1.1.0, (h.1.1.1.0, built-back s.behaviour h.1.1.1.1)))),
+pub listed-is : (s : SidEntry) → (is_listed s ≡ true) ↔ ((s.csid ≡ csids.Plain) × ((s.psp ≡ false) × ((s.usp ≡ false) × ((s.usd ≡ false)
+    × IsListed s.behaviour))))
+listed-is s = (
+  λ e. let h = parts-forth s.csid s.psp s.usp s.usd (behaviour_is_listed s.behaviour) e in
+      (h.0, (h.1.0, (h.1.1.0, (h.1.1.1.0, listed-forth s.behaviour h.1.1.1.1)))),
+  λ h. parts-back s.csid s.psp s.usp s.usd (behaviour_is_listed s.behaviour)
+      (h.0, (h.1.0, (h.1.1.0, (h.1.1.1.0, listed-back s.behaviour h.1.1.1.1)))),
 )
 
--- what is built has no flavours
-pub built-psp : (s : SidEntry) → is_built s ≡ true → s.psp ≡ false
-built-psp s e = ((built-is s).0 e).1.0
+-- what lists take has no flavours
+pub listed-psp : (s : SidEntry) → is_listed s ≡ true → s.psp ≡ false
+listed-psp s e = ((listed-is s).0 e).1.0
 
-pub built-usp : (s : SidEntry) → is_built s ≡ true → s.usp ≡ false
-built-usp s e = ((built-is s).0 e).1.1.0
+pub listed-usp : (s : SidEntry) → is_listed s ≡ true → s.usp ≡ false
+listed-usp s e = ((listed-is s).0 e).1.1.0
 
-pub built-usd : (s : SidEntry) → is_built s ≡ true → s.usd ≡ false
-built-usd s e = ((built-is s).0 e).1.1.1.0
+pub listed-usd : (s : SidEntry) → is_listed s ≡ true → s.usd ≡ false
+listed-usd s e = ((listed-is s).0 e).1.1.1.0
+
+pub listed-plain : (s : SidEntry) → is_listed s ≡ true → s.csid ≡ csids.Plain
+listed-plain s e = ((listed-is s).0 e).0
+
+-- ---- what nodes run
+
+binds-forth : (b : Behaviour) → behaviour_is_built b ≡ false → ((policy : ℕ) × (b ≡ B6 policy)) ⊎ ((policy : ℕ) × (b ≡ B6Red policy))
+binds-forth End e = cc
+binds-forth EndX e = cc
+binds-forth (EndT table) e = cc
+binds-forth Dx6 e = cc
+binds-forth Dx4 e = cc
+binds-forth (Dt6 table) e = cc
+binds-forth (Dt4 table) e = cc
+binds-forth (Dt46 table) e = cc
+binds-forth (B6 policy) e = inl (policy, refl)
+binds-forth (B6Red policy) e = inr (policy, refl)
+
+binds-back : (b : Behaviour) → ((policy : ℕ) × (b ≡ B6 policy)) ⊎ ((policy : ℕ) × (b ≡ B6Red policy)) → behaviour_is_built b ≡ false
+binds-back b (inl bound) = ap behaviour_is_built bound.1
+binds-back b (inr bound) = ap behaviour_is_built bound.1
+
+pub built-is : (s : SidEntry) → (is_built s ≡ false)
+    ↔ (((policy : ℕ) × (s.behaviour ≡ B6 policy)) ⊎ ((policy : ℕ) × (s.behaviour ≡ B6Red policy)))
+built-is s = (binds-forth s.behaviour, binds-back s.behaviour)
+
+listed_behaviour-built : (b : Behaviour) → behaviour_is_listed b ≡ true → behaviour_is_built b ≡ true
+listed_behaviour-built End e = refl
+listed_behaviour-built EndX e = refl
+listed_behaviour-built (EndT table) e = refl
+listed_behaviour-built Dx6 e = refl
+listed_behaviour-built Dx4 e = refl
+listed_behaviour-built (Dt6 table) e = refl
+listed_behaviour-built (Dt4 table) e = refl
+listed_behaviour-built (Dt46 table) e = refl
+listed_behaviour-built (B6 policy) e = cc
+listed_behaviour-built (B6Red policy) e = cc
+
+-- nodes run what lists take
+pub listed-built : (s : SidEntry) → is_listed s ≡ true → is_built s ≡ true
+listed-built s e =
+    listed_behaviour-built s.behaviour
+    (listed-back s.behaviour ((listed-is s).0 e).1.1.1.1)

@@ -6,6 +6,7 @@ use Rattle.std.proofs.lemmas.List.{append-nil, drop_all, drop_at, take_at, get_o
 use Rattle.std.proofs.lemmas.List.Elements.{All-nil, All-append, All-drop}
 use Rattle.srv6_rules.specs.declared.sid.Family.TheVariants as families
 use Rattle.srv6_rules.specs.declared.sid.Reason.TheVariants as reasons
+use Rattle.srv6_rules.specs.declared.sid.Csid.TheVariants as csids
 use Rattle.srv6_rules.specs.declared.sid.SidEntry.{SidEntry}
 use Rattle.srv6_rules.specs.Behaviours.{goes_on, exposes, ipv6_inside}
 use Rattle.srv6_rules.specs.declared.numbers.TheConstants.{NEXT_HEADER_AT}
@@ -14,14 +15,14 @@ use Rattle.srv6_rules.specs.Packet.{Packet, IsSpellable, most_len, header_len, s
 use Rattle.srv6_rules.specs.Srh.{Srh, IsSrhSpellable, srh_of, srh_spelling, entry_of, tlv_bytes, segments_left_at}
 use Rattle.srv6_rules.specs.Areas.{area_fault, tlv_fault, tlvs_fault}
 use Rattle.srv6_rules.specs.Chain.{ChainPlace, Header, Chain, Upper, routing, is_extension, behind, from_place, chain_at, chain_of, without}
-use Rattle.srv6_rules.specs.Endpoint.{Endpoint, Onward, Exposed, Delivered, Refused, upper_layer, is_allowed, as_in, outcome_without, after_step, after_last, has_bad_segments, advanced, next_segment, over_headers, at_header, at_upper, at_end, at_sid}
+use Rattle.srv6_rules.specs.Endpoint.{Endpoint, Onward, Exposed, Delivered, Refused, upper_layer, is_allowed, as_in, outcome_without, after_step, after_last, has_bad_segments, advanced, next_segment, over_headers, at_header, at_last_upper, at_upper, at_end, at_sid}
 use Rattle.srv6_rules.specs.Encapsulation.{Encapsulation, segment_list, has_segment_routing, segment_routing_of, header_of, inner_place, outer, at_segment, header_bytes, IsSpellableEncapsulation, inner_lowered, encapsulated, bare, bare_place}
 use Rattle.srv6_rules.proofs.Bytes.{all-address_bytes, length-two_bytes, two_number-bytes}
 use Rattle.srv6_rules.proofs.Packets.{length-spelling, all-spelling}
 use Rattle.srv6_rules.proofs.Edits.{edit-hop_limit}
 use Rattle.srv6_rules.proofs.Headers.{length-srh_spelling, all-srh_spelling, entry-at, length-entries}
 use Rattle.srv6_rules.proofs.Chains.{chain_at-spelled, chain_at-upper}
-use Rattle.srv6_rules.proofs.Treatments.{at_header-last, last-stays, last-out, at_header-after_step, at_header-steps, at_header-pops, at_header-refuses}
+use Rattle.srv6_rules.proofs.Treatments.{plain-whole, at_header-last, last-stays, last-out, at_header-after_step, at_header-steps, at_header-pops, at_header-refuses}
 use Rattle.srv6_rules.proofs.Endpoints.{after_step-refused}
 
 -- ---- a segment routing header at the start of a payload
@@ -330,9 +331,14 @@ without-framed e inner was left hop destination =
     ∙ ap (λ n. bare e (drop n (header ++ inner)) hop destination) size
     ∙ ap (λ xs. bare e xs hop destination) (drop_at header inner (length header) refl)
 
--- ---- at a SID
+-- ---- at a plain SID
 
-module _ (s : SidEntry) (allow : List ℕ) (e : Encapsulation) (inner : List ℕ) (left hop destination : ℕ) where
+-- it does not shift
+pub upper-plain : (s : SidEntry) (allow : List ℕ) (p : Packet) (place : ChainPlace) → s.csid ≡ csids.Plain
+    → at_upper s allow p place ≡ at_last_upper s allow p place
+upper-plain s allow p place plain = rw plain refl
+
+module _ (s : SidEntry) (plain : s.csid ≡ csids.Plain) (allow : List ℕ) (e : Encapsulation) (inner : List ℕ) (left hop destination : ℕ) where
   outer-at_sid : at_sid s allow (outer e inner left hop destination)
       ≡ over_headers (at_header s (outer e inner left hop destination)) (outer_headers e left (has_segment_routing e))
       (at_upper s allow (outer e inner left hop destination) (inner_place e))
@@ -360,7 +366,7 @@ module _ (s : SidEntry) (allow : List ℕ) (e : Encapsulation) (inner : List ℕ
       ≡ after_last s (header_of e left) (at_upper s allow (outer e inner left hop destination) (inner_place e))
   outer-last none has =
       let p : Packet = outer e inner left hop destination in
-      outer-at_header has ∙ at_header-last s p (header_of e left) (at_upper s allow p (inner_place e)) refl none
+      outer-at_header has ∙ at_header-last s p (header_of e left) (at_upper s allow p (inner_place e)) (plain-whole s p plain) refl none
 
   pub outer-at_upper : left ≡ 0 → s.usp ≡ false → at_sid s allow (outer e inner left hop destination)
       ≡ at_upper s allow (outer e inner left hop destination) (inner_place e)
@@ -374,7 +380,8 @@ module _ (s : SidEntry) (allow : List ℕ) (e : Encapsulation) (inner : List ℕ
   pub outer-upper_layer : left ≡ 0 → s.usp ≡ false → exposes s ipv6_inside ≡ false
       → at_sid s allow (outer e inner left hop destination)
       ≡ upper_layer allow (outer e inner left hop destination) (inner_place e)
-  outer-upper_layer none no_usp keeps = outer-at_upper none no_usp ∙ rw keeps refl
+  outer-upper_layer none no_usp keeps =
+      outer-at_upper none no_usp ∙ upper-plain s allow (outer e inner left hop destination) (inner_place e) plain ∙ rw keeps refl
 
   -- with USP it is handed over without the header
   pub outer-usp : left ≡ 0 → has_segment_routing e ≡ true → s.usp ≡ true → exposes s ipv6_inside ≡ false
@@ -383,7 +390,8 @@ module _ (s : SidEntry) (allow : List ℕ) (e : Encapsulation) (inner : List ℕ
       else Refused reasons.UpperLayer (inner_place e).at)
   outer-usp none has usp keeps =
       let p : Packet = outer e inner left hop destination in
-      let upper : at_upper s allow p (inner_place e) ≡ upper_layer allow p (inner_place e) = rw keeps refl in
+      let upper : at_upper s allow p (inner_place e) ≡ upper_layer allow p (inner_place e) =
+      upper-plain s allow p (inner_place e) plain ∙ rw keeps refl in
       outer-last none has
       ∙ last-out s p (header_of e left) (at_upper s allow p (inner_place e)) usp
       ∙ ap (outcome_without (header_of e left)) upper
@@ -400,7 +408,7 @@ module _ (s : SidEntry) (allow : List ℕ) (e : Encapsulation) (inner : List ℕ
   outer-exposed none shows =
       let p : Packet = outer e inner left hop destination in
       let upper : at_upper s allow p (inner_place e) ≡ Exposed families.V6 inner =
-      rw shows (ap (Exposed families.V6) (outer-inner e inner left hop destination)) in
+      upper-plain s allow p (inner_place e) plain ∙ rw shows (ap (Exposed families.V6) (outer-inner e inner left hop destination)) in
       elim (cases_Bool (has_segment_routing e)) [
         | inl has ↦ outer-last none has ∙ ap (after_last s (header_of e left)) upper ∙ elim (cases_Bool s.usp) [
           | inl usp ↦ last-out s p (header_of e left) (Exposed families.V6 inner) usp
@@ -415,7 +423,7 @@ module _ (s : SidEntry) (allow : List ℕ) (e : Encapsulation) (inner : List ℕ
   outer-bad_segments has some stays =
       let p : Packet = outer e inner left hop destination in
       let end : Endpoint = at_upper s allow p (inner_place e) in
-      outer-at_header has ∙ at_header-refuses s p (header_of e left) end refl some stays
+      outer-at_header has ∙ at_header-refuses s p (header_of e left) end (plain-whole s p plain) refl some stays
 
   outer-next : has_segment_routing e ≡ true
       → next_segment (outer e inner left hop destination) header_len (srh_of (header_of e left).bytes)
@@ -430,7 +438,7 @@ module _ (s : SidEntry) (allow : List ℕ) (e : Encapsulation) (inner : List ℕ
   outer-hop_limit has some goes low =
       let p : Packet = outer e inner left hop destination in
       outer-at_header has
-      ∙ at_header-after_step s p (header_of e left) (at_upper s allow p (inner_place e)) refl some goes
+      ∙ at_header-after_step s p (header_of e left) (at_upper s allow p (inner_place e)) (plain-whole s p plain) refl some goes
       ∙ ap (after_step s (header_of e left)) (outer-next has
       ∙ step-hop_limit (framed e routing (srh_spelling (segment_routing_of e left) ++ inner) hop destination) header_len
       (segment_routing_of e left) low)
@@ -458,7 +466,7 @@ module _ (s : SidEntry) (allow : List ℕ) (e : Encapsulation) (inner : List ℕ
   outer-onward has some goes stays below all high =
       let p : Packet = outer e inner left hop destination in
       outer-at_header has
-      ∙ at_header-steps s p (header_of e left) (at_upper s allow p (inner_place e)) refl some goes stays
+      ∙ at_header-steps s p (header_of e left) (at_upper s allow p (inner_place e)) (plain-whole s p plain) refl some goes stays
       ∙ outer-stepped has some below all high
       ∙ ap (λ (x : Packet). Onward x)
       (sym (outer-routed e inner (left - 1) (hop - 1) (slice_index e.segments (length e.segments - left)) has))
@@ -471,12 +479,12 @@ module _ (s : SidEntry) (allow : List ℕ) (e : Encapsulation) (inner : List ℕ
   outer-psp has one goes psp below all high =
       let p : Packet = outer e inner left hop destination in
       outer-at_header has
-      ∙ at_header-pops s p (header_of e left) (at_upper s allow p (inner_place e)) refl one goes psp
+      ∙ at_header-pops s p (header_of e left) (at_upper s allow p (inner_place e)) (plain-whole s p plain) refl one goes psp
       ∙ ap (outcome_without (header_of e left)) (outer-stepped has (omega arith) below all high)
       ∙ ap (λ (x : Packet). Onward x)
       (without-framed e inner left (left - 1) (hop - 1) (slice_index e.segments (length e.segments - left)))
 
-module _ (s : SidEntry) (allow : List ℕ) (e : Encapsulation) (inner : List ℕ) (hop destination : ℕ) where
+module _ (s : SidEntry) (plain : s.csid ≡ csids.Plain) (allow : List ℕ) (e : Encapsulation) (inner : List ℕ) (hop destination : ℕ) where
   -- a packet without the header has the packet inside as its upper layer
   bare-at_sid : at_sid s allow (bare e inner hop destination) ≡ at_upper s allow (bare e inner hop destination) bare_place
   bare-at_sid =
@@ -484,15 +492,15 @@ module _ (s : SidEntry) (allow : List ℕ) (e : Encapsulation) (inner : List ℕ
       ap (λ (c : Chain). over_headers (at_header s p) c.headers (at_end s allow p c.end)) (bare-upper p refl)
 
   pub bare-exposed : exposes s ipv6_inside ≡ true → at_sid s allow (bare e inner hop destination) ≡ Exposed families.V6 inner
-  bare-exposed shows = bare-at_sid ∙ rw shows refl
+  bare-exposed shows = bare-at_sid ∙ upper-plain s allow (bare e inner hop destination) bare_place plain ∙ rw shows refl
 
   pub bare-upper_layer : exposes s ipv6_inside ≡ false
       → at_sid s allow (bare e inner hop destination) ≡ upper_layer allow (bare e inner hop destination) bare_place
-  bare-upper_layer keeps = bare-at_sid ∙ rw keeps refl
+  bare-upper_layer keeps = bare-at_sid ∙ upper-plain s allow (bare e inner hop destination) bare_place plain ∙ rw keeps refl
 
 -- ---- while a segment is the active one
 
-module _ (s : SidEntry) (allow : List ℕ) (e : Encapsulation) (inner : List ℕ) (i hop : ℕ) where
+module _ (s : SidEntry) (plain : s.csid ≡ csids.Plain) (allow : List ℕ) (e : Encapsulation) (inner : List ℕ) (i hop : ℕ) where
   pub at_segment-onward : goes_on s ≡ true → (s.psp ≡ false) ⊎ (i + 2 < length e.segments) → i + 1 < length e.segments
       → All (λ a. a < 2 ^ 128) e.segments → 1 < hop
       → at_sid s allow (at_segment e inner i hop) ≡ Onward (at_segment e inner (i + 1) (hop - 1))
@@ -501,7 +509,7 @@ module _ (s : SidEntry) (allow : List ℕ) (e : Encapsulation) (inner : List ℕ
       let more : (s.psp ≡ false) ⊎ (1 < n - 1 - i) = elim stays [ inl no_psp ↦ inl no_psp | inr far ↦ inr (omega arith) ] in
       let left : n - 1 - i - 1 ≡ n - 1 - (i + 1) = omega arith in
       let next : n - (n - 1 - i) ≡ i + 1 = omega arith in
-      outer-onward s allow e inner (n - 1 - i) hop (slice_index e.segments i) (more-routing e (omega arith)) (omega arith) goes
+      outer-onward s plain allow e inner (n - 1 - i) hop (slice_index e.segments i) (more-routing e (omega arith)) (omega arith) goes
       more (omega arith) all high
       ∙ ap (λ k. Onward (outer e inner k (hop - 1) (slice_index e.segments (n - (n - 1 - i))))) left
       ∙ ap (λ k. Onward (outer e inner (n - 1 - (i + 1)) (hop - 1) (slice_index e.segments k))) next
@@ -512,39 +520,39 @@ module _ (s : SidEntry) (allow : List ℕ) (e : Encapsulation) (inner : List ℕ
   at_segment-psp goes psp last all high =
       let n : ℕ = length e.segments in
       let next : n - (n - 1 - i) ≡ i + 1 = omega arith in
-      outer-psp s allow e inner (n - 1 - i) hop (slice_index e.segments i) (more-routing e (omega arith)) (omega arith) goes psp
+      outer-psp s plain allow e inner (n - 1 - i) hop (slice_index e.segments i) (more-routing e (omega arith)) (omega arith) goes psp
       (omega arith) all high
       ∙ ap (λ k. Onward (bare e inner (hop - 1) (slice_index e.segments k))) next
 
   pub at_segment-hop_limit : goes_on s ≡ true → i + 1 < length e.segments → hop ≤ 1
       → at_sid s allow (at_segment e inner i hop) ≡ Refused reasons.HopLimit 0
   at_segment-hop_limit goes below low =
-      outer-hop_limit s allow e inner (length e.segments - 1 - i) hop (slice_index e.segments i) (more-routing e (omega arith))
+      outer-hop_limit s plain allow e inner (length e.segments - 1 - i) hop (slice_index e.segments i) (more-routing e (omega arith))
       (omega arith) goes low
 
   pub at_segment-bad_segments : goes_on s ≡ false → i + 1 < length e.segments
       → at_sid s allow (at_segment e inner i hop) ≡ Refused reasons.BadSegments (header_len + segments_left_at)
   at_segment-bad_segments stays below =
-      outer-bad_segments s allow e inner (length e.segments - 1 - i) hop (slice_index e.segments i) (more-routing e (omega arith))
+      outer-bad_segments s plain allow e inner (length e.segments - 1 - i) hop (slice_index e.segments i) (more-routing e (omega arith))
       (omega arith) stays
 
   pub at_segment-upper_layer : s.usp ≡ false → exposes s ipv6_inside ≡ false → i + 1 ≡ length e.segments
       → at_sid s allow (at_segment e inner i hop)
       ≡ upper_layer allow (at_segment e inner i hop) (inner_place e)
   at_segment-upper_layer no_usp keeps last =
-      outer-upper_layer s allow e inner (length e.segments - 1 - i) hop (slice_index e.segments i) (omega arith) no_usp keeps
+      outer-upper_layer s plain allow e inner (length e.segments - 1 - i) hop (slice_index e.segments i) (omega arith) no_usp keeps
 
   pub at_segment-usp : s.usp ≡ true → has_segment_routing e ≡ true → exposes s ipv6_inside ≡ false → i + 1 ≡ length e.segments
       → at_sid s allow (at_segment e inner i hop)
       ≡ (if is_allowed allow ipv6_inside then Delivered (bare e inner hop (slice_index e.segments i))
       else Refused reasons.UpperLayer (inner_place e).at)
   at_segment-usp usp has keeps last =
-      outer-usp s allow e inner (length e.segments - 1 - i) hop (slice_index e.segments i) (omega arith) has usp keeps
+      outer-usp s plain allow e inner (length e.segments - 1 - i) hop (slice_index e.segments i) (omega arith) has usp keeps
 
   pub at_segment-exposed : exposes s ipv6_inside ≡ true → i + 1 ≡ length e.segments
       → at_sid s allow (at_segment e inner i hop) ≡ Exposed families.V6 inner
   at_segment-exposed shows last =
-      outer-exposed s allow e inner (length e.segments - 1 - i) hop (slice_index e.segments i) (omega arith) shows
+      outer-exposed s plain allow e inner (length e.segments - 1 - i) hop (slice_index e.segments i) (omega arith) shows
 
 -- ---- packets that bytes can spell
 

@@ -1,39 +1,47 @@
 -- What an endpoint keeps of a packet, whichever flavours a SID has: its other fields, and that bytes can spell it.
-use Rattle.std.proofs.Common.{◌≡◌, ℕ, ◌+◌, ◌-◌, ◌^◌, ◌<◌, ◌≤◌, ◌==◌, ◌&&◌, List, [], ◌∷◌, length, All, refl, sym, ap, subst, ◌∙◌, arith, inl, inr, length-drop}
-use Rattle.std.proofs.lemmas.Bool.{cases_Bool}
+use Rattle.std.proofs.Common.{◌≡◌, ℕ, ◌+◌, ◌-◌, ◌^◌, ◌<◌, ◌≤◌, ◌==◌, ◌&&◌, Bool, true, not, nat_le, List, [], ◌∷◌, length, drop, slice_index, ◌*◌, All, refl, sym, ap, subst, ◌∙◌, arith, inl, inr, length-drop}
+use Rattle.std.proofs.lemmas.Bool.{cases_Bool, leb-false}
 use Rattle.std.proofs.lemmas.List.{length-set, length-take-le}
 use Rattle.std.proofs.lemmas.List.Elements.{All-drop, All-head, All-set, All-tail, All-take}
+use Rattle.srv6_rules.specs.declared.compression.Compression.{Compression}
+use Rattle.srv6_rules.specs.declared.sid.Csid.{Csid}
+use Rattle.srv6_rules.specs.declared.sid.Csid.TheVariants as csids
 use Rattle.srv6_rules.specs.declared.sid.SidEntry.{SidEntry}
+use Rattle.srv6_rules.specs.Compressed.{argument_of}
+use Rattle.srv6_rules.specs.CompressedSteps.{ReplaceStep, Moved, AtEnd, Dropped, IsNext, IsReplace, SuitsKind, SuitsCompression, compression_of, is_next, is_replace, is_at_end, shifted, move_of, moved, replace_step}
 use Rattle.srv6_rules.specs.Behaviours.{goes_on, exposes}
 use Rattle.srv6_rules.specs.Packet.{Packet, IsSpellable, header_len}
 use Rattle.srv6_rules.specs.Srh.{srh_of, segments_left_at}
 use Rattle.srv6_rules.specs.Chain.{ChainPlace, Header, ChainEnd, Upper, Cut, LiesIn, StandsIn, Follow, without, segments_left, is_segment_routing, start_of, place_of, place_behind, from_place, chain_at, chain_of}
-use Rattle.srv6_rules.specs.Endpoint.{Endpoint, Onward, Exposed, Delivered, Refused, is_allowed, as_in, outcome_without, leaves_none, after_step, after_last, advanced, next_segment, over_headers, at_sid_routing, at_header, at_end, at_sid}
+use Rattle.srv6_rules.specs.Endpoint.{Endpoint, Onward, Exposed, Delivered, Refused, is_allowed, as_in, outcome_without, leaves_none, after_step, after_last, advanced, next_segment, next_csid, shifts_at, by_replace_step, at_whole_segments, at_packed_segments, at_segment_routing, over_headers, at_sid_routing, at_header, at_end, at_sid}
 use Rattle.srv6_rules.proofs.Bytes.{byte_below}
 use Rattle.srv6_rules.proofs.Chains.{start-stands, chain_at-stand, chain_at-lies, chain_at-follow, lies-bytes}
 use Rattle.srv6_rules.proofs.Without.{without-others, without-room, without-bytes}
-use Rattle.srv6_rules.proofs.Treatments.{by-kind, last-stays, last-out}
+use Rattle.srv6_rules.proofs.SteppedPackets.{shifted-spellable, step-spellable, step-hop_limit, StepMoves, step-moves}
+use Rattle.srv6_rules.proofs.Treatments.{header-by, sid-known, known-whole, known-packed, whole-last, whole-steps, whole-refuses, packed-steps, packed-last, packed-refuses, last-stays, last-out}
 use Rattle.srv6_rules.proofs.Endpoints.{end-stands, entry_of-below, next_segment-cases}
 
 -- ---- what is kept of a packet that goes on or is handed over: what stands in front of a place is there still, the hop limit
 -- is so many lower, the fields that no endpoint changes are as they were, and bytes can spell it
 
-pub record Kept (p : Packet) (at lower : ℕ) (q : Packet) : Type 0 where
+-- where something suits
+pub record Kept (Suits : Type 0) (p : Packet) (at lower : ℕ) (q : Packet) : Type 0 where
   pub room : at ≤ header_len + length q.payload
   pub hop_limit : p.hop_limit ≡ q.hop_limit + lower
   pub traffic_class : q.traffic_class ≡ p.traffic_class
   pub flow_label : q.flow_label ≡ p.flow_label
   pub source : q.source ≡ p.source
-  pub spellable : IsSpellable p → IsSpellable q
+  pub spellable : Suits → IsSpellable p → IsSpellable q
 
-abbrev Sound : Packet → ℕ → Endpoint → Type 0
-Sound p at (Onward q) = Kept p at 1 q × (1 < p.hop_limit)
-Sound p at (Exposed family bytes) = Unit {0}
-Sound p at (Delivered q) = Kept p at 0 q × (q.destination ≡ p.destination)
-Sound p at (Refused reason place) = Unit {0}
+abbrev Sound : SidEntry → Packet → ℕ → Endpoint → Type 0
+Sound s p at (Onward q) = Kept (SuitsCompression s) p at 1 q × (1 < p.hop_limit)
+Sound s p at (Exposed family bytes) = Unit {0}
+Sound s p at (Delivered q) = Kept (Unit {0}) p at 0 q × (q.destination ≡ p.destination)
+Sound s p at (Refused reason place) = Unit {0}
 
-kept-nearer : (p : Packet) (at near lower : ℕ) (q : Packet) → near ≤ at → Kept p at lower q → Kept p near lower q
-kept-nearer p at near lower q le k =
+kept-nearer : (Suits : Type 0) (p : Packet) (at near lower : ℕ) (q : Packet) → near ≤ at → Kept Suits p at lower q
+    → Kept Suits p near lower q
+kept-nearer Suits p at near lower q le k =
     let room = k.room in
     record {
       room = omega arith;
@@ -44,11 +52,11 @@ kept-nearer p at near lower q le k =
       spellable = k.spellable;
     }
 
-sound-nearer : (p : Packet) (at near : ℕ) (x : Endpoint) → near ≤ at → Sound p at x → Sound p near x
-sound-nearer p at near (Onward q) le k = (kept-nearer p at near 1 q le k.0, k.1)
-sound-nearer p at near (Exposed family bytes) le k = tt
-sound-nearer p at near (Delivered q) le k = (kept-nearer p at near 0 q le k.0, k.1)
-sound-nearer p at near (Refused reason place) le k = tt
+sound-nearer : (s : SidEntry) (p : Packet) (at near : ℕ) (x : Endpoint) → near ≤ at → Sound s p at x → Sound s p near x
+sound-nearer s p at near (Onward q) le k = (kept-nearer (SuitsCompression s) p at near 1 q le k.0, k.1)
+sound-nearer s p at near (Exposed family bytes) le k = tt
+sound-nearer s p at near (Delivered q) le k = (kept-nearer (Unit {0}) p at near 0 q le k.0, k.1)
+sound-nearer s p at near (Refused reason place) le k = tt
 
 -- ---- a header taken out
 
@@ -56,8 +64,8 @@ sound-nearer p at near (Refused reason place) le k = tt
 pub as_in-lies : (p : Packet) (h : Header) → LiesIn p h → as_in p h ≡ h
 as_in-lies p h lies = ap (λ xs. record { place = h.place; bytes = xs }) (sym lies.bytes)
 
-module _ (p : Packet) (h : Header) (start : header_len ≤ h.place.at) (lower : ℕ) (q : Packet)
-    (k : Kept p (h.place.at + length h.bytes) lower q) where
+module _ (Suits : Type 0) (p : Packet) (h : Header) (start : header_len ≤ h.place.at) (lower : ℕ) (q : Packet)
+    (k : Kept Suits p (h.place.at + length h.bytes) lower q) where
   as_in-length : length (as_in q h).bytes ≡ length h.bytes
   as_in-length =
       let room = k.room in
@@ -69,16 +77,16 @@ module _ (p : Packet) (h : Header) (start : header_len ≤ h.place.at) (lower : 
       let len = as_in-length in
       ap (λ n. length (without q (as_in q h)).payload + n) (sym len) ∙ without-room q (as_in q h) start (omega arith)
 
-  out-spellable : IsSpellable p → IsSpellable (without q (as_in q h))
-  out-spellable ok =
+  out-spellable : Suits → IsSpellable p → IsSpellable (without q (as_in q h))
+  out-spellable suits ok =
       let P : ℕ → Type 0 = λ b. b < 2 ^ 8 in
       let room = k.room in
       let len = as_in-length in
-      let good = k.spellable ok in
+      let good = k.spellable suits ok in
       without-bytes q (as_in q h) good start (omega arith)
       (All-take P (length h.bytes) (from_place q h.place.at) (All-drop P (h.place.at - header_len) q.payload good.payload))
 
-  kept-out : Kept p h.place.at lower (without q (as_in q h))
+  kept-out : Kept Suits p h.place.at lower (without q (as_in q h))
   kept-out =
       let room = k.room in
       let len = out-length in
@@ -92,13 +100,14 @@ module _ (p : Packet) (h : Header) (start : header_len ≤ h.place.at) (lower : 
         spellable = out-spellable;
       }
 
-sound-out : (p : Packet) (h : Header) → header_len ≤ h.place.at → (x : Endpoint) → Sound p (h.place.at + length h.bytes) x
-    → Sound p h.place.at (outcome_without h x)
-sound-out p h start (Onward q) k = (kept-out p h start 1 q k.0, k.1)
-sound-out p h start (Exposed family bytes) k = tt
-sound-out p h start (Delivered q) k =
-    (kept-out p h start 0 q k.0, ap (λ (x : Packet). x.destination) (without-others q (as_in q h)) ∙ k.1)
-sound-out p h start (Refused reason place) k = tt
+sound-out : (s : SidEntry) (p : Packet) (h : Header) → header_len ≤ h.place.at → (x : Endpoint)
+    → Sound s p (h.place.at + length h.bytes) x
+    → Sound s p h.place.at (outcome_without h x)
+sound-out s p h start (Onward q) k = (kept-out (SuitsCompression s) p h start 1 q k.0, k.1)
+sound-out s p h start (Exposed family bytes) k = tt
+sound-out s p h start (Delivered q) k =
+    (kept-out (Unit {0}) p h start 0 q k.0, ap (λ (x : Packet). x.destination) (without-others q (as_in q h)) ∙ k.1)
+sound-out s p h start (Refused reason place) k = tt
 
 -- ---- the step over a header
 
@@ -123,9 +132,9 @@ advanced-spellable p h lies ok =
       payload = All-set P p.payload at v (omega arith) ok.payload;
     }
 
-kept-advanced : (p : Packet) (h : Header) → LiesIn p h → 1 < p.hop_limit
-    → Kept p (h.place.at + length h.bytes) 1 (advanced p h.place.at (srh_of h.bytes))
-kept-advanced p h lies above =
+kept-advanced : (Suits : Type 0) (p : Packet) (h : Header) → LiesIn p h → 1 < p.hop_limit
+    → Kept Suits p (h.place.at + length h.bytes) 1 (advanced p h.place.at (srh_of h.bytes))
+kept-advanced Suits p h lies above =
     let within = lies.within in
     let len = length-set p.payload (h.place.at + segments_left_at - header_len) (segments_left h - 1) in
     record {
@@ -134,73 +143,191 @@ kept-advanced p h lies above =
       traffic_class = refl;
       flow_label = refl;
       source = refl;
-      spellable = advanced-spellable p h lies;
+      spellable = λ suits. advanced-spellable p h lies;
     }
 
-module _ (s : SidEntry) (p : Packet) (h : Header) (lies : LiesIn p h) where
-  sound-step : (x : Endpoint) → Sound p (h.place.at + length h.bytes) x → Sound p h.place.at (after_step s h x)
-  sound-step x is = elim (cases_Bool (s.psp && leaves_none (srh_of h.bytes))) [
-    | inl pops ↦ rw pops (sound-out p h lies.behind_header x is)
-    | inr stays ↦ rw stays (sound-nearer p (h.place.at + length h.bytes) h.place.at x (omega arith) is)
+-- ---- the steps of compressed SIDs
+
+suits-next : (k : Csid) (c : Compression) (b : Bool) → (is_next k && b) ≡ true → SuitsKind k c → IsNext c
+suits-next csids.Plain c b e suits = cc
+suits-next csids.Next c b e suits = suits
+suits-next csids.Replace c b e suits = cc
+
+suits-replace : (k : Csid) (c : Compression) → is_replace k ≡ true → SuitsKind k c → IsReplace c
+suits-replace csids.Plain c e suits = cc
+suits-replace csids.Next c e suits = cc
+suits-replace csids.Replace c e suits = suits
+
+kept-shifted : (s : SidEntry) (p : Packet) (at : ℕ) → at ≤ header_len + length p.payload → shifts_at s p ≡ true → 1 < p.hop_limit
+    → Kept (SuitsCompression s) p at 1 (shifted (compression_of s) p)
+kept-shifted s p at within shifts above =
+    record {
+      room = within;
+      hop_limit = omega arith;
+      traffic_class = refl;
+      flow_label = refl;
+      source = refl;
+      spellable = λ suits ok. shifted-spellable (compression_of s) p
+          (suits-next s.csid (compression_of s) (not (argument_of p.destination s.prefix.len == 0)) shifts suits) ok;
+    }
+
+sound-next_csid : (s : SidEntry) (p : Packet) (at : ℕ) → at ≤ header_len + length p.payload → shifts_at s p ≡ true
+    → Sound s p at (next_csid s p)
+sound-next_csid s p at within shifts = elim (cases_Bool (nat_le p.hop_limit 1)) [
+  | inl low ↦ rw low tt
+  | inr high ↦
+      let above = leb-false p.hop_limit 1 high in
+      rw high (kept-shifted s p at within shifts above, above)
+]
+
+module _ (s : SidEntry) (p : Packet) (h : Header) (lies : LiesIn p h) (packed : is_replace s.csid ≡ true) (q : Packet) (ended : Bool)
+    (e : replace_step (compression_of s) p h.place.at (srh_of h.bytes) ≡ Moved q ended) where
+  moves : StepMoves (compression_of s) p h.place.at (srh_of h.bytes) q ended
+  moves = step-moves (compression_of s) p h.place.at (srh_of h.bytes) q ended e
+
+  same_field : {A : Type 0} (f : Packet → A) → f (moved p h.place.at (move_of (compression_of s) (srh_of h.bytes) p.destination)) ≡ f q
+  same_field f = ap f moves.packet
+
+  moved-room : length q.payload ≡ length p.payload
+  moved-room =
+      sym (same_field (λ x. length x.payload))
+      ∙ length-set p.payload (h.place.at + segments_left_at - header_len)
+      (move_of (compression_of s) (srh_of h.bytes) p.destination).segments_left
+
+  moved-spelled : SuitsCompression s → IsSpellable p → IsSpellable q
+  moved-spelled suits ok =
+      let P : ℕ → Type 0 = λ b. b < 2 ^ 8 in
+      let n : ℕ = 8 * slice_index h.bytes 1 in
+      let bytes = lies-bytes p h lies ok.payload in
+      step-spellable (compression_of s) p q h.place.at (srh_of h.bytes) ended (suits-replace s.csid (compression_of s) packed suits) ok
+      (byte_below h.bytes 3 bytes) (All-take P n (drop 8 h.bytes) (All-drop P 8 h.bytes bytes)) e
+
+  kept-moved : Kept (SuitsCompression s) p (h.place.at + length h.bytes) 1 q
+  kept-moved =
+      let within = lies.within in
+      let room = moved-room in
+      record {
+        room = omega arith;
+        hop_limit = step-hop_limit (compression_of s) p q h.place.at (srh_of h.bytes) ended e;
+        traffic_class = sym (same_field (λ x. x.traffic_class));
+        flow_label = sym (same_field (λ x. x.flow_label));
+        source = sym (same_field (λ x. x.source));
+        spellable = moved-spelled;
+      }
+
+  moved-above : 1 < p.hop_limit
+  moved-above = leb-false p.hop_limit 1 moves.low
+
+  sound-moved : Sound s p h.place.at (by_replace_step s h (Onward q) (Moved q ended))
+  sound-moved = elim (cases_Bool (s.psp && ended)) [
+    | inl pops ↦ rw pops (sound-out s p h lies.behind_header (Onward q) (kept-moved, moved-above))
+    | inr stays ↦ rw stays (sound-nearer s p (h.place.at + length h.bytes) h.place.at (Onward q) (omega arith) (kept-moved, moved-above))
   ]
 
-  sound-next : Sound p h.place.at (after_step s h (next_segment p h.place.at (srh_of h.bytes)))
+module _ (s : SidEntry) (p : Packet) (h : Header) (lies : LiesIn p h) where
+  abbrev Behind : Endpoint → Type 0
+  Behind x = Sound s p (h.place.at + length h.bytes) x
+
+  abbrev Here : Endpoint → Type 0
+  Here x = Sound s p h.place.at x
+
+  sound-near : (x : Endpoint) → Behind x → Here x
+  sound-near x is = sound-nearer s p (h.place.at + length h.bytes) h.place.at x (omega arith) is
+
+  sound-step : (x : Endpoint) → Behind x → Here (after_step s h x)
+  sound-step x is = elim (cases_Bool (s.psp && leaves_none (srh_of h.bytes))) [
+    | inl pops ↦ rw pops (sound-out s p h lies.behind_header x is)
+    | inr stays ↦ rw stays (sound-near x is)
+  ]
+
+  sound-next : Here (after_step s h (next_segment p h.place.at (srh_of h.bytes)))
   sound-next =
-      let P : Endpoint → Type 0 = λ x. Sound p h.place.at (after_step s h x) in
+      let P : Endpoint → Type 0 = λ x. Here (after_step s h x) in
       elim (next_segment-cases p h lies) [
         | inl (reason, at, within, e) ↦ subst P (sym e) (sound-step (Refused reason at) tt)
         | inr (above, (good, e)) ↦ subst P (sym e) (sound-step (Onward (advanced p h.place.at (srh_of h.bytes)))
-            (kept-advanced p h lies above, above))
+            (kept-advanced (SuitsCompression s) p h lies above, above))
       ]
 
-  sound-last : (x : Endpoint) → Sound p (h.place.at + length h.bytes) x → Sound p h.place.at (after_last s h x)
+  sound-last : (x : Endpoint) → Behind x → Here (after_last s h x)
   sound-last x is =
-      let P : Endpoint → Type 0 = λ y. Sound p h.place.at y in
+      let P : Endpoint → Type 0 = λ y. Here y in
       elim (cases_Bool s.usp) [
-        | inl usp ↦ subst P (sym (last-out s p h x usp)) (sound-out p h lies.behind_header x is)
-        | inr no_usp ↦ subst P (sym (last-stays s p h x no_usp))
-            (sound-nearer p (h.place.at + length h.bytes) h.place.at x (omega arith) is)
+        | inl usp ↦ subst P (sym (last-out s p h x usp)) (sound-out s p h lies.behind_header x is)
+        | inr no_usp ↦ subst P (sym (last-stays s p h x no_usp)) (sound-near x is)
       ]
 
-  sound-routing : (x : Endpoint) → Sound p (h.place.at + length h.bytes) x → Sound p h.place.at (at_sid_routing s p h x)
+  sound-whole : (x : Endpoint) → Behind x → Here (at_whole_segments s p h x)
+  sound-whole x is =
+      let P : Endpoint → Type 0 = λ y. Here y in
+      elim (cases_Bool (segments_left h == 0)) [
+        | inl none ↦ subst P (sym (whole-last s p h x none)) (sound-last x is)
+        | inr some ↦ elim (cases_Bool (goes_on s)) [
+          | inl goes ↦ subst P (sym (whole-steps s p h x some goes)) sound-next
+          | inr stays ↦ subst P (sym (whole-refuses s p h x some stays)) tt
+        ]
+      ]
+
+  sound-replace : is_replace s.csid ≡ true → (x : Endpoint) → Behind x
+      → (r : ReplaceStep) → replace_step (compression_of s) p h.place.at (srh_of h.bytes) ≡ r → Here (by_replace_step s h x r)
+  sound-replace packed x is (Moved q ended) e = sound-moved s p h lies packed q ended e
+  sound-replace packed x is AtEnd e = sound-last x is
+  sound-replace packed x is (Dropped fault) e = tt
+
+  sound-packed : is_replace s.csid ≡ true → (x : Endpoint) → Behind x → Here (at_packed_segments s p h x)
+  sound-packed packed x is =
+      let P : Endpoint → Type 0 = λ y. Here y in
+      let c = compression_of s in
+      elim (cases_Bool (goes_on s)) [
+        | inl goes ↦ subst P (sym (packed-steps s p h x goes))
+            (sound-replace packed x is (replace_step c p h.place.at (srh_of h.bytes)) refl)
+        | inr ends ↦ elim (cases_Bool (is_at_end c (srh_of h.bytes) p.destination)) [
+          | inl end ↦ subst P (sym (packed-last s p h x ends end)) (sound-last x is)
+          | inr some ↦ subst P (sym (packed-refuses s p h x ends some)) tt
+        ]
+      ]
+
+  sound-known : (x : Endpoint) → Behind x → Here (at_segment_routing s p h x)
+  sound-known x is =
+      let P : Endpoint → Type 0 = λ y. Here y in
+      elim (cases_Bool (is_replace s.csid)) [
+        | inl packed ↦ subst P (sym (known-packed s p h x packed)) (sound-packed packed x is)
+        | inr whole ↦ subst P (sym (known-whole s p h x whole)) (sound-whole x is)
+      ]
+
+  sound-routing : (x : Endpoint) → Behind x → Here (at_sid_routing s p h x)
   sound-routing x is =
-      let near = sound-nearer p (h.place.at + length h.bytes) h.place.at x (omega arith) is in
+      let P : Endpoint → Type 0 = λ y. Here y in
       elim (cases_Bool (is_segment_routing h)) [
-        | inl known ↦ rw known (elim (cases_Bool (segments_left h == 0)) [
-          | inl none ↦ rw none (sound-last x is)
-          | inr some ↦ rw some (elim (cases_Bool (goes_on s)) [
-            | inl goes ↦ rw goes sound-next
-            | inr stays ↦ rw stays tt
-          ])
-        ])
+        | inl known ↦ subst P (sym (sid-known s p h x known)) (sound-known x is)
         | inr other ↦ rw other (elim (cases_Bool (segments_left h == 0)) [
-          | inl none ↦ rw none near
+          | inl none ↦ rw none (sound-near x is)
           | inr some ↦ rw some tt
         ])
       ]
 
-  sound-header : StandsIn p h.place → (x : Endpoint) → Sound p (h.place.at + length h.bytes) x → Sound p h.place.at (at_header s p h x)
+  sound-header : StandsIn p h.place → (x : Endpoint) → Behind x → Here (at_header s p h x)
   sound-header stands x is =
-      by-kind (at_sid_routing s p) h p (λ y. Sound p h.place.at y) x lies stands
-      (λ passed. sound-nearer p (h.place.at + length h.bytes) h.place.at x (omega arith) is)
-      (λ reason at below. tt) (λ same. sound-routing x is)
+      let within = lies.within in
+      header-by s p h (λ y. Here y) x lies stands (λ shifts. sound-next_csid s p h.place.at (omega arith) shifts)
+      (λ passed. sound-near x is) (λ reason at below. tt) (λ stays same. sound-routing x is)
 
 -- ---- a whole chain
 
 module _ (s : SidEntry) (allow : List ℕ) (p : Packet) where
   sound-headers : (place : ChainPlace) (hs : List Header) (last : ChainPlace) → Follow place hs last → All (LiesIn p) hs
-      → All (λ h. StandsIn p h.place) hs → (x : Endpoint) → Sound p last.at x → Sound p place.at (over_headers (at_header s p) hs x)
+      → All (λ h. StandsIn p h.place) hs → (x : Endpoint) → Sound s p last.at x → Sound s p place.at (over_headers (at_header s p) hs x)
   sound-headers place [] last f lies stands x is =
-      let Q : ChainPlace → Type 0 = λ k. Sound p k.at x in
+      let Q : ChainPlace → Type 0 = λ k. Sound s p k.at x in
       subst Q (sym f) is
   sound-headers place (h ∷ hs) last f lies stands x is =
-      let Q : ChainPlace → Type 0 = λ k. Sound p k.at (over_headers (at_header s p) (h ∷ hs) x) in
+      let Q : ChainPlace → Type 0 = λ k. Sound s p k.at (over_headers (at_header s p) (h ∷ hs) x) in
       subst Q f.0
       (sound-header s p h (All-head (LiesIn p) h hs lies) (All-head (λ y. StandsIn p y.place) h hs stands)
       (over_headers (at_header s p) hs x)
       (sound-headers (place_behind h) hs last f.1 (All-tail (LiesIn p) h hs lies) (All-tail (λ y. StandsIn p y.place) h hs stands) x is))
 
-  kept-all : (at : ℕ) → at ≤ header_len + length p.payload → Kept p at 0 p
+  kept-all : (at : ℕ) → at ≤ header_len + length p.payload → Kept (Unit {0}) p at 0 p
   kept-all at room =
       record {
         room = room;
@@ -208,20 +335,23 @@ module _ (s : SidEntry) (allow : List ℕ) (p : Packet) where
         traffic_class = refl;
         flow_label = refl;
         source = refl;
-        spellable = λ ok. ok;
+        spellable = λ suits ok. ok;
       }
 
-  sound-end : (end : ChainEnd) → StandsIn p (place_of end) → Sound p (place_of end).at (at_end s allow p end)
-  sound-end (Upper place) stands = elim (cases_Bool (exposes s place.kind)) [
-    | inl shows ↦ rw shows tt
-    | inr hides ↦ rw hides (elim (cases_Bool (is_allowed allow place.kind)) [
-      | inl takes ↦ rw takes (kept-all place.at stands.within, refl)
-      | inr not ↦ rw not tt
+  sound-end : (end : ChainEnd) → StandsIn p (place_of end) → Sound s p (place_of end).at (at_end s allow p end)
+  sound-end (Upper place) stands = elim (cases_Bool (shifts_at s p)) [
+    | inl shifts ↦ rw shifts (sound-next_csid s p place.at stands.within shifts)
+    | inr stays ↦ rw stays (elim (cases_Bool (exposes s place.kind)) [
+      | inl shows ↦ rw shows tt
+      | inr hides ↦ rw hides (elim (cases_Bool (is_allowed allow place.kind)) [
+        | inl takes ↦ rw takes (kept-all place.at stands.within, refl)
+        | inr others ↦ rw others tt
+      ])
     ])
   ]
   sound-end (Cut place) stands = tt
 
-  sound-sid : Sound p header_len (at_sid s allow p)
+  sound-sid : Sound s p header_len (at_sid s allow p)
   unfolding chain_at
   sound-sid =
       sound-headers (start_of p) (chain_of p).headers (place_of (chain_of p).end) (chain_at-follow p (start_of p) (omega arith))
@@ -230,8 +360,8 @@ module _ (s : SidEntry) (allow : List ℕ) (p : Packet) where
 
 -- a packet that goes on has its hop limit lower by one
 onward-kept : (s : SidEntry) (allow : List ℕ) (p q : Packet) → at_sid s allow p ≡ Onward q
-    → Kept p header_len 1 q × (1 < p.hop_limit)
-onward-kept s allow p q e = let P : Endpoint → Type 0 = λ x. Sound p header_len x in subst P e (sound-sid s allow p)
+    → Kept (SuitsCompression s) p header_len 1 q × (1 < p.hop_limit)
+onward-kept s allow p q e = let P : Endpoint → Type 0 = λ x. Sound s p header_len x in subst P e (sound-sid s allow p)
 
 pub at_sid-lowers : (s : SidEntry) (allow : List ℕ) (p q : Packet) → at_sid s allow p ≡ Onward q
     → (1 < p.hop_limit) × (p.hop_limit ≡ q.hop_limit + 1)
@@ -243,13 +373,14 @@ at_sid-fields s allow p q e =
     let k = onward-kept s allow p q e in
     (k.0.traffic_class, (k.0.flow_label, k.0.source))
 
-pub at_sid-spellable : (s : SidEntry) (allow : List ℕ) (p q : Packet) → IsSpellable p → at_sid s allow p ≡ Onward q → IsSpellable q
-at_sid-spellable s allow p q ok e = (onward-kept s allow p q e).0.spellable ok
+pub at_sid-spellable : (s : SidEntry) (allow : List ℕ) (p q : Packet) → SuitsCompression s → IsSpellable p → at_sid s allow p ≡ Onward q
+    → IsSpellable q
+at_sid-spellable s allow p q suits ok e = (onward-kept s allow p q e).0.spellable suits ok
 
 -- a packet that is handed over has its other fields as they were
 delivered-kept : (s : SidEntry) (allow : List ℕ) (p q : Packet) → at_sid s allow p ≡ Delivered q
-    → Kept p header_len 0 q × (q.destination ≡ p.destination)
-delivered-kept s allow p q e = let P : Endpoint → Type 0 = λ x. Sound p header_len x in subst P e (sound-sid s allow p)
+    → Kept (Unit {0}) p header_len 0 q × (q.destination ≡ p.destination)
+delivered-kept s allow p q e = let P : Endpoint → Type 0 = λ x. Sound s p header_len x in subst P e (sound-sid s allow p)
 
 pub at_sid-delivered_fields : (s : SidEntry) (allow : List ℕ) (p q : Packet) → at_sid s allow p ≡ Delivered q
     → q ≡ record p { next_header = q.next_header; payload = q.payload }
@@ -268,4 +399,4 @@ at_sid-delivered_fields s allow p q e =
 
 pub at_sid-delivered_spellable : (s : SidEntry) (allow : List ℕ) (p q : Packet) → IsSpellable p → at_sid s allow p ≡ Delivered q
     → IsSpellable q
-at_sid-delivered_spellable s allow p q ok e = (delivered-kept s allow p q e).0.spellable ok
+at_sid-delivered_spellable s allow p q ok e = (delivered-kept s allow p q e).0.spellable tt ok

@@ -1,6 +1,7 @@
 pub mod Bytes
 pub mod Packets
 pub mod Packets4
+pub mod Contents
 pub mod Edits
 pub mod Headers
 pub mod Chains

@@ -5,7 +5,7 @@ use Rattle.std.proofs.lemmas.List.{append_assoc, append-nil, drop_at, drop-drop,
 use Rattle.std.proofs.lemmas.List.Elements.{All-append, All-cons, All-take, All-drop}
 use Rattle.srv6_rules.specs.declared.sid.Reason.{Reason}
 use Rattle.srv6_rules.specs.declared.sid.Reason.TheVariants.{Truncated, BadVersion}
-use Rattle.srv6_rules.specs.Packet.{Packet, Content, V6, Unreadable, IsSpellable, Spells, IsContent, spelling, header_spelling, first_word, two_bytes, four_bytes, address_bytes, two_number, four_number, address_number, stated_len, packet_at, content_of, entered, bytes_of, most_len}
+use Rattle.srv6_rules.specs.Packet.{Packet, V6, Unreadable, IsSpellable, Spells, spelling, header_spelling, first_word, two_bytes, four_bytes, address_bytes, two_number, four_number, address_number, stated_len, packet_at, content_of}
 use Rattle.srv6_rules.proofs.Bytes.{length-two_bytes, length-four_bytes, length-address_bytes, all-two_bytes, all-four_bytes, all-address_bytes, two_number-below, address_number-below, two_number-bytes, four_number-bytes, address_number-bytes, two_bytes-number, four_bytes-number, address_bytes-number, byte_below}
 
 -- ---- the parts of a header of 4, 2, 1, 1, 16 and 16 bytes with more behind it
@@ -497,28 +497,3 @@ spells-value p q bytes hp hq =
     let same : spelling p ≡ spelling q = sym hp.1 ∙ hq.1 in
     let both : V6 p ≡ V6 q = sym ep ∙ ap content_of same ∙ eq in
     cc both
-
--- ---- contents
-
-is_content : (bytes : List ℕ) (c : Content) → All (λ b. b < 2 ^ 8) bytes → content_of bytes ≡ c → IsContent c
-is_content bytes (V6 p) all e = reads-spellable bytes p all e
-is_content bytes (Unreadable kept why) all e =
-    let Q : List ℕ → Type 0 = λ xs. All (λ b. b < 2 ^ 8) xs in
-    subst Q (unreadable bytes kept why e) all
-
-pub content_of-is_content : (bytes : List ℕ) → All (λ b. b < 2 ^ 8) bytes → IsContent (content_of bytes)
-content_of-is_content bytes all = is_content bytes (content_of bytes) all refl
-
-back : (bytes : List ℕ) (c : Content) → All (λ b. b < 2 ^ 8) bytes → content_of bytes ≡ c → content_of (bytes_of c) ≡ c
-back bytes (V6 p) all e = content_of-spelling_alone p (reads-spellable bytes p all e)
-back bytes (Unreadable kept why) all e = ap content_of (sym (unreadable bytes kept why e)) ∙ e
-
--- a content's bytes read as that content
-pub content_of-bytes_of : (bytes : List ℕ) → All (λ b. b < 2 ^ 8) bytes → content_of (bytes_of (content_of bytes)) ≡ content_of bytes
-content_of-bytes_of bytes all = back bytes (content_of bytes) all refl
-
-pub entered-is_content : (bytes : List ℕ) → All (λ b. b < 2 ^ 8) bytes → IsContent (entered bytes)
-entered-is_content bytes all = content_of-is_content (take most_len bytes) (All-take (λ b. b < 2 ^ 8) most_len bytes all)
-
-pub entered-back : (bytes : List ℕ) → All (λ b. b < 2 ^ 8) bytes → content_of (bytes_of (entered bytes)) ≡ entered bytes
-entered-back bytes all = content_of-bytes_of (take most_len bytes) (All-take (λ b. b < 2 ^ 8) most_len bytes all)

@@ -1,6 +1,6 @@
 -- Packets after the steps of compressed SIDs.
-use Rattle.std.proofs.Common.{◌≡◌, ◌⊎◌, inl, inr, ℕ, ◌+◌, ◌-◌, ◌*◌, ◌/◌, ◌%◌, ◌^◌, ◌<◌, ◌≤◌, Bool, true, false, cond, ◌==◌, nat_le, drop, All, Option, Some, None, refl, sym, ◌∙◌, ap, subst, arith}
-use Rattle.std.proofs.lemmas.Bool.{leb-false}
+use Rattle.std.proofs.Common.{◌≡◌, ◌⊎◌, inl, inr, ℕ, ◌+◌, ◌-◌, ◌*◌, ◌/◌, ◌%◌, ◌^◌, ◌<◌, ◌≤◌, Bool, true, false, cond, ◌==◌, ◌&&◌, not, nat_le, length, drop, All, Option, Some, None, refl, sym, ◌∙◌, ap, subst, arith}
+use Rattle.std.proofs.lemmas.Bool.{leb-false, eqb-true}
 use Rattle.std.proofs.lemmas.Nat.{shr_below, shl_below, mul-add-lt, mod_below, pow_pos, pow-add}
 use Rattle.std.proofs.lemmas.List.{length-set}
 use Rattle.std.proofs.lemmas.List.Elements.{All-set, All-drop}
@@ -8,11 +8,14 @@ use Rattle.v6_addr.specs.Address.{field_of, with_field_of}
 use Rattle.v6_addr.proofs.PublicLaws.{with_field_of_bound}
 use Rattle.srv6_rules.specs.declared.compression.Compression.{Compression}
 use Rattle.srv6_rules.specs.Packet.{Packet, IsSpellable, header_len}
-use Rattle.srv6_rules.specs.Srh.{Srh, entry_of, segments_left_at}
+use Rattle.srv6_rules.specs.declared.sid.Reason.TheVariants.{HopLimit}
+use Rattle.srv6_rules.specs.Srh.{Srh, srh_of, entry_of, segments_left_at}
+use Rattle.srv6_rules.specs.Chain.{Header, LiesIn}
 use Rattle.srv6_rules.specs.Areas.{Fault, tlvs_fault}
 use Rattle.srv6_rules.specs.Compressed.{argument_of, shift_of, csid_count, index_of, csid_at, with_index, replace_of}
-use Rattle.srv6_rules.specs.CompressedSteps.{IsNext, IsReplace, Move, Moved, AtEnd, Dropped, csid_len_of, shifted, index_in, listed_csid, is_ended, lacks_entry, has_bad_list, to_csid, to_entry, move_of, moved, unless_dropped, segments_fault, replace_step}
+use Rattle.srv6_rules.specs.CompressedSteps.{IsNext, IsReplace, Move, Moved, AtEnd, Dropped, csid_len_of, shifted, index_in, listed_csid, is_ended, lacks_entry, has_bad_list, to_csid, to_entry, move_of, moved, unless_dropped, ReplaceStep, segments_fault, replace_step, is_at_end}
 use Rattle.srv6_rules.proofs.Bytes.{address_number-below}
+use Rattle.srv6_rules.proofs.AreaItems.{tlvs_fault-within}
 use Rattle.srv6_rules.proofs.PackedEntries.{count_is, count_some}
 
 -- ---- destinations are addresses
@@ -177,3 +180,78 @@ step-hop_limit c p q at srh ended e =
     let above : 1 < p.hop_limit = leb-false p.hop_limit 1 step.low in
     let lowered : p.hop_limit - 1 ≡ q.hop_limit = ap (λ (x : Packet). x.hop_limit) step.packet in
     omega arith
+
+-- ---- a header at its end
+
+ends-by : (c : Compression) (p : Packet) (at : ℕ) (srh : Srh) (lacks end low bad : Bool) (tlv : Option Fault) (fault hop : Fault)
+    → cond lacks (Dropped fault)
+    (cond end AtEnd
+    (unless_dropped (cond low (Some hop) None)
+    (cond bad (Dropped fault)
+    (unless_dropped tlv (Moved (moved p at (move_of c srh p.destination)) (move_of c srh p.destination).ended))))) ≡ AtEnd
+    → (not lacks && end) ≡ true
+ends-by c p at srh true end low bad tlv fault hop e = cc
+ends-by c p at srh false true low bad tlv fault hop e = refl
+ends-by c p at srh false false true bad tlv fault hop e = cc
+ends-by c p at srh false false false true tlv fault hop e = cc
+ends-by c p at srh false false false false (Some found) fault hop e = cc
+ends-by c p at srh false false false false None fault hop e = cc
+
+-- the step passes over a header that is at its end
+pub step-at_end : (c : Compression) (p : Packet) (at : ℕ) (srh : Srh) → replace_step c p at srh ≡ AtEnd
+    → is_at_end c srh p.destination ≡ true
+step-at_end c p at srh e =
+    ends-by c p at srh (lacks_entry c srh p.destination) (is_ended c srh srh.segments_left p.destination)
+    (nat_le p.hop_limit 1) (has_bad_list c srh p.destination) (tlvs_fault at srh) (segments_fault at) _ e
+
+none-left : (lacks : Bool) (left : ℕ) (b : Bool) → (not lacks && ((left == 0) && b)) ≡ true → left ≡ 0
+none-left false left b e = eqb-true left 0 (and_first (left == 0) b e)
+  where
+    and_first : (x y : Bool) → (x && y) ≡ true → x ≡ true
+    and_first true y e = refl
+    and_first false y e = cc
+none-left true left b e = cc
+
+-- where no segment is left
+pub at_end-none : (c : Compression) (srh : Srh) (d : ℕ) → is_at_end c srh d ≡ true → srh.segments_left ≡ 0
+at_end-none c srh d e = none-left (lacks_entry c srh d) srh.segments_left _ e
+
+-- ---- the place of a fault
+
+abbrev AtPlace : Packet → ReplaceStep → Type 0
+AtPlace p (Moved q ended) = Unit {0}
+AtPlace p AtEnd = Unit {0}
+AtPlace p (Dropped fault) = fault.at ≤ header_len + length p.payload
+
+step-placed : (c : Compression) (p : Packet) (h : Header) → LiesIn p h → (lacks end low bad : Bool)
+    → AtPlace p (cond lacks (Dropped (segments_fault h.place.at))
+    (cond end AtEnd
+    (unless_dropped (cond low (Some (record { reason = HopLimit; at = 0 })) None)
+    (cond bad (Dropped (segments_fault h.place.at))
+    (unless_dropped (tlvs_fault h.place.at (srh_of h.bytes))
+    (Moved (moved p h.place.at (move_of c (srh_of h.bytes) p.destination)) (move_of c (srh_of h.bytes) p.destination).ended))))))
+step-placed c p h lies true end low bad = let within = lies.within in let least = lies.least in omega arith
+step-placed c p h lies false true low bad = tt
+step-placed c p h lies false false true bad = omega arith
+step-placed c p h lies false false false true = let within = lies.within in let least = lies.least in omega arith
+step-placed c p h lies false false false false =
+    let m : Move = move_of c (srh_of h.bytes) p.destination in
+    let P : Option Fault → Type 0 = λ f. AtPlace p (unless_dropped f (Moved (moved p h.place.at m) m.ended)) in
+    placed (tlvs_fault h.place.at (srh_of h.bytes)) refl
+  where
+    placed : (f : Option Fault) → tlvs_fault h.place.at (srh_of h.bytes) ≡ f
+        → AtPlace p (unless_dropped f (Moved (moved p h.place.at (move_of c (srh_of h.bytes) p.destination))
+        (move_of c (srh_of h.bytes) p.destination).ended))
+    placed None e = tt
+    placed (Some fault) e =
+        let within = lies.within in
+        let near = tlvs_fault-within p h fault lies e in
+        omega arith
+
+pub step-place : (c : Compression) (p : Packet) (h : Header) → LiesIn p h → (fault : Fault)
+    → replace_step c p h.place.at (srh_of h.bytes) ≡ Dropped fault → fault.at ≤ header_len + length p.payload
+step-place c p h lies fault e =
+    let P : ReplaceStep → Type 0 = λ x. AtPlace p x in
+    subst P e (step-placed c p h lies (lacks_entry c (srh_of h.bytes) p.destination)
+    (is_ended c (srh_of h.bytes) (srh_of h.bytes).segments_left p.destination)
+    (nat_le p.hop_limit 1) (has_bad_list c (srh_of h.bytes) p.destination))

@@ -114,24 +114,41 @@ is_packet_inside kind = (kind == ipv6_inside) || (kind == ipv4_inside)
 abbrev pub exposes : SidEntry → ℕ → Bool
 exposes s kind = behaviour_exposes s.behaviour kind || (s.usd && is_packet_inside kind)
 
--- ---- what nodes run so far: plain End, End.X, End.T, End.DX6 and End.DT6 without flavours
+-- ---- what nodes run so far: every SID but those that bind a policy
 
 abbrev pub behaviour_is_built : Behaviour → Bool
 behaviour_is_built End = true
 behaviour_is_built EndX = true
 behaviour_is_built (EndT table) = true
 behaviour_is_built Dx6 = true
-behaviour_is_built Dx4 = false
+behaviour_is_built Dx4 = true
 behaviour_is_built (Dt6 table) = true
-behaviour_is_built (Dt4 table) = false
-behaviour_is_built (Dt46 table) = false
+behaviour_is_built (Dt4 table) = true
+behaviour_is_built (Dt46 table) = true
 behaviour_is_built (B6 policy) = false
 behaviour_is_built (B6Red policy) = false
+
+abbrev pub is_built : SidEntry → Bool
+is_built s = behaviour_is_built s.behaviour
+
+-- ---- what the compiler's lists take so far: plain End, End.X, End.T, End.DX6 and End.DT6 without flavours
+
+abbrev pub behaviour_is_listed : Behaviour → Bool
+behaviour_is_listed End = true
+behaviour_is_listed EndX = true
+behaviour_is_listed (EndT table) = true
+behaviour_is_listed Dx6 = true
+behaviour_is_listed Dx4 = false
+behaviour_is_listed (Dt6 table) = true
+behaviour_is_listed (Dt4 table) = false
+behaviour_is_listed (Dt46 table) = false
+behaviour_is_listed (B6 policy) = false
+behaviour_is_listed (B6Red policy) = false
 
 abbrev pub is_plain : Csid → Bool
 is_plain csids.Plain = true
 is_plain csids.Next = false
 is_plain csids.Replace = false
 
-abbrev pub is_built : SidEntry → Bool
-is_built s = is_plain s.csid && (not s.psp && (not s.usp && (not s.usd && behaviour_is_built s.behaviour)))
+abbrev pub is_listed : SidEntry → Bool
+is_listed s = is_plain s.csid && (not s.psp && (not s.usp && (not s.usd && behaviour_is_listed s.behaviour)))

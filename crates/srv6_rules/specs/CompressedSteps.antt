@@ -6,6 +6,7 @@ use Rattle.srv6_rules.specs.declared.numbers.TheConstants.{HOP_LIMIT_AT, DESTINA
 use Rattle.srv6_rules.specs.declared.sid.Csid.{Csid}
 use Rattle.srv6_rules.specs.declared.sid.Csid.TheVariants as kinds
 use Rattle.srv6_rules.specs.declared.sid.Reason.TheVariants as reasons
+use Rattle.srv6_rules.specs.declared.sid.SidEntry.{SidEntry}
 use Rattle.srv6_rules.specs.declared.compression.Compression.{Compression}
 use Rattle.srv6_rules.specs.Packet.{Packet, header_len, address_bytes}
 use Rattle.srv6_rules.specs.Srh.{Srh, entries_of, entry_of, segments_left_at}
@@ -29,6 +30,20 @@ pub record IsReplace (c : Compression) : Type 0 where
   pub within : c.prefix_len ≤ 128
   pub csid_len : IsCsidLen (csid_len_of c)
 
+-- how a SID is compressed
+abbrev pub compression_of : SidEntry → Compression
+compression_of s = record { kind = s.csid; prefix_len = s.prefix.len; block_len = s.block_len }
+
+-- a compression suits its lengths
+abbrev pub SuitsKind : Csid → Compression → Type 0
+SuitsKind kinds.Plain c = Unit {0}
+SuitsKind kinds.Next c = IsNext c
+SuitsKind kinds.Replace c = IsReplace c
+
+-- the compression of a SID suits the lengths of its prefix and its block
+abbrev pub SuitsCompression : SidEntry → Type 0
+SuitsCompression s = SuitsKind s.csid (compression_of s)
+
 -- the hop limit can't be lowered (RFC 8754 section 4.3.1.1)
 abbrev pub hop_limit_fault : Packet → Option Fault
 hop_limit_fault p = if nat_le p.hop_limit 1 then Some (record { reason = reasons.HopLimit; at = 0 }) else None
@@ -45,6 +60,11 @@ abbrev pub is_next : Csid → Bool
 is_next kinds.Plain = false
 is_next kinds.Next = true
 is_next kinds.Replace = false
+
+abbrev pub is_replace : Csid → Bool
+is_replace kinds.Plain = false
+is_replace kinds.Next = false
+is_replace kinds.Replace = true
 
 -- a SID shifts a destination: it has NEXT-CSID, and the argument isn't 0
 abbrev pub shifts : Compression → ℕ → Bool

@@ -1,6 +1,7 @@
 -- What a node does with a packet that came to one of its SIDs or to its own address: RFC 8986 sections 4.1 to 4.8 with the
--- flavours of section 4.16 and the processing of RFC 8754 section 4.3.1.1, and RFC 8200 section 4.4 at an address.
-use Rattle.std.specs.Prelude.{◌≡◌, ◌≢◌, ◌⊎◌, ℕ, ◌+◌, ◌-◌, ◌<◌, ◌≤◌, Bool, true, ◌==◌, ◌&&◌, ◌||◌, nat_lt, nat_le, if◌then◌else◌, List, [], ◌∷◌, ◌++◌, length, take, slice_index, slice_set, All, Option, Some, None}
+-- flavours of section 4.16, RFC 9800 sections 4.1 and 4.2, and the processing of RFC 8754 section 4.3.1.1, and RFC 8200 section
+-- 4.4 at an address.
+use Rattle.std.specs.Prelude.{◌≡◌, ◌≢◌, ◌⊎◌, ℕ, ◌+◌, ◌-◌, ◌<◌, ◌≤◌, Bool, true, false, ◌==◌, ◌&&◌, ◌||◌, not, nat_lt, nat_le, if◌then◌else◌, List, [], ◌∷◌, ◌++◌, length, take, slice_index, slice_set, All, Option, Some, None}
 use Rattle.std.specs.List.{list_any}
 use Rattle.srv6_rules.specs.declared.numbers.TheConstants.{HOP_LIMIT_AT, DESTINATION_AT}
 use Rattle.srv6_rules.specs.declared.sid.Family.{Family}
@@ -12,6 +13,7 @@ use Rattle.srv6_rules.specs.Behaviours.{goes_on, exposes, ipv6_inside, ipv4_insi
 use Rattle.srv6_rules.specs.Packet.{Packet, header_len}
 use Rattle.srv6_rules.specs.Srh.{Srh, srh_of, entries_of, entry_of, segments_left_at, routing_type_at}
 use Rattle.srv6_rules.specs.Areas.{Fault, options_fault, tlvs_fault}
+use Rattle.srv6_rules.specs.CompressedSteps.{ReplaceStep, Moved, AtEnd, Dropped, compression_of, is_replace, shifts, shifted, replace_step, is_at_end}
 use Rattle.srv6_rules.specs.Chain.{ChainPlace, Header, ChainEnd, Upper, Cut, Chain, LiesIn, hop_by_hop, fragment, destination_options, is_first, segments_left, is_segment_routing, from_place, chain_of, without}
 
 -- what came of a packet at a SID or an address: it goes on with another destination; the packet inside it, of a family
@@ -93,13 +95,34 @@ after_step s h stepped = if s.psp && leaves_none (srh_of h.bytes) then outcome_w
 abbrev pub after_last : SidEntry → Header → Endpoint → Endpoint
 after_last s h behind = if s.usp then outcome_without h behind else behind
 
--- a segment routing header at a SID: with no segments left it is passed over; a SID that goes on takes the step over it,
--- and before another one no segments may be left
-abbrev pub at_segment_routing : SidEntry → Packet → Header → Endpoint → Endpoint
-at_segment_routing s p h behind =
+-- a header whose segments are whole: with no segments left it is passed over; a SID that goes on takes the step over it, and
+-- before another one no segments may be left
+abbrev pub at_whole_segments : SidEntry → Packet → Header → Endpoint → Endpoint
+at_whole_segments s p h behind =
     if segments_left h == 0 then after_last s h behind
     else if goes_on s then after_step s h (next_segment p h.place.at (srh_of h.bytes))
     else Refused reasons.BadSegments (h.place.at + segments_left_at)
+
+-- ---- REPLACE-CSID (RFC 9800 section 4.2)
+
+-- what comes of a header by its step: a packet that moved on goes on, with PSP without the header where no segment is left then; at
+-- the end the header is passed over
+abbrev pub by_replace_step : SidEntry → Header → Endpoint → ReplaceStep → Endpoint
+by_replace_step s h behind (Moved q ended) = if s.psp && ended then outcome_without h (Onward q) else Onward q
+by_replace_step s h behind AtEnd = after_last s h behind
+by_replace_step s h behind (Dropped fault) = Refused fault.reason fault.at
+
+-- a header whose segments are packed: a SID that goes on takes the step, and before another one the header is at its end
+abbrev pub at_packed_segments : SidEntry → Packet → Header → Endpoint → Endpoint
+at_packed_segments s p h behind =
+    if goes_on s then by_replace_step s h behind (replace_step (compression_of s) p h.place.at (srh_of h.bytes))
+    else if is_at_end (compression_of s) (srh_of h.bytes) p.destination then after_last s h behind
+    else Refused reasons.BadSegments (h.place.at + segments_left_at)
+
+-- a segment routing header at a SID
+abbrev pub at_segment_routing : SidEntry → Packet → Header → Endpoint → Endpoint
+at_segment_routing s p h behind =
+    if is_replace s.csid then at_packed_segments s p h behind else at_whole_segments s p h behind
 
 -- a routing header that the node does not know: with no segments left it is passed over (RFC 8200 section 4.4)
 abbrev pub unknown_routing : Header → Endpoint → Endpoint
@@ -124,13 +147,33 @@ abbrev pub at_sid_routing : SidEntry → Packet → Header → Endpoint → Endp
 at_sid_routing s p h behind =
     if is_segment_routing h then at_segment_routing s p h behind else unknown_routing h behind
 
-abbrev pub at_header : SidEntry → Packet → Header → Endpoint → Endpoint
-at_header s p h behind = at_header_by (at_sid_routing s p) h behind
+-- ---- NEXT-CSID (RFC 9800 section 4.1)
 
--- the upper layer at a SID: a SID that exposes it exposes the packet inside, of the family that its kind names
-abbrev pub at_upper : SidEntry → List ℕ → Packet → ChainPlace → Endpoint
-at_upper s allow p place =
+-- a SID of NEXT-CSID has a SID behind it in the packet's destination
+abbrev pub shifts_at : SidEntry → Packet → Bool
+shifts_at s p = shifts (compression_of s) p.destination
+
+-- the next SID is moved up in the destination; the hop limit is judged
+abbrev pub next_csid : SidEntry → Packet → Endpoint
+next_csid s p = if nat_le p.hop_limit 1 then Refused reasons.HopLimit 0 else Onward (shifted (compression_of s) p)
+
+-- the headers that are looked at before a shift: Hop-by-Hop and Destination Options
+abbrev pub is_options : Header → Bool
+is_options h = (h.place.kind == hop_by_hop) || (h.place.kind == destination_options)
+
+-- a header at a SID: where the SID shifts, it does so at the first header that has no options, without a look inside
+abbrev pub at_header : SidEntry → Packet → Header → Endpoint → Endpoint
+at_header s p h behind =
+    if shifts_at s p && not (is_options h) then next_csid s p else at_header_by (at_sid_routing s p) h behind
+
+-- the upper layer at a SID that does not shift: a SID that exposes it exposes the packet inside, of the family that its kind names
+abbrev pub at_last_upper : SidEntry → List ℕ → Packet → ChainPlace → Endpoint
+at_last_upper s allow p place =
     if exposes s place.kind then Exposed (family_inside place.kind) (from_place p place.at) else upper_layer allow p place
+
+-- the upper layer at a SID; in front of it a SID shifts too
+abbrev pub at_upper : SidEntry → List ℕ → Packet → ChainPlace → Endpoint
+at_upper s allow p place = if shifts_at s p then next_csid s p else at_last_upper s allow p place
 
 abbrev pub at_end : SidEntry → List ℕ → Packet → ChainEnd → Endpoint
 at_end s allow p (Upper place) = at_upper s allow p place
@@ -179,6 +222,11 @@ pub record IsTakenOut (s : SidEntry) (p : Packet) (h : Header) : Type 0 where
 abbrev pub IsSkipped : SidEntry → Packet → Header → Type 0
 IsSkipped s p h = IsPassed (at_header s p) h ⊎ IsTakenOut s p h
 
+-- a SID whose segments are whole, at a packet whose destination it does not shift
+pub record TakesWhole (s : SidEntry) (p : Packet) : Type 0 where
+  pub whole : is_replace s.csid ≡ false
+  pub unshifted : shifts_at s p ≡ false
+
 -- the packet after the step over a segment routing header behind headers that are passed over at a SID: the hop
 -- limit is one lower, Segments Left is one lower, the destination is that entry, and all else is as it was
 pub record StepsTo (s : SidEntry) (p q : Packet) : Type 0 where
@@ -201,6 +249,18 @@ pub record StepsWithPsp (s : SidEntry) (p q : Packet) : Type 0 where
   pub stepped : Packet
   pub step : StepsTo s p stepped
   pub popped : q ≡ (if s.psp && (step.left == 0) then without stepped (as_in stepped step.header) else stepped)
+
+-- a packet that goes on from a SID of REPLACE-CSID without USP: it took the step over a segment routing header behind headers that
+-- are passed over, and with PSP, where no segment is left then, that header is taken out
+pub record MovesWithPsp (s : SidEntry) (p q : Packet) : Type 0 where
+  pub header : Header
+  pub reached : IsReached (IsPassed (at_header s p)) (chain_of p).headers header
+  pub routing : is_segment_routing header ≡ true
+  pub lies : LiesIn p header
+  pub stepped : Packet
+  pub ended : Bool
+  pub step : replace_step (compression_of s) p header.place.at (srh_of header.bytes) ≡ Moved stepped ended
+  pub popped : q ≡ (if s.psp && ended then without stepped (as_in stepped header) else stepped)
 
 -- bytes before and after a step: the hop limit and one byte behind the IPv6 header are one lower, and but for these and
 -- the destination, the IPv6 header's last bytes, each byte is as it was

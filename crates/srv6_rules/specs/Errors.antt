@@ -30,6 +30,9 @@ kind_of reasons.BadTlv at = None
 kind_of reasons.UnknownRouting at = Some (Parameter WRONG_FIELD at)
 kind_of reasons.UpperLayer at = Some (Parameter WRONG_UPPER_LAYER at)
 kind_of reasons.NotBuilt at = None
+kind_of reasons.Ttl at = None
+kind_of reasons.TooBig at = None
+kind_of reasons.InnerHop at = None
 
 -- the type, the code and the pointer of an error; the pointer's four bytes are unused in others than Parameter Problem
 abbrev pub type_of : IcmpKind → ℕ

@@ -1,11 +1,12 @@
 -- IPv6 packets as values, their one spelling, and how bytes are read (RFC 8200 section 3).
-use Rattle.std.specs.Prelude.{◌≡◌, ℕ, ◌+◌, ◌*◌, ◌/◌, ◌%◌, ◌^◌, ◌<◌, ◌==◌, nat_lt, if◌then◌else◌, List, ◌∷◌, ◌++◌, length, take, drop, slice_index, All}
+use Rattle.std.specs.Prelude.{◌≡◌, ℕ, ◌+◌, ◌*◌, ◌/◌, ◌%◌, ◌^◌, ◌<◌, ◌==◌, nat_lt, if◌then◌else◌, List, ◌∷◌, ◌++◌, length, take, drop, slice_index, All, Result, Ok, Err}
 use Rattle.byteorder.specs.Endian.{big_number, big_bytes}
 use Rattle.srv6_rules.specs.declared.numbers.TheConstants.{IPV6_HEADER_LEN, MOST_LEN, IPV6_VERSION, PAYLOAD_LEN_AT, NEXT_HEADER_AT, HOP_LIMIT_AT, SOURCE_AT, DESTINATION_AT}
 use Rattle.srv6_rules.specs.declared.sid.Family.{Family}
 use Rattle.srv6_rules.specs.declared.sid.Family.TheVariants as families
 use Rattle.srv6_rules.specs.declared.sid.Reason.{Reason}
-use Rattle.srv6_rules.specs.declared.sid.Reason.TheVariants.{Truncated, BadVersion, NotBuilt}
+use Rattle.srv6_rules.specs.declared.sid.Reason.TheVariants.{Truncated, BadVersion}
+use Rattle.srv6_rules.specs.Packet4.{Packet4, IsSpellable4, spelling4, read4}
 
 -- a packet: the fields of its IPv6 header but for the version and the payload length, and the bytes after that header
 pub record Packet : Type 0 where
@@ -17,9 +18,10 @@ pub record Packet : Type 0 where
   pub destination : ℕ
   pub payload : List ℕ
 
--- what a node holds: a packet, or bytes that do not read as one and why
+-- what a node holds: a packet of IPv6 or of IPv4, or bytes that do not read as one and why
 pub data Content : Type 0 where
   V6 : Packet → Content
+  V4 : Packet4 → Content
   Unreadable : List ℕ → Reason → Content
 
 -- the IPv6 header's length in bytes
@@ -107,21 +109,28 @@ content_of bytes =
     else V6 (packet_at bytes))
     else Unreadable bytes BadVersion
 
--- how bytes read as a packet of a family; IPv4 is not built yet
+-- bytes that read as an IPv4 packet or, for a reason, do not
+abbrev pub content4_by : List ℕ → Result Packet4 Reason → Content
+content4_by bytes (Ok p) = V4 p
+content4_by bytes (Err reason) = Unreadable bytes reason
+
+-- how bytes read as a packet of a family
 abbrev pub read_as : Family → List ℕ → Content
 read_as families.V6 bytes = content_of bytes
-read_as families.V4 bytes = Unreadable bytes NotBuilt
+read_as families.V4 bytes = content4_by bytes (read4 bytes)
 
--- what enters a node: of bytes that do not read at most a longest packet's length is kept (own rule)
-abbrev pub entered : List ℕ → Content
-entered bytes = content_of (take most_len bytes)
+-- what enters a node as a packet of a family: of bytes that do not read at most a longest packet's length is kept (own rule)
+abbrev pub entered : Family → List ℕ → Content
+entered family bytes = read_as family (take most_len bytes)
 
 -- the bytes of a content
 abbrev pub bytes_of : Content → List ℕ
 bytes_of (V6 p) = spelling p
+bytes_of (V4 p) = spelling4 p
 bytes_of (Unreadable bytes reason) = bytes
 
 -- a content that bytes can spell
 abbrev pub IsContent : Content → Type 0
 IsContent (V6 p) = IsSpellable p
+IsContent (V4 p) = IsSpellable4 p
 IsContent (Unreadable bytes reason) = All (λ b. b < 2 ^ 8) bytes

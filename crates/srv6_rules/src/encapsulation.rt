@@ -7,6 +7,7 @@ ghost use Rattle.srv6_rules.specs.Encapsulation.{Encapsulation, IsSpellableEncap
 ghost use Rattle.srv6_rules.specs.Endpoint.{Onward, Exposed, Delivered, Refused, is_allowed, upper_layer, at_sid};
 ghost use Rattle.srv6_rules.specs.Packet.{Packet, V6 as V6Content, IsSpellable, most_len, header_len, spelling, read_as, address_bytes};
 ghost use Rattle.srv6_rules.specs.Srh.{srh_spelling, segments_left_at};
+ghost use Rattle.srv6_rules.specs.declared.sid.Csid.TheVariants.{Plain};
 ghost use Rattle.srv6_rules.specs.declared.sid.Family.TheVariants.{V6};
 ghost use Rattle.srv6_rules.specs.declared.sid.Reason.TheVariants.{HopLimit, BadSegments, UpperLayer};
 ghost use Rattle.srv6_rules.specs.declared.sid.SidEntry.{SidEntry};
@@ -78,18 +79,18 @@ pub fn outer_packet_has_its_chain()
 /// routing header is taken out on the way to the last segment, and on no other (RFC 8754 section
 /// 4.3.1.1, RFC 8986 sections 4.1 to 4.3 and 4.16.1).
 pub fn end_goes_on_to_the_next_segment()
-    ensures onward { (s : SidEntry) (allow : List ℕ) (e : Encapsulation) (inner : List ℕ)
-        (i hop : ℕ) → goes_on s ≡ true → (s.psp ≡ false) ⊎ (i + 2 < length e.segments)
+    ensures onward { (s : SidEntry) → s.csid ≡ Plain
+        → (allow : List ℕ) (e : Encapsulation) (inner : List ℕ) (i hop : ℕ) → goes_on s ≡ true → (s.psp ≡ false) ⊎ (i + 2 < length e.segments)
         → i + 1 < length e.segments → All (λ a. a < 2 ^ 128) e.segments → 1 < hop
         → at_sid s allow (at_segment e inner i hop)
         ≡ Onward (at_segment e inner (i + 1) (hop - 1)) }
-    ensures psp { (s : SidEntry) (allow : List ℕ) (e : Encapsulation) (inner : List ℕ)
-        (i hop : ℕ) → goes_on s ≡ true → s.psp ≡ true → i + 2 ≡ length e.segments
+    ensures psp { (s : SidEntry) → s.csid ≡ Plain
+        → (allow : List ℕ) (e : Encapsulation) (inner : List ℕ) (i hop : ℕ) → goes_on s ≡ true → s.psp ≡ true → i + 2 ≡ length e.segments
         → All (λ a. a < 2 ^ 128) e.segments → 1 < hop
         → at_sid s allow (at_segment e inner i hop)
         ≡ Onward (bare e inner (hop - 1) (slice_index e.segments (i + 1))) }
-    ensures hop_limit { (s : SidEntry) (allow : List ℕ) (e : Encapsulation) (inner : List ℕ)
-        (i hop : ℕ) → goes_on s ≡ true → i + 1 < length e.segments → hop ≤ 1
+    ensures hop_limit { (s : SidEntry) → s.csid ≡ Plain
+        → (allow : List ℕ) (e : Encapsulation) (inner : List ℕ) (i hop : ℕ) → goes_on s ≡ true → i + 1 < length e.segments → hop ≤ 1
         → at_sid s allow (at_segment e inner i hop) ≡ Refused HopLimit 0 }
 {}
 
@@ -99,26 +100,27 @@ pub fn end_goes_on_to_the_next_segment()
 /// read as that packet. So it is too where the header was taken out on the way (RFC 8986 sections
 /// 4.1 to 4.6 and 4.16).
 pub fn last_segment_has_the_packet_inside()
-    ensures upper_layer { (s : SidEntry) (allow : List ℕ) (e : Encapsulation) (inner : List ℕ)
-        (i hop : ℕ) → s.usp ≡ false → exposes s ipv6_inside ≡ false → i + 1 ≡ length e.segments
+    ensures upper_layer { (s : SidEntry) → s.csid ≡ Plain
+        → (allow : List ℕ) (e : Encapsulation) (inner : List ℕ) (i hop : ℕ) → s.usp ≡ false → exposes s ipv6_inside ≡ false → i + 1 ≡ length e.segments
         → at_sid s allow (at_segment e inner i hop)
         ≡ upper_layer allow (at_segment e inner i hop) (inner_place e) }
-    ensures usp { (s : SidEntry) (allow : List ℕ) (e : Encapsulation) (inner : List ℕ)
-        (i hop : ℕ) → s.usp ≡ true → has_segment_routing e ≡ true → exposes s ipv6_inside ≡ false
+    ensures usp { (s : SidEntry) → s.csid ≡ Plain
+        → (allow : List ℕ) (e : Encapsulation) (inner : List ℕ) (i hop : ℕ) → s.usp ≡ true → has_segment_routing e ≡ true → exposes s ipv6_inside ≡ false
         → i + 1 ≡ length e.segments
         → at_sid s allow (at_segment e inner i hop)
         ≡ (if is_allowed allow ipv6_inside
         then Delivered (bare e inner hop (slice_index e.segments i))
         else Refused UpperLayer (inner_place e).at) }
-    ensures exposed { (s : SidEntry) (allow : List ℕ) (e : Encapsulation) (inner : List ℕ)
-        (i hop : ℕ) → exposes s ipv6_inside ≡ true → i + 1 ≡ length e.segments
+    ensures exposed { (s : SidEntry) → s.csid ≡ Plain
+        → (allow : List ℕ) (e : Encapsulation) (inner : List ℕ) (i hop : ℕ) → exposes s ipv6_inside ≡ true → i + 1 ≡ length e.segments
         → at_sid s allow (at_segment e inner i hop) ≡ Exposed V6 inner }
-    ensures bare_upper_layer { (s : SidEntry) (allow : List ℕ) (e : Encapsulation)
+    ensures bare_upper_layer { (s : SidEntry) → s.csid ≡ Plain
+        → (allow : List ℕ) (e : Encapsulation)
         (inner : List ℕ) (hop destination : ℕ) → exposes s ipv6_inside ≡ false
         → at_sid s allow (bare e inner hop destination)
         ≡ upper_layer allow (bare e inner hop destination) bare_place }
-    ensures bare_exposed { (s : SidEntry) (allow : List ℕ) (e : Encapsulation) (inner : List ℕ)
-        (hop destination : ℕ) → exposes s ipv6_inside ≡ true
+    ensures bare_exposed { (s : SidEntry) → s.csid ≡ Plain
+        → (allow : List ℕ) (e : Encapsulation) (inner : List ℕ) (hop destination : ℕ) → exposes s ipv6_inside ≡ true
         → at_sid s allow (bare e inner hop destination) ≡ Exposed V6 inner }
     ensures packet { (p : Packet) → IsSpellable p → read_as V6 (spelling p) ≡ V6Content p }
 {}
@@ -126,7 +128,8 @@ pub fn last_segment_has_the_packet_inside()
 /// A SID that does not go on, as End.DT6, refuses the packet at a segment that is not the last,
 /// whatever its hop limit, for Segments Left (RFC 8986 section 4.6).
 pub fn decapsulation_is_at_the_last_segment()
-    ensures { (s : SidEntry) (allow : List ℕ) (e : Encapsulation) (inner : List ℕ) (i hop : ℕ)
+    ensures { (s : SidEntry) → s.csid ≡ Plain
+        → (allow : List ℕ) (e : Encapsulation) (inner : List ℕ) (i hop : ℕ)
         → goes_on s ≡ false → i + 1 < length e.segments
         → at_sid s allow (at_segment e inner i hop)
         ≡ Refused BadSegments (header_len + segments_left_at) }
@@ -175,7 +178,8 @@ pub fn encapsulation_lowers_and_keeps_the_packet()
     ensures spellable { (e : Encapsulation) (p : Packet) (hop : ℕ) → IsSpellableEncapsulation e
         → IsSpellable p → hop < 2 ^ 8 → header_bytes e.reduced (length e.segments) + length
         (spelling p) ≤ most_len → IsSpellable (encapsulated e p hop) }
-    ensures exposed { (s : SidEntry) (allow : List ℕ) (e : Encapsulation) (p : Packet) (i hop : ℕ)
+    ensures exposed { (s : SidEntry) → s.csid ≡ Plain
+        → (allow : List ℕ) (e : Encapsulation) (p : Packet) (i hop : ℕ)
         → exposes s ipv6_inside ≡ true → i + 1 ≡ length e.segments
         → at_sid s allow (at_segment e (spelling (inner_lowered p)) i hop)
         ≡ Exposed V6 (spelling (inner_lowered p)) }

@@ -50,7 +50,10 @@ impl IcmpKind {
             | Reason::Fragment
             | Reason::HmacTlv
             | Reason::BadTlv
-            | Reason::NotBuilt => return None,
+            | Reason::NotBuilt
+            | Reason::Ttl
+            | Reason::TooBig
+            | Reason::InnerHop => return None,
         };
         Some(IcmpKind::Parameter { code, at })
     }

@@ -1,12 +1,14 @@
 //! Laws about the definitions, each the contract of a function that does nothing.
 
 ghost use Rattle.std.specs.Prelude.{◌≡◌, ◌≢◌, ◌⊎◌, ◌↔◌, ◌<◌, ◌≤◌, ◌+◌, ◌-◌, ◌*◌, ◌^◌, true, false, if◌then◌else◌, List, [], ℕ, ◌∷◌, ◌++◌, length, take, drop, slice_index, slice_set, All, flat_map, Contains, Option, Some, None};
-ghost use Rattle.srv6_rules.specs.Behaviours.{ipv6_inside, ipv4_inside, is_packet_inside, goes_on, exposes, is_built};
+ghost use Rattle.srv6_rules.specs.Behaviours.{ipv6_inside, ipv4_inside, is_packet_inside, goes_on, exposes, is_built, is_listed};
+ghost use Rattle.srv6_rules.specs.CompressedSteps.{SuitsCompression, compression_of, is_replace, shifted};
+ghost use Rattle.srv6_rules.specs.Packet4.{Packet4, spelling4};
 ghost use Rattle.srv6_rules.specs.declared.numbers.TheConstants.{NEXT_HEADER_AT, PAD1, HMAC, OPTIONS_AT, SEGMENT_LIST_AT, SEGMENT_LEN};
 ghost use Rattle.srv6_rules.specs.Areas.{Fault, item_bytes, first_of, area_fault, option_fault, options_fault, tlv_fault, tlvs_fault};
 ghost use Rattle.srv6_rules.specs.Chain.{ChainPlace, Header, ChainEnd, Upper, Cut, LiesIn, StandsIn, EndsIn, Follow, is_extension, hop_by_hop, routing, fragment, destination_options, is_first, is_whole, extension_bytes, header_in, behind_in, behind, place_of, place_behind, without, lowered, renamed, in_front, start_of, chain_of, chain_at, from_place, segments_left, is_segment_routing};
-ghost use Rattle.srv6_rules.specs.Endpoint.{Endpoint, Onward, Exposed, Delivered, Refused, StepsTo, StepsWithPsp, ChangesFewBytes, ExposesFrom, IsPassed, IsTakenOut, IsSkipped, IsReached, Decides, as_in, outcome_without, next_segment, over_headers, over_chain, at_header_by, at_header, at_sid, at_address_header, at_address};
-ghost use Rattle.srv6_rules.specs.Packet.{Packet, V6, Unreadable, IsSpellable, IsContent, Spells, spelling, content_of, read_as, entered, bytes_of, header_len, stated_len, packet_at, two_bytes, four_bytes, first_word, address_bytes, two_number, four_number, address_number};
+ghost use Rattle.srv6_rules.specs.Endpoint.{Endpoint, Onward, Exposed, Delivered, Refused, StepsTo, StepsWithPsp, MovesWithPsp, TakesWhole, ChangesFewBytes, ExposesFrom, IsPassed, IsTakenOut, IsSkipped, IsReached, Decides, as_in, outcome_without, next_segment, next_csid, shifts_at, is_options, over_headers, over_chain, at_header_by, at_sid_routing, at_header, at_upper, at_sid, at_address_header, at_address};
+ghost use Rattle.srv6_rules.specs.Packet.{Packet, V6, V4, Unreadable, IsSpellable, IsContent, Spells, spelling, content_of, read_as, entered, bytes_of, header_len, stated_len, packet_at, two_bytes, four_bytes, first_word, address_bytes, two_number, four_number, address_number};
 ghost use Rattle.srv6_rules.specs.Srh.{Srh, IsSrhSpellable, srh_of, srh_spelling, segment_routing, segments_left_at, routing_type_at};
 ghost use Rattle.srv6_rules.specs.declared.sid.Behaviour.TheVariants.{End, EndX, EndT, Dx6, Dx4, Dt6, Dt4, Dt46, B6, B6Red};
 ghost use Rattle.srv6_rules.specs.declared.sid.Csid.TheVariants.{Plain};
@@ -109,11 +111,13 @@ pub fn what_reads_was_spelled()
         → content_of bytes ≡ V6 p → length bytes ≤ length (spelling p) → bytes ≡ spelling p }
 {}
 
-/// What enters a node is a content that bytes can spell, and its bytes read as it again (own rule).
+/// What enters a node as a packet of a family is a content that bytes can spell, and its bytes read
+/// as it again (own rule).
 pub fn what_enters_is_a_content()
-    ensures content { (bytes : List ℕ) → All (λ b. b < 2 ^ 8) bytes → IsContent (entered bytes) }
-    ensures back { (bytes : List ℕ) → All (λ b. b < 2 ^ 8) bytes
-        → content_of (bytes_of (entered bytes)) ≡ entered bytes }
+    ensures content { (family : Family) (bytes : List ℕ) → All (λ b. b < 2 ^ 8) bytes
+        → IsContent (entered family bytes) }
+    ensures back { (family : Family) (bytes : List ℕ) → All (λ b. b < 2 ^ 8) bytes
+        → read_as family (bytes_of (entered family bytes)) ≡ entered family bytes }
 {}
 
 /// Reading a segment routing header's spelling gives the header back, whatever stands behind it
@@ -415,33 +419,62 @@ pub fn header_is_passed_over_or_refused_by_its_kind()
 /// SID that goes on takes the step over a segment routing header, and with PSP takes it out exactly
 /// where one segment was left, so that Segments Left becomes 0; another SID refuses it for Segments
 /// Left, and any other routing header is unknown; at an address every one is (RFC 8754 section
-/// 4.3.1.1, RFC 8986 sections 4.1 to 4.8, 4.16.1 and 4.16.2, RFC 8200 section 4.4).
+/// 4.3.1.1, RFC 8986 sections 4.1 to 4.8, 4.16.1 and 4.16.2, RFC 8200 section 4.4). So it is where
+/// a SID's segments are whole and it does not shift the destination; SIDs that do have laws of
+/// their own.
 pub fn routing_header_is_passed_over_stepped_over_or_refused()
-    ensures passed { (s : SidEntry) (p : Packet) (h : Header) → s.usp ≡ false
+    ensures passed { (s : SidEntry) (p : Packet) (h : Header) → TakesWhole s p → s.usp ≡ false
         → h.place.kind ≡ routing → segments_left h ≡ 0 → IsPassed (at_header s p) h }
-    ensures passed_other { (s : SidEntry) (p : Packet) (h : Header) → h.place.kind ≡ routing
-        → is_segment_routing h ≡ false → segments_left h ≡ 0 → IsPassed (at_header s p) h }
-    ensures usp { (s : SidEntry) (p : Packet) (h : Header) → s.usp ≡ true
+    ensures passed_other { (s : SidEntry) (p : Packet) (h : Header) → shifts_at s p ≡ false
+        → h.place.kind ≡ routing → is_segment_routing h ≡ false → segments_left h ≡ 0
+        → IsPassed (at_header s p) h }
+    ensures usp { (s : SidEntry) (p : Packet) (h : Header) → TakesWhole s p → s.usp ≡ true
         → is_segment_routing h ≡ true → segments_left h ≡ 0 → IsTakenOut s p h }
-    ensures steps { (s : SidEntry) (p : Packet) (h : Header) (rest : Endpoint)
+    ensures steps { (s : SidEntry) (p : Packet) (h : Header) (rest : Endpoint) → TakesWhole s p
         → is_segment_routing h ≡ true → 0 < segments_left h → goes_on s ≡ true
         → (s.psp ≡ false) ⊎ (1 < segments_left h)
         → at_header s p h rest ≡ next_segment p h.place.at (srh_of h.bytes) }
-    ensures psp { (s : SidEntry) (p : Packet) (h : Header) (rest : Endpoint)
+    ensures psp { (s : SidEntry) (p : Packet) (h : Header) (rest : Endpoint) → TakesWhole s p
         → is_segment_routing h ≡ true → segments_left h ≡ 1 → goes_on s ≡ true → s.psp ≡ true
         → at_header s p h rest
         ≡ outcome_without h (next_segment p h.place.at (srh_of h.bytes)) }
-    ensures refuses { (s : SidEntry) (p : Packet) (h : Header) (rest : Endpoint)
+    ensures refuses { (s : SidEntry) (p : Packet) (h : Header) (rest : Endpoint) → TakesWhole s p
         → is_segment_routing h ≡ true → 0 < segments_left h → goes_on s ≡ false
         → at_header s p h rest ≡ Refused BadSegments (h.place.at + segments_left_at) }
     ensures unknown { (s : SidEntry) (p : Packet) (h : Header) (rest : Endpoint)
-        → h.place.kind ≡ routing → is_segment_routing h ≡ false → 0 < segments_left h
+        → shifts_at s p ≡ false → h.place.kind ≡ routing → is_segment_routing h ≡ false
+        → 0 < segments_left h
         → at_header s p h rest ≡ Refused UnknownRouting (h.place.at + routing_type_at) }
     ensures passed_at_address { (h : Header) → h.place.kind ≡ routing → segments_left h ≡ 0
         → IsPassed at_address_header h }
     ensures at_address { (h : Header) (rest : Endpoint) → h.place.kind ≡ routing
         → 0 < segments_left h
         → at_address_header h rest ≡ Refused UnknownRouting (h.place.at + routing_type_at) }
+{}
+
+/// A SID of NEXT-CSID with an argument that is not 0 shifts at the first header that has no
+/// options, and in front of the upper layer: the packet that goes on is the one with the shifted
+/// destination, whose headers are as they were, also with PSP and USP; elsewhere a header is what
+/// its kind makes it (RFC 9800 section 4.1).
+pub fn sid_shifts_at_the_first_header_without_options()
+    ensures shifts { (s : SidEntry) (p : Packet) (h : Header) (rest : Endpoint)
+        → shifts_at s p ≡ true → is_options h ≡ false → at_header s p h rest ≡ next_csid s p }
+    ensures upper { (s : SidEntry) (allow : List ℕ) (p : Packet) (place : ChainPlace)
+        → shifts_at s p ≡ true → at_upper s allow p place ≡ next_csid s p }
+    ensures options { (s : SidEntry) (p : Packet) (h : Header) (rest : Endpoint)
+        → is_options h ≡ true
+        → at_header s p h rest ≡ at_header_by (at_sid_routing s p) h rest }
+    ensures onward { (s : SidEntry) (allow : List ℕ) (p q : Packet) → shifts_at s p ≡ true
+        → at_sid s allow p ≡ Onward q → q ≡ shifted (compression_of s) p }
+    ensures plain { (s : SidEntry) (p : Packet) → s.csid ≡ Plain → TakesWhole s p }
+{}
+
+/// A packet that goes on from a SID of REPLACE-CSID without USP has taken the step over a segment
+/// routing header behind headers that are passed over, and with PSP that header is taken out
+/// exactly where no segment is left then (RFC 9800 section 4.2, RFC 8986 section 4.16.1).
+pub fn packed_segments_are_moved_on_in()
+    ensures { (s : SidEntry) (allow : List ℕ) (p q : Packet) → is_replace s.csid ≡ true
+        → s.usp ≡ false → at_sid s allow p ≡ Onward q → MovesWithPsp s p q }
 {}
 
 /// A header that is reached is one of the chain's, lies in the packet, and stands at a place of it
@@ -498,18 +531,27 @@ pub fn behaviours_go_on_or_expose()
         → exposes s kind ≡ is_packet_inside kind }
 {}
 
-/// Nodes run so far the SIDs of End, End.X, End.T, End.DX6 and End.DT6 that are not compressed and
-/// have no flavours (RFC 8986 sections 4.1 to 4.4 and 4.6).
-pub fn plain_sids_are_built()
-    ensures { (s : SidEntry) → (is_built s ≡ true) ↔ ((s.csid ≡ Plain) × ((s.psp ≡ false)
-        × ((s.usp ≡ false) × ((s.usd ≡ false) × ((s.behaviour ≡ End) ⊎ ((s.behaviour ≡ EndX)
-        ⊎ (((table : ℕ) × (s.behaviour ≡ EndT table)) ⊎ ((s.behaviour ≡ Dx6)
-        ⊎ ((table : ℕ) × (s.behaviour ≡ Dt6 table)))))))))) }
+/// Nodes run so far every SID but those of End.B6.Encaps and its reduced form (RFC 8986 sections
+/// 4.13 and 4.14).
+pub fn binding_sids_are_not_built()
+    ensures { (s : SidEntry) → (is_built s ≡ false) ↔ (((policy : ℕ) × (s.behaviour ≡ B6 policy))
+        ⊎ ((policy : ℕ) × (s.behaviour ≡ B6Red policy))) }
+{}
+
+/// The compiler's lists take so far the SIDs of End, End.X, End.T, End.DX6 and End.DT6 that are not
+/// compressed and have no flavours; nodes run these (RFC 8986 sections 4.1 to 4.4 and 4.6).
+pub fn plain_sids_are_listed()
+    ensures listed { (s : SidEntry) → (is_listed s ≡ true) ↔ ((s.csid ≡ Plain)
+        × ((s.psp ≡ false) × ((s.usp ≡ false) × ((s.usd ≡ false) × ((s.behaviour ≡ End)
+        ⊎ ((s.behaviour ≡ EndX) ⊎ (((table : ℕ) × (s.behaviour ≡ EndT table))
+        ⊎ ((s.behaviour ≡ Dx6) ⊎ ((table : ℕ) × (s.behaviour ≡ Dt6 table)))))))))) }
+    ensures built { (s : SidEntry) → is_listed s ≡ true → is_built s ≡ true }
 {}
 
 /// A packet that goes on from a SID, whichever its flavours, had a hop limit above 1 and has one
 /// lower by one, has its traffic class, flow label and source as they were, and stays a packet that
-/// bytes can spell (RFC 8754 section 4.3.1.1, RFC 8986 sections 4.1 to 4.3).
+/// bytes can spell, where the SID's compression suits its prefix (RFC 8754 section 4.3.1.1, RFC
+/// 8986 sections 4.1 to 4.3, RFC 9800 section 4).
 pub fn onward_lowers_the_hop_limit_by_one()
     ensures hop_limit { (s : SidEntry) (allow : List ℕ) (p q : Packet)
         → at_sid s allow p ≡ Onward q
@@ -517,21 +559,22 @@ pub fn onward_lowers_the_hop_limit_by_one()
     ensures fields { (s : SidEntry) (allow : List ℕ) (p q : Packet) → at_sid s allow p ≡ Onward q
         → (q.traffic_class ≡ p.traffic_class) × ((q.flow_label ≡ p.flow_label)
         × (q.source ≡ p.source)) }
-    ensures spellable { (s : SidEntry) (allow : List ℕ) (p q : Packet) → IsSpellable p
-        → at_sid s allow p ≡ Onward q → IsSpellable q }
+    ensures spellable { (s : SidEntry) (allow : List ℕ) (p q : Packet) → SuitsCompression s
+        → IsSpellable p → at_sid s allow p ≡ Onward q → IsSpellable q }
 {}
 
-/// A packet that goes on from a SID without PSP and USP has taken the step over a segment routing
-/// header: the hop limit was above 1 and is one lower, Segments Left is one lower, the destination
+/// A packet that goes on from a SID without PSP and USP whose segments are whole, and which does not
+/// shift the packet's destination, has taken the step over a segment routing header: the hop limit was above 1 and is one lower, Segments Left is one lower, the destination
 /// is that entry, and all else is as it was; its bytes are as they were but for byte 7, bytes 24 to
 /// 39 and the byte of Segments Left. With PSP the same header is taken out then exactly where
 /// Segments Left became 0 (RFC 8754 section 4.3.1.1, RFC 8986 sections 4.1 to 4.3 and 4.16.1).
 pub fn onward_is_one_step()
-    ensures step { (s : SidEntry) (allow : List ℕ) (p q : Packet) → s.psp ≡ false → s.usp ≡ false
-        → at_sid s allow p ≡ Onward q → StepsTo s p q }
-    ensures bytes { (s : SidEntry) (allow : List ℕ) (p q : Packet) → s.psp ≡ false → s.usp ≡ false
-        → at_sid s allow p ≡ Onward q → ChangesFewBytes (spelling p) (spelling q) }
-    ensures psp { (s : SidEntry) (allow : List ℕ) (p q : Packet) → s.usp ≡ false
+    ensures step { (s : SidEntry) (allow : List ℕ) (p q : Packet) → TakesWhole s p
+        → s.psp ≡ false → s.usp ≡ false → at_sid s allow p ≡ Onward q → StepsTo s p q }
+    ensures bytes { (s : SidEntry) (allow : List ℕ) (p q : Packet) → TakesWhole s p
+        → s.psp ≡ false → s.usp ≡ false → at_sid s allow p ≡ Onward q
+        → ChangesFewBytes (spelling p) (spelling q) }
+    ensures psp { (s : SidEntry) (allow : List ℕ) (p q : Packet) → TakesWhole s p → s.usp ≡ false
         → at_sid s allow p ≡ Onward q → StepsWithPsp s p q }
 {}
 
@@ -545,6 +588,9 @@ pub fn decapsulation_changes_no_byte()
     ensures packet { (s : SidEntry) (allow : List ℕ) (p q : Packet) (family : Family)
         (bytes : List ℕ) → IsSpellable p → at_sid s allow p ≡ Exposed family bytes
         → read_as family bytes ≡ V6 q → bytes ≡ spelling q ++ drop (length (spelling q)) bytes }
+    ensures packet4 { (s : SidEntry) (allow : List ℕ) (p : Packet) (q : Packet4) (family : Family)
+        (bytes : List ℕ) → IsSpellable p → at_sid s allow p ≡ Exposed family bytes
+        → read_as family bytes ≡ V4 q → bytes ≡ spelling4 q ++ drop (length (spelling4 q)) bytes }
     ensures unreadable { (family : Family) (bytes kept : List ℕ) (why : Reason)
         → read_as family bytes ≡ Unreadable kept why → bytes ≡ kept }
     ensures content { (s : SidEntry) (allow : List ℕ) (p : Packet) (family : Family)

@@ -2,9 +2,11 @@
 
 ghost use Rattle.std.specs.Prelude.{◌≡◌, Some};
 ghost use Rattle.srv6_rules.specs.Reasons.{reason_name};
-ghost use Rattle.srv6_rules.specs.Behaviours.{behaviour_goes_on, behaviour_exposes, behaviour_takes_links, behaviour_table, behaviour_policy, behaviour_takes_flavours, behaviour_is_built};
-ghost use Rattle.srv6_rules.specs.Behaviours.{goes_on, exposes, is_built};
+ghost use Rattle.srv6_rules.specs.Behaviours.{behaviour_goes_on, behaviour_exposes, behaviour_takes_links, behaviour_table, behaviour_policy, behaviour_takes_flavours, behaviour_is_built, behaviour_is_listed};
+ghost use Rattle.srv6_rules.specs.Behaviours.{goes_on, exposes, is_built, is_listed};
+ghost use Rattle.srv6_rules.specs.CompressedSteps.{compression_of};
 
+use crate::compression::Compression;
 use crate::numbers::{IPV4_INSIDE, IPV6_INSIDE};
 use base::Seq;
 use std::fmt;
@@ -113,6 +115,12 @@ pub enum Reason {
     UpperLayer,
     /// A form that is not built yet.
     NotBuilt,
+    /// The TTL of an IPv4 packet is at most 1 and would have to be lowered.
+    Ttl,
+    /// With another header in front the packet would be longer than its payload length can state.
+    TooBig,
+    /// The hop limit or TTL of a packet that is to be encapsulated is at most 1.
+    InnerHop,
 }
 
 impl Display for Reason {
@@ -137,6 +145,9 @@ impl Display for Reason {
             Reason::UnknownRouting => "UnknownRouting",
             Reason::UpperLayer => "UpperLayer",
             Reason::NotBuilt => "NotBuilt",
+            Reason::Ttl => "Ttl",
+            Reason::TooBig => "TooBig",
+            Reason::InnerHop => "InnerHop",
         })
     }
 }
@@ -280,9 +291,26 @@ impl Behaviour {
         }
     }
 
-    /// Nodes run it: so far End, End.X, End.T, End.DX6 and End.DT6.
+    /// Nodes run it: so far every behaviour but End.B6.Encaps and its reduced form.
     fn is_built(&self) -> bool
         ensures { result ≡ behaviour_is_built self.now }
+    {
+        match self {
+            Behaviour::End
+            | Behaviour::EndX
+            | Behaviour::EndT { .. }
+            | Behaviour::Dx6
+            | Behaviour::Dx4
+            | Behaviour::Dt6 { .. }
+            | Behaviour::Dt4 { .. }
+            | Behaviour::Dt46 { .. } => true,
+            Behaviour::B6 { .. } | Behaviour::B6Red { .. } => false,
+        }
+    }
+
+    /// The compiler's lists take it: so far End, End.X, End.T, End.DX6 and End.DT6.
+    fn is_listed(&self) -> bool
+        ensures { result ≡ behaviour_is_listed self.now }
     {
         match self {
             Behaviour::End
@@ -315,11 +343,33 @@ impl SidEntry {
         self.behaviour.exposes(kind) || (self.usd && (kind == IPV6_INSIDE || kind == IPV4_INSIDE))
     }
 
-    /// Nodes run it: so far the plain SIDs of End, End.X, End.T, End.DX6 and End.DT6 without
-    /// flavours.
+    /// How its part of a segment list is compressed, with the lengths that tell (RFC 9800 section 3).
+    pub fn compression(&self) -> Compression
+        ensures { result ≡ compression_of self.now }
+    {
+        Compression {
+            kind: self.csid,
+            prefix_len: self.prefix.len(),
+            block_len: self.block_len,
+        }
+    }
+
+    /// Nodes run it: so far the SIDs of every behaviour but End.B6.Encaps and its reduced form.
     pub fn is_built(&self) -> bool
         ensures { result ≡ is_built self.now }
     {
-        self.csid == Csid::Plain && !self.psp && !self.usp && !self.usd && self.behaviour.is_built()
+        self.behaviour.is_built()
+    }
+
+    /// The compiler's lists take it: so far the plain SIDs of End, End.X, End.T, End.DX6 and
+    /// End.DT6 without flavours.
+    pub fn is_listed(&self) -> bool
+        ensures { result ≡ is_listed self.now }
+    {
+        self.csid == Csid::Plain
+            && !self.psp
+            && !self.usp
+            && !self.usd
+            && self.behaviour.is_listed()
     }
 }

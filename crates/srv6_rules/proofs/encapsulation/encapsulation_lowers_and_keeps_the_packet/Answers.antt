@@ -21,7 +21,7 @@ pub returns-clause-spellable : goal.returns-clause-spellable
 returns-clause-spellable c = encapsulated-spellable
 
 pub returns-clause-exposed : goal.returns-clause-exposed
-returns-clause-exposed c = λ s allow e p. at_segment-exposed s allow e (spelling (inner_lowered p))
+returns-clause-exposed c = λ s plain allow e p. at_segment-exposed s plain allow e (spelling (inner_lowered p))
 
 pub returns-clause-reads : goal.returns-clause-reads
 returns-clause-reads c = λ p ok. content_of-spelling_alone (inner_lowered p) (lowered-spellable p ok)

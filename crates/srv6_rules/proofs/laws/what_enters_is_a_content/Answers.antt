@@ -1,4 +1,4 @@
-use Rattle.srv6_rules.proofs.Packets.{entered-is_content, entered-back}
+use Rattle.srv6_rules.proofs.Contents.{entered-is_content, entered-back}
 use Rattle.srv6_rules.proofs.laws.what_enters_is_a_content.Goals as goal
 
 pub returns-clause-content : goal.returns-clause-content
