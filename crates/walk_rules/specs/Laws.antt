@@ -3,7 +3,9 @@ use Rattle.std.specs.Prelude.{◌≡◌, ◌≢◌, ℕ, true, ◌+◌, ◌<◌,
 use Rattle.srv6_rules.specs.declared.sid.Family.{Family}
 use Rattle.srv6_rules.specs.declared.sid.SidEntry.{SidEntry}
 use Rattle.srv6_rules.specs.Behaviours.{is_built}
-use Rattle.srv6_rules.specs.Packet.{Packet, Content, V6, Unreadable}
+use Rattle.srv6_rules.specs.Packet.{Packet, Content, V6, V4, Unreadable}
+use Rattle.srv6_rules.specs.Packet4.{destination4}
+use Rattle.srv6_rules.specs.declared.sid.Behaviour.{Behaviour}
 use Rattle.srv6_rules.specs.Endpoint.{at_sid}
 use Rattle.net_model.specs.Network.{Network}
 use Rattle.walk_rules.specs.declared.place.How.{How}
@@ -11,7 +13,7 @@ use Rattle.walk_rules.specs.declared.place.Place.{Place}
 use Rattle.walk_rules.specs.declared.place.Outcome.{Outcome}
 use Rattle.walk_rules.specs.declared.place.Outcome.TheVariants as outcomes
 use Rattle.walk_rules.specs.Way.{Way, Away, Over, Own, Into, way_of}
-use Rattle.walk_rules.specs.Treatment.{Gave, allow_of, on_from, treated_at_sid}
+use Rattle.walk_rules.specs.Treatment.{Gave, allow_of, treated_at_sid}
 use Rattle.walk_rules.specs.Relation.{Stage, IsPlace}
 use Rattle.walk_rules.specs.Walk.{Step, decisions}
 
@@ -25,6 +27,7 @@ set_of (Into n) = []
 -- the set of equal next hops of a stage
 abbrev pub hops_at : Network → Place → Content → List ℕ
 hops_at net place (V6 p) = set_of (way_of net place p.destination)
+hops_at net place (V4 p) = set_of (way_of net place (destination4 p))
 hops_at net place (Unreadable bytes reason) = []
 
 -- two sends on different members of one set
@@ -48,12 +51,15 @@ family_after place (outcomes.Drop reason error) = place.family
 -- a packet whose hop limit was above 1, and is one less
 abbrev pub IsLoweredByOne : Content → Content → Type 0
 IsLoweredByOne (V6 p) (V6 q) = (1 < p.hop_limit) × (q.hop_limit + 1 ≡ p.hop_limit)
+IsLoweredByOne (V6 p) (V4 q) = ⊥
 IsLoweredByOne (V6 p) (Unreadable bytes reason) = ⊥
+IsLoweredByOne (V4 p) after = ⊥
 IsLoweredByOne (Unreadable bytes reason) after = ⊥
 
--- SID n was executed on a packet: the way leads into it, it is there, stands at the node and is built, the packet goes on
--- from it in its way, and what the stage gave is what the SID does
-pub record Executes (net : Network) (place : Place) (content : Content) (gave : Gave) (n : ℕ) (how : How) : Type 0 where
+-- SID n was executed on a packet: the way leads into it, it is there, stands at the node and is built, what went on from it did
+-- so in the way that a word gives it by the behaviour, and what the stage gave is what the SID does
+pub record Executes (way_by : ℕ → Behaviour → How) (net : Network) (place : Place) (content : Content) (gave : Gave) (n : ℕ)
+    (how : How) : Type 0 where
   pub packet : Packet
   pub is_packet : content ≡ V6 packet
   pub way : way_of net place packet.destination ≡ Into n
@@ -61,9 +67,22 @@ pub record Executes (net : Network) (place : Place) (content : Content) (gave : 
   pub is_there : slice_get net.sids n ≡ Some sid
   pub stands : sid.node ≡ place.node
   pub built : is_built sid ≡ true
-  pub goes_on : how ≡ on_from n sid.behaviour
+  pub goes_on : how ≡ way_by n sid.behaviour
   pub gives : gave
       ≡ treated_at_sid net place.node n sid.behaviour packet (at_sid sid (allow_of (slice_get net.nodes place.node)) packet)
+
+-- a packet was handed over at a SID with USP, which may have taken out headers: its next header and its payload alone may be others
+pub record IsDeliveredBehindUsp (net : Network) (place : Place) (content after : Content) : Type 0 where
+  pub before : Packet
+  pub left : Packet
+  pub was : content ≡ V6 before
+  pub is : after ≡ V6 left
+  pub n : ℕ
+  pub sid : SidEntry
+  pub way : way_of net place before.destination ≡ Into n
+  pub is_there : slice_get net.sids n ≡ Some sid
+  pub usp : sid.usp ≡ true
+  pub others : left ≡ record before { next_header = left.next_header; payload = left.payload }
 
 -- two answers that differ at most in the link on which they send
 pub record DifferAtMostInLink (one other : Gave) : Type 0 where

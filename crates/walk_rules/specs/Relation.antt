@@ -4,7 +4,8 @@ use Rattle.std.specs.Prelude.{◌≡◌, ℕ, ◌<◌, ◌≤◌, Bool, true, fa
 use Rattle.srv6_rules.specs.declared.sid.Reason.{Reason}
 use Rattle.srv6_rules.specs.declared.sid.Reason.TheVariants as reasons
 use Rattle.srv6_rules.specs.declared.sid.SidEntry.{SidEntry}
-use Rattle.srv6_rules.specs.Packet.{Packet, Content, V6, Unreadable}
+use Rattle.srv6_rules.specs.Packet.{Packet, Content, V6, V4, Unreadable}
+use Rattle.srv6_rules.specs.Packet4.{Packet4, ttl, destination4}
 use Rattle.srv6_rules.specs.Endpoint.{at_address}
 use Rattle.net_model.specs.Network.{Network}
 use Rattle.walk_rules.specs.declared.place.How.{How}
@@ -13,7 +14,7 @@ use Rattle.walk_rules.specs.declared.place.Place.{Place}
 use Rattle.walk_rules.specs.declared.place.Outcome.{Outcome}
 use Rattle.walk_rules.specs.declared.place.Outcome.TheVariants as outcomes
 use Rattle.walk_rules.specs.Way.{Way, Away, Over, Own, Into, way_of}
-use Rattle.walk_rules.specs.Treatment.{Gave, error_of, lowered, treated_at_address, treated_in}
+use Rattle.walk_rules.specs.Treatment.{Gave, error_of, lowered, ttl_lowered, treated_at_address, treated_in}
 
 -- an outcome, the packet after it and the error are those that were given
 abbrev pub Gives : Gave → Outcome → Content → Option Packet → Type 0
@@ -36,6 +37,18 @@ Sends net node set lower p (outcomes.Again sid how) after error = ⊥
 Sends net node set lower p (outcomes.Hand sid how family) after error = ⊥
 Sends net node set lower p outcomes.Local after error = ⊥
 
+-- so it is with the TTL of an IPv4 packet
+abbrev pub Sends4 : Network → ℕ → List ℕ → Bool → Packet4 → Outcome → Content → Option Packet → Type 0
+Sends4 net node set true p (outcomes.Send link) after error =
+    Contains set link × (1 < ttl p) × (after ≡ V4 (ttl_lowered true p)) × (error ≡ None)
+Sends4 net node set false p (outcomes.Send link) after error = Contains set link × (after ≡ V4 p) × (error ≡ None)
+Sends4 net node set true p (outcomes.Drop reason told) after error =
+    (ttl p ≤ 1) × Drops net node reasons.Ttl 0 (V4 p) (outcomes.Drop reason told) after error
+Sends4 net node set false p (outcomes.Drop reason told) after error = ⊥
+Sends4 net node set lower p (outcomes.Again sid how) after error = ⊥
+Sends4 net node set lower p (outcomes.Hand sid how family) after error = ⊥
+Sends4 net node set lower p outcomes.Local after error = ⊥
+
 -- at an address and at a SID there is one outcome
 abbrev pub Treats : Network → ℕ → Way → Packet → Outcome → Content → Option Packet → Type 0
 Treats net node (Away reason) p outcome after error = Drops net node reason 0 (V6 p) outcome after error
@@ -43,11 +56,19 @@ Treats net node (Over set lower) p outcome after error = Sends net node set lowe
 Treats net node Own p outcome after error = Gives (treated_at_address net node p (at_address p)) outcome after error
 Treats net node (Into n) p outcome after error = Gives (treated_in net node n (slice_get net.sids n) p) outcome after error
 
+-- an IPv4 packet is sent on, or dropped
+abbrev pub Treats4 : Network → ℕ → Way → Packet4 → Outcome → Content → Option Packet → Type 0
+Treats4 net node (Away reason) p outcome after error = Drops net node reason 0 (V4 p) outcome after error
+Treats4 net node (Over set lower) p outcome after error = Sends4 net node set lower p outcome after error
+Treats4 net node Own p outcome after error = Drops net node reasons.NoRoute 0 (V4 p) outcome after error
+Treats4 net node (Into n) p outcome after error = Drops net node reasons.NoRoute 0 (V4 p) outcome after error
+
 -- the stage: an outcome that there is at a place, what stands there after it, and the error that is sent, if one is
 abbrev pub Stage : Network → Place → Content → Outcome → Content → Option Packet → Type 0
 Stage net place (Unreadable bytes reason) outcome after error =
     Drops net place.node reason 0 (Unreadable bytes reason) outcome after error
 Stage net place (V6 p) outcome after error = Treats net place.node (way_of net place p.destination) p outcome after error
+Stage net place (V4 p) outcome after error = Treats4 net place.node (way_of net place (destination4 p)) p outcome after error
 
 -- the links of a SID through which a packet goes: the SID is the node's and has links
 abbrev pub IsThrough : ℕ → Option SidEntry → Type 0

@@ -1,12 +1,13 @@
 -- One node's treatment of one packet, as a function of the place, the packet and the choice among equal next hops.
 use Rattle.std.specs.Prelude.{ℕ, ◌-◌, ◌%◌, Bool, true, false, not, ◌&&◌, nat_le, if◌then◌else◌, List, [], length, slice_index, slice_get, Option, Some, None, is_some}
 use Rattle.srv6_rules.specs.declared.sid.Behaviour.{Behaviour}
-use Rattle.srv6_rules.specs.Behaviours.{behaviour_goes_on, behaviour_takes_links, behaviour_table, is_built}
+use Rattle.srv6_rules.specs.Behaviours.{behaviour_takes_links, behaviour_table, is_built}
 use Rattle.srv6_rules.specs.declared.sid.Reason.{Reason}
 use Rattle.srv6_rules.specs.declared.sid.Reason.TheVariants as reasons
 use Rattle.srv6_rules.specs.declared.sid.SidEntry.{SidEntry}
 use Rattle.srv6_rules.specs.declared.icmp.IcmpKind.{IcmpKind}
-use Rattle.srv6_rules.specs.Packet.{Packet, Content, V6, Unreadable, read_as}
+use Rattle.srv6_rules.specs.Packet.{Packet, Content, V6, V4, Unreadable, read_as}
+use Rattle.srv6_rules.specs.Packet4.{Packet4, ttl, destination4, lowered4}
 use Rattle.srv6_rules.specs.Errors.{kind_of, error_packet}
 use Rattle.srv6_rules.specs.Endpoint.{Endpoint, Onward, Exposed, Delivered, Refused, at_sid, at_address}
 use Rattle.net_model.specs.declared.parts.Node.{Node}
@@ -39,9 +40,10 @@ error_by None p from = None
 error_by (Some kind) p from = error_packet p kind from
 
 -- the ICMPv6 error that is sent from an address about what is dropped for a reason, with the fault's place counted from the
--- first byte of what stood there; about bytes that do not read none is (RFC 4443)
+-- first byte of what stood there; about an IPv4 packet, and about bytes that do not read, none is (RFC 4443)
 abbrev pub error_from : ℕ → Reason → ℕ → Content → Option Packet
 error_from from reason at (V6 p) = error_by (kind_of reason at) p from
+error_from from reason at (V4 p) = None
 error_from from reason at (Unreadable bytes why) = None
 
 -- the error that a node sends about what it drops, from the node's own address
@@ -72,6 +74,16 @@ sent net node set lower p choice =
     if lower && nat_le p.hop_limit 1 then dropped net node reasons.HopLimit 0 (V6 p)
     else goes (outcomes.Send (member_of set choice)) (V6 (lowered lower p))
 
+abbrev pub ttl_lowered : Bool → Packet4 → Packet4
+ttl_lowered true p = lowered4 p
+ttl_lowered false p = p
+
+-- so it is with the TTL of an IPv4 packet (RFC 791 section 3.2)
+abbrev pub sent4 : Network → ℕ → List ℕ → Bool → Packet4 → ℕ → Gave
+sent4 net node set lower p choice =
+    if lower && nat_le (ttl p) 1 then dropped net node reasons.Ttl 0 (V4 p)
+    else goes (outcomes.Send (member_of set choice)) (V4 (ttl_lowered lower p))
+
 -- what comes of a packet at the node's own address; none goes on from there and none is exposed, and the two cases of the
 -- data that cannot come are as where a packet has no way
 abbrev pub treated_at_address : Network → ℕ → Packet → Endpoint → Gave
@@ -93,13 +105,18 @@ way_on n true goes_on table = Through n (not goes_on)
 way_on n false true table = Submitted (table_or_first table)
 way_on n false false table = Arrived (table_or_first table)
 
-abbrev pub on_from : ℕ → Behaviour → How
-on_from n b = way_on n (behaviour_takes_links b) (behaviour_goes_on b) (behaviour_table b)
+-- how the packet itself goes on from SID n
+abbrev pub onward_from : ℕ → Behaviour → How
+onward_from n b = way_on n (behaviour_takes_links b) true (behaviour_table b)
+
+-- how what SID n exposed goes on
+abbrev pub exposed_from : ℕ → Behaviour → How
+exposed_from n b = way_on n (behaviour_takes_links b) false (behaviour_table b)
 
 -- what comes of a packet at SID n; what is exposed is read as a packet of its family
 abbrev pub treated_at_sid : Network → ℕ → ℕ → Behaviour → Packet → Endpoint → Gave
-treated_at_sid net node n b p (Onward q) = goes (outcomes.Again n (on_from n b)) (V6 q)
-treated_at_sid net node n b p (Exposed family bytes) = goes (outcomes.Hand n (on_from n b) family) (read_as family bytes)
+treated_at_sid net node n b p (Onward q) = goes (outcomes.Again n (onward_from n b)) (V6 q)
+treated_at_sid net node n b p (Exposed family bytes) = goes (outcomes.Hand n (exposed_from n b) family) (read_as family bytes)
 treated_at_sid net node n b p (Delivered q) = goes outcomes.Local (V6 q)
 treated_at_sid net node n b p (Refused reason at) = dropped net node reason at (V6 p)
 
@@ -120,7 +137,16 @@ treated net node (Over set lower) p choice = sent net node set lower p choice
 treated net node Own p choice = treated_at_address net node p (at_address p)
 treated net node (Into n) p choice = treated_in net node n (slice_get net.sids n) p
 
+-- an IPv4 packet on a way: nodes have no address and no SID among their IPv4 entries, so the two cases of the data that cannot
+-- come are as where a packet has no way
+abbrev pub treated4 : Network → ℕ → Way → Packet4 → ℕ → Gave
+treated4 net node (Away reason) p choice = dropped net node reason 0 (V4 p)
+treated4 net node (Over set lower) p choice = sent4 net node set lower p choice
+treated4 net node Own p choice = dropped net node reasons.NoRoute 0 (V4 p)
+treated4 net node (Into n) p choice = dropped net node reasons.NoRoute 0 (V4 p)
+
 -- the stage: what one node does with what stands at a place, under a choice
 abbrev pub step_of : Network → Place → Content → ℕ → Gave
 step_of net place (Unreadable bytes reason) choice = dropped net place.node reason 0 (Unreadable bytes reason)
 step_of net place (V6 p) choice = treated net place.node (way_of net place p.destination) p choice
+step_of net place (V4 p) choice = treated4 net place.node (way_of net place (destination4 p)) p choice

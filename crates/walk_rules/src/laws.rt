@@ -4,15 +4,16 @@ ghost use Rattle.std.specs.Prelude.{◌≡◌, ◌≢◌, ℕ, ◌+◌, ◌<◌,
 ghost use Rattle.net_model.specs.Best.{lookup_of};
 ghost use Rattle.net_model.specs.Keeps.{Keeps, StartsAt};
 ghost use Rattle.net_model.specs.Network.{Network};
-ghost use Rattle.srv6_rules.specs.Packet.{Content, IsContent, Packet, V6, bytes_of, read_as};
+ghost use Rattle.srv6_rules.specs.Packet.{Content, IsContent, Packet, V4, V6, bytes_of, read_as};
+ghost use Rattle.srv6_rules.specs.Packet4.{Packet4, ttl};
 ghost use Rattle.srv6_rules.specs.Behaviours.{is_built};
 ghost use Rattle.srv6_rules.specs.declared.sid.Behaviour.TheVariants.{B6, B6Red, Dt4, Dt46, Dt6, Dx4, Dx6, End, EndT, EndX};
 ghost use Rattle.srv6_rules.specs.declared.sid.Family.{Family};
 ghost use Rattle.srv6_rules.specs.declared.sid.Reason.{Reason};
 ghost use Rattle.srv6_rules.specs.declared.sid.SidEntry.{SidEntry};
-ghost use Rattle.walk_rules.specs.Laws.{AreStages, DifferAtMostInLink, Executes, IsLoweredByOne, SendsApart, TellsOfError, family_after, hops_at};
+ghost use Rattle.walk_rules.specs.Laws.{AreStages, DifferAtMostInLink, Executes, IsDeliveredBehindUsp, IsLoweredByOne, SendsApart, TellsOfError, family_after, hops_at};
 ghost use Rattle.walk_rules.specs.Relation.{IsHow, IsPlace, Stage};
-ghost use Rattle.walk_rules.specs.Treatment.{dropped, goes, lowered, member_of, on_from, sent, step_of};
+ghost use Rattle.walk_rules.specs.Treatment.{dropped, exposed_from, goes, lowered, member_of, onward_from, sent, sent4, step_of, ttl_lowered};
 ghost use Rattle.walk_rules.specs.Walk.{IsWalk, Step, choice_at, content_after, decisions, end_of, next_place, place_after, stage_of, taken_after, walk_of, walk_on};
 ghost use Rattle.walk_rules.specs.Way.{Into, IsThere, IsWayFrom, StandsAt, way_of};
 ghost use Rattle.walk_rules.specs.declared.place.Ended.{Ended};
@@ -33,8 +34,9 @@ pub fn a_way_leads_from_its_place()
         IsWayFrom net place.node (way_of net place destination) }
 {}
 
-/// Where the hop limit is lowered, a packet whose hop limit is at most 1 is dropped, and each other
-/// is sent on the member that the choice names (RFC 8200 section 3).
+/// Where the hop limit, or the TTL of an IPv4 packet, is lowered, a packet for which it is at most 1
+/// is dropped, and each other is sent on the member that the choice names (RFC 8200 section 3, RFC
+/// 791 section 3.2).
 pub fn a_low_hop_limit_is_not_sent()
     ensures low { (net : Network) (node : ℕ) (set : List ℕ) (p : Packet) (choice : ℕ) →
         p.hop_limit ≤ 1 →
@@ -43,6 +45,12 @@ pub fn a_low_hop_limit_is_not_sent()
         1 < p.hop_limit →
         sent net node set true p choice
         ≡ goes (Outcome.Send (member_of set choice)) (V6 (lowered true p)) }
+    ensures low4 { (net : Network) (node : ℕ) (set : List ℕ) (p : Packet4) (choice : ℕ) →
+        ttl p ≤ 1 → sent4 net node set true p choice ≡ dropped net node Reason.Ttl 0 (V4 p) }
+    ensures high4 { (net : Network) (node : ℕ) (set : List ℕ) (p : Packet4) (choice : ℕ) →
+        1 < ttl p →
+        sent4 net node set true p choice
+        ≡ goes (Outcome.Send (member_of set choice)) (V4 (ttl_lowered true p)) }
 {}
 
 /// A walk from a place is the stage there, and then the walk from the next place; a walk from no
@@ -130,7 +138,9 @@ pub fn an_execution_lowers_the_hop_limit()
         gave.outcome ≡ Outcome.Again n how → IsLoweredByOne content gave.after }
 {}
 
-/// After a drop, and where an upper layer took it, what stands there is what stood there before.
+/// After a drop what stands there is what stood there before, and so where an upper layer took it, but
+/// that a SID with USP, into which the way led, may have taken out segment routing headers: then the
+/// next header and the payload alone are others (RFC 8986 section 4.16.2).
 pub fn an_end_leaves_what_stood_there()
     ensures dropped { (net : Network) (place : Place) (content : Content) (choice : ℕ) →
         (reason : Reason) (error : Bool) →
@@ -138,7 +148,8 @@ pub fn an_end_leaves_what_stood_there()
         gave.outcome ≡ Outcome.Drop reason error → gave.after ≡ content }
     ensures local { (net : Network) (place : Place) (content : Content) (choice : ℕ) →
         let gave = step_of net place content choice in
-        gave.outcome ≡ Outcome.Local → gave.after ≡ content }
+        gave.outcome ≡ Outcome.Local →
+        (gave.after ≡ content) ⊎ IsDeliveredBehindUsp net place content gave.after }
 {}
 
 /// A drop tells whether an ICMPv6 error is sent about it, and none is sent about anything else
@@ -150,16 +161,17 @@ pub fn a_drop_tells_of_its_error()
 {}
 
 /// Where a SID was executed, the outcome names it: the way leads into it, it stands at the node and
-/// is built, and the packet goes on in its way.
+/// is built, and the packet, or what was exposed, goes on in its way.
 pub fn an_execution_names_its_sid()
     ensures again { (net : Network) (place : Place) (content : Content) (choice : ℕ) →
         (n : ℕ) (how : How) →
         let gave = step_of net place content choice in
-        gave.outcome ≡ Outcome.Again n how → Executes net place content gave n how }
+        gave.outcome ≡ Outcome.Again n how → Executes onward_from net place content gave n how }
     ensures hand { (net : Network) (place : Place) (content : Content) (choice : ℕ) →
         (n : ℕ) (how : How) (family : Family) →
         let gave = step_of net place content choice in
-        gave.outcome ≡ Outcome.Hand n how family → Executes net place content gave n how }
+        gave.outcome ≡ Outcome.Hand n how family →
+        Executes exposed_from net place content gave n how }
 {}
 
 /// From a place a packet goes on to a place, and from a SID it goes on in a way that there is at
@@ -170,7 +182,9 @@ pub fn a_place_leads_to_a_place()
         next_place net place (step_of net place content choice).outcome ≡ Some next →
         IsPlace net next }
     ensures sid { (net : Network) (n : ℕ) (s : SidEntry) → Keeps net →
-        slice_get net.sids n ≡ Some s → IsHow net s.node (on_from n s.behaviour) }
+        slice_get net.sids n ≡ Some s → IsHow net s.node (onward_from n s.behaviour) }
+    ensures exposed { (net : Network) (n : ℕ) (s : SidEntry) → Keeps net →
+        slice_get net.sids n ≡ Some s → IsHow net s.node (exposed_from n s.behaviour) }
 {}
 
 /// A SID that nodes do not run yet drops each packet that its way leads into, whatever its headers
@@ -183,20 +197,24 @@ pub fn sids_that_are_not_built_drop_the_packet()
 {}
 
 /// How packets go on from SIDs: from End and binding SIDs by table 0, from End.T by its table, and
-/// from End.X over the SID's links without another lowering; the exposed packet from End.DX6 and
-/// End.DX4 over the SID's links with a lowering, and from End.DT6, End.DT4 and End.DT46 by the
-/// table (RFC 8986 sections 4.1 to 4.8, 4.13 and 4.14).
+/// from End.X over the SID's links without another lowering. What is exposed arrives, from End with
+/// USD by table 0, from End.T with USD and from End.DT6, End.DT4 and End.DT46 by the SID's table,
+/// and goes from End.X with USD, End.DX6 and End.DX4 over the SID's links with a lowering (RFC 8986
+/// sections 4.1 to 4.8, 4.13, 4.14 and 4.16.3).
 pub fn ways_on_are_by_behaviour()
-    ensures end { (n : ℕ) → on_from n End ≡ Submitted 0 }
-    ensures end_x { (n : ℕ) → on_from n EndX ≡ Through n false }
-    ensures end_t { (n table : ℕ) → on_from n (EndT table) ≡ Submitted table }
-    ensures dx6 { (n : ℕ) → on_from n Dx6 ≡ Through n true }
-    ensures dx4 { (n : ℕ) → on_from n Dx4 ≡ Through n true }
-    ensures dt6 { (n table : ℕ) → on_from n (Dt6 table) ≡ Arrived table }
-    ensures dt4 { (n table : ℕ) → on_from n (Dt4 table) ≡ Arrived table }
-    ensures dt46 { (n table : ℕ) → on_from n (Dt46 table) ≡ Arrived table }
-    ensures b6 { (n policy : ℕ) → on_from n (B6 policy) ≡ Submitted 0 }
-    ensures b6_red { (n policy : ℕ) → on_from n (B6Red policy) ≡ Submitted 0 }
+    ensures end { (n : ℕ) → onward_from n End ≡ Submitted 0 }
+    ensures end_x { (n : ℕ) → onward_from n EndX ≡ Through n false }
+    ensures end_t { (n table : ℕ) → onward_from n (EndT table) ≡ Submitted table }
+    ensures b6 { (n policy : ℕ) → onward_from n (B6 policy) ≡ Submitted 0 }
+    ensures b6_red { (n policy : ℕ) → onward_from n (B6Red policy) ≡ Submitted 0 }
+    ensures end_usd { (n : ℕ) → exposed_from n End ≡ Arrived 0 }
+    ensures end_x_usd { (n : ℕ) → exposed_from n EndX ≡ Through n true }
+    ensures end_t_usd { (n table : ℕ) → exposed_from n (EndT table) ≡ Arrived table }
+    ensures dx6 { (n : ℕ) → exposed_from n Dx6 ≡ Through n true }
+    ensures dx4 { (n : ℕ) → exposed_from n Dx4 ≡ Through n true }
+    ensures dt6 { (n table : ℕ) → exposed_from n (Dt6 table) ≡ Arrived table }
+    ensures dt4 { (n table : ℕ) → exposed_from n (Dt4 table) ≡ Arrived table }
+    ensures dt46 { (n table : ℕ) → exposed_from n (Dt46 table) ≡ Arrived table }
 {}
 
 /// What bytes can spell stays so in a stage, and what reads as itself from its bytes, as a
