@@ -1,7 +1,7 @@
 -- A packet's bytes behind spare ones, cut.
 use Rattle.std.proofs.Common.{◌≡◌, ℕ, ◌+◌, ◌-◌, ◌≤◌, List, ◌++◌, length, take, drop, sym, ap, ◌∙◌, arith, length-append, length-drop}
 use Rattle.std.proofs.lemmas.List.{append-nil, drop-append-le, drop-drop, drop-take, drop_all, drop_at, length-take-le}
-use Rattle.node_stage.specs.BufferView.{Buffer}
+use Rattle.pkt_buf.specs.BufferView.{Buffer}
 
 -- a buffer is its bytes and its spare room
 pub same_buffer : (b : Buffer) (bytes : List ℕ) (front : ℕ) → bytes ≡ b.bytes → front ≡ b.front
