@@ -124,12 +124,14 @@ impl PktBuf {
         self.front = front;
     }
 
-    /// Gives at least so many spare bytes in front; the packet's bytes stay. With want of memory
-    /// nothing changes.
+    /// Gives at least so many spare bytes in front; the packet's bytes stay. Where there are as many
+    /// nothing changes and no memory is taken, and with want of memory nothing changes.
     pub fn reserve_front(&mut self, n: usize) -> Result<(), NoMemory>
         ensures room { OnOk result (n ≤ self.new.front) }
         ensures bytes { self.new.bytes ≡ self.old.bytes }
+        ensures enough { n ≤ self.old.front → self.new ≡ self.old }
         ensures err { OnErr result (self.new ≡ self.old) }
+        ensures want { OnErr result (self.old.front < n) }
     {
         if n <= self.front {
             return Ok(());
