@@ -1,6 +1,5 @@
 pub mod SpellingLemmas
 pub mod ChainLemmas
 pub mod ReadingLemmas
-pub mod BufferLemmas
 pub mod EndpointLemmas
 pub mod StageLemmas

@@ -3,7 +3,7 @@
 ghost use Rattle.std.specs.Prelude.{◌≡◌};
 
 use crate::packet::Packet;
-use crate::pkt_buf::PktBuf;
+use pkt_buf::PktBuf;
 use srv6_rules::Reason;
 use std::marker::Model;
 use std::mem;

@@ -10,7 +10,6 @@ mod endpoint;
 mod error;
 mod headers;
 mod packet;
-mod pkt_buf;
 mod reading;
 mod spelling;
 #[cfg(test)]
@@ -19,5 +18,4 @@ mod treatment;
 
 pub use content::Content;
 pub use packet::Packet;
-pub use pkt_buf::PktBuf;
 pub use treatment::stage;

@@ -5,8 +5,8 @@ ghost use Rattle.srv6_rules.specs.Packet.{read_as, packet_at, first_word, spelli
 ghost use Rattle.ip6_headers.specs.Reading.{HoldsPacket};
 
 use crate::content::Content;
-use crate::pkt_buf::PktBuf;
 use ip6_headers::Ip6View;
+use pkt_buf::PktBuf;
 use srv6_rules::Family;
 use srv6_rules::numbers::IPV6_HEADER_LEN;
 use std::marker::Model;

@@ -5,8 +5,8 @@ ghost use Rattle.srv6_rules.specs.Packet.{content_of, read_as, entered};
 
 use crate::content::{Content, Held};
 use crate::packet::Packet;
-use crate::pkt_buf::PktBuf;
 use ip6_headers::read_fault;
+use pkt_buf::PktBuf;
 use srv6_rules::numbers::MOST_LEN;
 use srv6_rules::{Family, Reason};
 

@@ -2,7 +2,7 @@
 
 ghost use Rattle.std.specs.Prelude.{◌≡◌, ◌<◌, length};
 
-use crate::{Content, PktBuf, stage};
+use crate::{Content, stage};
 use icmp6_errors::IcmpSlot;
 use ip6_headers::four_at;
 use net_model::{Link, Name, Net, NetParts, Node, Route, TypeList, are_in_range};
@@ -441,29 +441,5 @@ fn drop_is_told_from_the_node(rt: HostRuntime) -> Result<(), Fail> {
     let sent = stage(&net, &place, &mut content, 0, &mut error);
     assert_eq!(rt; sent, Outcome::Send { link: 1 });
     assert!(rt; error.is_empty());
-    Ok(())
-}
-
-/// Room is opened and given back, and bytes are cut and written, in one buffer.
-#[test]
-fn buffer(rt: HostRuntime) -> Result<(), Fail> {
-    let mut buffer = PktBuf::new(rt.alloc(), 8, &[1, 2, 3])?;
-    buffer.open_front(2);
-    assert_eq!(rt; buffer.view(), [0, 0, 1, 2, 3].as_slice());
-    assert_eq!(rt; buffer.front(), 6);
-    buffer.cut(1, 2);
-    buffer.drop_front(1);
-    assert_eq!(rt; buffer.view(), [2, 3].as_slice());
-    assert_eq!(rt; buffer.front(), 7);
-    buffer.view_mut().fill(9);
-    buffer.set(0, 4);
-    assert_eq!(rt; buffer.view(), [4, 9].as_slice());
-    buffer.truncate(1);
-    buffer.reserve_front(20)?;
-    assert_eq!(rt; buffer.view(), [4].as_slice());
-    assert_eq!(rt; buffer.len(), 1);
-    assert!(rt; buffer.front() >= 20);
-    buffer.put_front(&[7, 8]);
-    assert_eq!(rt; buffer.view(), [7, 8, 4].as_slice());
     Ok(())
 }

@@ -106,57 +106,6 @@ length-lowered V4 bytes h =
     let total = h.0.whole in
     sym (ap length (lowered-4 V4 bytes refl h)) ∙ ttl_lowered-length bytes (omega arith)
 
--- ---- bytes written over the last ones
-
-written-over : (all w : List ℕ) (n len : ℕ) → n + length w ≡ length all → len ≡ length all
-    → take len (take n all ++ (w ++ drop (length w) (drop n all)) ++ drop
-    (length (take n all ++ (w ++ drop (length w) (drop n all)))) all)
-    ≡ take n all ++ w
-written-over all w n len fits size =
-    let none : drop (length w) (drop n all) ≡ [] = drop_all (length w) (drop n all) (omega (arith, length-drop n all)) in
-    let laid : take n all ++ (w ++ drop (length w) (drop n all)) ≡ take n all ++ w =
-    ap (λ xs. take n all ++ (w ++ xs)) none ∙ ap (λ xs. take n all ++ xs) (append-nil w) in
-    let lens : length (take n all ++ w) ≡ length all =
-    length-append (take n all) w ∙ ap (λ k. k + length w) (length-take-le n all (omega arith)) ∙ fits in
-    let rest : drop (length (take n all ++ w)) all ≡ [] = drop_all (length (take n all ++ w)) all (omega arith) in
-    ap (λ xs. take len (xs ++ drop (length xs) all)) laid
-    ∙ ap (λ xs. take len ((take n all ++ w) ++ xs)) rest
-    ∙ ap (take len) (append-nil (take n all ++ w))
-    ∙ take_all len (take n all ++ w) (omega arith)
-
-module _ (policy : Policy) (reduced : Bool) (inner : Family) (bytes : List ℕ) (h : HoldsInner inner bytes) (all : List ℕ)
-    (is : all ≡ spelling (outer_by policy reduced inner bytes)) where
-  pub inner-place : (len k : ℕ) → len ≡ length all → k ≡ length bytes → len - k + length bytes ≡ length all
-  inner-place len k lens ks =
-      let size : length all ≡ header_bytes reduced (length policy.segments) + length bytes =
-      ap length is ∙ by-length policy reduced inner bytes in
-      omega (arith, size)
-
-  -- the inner packet's bytes in the outer packet
-  pub inner-inside : (n m : ℕ) → n + length bytes ≡ length all → m ≡ length bytes → take m (drop n all) ≡ bytes
-  inner-inside n m place size =
-      let e = encapsulation_by policy reduced in
-      let len : length all ≡ length (spelling (outer_by policy reduced inner bytes)) = ap length is in
-      ap (λ xs. take m (drop n xs)) is
-      ∙ ap (take m) (round-behind e inner bytes policy.hop_limit n (place ∙ len))
-      ∙ take_all m bytes (omega arith)
-
-  -- they are lowered there
-  pub lowered-inside : (w : List ℕ) (n len : ℕ) → n + length bytes ≡ length all → len ≡ length all
-      → w ≡ inner_lowered_bytes inner bytes
-      → take len (take n all ++ (w ++ drop (length w) (drop n all)) ++ drop
-      (length (take n all ++ (w ++ drop (length w) (drop n all)))) all)
-      ≡ spelling (outer_by policy reduced inner (inner_lowered_bytes inner bytes))
-  lowered-inside w n len place size written =
-      let e = encapsulation_by policy reduced in
-      let lowered : List ℕ = inner_lowered_bytes inner bytes in
-      let same : length w ≡ length bytes = ap length written ∙ length-lowered inner bytes h in
-      let whole_len : length all ≡ length (spelling (outer_by policy reduced inner bytes)) = ap length is in
-      written-over all w n len (omega arith) size
-      ∙ ap (λ xs. take n xs ++ w) is
-      ∙ ap (λ xs. take n (spelling (outer_by policy reduced inner bytes)) ++ xs) written
-      ∙ round-other e inner bytes lowered policy.hop_limit n (sym (length-lowered inner bytes h)) (place ∙ whole_len)
-
 -- ---- what is answered
 
 module _ (policy : Policy) (inner : Family) (bytes : List ℕ) where

@@ -1,13 +1,17 @@
 //! Headers of policies put in front of packets (RFC 8986 sections 4.13, 4.14, 5.1 and 5.2).
 
-ghost use Rattle.std.specs.Prelude.{◌≤◌, length};
+ghost use Rattle.std.specs.Prelude.{◌≡◌, ◌-◌, ◌<◌, ◌≤◌, length, IfErr, OnErr, OnOk};
+ghost use Rattle.srv6_rules.specs.Encapsulation.{header_bytes};
 ghost use Rattle.srv6_rules.specs.Policies.{IsPolicy, pushed_by, encapsulated_by};
 ghost use Rattle.policy_encap.specs.Answers.{IsPushed, IsEncapsulated};
 ghost use Rattle.policy_encap.specs.Inner.{HoldsInner};
+ghost use Rattle.policy_encap.specs.declared.faults.PushFault.TheVariants as pushing;
+ghost use Rattle.policy_encap.specs.declared.faults.EncapFault.TheVariants as encapsulating;
 
 use crate::faults::{EncapFault, PushFault};
-use crate::headers::{MOST_PAYLOAD_LEN, outer_bytes, outer_fits, payload_len};
+use crate::headers::{MOST_PAYLOAD_LEN, bytes_fit, front_len, outer_fits, payload_len, put_headers};
 use crate::inner::{inner_hop, inner_len, lower};
+use pkt_buf::PktBuf;
 use srv6_rules::numbers::MOST_LEN;
 use srv6_rules::{Family, Policy};
 
@@ -15,28 +19,36 @@ use srv6_rules::{Family, Policy};
 /// exactly where `reduced` says so, whatever form the policy has. The outer header has the policy's
 /// source, traffic class, flow label and hop limit, and the first segment as its destination; the
 /// reduced form of one segment has no segment routing header. `TooBig` comes exactly where the
-/// outer packet's payload would pass 65,535 bytes. On a fault the bytes stay (RFC 8986 sections
-/// 4.13, 4.14, 5.1 and 5.2).
+/// outer packet's payload would pass 65,535 bytes (RFC 8986 sections 4.13, 4.14, 5.1 and 5.2).
+/// `NoMemory` comes only where fewer bytes are spare than the header has; where they are enough it
+/// takes their place (own rule). On a fault nothing changes.
 pub fn push(
     policy: &Policy,
     reduced: bool,
     inner: Family,
-    packet: &mut Vec<u8>,
+    buf: &mut PktBuf,
 ) -> Result<(), PushFault>
     requires policy { IsPolicy policy.now }
-    requires packet { length packet.old.items ≤ MOST_LEN }
-    ensures { IsPushed (pushed_by policy.now reduced inner packet.old.items)
-        packet.old.items packet.new.items result }
+    requires packet { length buf.old.bytes ≤ MOST_LEN }
+    ensures answer { IsPushed (pushed_by policy.now reduced inner buf.old.bytes)
+        buf.old.bytes buf.new.bytes result }
+    ensures memory { IfErr result (λ fault. fault ≡ pushing.NoMemory
+        → buf.old.front < header_bytes reduced (length policy.now.segments)) }
+    ensures front { header_bytes reduced (length policy.now.segments) ≤ buf.old.front
+        → OnOk result (buf.new.front
+        ≡ buf.old.front - header_bytes reduced (length policy.now.segments)) }
+    ensures err { OnErr result (buf.new ≡ buf.old) }
 {
-    let length = payload_len(policy, reduced, packet.len());
+    let length = payload_len(policy, reduced, buf.len());
     if length > MOST_PAYLOAD_LEN {
         return Err(PushFault::TooBig {
             length: length as u32,
         });
     }
+    buf.reserve_front(front_len(policy, reduced))?;
+    put_headers(buf, policy, reduced, inner);
     outer_fits(policy);
-    let alloc = *packet.allocator();
-    *packet = outer_bytes(alloc, policy, reduced, inner, packet.as_slice())?;
+    bytes_fit(buf.view());
     Ok(())
 }
 
@@ -45,28 +57,34 @@ pub fn push(
 /// is lowered by one, the checksum of an IPv4 packet follows, no other byte of the packet changes,
 /// and the policy's header stands in front. `InnerHop` comes exactly where the hop limit or TTL is
 /// at most 1, and else `TooBig` exactly where the outer packet's payload would pass 65,535 bytes.
-/// On a fault the bytes stay.
-pub fn encap(policy: &Policy, inner: Family, packet: &mut Vec<u8>) -> Result<(), EncapFault>
+/// `NoMemory` comes only where fewer bytes are spare than the header has; where they are enough it
+/// takes their place (own rule). On a fault nothing changes.
+pub fn encap(policy: &Policy, inner: Family, buf: &mut PktBuf) -> Result<(), EncapFault>
     requires policy { IsPolicy policy.now }
-    requires packet { HoldsInner inner packet.old.items }
-    ensures { IsEncapsulated (encapsulated_by policy.now inner packet.old.items)
-        packet.old.items packet.new.items result }
+    requires packet { HoldsInner inner buf.old.bytes }
+    ensures answer { IsEncapsulated (encapsulated_by policy.now inner buf.old.bytes)
+        buf.old.bytes buf.new.bytes result }
+    ensures memory { IfErr result (λ fault. fault ≡ encapsulating.NoMemory
+        → buf.old.front < header_bytes policy.now.reduced (length policy.now.segments)) }
+    ensures front { header_bytes policy.now.reduced (length policy.now.segments) ≤ buf.old.front
+        → OnOk result (buf.new.front
+        ≡ buf.old.front - header_bytes policy.now.reduced (length policy.now.segments)) }
+    ensures err { OnErr result (buf.new ≡ buf.old) }
 {
-    if inner_hop(inner, packet.as_slice()) <= 1 {
+    if inner_hop(inner, buf.view()) <= 1 {
         return Err(EncapFault::InnerHop);
     }
-    let inner_len = inner_len(inner, packet.as_slice());
+    let inner_len = inner_len(inner, buf.view());
     let length = payload_len(policy, policy.reduced, inner_len);
     if length > MOST_PAYLOAD_LEN {
         return Err(EncapFault::TooBig {
             length: length as u32,
         });
     }
+    buf.reserve_front(front_len(policy, policy.reduced))?;
+    lower(inner, buf.view_mut());
+    put_headers(buf, policy, policy.reduced, inner);
     outer_fits(policy);
-    let alloc = *packet.allocator();
-    let mut outer = outer_bytes(alloc, policy, policy.reduced, inner, packet.as_slice())?;
-    let inner_at = outer.len() - inner_len;
-    lower(inner, outer.slice_mut(inner_at..));
-    *packet = outer;
+    bytes_fit(buf.view());
     Ok(())
 }

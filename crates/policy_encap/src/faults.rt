@@ -1,12 +1,12 @@
 //! Why no header was put in front of a packet.
 
 ghost use Rattle.std.specs.Prelude.{◌≡◌};
-ghost use Rattle.policy_encap.specs.declared.faults.PushFault.TheVariants.{NoMemory};
+ghost use Rattle.policy_encap.specs.declared.faults.PushFault.TheVariants as pushing;
 ghost use Rattle.policy_encap.specs.declared.faults.EncapFault.TheVariants as encapsulating;
 
-use std::alloc::AllocError;
+use base::NoMemory;
 
-/// Why a policy's header was not put in front of a packet. The bytes are as they were.
+/// Why a policy's header was not put in front of a packet. The buffer is as it was.
 #[derive(Clone, Copy, Debug, PartialEq, Eq)]
 pub enum PushFault {
     /// The outer packet's payload would be longer than 65,535 bytes (RFC 8200 section 3).
@@ -14,19 +14,19 @@ pub enum PushFault {
         /// The length in bytes that the payload would have.
         length: u32,
     },
-    /// Want of memory (own rule).
+    /// Want of memory, where fewer bytes are spare than the header has (own rule).
     NoMemory,
 }
 
-impl From<AllocError> for PushFault {
-    ghost from_gives = { λ _ fault. fault ≡ NoMemory };
+impl From<NoMemory> for PushFault {
+    ghost from_gives = { λ _ fault. fault ≡ pushing.NoMemory };
 
-    fn from(_: AllocError) -> PushFault {
+    fn from(_: NoMemory) -> PushFault {
         PushFault::NoMemory
     }
 }
 
-/// Why a packet was not encapsulated. The bytes are as they were.
+/// Why a packet was not encapsulated. The buffer is as it was.
 #[derive(Clone, Copy, Debug, PartialEq, Eq)]
 pub enum EncapFault {
     /// The packet's hop limit is at most 1, so that it cannot be lowered (own rule).
@@ -36,14 +36,14 @@ pub enum EncapFault {
         /// The length in bytes that the payload would have.
         length: u32,
     },
-    /// Want of memory (own rule).
+    /// Want of memory, where fewer bytes are spare than the header has (own rule).
     NoMemory,
 }
 
-impl From<AllocError> for EncapFault {
+impl From<NoMemory> for EncapFault {
     ghost from_gives = { λ _ fault. fault ≡ encapsulating.NoMemory };
 
-    fn from(_: AllocError) -> EncapFault {
+    fn from(_: NoMemory) -> EncapFault {
         EncapFault::NoMemory
     }
 }

@@ -1,19 +1,20 @@
 //! The headers in front of a packet, in bytes.
 
-ghost use Rattle.std.specs.Prelude.{◌≡◌, ◌+◌, ◌-◌, ◌<◌, ◌≤◌, ◌++◌, ℕ, ◌*◌, ◌^◌, List, length, reverse, OnOk, IfOk};
-ghost use Rattle.srv6_rules.specs.Packet.{header_spelling, spelling};
+ghost use Rattle.std.specs.Prelude.{◌≡◌, ◌+◌, ◌-◌, ◌<◌, ◌≤◌, ◌++◌, ℕ, ◌*◌, ◌^◌, List, length, drop, reverse, All};
+ghost use Rattle.srv6_rules.specs.Packet.{spelling};
+ghost use Rattle.srv6_rules.specs.Encapsulation.{header_bytes};
 ghost use Rattle.srv6_rules.specs.Policies.{IsPolicy, inner_kind, outer_by};
 ghost use Rattle.srv6_rules.specs.Srh.{srh_spelling};
 ghost use Rattle.srv6_rules.specs.declared.sid.Family.{Family as FamilyValue};
 ghost use Rattle.srh_codec.specs.Writing.{header_over, numbers_of};
 ghost use Rattle.policy_encap.specs.Headers.{FitsOuter, framed, listed, routing_bytes};
 
+use pkt_buf::PktBuf;
 use srh_codec::{MOST_ENTRIES, SrhParts, write_srh};
 use srv6_rules::numbers::{
     IPV4_INSIDE, IPV6_HEADER_LEN, IPV6_INSIDE, MOST_LEN, ROUTING, SEGMENT_LEN, SEGMENT_LIST_AT,
 };
 use srv6_rules::{Family, Policy};
-use std::alloc::{AllocError, Global};
 use v6_addr::Addr;
 
 /// The greatest payload length: 65,535 (RFC 8200 section 3).
@@ -66,85 +67,102 @@ pub(crate) fn payload_len(policy: &Policy, reduced: bool, inner_len: usize) -> u
     routing_len(listed(policy, reduced)) + inner_len
 }
 
-/// Appends the outer header in front of a payload of a length.
-fn append_outer(
-    out: &mut Vec<u8>,
-    policy: &Policy,
-    next_header: u8,
-    len: u16,
-) -> Result<(), AllocError>
+/// The length of what is put in front of a packet.
+pub(crate) fn front_len(policy: &Policy, reduced: bool) -> usize
     requires { IsPolicy policy.now }
-    ensures { OnOk result ((payload : List ℕ) → length payload ≡ len
-        → out.new.items ≡ out.old.items
-        ++ header_spelling (framed policy.now next_header payload)) }
+    ensures { result ≡ header_bytes reduced (length policy.now.segments) }
 {
-    let word = 0x6000_0000 + u32::from(policy.traffic_class) * 0x10_0000 + policy.flow_label;
-    let destination = policy.segments.as_slice()[0];
-    out.extend_from_slice(&word.to_be_bytes())?;
-    out.extend_from_slice(&len.to_be_bytes())?;
-    out.extend_from_slice(&[next_header, policy.hop_limit])?;
-    out.extend_from_slice(&policy.source.value.to_be_bytes())?;
-    out.extend_from_slice(&destination.value.to_be_bytes())?;
-    Ok(())
+    IPV6_HEADER_LEN + routing_len(listed(policy, reduced))
 }
 
-/// Appends the segment routing header over the listed segments, of which the last is visited last
-/// (RFC 8754 sections 2 and 4.1).
-fn append_routing(
-    out: &mut Vec<u8>,
-    listed: &[Addr],
-    next_header: u8,
-    segments_left: u8,
-) -> Result<(), AllocError>
+/// Puts the outer header in front of its payload, field by field from the last.
+fn put_outer(buf: &mut PktBuf, policy: &Policy, next_header: u8)
+    requires policy { IsPolicy policy.now }
+    requires room { IPV6_HEADER_LEN ≤ buf.old.front }
+    requires fits { length buf.old.bytes ≤ MOST_PAYLOAD_LEN }
+    ensures { buf.new ≡ record {
+      bytes = spelling (framed policy.now next_header buf.old.bytes);
+      front = buf.old.front - IPV6_HEADER_LEN;
+    } }
+{
+    let word = 0x6000_0000 + u32::from(policy.traffic_class) * 0x10_0000 + policy.flow_label;
+    let len = buf.len() as u16;
+    let destination = policy.segments.as_slice()[0];
+    buf.put_front(&destination.value.to_be_bytes());
+    buf.put_front(&policy.source.value.to_be_bytes());
+    buf.put_front(&[next_header, policy.hop_limit]);
+    buf.put_front(&len.to_be_bytes());
+    buf.put_front(&word.to_be_bytes());
+}
+
+/// Writes the segment routing header over the listed segments, of which the last is visited last,
+/// at the front of bytes (RFC 8754 sections 2 and 4.1).
+fn write_routing(out: &mut [u8], listed: &[Addr], next_header: u8, segments_left: u8)
     requires some { 0 < length listed.now }
     requires most { length listed.now ≤ MOST_ENTRIES }
-    ensures { OnOk result (out.new.items ≡ out.old.items
-        ++ srh_spelling (header_over next_header segments_left (reverse (numbers_of listed.now)))) }
+    requires room { routing_bytes listed.now ≤ length out.old }
+    ensures { out.new
+        ≡ srh_spelling (header_over next_header segments_left (reverse (numbers_of listed.now)))
+        ++ drop (routing_bytes listed.now) out.old }
 {
-    let mut entries = Vec::from_slice(*out.allocator(), listed)?;
+    let mut room = [Addr { value: 0 }; MOST_ENTRIES];
+    let (entries, _) = room.split_at_mut(listed.len());
+    entries.copy_from_slice(listed);
     entries.reverse();
     let parts = SrhParts {
         next_header,
         segments_left,
-        entries: entries.as_slice(),
+        entries,
     };
-    let start = out.len();
-    out.resize(start + routing_len(listed), 0)?;
-    write_srh(out.slice_mut(start..), &parts);
-    Ok(())
+    let (header, _) = out.split_at_mut(routing_len(listed));
+    write_srh(header, &parts);
 }
 
-/// The bytes of the outer packet round those of a packet of a family.
-pub(crate) fn outer_bytes(
-    alloc: Global,
-    policy: &Policy,
-    reduced: bool,
-    inner: Family,
-    packet: &[u8],
-) -> Result<Vec<u8>, AllocError>
+/// Puts that header in front of a packet.
+fn put_routing(buf: &mut PktBuf, listed: &[Addr], next_header: u8, segments_left: u8)
+    requires some { 0 < length listed.now }
+    requires most { length listed.now ≤ MOST_ENTRIES }
+    requires room { routing_bytes listed.now ≤ buf.old.front }
+    ensures { buf.new ≡ record {
+      bytes = srh_spelling
+          (header_over next_header segments_left (reverse (numbers_of listed.now)))
+          ++ buf.old.bytes;
+      front = buf.old.front - routing_bytes listed.now;
+    } }
+{
+    buf.open_front(routing_len(listed));
+    write_routing(buf.view_mut(), listed, next_header, segments_left);
+}
+
+/// Puts a policy's headers in front of a packet of a family.
+pub(crate) fn put_headers(buf: &mut PktBuf, policy: &Policy, reduced: bool, inner: Family)
     requires policy { IsPolicy policy.now }
-    requires fits { length (outer_by policy.now reduced inner packet.now).payload
+    requires room { header_bytes reduced (length policy.now.segments) ≤ buf.old.front }
+    requires fits { length (outer_by policy.now reduced inner buf.old.bytes).payload
         ≤ MOST_PAYLOAD_LEN }
-    ensures { IfOk result
-        (λ bytes. bytes.items ≡ spelling (outer_by policy.now reduced inner packet.now)) }
+    ensures { buf.new ≡ record {
+      bytes = spelling (outer_by policy.now reduced inner buf.old.bytes);
+      front = buf.old.front - header_bytes reduced (length policy.now.segments);
+    } }
 {
     let listed = listed(policy, reduced);
-    let len = routing_len(listed) + packet.len();
-    let mut out = Vec::with_capacity(alloc, IPV6_HEADER_LEN + len)?;
     if listed.is_empty() {
-        append_outer(&mut out, policy, inner_kind(inner), len as u16)?;
+        put_outer(buf, policy, inner_kind(inner));
     } else {
         let segments_left = policy.segments.as_slice().len() - 1;
-        append_outer(&mut out, policy, ROUTING, len as u16)?;
-        append_routing(&mut out, listed, inner_kind(inner), segments_left as u8)?;
+        put_routing(buf, listed, inner_kind(inner), segments_left as u8);
+        put_outer(buf, policy, ROUTING);
     }
-    out.extend_from_slice(packet)?;
-    Ok(out)
 }
 
 /// A byte is below 256.
 fn byte_fits(n: u8)
     ensures { n < 2 ^ 8 }
+{}
+
+/// Bytes are below 256.
+pub(crate) fn bytes_fit(bytes: &[u8])
+    ensures { All (λ b. b < 2 ^ 8) bytes.now }
 {}
 
 /// An address is below 2 to the 128.

@@ -10,6 +10,7 @@ ghost use Rattle.ip6_headers.specs.Reading4.{HoldsPacket4};
 use crate::{EncapFault, PushFault, encap, push};
 use base::Seq;
 use ip6_headers::{Ip4View, Ip6View};
+use pkt_buf::PktBuf;
 use srv6_rules::{Family, Policy};
 use std::alloc::{AllocError, Global};
 use std::process::Abort;
@@ -118,37 +119,37 @@ fn is_whole4(rt: &impl Abort, bytes: &[u8])
 #[test]
 fn full_form_is_pushed(rt: HostRuntime) -> Result<(), Fail> {
     let policy = policy(rt.alloc(), &SEGMENTS, true)?;
-    let mut packet = INNER.to_vec(rt.alloc())?;
+    let mut packet = PktBuf::of(INNER.to_vec(rt.alloc())?);
     assert_eq!(rt; push(&policy, false, Family::V6, &mut packet), Ok(()));
     let wanted = joined(rt.alloc(), &FULL, &INNER)?;
-    assert_eq!(rt; packet.as_slice(), wanted.as_slice());
+    assert_eq!(rt; packet.view(), wanted.as_slice());
     Ok(())
 }
 
 #[test]
 fn reduced_form_lowers_the_packet(rt: HostRuntime) -> Result<(), Fail> {
     let policy = policy(rt.alloc(), &SEGMENTS, true)?;
-    let mut packet = INNER.to_vec(rt.alloc())?;
-    is_whole(&rt, packet.as_slice());
+    let mut packet = PktBuf::of(INNER.to_vec(rt.alloc())?);
+    is_whole(&rt, packet.view());
     assert_eq!(rt; encap(&policy, Family::V6, &mut packet), Ok(()));
     let mut lowered = INNER;
     lowered[7] = 63;
     let wanted = joined(rt.alloc(), &REDUCED, &lowered)?;
-    assert_eq!(rt; packet.as_slice(), wanted.as_slice());
+    assert_eq!(rt; packet.view(), wanted.as_slice());
     Ok(())
 }
 
 #[test]
 fn ipv4_behind_one_segment_has_no_routing_header(rt: HostRuntime) -> Result<(), Fail> {
     let policy = policy(rt.alloc(), SEGMENTS.split_at(1).0, true)?;
-    let mut packet = INNER4.to_vec(rt.alloc())?;
-    is_whole4(&rt, packet.as_slice());
+    let mut packet = PktBuf::of(INNER4.to_vec(rt.alloc())?);
+    is_whole4(&rt, packet.view());
     assert_eq!(rt; encap(&policy, Family::V4, &mut packet), Ok(()));
     let mut lowered = INNER4;
     lowered[8] = 63;
     lowered[10] = 0xfa;
     let wanted = joined(rt.alloc(), &BARE, &lowered)?;
-    assert_eq!(rt; packet.as_slice(), wanted.as_slice());
+    assert_eq!(rt; packet.view(), wanted.as_slice());
     Ok(())
 }
 
@@ -157,11 +158,11 @@ fn hop_limit_1_is_refused(rt: HostRuntime) -> Result<(), Fail> {
     let policy = policy(rt.alloc(), &SEGMENTS, false)?;
     let mut low = INNER;
     low[7] = 1;
-    let mut packet = low.to_vec(rt.alloc())?;
-    is_whole(&rt, packet.as_slice());
+    let mut packet = PktBuf::of(low.to_vec(rt.alloc())?);
+    is_whole(&rt, packet.view());
     let refused = encap(&policy, Family::V6, &mut packet);
     assert_eq!(rt; refused, Err(EncapFault::InnerHop));
-    assert_eq!(rt; packet.as_slice(), low.as_slice());
+    assert_eq!(rt; packet.view(), low.as_slice());
     Ok(())
 }
 
@@ -169,13 +170,29 @@ fn hop_limit_1_is_refused(rt: HostRuntime) -> Result<(), Fail> {
 #[test]
 fn payload_above_65535_is_refused(rt: HostRuntime) -> Result<(), Fail> {
     let policy = policy(rt.alloc(), &SEGMENTS, true)?;
-    let mut packet = Vec::new(rt.alloc());
-    packet.resize(65496, 0)?;
+    let mut bytes = Vec::new(rt.alloc());
+    bytes.resize(65496, 0)?;
+    let mut packet = PktBuf::of(bytes);
     let refused = push(&policy, false, Family::V6, &mut packet);
     assert_eq!(rt; refused, Err(PushFault::TooBig { length: 65536 }));
     assert_eq!(rt; packet.len(), 65496);
     packet.truncate(65495);
     assert_eq!(rt; push(&policy, false, Family::V6, &mut packet), Ok(()));
     assert_eq!(rt; packet.len(), 65575);
+    Ok(())
+}
+
+/// The header takes the place of 80 of 100 spare bytes.
+#[test]
+fn header_takes_spare_bytes(rt: HostRuntime) -> Result<(), Fail> {
+    let policy = policy(rt.alloc(), &SEGMENTS, false)?;
+    let mut packet = PktBuf::new(rt.alloc(), 100, &INNER)?;
+    is_whole(&rt, packet.view());
+    assert_eq!(rt; encap(&policy, Family::V6, &mut packet), Ok(()));
+    let mut lowered = INNER;
+    lowered[7] = 63;
+    let wanted = joined(rt.alloc(), &FULL, &lowered)?;
+    assert_eq!(rt; packet.view(), wanted.as_slice());
+    assert_eq!(rt; packet.front(), 20);
     Ok(())
 }

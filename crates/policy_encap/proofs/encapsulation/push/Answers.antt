@@ -1,19 +1,20 @@
-use Rattle.std.proofs.Common.{◌≡◌, ◌≤◌, ◌∙◌, List, ℕ, length, sym, ap, arith}
+use Rattle.std.proofs.Common.{◌≡◌, ◌^◌, ◌<◌, ◌≤◌, ◌∙◌, All, List, ℕ, length, sym, ap, subst, arith}
 use Rattle.srv6_rules.specs.Packet.{spelling}
 use Rattle.srv6_rules.specs.Policies.{outer_by}
+use Rattle.pkt_buf.specs.BufferView.{Buffer}
 use Rattle.policy_encap.proofs.EncapLemmas.{push-makes}
 use Rattle.policy_encap.proofs.encapsulation.push.Goals as goal
 
-pub returns : goal.returns
-returns c =
+pub returns-clause-answer : goal.returns-clause-answer
+returns-clause-answer c =
     let policy = c.args.policy.now in
-    let bytes : List ℕ = c.args.packet.now.items in
-    let len : length bytes ≡ c.len.result = sym (c.len.ensures ∙ c.args.packet.now.ok.0) in
-    let size = c.payload_len-length.ensures.value c.args.inner bytes len in
+    let bytes : List ℕ = c.args.buf.now.bytes in
+    let P : List ℕ → Type 0 = λ xs. All (λ b. b < 2 ^ 8) xs in
+    let size = c.payload_len-length.ensures.value c.args.inner bytes (sym c.len.ensures) in
     let low = c.if-length-gt-MOST_PAYLOAD_LEN.false in
     let short : length (outer_by policy c.args.reduced c.args.inner bytes).payload ≤ 65535 = omega (arith, size, low) in
-    let same : c.as_slice.result.now ≡ bytes = c.as_slice.ensures.value in
-    let spelled : c.in_ok-packet.field-0.items ≡ spelling (outer_by policy c.args.reduced c.args.inner bytes) =
-    c.in_ok-packet.ensures ∙ ap (λ xs. spelling (outer_by policy c.args.reduced c.args.inner xs)) same in
-    push-makes policy c.args.reduced c.args.inner bytes c.in_ok-packet.field-0.items c.requires.policy c.outer_fits.ensures short
-    c.type_inv.packet spelled
+    let spelled : c.put_headers.new.buf.bytes ≡ spelling (outer_by policy c.args.reduced c.args.inner bytes) =
+    ap (λ (b : Buffer). b.bytes) c.put_headers.ensures
+    ∙ ap (λ xs. spelling (outer_by policy c.args.reduced c.args.inner xs)) c.reserve_front.ensures.bytes in
+    push-makes policy c.args.reduced c.args.inner bytes c.put_headers.new.buf.bytes c.requires.policy c.outer_fits.ensures short
+    (subst P c.view.ensures c.bytes_fit.ensures) spelled

@@ -1,7 +1,7 @@
 use Rattle.std.proofs.Common.{◌≡◌, ◌+◌, ◌≤◌, ◌∙◌, List, ℕ, length, take, drop, ap, sym, subst, arith}
 use Rattle.srv6_rules.specs.Packet.{Packet, IsSpellable, header_len, packet_at}
 use Rattle.ip6_headers.proofs.PublicLaws.{holds-spellable}
-use Rattle.node_stage.specs.BufferView.{Buffer}
+use Rattle.pkt_buf.specs.BufferView.{Buffer}
 use Rattle.node_stage.specs.PacketView.{packet_view}
 use Rattle.node_stage.proofs.ReadingLemmas.{payload-behind, payload-within}
 use Rattle.node_stage.proofs.packet.Packet.at_front.Goals as goal

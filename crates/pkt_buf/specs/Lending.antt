@@ -1,8 +1,8 @@
 -- What a packet buffer ends as, where its bytes are lent.
 use Rattle.std.specs.Prelude.{ℕ, List, ◌++◌, length, take, drop}
 use Rattle.std.specs.Borrow.{Lends, MutBor, Fml, Array, u8}
-use Rattle.node_stage.specs.BufferView.{Buffer}
-use Rattle.node_stage.specs.contracts.pkt_buf.PktBuf.{the_row}
+use Rattle.pkt_buf.specs.BufferView.{Buffer}
+use Rattle.pkt_buf.specs.contracts.pkt_buf.PktBuf.{the_row}
 
 -- as many bytes as there were: those that were left, since what is lent keeps its length
 abbrev pub left_in : List ℕ → List ℕ → List ℕ

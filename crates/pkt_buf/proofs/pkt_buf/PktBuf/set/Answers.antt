@@ -1,8 +1,8 @@
 use Rattle.std.proofs.Common.{◌≡◌, ◌+◌, ◌∙◌, List, ℕ, drop, slice_set, ap}
 use Rattle.std.proofs.lemmas.List.{drop-set-add}
-use Rattle.node_stage.specs.BufferView.{Buffer}
-use Rattle.node_stage.proofs.BufferLemmas.{same_buffer}
-use Rattle.node_stage.proofs.pkt_buf.PktBuf.set.Goals as goal
+use Rattle.pkt_buf.specs.BufferView.{Buffer}
+use Rattle.pkt_buf.proofs.BufferLemmas.{same_buffer}
+use Rattle.pkt_buf.proofs.pkt_buf.PktBuf.set.Goals as goal
 
 pub returns : goal.returns
 returns c =

@@ -17,7 +17,7 @@ pub struct PktBuf {
 
 impl Model for PktBuf {
     ghost use Rattle.std.specs.Prelude.{◌≤◌, drop, vec_len};
-    ghost use Rattle.node_stage.specs.BufferView.{Buffer};
+    ghost use Rattle.pkt_buf.specs.BufferView.{Buffer};
 
     ghost Value = { Buffer };
 
@@ -28,7 +28,7 @@ impl Model for PktBuf {
 
 impl PktBuf {
     ghost use Rattle.std.specs.Borrow.{sem};
-    ghost use Rattle.node_stage.specs.Lending.{LendsBytes};
+    ghost use Rattle.pkt_buf.specs.Lending.{LendsBytes};
 
     /// Bytes with so many spare ones in front.
     pub fn new(alloc: Global, front: usize, bytes: &[u8]) -> Result<PktBuf, NoMemory>
@@ -52,7 +52,7 @@ impl PktBuf {
     }
 
     /// No bytes, of this buffer's allocator; takes no memory.
-    pub(crate) fn no_bytes(&self) -> PktBuf
+    pub fn no_bytes(&self) -> PktBuf
         ensures { result ≡ record { bytes = []; front = 0 } }
     {
         PktBuf::of(Vec::new(*self.held.allocator()))
@@ -124,12 +124,14 @@ impl PktBuf {
         self.front = front;
     }
 
-    /// Gives at least so many spare bytes in front; the packet's bytes stay. With want of memory
-    /// nothing changes.
+    /// Gives at least so many spare bytes in front; the packet's bytes stay. Where there are as many
+    /// nothing changes and no memory is taken, and with want of memory nothing changes.
     pub fn reserve_front(&mut self, n: usize) -> Result<(), NoMemory>
         ensures room { OnOk result (n ≤ self.new.front) }
         ensures bytes { self.new.bytes ≡ self.old.bytes }
+        ensures enough { n ≤ self.old.front → self.new ≡ self.old }
         ensures err { OnErr result (self.new ≡ self.old) }
+        ensures want { OnErr result (self.old.front < n) }
     {
         if n <= self.front {
             return Ok(());

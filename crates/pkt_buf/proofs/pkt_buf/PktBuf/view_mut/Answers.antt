@@ -1,9 +1,9 @@
 use Rattle.std.proofs.Common.{◌≡◌, ◌-◌, ◌≤◌, ◌++◌, ◌∙◌, List, ℕ, length, take, drop, refl, ap, arith, length-drop}
 use Rattle.std.proofs.lemmas.List.{take_all}
-use Rattle.node_stage.specs.BufferView.{Buffer}
-use Rattle.node_stage.specs.Lending.{left_in}
-use Rattle.node_stage.proofs.BufferLemmas.{same_buffer, lent-behind}
-use Rattle.node_stage.proofs.pkt_buf.PktBuf.view_mut.Goals as goal
+use Rattle.pkt_buf.specs.BufferView.{Buffer}
+use Rattle.pkt_buf.specs.Lending.{left_in}
+use Rattle.pkt_buf.proofs.BufferLemmas.{same_buffer, lent-behind}
+use Rattle.pkt_buf.proofs.pkt_buf.PktBuf.view_mut.Goals as goal
 
 pub returns : goal.returns
 returns c =

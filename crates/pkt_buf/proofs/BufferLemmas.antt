@@ -1,7 +1,8 @@
 -- A packet's bytes behind spare ones, cut.
-use Rattle.std.proofs.Common.{◌≡◌, ℕ, ◌+◌, ◌-◌, ◌≤◌, List, ◌++◌, length, take, drop, sym, ap, ◌∙◌, arith, length-append, length-drop}
-use Rattle.std.proofs.lemmas.List.{append-nil, drop-append-le, drop-drop, drop-take, drop_all, drop_at, length-take-le}
-use Rattle.node_stage.specs.BufferView.{Buffer}
+use Rattle.std.proofs.Common.{◌≡◌, ℕ, ◌+◌, ◌-◌, ◌≤◌, List, [], ◌++◌, length, take, drop, sym, ap, ◌∙◌, arith, length-append, length-drop}
+use Rattle.std.proofs.lemmas.List.{append-nil, drop-append-le, drop-drop, drop-take, drop_all, drop_at, length-take-le, take_all}
+use Rattle.pkt_buf.specs.BufferView.{Buffer}
+use Rattle.pkt_buf.specs.Lending.{left_in}
 
 -- a buffer is its bytes and its spare room
 pub same_buffer : (b : Buffer) (bytes : List ℕ) (front : ℕ) → bytes ≡ b.bytes → front ≡ b.front
@@ -12,6 +13,14 @@ same_buffer b bytes front same room =
     let e : one ≡ two = ap (λ xs. record { bytes = xs; front = front }) same in
     let f : two ≡ b = ap (λ n. record { bytes = b.bytes; front = n }) room in
     e ∙ f
+
+-- where as many bytes are left as there were, they are those that were left
+pub left_whole : (bytes left : List ℕ) → length left ≡ length bytes → left_in bytes left ≡ left
+left_whole bytes left same =
+    let none : drop (length left) bytes ≡ [] = drop_all (length left) bytes (omega arith) in
+    ap (λ xs. take (length bytes) (left ++ xs)) none
+    ∙ ap (take (length bytes)) (append-nil left)
+    ∙ take_all (length bytes) left (omega arith)
 
 -- bytes taken out behind spare ones
 pub cut-behind : (front at n : ℕ) (held : List ℕ) → front + at + n ≤ length held

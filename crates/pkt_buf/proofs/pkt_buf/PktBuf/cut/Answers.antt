@@ -1,7 +1,7 @@
 use Rattle.std.proofs.Common.{◌≡◌, ◌+◌, ◌≤◌, ◌++◌, ◌∙◌, List, ℕ, length, take, drop, ap, sym, arith, length-drop}
-use Rattle.node_stage.specs.BufferView.{Buffer}
-use Rattle.node_stage.proofs.BufferLemmas.{same_buffer, cut-behind}
-use Rattle.node_stage.proofs.pkt_buf.PktBuf.cut.Goals as goal
+use Rattle.pkt_buf.specs.BufferView.{Buffer}
+use Rattle.pkt_buf.proofs.BufferLemmas.{same_buffer, cut-behind}
+use Rattle.pkt_buf.proofs.pkt_buf.PktBuf.cut.Goals as goal
 
 pub returns : goal.returns
 returns c =

@@ -1,0 +1,2 @@
+pub mod BufferView
+pub mod Lending

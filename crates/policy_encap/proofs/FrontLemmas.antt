@@ -1,0 +1,111 @@
+-- Headers put in front of what a buffer holds.
+use Rattle.std.proofs.Common.{◌≡◌, ℕ, ◌+◌, ◌-◌, ◌*◌, ◌<◌, ◌≤◌, Bool, true, false, ◌==◌, List, [], ◌∷◌, ◌++◌, length, map, reverse, slice_index, refl, sym, ap, ◌∙◌, arith, length-append}
+use Rattle.std.proofs.lemmas.Bool.{eqb-true, eqb-false}
+use Rattle.std.proofs.lemmas.List.{append_assoc}
+use Rattle.v6_addr.specs.declared.address.Addr.{Addr}
+use Rattle.srv6_rules.specs.declared.policy.Policy.{Policy}
+use Rattle.srv6_rules.specs.declared.sid.Family.{Family}
+use Rattle.srv6_rules.specs.Packet.{Packet, header_spelling, spelling, first_word, two_bytes, four_bytes, address_bytes}
+use Rattle.srv6_rules.specs.Srh.{srh_spelling}
+use Rattle.srv6_rules.specs.Chain.{routing}
+use Rattle.srv6_rules.specs.Encapsulation.{header_bytes}
+use Rattle.srv6_rules.specs.Policies.{inner_kind, outer_by}
+use Rattle.srv6_rules.proofs.PublicLaws.{length-two_bytes, length-four_bytes, length-address_bytes, by-payload}
+use Rattle.srh_codec.specs.Writing.{numbers_of, header_over}
+use Rattle.pkt_buf.specs.BufferView.{Buffer}
+use Rattle.pkt_buf.proofs.PublicLaws.{same_buffer}
+use Rattle.policy_encap.specs.Headers.{listed, framed, routing_bytes}
+use Rattle.policy_encap.proofs.RoundLemmas.{round-bare, round-routed, round-len}
+
+-- a buffer with bytes put in front of its own
+abbrev pub put : List ℕ → Buffer → Buffer
+put bytes b = record { bytes = bytes ++ b.bytes; front = b.front - length bytes }
+
+put-put : (first second : List ℕ) (b : Buffer) → put first (put second b) ≡ put (first ++ second) b
+put-put first second b =
+    same_buffer (put (first ++ second) b) (first ++ (second ++ b.bytes)) (b.front - length second - length first)
+    (sym (append_assoc first second b.bytes)) (omega (arith, length-append first second))
+
+-- an outer header, field by field from the last
+pub outer-put : (policy : Policy) (next_header len word to : ℕ) (old b1 b2 b3 b4 b5 : Buffer) (four two one other : List ℕ)
+    → length old.bytes ≡ len
+    → word ≡ 1610612736 + policy.traffic_class * 1048576 + policy.flow_label
+    → to ≡ slice_index (map (λ (a : Addr). a.value) policy.segments) 0
+    → other ≡ address_bytes to → b1 ≡ put other old
+    → one ≡ address_bytes policy.source.value → b2 ≡ put one b1
+    → b3 ≡ put (next_header ∷ policy.hop_limit ∷ []) b2
+    → two ≡ two_bytes len → b4 ≡ put two b3
+    → four ≡ four_bytes word → b5 ≡ put four b4
+    → b5 ≡ record { bytes = spelling (framed policy next_header old.bytes); front = old.front - 40 }
+unfolding header_spelling first_word
+outer-put policy next_header len word to old b1 b2 b3 b4 b5 four two one other long w t f1 e1 f2 e2 e3 f4 e4 f5 e5 =
+    let kinds : List ℕ = next_header ∷ policy.hop_limit ∷ [] in
+    let header : List ℕ = four ++ (two ++ (kinds ++ (one ++ other))) in
+    let laid : b5 ≡ put header old =
+    e5 ∙ ap (put four) (e4 ∙ ap (put two) (e3 ∙ ap (put kinds) (e2 ∙ ap (put one) e1 ∙ put-put one other old)
+    ∙ put-put kinds (one ++ other) old) ∙ put-put two (kinds ++ (one ++ other)) old)
+    ∙ put-put four (two ++ (kinds ++ (one ++ other))) old in
+    let number : ℕ = 1610612736 + policy.traffic_class * 1048576 + policy.flow_label in
+    let bytes : ℕ → ℕ → ℕ → List ℕ = λ n k a. four_bytes n ++ (two_bytes k ++ (next_header ∷ policy.hop_limit ∷
+    (address_bytes policy.source.value ++ address_bytes a))) in
+    let fields : header ≡ bytes word len to = cc in
+    let is : header ≡ header_spelling (framed policy next_header old.bytes) =
+    fields ∙ ap (λ n. bytes n len to) w ∙ ap (λ k. bytes number k to) (sym long) ∙ ap (bytes number (length old.bytes)) t in
+    let size : length header ≡ 40 =
+    ap length fields ∙ simp (length-append, length-four_bytes, length-two_bytes, length-address_bytes) in
+    laid
+    ∙ same_buffer (record { bytes = spelling (framed policy next_header old.bytes); front = old.front - 40 })
+    (header ++ old.bytes) (old.front - length header) (ap (λ xs. xs ++ old.bytes) is) (ap (λ n. old.front - n) size)
+
+-- ---- all headers of a policy
+
+module _ (policy : Policy) (reduced : Bool) (inner : Family) (old : Buffer) where
+  abbrev whole : Packet
+  whole = outer_by policy reduced inner old.bytes
+
+  abbrev done : Buffer
+  done = record { bytes = spelling whole; front = old.front - header_bytes reduced (length policy.segments) }
+
+  -- what stands in front of the bytes is the IPv6 header and the segment routing header
+  front-len : (n front : ℕ) → 0 < length policy.segments → n ≡ routing_bytes (listed policy reduced) → front ≡ old.front - n - 40
+      → front ≡ old.front - header_bytes reduced (length policy.segments)
+  front-len n front some is left =
+      let len = round-len policy reduced inner old.bytes some in
+      let whole_len = by-payload policy reduced inner old.bytes in
+      omega (arith, len, whole_len)
+
+  pub put-bare : (kind : ℕ) (list : List Addr) (new : Buffer) → 0 < length policy.segments → list ≡ listed policy reduced
+      → (length list == 0) ≡ true → kind ≡ inner_kind inner
+      → new ≡ record { bytes = spelling (framed policy kind old.bytes); front = old.front - 40 } → new ≡ done
+  put-bare kind list new some is none kinds put_in =
+      let zero_len : length (listed policy reduced) ≡ 0 = ap length (sym is) ∙ eqb-true (length list) 0 none in
+      let shape : framed policy kind old.bytes ≡ whole =
+      ap (λ k. framed policy k old.bytes) kinds ∙ sym (round-bare policy reduced inner old.bytes some zero_len) in
+      let nothing : 0 ≡ routing_bytes (listed policy reduced) = rw zero_len refl in
+      put_in
+      ∙ same_buffer done (spelling (framed policy kind old.bytes)) (old.front - 40) (ap spelling shape)
+      (front-len 0 (old.front - 40) some nothing (omega arith))
+
+  -- what stands in front of it with a segment routing header
+  pub routed : (kind left : ℕ) (list segments : List Addr) → list ≡ listed policy reduced
+      → (length list == 0) ≡ false → kind ≡ inner_kind inner → segments ≡ policy.segments → left ≡ length segments - 1
+      → framed policy routing (srh_spelling (header_over kind left (reverse (numbers_of list))) ++ old.bytes) ≡ whole
+  routed kind left list segments is some kinds all lefts =
+      let more = eqb-false (length list) 0 some in
+      let count : length list ≡ length (listed policy reduced) = ap length is in
+      let srh : ℕ → ℕ → List Addr → Packet =
+      λ k l xs. framed policy routing (srh_spelling (header_over k l (reverse (numbers_of xs))) ++ old.bytes) in
+      ap (λ k. srh k left list) kinds
+      ∙ ap (λ n. srh (inner_kind inner) n list) (lefts ∙ ap (λ (xs : List Addr). length xs - 1) all)
+      ∙ ap (srh (inner_kind inner) (length policy.segments - 1)) is
+      ∙ sym (round-routed policy reduced inner old.bytes (omega arith))
+
+  pub put-routed : (srh : List ℕ) (list : List Addr) (mid new : Buffer) → 0 < length policy.segments
+      → list ≡ listed policy reduced → framed policy routing (srh ++ old.bytes) ≡ whole
+      → mid ≡ record { bytes = srh ++ old.bytes; front = old.front - routing_bytes list }
+      → new ≡ record { bytes = spelling (framed policy routing mid.bytes); front = mid.front - 40 } → new ≡ done
+  put-routed srh list mid new some is shape first second =
+      second
+      ∙ ap (λ (b : Buffer). record { bytes = spelling (framed policy routing b.bytes); front = b.front - 40 }) first
+      ∙ same_buffer done (spelling (framed policy routing (srh ++ old.bytes))) (old.front - routing_bytes list - 40)
+      (ap spelling shape) (front-len (routing_bytes list) (old.front - routing_bytes list - 40) some (ap routing_bytes is) refl)
