@@ -1,8 +1,8 @@
 use Rattle.std.proofs.Common.{◌≡◌}
 use Rattle.srv6_rules.specs.Endpoint.{Endpoint, Refused, at_address, at_address_end, at_address_header}
 use Rattle.ip6_headers.specs.Stepping.{place_view}
-use Rattle.node_stage.proofs.ChainLemmas.{comes-start, comes-upper, comes-cut, comes-decided, comes-behind}
-use Rattle.node_stage.proofs.endpoint.fault_at_address.Goals as goal
+use Rattle.endpoint_chain.proofs.ChainLemmas.{comes-start, comes-upper, comes-cut, comes-decided, comes-behind}
+use Rattle.endpoint_chain.proofs.address.fault_at_address.Goals as goal
 
 pub headers-init : goal.headers-init
 headers-init c =

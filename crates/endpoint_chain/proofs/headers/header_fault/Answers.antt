@@ -4,7 +4,7 @@ use Rattle.srv6_rules.specs.Chain.{Header}
 use Rattle.srv6_rules.proofs.PublicLaws.{options-passed, options-refused}
 use Rattle.ip6_headers.specs.Items.{fault_of}
 use Rattle.ip6_headers.specs.Stepping.{header_at}
-use Rattle.node_stage.proofs.headers.header_fault.Goals as goal
+use Rattle.endpoint_chain.proofs.headers.header_fault.Goals as goal
 
 pub returns-in-Ok : goal.returns-in-Ok
 returns-in-Ok c =

@@ -1,8 +1,8 @@
 use Rattle.std.proofs.Common.{length}
 use Rattle.srv6_rules.specs.Endpoint.{at_address, at_address_end, at_address_header}
 use Rattle.ip6_headers.specs.Stepping.{place_view}
-use Rattle.node_stage.proofs.ChainLemmas.{ComesTo}
-use Rattle.node_stage.proofs.endpoint.fault_at_address.Given as goal
+use Rattle.endpoint_chain.proofs.ChainLemmas.{ComesTo}
+use Rattle.endpoint_chain.proofs.address.fault_at_address.Given as goal
 
 abbrev pub invariant-headers : goal.invariant-headers
 invariant-headers l =

@@ -1,0 +1,2 @@
+-- The lemmas of this crate that crates above cite: what comes of a chain from each place on.
+pub use Rattle.endpoint_chain.proofs.ChainLemmas.{ComesTo, comes-start, comes-upper, comes-cut, comes-header, comes-decided, comes-behind}
