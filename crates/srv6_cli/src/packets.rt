@@ -39,7 +39,7 @@ pub enum Unread {
     ShortFrame,
     /// It holds no IP packet.
     NotIp,
-    /// It holds an IPv4 packet, which is a form that isn't built yet.
+    /// It holds an IPv4 packet, which no node takes yet: it is shown, and not walked.
     NotBuilt,
 }
 
