@@ -2,7 +2,7 @@
 
 use crate::{
     Block, BlockKind, Hit, Key, Link, MAX_SIDS_OF_NODE, Name, Net, NetFault, NetParts, Node,
-    NodeTable, NotFlat, Route, Standing, TableKind, TypeList, are_in_range, compilable,
+    NotFlat, Route, Standing, TableKind, TypeList, are_in_range, compilable,
 };
 use srv6_rules::{Behaviour, Csid, Family, LinkSet, SidEntry};
 use std::alloc::{AllocError, Global};
@@ -143,8 +143,8 @@ fn nodes_look_addresses_up(rt: HostRuntime) -> Result<(), Fail> {
     ] {
         assert!(rt; node < net.nodes());
         assert!(rt; net.lookup(node, table, Family::V6, Addr { value }) == hit);
-        let gathered = NodeTable::gather(rt.alloc(), &net, node, table, Family::V6)?;
-        assert!(rt; gathered.lookup(Addr { value }) == hit);
+        let one = net.table(node, table, Family::V6);
+        assert!(rt; one.lookup(Addr { value }) == hit);
     }
     Ok(())
 }
@@ -171,8 +171,8 @@ fn ipv4_has_tables_of_its_own(rt: HostRuntime) -> Result<(), Fail> {
     ] {
         assert!(rt; 0 < net.nodes());
         assert!(rt; net.lookup(0, 0, family, Addr { value }) == hit);
-        let gathered = NodeTable::gather(alloc, &net, 0, 0, family)?;
-        assert!(rt; gathered.lookup(Addr { value }) == hit);
+        let one = net.table(0, 0, family);
+        assert!(rt; one.lookup(Addr { value }) == hit);
     }
     Ok(())
 }
