@@ -3,10 +3,9 @@ use Rattle.std.proofs.Common.{◌≡◌, ℕ, true, false, ltb, List, [], ◌∷
 use Rattle.std.proofs.lemmas.Bool.{cases_Bool, both_ways, ltb-true, ltb-false, le-ltb}
 use Rattle.v6_addr.specs.Address.{PrefixValue, Holds, holds_address}
 use Rattle.v6_addr.proofs.PublicLaws.{holds_address_is}
-use Rattle.prefix_table.specs.Table.{HasPrefix, IsTable, HoldsNone, IsBest, IsBestMatch}
+use Rattle.prefix_table.specs.Table.{HasPrefix, IsTable, IsBest, IsBestMatch}
 use Rattle.prefix_table.proofs.PublicLaws.{one_best, best_taken, best_kept}
 use Rattle.net_model.specs.declared.net.Hit.{Hit}
-use Rattle.net_model.specs.declared.net.Hit.TheVariants as hits
 use Rattle.net_model.specs.Best.{Entry, longer, longest, hit_of}
 use Rattle.net_model.specs.Tables.{HitTable, paired, AnswersFor}
 use Rattle.net_model.proofs.EntryLemmas.{contains_none}
@@ -69,10 +68,6 @@ pub answers_none : AnswersFor [] []
 answers_none a = λ e c. absurd (contains_none e c)
 
 -- ---- the look-up
-
-pub nothing_there : (t : HitTable) (a : ℕ) (o : Option Entry) → IsBestMatch t a (paired o) → HoldsNone t a → hits.Nothing ≡ hit_of o
-nothing_there t a None best none = refl
-nothing_there t a (Some e) best none = absurd (none (e.prefix, e.hit) best.is_there best.holds)
 
 pub hit_there : (t : HitTable) (a : ℕ) (o : Option Entry) (f : PrefixValue × Hit) → IsTable t → IsBestMatch t a (paired o)
     → IsBest t a f → f.1 ≡ hit_of o

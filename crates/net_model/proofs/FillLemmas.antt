@@ -75,12 +75,12 @@ pub one_more : (e : TableEntry) (old mid new : BTreeMap TableKey HitTable) (t u 
 one_more e old mid new t u is_t out is_u back node table family =
     let key = table_key node table family in
     let found : map.get table_key_cmp new key ≡ cond (is_entry_of node table family e) (Some u) (map.get table_key_cmp mid key) =
-        back.0 key ∙ ap (λ b. cond b (Some u) (map.get table_key_cmp mid key)) (table_key_is e node table family) in
+    back.0 key ∙ ap (λ b. cond b (Some u) (map.get table_key_cmp mid key)) (table_key_is e node table family) in
     let left : map.get table_key_cmp mid key ≡ cond (is_entry_of node table family e) None (map.get table_key_cmp old key) =
-        out.0 key ∙ ap (λ b. cond b None (map.get table_key_cmp old key)) (table_key_is e node table family) in
+    out.0 key ∙ ap (λ b. cond b None (map.get table_key_cmp old key)) (table_key_is e node table family) in
     elim (cases_Bool (is_entry_of node table family e)) [
       | inl here ↦ let one : t ≡ table_at old node table family =
-            same_place (λ n m f. t ≡ table_at old n m f) e node table family here is_t in
+          same_place (λ n m f. t ≡ table_at old n m f) e node table family here is_t in
           let got : map.get table_key_cmp new key ≡ Some u = rw here at found in
           rw here (ap (λ (o : Option HitTable). unwrap_or o []) got ∙ is_u ∙ ap (λ (v : HitTable). v ++ (e.prefix, e.hit) ∷ []) one)
       | inr apart ↦ let got : map.get table_key_cmp new key ≡ map.get table_key_cmp mid key = rw apart at found in
@@ -122,17 +122,17 @@ taken_more e taken now old new are more update node table family p =
     let key = entry_key node table family p in
     let was = tree.contains entry_key_cmp taken key in
     let told : tree.contains entry_key_cmp now key
-        ≡ cond (is_entry_of node table family e && ((e.prefix.value == p.value) && (e.prefix.len == p.len))) true was =
-        update.0 key ∙ ap (λ b. cond b true was) (entry_key_is e node table family p) in
+    ≡ cond (is_entry_of node table family e && ((e.prefix.value == p.value) && (e.prefix.len == p.len))) true was =
+    update.0 key ∙ ap (λ b. cond b true was) (entry_key_is e node table family p) in
     elim (cases_Bool (is_entry_of node table family e)) [
       | inl here ↦ let longer : table_at new node table family ≡ table_at old node table family ++ (e.prefix, e.hit) ∷ [] =
-            rw here at (more node table family) in
+          rw here at (more node table family) in
           elim (cases_Bool ((e.prefix.value == p.value) && (e.prefix.len == p.len))) [
             | inl same ↦ (
-                λ _. subst (λ (t : HitTable). HasPrefix t p) (sym longer)
-                (has_new (table_at old node table family) e.prefix p e.hit (same_prefix_from e.prefix p same)),
-                λ _. rw (here, same) at told,
-              )
+              λ _. subst (λ (t : HitTable). HasPrefix t p) (sym longer)
+                  (has_new (table_at old node table family) e.prefix p e.hit (same_prefix_from e.prefix p same)),
+              λ _. rw (here, same) at told,
+            )
             | inr other ↦ let kept : tree.contains entry_key_cmp now key ≡ was = rw (here, other) at told in
                 still_told was _ _ _ kept (are node table family p)
                 (λ has. subst (λ (t : HitTable). HasPrefix t p) (sym longer) (has_behind _ e.prefix p e.hit has))
@@ -180,7 +180,7 @@ pub answer_more : (e : TableEntry) (before : List TableEntry) (old new : BTreeMa
 answer_more e before old new more answers node table family =
     elim (cases_Bool (is_entry_of node table family e)) [
       | inl here ↦ let longer : table_at new node table family ≡ table_at old node table family ++ (e.prefix, e.hit) ∷ [] =
-            rw here at (more node table family) in
+          rw here at (more node table family) in
           subst (λ (t : HitTable). AnswersFor (entries_at (before ++ e ∷ []) node table family) t) (sym longer)
           (subst (λ (es : List Entry). AnswersFor es (table_at old node table family ++ (e.prefix, e.hit) ∷ []))
           (sym (entries_here before e node table family here))
@@ -220,7 +220,7 @@ pub taken_none : (taken : BTreeSet EntryKey) (tables : BTreeMap TableKey HitTabl
     → AreTaken taken tables
 taken_none taken tables no_keys none node table family p = (
   λ h. let fails : tree.contains entry_key_cmp taken (entry_key node table family p) ≡ false =
-        ap (list_any (λ k. is_eq (entry_key_cmp (entry_key node table family p) k))) no_keys in
+      ap (list_any (λ k. is_eq (entry_key_cmp (entry_key node table family p) k))) no_keys in
       absurd (both_ways _ fails h),
   λ has. absurd (contains_none _ (subst (λ (t : HitTable). HasPrefix t p) (empty_table tables node table family none) has).1),
 )

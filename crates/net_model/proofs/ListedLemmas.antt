@@ -110,11 +110,16 @@ all_at net node table family =
           ∙ sym (entries_of-other net node table family other))
     ]
 
-pub are_tables : (net : Network) (tables : BTreeMap TableKey HitTable)
-    → AnswerFor ((entries_from sid_entry 0 net.sids ++ entries_from address_entry 0 net.nodes) ++ entries_from route_entry 0 net.routes) tables
+pub are_tables : (net : Network) (sids : List SidEntry) (nodes : List Node) (routes : List Route) (tables : BTreeMap TableKey HitTable)
+    → sids ≡ net.sids → nodes ≡ net.nodes → routes ≡ net.routes
+    → AnswerFor ((entries_from sid_entry 0 sids ++ entries_from address_entry 0 nodes) ++ entries_from route_entry 0 routes) tables
     → AreTables net tables
-are_tables net tables answers node table family =
-    let whole = append_assoc (entries_from sid_entry 0 net.sids) (entries_from address_entry 0 net.nodes)
+are_tables net sids nodes routes tables is_sids is_nodes is_routes answers node table family =
+    let Three : List SidEntry → List Node → List Route → List TableEntry =
+    λ ss ns rs. (entries_from sid_entry 0 ss ++ entries_from address_entry 0 ns) ++ entries_from route_entry 0 rs in
+    let same : Three sids nodes routes ≡ Three net.sids net.nodes net.routes =
+    λ i. (entries_from sid_entry 0 (is_sids i) ++ entries_from address_entry 0 (is_nodes i)) ++ entries_from route_entry 0 (is_routes i) in
+    let whole = same ∙ append_assoc (entries_from sid_entry 0 net.sids) (entries_from address_entry 0 net.nodes)
     (entries_from route_entry 0 net.routes) in
     subst (λ (es : List Entry). AnswersFor es (table_at tables node table family)) (all_at net node table family)
     (subst (λ (es : List TableEntry). AnswersFor (entries_at es node table family) (table_at tables node table family)) whole

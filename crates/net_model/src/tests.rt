@@ -150,6 +150,20 @@ fn nodes_look_addresses_up(rt: HostRuntime) -> Result<(), Fail> {
 }
 
 #[test]
+fn of_equal_prefixes_a_sid_stays_then_the_address(rt: HostRuntime) -> Result<(), Fail> {
+    let alloc = rt.alloc();
+    let mut sids = Vec::new(alloc);
+    sids.push(end_at_b(alloc, prefix(&rt, OWN_B, 128)))?;
+    let parts = two_nodes(alloc, ("A", "B"), prefix(&rt, OWN_A, 128), sids)?;
+    let net = network(&rt, alloc, parts);
+    for (node, value, hit) in [(0, OWN_A, Hit::Address), (1, OWN_B, Hit::Sid(0))] {
+        assert!(rt; node < net.nodes());
+        assert!(rt; net.lookup(node, 0, Family::V6, Addr { value }) == hit);
+    }
+    Ok(())
+}
+
+#[test]
 fn ipv4_has_tables_of_its_own(rt: HostRuntime) -> Result<(), Fail> {
     let alloc = rt.alloc();
     let mut parts = two_nodes(alloc, ("A", "B"), prefix(&rt, 0, 0), Vec::new(alloc))?;

@@ -11,8 +11,8 @@ pub insert_new-requires : goal.insert_new-requires
 insert_new-requires c = λ has.
     let e = c.args.e.now in
     let taken : c.take_table-table.result ≡ table_at c.args.tables.now e.node e.table e.family =
-        c.take_table-table.ensures.table
-        ∙ ap (λ (k : TableKey). unwrap_or (map.get table_key_cmp c.args.tables.now k) []) c.table_key-key.ensures in
+    c.take_table-table.ensures.table
+    ∙ ap (λ (k : TableKey). unwrap_or (map.get table_key_cmp c.args.tables.now k) []) c.table_key-key.ensures in
     c.requires (subst (λ (t : HitTable). HasPrefix t e.prefix) taken has)
 
 pub returns : goal.returns

@@ -13,7 +13,7 @@ returns c =
     let family = c.args.family in
     let tables = c.self.inside.tables in
     let found : option_copied c.get.result ≡ map.get table_key_cmp tables (table_key node table family) =
-        c.get.ensures.value ∙ ap (map.get table_key_cmp tables) c.table_key.ensures in
+    c.get.ensures.value ∙ ap (map.get table_key_cmp tables) c.table_key.ensures in
     subst (λ (t : HitTable). AnswersFor (entries_of c.args.self.now node table family) t)
     (sym (ap (λ (o : Option HitTable). unwrap_or o []) found))
     (subst (λ (net : Network). AnswersFor (entries_of net node table family) (table_at tables node table family)) c.self.view_is

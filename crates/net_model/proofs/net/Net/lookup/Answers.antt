@@ -12,5 +12,5 @@ returns c =
     let family = c.args.family in
     let a = c.args.a.value in
     let value : c.lookup.result ≡ lookup_of net node table family a =
-        c.lookup.ensures ∙ ap (λ (t : TableOf). lookup_of t.net t.node t.table t.family a) c.table.ensures in
+    c.lookup.ensures ∙ ap (λ (t : TableOf). lookup_of t.net t.node t.table t.family a) c.table.ensures in
     record { value = value; best = subst (IsBest net node table family a) (sym value) (lookup_is_best net node table family a) }
