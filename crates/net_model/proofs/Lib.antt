@@ -8,7 +8,9 @@ pub mod IsBestLemmas
 pub mod FlatLemmas
 pub mod BlockLemmas
 pub mod AlikeLemmas
-pub mod GatheredLemmas
+pub mod AnswerLemmas
+pub mod FillLemmas
+pub mod ListedLemmas
 pub mod JudgingLemmas
 pub mod PassesLemmas
 pub mod TableLaws
