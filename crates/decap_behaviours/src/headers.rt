@@ -36,12 +36,7 @@ fn has_ended(sid: &SidEntry, packet: &[u8], place: ChainPlace, header: &[u8]) ->
 /// Why a routing header is refused, or none where it is passed over: a segment routing header with
 /// no segment left (RFC 8986 section 4.6), and one that the node does not know with no segments
 /// left (RFC 8200 section 4.4).
-fn routing_fault(
-    sid: &SidEntry,
-    packet: &[u8],
-    place: ChainPlace,
-    header: &[u8],
-) -> Option<Fault>
+fn routing_fault(sid: &SidEntry, packet: &[u8], place: ChainPlace, header: &[u8]) -> Option<Fault>
     requires ends { goes_on sid.now ≡ false }
     requires suits { SuitsCompression sid.now }
     requires usp { sid.now.usp ≡ false }
