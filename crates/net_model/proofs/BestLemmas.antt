@@ -1,5 +1,5 @@
 -- The longest of joined entries.
-use Rattle.std.proofs.Common.{◌≡◌, ℕ, ◌+◌, ltb, ◌==◌, List, [], ◌∷◌, ◌++◌, Option, Some, None, refl, sym, ap, ◌∙◌, arith, inl, inr}
+use Rattle.std.proofs.Common.{◌≡◌, ℕ, ltb, List, [], ◌∷◌, ◌++◌, Option, Some, None, refl, sym, arith, inl, inr}
 use Rattle.std.proofs.lemmas.Bool.{cases_Bool, ltb-true, ltb-false, lt-ltb, le-ltb}
 use Rattle.v6_addr.specs.Address.{holds_address}
 use Rattle.net_model.specs.Best.{Entry, longer, longest}

@@ -1,5 +1,5 @@
 -- The tables of a network while they are filled, entry by entry.
-use Rattle.std.proofs.Common.{◌≡◌, ◌↔◌, ℕ, zero, suc, ◌+◌, ◌-◌, ◌<◌, ◌≤◌, Bool, true, false, ◌==◌, ◌&&◌, cond, if◌then◌else◌, List, [], ◌∷◌, ◌++◌, length, get_or, take, Option, Some, None, refl, sym, ap, ◌∙◌, subst, arith, inl, inr}
+use Rattle.std.proofs.Common.{◌≡◌, ◌↔◌, ℕ, suc, ◌+◌, ◌<◌, Bool, true, false, ◌==◌, ◌&&◌, cond, List, [], ◌∷◌, ◌++◌, length, get_or, take, Option, Some, None, refl, sym, ap, ◌∙◌, subst, arith, inl, inr}
 use Rattle.std.specs.Prelude.{not}
 use Rattle.std.specs.List.{list_any}
 use Rattle.std.specs.Option.{unwrap_or}
@@ -10,19 +10,18 @@ use Rattle.std.specs.BTreeMap as map
 use Rattle.std.specs.BTreeSet.{BTreeSet}
 use Rattle.std.specs.BTreeSet as tree
 use Rattle.std.proofs.lemmas.Bool.{cases_Bool, both_ways, and_parts, and_from, eqb-true, eq-eqb}
-use Rattle.std.proofs.lemmas.List.{append_assoc, take_more, length-take-le}
+use Rattle.std.proofs.lemmas.List.{take_more, length-take-le}
 use Rattle.std.proofs.lemmas.List.Elements.{Contains-append_left, Contains-push, Contains-push_cases}
 use Rattle.v6_addr.specs.Address.{PrefixValue}
 use Rattle.prefix_table.specs.Table.{HasPrefix}
 use Rattle.srv6_rules.specs.declared.sid.Family.{Family}
-use Rattle.srv6_rules.specs.declared.sid.Family.TheVariants as families
 use Rattle.net_model.specs.declared.net.Hit.{Hit}
 use Rattle.net_model.specs.declared.route_set.EntryKey.{EntryKey}
 use Rattle.net_model.specs.declared.tables.TableKey.{TableKey}
 use Rattle.net_model.specs.declared.tables.TableEntry.{TableEntry}
 use Rattle.net_model.specs.Best.{Entry}
 use Rattle.net_model.specs.Rules.{same_family}
-use Rattle.net_model.specs.RouteKeys.{entry_key_cmp, entry_key}
+use Rattle.net_model.specs.EntryKeys.{entry_key_cmp, entry_key}
 use Rattle.net_model.specs.Tables.{HitTable, table_key_cmp, table_key, table_at, is_entry_of, entries_at, entries_from, AnswersFor, AnswerFor, AreTaken, HasOneMore}
 use Rattle.net_model.proofs.EntryLemmas.{contains_none, same_family-is}
 use Rattle.net_model.proofs.RouteSetLemmas.{number_is_eq, family_is_eq, both_eq, entry_keys_tell}
@@ -58,7 +57,8 @@ same_place P e node table family is p =
 
 same_prefix_from : (p q : PrefixValue) → ((p.value == q.value) && (p.len == q.len)) ≡ true → p ≡ q
 same_prefix_from p q is =
-    let parts = and_parts (p.value == q.value) (p.len == q.len) is in λ i. record { value = eqb-true p.value q.value parts.0 i; len = eqb-true p.len q.len parts.1 i }
+    let parts = and_parts (p.value == q.value) (p.len == q.len) is in
+    λ i. record { value = eqb-true p.value q.value parts.0 i; len = eqb-true p.len q.len parts.1 i }
 
 same_prefix_to : (p q : PrefixValue) → p ≡ q → ((p.value == q.value) && (p.len == q.len)) ≡ true
 same_prefix_to p q is =
@@ -188,8 +188,8 @@ answer_more e before old new more answers node table family =
           (record { hit = e.hit; prefix = e.prefix }) (answers node table family)))
       | inr apart ↦ let same : table_at new node table family ≡ table_at old node table family = rw apart at (more node table family) in
           subst (λ (t : HitTable). AnswersFor (entries_at (before ++ e ∷ []) node table family) t) (sym same)
-          (subst (λ (es : List Entry). AnswersFor es (table_at old node table family)) (sym (entries_apart before e node table family apart))
-          (answers node table family))
+          (subst (λ (es : List Entry). AnswersFor es (table_at old node table family))
+          (sym (entries_apart before e node table family apart)) (answers node table family))
     ]
 
 pub answer_same : (e : TableEntry) (before : List TableEntry) (tables : BTreeMap TableKey HitTable)

@@ -1,5 +1,5 @@
 -- The entries of all tables are those of each table.
-use Rattle.std.proofs.Common.{◌≡◌, ℕ, zero, suc, ◌+◌, ◌<◌, Bool, true, false, ◌==◌, ◌&&◌, List, [], ◌∷◌, ◌++◌, Option, Some, None, refl, sym, ap, ◌∙◌, subst, arith, inl, inr}
+use Rattle.std.proofs.Common.{◌≡◌, ℕ, zero, suc, ◌+◌, ◌<◌, Bool, true, false, ◌==◌, ◌&&◌, List, [], ◌∷◌, ◌++◌, refl, sym, ap, ◌∙◌, subst, arith, inl, inr}
 use Rattle.std.specs.List.{slice_get}
 use Rattle.std.proofs.lemmas.Bool.{cases_Bool, both_ways, eqb-true, eq-eqb}
 use Rattle.std.proofs.lemmas.List.{append_assoc}
@@ -46,7 +46,8 @@ none_at entry node table family none n (x ∷ xs) = rw (none n x) (none_at entry
 
 -- ---- of each kind
 
-sids_at_first : (node n : ℕ) (sids : List SidEntry) → entries_at (entries_from sid_entry n sids) node 0 families.V6 ≡ sid_entries node n sids
+sids_at_first : (node n : ℕ) (sids : List SidEntry)
+    → entries_at (entries_from sid_entry n sids) node 0 families.V6 ≡ sid_entries node n sids
 sids_at_first node n [] = refl
 sids_at_first node n (s ∷ sids) =
     elim (cases_Bool (s.node == node)) [
@@ -87,7 +88,8 @@ routes_at node table family n (r ∷ routes) =
 three : (xs ys zs us vs ws : List Entry) → xs ≡ us → ys ≡ vs → zs ≡ ws → xs ++ (ys ++ zs) ≡ us ++ (vs ++ ws)
 three xs ys zs us vs ws e f g = λ i. e i ++ (f i ++ g i)
 
-all_at : (net : Network) (node table : ℕ) (family : Family) → entries_at (all_entries net) node table family ≡ entries_of net node table family
+all_at : (net : Network) (node table : ℕ) (family : Family)
+    → entries_at (all_entries net) node table family ≡ entries_of net node table family
 all_at net node table family =
     let sids = entries_from sid_entry 0 net.sids in
     let nodes = entries_from address_entry 0 net.nodes in

@@ -9,4 +9,4 @@ pub mod Flat
 pub mod Tables
 pub mod Keys
 pub mod Judging
-pub mod RouteKeys
+pub mod EntryKeys

@@ -22,7 +22,7 @@ use Rattle.net_model.specs.declared.tables.TableEntry.{TableEntry}
 use Rattle.net_model.specs.Network.{Network}
 use Rattle.net_model.specs.Rules.{same_family}
 use Rattle.net_model.specs.Best.{Entry, longest, entries_of}
-use Rattle.net_model.specs.RouteKeys.{entry_key_cmp, entry_key}
+use Rattle.net_model.specs.EntryKeys.{entry_key_cmp, entry_key}
 
 -- a table of a node of a network
 pub record TableOf : Type 0 where
@@ -56,7 +56,8 @@ table_at tables node table family = unwrap_or (map.get table_key_cmp tables (tab
 
 -- each table of a network answers for the entries of that table
 abbrev pub AreTables : Network → BTreeMap TableKey HitTable → Type 0
-AreTables net tables = (node table : ℕ) (family : Family) → AnswersFor (entries_of net node table family) (table_at tables node table family)
+AreTables net tables = (node table : ℕ) (family : Family)
+    → AnswersFor (entries_of net node table family) (table_at tables node table family)
 
 -- ---- while the tables are filled
 
@@ -73,8 +74,8 @@ entries_at (e ∷ es) node table family =
 
 -- each table answers for its entries
 abbrev pub AnswerFor : List TableEntry → BTreeMap TableKey HitTable → Type 0
-AnswerFor entries tables = (node table : ℕ) (family : Family) → AnswersFor (entries_at entries node table family)
-    (table_at tables node table family)
+AnswerFor entries tables = (node table : ℕ) (family : Family)
+    → AnswersFor (entries_at entries node table family) (table_at tables node table family)
 
 -- the keys tell of each prefix whether it is in a table
 abbrev pub AreTaken : BTreeSet EntryKey → BTreeMap TableKey HitTable → Type 0

@@ -5,7 +5,7 @@ ghost use Rattle.std.specs.BTreeSet.{BTreeSet};
 ghost use Rattle.net_model.specs.declared.parts.Route.{Route};
 ghost use Rattle.net_model.specs.Rules.{same_route};
 ghost use Rattle.net_model.specs.Judging.{stands_before};
-ghost use Rattle.net_model.specs.RouteKeys.{entry_key, key_of, HasKeys};
+ghost use Rattle.net_model.specs.EntryKeys.{entry_key, key_of, HasKeys};
 
 use crate::parts::Route;
 use crate::rules::same_family;

@@ -1,6 +1,6 @@
 use Rattle.std.proofs.Common.{true, subst}
 use Rattle.std.specs.BTreeSet as tree
-use Rattle.net_model.specs.RouteKeys.{entry_key_cmp}
+use Rattle.net_model.specs.EntryKeys.{entry_key_cmp}
 use Rattle.net_model.proofs.RouteSetLemmas.{has_more}
 use Rattle.net_model.proofs.route_set.put_route.Goals as goal
 

@@ -1,8 +1,8 @@
-use Rattle.std.proofs.Common.{◌≡◌, true, ap, ◌∙◌, subst}
+use Rattle.std.proofs.Common.{true, ap, ◌∙◌, subst}
 use Rattle.std.specs.Prelude.{not}
 use Rattle.std.specs.BTreeSet as tree
 use Rattle.net_model.specs.declared.route_set.EntryKey.{EntryKey}
-use Rattle.net_model.specs.RouteKeys.{entry_key_cmp}
+use Rattle.net_model.specs.EntryKeys.{entry_key_cmp}
 use Rattle.net_model.proofs.FillLemmas.{not_there, is_there, taken_more, answer_more, answer_same}
 use Rattle.net_model.proofs.tables.put.Goals as goal
 
