@@ -9,7 +9,9 @@ ghost use Rattle.policy_encap.specs.declared.faults.PushFault.TheVariants as pus
 ghost use Rattle.policy_encap.specs.declared.faults.EncapFault.TheVariants as encapsulating;
 
 use crate::faults::{EncapFault, PushFault};
-use crate::headers::{MOST_PAYLOAD_LEN, bytes_fit, front_len, outer_fits, payload_len, put_headers};
+use crate::headers::{
+    MOST_PAYLOAD_LEN, bytes_fit, front_len, outer_fits, payload_len, put_headers,
+};
 use crate::inner::{inner_hop, inner_len, lower};
 use pkt_buf::PktBuf;
 use srv6_rules::numbers::MOST_LEN;
