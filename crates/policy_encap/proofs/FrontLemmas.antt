@@ -60,7 +60,8 @@ outer-put policy next_header len word to old b1 b2 b3 b4 b5 four two one other l
 pub routed : (policy : Policy) (reduced : Bool) (inner : Family) (bytes : List ℕ) (kind left : ℕ) (list segments : List Addr)
     → list ≡ listed policy reduced → (length list == 0) ≡ false → kind ≡ inner_kind inner
     → segments ≡ policy.segments → left ≡ length segments - 1
-    → framed policy routing (srh_spelling (header_over kind left (reverse (numbers_of list))) ++ bytes) ≡ outer_by policy reduced inner bytes
+    → framed policy routing (srh_spelling (header_over kind left (reverse (numbers_of list))) ++ bytes)
+    ≡ outer_by policy reduced inner bytes
 routed policy reduced inner bytes kind left list segments is some kinds all lefts =
     let more = eqb-false (length list) 0 some in
     let count : length list ≡ length (listed policy reduced) = ap length is in

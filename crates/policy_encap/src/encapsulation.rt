@@ -49,6 +49,7 @@ pub fn push(
     }
     buf.reserve_front(front_len(policy, reduced))?;
     put_headers(buf, policy, reduced, inner);
+    // Fields and bytes fit their widths, so the outer packet is one that bytes can spell.
     outer_fits(policy);
     bytes_fit(buf.view());
     Ok(())
@@ -86,6 +87,7 @@ pub fn encap(policy: &Policy, inner: Family, buf: &mut PktBuf) -> Result<(), Enc
     buf.reserve_front(front_len(policy, policy.reduced))?;
     lower(inner, buf.view_mut());
     put_headers(buf, policy, policy.reduced, inner);
+    // Fields and bytes fit their widths, so the outer packet is one that bytes can spell.
     outer_fits(policy);
     bytes_fit(buf.view());
     Ok(())
