@@ -33,9 +33,9 @@ fn has_ended(sid: &SidEntry, packet: &[u8], place: ChainPlace, header: &[u8]) ->
     }
 }
 
-/// Why a routing header is refused, or none where it is passed over: a segment routing header with a
-/// segment left has bad segments (RFC 8986 section 4.6), and another with segments left is unknown
-/// (RFC 8200 section 4.4).
+/// Why a routing header is refused, or none where it is passed over: a segment routing header with
+/// a segment left has bad segments (RFC 8986 section 4.6), and another header with segments left is
+/// unknown (RFC 8200 section 4.4).
 fn routing_fault(sid: &SidEntry, packet: &[u8], place: ChainPlace, header: &[u8]) -> Option<Fault>
     requires ends { goes_on sid.now ≡ false }
     requires suits { SuitsCompression sid.now }
