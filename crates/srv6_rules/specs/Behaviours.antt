@@ -114,23 +114,6 @@ is_packet_inside kind = (kind == ipv6_inside) || (kind == ipv4_inside)
 abbrev pub exposes : SidEntry → ℕ → Bool
 exposes s kind = behaviour_exposes s.behaviour kind || (s.usd && is_packet_inside kind)
 
--- ---- what nodes run so far: every SID but those that bind a policy
-
-abbrev pub behaviour_is_built : Behaviour → Bool
-behaviour_is_built End = true
-behaviour_is_built EndX = true
-behaviour_is_built (EndT table) = true
-behaviour_is_built Dx6 = true
-behaviour_is_built Dx4 = true
-behaviour_is_built (Dt6 table) = true
-behaviour_is_built (Dt4 table) = true
-behaviour_is_built (Dt46 table) = true
-behaviour_is_built (B6 policy) = false
-behaviour_is_built (B6Red policy) = false
-
-abbrev pub is_built : SidEntry → Bool
-is_built s = behaviour_is_built s.behaviour
-
 -- ---- what the compiler's lists take so far: plain End, End.X, End.T, End.DX6 and End.DT6 without flavours
 
 abbrev pub behaviour_is_listed : Behaviour → Bool

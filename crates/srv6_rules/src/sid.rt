@@ -2,8 +2,8 @@
 
 ghost use Rattle.std.specs.Prelude.{◌≡◌, Some};
 ghost use Rattle.srv6_rules.specs.Reasons.{reason_name};
-ghost use Rattle.srv6_rules.specs.Behaviours.{behaviour_goes_on, behaviour_exposes, behaviour_takes_links, behaviour_table, behaviour_policy, behaviour_takes_flavours, behaviour_is_built, behaviour_is_listed};
-ghost use Rattle.srv6_rules.specs.Behaviours.{goes_on, exposes, is_built, is_listed};
+ghost use Rattle.srv6_rules.specs.Behaviours.{behaviour_goes_on, behaviour_exposes, behaviour_takes_links, behaviour_table, behaviour_policy, behaviour_takes_flavours, behaviour_is_listed};
+ghost use Rattle.srv6_rules.specs.Behaviours.{goes_on, exposes, is_listed};
 ghost use Rattle.srv6_rules.specs.CompressedSteps.{compression_of};
 
 use crate::compression::Compression;
@@ -291,23 +291,6 @@ impl Behaviour {
         }
     }
 
-    /// Nodes run it: so far every behaviour but End.B6.Encaps and its reduced form.
-    fn is_built(&self) -> bool
-        ensures { result ≡ behaviour_is_built self.now }
-    {
-        match self {
-            Behaviour::End
-            | Behaviour::EndX
-            | Behaviour::EndT { .. }
-            | Behaviour::Dx6
-            | Behaviour::Dx4
-            | Behaviour::Dt6 { .. }
-            | Behaviour::Dt4 { .. }
-            | Behaviour::Dt46 { .. } => true,
-            Behaviour::B6 { .. } | Behaviour::B6Red { .. } => false,
-        }
-    }
-
     /// The compiler's lists take it: so far End, End.X, End.T, End.DX6 and End.DT6.
     fn is_listed(&self) -> bool
         ensures { result ≡ behaviour_is_listed self.now }
@@ -352,13 +335,6 @@ impl SidEntry {
             prefix_len: self.prefix.len(),
             block_len: self.block_len,
         }
-    }
-
-    /// Nodes run it: so far the SIDs of every behaviour but End.B6.Encaps and its reduced form.
-    pub fn is_built(&self) -> bool
-        ensures { result ≡ is_built self.now }
-    {
-        self.behaviour.is_built()
     }
 
     /// The compiler's lists take it: so far the plain SIDs of End, End.X, End.T, End.DX6 and
