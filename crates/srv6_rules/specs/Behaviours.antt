@@ -89,6 +89,19 @@ behaviour_policy (Dt46 table) = None
 behaviour_policy (B6 policy) = Some policy
 behaviour_policy (B6Red policy) = Some policy
 
+-- the behaviours that put it there in the reduced form (RFC 8986 section 4.14)
+abbrev pub behaviour_reduces : Behaviour → Bool
+behaviour_reduces End = false
+behaviour_reduces EndX = false
+behaviour_reduces (EndT table) = false
+behaviour_reduces Dx6 = false
+behaviour_reduces Dx4 = false
+behaviour_reduces (Dt6 table) = false
+behaviour_reduces (Dt4 table) = false
+behaviour_reduces (Dt46 table) = false
+behaviour_reduces (B6 policy) = false
+behaviour_reduces (B6Red policy) = true
+
 -- the behaviours that take flavours: End, End.X and End.T (RFC 8986 section 4.16)
 abbrev pub behaviour_takes_flavours : Behaviour → Bool
 behaviour_takes_flavours End = true
