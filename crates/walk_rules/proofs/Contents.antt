@@ -19,6 +19,8 @@ use Rattle.walk_rules.specs.Way.{way_of}
 use Rattle.walk_rules.specs.Treatment.{Gave, lowered, ttl_lowered, treated_at_address, treated_at_sid, step_of, allow_of}
 use Rattle.walk_rules.specs.Walk.{far_end, arrival, next_place}
 use Rattle.walk_rules.specs.Laws.{family_after}
+use Rattle.walk_rules.proofs.Binding.{outer_of, onward-each}
+use Rattle.walk_rules.proofs.Outers.{outer-spellable}
 use Rattle.walk_rules.proofs.Outcomes.{treated-each, treated4-each}
 
 -- a content that can be spelled and, if something is so, reads again from its bytes as a packet of a family
@@ -65,14 +67,20 @@ address-back net place p (Delivered q) ok same = same-back place.family p q (at_
 address-back net place p (Refused reason at) ok same = packet-back place.family p ok
 
 endpoint-back : (net : Network) (place : Place) (n : ℕ) (s : SidEntry) (allow : List ℕ) (p : Packet) (e : Endpoint)
-    → SuitsCompression s → IsSpellable p → at_sid s allow p ≡ e
+    → Keeps net → SuitsCompression s → IsSpellable p → at_sid s allow p ≡ e
     → GaveBack place families.V6 (treated_at_sid net place.node n s.behaviour p e)
-endpoint-back net place n s allow p (Onward q) suits ok same = packet-back place.family q (at_sid-spellable s allow p q suits ok same)
-endpoint-back net place n s allow p (Exposed family bytes) suits ok same =
+endpoint-back net place n s allow p (Onward q) keeps suits ok same =
+    let fine : IsSpellable q = at_sid-spellable s allow p q suits ok same in
+    onward-each net place.node n s.behaviour p q (GaveBack place families.V6)
+    (λ plain. packet-back place.family q fine)
+    (λ number named binds there fits. packet-back place.family (outer_of named s.behaviour q)
+    (outer-spellable named s.behaviour q (keeps.policy number named there) fine fits))
+    (λ reason. packet-back place.family p ok)
+endpoint-back net place n s allow p (Exposed family bytes) keeps suits ok same =
     (at_sid-content s allow p family bytes ok same, λ v6. at_sid-exposed_back s allow p family bytes ok same)
-endpoint-back net place n s allow p (Delivered q) suits ok same =
+endpoint-back net place n s allow p (Delivered q) keeps suits ok same =
     packet-back place.family q (at_sid-delivered_spellable s allow p q ok same)
-endpoint-back net place n s allow p (Refused reason at) suits ok same = packet-back place.family p ok
+endpoint-back net place n s allow p (Refused reason at) keeps suits ok same = packet-back place.family p ok
 
 step-packet : (net : Network) (place : Place) (p : Packet) (choice : ℕ) → Keeps net → IsSpellable p
     → GaveBack place families.V6 (step_of net place (V6 p) choice)
@@ -83,7 +91,7 @@ step-packet net place p choice keeps ok =
       drop = λ reason at. packet-back place.family p ok;
       send = λ set lower over. packet-back place.family (lowered lower p) (lowered-spellable lower p ok);
       own = address-back net place p (at_address p) ok refl;
-      sid = λ n s into there built. endpoint-back net place n s allow p (at_sid s allow p) (sid-suits net n s keeps there) ok refl;
+      sid = λ n s into there. endpoint-back net place n s allow p (at_sid s allow p) keeps (sid-suits net n s keeps there) ok refl;
     })
 
 step-packet4 : (net : Network) (place : Place) (p : Packet4) (choice : ℕ) → IsSpellable4 p

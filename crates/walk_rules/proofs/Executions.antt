@@ -1,21 +1,23 @@
 -- Where a stage executes a SID: the SID is there and stands at the node, and the hop limit falls by one before a packet
 -- goes on.
-use Rattle.std.proofs.Common.{◌≡◌, ℕ, ◌+◌, ◌<◌, true, List, Some, slice_get, refl, sym, ◌∙◌, subst, ap}
+use Rattle.std.proofs.Common.{◌≡◌, ℕ, ◌+◌, ◌<◌, true, List, Some, None, slice_get, refl, sym, ◌∙◌, subst, ap}
 use Rattle.srv6_rules.specs.declared.sid.Family.{Family}
 use Rattle.srv6_rules.specs.declared.sid.SidEntry.{SidEntry}
-use Rattle.walk_rules.specs.Treatment.{is_built}
+use Rattle.srv6_rules.specs.Behaviours.{behaviour_policy}
 use Rattle.srv6_rules.specs.Packet.{Packet, Content, V6, V4, Unreadable}
 use Rattle.srv6_rules.specs.Packet4.{destination4}
 use Rattle.srv6_rules.specs.Endpoint.{Endpoint, Onward, Exposed, Delivered, Refused, at_sid, at_address}
 use Rattle.srv6_rules.proofs.PublicLaws.{at_sid-lowers}
+use Rattle.net_model.specs.declared.parts.NamedPolicy.{NamedPolicy}
 use Rattle.net_model.specs.Network.{Network}
 use Rattle.walk_rules.specs.declared.place.How.{How}
 use Rattle.walk_rules.specs.declared.place.Place.{Place}
 use Rattle.walk_rules.specs.declared.place.Outcome.{Outcome}
 use Rattle.walk_rules.specs.declared.place.Outcome.TheVariants as outcomes
 use Rattle.walk_rules.specs.Way.{Into, way_of, StandsAt}
-use Rattle.walk_rules.specs.Treatment.{Gave, onward_from, exposed_from, treated_at_address, treated_at_sid, step_of, allow_of}
-use Rattle.walk_rules.specs.Laws.{IsLoweredByOne, Executes}
+use Rattle.walk_rules.specs.Treatment.{Gave, goes, onward_from, exposed_from, treated_at_address, treated_at_sid, step_of, allow_of}
+use Rattle.walk_rules.specs.Laws.{IsLoweredByOne, PushesOne, Executes}
+use Rattle.walk_rules.proofs.Binding.{outer_of, onward-each}
 use Rattle.walk_rules.proofs.Outcomes.{at_entry, treated-each, treated4-each}
 use Rattle.walk_rules.proofs.Routing.{way-into}
 
@@ -37,11 +39,35 @@ address-executes net place content p (Exposed family bytes) = tt
 address-executes net place content p (Delivered q) = tt
 address-executes net place content p (Refused reason at) = tt
 
+-- a packet that stays at the node, with whatever stands there after
+onward_executes : (net : Network) (place : Place) (p : Packet) (n : ℕ) (s : SidEntry) (after : Content)
+    → way_of net place p.destination ≡ Into n → slice_get net.sids n ≡ Some s → s.node ≡ place.node
+    → goes (outcomes.Again n (onward_from n s.behaviour)) after ≡ at_entry net place.node n s p
+    → IfExecutes net place (V6 p) (goes (outcomes.Again n (onward_from n s.behaviour)) after)
+onward_executes net place p n s after way there stands same =
+    record {
+      packet = p;
+      is_packet = refl;
+      way = way;
+      sid = s;
+      is_there = there;
+      stands = stands;
+      goes_on = refl;
+      gives = same;
+    }
+
 endpoint-executes : (net : Network) (place : Place) (p : Packet) (n : ℕ) (s : SidEntry) (e : Endpoint)
-    → way_of net place p.destination ≡ Into n → slice_get net.sids n ≡ Some s → s.node ≡ place.node → is_built s ≡ true
+    → way_of net place p.destination ≡ Into n → slice_get net.sids n ≡ Some s → s.node ≡ place.node
     → treated_at_sid net place.node n s.behaviour p e ≡ at_entry net place.node n s p
     → IfExecutes net place (V6 p) (treated_at_sid net place.node n s.behaviour p e)
-endpoint-executes net place p n s (Onward q) way there stands built same =
+endpoint-executes net place p n s (Onward q) way there stands same =
+    onward-each net place.node n s.behaviour p q
+    (λ gave. gave ≡ at_entry net place.node n s p → IfExecutes net place (V6 p) gave)
+    (λ plain is. onward_executes net place p n s (V6 q) way there stands is)
+    (λ number named binds policy fits is. onward_executes net place p n s (V6 (outer_of named s.behaviour q)) way there stands is)
+    (λ reason is. tt)
+    same
+endpoint-executes net place p n s (Exposed family bytes) way there stands same =
     record {
       packet = p;
       is_packet = refl;
@@ -49,24 +75,11 @@ endpoint-executes net place p n s (Onward q) way there stands built same =
       sid = s;
       is_there = there;
       stands = stands;
-      built = built;
       goes_on = refl;
       gives = same;
     }
-endpoint-executes net place p n s (Exposed family bytes) way there stands built same =
-    record {
-      packet = p;
-      is_packet = refl;
-      way = way;
-      sid = s;
-      is_there = there;
-      stands = stands;
-      built = built;
-      goes_on = refl;
-      gives = same;
-    }
-endpoint-executes net place p n s (Delivered q) way there stands built same = tt
-endpoint-executes net place p n s (Refused reason at) way there stands built same = tt
+endpoint-executes net place p n s (Delivered q) way there stands same = tt
+endpoint-executes net place p n s (Refused reason at) way there stands same = tt
 
 -- the SID that is there is the one that stands at the node
 stands-there : (net : Network) (node n : ℕ) (s : SidEntry) → slice_get net.sids n ≡ Some s → StandsAt net node n → s.node ≡ node
@@ -82,9 +95,9 @@ step-executes net place (V6 p) choice =
       drop = λ reason at. tt;
       send = λ set lower e. tt;
       own = address-executes net place (V6 p) p (at_address p);
-      sid = λ n s into there built.
+      sid = λ n s into there.
           endpoint-executes net place p n s (at_sid s (allow_of (slice_get net.nodes place.node)) p) into there
-          (stands-there net place.node n s there (way-into net place p.destination n into)) built refl;
+          (stands-there net place.node n s there (way-into net place p.destination n into)) refl;
     })
 step-executes net place (V4 p) choice =
     treated4-each (IfExecutes net place (V4 p)) net place.node (way_of net place (destination4 p)) p choice
@@ -111,36 +124,82 @@ IsOneLess p q = (1 < p.hop_limit) × (q.hop_limit + 1 ≡ p.hop_limit)
 sid-less : (s : SidEntry) (allow : List ℕ) (p q : Packet) → at_sid s allow p ≡ Onward q → IsOneLess p q
 sid-less s allow p q e = let less = at_sid-lowers s allow p q e in (less.0, sym less.1)
 
--- of an execution after which the packet stays at the node
-abbrev AgainLess : Packet → Outcome → Content → Type 0
-AgainLess p (outcomes.Again n how) after = IsLoweredByOne (V6 p) after
-AgainLess p (outcomes.Hand n how family) after = Unit {0}
-AgainLess p (outcomes.Send link) after = Unit {0}
-AgainLess p outcomes.Local after = Unit {0}
-AgainLess p (outcomes.Drop reason error) after = Unit {0}
+-- of an execution after which the packet stays at the node, by the policy that the SID binds
+abbrev After : Network → Place → Packet → ℕ → SidEntry → Content → Type 0
+After net place p n s after =
+    (behaviour_policy s.behaviour ≡ None → IsLoweredByOne (V6 p) after)
+    × ((number : ℕ) → behaviour_policy s.behaviour ≡ Some number → PushesOne net place (V6 p) after n)
 
-abbrev IfAgainLess : Packet → Gave → Type 0
-IfAgainLess p gave = AgainLess p gave.outcome gave.after
+abbrev AgainAfter : Network → Place → Packet → ℕ → SidEntry → Outcome → Content → Type 0
+AgainAfter net place p n s (outcomes.Again m how) after = After net place p n s after
+AgainAfter net place p n s (outcomes.Hand m how family) after = Unit {0}
+AgainAfter net place p n s (outcomes.Send link) after = Unit {0}
+AgainAfter net place p n s outcomes.Local after = Unit {0}
+AgainAfter net place p n s (outcomes.Drop reason error) after = Unit {0}
 
-endpoint-less : (net : Network) (node n : ℕ) (s : SidEntry) (allow : List ℕ) (p : Packet) (e : Endpoint) → at_sid s allow p ≡ e
-    → IfAgainLess p (treated_at_sid net node n s.behaviour p e)
-endpoint-less net node n s allow p (Onward q) same = sid-less s allow p q same
-endpoint-less net node n s allow p (Exposed family bytes) same = tt
-endpoint-less net node n s allow p (Delivered q) same = tt
-endpoint-less net node n s allow p (Refused reason at) same = tt
+abbrev IfAgain : Network → Place → Packet → ℕ → SidEntry → Gave → Type 0
+IfAgain net place p n s gave = AgainAfter net place p n s gave.outcome gave.after
 
-executes-less : (net : Network) (place : Place) (content : Content) (gave : Gave) (n : ℕ) (how : How)
-    → Executes onward_from net place content gave n how → gave.outcome ≡ outcomes.Again n how → IsLoweredByOne content gave.after
-executes-less net place content gave n how x e =
+module _ (net : Network) (place : Place) (n : ℕ) (s : SidEntry) (p : Packet) (there : slice_get net.sids n ≡ Some s) where
+  abbrev allow : List ℕ
+  allow = allow_of (slice_get net.nodes place.node)
+
+  pushes-one : (q : Packet) (number : ℕ) (named : NamedPolicy) → at_sid s allow p ≡ Onward q → behaviour_policy s.behaviour ≡ Some number
+      → slice_get net.policies number ≡ Some named → PushesOne net place (V6 p) (V6 (outer_of named s.behaviour q)) n
+  pushes-one q number named same binds policy =
+      record {
+        packet = p;
+        is_packet = refl;
+        sid = s;
+        is_there = there;
+        stepped = q;
+        step = same;
+        lowered = sid-less s allow p q same;
+        number = number;
+        binds = binds;
+        policy = named;
+        policy_there = policy;
+        pushed = refl;
+      }
+
+  endpoint-after : (e : Endpoint) → at_sid s allow p ≡ e → IfAgain net place p n s (treated_at_sid net place.node n s.behaviour p e)
+  endpoint-after (Onward q) same =
+      onward-each net place.node n s.behaviour p q (IfAgain net place p n s)
+      (λ plain. (λ unbound. sid-less s allow p q same, λ number bound. cc))
+      (λ number named binds policy fits. (λ unbound. cc, λ other bound. pushes-one q number named same binds policy))
+      (λ reason. tt)
+  endpoint-after (Exposed family bytes) same = tt
+  endpoint-after (Delivered q) same = tt
+  endpoint-after (Refused reason at) same = tt
+
+executes-after : (net : Network) (place : Place) (content : Content) (gave : Gave) (n : ℕ) (how : How) (s : SidEntry)
+    → slice_get net.sids n ≡ Some s → Executes onward_from net place content gave n how → gave.outcome ≡ outcomes.Again n how
+    → (packet : Packet) × (content ≡ V6 packet) × After net place packet n s gave.after
+executes-after net place content gave n how s there x e =
     let allow : List ℕ = allow_of (slice_get net.nodes place.node) in
-    let less = endpoint-less net place.node n x.sid allow x.packet (at_sid x.sid allow x.packet) refl in
-    let here : IfAgainLess x.packet gave = subst (IfAgainLess x.packet) (sym x.gives) less in
-    let again : IsLoweredByOne (V6 x.packet) gave.after = subst (λ (o : Outcome). AgainLess x.packet o gave.after) e here in
-    subst (λ (c : Content). IsLoweredByOne c gave.after) (sym x.is_packet) again
+    let one : x.sid ≡ s = let both : Some x.sid ≡ Some s = sym x.is_there ∙ there in cc in
+    let gives : gave ≡ treated_at_sid net place.node n s.behaviour x.packet (at_sid s allow x.packet) =
+    x.gives ∙ ap (λ (t : SidEntry). treated_at_sid net place.node n t.behaviour x.packet (at_sid t allow x.packet)) one in
+    let here : IfAgain net place x.packet n s gave =
+    subst (IfAgain net place x.packet n s) (sym gives) (endpoint-after net place n s x.packet there (at_sid s allow x.packet) refl) in
+    (x.packet, x.is_packet, subst (λ (o : Outcome). AgainAfter net place x.packet n s o gave.after) e here)
 
 -- an execution after which the packet stays at the node lowers the hop limit by one
-pub step-less : (net : Network) (place : Place) (content : Content) (choice n : ℕ) (how : How)
+pub step-less : (net : Network) (place : Place) (content : Content) (choice n : ℕ) (how : How) (s : SidEntry)
+    → slice_get net.sids n ≡ Some s → behaviour_policy s.behaviour ≡ None
     → (step_of net place content choice).outcome ≡ outcomes.Again n how
     → IsLoweredByOne content (step_of net place content choice).after
-step-less net place content choice n how e =
-    executes-less net place content (step_of net place content choice) n how (step-again net place content choice n how e) e
+step-less net place content choice n how s there unbound e =
+    let gave : Gave = step_of net place content choice in
+    let x = executes-after net place content gave n how s there (step-again net place content choice n how e) e in
+    subst (λ (c : Content). IsLoweredByOne c gave.after) (sym x.1) (x.2.0 unbound)
+
+-- and that of a binding SID then pushes one header
+pub step-pushes : (net : Network) (place : Place) (content : Content) (choice n : ℕ) (how : How) (s : SidEntry) (number : ℕ)
+    → slice_get net.sids n ≡ Some s → behaviour_policy s.behaviour ≡ Some number
+    → (step_of net place content choice).outcome ≡ outcomes.Again n how
+    → PushesOne net place content (step_of net place content choice).after n
+step-pushes net place content choice n how s number there binds e =
+    let gave : Gave = step_of net place content choice in
+    let x = executes-after net place content gave n how s there (step-again net place content choice n how e) e in
+    subst (λ (c : Content). PushesOne net place c gave.after n) (sym x.1) (x.2.1 number binds)

@@ -4,6 +4,8 @@ pub mod Routing
 pub mod Sending
 pub mod Stages
 pub mod Choices
+pub mod Binding
+pub mod Outers
 pub mod Outcomes
 pub mod Executions
 pub mod Places

@@ -1,7 +1,6 @@
 -- What holds of each outcome of a stage: what its ends leave, the error that it tells of, and the link that it names.
 use Rattle.std.proofs.Common.{◌≡◌, ℕ, ◌⊎◌, inl, inr, Bool, true, false, if◌then◌else◌, List, Option, Some, None, slice_get, Contains, refl, sym, ◌∙◌, ap, subst}
 use Rattle.srv6_rules.specs.declared.sid.Behaviour.{Behaviour}
-use Rattle.walk_rules.specs.Treatment.{is_built}
 use Rattle.srv6_rules.specs.declared.sid.Reason.{Reason}
 use Rattle.srv6_rules.specs.declared.sid.Reason.TheVariants as reasons
 use Rattle.srv6_rules.specs.declared.sid.SidEntry.{SidEntry}
@@ -17,6 +16,7 @@ use Rattle.walk_rules.specs.Way.{Way, Away, Over, Own, Into, way_of}
 use Rattle.walk_rules.specs.Treatment.{Gave, dropped, goes, member_of, lowered, ttl_lowered, treated_at_address, treated_at_sid, treated_in, treated, treated4, step_of, allow_of}
 use Rattle.walk_rules.specs.Relation.{Treats, Treats4, Stage}
 use Rattle.walk_rules.specs.Laws.{set_of, hops_at, IsDeliveredBehindUsp, TellsOfError}
+use Rattle.walk_rules.proofs.Binding.{onward-each}
 use Rattle.walk_rules.proofs.Sending.{sends-by, sends4-by, sent_by-either, sends_by-member, sends_by-each}
 
 -- what is given at SID n of a node, whose entry is this one
@@ -29,7 +29,7 @@ pub record EachWay (P : Gave → Type 0) (net : Network) (node : ℕ) (w : Way) 
   pub send : (set : List ℕ) (lower : Bool) → w ≡ Over set lower
       → P (goes (outcomes.Send (member_of set choice)) (V6 (lowered lower p)))
   pub own : P (treated_at_address net node p (at_address p))
-  pub sid : (n : ℕ) (s : SidEntry) → w ≡ Into n → slice_get net.sids n ≡ Some s → is_built s ≡ true → P (at_entry net node n s p)
+  pub sid : (n : ℕ) (s : SidEntry) → w ≡ Into n → slice_get net.sids n ≡ Some s → P (at_entry net node n s p)
 
 pub treated-each : (P : Gave → Type 0) (net : Network) (node : ℕ) (w : Way) (p : Packet) (choice : ℕ) → EachWay P net node w p choice
     → P (treated net node w p choice)
@@ -37,12 +37,7 @@ treated-each P net node w p choice each = by_way w refl
   where
     by_sid : (n : ℕ) (o : Option SidEntry) → w ≡ Into n → slice_get net.sids n ≡ o → P (treated_in net node n o p)
     by_sid n None e there = each.drop reasons.NoRoute 0
-    by_sid n (Some s) e there = by_built (is_built s) refl
-      where
-        by_built : (built : Bool) → is_built s ≡ built
-            → P (if built then at_entry net node n s p else dropped net node reasons.NotBuilt 0 (V6 p))
-        by_built true is = each.sid n s e there is
-        by_built false is = each.drop reasons.NotBuilt 0
+    by_sid n (Some s) e there = each.sid n s e there
 
     by_way : (v : Way) → w ≡ v → P (treated net node v p choice)
     by_way (Away reason) e = each.drop reason 0
@@ -110,7 +105,9 @@ delivered-leaves net place n s allow p q true into there usp same =
 endpoint-leaves : (net : Network) (place : Place) (n : ℕ) (s : SidEntry) (allow : List ℕ) (p : Packet) (e : Endpoint)
     → way_of net place p.destination ≡ Into n → slice_get net.sids n ≡ Some s → at_sid s allow p ≡ e
     → GaveLeaves net place (V6 p) (treated_at_sid net place.node n s.behaviour p e)
-endpoint-leaves net place n s allow p (Onward q) into there same = tt
+endpoint-leaves net place n s allow p (Onward q) into there same =
+    onward-each net place.node n s.behaviour p q (GaveLeaves net place (V6 p)) (λ plain. tt) (λ number named binds is fits. tt)
+    (λ reason. refl)
 endpoint-leaves net place n s allow p (Exposed family bytes) into there same = tt
 endpoint-leaves net place n s allow p (Delivered q) into there same = delivered-leaves net place n s allow p q s.usp into there refl same
 endpoint-leaves net place n s allow p (Refused reason at) into there same = refl
@@ -124,7 +121,7 @@ step-leaves net place (V6 p) choice =
       drop = λ reason at. refl;
       send = λ set lower e. tt;
       own = address-leaves net place p (at_address p) refl;
-      sid = λ n s into there built.
+      sid = λ n s into there.
           let allow = allow_of (slice_get net.nodes place.node) in
           endpoint-leaves net place n s allow p (at_sid s allow p) into there refl;
     })
@@ -156,7 +153,8 @@ address-tells net node p (Delivered q) = refl
 address-tells net node p (Refused reason at) = refl
 
 endpoint-tells : (net : Network) (node n : ℕ) (b : Behaviour) (p : Packet) (e : Endpoint) → GaveTells (treated_at_sid net node n b p e)
-endpoint-tells net node n b p (Onward q) = refl
+endpoint-tells net node n b p (Onward q) =
+    onward-each net node n b p q GaveTells (λ plain. refl) (λ number named binds is fits. refl) (λ reason. refl)
 endpoint-tells net node n b p (Exposed family bytes) = refl
 endpoint-tells net node n b p (Delivered q) = refl
 endpoint-tells net node n b p (Refused reason at) = refl
@@ -169,7 +167,7 @@ step-tells net place (V6 p) choice =
       drop = λ reason at. refl;
       send = λ set lower e. refl;
       own = address-tells net place.node p (at_address p);
-      sid = λ n s e there built. endpoint-tells net place.node n s.behaviour p (at_sid s (allow_of (slice_get net.nodes place.node)) p);
+      sid = λ n s e there. endpoint-tells net place.node n s.behaviour p (at_sid s (allow_of (slice_get net.nodes place.node)) p);
     })
 step-tells net place (V4 p) choice =
     treated4-each GaveTells net place.node (way_of net place (destination4 p)) p choice
@@ -189,7 +187,9 @@ address-quiet net node p (Refused reason at) link e = cc
 
 endpoint-quiet : (net : Network) (node n : ℕ) (b : Behaviour) (p : Packet) (x : Endpoint) (link : ℕ)
     → outcomes.Send link ≡ (treated_at_sid net node n b p x).outcome → ⊥
-endpoint-quiet net node n b p (Onward q) link e = cc
+endpoint-quiet net node n b p (Onward q) link e =
+    onward-each net node n b p q (λ gave. outcomes.Send link ≡ gave.outcome → ⊥) (λ plain same. cc)
+    (λ number named binds is fits same. cc) (λ reason same. cc) e
 endpoint-quiet net node n b p (Exposed family bytes) link e = cc
 endpoint-quiet net node n b p (Delivered q) link e = cc
 endpoint-quiet net node n b p (Refused reason at) link e = cc
@@ -200,12 +200,8 @@ drop-quiet reason error link e = cc
 sid-quiet : (net : Network) (node n : ℕ) (o : Option SidEntry) (p : Packet) (link : ℕ)
     → outcomes.Send link ≡ (treated_in net node n o p).outcome → ⊥
 sid-quiet net node n None p link = λ e. cc
-sid-quiet net node n (Some s) p link = by_built (is_built s)
-  where
-    by_built : (built : Bool)
-        → outcomes.Send link ≡ (if built then at_entry net node n s p else dropped net node reasons.NotBuilt 0 (V6 p)).outcome → ⊥
-    by_built true e = endpoint-quiet net node n s.behaviour p (at_sid s (allow_of (slice_get net.nodes node)) p) link e
-    by_built false e = drop-quiet reasons.NotBuilt _ link e
+sid-quiet net node n (Some s) p link =
+    endpoint-quiet net node n s.behaviour p (at_sid s (allow_of (slice_get net.nodes node)) p) link
 
 module _ (net : Network) (node : ℕ) where
   treats-member : (w : Way) (p : Packet) (link : ℕ) (after : Content) (error : Option Packet)
@@ -283,7 +279,7 @@ step-names net place (V6 p) choice =
       drop = λ reason at link e. absurd (drop-quiet reason _ link e);
       send = λ set lower over link e. named set (set_of w) choice link (ap set_of (sym over)) e;
       own = λ link e. absurd (address-quiet net node p (at_address p) link e);
-      sid = λ n s into there built link e. absurd (endpoint-quiet net node n s.behaviour p _ link e);
+      sid = λ n s into there link e. absurd (endpoint-quiet net node n s.behaviour p _ link e);
     })
 step-names net place (V4 p) choice =
     let w = way_of net place (destination4 p) in
@@ -296,10 +292,3 @@ step-names net place (V4 p) choice =
 pub step-member : (net : Network) (place : Place) (content : Content) (choice link : ℕ)
     → (step_of net place content choice).outcome ≡ outcomes.Send link → link ≡ member_of (hops_at net place content) choice
 step-member net place content choice link e = step-names net place content choice link (sym e)
-
--- a SID that is not built drops the packet
-pub step-not_built : (net : Network) (place : Place) (p : Packet) (choice n : ℕ) (s : SidEntry) → way_of net place p.destination ≡ Into n
-    → slice_get net.sids n ≡ Some s → is_built s ≡ false
-    → step_of net place (V6 p) choice ≡ dropped net place.node reasons.NotBuilt 0 (V6 p)
-step-not_built net place p choice n s into there built =
-    ap (λ w. treated net place.node w p choice) into ∙ ap (λ o. treated_in net place.node n o p) there ∙ rw built refl

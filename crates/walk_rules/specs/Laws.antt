@@ -2,17 +2,21 @@
 use Rattle.std.specs.Prelude.{◌≡◌, ◌≢◌, ℕ, true, ◌+◌, ◌<◌, List, [], ◌∷◌, slice_get, Option, Some, None, is_some, Contains}
 use Rattle.srv6_rules.specs.declared.sid.Family.{Family}
 use Rattle.srv6_rules.specs.declared.sid.SidEntry.{SidEntry}
-use Rattle.srv6_rules.specs.Packet.{Packet, Content, V6, V4, Unreadable}
+use Rattle.srv6_rules.specs.Packet.{Packet, Content, V6, V4, Unreadable, spelling}
+use Rattle.srv6_rules.specs.Behaviours.{behaviour_policy, behaviour_reduces}
+use Rattle.srv6_rules.specs.Policies.{outer_by}
+use Rattle.srv6_rules.specs.declared.sid.Family.TheVariants as families
+use Rattle.net_model.specs.declared.parts.NamedPolicy.{NamedPolicy}
 use Rattle.srv6_rules.specs.Packet4.{destination4}
 use Rattle.srv6_rules.specs.declared.sid.Behaviour.{Behaviour}
-use Rattle.srv6_rules.specs.Endpoint.{at_sid}
+use Rattle.srv6_rules.specs.Endpoint.{Onward, at_sid}
 use Rattle.net_model.specs.Network.{Network}
 use Rattle.walk_rules.specs.declared.place.How.{How}
 use Rattle.walk_rules.specs.declared.place.Place.{Place}
 use Rattle.walk_rules.specs.declared.place.Outcome.{Outcome}
 use Rattle.walk_rules.specs.declared.place.Outcome.TheVariants as outcomes
 use Rattle.walk_rules.specs.Way.{Way, Away, Over, Own, Into, way_of}
-use Rattle.walk_rules.specs.Treatment.{Gave, allow_of, is_built, treated_at_sid}
+use Rattle.walk_rules.specs.Treatment.{Gave, allow_of, treated_at_sid}
 use Rattle.walk_rules.specs.Relation.{Stage, IsPlace}
 use Rattle.walk_rules.specs.Walk.{Step, decisions}
 
@@ -55,7 +59,7 @@ IsLoweredByOne (V6 p) (Unreadable bytes reason) = ⊥
 IsLoweredByOne (V4 p) after = ⊥
 IsLoweredByOne (Unreadable bytes reason) after = ⊥
 
--- SID n was executed on a packet: the way leads into it, it is there, stands at the node and is built, what went on from it did
+-- SID n was executed on a packet: the way leads into it, it is there and stands at the node, what went on from it did
 -- so in the way that a word gives it by the behaviour, and what the stage gave is what the SID does
 pub record Executes (way_by : ℕ → Behaviour → How) (net : Network) (place : Place) (content : Content) (gave : Gave) (n : ℕ)
     (how : How) : Type 0 where
@@ -65,10 +69,25 @@ pub record Executes (way_by : ℕ → Behaviour → How) (net : Network) (place 
   pub sid : SidEntry
   pub is_there : slice_get net.sids n ≡ Some sid
   pub stands : sid.node ≡ place.node
-  pub built : is_built sid ≡ true
   pub goes_on : how ≡ way_by n sid.behaviour
   pub gives : gave
       ≡ treated_at_sid net place.node n sid.behaviour packet (at_sid sid (allow_of (slice_get net.nodes place.node)) packet)
+
+-- SID n pushed exactly one header: the packet after the SID's own step, whose hop limit is one lower, stands behind the header of
+-- the policy that the SID binds, in its behaviour's form
+pub record PushesOne (net : Network) (place : Place) (content after : Content) (n : ℕ) : Type 0 where
+  pub packet : Packet
+  pub is_packet : content ≡ V6 packet
+  pub sid : SidEntry
+  pub is_there : slice_get net.sids n ≡ Some sid
+  pub stepped : Packet
+  pub step : at_sid sid (allow_of (slice_get net.nodes place.node)) packet ≡ Onward stepped
+  pub lowered : IsLoweredByOne (V6 packet) (V6 stepped)
+  pub number : ℕ
+  pub binds : behaviour_policy sid.behaviour ≡ Some number
+  pub policy : NamedPolicy
+  pub policy_there : slice_get net.policies number ≡ Some policy
+  pub pushed : after ≡ V6 (outer_by policy.policy (behaviour_reduces sid.behaviour) families.V6 (spelling stepped))
 
 -- a packet was handed over at a SID with USP, which may have taken out headers: its next header and its payload alone may be others
 pub record IsDeliveredBehindUsp (net : Network) (place : Place) (content after : Content) : Type 0 where

@@ -1,16 +1,19 @@
 -- One node's treatment of one packet, as a function of the place, the packet and the choice among equal next hops.
-use Rattle.std.specs.Prelude.{ℕ, ◌-◌, ◌%◌, Bool, true, false, not, ◌&&◌, nat_le, if◌then◌else◌, List, [], length, slice_index, slice_get, Option, Some, None, is_some, is_none}
+use Rattle.std.specs.Prelude.{ℕ, ◌-◌, ◌%◌, Bool, true, false, not, ◌&&◌, nat_le, if◌then◌else◌, List, [], length, slice_index, slice_get, Option, Some, None, is_some}
 use Rattle.srv6_rules.specs.declared.sid.Behaviour.{Behaviour}
-use Rattle.srv6_rules.specs.Behaviours.{behaviour_takes_links, behaviour_table, behaviour_policy}
+use Rattle.srv6_rules.specs.Behaviours.{behaviour_takes_links, behaviour_table, behaviour_policy, behaviour_reduces}
 use Rattle.srv6_rules.specs.declared.sid.Reason.{Reason}
 use Rattle.srv6_rules.specs.declared.sid.Reason.TheVariants as reasons
 use Rattle.srv6_rules.specs.declared.sid.SidEntry.{SidEntry}
 use Rattle.srv6_rules.specs.declared.icmp.IcmpKind.{IcmpKind}
-use Rattle.srv6_rules.specs.Packet.{Packet, Content, V6, V4, Unreadable, read_as}
+use Rattle.srv6_rules.specs.Packet.{Packet, Content, V6, V4, Unreadable, read_as, spelling}
+use Rattle.srv6_rules.specs.Policies.{Encapsulating, Outer, TooBig, InnerHop, pushed_by}
 use Rattle.srv6_rules.specs.Packet4.{Packet4, ttl, destination4, lowered4}
 use Rattle.srv6_rules.specs.Errors.{kind_of, error_packet}
 use Rattle.srv6_rules.specs.Endpoint.{Endpoint, Onward, Exposed, Delivered, Refused, at_sid, at_address}
+use Rattle.srv6_rules.specs.declared.sid.Family.TheVariants as families
 use Rattle.net_model.specs.declared.parts.Node.{Node}
+use Rattle.net_model.specs.declared.parts.NamedPolicy.{NamedPolicy}
 use Rattle.net_model.specs.Network.{Network}
 use Rattle.walk_rules.specs.declared.place.How.{How}
 use Rattle.walk_rules.specs.declared.place.How.TheVariants.{Arrived, Submitted, Through}
@@ -113,27 +116,36 @@ onward_from n b = way_on n (behaviour_takes_links b) true (behaviour_table b)
 abbrev pub exposed_from : ℕ → Behaviour → How
 exposed_from n b = way_on n (behaviour_takes_links b) false (behaviour_table b)
 
+-- what comes of a packet at SID n that goes on behind a policy's header: it stays at the node behind that header; where it would be
+-- too long it is dropped as it came. Pushing lowers no hop limit, so the last case doesn't come
+abbrev pub pushed_at_sid : Network → ℕ → ℕ → Behaviour → Packet → Encapsulating → Gave
+pushed_at_sid net node n b p (Outer outer) = goes (outcomes.Again n (onward_from n b)) (V6 outer)
+pushed_at_sid net node n b p (TooBig length) = dropped net node reasons.TooBig 0 (V6 p)
+pushed_at_sid net node n b p InnerHop = dropped net node reasons.InnerHop 0 (V6 p)
+
+-- a SID binds no policy that is not there
+abbrev pub bound_at_sid : Network → ℕ → ℕ → Behaviour → Packet → Packet → Option NamedPolicy → Gave
+bound_at_sid net node n b p q None = dropped net node reasons.NoRoute 0 (V6 p)
+bound_at_sid net node n b p q (Some named) =
+    pushed_at_sid net node n b p (pushed_by named.policy (behaviour_reduces b) families.V6 (spelling q))
+
+-- what comes of a packet at SID n that goes on as another: it stays at the node, behind the header of the policy that the SID binds,
+-- if it binds one (RFC 8986 sections 4.13 and 4.14)
+abbrev pub onward_at_sid : Network → ℕ → ℕ → Behaviour → Packet → Packet → Option ℕ → Gave
+onward_at_sid net node n b p q None = goes (outcomes.Again n (onward_from n b)) (V6 q)
+onward_at_sid net node n b p q (Some number) = bound_at_sid net node n b p q (slice_get net.policies number)
+
 -- what comes of a packet at SID n; what is exposed is read as a packet of its family
 abbrev pub treated_at_sid : Network → ℕ → ℕ → Behaviour → Packet → Endpoint → Gave
-treated_at_sid net node n b p (Onward q) = goes (outcomes.Again n (onward_from n b)) (V6 q)
+treated_at_sid net node n b p (Onward q) = onward_at_sid net node n b p q (behaviour_policy b)
 treated_at_sid net node n b p (Exposed family bytes) = goes (outcomes.Hand n (exposed_from n b) family) (read_as family bytes)
 treated_at_sid net node n b p (Delivered q) = goes outcomes.Local (V6 q)
 treated_at_sid net node n b p (Refused reason at) = dropped net node reason at (V6 p)
 
--- nodes run so far every SID but those that bind a policy
-abbrev pub is_built : SidEntry → Bool
-is_built s = is_none (behaviour_policy s.behaviour)
-
--- a SID that nodes do not run yet drops the packet before its headers are looked at (own rule)
-abbrev pub treated_by_entry : Network → ℕ → ℕ → SidEntry → Packet → Gave
-treated_by_entry net node n s p =
-    if is_built s then treated_at_sid net node n s.behaviour p (at_sid s (allow_of (slice_get net.nodes node)) p)
-    else dropped net node reasons.NotBuilt 0 (V6 p)
-
 -- a look-up gives no SID that is not there
 abbrev pub treated_in : Network → ℕ → ℕ → Option SidEntry → Packet → Gave
 treated_in net node n None p = dropped net node reasons.NoRoute 0 (V6 p)
-treated_in net node n (Some s) p = treated_by_entry net node n s p
+treated_in net node n (Some s) p = treated_at_sid net node n s.behaviour p (at_sid s (allow_of (slice_get net.nodes node)) p)
 
 abbrev pub treated : Network → ℕ → Way → Packet → ℕ → Gave
 treated net node (Away reason) p choice = dropped net node reason 0 (V6 p)

@@ -6,12 +6,12 @@ ghost use Rattle.net_model.specs.Keeps.{Keeps, StartsAt};
 ghost use Rattle.net_model.specs.Network.{Network};
 ghost use Rattle.srv6_rules.specs.Packet.{Content, IsContent, Packet, V4, V6, bytes_of, read_as};
 ghost use Rattle.srv6_rules.specs.Packet4.{Packet4, ttl};
-ghost use Rattle.walk_rules.specs.Treatment.{is_built};
+ghost use Rattle.srv6_rules.specs.Behaviours.{behaviour_policy};
 ghost use Rattle.srv6_rules.specs.declared.sid.Behaviour.TheVariants.{B6, B6Red, Dt4, Dt46, Dt6, Dx4, Dx6, End, EndT, EndX};
 ghost use Rattle.srv6_rules.specs.declared.sid.Family.{Family};
 ghost use Rattle.srv6_rules.specs.declared.sid.Reason.{Reason};
 ghost use Rattle.srv6_rules.specs.declared.sid.SidEntry.{SidEntry};
-ghost use Rattle.walk_rules.specs.Laws.{AreStages, DifferAtMostInLink, Executes, IsDeliveredBehindUsp, IsLoweredByOne, SendsApart, TellsOfError, family_after, hops_at};
+ghost use Rattle.walk_rules.specs.Laws.{AreStages, DifferAtMostInLink, Executes, IsDeliveredBehindUsp, IsLoweredByOne, PushesOne, SendsApart, TellsOfError, family_after, hops_at};
 ghost use Rattle.walk_rules.specs.Relation.{IsHow, IsPlace, Stage};
 ghost use Rattle.walk_rules.specs.Treatment.{dropped, exposed_from, goes, lowered, member_of, onward_from, sent, sent4, step_of, ttl_lowered};
 ghost use Rattle.walk_rules.specs.Walk.{IsWalk, Step, choice_at, content_after, decisions, end_of, next_place, place_after, stage_of, taken_after, walk_of, walk_on};
@@ -130,12 +130,19 @@ pub fn a_send_is_one_decision()
         ((link : ℕ) → outcome ≢ Outcome.Send link) → decisions outcome ≡ 0 }
 {}
 
-/// An execution after which the packet stays at the node lowers its hop limit by one, from above 1
-/// (RFC 8986 section 4.1).
+/// An execution after which the packet stays at the node lowers its hop limit by one, from above 1,
+/// whichever flavour the SID has (RFC 8986 section 4.1); that of a binding SID then pushes exactly
+/// one header (RFC 8986 sections 4.13 and 4.14).
 pub fn an_execution_lowers_the_hop_limit()
-    ensures { (net : Network) (place : Place) (content : Content) (choice n : ℕ) (how : How) →
+    ensures lowers { (net : Network) (place : Place) (content : Content) (choice n : ℕ) (how : How) →
+        (s : SidEntry) → slice_get net.sids n ≡ Some s → behaviour_policy s.behaviour ≡ None →
         let gave = step_of net place content choice in
         gave.outcome ≡ Outcome.Again n how → IsLoweredByOne content gave.after }
+    ensures pushes { (net : Network) (place : Place) (content : Content) (choice n : ℕ) (how : How) →
+        (s : SidEntry) (number : ℕ) → slice_get net.sids n ≡ Some s →
+        behaviour_policy s.behaviour ≡ Some number →
+        let gave = step_of net place content choice in
+        gave.outcome ≡ Outcome.Again n how → PushesOne net place content gave.after n }
 {}
 
 /// After a drop what stands there is what stood there before, and so where an upper layer took it,
@@ -161,7 +168,7 @@ pub fn a_drop_tells_of_its_error()
 {}
 
 /// Where a SID was executed, the outcome names it: the way leads into it, it stands at the node and
-/// is built, and the packet, or what was exposed, goes on in its way.
+/// the packet, or what was exposed, goes on in its way.
 pub fn an_execution_names_its_sid()
     ensures again { (net : Network) (place : Place) (content : Content) (choice : ℕ) →
         (n : ℕ) (how : How) →
@@ -185,15 +192,6 @@ pub fn a_place_leads_to_a_place()
         slice_get net.sids n ≡ Some s → IsHow net s.node (onward_from n s.behaviour) }
     ensures exposed { (net : Network) (n : ℕ) (s : SidEntry) → Keeps net →
         slice_get net.sids n ≡ Some s → IsHow net s.node (exposed_from n s.behaviour) }
-{}
-
-/// A SID that nodes do not run yet drops each packet that its way leads into, whatever its headers
-/// are (own rule).
-pub fn sids_that_are_not_built_drop_the_packet()
-    ensures { (net : Network) (place : Place) (p : Packet) (choice n : ℕ) (s : SidEntry) →
-        way_of net place p.destination ≡ Into n → slice_get net.sids n ≡ Some s →
-        is_built s ≡ false →
-        step_of net place (V6 p) choice ≡ dropped net place.node Reason.NotBuilt 0 (V6 p) }
 {}
 
 /// How packets go on from SIDs: from End and binding SIDs by table 0, from End.T by its table, and

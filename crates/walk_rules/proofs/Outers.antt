@@ -1,0 +1,48 @@
+-- The packet that a network's policy makes can be spelled.
+use Rattle.std.proofs.Common.{◌≡◌, ℕ, zero, suc, ◌+◌, ◌^◌, ◌<◌, ◌≤◌, Bool, List, [], ◌∷◌, length, map, All, Some, slice_get, refl, sym, arith}
+use Rattle.std.proofs.lemmas.List.{length-map}
+use Rattle.std.proofs.lemmas.List.Elements.{All-nil, All-cons}
+use Rattle.v6_addr.specs.declared.address.Addr.{Addr}
+use Rattle.srv6_rules.specs.declared.sid.Behaviour.{Behaviour}
+use Rattle.srv6_rules.specs.declared.sid.Family.TheVariants as families
+use Rattle.srv6_rules.specs.Behaviours.{behaviour_reduces}
+use Rattle.srv6_rules.specs.Packet.{Packet, IsSpellable, spelling, most_len}
+use Rattle.srv6_rules.specs.Encapsulation.{IsSpellableEncapsulation}
+use Rattle.srv6_rules.specs.Policies.{encapsulation_by, outer_by}
+use Rattle.srv6_rules.proofs.PublicLaws.{all-spelling, round-payload, round-spellable}
+use Rattle.net_model.specs.declared.parts.NamedPolicy.{NamedPolicy}
+use Rattle.net_model.specs.Keeps.{KeepsPolicy}
+use Rattle.walk_rules.proofs.Binding.{outer_of}
+
+all-values : (addresses : List Addr) → ((i : ℕ) (a : Addr) → slice_get addresses i ≡ Some a → a.value < 2 ^ 128)
+    → All (λ (n : ℕ). n < 2 ^ 128) (map (λ (a : Addr). a.value) addresses)
+all-values [] each = All-nil (λ (n : ℕ). n < 2 ^ 128)
+all-values (a ∷ rest) each =
+    All-cons (λ (n : ℕ). n < 2 ^ 128) a.value (map (λ (x : Addr). x.value) rest) (each 0 a refl)
+    (all-values rest (λ i x there. each (suc i) x there))
+
+encapsulation-spellable : (named : NamedPolicy) (reduced : Bool) → KeepsPolicy named
+    → IsSpellableEncapsulation (encapsulation_by named.policy reduced)
+encapsulation-spellable named reduced keeps =
+    let some = keeps.some in
+    let most = keeps.at_most in
+    let class = keeps.traffic_class in
+    let label = keeps.flow_label in
+    let len = length-map named.policy.segments (λ (a : Addr). a.value) in
+    record {
+      traffic_class = omega arith;
+      flow_label = omega arith;
+      source = keeps.source;
+      some = omega arith;
+      most = omega arith;
+      segments = all-values named.policy.segments keeps.segment;
+    }
+
+pub outer-spellable : (named : NamedPolicy) (b : Behaviour) (q : Packet) → KeepsPolicy named → IsSpellable q
+    → length (outer_of named b q).payload ≤ 65535 → IsSpellable (outer_of named b q)
+outer-spellable named b q keeps ok fits =
+    let e = encapsulation_by named.policy (behaviour_reduces b) in
+    let hop = keeps.hop_limit in
+    let payload = round-payload e families.V6 (spelling q) named.policy.hop_limit in
+    round-spellable e families.V6 (spelling q) named.policy.hop_limit (encapsulation-spellable named (behaviour_reduces b) keeps)
+    (omega arith) (all-spelling q ok) (omega arith)
