@@ -1,9 +1,9 @@
 -- Steps judged and written, and what is left of a packet.
-use Rattle.std.specs.Prelude.{◌≡◌, ℕ, ◌<◌, ◌≤◌, ◌==◌, List, length}
+use Rattle.std.specs.Prelude.{◌≡◌, ℕ, ◌+◌, ◌<◌, ◌≤◌, ◌==◌, List, length}
 use Rattle.srv6_rules.specs.Packet.{Packet}
-use Rattle.srv6_rules.specs.Srh.{Srh, entry_of}
+use Rattle.srv6_rules.specs.Srh.{Srh}
 use Rattle.srv6_rules.specs.CompressedSteps.{Move, moved}
-use Rattle.srv6_rules.specs.Endpoint.{Endpoint, Onward, Refused}
+use Rattle.srv6_rules.specs.Endpoint.{Onward, Refused, next_segment}
 use Rattle.srv6_rules.specs.declared.numbers.TheConstants.{MOST_LEN}
 use Rattle.endpoint_chain.specs.Outcomes.{HoldsAlone}
 use Rattle.endpoint_chain.specs.declared.outcome.EndOutcome.{EndOutcome}
@@ -16,10 +16,10 @@ abbrev pub move_to : ℕ → ℕ → Move
 move_to left destination = record { segments_left = left; destination = destination; ended = left == 0 }
 
 -- what is judged is what comes of the header at a place, and a step can be written
-abbrev pub IsJudged : Packet → ℕ → Endpoint → Judged → Type 0
-IsJudged p at e (judgements.Advance left destination) =
-    (e ≡ Onward (moved p at (move_to left destination.value))) × (1 < p.hop_limit)
-IsJudged p at e (judgements.Refuse fault) = (e ≡ Refused fault.reason fault.at) × (fault.at ≤ MOST_LEN)
+abbrev pub IsJudged : Packet → ℕ → Srh → Judged → Type 0
+IsJudged p at srh (judgements.Advance left destination) =
+    (next_segment p at srh ≡ Onward (moved p at (move_to left destination.value))) × ((srh.segments_left ≡ left + 1) × (1 < p.hop_limit))
+IsJudged p at srh (judgements.Refuse fault) = (next_segment p at srh ≡ Refused fault.reason fault.at) × (fault.at ≤ MOST_LEN)
 
 -- what is left of a packet that goes on or is handed over reaches to a place
 abbrev pub Reaches : ℕ → List ℕ → EndOutcome → Type 0

@@ -1,5 +1,14 @@
 //! What decides what comes of a packet, before anything is written.
 
+ghost use Rattle.std.specs.Prelude.{◌≡◌, ℕ, ◌<◌, ◌^◌, length};
+ghost use Rattle.srv6_rules.specs.Chain.{ChainPlace as PlaceValue, StandsIn};
+ghost use Rattle.srv6_rules.specs.CompressedSteps.{SuitsCompression};
+ghost use Rattle.srv6_rules.specs.Endpoint.{Endpoint, at_upper, shifts_at};
+ghost use Rattle.srv6_rules.specs.Packet.{Packet, packet_at};
+ghost use Rattle.endpoint_chain.specs.Outcomes.{HoldsAlone};
+ghost use Rattle.ip6_headers.specs.Stepping.{place_view};
+ghost use Rattle.end_behaviours.specs.Finding.{IsFound, IsWithin, at_sid_from};
+
 use crate::headers::{Found, found_at};
 use endpoint_chain::{cut_fault, family_inside, is_allowed};
 use ip6_headers::{ChainPlace, Fault, Stands, stands_at};
@@ -8,7 +17,11 @@ use srv6_rules::{Reason, SidEntry};
 
 /// The upper layer at a SID: the SID shifts in front of it too; else it is exposed, taken or
 /// refused (RFC 8986 sections 4.1.1 and 4.16.3).
-fn found_upper(sid: &SidEntry, shifts: bool, allow: &[u8], place: ChainPlace) -> Found {
+fn found_upper(sid: &SidEntry, shifts: bool, allow: &[u8], place: ChainPlace) -> Found
+    ensures { (p : Packet) (first : ℕ) (rest : PlaceValue → Endpoint)
+        → shifts ≡ shifts_at sid.now p → IsWithin p first place.at → length p.payload < 2 ^ 16
+        → IsFound sid.now p first rest (at_upper sid.now allow.now p (place_view place)) result }
+{
     if shifts {
         return Found::Shift;
     }
@@ -30,7 +43,14 @@ fn found_upper(sid: &SidEntry, shifts: bool, allow: &[u8], place: ChainPlace) ->
 }
 
 /// What is found from a place of a packet's chain on.
-pub(crate) fn find(sid: &SidEntry, allow: &[u8], bytes: &[u8], start: ChainPlace) -> Found {
+pub(crate) fn find(sid: &SidEntry, allow: &[u8], bytes: &[u8], start: ChainPlace) -> Found
+    requires suits { SuitsCompression sid.now }
+    requires packet { HoldsAlone bytes.now }
+    requires stands { StandsIn (packet_at bytes.now) (place_view start) }
+    ensures { IsFound sid.now (packet_at bytes.now) start.at
+        (at_sid_from sid.now allow.now (packet_at bytes.now))
+        (at_sid_from sid.now allow.now (packet_at bytes.now) (place_view start)) result }
+{
     let shifts = shifts(sid.compression(), bytes);
     let mut place = start;
     let mut rest = bytes.split_at(start.at).1;

@@ -1,20 +1,21 @@
 //! What is done at a header, before anything is written.
 
-ghost use Rattle.std.specs.Prelude.{◌≡◌, ◌≤◌, false, true};
-ghost use Rattle.srv6_rules.specs.Behaviours.{goes_on};
-ghost use Rattle.srv6_rules.specs.Chain.{LiesIn, StandsIn, is_segment_routing};
+ghost use Rattle.std.specs.Prelude.{◌≡◌, ◌≤◌, ◌&&◌, ℕ, List, false, true, not, IfSome};
+ghost use Rattle.srv6_rules.specs.declared.sid.SidEntry.{SidEntry as SidValue};
+ghost use Rattle.srv6_rules.specs.Chain.{Header, LiesIn, StandsIn, is_segment_routing};
 ghost use Rattle.srv6_rules.specs.CompressedSteps.{SuitsCompression};
-ghost use Rattle.srv6_rules.specs.Endpoint.{Endpoint, shifts_at, at_segment_routing, at_sid_routing, at_header};
-ghost use Rattle.srv6_rules.specs.Packet.{packet_at, header_len};
+ghost use Rattle.srv6_rules.specs.Endpoint.{at_header, is_options, shifts_at};
+ghost use Rattle.srv6_rules.specs.Packet.{Packet, packet_at};
+ghost use Rattle.endpoint_chain.specs.Judging.{IsHeaderFault};
 ghost use Rattle.ip6_headers.specs.Reading.{HoldsPacket};
-ghost use Rattle.ip6_headers.specs.Stepping.{header_at};
+ghost use Rattle.ip6_headers.specs.Stepping.{header_at, place_view};
 ghost use Rattle.end_behaviours.specs.Finding.{IsFoundAt, is_last};
 
 use endpoint_chain::{header_fault, unknown_routing_fault};
 use ip6_headers::{ChainPlace, Fault};
 use replace_csid::is_at_end;
 use srv6_rules::numbers::{
-    DESTINATION_OPTIONS, HOP_BY_HOP, ROUTING, ROUTING_TYPE_AT, SEGMENT_ROUTING, SEGMENTS_LEFT_AT,
+    DESTINATION_OPTIONS, HOP_BY_HOP, MOST_LEN, ROUTING, ROUTING_TYPE_AT, SEGMENT_ROUTING, SEGMENTS_LEFT_AT,
 };
 use srv6_rules::{Csid, Family, SidEntry};
 
@@ -52,7 +53,11 @@ fn is_last(sid: &SidEntry, bytes: &[u8], place: ChainPlace, header: &[u8]) -> bo
 }
 
 /// A header that a fault refuses, or none where it is passed over.
-fn refused(fault: Option<Fault>) -> Option<Found> {
+fn refused(fault: Option<Fault>) -> Option<Found>
+    ensures { (s : SidValue) (p : Packet) (h : Header)
+        → IsHeaderFault (at_header s p h) fault → IfSome fault (λ f. f.at ≤ MOST_LEN)
+        → IsFoundAt s p h result }
+{
     match fault {
         Some(fault) => Some(Found::Refuse { fault }),
         None => None,
@@ -66,7 +71,15 @@ fn found_at_segments(
     bytes: &[u8],
     place: ChainPlace,
     header: &[u8],
-) -> Option<Found> {
+) -> Option<Found>
+    requires suits { SuitsCompression sid.now }
+    requires packet { HoldsPacket bytes.now }
+    requires lies { LiesIn (packet_at bytes.now) (header_at place header.now) }
+    requires stands { StandsIn (packet_at bytes.now) (place_view place) }
+    requires unshifted { shifts_at sid.now (packet_at bytes.now) ≡ false }
+    requires routing { is_segment_routing (header_at place header.now) ≡ true }
+    ensures { IsFoundAt sid.now (packet_at bytes.now) (header_at place header.now) result }
+{
     if !is_last(sid, bytes, place, header) {
         return Some(Found::Step {
             place,
@@ -88,11 +101,27 @@ fn found_at_routing(
     bytes: &[u8],
     place: ChainPlace,
     header: &[u8],
-) -> Option<Found> {
+) -> Option<Found>
+    requires suits { SuitsCompression sid.now }
+    requires packet { HoldsPacket bytes.now }
+    requires lies { LiesIn (packet_at bytes.now) (header_at place header.now) }
+    requires stands { StandsIn (packet_at bytes.now) (place_view place) }
+    requires unshifted { shifts_at sid.now (packet_at bytes.now) ≡ false }
+    requires routing { place.kind ≡ ROUTING }
+    ensures { IsFoundAt sid.now (packet_at bytes.now) (header_at place header.now) result }
+{
     if header[ROUTING_TYPE_AT] != SEGMENT_ROUTING {
         return refused(unknown_routing_fault(place, header));
     }
     found_at_segments(sid, bytes, place, header)
+}
+
+/// A SID that shifts does so in front of what stands at a place: of any header but options.
+fn shifts_in_front(shifts: bool, place: ChainPlace) -> bool
+    ensures { (bytes : List ℕ)
+        → result ≡ (shifts && not (is_options (header_at place bytes))) }
+{
+    shifts && place.kind != HOP_BY_HOP && place.kind != DESTINATION_OPTIONS
 }
 
 /// A header at a SID that goes on, or none where it is passed over. Where the SID shifts, it does
@@ -103,8 +132,15 @@ pub(crate) fn found_at(
     bytes: &[u8],
     place: ChainPlace,
     header: &[u8],
-) -> Option<Found> {
-    if shifts && place.kind != HOP_BY_HOP && place.kind != DESTINATION_OPTIONS {
+) -> Option<Found>
+    requires shifts { shifts ≡ shifts_at sid.now (packet_at bytes.now) }
+    requires suits { SuitsCompression sid.now }
+    requires packet { HoldsPacket bytes.now }
+    requires lies { LiesIn (packet_at bytes.now) (header_at place header.now) }
+    requires stands { StandsIn (packet_at bytes.now) (place_view place) }
+    ensures { IsFoundAt sid.now (packet_at bytes.now) (header_at place header.now) result }
+{
+    if shifts_in_front(shifts, place) {
         return Some(Found::Shift);
     }
     if place.kind == ROUTING {

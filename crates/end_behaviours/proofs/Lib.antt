@@ -1,0 +1,5 @@
+pub mod AloneLemmas
+pub mod RemovalLemmas
+pub mod StepLemmas
+pub mod FoundLemmas
+pub mod FromLemmas
