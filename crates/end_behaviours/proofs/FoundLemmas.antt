@@ -1,10 +1,11 @@
 -- What is found at a header.
-use Rattle.std.proofs.Common.{◌≡◌, ◌≢◌, ℕ, ◌+◌, ◌-◌, ◌^◌, ◌<◌, ◌≤◌, Bool, true, false, ◌==◌, ◌&&◌, ◌||◌, not, if◌then◌else◌, List, [], length, slice_index, refl, sym, ap, subst, ◌∙◌, arith, inl, inr}
+use Rattle.std.proofs.Common.{◌≡◌, ◌≢◌, ℕ, zero, suc, ◌+◌, ◌-◌, ◌^◌, ◌<◌, ◌≤◌, Bool, true, false, ◌==◌, ◌&&◌, ◌||◌, not, if◌then◌else◌, List, [], length, slice_index, refl, sym, ap, subst, ◌∙◌, arith, inl, inr}
 use Rattle.std.specs.Prelude.{Option, Some, None, IfSome}
-use Rattle.std.proofs.lemmas.Bool.{cases_Bool, and_parts, eq-eqb, eqb-true, ne_eqb}
+use Rattle.std.proofs.lemmas.Bool.{cases_Bool, and_parts, eq-eqb, eqb-false, eqb-true, ne_eqb}
 use Rattle.srv6_rules.specs.declared.numbers.TheConstants.{MOST_LEN}
 use Rattle.srv6_rules.specs.declared.sid.Family.TheVariants.{V6}
 use Rattle.srv6_rules.specs.declared.sid.Reason.{Reason}
+use Rattle.srv6_rules.specs.declared.sid.Reason.TheVariants.{UnknownRouting, LateHopByHop, Fragment}
 use Rattle.srv6_rules.specs.declared.sid.SidEntry.{SidEntry}
 use Rattle.srv6_rules.specs.Behaviours.{goes_on}
 use Rattle.srv6_rules.specs.Packet.{Packet, header_len, packet_at, spelling}
@@ -183,6 +184,10 @@ refused-at r1 r2 a b e = cc
 abbrev some_outcome : Endpoint
 some_outcome = Exposed V6 []
 
+some_left : (n : ℕ) → (n ≡ 0 → ⊥) → 0 < n
+some_left zero none = absurd (none refl)
+some_left (suc n) none = omega arith
+
 pub unknown-near : (h : Header) (fault : Option Fault) → 8 ≤ length h.bytes → h.place.at + length h.bytes ≤ MOST_LEN
     → IsHeaderFault (unknown_routing h) fault → IfSome fault (λ f. f.at ≤ MOST_LEN)
 unknown-near h None least fits is = tt
@@ -192,8 +197,9 @@ unknown-near h (Some f) least fits is = elim (cases_Bool (segments_left h == 0))
       let bad : some_outcome ≡ Refused f.reason f.at = sym passed ∙ is some_outcome in
       cc
   | inr some ↦
-      let refused : unknown_routing h some_outcome ≡ Refused _ (h.place.at + 2) = rw some refl in
-      let at = refused-at _ f.reason (h.place.at + 2) f.at (sym refused ∙ is some_outcome) in
+      let more = eqb-false (segments_left h) 0 some in
+      let left : 0 < segments_left h = some_left (segments_left h) more in
+      let at = refused-at UnknownRouting f.reason (h.place.at + 2) f.at (sym (unknown-refused h some_outcome left) ∙ is some_outcome) in
       omega arith
 ]
 
@@ -213,7 +219,7 @@ module _ (route : Header → Endpoint → Endpoint) (p : Packet) (h : Header) (f
     | inl first ↦ let bad : some_outcome ≡ Refused f.reason f.at = sym (first-passed route h kind first some_outcome) ∙ is in cc
     | inr late ↦
         let earlier = stands.earlier in
-        let at = refused-at _ f.reason h.place.named_at f.at (sym (late-refused route h some_outcome kind late) ∙ is) in
+        let at = refused-at LateHopByHop f.reason h.place.named_at f.at (sym (late-refused route h some_outcome kind late) ∙ is) in
         omega arith
   ]
 
@@ -223,7 +229,7 @@ module _ (route : Header → Endpoint → Endpoint) (p : Packet) (h : Header) (f
   kind-near false true c d ea eb ec ed some other = absurd (other (eqb-true h.place.kind routing eb))
   kind-near false false true d ea eb ec ed some other =
       let kind = eqb-true h.place.kind fragment ec in
-      let at = refused-at _ f.reason h.place.at f.at (sym (fragment-refused route h some_outcome kind) ∙ is) in
+      let at = refused-at Fragment f.reason h.place.at f.at (sym (fragment-refused route h some_outcome kind) ∙ is) in
       omega arith
   kind-near false false false true ea eb ec ed some other =
       let kind = eqb-true h.place.kind destination_options ed in

@@ -1,17 +1,18 @@
 -- What comes of a packet from a place of its chain on.
-use Rattle.std.proofs.Common.{◌≡◌, ℕ, ◌+◌, ◌-◌, ◌^◌, ◌<◌, ◌≤◌, List, length, take, drop, refl, sym, ap, subst, ◌∙◌, arith}
+use Rattle.std.proofs.Common.{◌≡◌, ℕ, ◌+◌, ◌-◌, ◌^◌, ◌<◌, ◌≤◌, true, false, List, length, take, drop, refl, sym, ap, subst, ◌∙◌, arith}
 use Rattle.std.proofs.lemmas.List.{length-drop}
 use Rattle.srv6_rules.specs.declared.numbers.TheConstants.{MOST_LEN}
+use Rattle.srv6_rules.specs.declared.sid.Reason.TheVariants.{BadChain}
 use Rattle.srv6_rules.specs.declared.sid.SidEntry.{SidEntry}
 use Rattle.srv6_rules.specs.Packet.{Packet, header_len, packet_at}
-use Rattle.srv6_rules.specs.Chain.{ChainPlace, Header, LiesIn, StandsIn, extension_bytes, from_place, place_behind}
-use Rattle.srv6_rules.specs.Endpoint.{Endpoint, at_end, at_header}
+use Rattle.srv6_rules.specs.Chain.{ChainPlace, Header, LiesIn, StandsIn, extension_bytes, from_place, is_extension, is_whole, place_behind}
+use Rattle.srv6_rules.specs.Endpoint.{Endpoint, Refused, at_end, at_header}
 use Rattle.srv6_rules.proofs.PublicLaws.{header_in-lies}
 use Rattle.ip6_headers.specs.Reading.{HoldsPacket}
 use Rattle.ip6_headers.specs.Stepping.{IsHeader}
 use Rattle.ip6_headers.proofs.PublicLaws.{holds-spellable}
 use Rattle.endpoint_chain.specs.Outcomes.{HoldsAlone}
-use Rattle.endpoint_chain.proofs.PublicLaws.{ComesTo, alone-length, comes-behind, comes-header}
+use Rattle.endpoint_chain.proofs.PublicLaws.{ComesTo, alone-length, comes-behind, comes-cut, comes-header}
 use Rattle.end_behaviours.specs.Finding.{IsWithin, at_sid_from}
 use Rattle.end_behaviours.proofs.AloneLemmas.{alone-from}
 use Rattle.end_behaviours.proofs.FoundLemmas.{stands-behind}
@@ -91,3 +92,13 @@ pub place-most : (bytes : List ℕ) (at : ℕ) → HoldsPacket bytes → at ≤ 
 place-most bytes at holds within =
     let short = (holds-spellable bytes holds).payload_len in
     omega arith
+
+-- a chain that is cut there
+pub cut-found : (s : SidEntry) (allow bytes : List ℕ) (start place : ChainPlace) (rest : List ℕ) → HoldsAlone bytes
+    → Reached s allow (packet_at bytes) start place rest → is_extension place.kind ≡ true → is_whole place.kind rest ≡ false
+    → (at_sid_from s allow (packet_at bytes) start ≡ Refused BadChain place.at) × (place.at ≤ MOST_LEN)
+cut-found s allow bytes start place rest alone r is cut =
+    let p : Packet = packet_at bytes in (
+      comes-cut (at_header s p) (at_end s allow p) p (at_sid_from s allow p start) place rest r.comes is cut,
+      place-most bytes place.at alone.holds r.stands.within,
+    )

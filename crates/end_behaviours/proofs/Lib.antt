@@ -3,3 +3,4 @@ pub mod RemovalLemmas
 pub mod StepLemmas
 pub mod FoundLemmas
 pub mod FromLemmas
+pub mod TreatmentLemmas

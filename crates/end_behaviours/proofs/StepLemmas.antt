@@ -27,7 +27,8 @@ use Rattle.endpoint_chain.specs.Outcomes.{ComesOf, HoldsAlone, Leaves}
 use Rattle.endpoint_chain.specs.declared.outcome.EndOutcome.{EndOutcome}
 use Rattle.endpoint_chain.proofs.PublicLaws.{alone-spelled, alone-spellable, alone-length}
 use Rattle.end_behaviours.specs.Finding.{LiesAt, header_of, is_last}
-use Rattle.end_behaviours.specs.Stepping.{move_to}
+use Rattle.end_behaviours.specs.declared.stepping.Judged.{Judged}
+use Rattle.end_behaviours.specs.Stepping.{IsJudged, move_to}
 use Rattle.end_behaviours.proofs.AloneLemmas.{Rewritten, header-written, lent-spells, move-written, moved-spellable, spelled-alone}
 
 pub comes-same : (e f : Endpoint) (old new : List ℕ) (outcome : EndOutcome) → e ≡ f → ComesOf f old new outcome
@@ -55,10 +56,26 @@ header-ends bytes place len alone header =
     let all = alone-length bytes alone in
     (omega arith, omega arith)
 
--- bytes that were lent, and were others
-pub replaced-in : (c : Compression) (at : ℕ) (old lent new : List ℕ) (outcome : ReplaceOutcome) → lent ≡ old
-    → IsReplaced c at lent new outcome → IsReplaced c at old new outcome
-replaced-in c at old lent new outcome same is = let P : List ℕ → Type 0 = λ xs. IsReplaced c at xs new outcome in subst P same is
+-- what is said of bytes that were lent is said of those that they were
+pub replaced-in : (c k : Compression) (at : ℕ) (old lent new : List ℕ) (outcome : ReplaceOutcome) → k ≡ c → lent ≡ old
+    → IsReplaced k at lent new outcome → IsReplaced c at old new outcome
+replaced-in c k at old lent new outcome kind same is =
+    let P : Compression → Type 0 = λ x. IsReplaced x at lent new outcome in
+    let Q : List ℕ → Type 0 = λ xs. IsReplaced c at xs new outcome in
+    subst Q same (subst P kind is)
+
+pub shifted-in : (c k : Compression) (old lent new : List ℕ) → k ≡ c → lent ≡ old → IsShifted k lent new → IsShifted c old new
+shifted-in c k old lent new kind same is =
+    let P : Compression → Type 0 = λ x. IsShifted x lent new in
+    let Q : List ℕ → Type 0 = λ xs. IsShifted c xs new in
+    subst Q same (subst P kind is)
+
+pub judged-in : (old seen : List ℕ) (place : ChainPlace) (len : ℕ) (judged : Judged) → seen ≡ old
+    → IsJudged (packet_at seen) place.at (srh_of (header_of (packet_at seen) place len).bytes) judged
+    → IsJudged (packet_at old) place.at (srh_of (header_of (packet_at old) place len).bytes) judged
+judged-in old seen place len judged same is =
+    let P : List ℕ → Type 0 = λ xs. IsJudged (packet_at xs) place.at (srh_of (header_of (packet_at xs) place len).bytes) judged in
+    subst P same is
 
 -- ---- the shift
 

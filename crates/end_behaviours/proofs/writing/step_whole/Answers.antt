@@ -4,8 +4,9 @@ use Rattle.replace_csid.specs.Replacing.{with_move}
 use Rattle.endpoint_chain.proofs.PublicLaws.{alone-length, alone-most}
 use Rattle.ip6_headers.specs.Stepping.{place_view}
 use Rattle.end_behaviours.specs.Stepping.{move_to}
+use Rattle.end_behaviours.specs.declared.stepping.Judged.TheVariants.{Advance}
 use Rattle.end_behaviours.proofs.AloneLemmas.{spelled-alone}
-use Rattle.end_behaviours.proofs.StepLemmas.{header-ends, step-rewritten, whole-leaves}
+use Rattle.end_behaviours.proofs.StepLemmas.{header-ends, judged-in, step-rewritten, whole-leaves}
 use Rattle.end_behaviours.proofs.writing.step_whole.Goals as goal
 
 pub write_step-requires-clause-within : goal.write_step-requires-clause-within
@@ -50,5 +51,7 @@ returns-in-Advance-clause-outcome c =
     let written = c.write_step.ensures ∙ ap (λ xs. with_move xs c.args.place.at (move_to c.in-Advance.left d)) c.view_mut.ensures.value in
     let r = step-rewritten old c.write_step.new.bytes c.args.place.at c.in-Advance.left d c.requires.packet
     c.requires.header.stands.behind_header (omega arith) (omega arith) written in
+    let judged = judged-in old c.view.result.now (place_view c.args.place) c.args.len (Advance c.in-Advance.left c.in-Advance.destination)
+    c.view.ensures c.in-Advance.ensures in
     whole-leaves c.args.sid.now old c.write_step.new.bytes c.pop.new.buf.bytes (place_view c.args.place) c.args.len c.in-Advance.left d
-    c.requires.header r c.in-Advance.ensures.0 c.in-Advance.ensures.1.0 c.pop.ensures.packet
+    c.requires.header r judged.0 judged.1.0 c.pop.ensures.packet
