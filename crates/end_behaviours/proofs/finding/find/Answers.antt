@@ -42,7 +42,7 @@ returns-in-Cut c =
 pub found_at-requires-clause-lies : goal.found_at-requires-clause-lies
 found_at-requires-clause-lies c =
     reached-lies c.args.sid.now c.args.allow.now (packet_at c.args.bytes.now) (place_view c.args.start) (place_view c.headers.place)
-    c.headers.rest.now c.split_at-2.result.0.now c.in-Header.len c.headers.invariant c.in-Header.ensures c.split_at-2.ensures.front
+    c.headers.rest.now c.split_at-in-Header.result.0.now c.in-Header.len c.headers.invariant c.in-Header.ensures c.split_at-in-Header.ensures.front
 
 pub returns-in-Some : goal.returns-in-Some
 returns-in-Some c =
@@ -53,8 +53,8 @@ returns-in-Some c =
     let r = c.headers.invariant in
     let start = place_view c.args.start in
     let rest = at_sid_from s allow p in
-    let same = reached-comes s allow p start q c.headers.rest.now c.split_at-2.result.0.now c.in-Header.len r c.in-Header.ensures
-    c.split_at-2.ensures.front in
+    let same = reached-comes s allow p start q c.headers.rest.now c.split_at-in-Header.result.0.now c.in-Header.len r c.in-Header.ensures
+    c.split_at-in-Header.ensures.front in
     found-same s p c.args.start.at rest (rest start) _ c.in-Some.found same (c.in-Some.ensures c.args.start.at rest r.later)
 
 pub headers-preserved : goal.headers-preserved
@@ -62,9 +62,9 @@ headers-preserved c =
     let s = c.args.sid.now in
     let allow = c.args.allow.now in
     let p = packet_at c.args.bytes.now in
-    reached-behind s allow p (place_view c.args.start) (place_view c.headers.place) c.headers.rest.now c.split_at-2.result.0.now
-    c.in-Header.len c.headers.invariant c.in-Header.ensures c.split_at-2.ensures.front c.split_at-2.result.1.now
-    (place_view c.behind-place.result) c.split_at-2.ensures.back c.behind-place.ensures c.in_default.ensures
+    reached-behind s allow p (place_view c.args.start) (place_view c.headers.place) c.headers.rest.now c.split_at-in-Header.result.0.now
+    c.in-Header.len c.headers.invariant c.in-Header.ensures c.split_at-in-Header.ensures.front c.split_at-in-Header.result.1.now
+    (place_view c.behind-place.result) c.split_at-in-Header.ensures.back c.behind-place.ensures c.in_default.ensures
 
 pub split_at-requires : goal.split_at-requires
 split_at-requires c =
@@ -75,8 +75,8 @@ split_at-requires c =
 pub behind-place-requires-clause-fits : goal.behind-place-requires-clause-fits
 behind-place-requires-clause-fits c =
     let lies = reached-lies c.args.sid.now c.args.allow.now (packet_at c.args.bytes.now) (place_view c.args.start)
-    (place_view c.headers.place) c.headers.rest.now c.split_at-2.result.0.now c.in-Header.len c.headers.invariant c.in-Header.ensures
-    c.split_at-2.ensures.front in
+    (place_view c.headers.place) c.headers.rest.now c.split_at-in-Header.result.0.now c.in-Header.len c.headers.invariant c.in-Header.ensures
+    c.split_at-in-Header.ensures.front in
     let within = lies.within in
     let short = (holds-spellable c.args.bytes.now c.requires.packet.holds).payload_len in
     omega arith
