@@ -1,1 +1,3 @@
 pub mod Sids
+pub mod Steps
+pub mod Advances

@@ -1,8 +1,9 @@
 -- A packet's place in a list: the SID that is active, what is behind it, and the packet there (RFC 8754 section 4.3, RFC 9800 section 4).
-use Rattle.std.specs.Prelude.{◌≡◌, ℕ, ◌+◌, ◌-◌, ◌^◌, ◌<◌, ◌≤◌, Bool, true, false, ◌&&◌, not, if◌then◌else◌, List, [], ◌∷◌, ◌++◌, length, reverse, All, Option, Some, None}
+use Rattle.std.specs.Prelude.{◌≡◌, ℕ, ◌+◌, ◌-◌, ◌*◌, ◌^◌, ◌<◌, ◌≤◌, Bool, true, false, ◌&&◌, not, if◌then◌else◌, List, [], ◌∷◌, ◌++◌, length, reverse, All, Option, Some, None}
 use Rattle.srv6_rules.specs.declared.sid.Csid.TheVariants.{Replace}
 use Rattle.srv6_rules.specs.declared.sid.Family.{Family}
-use Rattle.srv6_rules.specs.Packet.{Packet}
+use Rattle.srv6_rules.specs.declared.numbers.TheConstants.{SEGMENT_LIST_AT, SEGMENT_LEN}
+use Rattle.srv6_rules.specs.Packet.{Packet, header_len}
 use Rattle.srv6_rules.specs.Srh.{Srh, srh_spelling}
 use Rattle.srv6_rules.specs.Chain.{routing}
 use Rattle.srv6_rules.specs.CompressedSteps.{index_behind}
@@ -90,6 +91,11 @@ on_way t routed left hop destination =
       destination = destination;
       payload = if routed then srh_spelling (header_with t left) ++ t.bytes else t.bytes;
     }
+
+-- where the packet inside stands, counted from the packet's first byte
+abbrev pub inner_at : Tunnel → Bool → ℕ
+inner_at t routed =
+    if routed then header_len + SEGMENT_LIST_AT + SEGMENT_LEN * length (segment_list t.encapsulation) else header_len
 
 -- the packet at a place: Segments Left counts the containers behind
 abbrev pub form : Tunnel → Place → Bool → ℕ → Packet
