@@ -1,3 +1,5 @@
 pub mod Sids
 pub mod Steps
 pub mod Advances
+pub mod Entries
+pub mod Goings

@@ -1,5 +1,5 @@
 -- SIDs of a flat network in containers.
-use Rattle.std.proofs.Common.{◌≡◌, ◌⊎◌, inl, inr, ℕ, ◌+◌, ◌-◌, ◌^◌, ◌<◌, ◌≤◌, List, [], ◌∷◌, ◌++◌, length, map, All, Option, Some, None, refl, sym, ◌∙◌, ap, subst, arith, length-append}
+use Rattle.std.proofs.Common.{◌≡◌, ◌⊎◌, inl, inr, ℕ, ◌+◌, ◌-◌, ◌*◌, ◌/◌, ◌^◌, ◌<◌, ◌≤◌, List, [], ◌∷◌, ◌++◌, length, map, All, Option, Some, None, refl, sym, ◌∙◌, ap, subst, arith, length-append}
 use Rattle.std.proofs.lemmas.List.{length-map, map-append}
 use Rattle.std.proofs.lemmas.List.Elements.{All-nil, All-cons, All-head, All-tail, All-append, All-map}
 use Rattle.v6_addr.specs.Address.{PrefixValue, IsPrefix, Holds}
@@ -97,7 +97,7 @@ full-rest s t ts is flat =
       fits = omega arith;
     }
 
-full-value : (b : SidBlock) (s : ListSid) (ss : List ListSid) → s.block ≡ Some b
+pub full-value : (b : SidBlock) (s : ListSid) (ss : List ListSid) → s.block ≡ Some b
     → full_value s ss ≡ container_of b.prefix.len (map prefix_of (s ∷ ss))
 full-value b s ss e = ap (λ n. container_of n (map prefix_of (s ∷ ss))) (len_in s b e)
 
@@ -159,3 +159,8 @@ packed-entry b s sids flat e kind is all =
       few = subst Q (sym width) (subst (λ (n : ℕ). n ≤ csid_count b.csid_len) (sym (length-map sids prefix_of)) few);
       packed = ap (λ n. packed_entry n csids) (sym width);
     }
+
+-- an entry has room for CSIDs
+pub count_positive : (w : ℕ) → IsCsidLen w → 0 < csid_count w
+count_positive w (inl e) = let is : csid_count w ≡ 8 = ap (λ n. 128 / n) e in omega arith
+count_positive w (inr e) = let is : csid_count w ≡ 4 = ap (λ n. 128 / n) e in omega arith
