@@ -3,3 +3,4 @@ pub mod Steps
 pub mod Advances
 pub mod Entries
 pub mod Goings
+pub mod Packs
