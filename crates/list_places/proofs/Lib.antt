@@ -4,3 +4,4 @@ pub mod Advances
 pub mod Entries
 pub mod Goings
 pub mod Packs
+pub mod Follows
