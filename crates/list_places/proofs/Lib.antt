@@ -5,3 +5,4 @@ pub mod Entries
 pub mod Goings
 pub mod Packs
 pub mod Follows
+pub mod Nexts
