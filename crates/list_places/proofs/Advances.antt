@@ -66,7 +66,7 @@ module _ (t : Tunnel) (left : ℕ) (some : 0 < length (segment_list t.encapsulat
         | inr less ↦ let apart = eqb-false left (length (segment_list t.encapsulation)) less in omega arith
       ]
 
-  there : (c : Compression) (d : ℕ) → lacks_entry c (header_with t left) d ≡ false
+  pub there : (c : Compression) (d : ℕ) → lacks_entry c (header_with t left) d ≡ false
   there c d =
       let n : ℕ = length (segment_list t.encapsulation) in
       let entries : (2 * n / 2 == 0) ≡ false = ne_eqb (2 * n / 2) 0 (omega arith) in

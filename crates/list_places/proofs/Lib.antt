@@ -6,3 +6,5 @@ pub mod Goings
 pub mod Packs
 pub mod Follows
 pub mod Nexts
+pub mod Ends
+pub mod Lasts

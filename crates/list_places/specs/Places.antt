@@ -1,6 +1,10 @@
 -- A packet's place in a list: the SID that is active, what is behind it, and the packet there (RFC 8754 section 4.3, RFC 9800 section 4).
-use Rattle.std.specs.Prelude.{◌≡◌, ℕ, ◌+◌, ◌-◌, ◌*◌, ◌^◌, ◌<◌, ◌≤◌, Bool, true, false, ◌&&◌, not, if◌then◌else◌, List, [], ◌∷◌, ◌++◌, length, reverse, All, Option, Some, None}
-use Rattle.srv6_rules.specs.declared.sid.Csid.TheVariants.{Replace}
+use Rattle.std.specs.Prelude.{◌≡◌, ℕ, ◌+◌, ◌-◌, ◌*◌, ◌^◌, ◌<◌, ◌≤◌, Bool, true, false, ◌&&◌, not, if◌then◌else◌, List, [], ◌∷◌, ◌++◌, length, reverse, All, Option, Some, None, ◌⊎◌}
+use Rattle.srv6_rules.specs.declared.sid.Csid.TheVariants.{Plain, Next, Replace}
+use Rattle.srv6_rules.specs.declared.sid.Reason.TheVariants as reasons
+use Rattle.srv6_rules.specs.declared.sid.SidEntry.{SidEntry}
+use Rattle.srv6_rules.specs.Behaviours.{goes_on, exposes}
+use Rattle.srv6_rules.specs.Endpoint.{Endpoint, Exposed, Delivered, Refused, is_allowed}
 use Rattle.srv6_rules.specs.declared.sid.Family.{Family}
 use Rattle.srv6_rules.specs.declared.numbers.TheConstants.{SEGMENT_LIST_AT, SEGMENT_LEN}
 use Rattle.srv6_rules.specs.Packet.{Packet, header_len}
@@ -9,7 +13,7 @@ use Rattle.srv6_rules.specs.Chain.{routing}
 use Rattle.srv6_rules.specs.CompressedSteps.{index_behind}
 use Rattle.srv6_rules.specs.Encapsulation.{Encapsulation, segment_list, segment_routing_of}
 use Rattle.srv6_rules.specs.Policies.{inner_kind}
-use Rattle.list_places.specs.Lists.{SidBlock, ListSid, Container, Full, Packed, compression, full_value, packed_value, values_of, sids_in, last_of, IsFull, IsPacked, asked_behind, asked_behind_packed, Follow, IsFlatSid, IsFlatList}
+use Rattle.list_places.specs.Lists.{SidBlock, ListSid, Container, Full, Packed, block_len, compression, full_value, packed_value, values_of, sids_in, last_of, IsFull, IsPacked, asked_behind, asked_behind_packed, Follow, IsFlatSid, IsFlatList}
 
 -- ---- places
 
@@ -138,6 +142,22 @@ pub record IsListed (x : Place) (entries : List ℕ) : Type 0 where
   pub front : List ℕ
   pub split : entries ≡ reverse (values_of (behind_of x)) ++ (own_of x ++ front)
   pub addresses : All (λ a. a < 2 ^ 128) entries
+
+-- a SID of a node stands on the prefix of a list's SID: if it is compressed it is as the SIDs of the block are; if it goes on, its flavour
+-- is the prefix's; and one of NEXT-CSID goes on
+pub record StandsOn (e : SidEntry) (s : ListSid) : Type 0 where
+  pub prefix : e.prefix ≡ s.prefix
+  pub block_len : e.block_len ≡ block_len s.block
+  pub kind : (e.csid ≡ Plain) ⊎ ((b : SidBlock) × (s.block ≡ Some b) × (e.csid ≡ b.kind))
+  pub flavour : goes_on e ≡ true → e.csid ≡ s.csid
+  pub next : e.csid ≡ Next → goes_on e ≡ true
+
+-- what comes of the packet where no segment is left: the packet inside is exposed, or it is the upper layer, with USP without the header
+abbrev pub at_the_end : SidEntry → List ℕ → Tunnel → Place → Bool → ℕ → Endpoint
+at_the_end e allow t x routed hop =
+    if exposes e (inner_kind t.inner) then Exposed t.inner t.bytes
+    else if is_allowed allow (inner_kind t.inner) then Delivered (form t x (routed && not e.usp) hop)
+    else Refused reasons.UpperLayer (inner_at t routed)
 
 -- a packet of a tunnel with a hop limit stands at a place of its list
 pub record Along (t : Tunnel) (x : Place) (hop : ℕ) (p : Packet) : Type 0 where
