@@ -8,3 +8,4 @@ pub mod Follows
 pub mod Nexts
 pub mod Ends
 pub mod Lasts
+pub mod Starts
