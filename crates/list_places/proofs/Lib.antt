@@ -9,3 +9,4 @@ pub mod Nexts
 pub mod Ends
 pub mod Lasts
 pub mod Starts
+pub mod Alongs
