@@ -18,6 +18,8 @@ use Rattle.list_places.specs.Lists.{SidBlock, ListSid, Container, Full, Packed, 
 use Rattle.list_places.specs.Places.{Place, InFull, InPacked, Tunnel, form, active, behind_of, sids_from, entered, first_of, next_of, inner_at, may_lack, stays_routed, at_the_end, StandsOn, IsPlace, Along}
 use Rattle.list_places.specs.Executions.{Execution, IsSent, Executes, StandInOrder, after_next}
 use Rattle.list_places.proofs.Sids.{full-block}
+use Rattle.list_places.proofs.Starts.{destination-holds}
+use Rattle.v6_addr.specs.Address.{Holds}
 use Rattle.list_places.proofs.Nexts.{Leads, leads-next}
 use Rattle.list_places.proofs.Follows.{to-place, next-place, next-listed, next-lacking}
 use Rattle.list_places.proofs.Lasts.{as_active, ends-last, ends-plain, refuses-before, refuses-in, exposed-in_last}
@@ -52,6 +54,12 @@ leads-along : (e : SidEntry) (allow : List ℕ) (t : Tunnel) (x y : Place) (hop 
     → StandsOn e (active x) → goes_on e ≡ true → next_of x ≡ Some y → Leads e allow t x y a.routed
 leads-along e allow t x y hop p a on goes to =
     leads-next e allow t x y a.routed goes (as_active e (active x) on goes) a.place a.listed a.lacking to
+
+-- the destination lies in the active SID's prefix
+pub along-holds : (t : Tunnel) (x : Place) (hop : ℕ) (p : Packet) → Along t x hop p → Holds (active x).prefix p.destination
+along-holds t x hop p a =
+    let P : ℕ → Type 0 = λ d. Holds (active x).prefix d in
+    subst P (sym (ap (λ (q : Packet). q.destination) a.packet)) (destination-holds x a.place)
 
 -- a SID that goes on makes the packet at the next place
 pub along-onward : (e : SidEntry) (allow : List ℕ) (t : Tunnel) (x y : Place) (hop : ℕ) (p : Packet) → (a : Along t x hop p)
@@ -184,6 +192,58 @@ along-only e allow t x hop p q a on is = elim (cases_Bool (goes_on e)) [
           (high, y, to, subst (λ (m : Packet). Along t y (hop - 1) m) made (along-next t x y hop (hop - 1) p e.psp a to))
       | inr low ↦ absurd (refused_not reasons.HopLimit 0 q (sym (along-tired e allow t x y hop p a on goes to low) ∙ is))
     ]
+
+-- ---- a packet that is exposed
+
+-- in the last container it came of the packet inside
+exposed_end : (e : SidEntry) (allow : List ℕ) (t : Tunnel) (x : Place) (hop : ℕ) (p : Packet) (family : Family) (bytes : List ℕ)
+    → (a : Along t x hop p) → StandsOn e (active x) → at_sid e allow p ≡ Exposed family bytes
+    → at_sid e allow p ≡ at_the_end e allow t x a.routed hop
+exposed_end e allow t x hop p family bytes a on shows = by e.csid refl
+  where
+    refused : (reason : Reason) (at : ℕ) → Refused reason at ≡ Exposed family bytes → ⊥
+    refused reason at e = cc
+
+    onward : (q : Packet) → Onward q ≡ Exposed family bytes → ⊥
+    onward q e = cc
+
+    goes : goes_on e ≡ true → (o : Option Place) → next_of x ≡ o → at_sid e allow p ≡ at_the_end e allow t x a.routed hop
+    goes is None last = along-last e allow t x hop p a on last
+    goes is (Some y) to = absurd (elim (cases_lt 1 hop) [
+      | inl high ↦ onward _ (sym (along-onward e allow t x y hop p a on is to high) ∙ shows)
+      | inr low ↦ refused reasons.HopLimit 0 (sym (along-tired e allow t x y hop p a on is to low) ∙ shows)
+    ])
+
+    by : (k : Csid) → e.csid ≡ k → at_sid e allow p ≡ at_the_end e allow t x a.routed hop
+    by Plain kind = along-plain e allow t x hop p a kind (along-only_last e allow t x hop p family bytes a on shows)
+    by Next kind = goes (on.next kind) (next_of x) refl
+    by Replace kind = elim (cases_Bool (goes_on e)) [
+      | inl is ↦ goes is (next_of x) refl
+      | inr stays ↦ elim (cases_Bool (may_lack x)) [
+        | inl lacks ↦ along-last e allow t x hop p a on (last_replace e x a.place on kind lacks)
+        | inr needs ↦ absurd (refused reasons.BadSegments (header_len + segments_left_at)
+            (sym (along-packed e allow t x hop p a on stays kind needs) ∙ shows))
+      ]
+    ]
+
+-- what is exposed is the packet inside, in the last container
+pub along-exposes : (e : SidEntry) (allow : List ℕ) (t : Tunnel) (x : Place) (hop : ℕ) (p : Packet) (family : Family) (bytes : List ℕ)
+    → Along t x hop p → StandsOn e (active x) → at_sid e allow p ≡ Exposed family bytes
+    → (behind_of x ≡ []) × (exposes e (inner_kind t.inner) ≡ true) × (family ≡ t.inner) × (bytes ≡ t.bytes)
+along-exposes e allow t x hop p family bytes a on shows =
+    let last = along-only_last e allow t x hop p family bytes a on shows in
+    let (opens, same, whole) = by (exposes e (inner_kind t.inner)) (is_allowed allow (inner_kind t.inner))
+    (sym (exposed_end e allow t x hop p family bytes a on shows) ∙ shows) in
+    (last, opens, same, whole)
+  where
+    by : (b takes : Bool)
+        → (if b then Exposed t.inner t.bytes
+        else if takes then Delivered (form t x (a.routed && not e.usp) hop)
+        else Refused reasons.UpperLayer (inner_at t a.routed)) ≡ Exposed family bytes
+        → (b ≡ true) × (family ≡ t.inner) × (bytes ≡ t.bytes)
+    by true takes is = (refl, cc, cc)
+    by false true is = cc
+    by false false is = cc
 
 -- ---- the SIDs of the list, one after the other
 

@@ -1,7 +1,7 @@
 pub mod Sids
+pub mod Entries
 pub mod Steps
 pub mod Advances
-pub mod Entries
 pub mod Goings
 pub mod Packs
 pub mod Follows
@@ -10,3 +10,4 @@ pub mod Ends
 pub mod Lasts
 pub mod Starts
 pub mod Alongs
+pub mod PublicLaws

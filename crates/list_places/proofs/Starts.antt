@@ -96,6 +96,10 @@ first-place (c ∷ cs) x legal flat e =
     let same : entered c cs ≡ x = cc in
     subst IsPlace same (entered-place None c cs legal flat none_asked)
 
+pub first-some : (cs : List Container) → IsLegal cs → (x : Place) × (first_of cs ≡ Some x)
+first-some [] legal = absurd legal
+first-some (c ∷ cs) legal = (entered c cs, refl)
+
 -- ---- the segment list
 
 reverse-cons : (v : ℕ) (vs : List ℕ) → reverse (v ∷ vs) ≡ reverse vs ++ (v ∷ [])
