@@ -1,21 +1,20 @@
 -- Steps over the segment routing header of a packet that is on its way in a tunnel.
-use Rattle.std.proofs.Common.{◌≡◌, ℕ, zero, suc, ◌+◌, ◌-◌, ◌*◌, ◌/◌, ◌^◌, ◌<◌, ◌≤◌, Bool, true, false, not, cond, ◌==◌, ◌&&◌, ◌||◌, nat_lt, nat_le, if◌then◌else◌, List, [], ◌∷◌, ◌++◌, length, take, drop, flat_map, slice_index, get_or, All, Option, Some, None, refl, sym, ◌∙◌, ap, subst, arith, inl, inr, length-append}
-use Rattle.std.proofs.lemmas.Bool.{cases_Bool, or_from, le-ltb, le-leb, lt-leb, eq-eqb, ne_eqb, eqb-true, eqb-false}
+use Rattle.std.proofs.Common.{◌≡◌, ℕ, ◌+◌, ◌-◌, ◌*◌, ◌/◌, ◌^◌, ◌<◌, ◌≤◌, Bool, true, false, not, ◌==◌, ◌&&◌, nat_lt, nat_le, if◌then◌else◌, List, [], ◌∷◌, ◌++◌, length, drop, flat_map, slice_index, All, None, refl, sym, ◌∙◌, ap, arith, inl, inr, length-append}
+use Rattle.std.proofs.lemmas.Bool.{cases_Bool, or_from, le-ltb, le-leb, lt-leb, ne_eqb, eqb-true, eqb-false}
 use Rattle.std.proofs.lemmas.List.{append-nil, drop_all, get_or-append-add}
 use Rattle.srv6_rules.specs.declared.sid.Reason.TheVariants as reasons
 use Rattle.srv6_rules.specs.declared.sid.SidEntry.{SidEntry}
 use Rattle.srv6_rules.specs.declared.compression.Compression.{Compression}
-use Rattle.srv6_rules.specs.Behaviours.{goes_on, exposes, family_inside}
-use Rattle.srv6_rules.specs.Packet.{Packet, header_len, two_bytes, address_bytes, address_number}
-use Rattle.srv6_rules.specs.Srh.{Srh, srh_of, srh_spelling, entry_of, tlv_bytes, segments_left_at}
-use Rattle.srv6_rules.specs.Areas.{Fault, area_fault, tlv_fault, tlvs_fault}
-use Rattle.srv6_rules.specs.CompressedSteps.{Move, ReplaceStep, Moved, AtEnd, Dropped, compression_of, is_replace, shifts, shifted, lacks_entry, is_ended, has_bad_list, hop_limit_fault, index_in, move_of, moved, replace_step, is_at_end, unless_dropped, segments_fault}
-use Rattle.srv6_rules.specs.Endpoint.{Endpoint, Onward, Exposed, Delivered, Refused, outcome_without, after_step, after_last, has_bad_segments, advanced, next_segment, next_csid, is_allowed, upper_layer, at_sid, at_whole_segments, at_packed_segments, by_replace_step}
+use Rattle.srv6_rules.specs.Behaviours.{goes_on}
+use Rattle.srv6_rules.specs.Packet.{Packet, header_len, address_bytes, address_number}
+use Rattle.srv6_rules.specs.Srh.{entry_of, tlv_bytes}
+use Rattle.srv6_rules.specs.Areas.{area_fault, tlv_fault, tlvs_fault}
+use Rattle.srv6_rules.specs.CompressedSteps.{Move, Moved, Dropped, compression_of, is_replace, shifts, lacks_entry, is_ended, has_bad_list, index_in, move_of, moved, replace_step}
+use Rattle.srv6_rules.specs.Endpoint.{Endpoint, Onward, Refused, outcome_without, after_step, has_bad_segments, next_segment, at_sid, by_replace_step}
 use Rattle.srv6_rules.specs.Encapsulation.{segment_list}
-use Rattle.srv6_rules.specs.Policies.{inner_kind}
-use Rattle.srv6_rules.proofs.PublicLaws.{length-entries, entry-at, whole-last, whole-steps, whole-refuses, packed-steps, packed-last, packed-refuses}
-use Rattle.list_places.specs.Places.{Tunnel, header_with, on_way, inner_at}
-use Rattle.list_places.proofs.Steps.{header_in, upper_at, read_back, header-out, header-out_delivered, at-whole, at-packed, at-unrouted, upper}
+use Rattle.srv6_rules.proofs.PublicLaws.{length-entries, entry-at, whole-steps, packed-steps}
+use Rattle.list_places.specs.Places.{Tunnel, header_with, on_way}
+use Rattle.list_places.proofs.Steps.{header_in, read_back, header-out, at-whole, at-packed, upper}
 
 -- ---- the header
 

@@ -1,8 +1,7 @@
 -- Packets along the places of a list: sends, executions, and rows of them.
-use Rattle.std.proofs.Common.{◌≡◌, ◌⊎◌, inl, inr, ℕ, zero, suc, ◌+◌, ◌-◌, ◌^◌, ◌<◌, ◌≤◌, Bool, true, false, true≢false, not, ◌&&◌, if◌then◌else◌, List, [], ◌∷◌, ◌++◌, length, All, Option, Some, None, refl, sym, ◌∙◌, ap, subst, arith}
+use Rattle.std.proofs.Common.{◌≡◌, inl, inr, ℕ, ◌+◌, ◌-◌, ◌<◌, ◌≤◌, Bool, true, false, true≢false, not, ◌&&◌, if◌then◌else◌, List, [], ◌∷◌, ◌++◌, length, Option, Some, None, refl, sym, ◌∙◌, ap, subst, arith}
 use Rattle.std.specs.Option.{option_and_then}
 use Rattle.std.proofs.lemmas.Bool.{cases_Bool, cases_lt}
-use Rattle.std.proofs.lemmas.List.Elements.{All-head}
 use Rattle.srv6_rules.specs.declared.sid.Csid.{Csid}
 use Rattle.srv6_rules.specs.declared.sid.Csid.TheVariants.{Plain, Next, Replace}
 use Rattle.srv6_rules.specs.declared.sid.Family.{Family}
@@ -12,10 +11,10 @@ use Rattle.srv6_rules.specs.declared.sid.SidEntry.{SidEntry}
 use Rattle.srv6_rules.specs.Behaviours.{goes_on, exposes}
 use Rattle.srv6_rules.specs.Packet.{Packet, header_len}
 use Rattle.srv6_rules.specs.Srh.{segments_left_at}
-use Rattle.srv6_rules.specs.Endpoint.{Endpoint, Onward, Exposed, Delivered, Refused, is_allowed, at_sid}
+use Rattle.srv6_rules.specs.Endpoint.{Onward, Exposed, Delivered, Refused, is_allowed, at_sid}
 use Rattle.srv6_rules.specs.Policies.{inner_kind}
 use Rattle.list_places.specs.Lists.{SidBlock, ListSid, Container, Full, Packed, sids_in}
-use Rattle.list_places.specs.Places.{Place, InFull, InPacked, Tunnel, form, active, behind_of, sids_from, entered, first_of, next_of, inner_at, may_lack, stays_routed, at_the_end, StandsOn, IsPlace, Along}
+use Rattle.list_places.specs.Places.{Place, InFull, InPacked, Tunnel, form, active, behind_of, sids_from, first_of, next_of, inner_at, may_lack, stays_routed, at_the_end, StandsOn, IsPlace, Along}
 use Rattle.list_places.specs.Executions.{Execution, IsSent, Executes, StandInOrder, after_next}
 use Rattle.list_places.proofs.Sids.{full-block}
 use Rattle.list_places.proofs.Starts.{destination-holds}

@@ -1,30 +1,27 @@
 -- A SID where no segment is left, and one that does not go on.
-use Rattle.std.proofs.Common.{◌≡◌, ◌⊎◌, inl, inr, ℕ, zero, suc, ◌+◌, ◌-◌, ◌^◌, ◌<◌, ◌≤◌, Bool, true, false, not, ◌==◌, ◌&&◌, ◌||◌,  true≢false, if◌then◌else◌, List, [], ◌∷◌, ◌++◌, length, reverse, All, Option, Some, None, refl, sym, ◌∙◌, ap, subst, arith, length-append}
-use Rattle.std.proofs.lemmas.Bool.{cases_Bool, ne_eqb, eq-eqb}
-use Rattle.std.proofs.lemmas.List.Elements.{All-head, All-tail}
+use Rattle.std.proofs.Common.{◌≡◌, inl, inr, ℕ, ◌+◌, ◌<◌, Bool, true, false, not, ◌&&◌, true≢false, if◌then◌else◌, List, [], refl, sym, ◌∙◌, ap, arith}
+use Rattle.std.proofs.lemmas.Bool.{cases_Bool, ne_eqb}
 use Rattle.srv6_rules.specs.declared.sid.Csid.{Csid}
 use Rattle.srv6_rules.specs.declared.sid.Csid.TheVariants.{Plain, Next, Replace}
 use Rattle.srv6_rules.specs.declared.sid.Family.{Family}
 use Rattle.srv6_rules.specs.declared.sid.Reason.TheVariants as reasons
 use Rattle.srv6_rules.specs.declared.sid.SidEntry.{SidEntry}
 use Rattle.srv6_rules.specs.declared.compression.Compression.{Compression}
-use Rattle.srv6_rules.specs.Behaviours.{goes_on, exposes, family_inside}
+use Rattle.srv6_rules.specs.Behaviours.{goes_on, exposes}
 use Rattle.srv6_rules.specs.Packet.{Packet, header_len}
-use Rattle.srv6_rules.specs.Srh.{Srh, srh_of, segments_left_at}
+use Rattle.srv6_rules.specs.Srh.{Srh, segments_left_at}
 use Rattle.srv6_rules.specs.Chain.{from_place}
 use Rattle.srv6_rules.specs.Compressed.{IsReplaceSid, index_of}
-use Rattle.srv6_rules.specs.CompressedSteps.{ReplaceStep, AtEnd, compression_of, csid_len_of, is_next, is_replace, shifts, lacks_entry, is_ended, index_in, replace_step, is_at_end}
-use Rattle.srv6_rules.specs.Endpoint.{Endpoint, Onward, Exposed, Delivered, Refused, outcome_without, after_last, is_allowed, upper_layer, at_sid, at_last_upper, at_whole_segments, at_packed_segments, by_replace_step}
+use Rattle.srv6_rules.specs.CompressedSteps.{AtEnd, compression_of, csid_len_of, is_replace, shifts, lacks_entry, is_ended, index_in, replace_step, is_at_end}
+use Rattle.srv6_rules.specs.Endpoint.{Endpoint, Exposed, Delivered, Refused, outcome_without, after_last, is_allowed, at_sid, at_last_upper, by_replace_step}
 use Rattle.srv6_rules.specs.Policies.{inner_kind}
 use Rattle.srv6_rules.proofs.PublicLaws.{index-back, whole-last, whole-refuses, packed-steps, packed-last, packed-refuses}
-use Rattle.list_places.specs.Lists.{SidBlock, ListSid, Container, block_len, compression, csid_len, full_value, packed_value, values_of, HaveButLast, IsFlatSid}
-use Rattle.list_places.specs.Places.{Place, InFull, InPacked, Tunnel, header_with, on_way, form, active, behind_of, next_of, first_of, destination_of, inner_at, may_lack, at_the_end, StandsOn, IsPlace, IsInFull, IsInPacked, IsListed}
-use Rattle.list_places.proofs.Sids.{in_block, block_of, replace_sid, width_in, full-one, full-block, count_positive}
+use Rattle.list_places.specs.Lists.{ListSid, Container, compression, csid_len, full_value, IsFlatSid}
+use Rattle.list_places.specs.Places.{Tunnel, header_with, on_way, inner_at, StandsOn, IsInPacked}
+use Rattle.list_places.proofs.Sids.{in_block, replace_sid, width_in, full-one, count_positive}
 use Rattle.list_places.proofs.Steps.{header_in, upper_at, own_family, inner-bytes, read_back, header-out_delivered, at-whole, at-packed, at-unrouted, upper}
-use Rattle.list_places.proofs.Advances.{there}
-use Rattle.list_places.proofs.Entries.{long_enough}
-use Rattle.list_places.proofs.Goings.{list_of, still-one, still-plain, still-replace}
-use Rattle.list_places.proofs.Packs.{flat_own, ended-packed}
+use Rattle.list_places.proofs.Goings.{still-plain, still-replace}
+use Rattle.list_places.proofs.Packs.{flat_own}
 
 -- ---- what the upper layer is
 
@@ -38,7 +35,8 @@ upper-is e allow t routed left hop d =
     if exposes e (inner_kind t.inner) then Exposed family bytes
     else if is_allowed allow (inner_kind t.inner) then Delivered (on_way t routed left hop d)
     else Refused reasons.UpperLayer (inner_at t routed) in
-    ap (λ family. to family (from_place (on_way t routed left hop d) (inner_at t routed))) (own_family t.inner) ∙ ap (to t.inner) (inner-bytes t routed left hop d)
+    ap (λ family. to family (from_place (on_way t routed left hop d) (inner_at t routed))) (own_family t.inner)
+    ∙ ap (to t.inner) (inner-bytes t routed left hop d)
 
 -- behind the routing header, which USP takes out
 last-is : (e : SidEntry) (allow : List ℕ) (t : Tunnel) (left hop d : ℕ) (shows takes usp : Bool)
@@ -104,7 +102,8 @@ module _ (e : SidEntry) (allow : List ℕ) (t : Tunnel) (left hop d : ℕ) (stil
       → at_sid e allow (on_way t true left hop d) ≡ Refused reasons.BadSegments (header_len + segments_left_at)
   refuses-whole whole some =
       at-whole e allow t left hop d still whole
-      ∙ whole-refuses e (on_way t true left hop d) (header_in t left) (upper e allow t left hop d still true) (ne_eqb left 0 (omega arith)) stays
+      ∙ whole-refuses e (on_way t true left hop d) (header_in t left) (upper e allow t left hop d still true)
+      (ne_eqb left 0 (omega arith)) stays
 
   pub refuses-packed : is_replace e.csid ≡ true → is_ended (compression_of e) (header_with t left) left d ≡ false
       → at_sid e allow (on_way t true left hop d) ≡ Refused reasons.BadSegments (header_len + segments_left_at)

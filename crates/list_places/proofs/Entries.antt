@@ -1,9 +1,9 @@
 -- The entries of a segment list at a place, and the entry that is read there.
-use Rattle.std.proofs.Common.{◌≡◌, ℕ, zero, suc, ◌+◌, ◌-◌, ◌^◌, ◌<◌, ◌≤◌, Bool, true, false, ◌==◌, ◌&&◌, List, [], ◌∷◌, ◌++◌, length, map, reverse, All, refl, sym, ◌∙◌, ap, subst, arith, length-append}
-use Rattle.std.proofs.lemmas.Bool.{eq-eqb, ne_eqb}
+use Rattle.std.proofs.Common.{◌≡◌, ℕ, suc, ◌+◌, ◌≤◌, ◌==◌, ◌&&◌, List, [], ◌∷◌, ◌++◌, length, map, reverse, refl, ◌∙◌, ap, arith, length-append}
+use Rattle.std.proofs.lemmas.Bool.{ne_eqb}
 use Rattle.std.proofs.lemmas.List.{append_assoc, reverse-append, length-reverse, length-map}
-use Rattle.list_places.specs.Lists.{ListSid, Container, Full, Packed, prefix_of, value_of, values_of}
-use Rattle.list_places.specs.Places.{Place, InFull, InPacked, may_lack}
+use Rattle.list_places.specs.Lists.{ListSid, Container, prefix_of, value_of, values_of}
+use Rattle.list_places.specs.Places.{InFull, InPacked, may_lack}
 
 -- the last container in front of those that are written stands behind them
 pub listed_behind : (entries rest : List ℕ) (c : Container) (cs : List Container) → entries ≡ reverse (values_of (c ∷ cs)) ++ rest

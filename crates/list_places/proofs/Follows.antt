@@ -1,16 +1,15 @@
 -- From a place in a legal list to the next one.
-use Rattle.std.proofs.Common.{◌≡◌, ◌⊎◌, inl, inr, ℕ, zero, suc, ◌+◌, ◌-◌, ◌^◌, ◌<◌, ◌≤◌, Bool, true, false, not, ◌==◌, ◌&&◌, if◌then◌else◌, List, [], ◌∷◌, ◌++◌, length, reverse, All, Option, Some, None, refl, sym, ◌∙◌, ap, subst, arith, length-append}
-use Rattle.std.proofs.lemmas.Bool.{cases_Bool, eqb-true, eqb-false, eq-eqb}
+use Rattle.std.proofs.Common.{◌≡◌, ℕ, ◌^◌, ◌<◌, Bool, true, false, not, ◌==◌, ◌&&◌, if◌then◌else◌, List, [], ◌∷◌, ◌++◌, length, reverse, All, Option, Some, None, refl, sym, ◌∙◌, ap, subst}
+use Rattle.std.proofs.lemmas.Bool.{eqb-true, eq-eqb}
 use Rattle.std.proofs.lemmas.List.{append_assoc}
-use Rattle.std.proofs.lemmas.List.Elements.{All-head, All-tail, All-nil, All-cons}
-use Rattle.v6_addr.specs.Address.{Holds}
+use Rattle.std.proofs.lemmas.List.Elements.{All-head, All-tail}
 use Rattle.srv6_rules.specs.declared.sid.Csid.{Csid}
 use Rattle.srv6_rules.specs.declared.sid.Csid.TheVariants.{Plain, Next, Replace}
 use Rattle.srv6_rules.specs.Compressed.{csid_count}
 use Rattle.srv6_rules.specs.CompressedSteps.{is_replace}
-use Rattle.list_places.specs.Lists.{SidBlock, ListSid, Container, Full, Packed, csid_len_in, last_of, values_of, value_of, packed_value, HaveButLast, IsFull, IsPacked, asked_behind, asked_behind_packed, Follow, IsLegal, SuitsBlock, IsFlatSid, IsFlatContainer, IsFlatList}
-use Rattle.list_places.specs.Places.{Place, InFull, InPacked, entered, first_of, next_of, behind_of, own_of, may_lack, stays_routed, shifts_in, IsPlace, IsInFull, IsInPacked, IsListed}
-use Rattle.list_places.proofs.Sids.{all_left, all_right, block_of, full-rest, full-block}
+use Rattle.list_places.specs.Lists.{SidBlock, ListSid, Container, Full, Packed, csid_len_in, last_of, values_of, value_of, packed_value, IsFull, IsPacked, asked_behind, asked_behind_packed, Follow, IsFlatSid, IsFlatContainer, IsFlatList}
+use Rattle.list_places.specs.Places.{Place, InFull, InPacked, entered, next_of, may_lack, stays_routed, IsPlace, IsListed}
+use Rattle.list_places.proofs.Sids.{all_right, block_of, full-rest}
 use Rattle.list_places.proofs.Entries.{listed_behind}
 use Rattle.list_places.proofs.Packs.{flat_own}
 

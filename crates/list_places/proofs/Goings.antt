@@ -1,28 +1,26 @@
 -- A SID that goes on at a place that has a next one.
-use Rattle.std.proofs.Common.{◌≡◌, ℕ, zero, suc, ◌+◌, ◌-◌, ◌%◌, ◌^◌, ◌<◌, ◌≤◌, Bool, true, false, not, ◌==◌, ◌&&◌, nat_le, List, [], ◌∷◌, ◌++◌, length, map, reverse, All, Option, Some, None, refl, sym, ◌∙◌, ap, subst, arith, length-append, inl, inr}
-use Rattle.std.proofs.lemmas.Bool.{cases_Bool, eq-eqb, ne_eqb, eqb-true, eqb-false, lt-leb, le-leb}
-use Rattle.std.proofs.lemmas.List.{length-map, map-append, append_assoc}
-use Rattle.std.proofs.lemmas.List.Elements.{All-head, All-tail}
+use Rattle.std.proofs.Common.{◌≡◌, ℕ, suc, ◌+◌, ◌-◌, ◌%◌, ◌^◌, ◌<◌, ◌≤◌, Bool, true, false, not, ◌==◌, ◌&&◌, nat_le, List, [], ◌∷◌, ◌++◌, length, map, reverse, All, Some, refl, sym, ◌∙◌, ap, subst, arith}
+use Rattle.std.proofs.lemmas.Bool.{ne_eqb, lt-leb, le-leb}
+use Rattle.std.proofs.lemmas.List.Elements.{All-head}
 use Rattle.v6_addr.specs.Address.{PrefixValue}
-use Rattle.srv6_rules.specs.declared.sid.Csid.{Csid}
-use Rattle.srv6_rules.specs.declared.sid.Csid.TheVariants.{Plain, Next, Replace}
+use Rattle.srv6_rules.specs.declared.sid.Csid.TheVariants.{Plain, Replace}
 use Rattle.srv6_rules.specs.declared.sid.Reason.TheVariants as reasons
 use Rattle.srv6_rules.specs.declared.sid.SidEntry.{SidEntry}
 use Rattle.srv6_rules.specs.declared.compression.Compression.{Compression}
 use Rattle.srv6_rules.specs.Behaviours.{goes_on}
 use Rattle.srv6_rules.specs.Packet.{Packet}
 use Rattle.srv6_rules.specs.Srh.{Srh, entry_of}
-use Rattle.srv6_rules.specs.Compressed.{IsReplaceSid, IsContainer, argument_of, shift_of, container_of, csid_count, index_of}
-use Rattle.srv6_rules.specs.CompressedSteps.{Move, IsEntryOf, compression_of, csid_len_of, is_next, is_replace, shifts, shifted, is_ended, index_in, index_behind, move_of, to_entry}
-use Rattle.srv6_rules.specs.Endpoint.{Endpoint, Onward, Refused, next_csid, at_sid}
+use Rattle.srv6_rules.specs.Compressed.{IsReplaceSid, argument_of, shift_of, csid_count, index_of}
+use Rattle.srv6_rules.specs.CompressedSteps.{Move, IsEntryOf, compression_of, csid_len_of, is_next, is_replace, shifts, shifted, is_ended, index_in, index_behind, move_of}
+use Rattle.srv6_rules.specs.Endpoint.{Onward, Refused, next_csid, at_sid}
 use Rattle.srv6_rules.specs.Encapsulation.{segment_list}
-use Rattle.srv6_rules.proofs.PublicLaws.{argument-zero, container-shift, container-one, entry-next, entry-last, entry-first, entry-ended, index-back}
-use Rattle.list_places.specs.Lists.{SidBlock, ListSid, Container, Full, Packed, block_len, compression, csid_len, prefix_of, full_value, packed_value, value_of, values_of, IsFull, IsPacked, IsFlatSid}
-use Rattle.list_places.specs.Places.{Place, InFull, InPacked, Tunnel, header_with, on_way, form, destination_of, may_lack, IsInFull}
+use Rattle.srv6_rules.proofs.PublicLaws.{argument-zero, container-shift, entry-first, index-back}
+use Rattle.list_places.specs.Lists.{SidBlock, ListSid, Container, Full, Packed, block_len, compression, csid_len, prefix_of, full_value, packed_value, values_of, IsFull, IsPacked, IsFlatSid}
+use Rattle.list_places.specs.Places.{InFull, InPacked, Tunnel, header_with, on_way, form, may_lack}
 use Rattle.list_places.proofs.Sids.{full-container, full-first, full-block, full-value, full-one, len_in, width_in, replace_sid, packed-entry, count_positive}
 use Rattle.list_places.proofs.Steps.{at-shifts}
-use Rattle.list_places.proofs.Advances.{entry-is, onward-whole, onward-packed, tired-whole, tired-packed}
-use Rattle.list_places.proofs.Entries.{listed_behind, length_behind, long_enough, left-one, left-none, left-packed}
+use Rattle.list_places.proofs.Advances.{entry-is, onward-whole, onward-packed, tired-packed}
+use Rattle.list_places.proofs.Entries.{listed_behind, length_behind, long_enough, left-one, left-packed}
 
 abbrev pub list_of : Tunnel → List ℕ
 list_of t = segment_list t.encapsulation
@@ -78,7 +76,8 @@ shift-full s u us is flat =
 
 module _ (e : SidEntry) (allow : List ℕ) (t : Tunnel) (routed : Bool) (left hop : ℕ) (s u : ListSid) (us : List ListSid)
     (c : compression_of e ≡ compression s) (is : IsFull s (u ∷ us)) (flat : All IsFlatSid (s ∷ u ∷ us)) where
-  at-full : at_sid e allow (on_way t routed left hop (full_value s (u ∷ us))) ≡ next_csid e (on_way t routed left hop (full_value s (u ∷ us)))
+  at-full : at_sid e allow (on_way t routed left hop (full_value s (u ∷ us)))
+      ≡ next_csid e (on_way t routed left hop (full_value s (u ∷ us)))
   at-full =
       at-shifts e allow t routed left hop (full_value s (u ∷ us))
       (ap (λ x. shifts x (full_value s (u ∷ us))) c ∙ shifts-more s u us is flat)

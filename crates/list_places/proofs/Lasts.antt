@@ -1,25 +1,24 @@
 -- SIDs of nodes at places: where no segment is left, and those that do not go on.
-use Rattle.std.proofs.Common.{◌≡◌, ◌⊎◌, inl, inr, ℕ, zero, suc, ◌+◌, ◌-◌, ◌^◌, ◌<◌, ◌≤◌, Bool, true, false, true≢false, not, ◌==◌, ◌&&◌, ◌||◌, if◌then◌else◌, nat_le, List, [], ◌∷◌, ◌++◌, length, reverse, All, Option, Some, None, refl, sym, ◌∙◌, ap, subst, arith}
-use Rattle.std.proofs.lemmas.Bool.{cases_Bool, cases_lt, ne_eqb, eq-eqb}
+use Rattle.std.proofs.Common.{◌≡◌, inl, inr, ℕ, suc, ◌+◌, ◌-◌, Bool, true, false, not, ◌&&◌, if◌then◌else◌, List, [], ◌∷◌, ◌++◌, length, Some, None, refl, sym, ◌∙◌, ap, arith}
+use Rattle.std.proofs.lemmas.Bool.{cases_Bool, cases_lt, ne_eqb}
 use Rattle.std.proofs.lemmas.List.Elements.{All-head}
 use Rattle.srv6_rules.specs.declared.sid.Csid.{Csid}
 use Rattle.srv6_rules.specs.declared.sid.Csid.TheVariants.{Plain, Next, Replace}
 use Rattle.srv6_rules.specs.declared.sid.Family.{Family}
 use Rattle.srv6_rules.specs.declared.sid.Reason.TheVariants as reasons
 use Rattle.srv6_rules.specs.declared.sid.SidEntry.{SidEntry}
-use Rattle.srv6_rules.specs.declared.compression.Compression.{Compression}
 use Rattle.srv6_rules.specs.Behaviours.{goes_on, exposes}
 use Rattle.srv6_rules.specs.Packet.{Packet, header_len}
-use Rattle.srv6_rules.specs.Srh.{Srh, segments_left_at}
-use Rattle.srv6_rules.specs.CompressedSteps.{compression_of, is_replace, shifts, lacks_entry, is_ended, index_in}
-use Rattle.srv6_rules.specs.Endpoint.{Endpoint, Onward, Exposed, Delivered, Refused, is_allowed, at_sid}
+use Rattle.srv6_rules.specs.Srh.{segments_left_at}
+use Rattle.srv6_rules.specs.CompressedSteps.{compression_of, is_replace, shifts, is_ended}
+use Rattle.srv6_rules.specs.Endpoint.{Onward, Exposed, Delivered, Refused, is_allowed, at_sid}
 use Rattle.srv6_rules.specs.Policies.{inner_kind}
-use Rattle.list_places.specs.Lists.{SidBlock, ListSid, Container, compression, full_value, packed_value, values_of, IsFlatSid}
-use Rattle.list_places.specs.Places.{Place, InFull, InPacked, Tunnel, header_with, on_way, form, active, behind_of, next_of, first_of, entered, destination_of, may_lack, inner_at, at_the_end, StandsOn, IsPlace, IsInFull, IsInPacked, IsListed}
+use Rattle.list_places.specs.Lists.{ListSid, Container, compression, full_value, packed_value, IsFlatSid}
+use Rattle.list_places.specs.Places.{Place, InFull, InPacked, Tunnel, header_with, on_way, form, active, behind_of, next_of, entered, destination_of, may_lack, inner_at, at_the_end, StandsOn, IsPlace, IsInPacked, IsListed}
 use Rattle.list_places.proofs.Advances.{there}
 use Rattle.list_places.proofs.Entries.{long_enough}
 use Rattle.list_places.proofs.Goings.{list_of, still-one, still-plain}
-use Rattle.list_places.proofs.Packs.{flat_own, ended-packed}
+use Rattle.list_places.proofs.Packs.{ended-packed}
 use Rattle.list_places.proofs.Nexts.{Leads, leads-next}
 use Rattle.list_places.proofs.Ends.{ends-unrouted, ends-whole, ends-packed, refuses-whole, refuses-packed, never_next, still-last, still-stays, same_end, index-own}
 
@@ -113,8 +112,8 @@ pub is_there : (routed needs : Bool) → (routed ≡ false → needs ≡ true) �
 is_there true needs lacking never = refl
 is_there false needs lacking never = sym never ∙ lacking refl
 
-pub refuses-before : (e : SidEntry) (allow : List ℕ) (t : Tunnel) (x : Place) (routed : Bool) (hop : ℕ) (c : Container) (cs : List Container)
-    → goes_on e ≡ false → StandsOn e (active x) → (routed ≡ false → may_lack x ≡ true) → behind_of x ≡ c ∷ cs
+pub refuses-before : (e : SidEntry) (allow : List ℕ) (t : Tunnel) (x : Place) (routed : Bool) (hop : ℕ) (c : Container)
+    (cs : List Container) → goes_on e ≡ false → StandsOn e (active x) → (routed ≡ false → may_lack x ≡ true) → behind_of x ≡ c ∷ cs
     → at_sid e allow (form t x routed hop) ≡ Refused reasons.BadSegments (header_len + segments_left_at)
 refuses-before e allow t x routed hop c cs stays on lacking more =
     let n : length (behind_of x) ≡ suc (length cs) = ap length more in

@@ -10,4 +10,5 @@ pub mod Ends
 pub mod Lasts
 pub mod Starts
 pub mod Alongs
+pub mod Examples
 pub mod PublicLaws

@@ -1,24 +1,22 @@
 -- A SID that goes on leads from a place to the next one, in either form of the packet.
-use Rattle.std.proofs.Common.{◌≡◌, ◌⊎◌, inl, inr, ℕ, zero, suc, ◌+◌, ◌-◌, ◌^◌, ◌<◌, ◌≤◌, Bool, true, false, not, ◌==◌, ◌&&◌, if◌then◌else◌, List, [], ◌∷◌, ◌++◌, length, reverse, All, Option, Some, None, refl, sym, ◌∙◌, ap, subst, arith, length-append}
+use Rattle.std.proofs.Common.{◌≡◌, inl, inr, ℕ, suc, ◌+◌, ◌-◌, ◌<◌, ◌≤◌, Bool, true, false, not, ◌==◌, ◌&&◌, List, [], ◌∷◌, ◌++◌, length, reverse, Option, Some, refl, sym, ◌∙◌, ap, subst, arith, length-append}
 use Rattle.std.proofs.lemmas.Bool.{cases_Bool, eqb-true, eqb-false}
-use Rattle.std.proofs.lemmas.List.Elements.{All-head, All-tail}
-use Rattle.v6_addr.specs.Address.{Holds}
-use Rattle.srv6_rules.specs.declared.sid.Csid.{Csid}
-use Rattle.srv6_rules.specs.declared.sid.Csid.TheVariants.{Plain, Next, Replace}
+use Rattle.std.proofs.lemmas.List.Elements.{All-head}
+use Rattle.srv6_rules.specs.declared.sid.Csid.TheVariants.{Replace}
 use Rattle.srv6_rules.specs.declared.sid.Reason.TheVariants as reasons
 use Rattle.srv6_rules.specs.declared.sid.SidEntry.{SidEntry}
 use Rattle.srv6_rules.specs.declared.compression.Compression.{Compression}
 use Rattle.srv6_rules.specs.Behaviours.{goes_on}
 use Rattle.srv6_rules.specs.Compressed.{csid_count}
-use Rattle.srv6_rules.specs.CompressedSteps.{compression_of, is_replace, shifts, index_behind}
-use Rattle.srv6_rules.specs.Endpoint.{Endpoint, Onward, Refused, at_sid}
-use Rattle.list_places.specs.Lists.{SidBlock, ListSid, Container, Full, Packed, compression, csid_len, csid_len_in, full_value, packed_value, values_of, asked_behind, asked_behind_packed, HaveButLast, IsFlatSid, IsFlatContainer}
-use Rattle.list_places.specs.Places.{Place, InFull, InPacked, Tunnel, on_way, form, active, next_of, entered, destination_of, may_lack, stays_routed, IsPlace, IsInFull, IsInPacked, IsListed, Along}
-use Rattle.list_places.proofs.Sids.{in_block, block_of, full-holds, full-one}
+use Rattle.srv6_rules.specs.CompressedSteps.{compression_of, is_replace, shifts}
+use Rattle.srv6_rules.specs.Endpoint.{Onward, Refused, at_sid}
+use Rattle.list_places.specs.Lists.{SidBlock, ListSid, Container, Full, Packed, compression, csid_len, full_value, packed_value, values_of, asked_behind, asked_behind_packed, HaveButLast, IsFlatSid, IsFlatContainer}
+use Rattle.list_places.specs.Places.{Place, InFull, InPacked, Tunnel, on_way, form, active, next_of, entered, destination_of, may_lack, stays_routed, IsPlace, IsInFull, IsInPacked, IsListed}
+use Rattle.list_places.proofs.Sids.{in_block, full-one}
 use Rattle.list_places.proofs.Advances.{tired-whole}
 use Rattle.list_places.proofs.Goings.{list_of, AreAddresses, still-one, still-plain, onward-shift, tired-shift, whole-to_full, onward-to_packed, tired-to_packed}
-use Rattle.list_places.proofs.Packs.{flat_own, own_width, room, packed-holds, onward-in_packed, onward-to_full, tired-by}
-use Rattle.list_places.proofs.Follows.{asked-some, asked-none, asked-packed, asked-not_full, asked-kind, enter-full, enter-packed, to-place, next-place, next-listed, next-lacking}
+use Rattle.list_places.proofs.Packs.{flat_own, own_width, room, onward-in_packed, onward-to_full, tired-by}
+use Rattle.list_places.proofs.Follows.{asked-some, asked-none, asked-packed, asked-not_full, asked-kind, enter-full, enter-packed, to-place}
 
 -- what a SID does with the packet at a place that has a next one: with a hop limit above 1 it makes the packet at that one, and refuses a
 -- lower one
@@ -52,7 +50,8 @@ module _ (e : SidEntry) (allow : List ℕ) (t : Tunnel) (goes : goes_on e ≡ tr
   is-whole : (s : ListSid) → compression_of e ≡ compression s → is_replace s.csid ≡ false → is_replace e.csid ≡ false
   is-whole s c whole = ap (λ (x : Compression). is_replace x.kind) c ∙ whole
 
-  still-as : (s : ListSid) (d : ℕ) → compression_of e ≡ compression s → shifts (compression s) d ≡ false → shifts (compression_of e) d ≡ false
+  still-as : (s : ListSid) (d : ℕ) → compression_of e ≡ compression s → shifts (compression s) d ≡ false
+      → shifts (compression_of e) d ≡ false
   still-as s d c still = ap (λ x. shifts x d) c ∙ still
 
   -- from the last SID of a full container

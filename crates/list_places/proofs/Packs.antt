@@ -1,24 +1,24 @@
 -- A packet at a SID of a REPLACE container.
-use Rattle.std.proofs.Common.{◌≡◌, ℕ, zero, suc, ◌+◌, ◌-◌, ◌^◌, ◌<◌, ◌≤◌, Bool, true, false, not, ◌==◌, ◌&&◌, List, [], ◌∷◌, ◌++◌, length, map, reverse, All, Option, Some, None, refl, sym, ◌∙◌, ap, subst, arith, length-append}
+use Rattle.std.proofs.Common.{◌≡◌, ℕ, suc, ◌+◌, ◌-◌, ◌<◌, ◌≤◌, Bool, true, false, not, ◌==◌, ◌&&◌, List, [], ◌∷◌, ◌++◌, length, map, reverse, All, Some, refl, sym, ◌∙◌, ap, subst, arith, length-append}
 use Rattle.std.proofs.lemmas.Bool.{ne_eqb}
 use Rattle.std.proofs.lemmas.List.{length-map, map-append}
 use Rattle.std.proofs.lemmas.List.Elements.{All-head, All-tail}
 use Rattle.v6_addr.specs.Address.{PrefixValue, Holds}
-use Rattle.srv6_rules.specs.declared.sid.Csid.TheVariants.{Plain, Next, Replace}
+use Rattle.srv6_rules.specs.declared.sid.Csid.TheVariants.{Replace}
 use Rattle.srv6_rules.specs.declared.sid.Reason.TheVariants as reasons
 use Rattle.srv6_rules.specs.declared.sid.SidEntry.{SidEntry}
 use Rattle.srv6_rules.specs.declared.compression.Compression.{Compression}
 use Rattle.srv6_rules.specs.Behaviours.{goes_on}
 use Rattle.srv6_rules.specs.Srh.{Srh, entry_of}
 use Rattle.srv6_rules.specs.Compressed.{IsReplaceSid, csid_count}
-use Rattle.srv6_rules.specs.CompressedSteps.{Move, IsEntryOf, compression_of, csid_len_of, is_replace, shifts, is_ended, index_behind, move_of, to_entry}
-use Rattle.srv6_rules.specs.Endpoint.{Endpoint, Onward, Refused, at_sid}
+use Rattle.srv6_rules.specs.CompressedSteps.{Move, IsEntryOf, compression_of, is_replace, shifts, is_ended, index_behind, move_of}
+use Rattle.srv6_rules.specs.Endpoint.{Onward, Refused, at_sid}
 use Rattle.srv6_rules.proofs.PublicLaws.{entry-next, entry-last, entry-ended, index-holds}
-use Rattle.list_places.specs.Lists.{SidBlock, ListSid, Container, Full, Packed, compression, csid_len, csid_len_in, prefix_of, full_value, packed_value, value_of, values_of, IsPacked, IsFlatSid}
-use Rattle.list_places.specs.Places.{Place, InFull, InPacked, Tunnel, header_with, on_way, form, destination_of, may_lack, IsInPacked}
-use Rattle.list_places.proofs.Sids.{all_left, all_right, width_in, replace_sid, packed-entry}
+use Rattle.list_places.specs.Lists.{ListSid, Container, Full, compression, csid_len, prefix_of, full_value, packed_value, values_of, IsFlatSid}
+use Rattle.list_places.specs.Places.{InFull, InPacked, Tunnel, header_with, on_way, form, destination_of, may_lack, IsInPacked}
+use Rattle.list_places.proofs.Sids.{all_right, width_in, replace_sid, packed-entry}
 use Rattle.list_places.proofs.Advances.{entry-is, onward-packed, tired-packed}
-use Rattle.list_places.proofs.Entries.{listed_behind, length_behind, long_enough, left-one, left-none, left-packed}
+use Rattle.list_places.proofs.Entries.{listed_behind, length_behind, long_enough, left-none, left-packed}
 use Rattle.list_places.proofs.Goings.{list_of, AreAddresses, still-replace}
 
 -- ---- its SIDs
@@ -120,7 +120,8 @@ module _ (t : Tunnel) (bs : List ListSid) (s u : ListSid) (us : List ListSid) (c
       } in
       let last : Bool = (length cs == 0) && (length (map prefix_of us) == 0) in
       ap (λ n. move_of c h (s.prefix.value + index_behind c n)) (sym long)
-      ∙ entry-next c is.block.prefix s.prefix u.prefix h before (map prefix_of us) (own_entry t bs s (u ∷ us) cs rest is list all (length cs))
+      ∙ entry-next c is.block.prefix s.prefix u.prefix h before (map prefix_of us)
+      (own_entry t bs s (u ∷ us) cs rest is list all (length cs))
       ∙ ap (λ n. to n (csid_len s) last) more
       ∙ ap (λ w. to (length (bs ++ s ∷ [])) w last) (own_width bs s (u ∷ us) cs is ∙ sym width_u)
       ∙ ap (to (length (bs ++ s ∷ [])) (csid_len u)) (left-packed (bs ++ s ∷ []) u us cs)

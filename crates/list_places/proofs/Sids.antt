@@ -1,16 +1,15 @@
 -- SIDs of a flat network in containers.
-use Rattle.std.proofs.Common.{◌≡◌, ◌⊎◌, inl, inr, ℕ, ◌+◌, ◌-◌, ◌*◌, ◌/◌, ◌^◌, ◌<◌, ◌≤◌, List, [], ◌∷◌, ◌++◌, length, map, All, Option, Some, None, refl, sym, ◌∙◌, ap, subst, arith, length-append}
-use Rattle.std.proofs.lemmas.List.{length-map, map-append}
-use Rattle.std.proofs.lemmas.List.Elements.{All-nil, All-cons, All-head, All-tail, All-append, All-map}
-use Rattle.v6_addr.specs.Address.{PrefixValue, IsPrefix, Holds}
+use Rattle.std.proofs.Common.{◌≡◌, inl, inr, ℕ, ◌+◌, ◌-◌, ◌/◌, ◌^◌, ◌<◌, ◌≤◌, List, [], ◌∷◌, ◌++◌, length, map, All, Option, Some, None, refl, sym, ◌∙◌, ap, subst, arith}
+use Rattle.std.proofs.lemmas.List.{length-map}
+use Rattle.std.proofs.lemmas.List.Elements.{All-nil, All-cons, All-head, All-tail, All-map}
+use Rattle.v6_addr.specs.Address.{Holds}
 use Rattle.v6_addr.proofs.PublicLaws.{Holds_own_value}
 use Rattle.srv6_rules.specs.declared.sid.Csid.{Csid}
 use Rattle.srv6_rules.specs.declared.sid.Csid.TheVariants.{Plain, Next, Replace}
-use Rattle.srv6_rules.specs.declared.compression.Compression.{Compression}
-use Rattle.srv6_rules.specs.Compressed.{IsSidOf, IsReplaceSid, FitIn, IsContainer, IsCsidLen, csid_of, csid_count, container_of, packed_entry}
-use Rattle.srv6_rules.specs.CompressedSteps.{IsEntryOf, csid_len_of, index_behind}
-use Rattle.srv6_rules.proofs.PublicLaws.{container-holds, container-address, container-one, entry-address, index-holds}
-use Rattle.list_places.specs.Lists.{SidBlock, ListSid, Container, Full, Packed, block_len, csid_len_in, compression, csid_len, csid_bits, last_of, prefix_of, full_value, packed_value, HaveButLast, IsFull, IsPacked, IsInBlock, SuitsBlock, IsFlatSid}
+use Rattle.srv6_rules.specs.Compressed.{IsReplaceSid, FitIn, IsContainer, IsCsidLen, csid_of, csid_count, container_of, packed_entry}
+use Rattle.srv6_rules.specs.CompressedSteps.{IsEntryOf}
+use Rattle.srv6_rules.proofs.PublicLaws.{container-holds, container-address, container-one}
+use Rattle.list_places.specs.Lists.{SidBlock, ListSid, block_len, compression, csid_len, csid_bits, prefix_of, full_value, packed_value, IsFull, IsPacked, IsInBlock, SuitsBlock, IsFlatSid}
 
 -- ---- lists
 
@@ -57,10 +56,12 @@ fit_in b room [] one flat fits = tt
 fit_in b room (t ∷ ts) one flat fits =
     let e = All-head (λ (t : ListSid). t.block ≡ Some b) t ts one in
     let len = len_in t b e in
-    let inside = in_block t b (All-head IsFlatSid t ts flat) e in
-    (inside.sid_of, omega arith,
-    fit_in b (room - (t.prefix.len - b.prefix.len)) ts (All-tail (λ (t : ListSid). t.block ≡ Some b) t ts one)
-    (All-tail IsFlatSid t ts flat) (omega arith))
+    let inside = in_block t b (All-head IsFlatSid t ts flat) e in (
+      inside.sid_of,
+      omega arith,
+      fit_in b (room - (t.prefix.len - b.prefix.len)) ts (All-tail (λ (t : ListSid). t.block ≡ Some b) t ts one)
+          (All-tail IsFlatSid t ts flat) (omega arith),
+    )
 
 pub full-container : (b : SidBlock) (s : ListSid) (ss : List ListSid) → s.block ≡ Some b → IsFull s ss → All IsFlatSid (s ∷ ss)
     → IsContainer b.prefix (map prefix_of (s ∷ ss))
@@ -68,9 +69,12 @@ full-container b s ss e is flat =
     let inside = in_block s b (All-head IsFlatSid s ss flat) e in
     let longer : b.prefix.len < s.prefix.len = inside.sid_of.inside.0 in
     let fits : s.prefix.len + csid_bits ss ≤ 128 = is.fits in
-    let P : Option SidBlock → Type 0 = λ o. All (λ (t : ListSid). t.block ≡ o) ss in
-    (inside.sid_of, omega arith,
-    fit_in b (128 - b.prefix.len - (s.prefix.len - b.prefix.len)) ss (subst P e is.one_block) (All-tail IsFlatSid s ss flat) (omega arith))
+    let P : Option SidBlock → Type 0 = λ o. All (λ (t : ListSid). t.block ≡ o) ss in (
+      inside.sid_of,
+      omega arith,
+      fit_in b (128 - b.prefix.len - (s.prefix.len - b.prefix.len)) ss (subst P e is.one_block)
+          (All-tail IsFlatSid s ss flat) (omega arith),
+    )
 
 pub full-first : (s t : ListSid) (ts : List ListSid) → IsFull s (t ∷ ts) → s.csid ≡ Next
 full-first s t ts is = is.next.0
@@ -128,7 +132,8 @@ full-address s (t ∷ ts) is flat =
 
 -- ---- REPLACE containers
 
-pub replace_sid : (s : ListSid) (b : SidBlock) → IsFlatSid s → s.block ≡ Some b → b.kind ≡ Replace → IsReplaceSid b.prefix b.csid_len s.prefix
+pub replace_sid : (s : ListSid) (b : SidBlock) → IsFlatSid s → s.block ≡ Some b → b.kind ≡ Replace
+    → IsReplaceSid b.prefix b.csid_len s.prefix
 replace_sid s b flat e kind = (in_block s b flat e).packed kind
 
 replace_sids : (b : SidBlock) (ss : List ListSid) → All (λ (t : ListSid). t.block ≡ Some b) ss → All IsFlatSid ss → b.kind ≡ Replace

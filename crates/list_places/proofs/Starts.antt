@@ -1,5 +1,5 @@
 -- The packet as it is made, at the first SID of its list.
-use Rattle.std.proofs.Common.{◌≡◌, ◌⊎◌, inl, inr, ℕ, zero, suc, ◌+◌, ◌-◌, ◌/◌, ◌%◌, ◌^◌, ◌<◌, ◌≤◌, Bool, true, false, not, ◌==◌, ◌&&◌, ◌||◌, if◌then◌else◌, nat_lt, List, [], ◌∷◌, ◌++◌, length, map, drop, reverse, slice_index, All, Option, Some, None, refl, sym, ◌∙◌, ap, subst, arith}
+use Rattle.std.proofs.Common.{◌≡◌, ℕ, suc, ◌+◌, ◌-◌, ◌/◌, ◌^◌, ◌<◌, ◌≤◌, Bool, true, false, not, ◌||◌, if◌then◌else◌, nat_lt, List, [], ◌∷◌, ◌++◌, length, map, drop, reverse, slice_index, All, Option, Some, None, refl, sym, ◌∙◌, ap, subst, arith}
 use Rattle.std.proofs.lemmas.Bool.{lt-ltb}
 use Rattle.std.proofs.lemmas.Nat.{mod_below, pow_pos}
 use Rattle.std.proofs.lemmas.List.{append-nil, reverse-append, length-map}
@@ -8,15 +8,13 @@ use Rattle.v6_addr.specs.Address.{PrefixValue, field_of, Holds}
 use Rattle.srv6_rules.specs.declared.sid.Csid.TheVariants.{Replace}
 use Rattle.srv6_rules.specs.declared.sid.Family.{Family}
 use Rattle.srv6_rules.specs.Packet.{Packet}
-use Rattle.srv6_rules.specs.Srh.{srh_spelling}
-use Rattle.srv6_rules.specs.Chain.{routing}
-use Rattle.srv6_rules.specs.Compressed.{IsReplaceSid, csid_of, csid_count}
+use Rattle.srv6_rules.specs.Compressed.{csid_of, csid_count}
 use Rattle.srv6_rules.specs.Encapsulation.{Encapsulation, segment_list, has_segment_routing}
-use Rattle.srv6_rules.specs.Policies.{inner_kind, pushed_round}
+use Rattle.srv6_rules.specs.Policies.{pushed_round}
 use Rattle.srv6_rules.proofs.PublicLaws.{entry-address}
-use Rattle.list_places.specs.Lists.{SidBlock, ListSid, Container, Full, Packed, block_len, csid_len, csid_len_in, last_of, prefix_of, sids_of, full_value, packed_value, value_of, values_of, IsPacked, asked_behind, asked_behind_packed, Follow, IsLegal, IsFlatSid, IsFlatContainer, IsFlatList}
-use Rattle.list_places.specs.Places.{Place, InFull, InPacked, Tunnel, header_with, on_way, form, entered, first_of, next_of, active, destination_of, may_lack, IsPlace, IsInFull, IsInPacked, IsListed, Along}
-use Rattle.list_places.proofs.Sids.{width_in, replace_sid, full-address, full-holds, count_positive}
+use Rattle.list_places.specs.Lists.{SidBlock, ListSid, Container, Full, Packed, last_of, prefix_of, full_value, packed_value, value_of, values_of, IsPacked, asked_behind, asked_behind_packed, Follow, IsLegal, IsFlatSid, IsFlatContainer, IsFlatList}
+use Rattle.list_places.specs.Places.{Place, InFull, InPacked, Tunnel, on_way, form, entered, first_of, active, destination_of, may_lack, IsPlace, IsListed, Along}
+use Rattle.list_places.proofs.Sids.{replace_sid, full-address, full-holds}
 use Rattle.list_places.proofs.Follows.{asked-packed, asked-kind, enter-full, enter-packed, entered-place}
 use Rattle.list_places.proofs.Packs.{packed-holds}
 use Rattle.list_places.proofs.Goings.{AreAddresses}

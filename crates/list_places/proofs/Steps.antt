@@ -1,23 +1,19 @@
 -- What a SID does with a packet that is on its way in a tunnel.
-use Rattle.std.proofs.Common.{◌≡◌, ℕ, zero, suc, ◌+◌, ◌-◌, ◌*◌, ◌/◌, ◌^◌, ◌<◌, ◌≤◌, Bool, true, false, not, cond, ◌==◌, ◌&&◌, ◌||◌, nat_lt, nat_le, if◌then◌else◌, List, [], ◌∷◌, ◌++◌, length, take, drop, flat_map, slice_index, All, Option, Some, None, refl, sym, ◌∙◌, ap, subst, arith, inl, inr}
-use Rattle.std.proofs.lemmas.Bool.{cases_Bool, or_from, le-ltb, le-leb, lt-leb, eq-eqb, ne_eqb}
-use Rattle.std.proofs.lemmas.List.{append-nil, drop_all, drop_at, take_at, get_or-append_right}
+use Rattle.std.proofs.Common.{◌≡◌, ℕ, ◌+◌, ◌-◌, ◌*◌, Bool, true, false, if◌then◌else◌, List, [], ◌∷◌, ◌++◌, length, take, drop, flat_map, refl, sym, ◌∙◌, ap, arith}
+use Rattle.std.proofs.lemmas.List.{append-nil, drop_at, take_at}
 use Rattle.srv6_rules.specs.declared.numbers.TheConstants.{NEXT_HEADER_AT}
 use Rattle.srv6_rules.specs.declared.sid.Family.{Family}
 use Rattle.srv6_rules.specs.declared.sid.Family.TheVariants.{V6, V4}
-use Rattle.srv6_rules.specs.declared.sid.Reason.TheVariants as reasons
 use Rattle.srv6_rules.specs.declared.sid.SidEntry.{SidEntry}
-use Rattle.srv6_rules.specs.declared.compression.Compression.{Compression}
-use Rattle.srv6_rules.specs.Behaviours.{goes_on, exposes, family_inside}
-use Rattle.srv6_rules.specs.Packet.{Packet, header_len, two_bytes, two_number, address_bytes, address_number}
-use Rattle.srv6_rules.specs.Srh.{Srh, srh_of, srh_spelling, entry_of, tlv_bytes, segments_left_at}
-use Rattle.srv6_rules.specs.Areas.{Fault, area_fault, tlv_fault, tlvs_fault}
-use Rattle.srv6_rules.specs.Chain.{ChainPlace, Header, Chain, Upper, routing, is_extension, behind, from_place, chain_at, chain_of, without}
-use Rattle.srv6_rules.specs.CompressedSteps.{Move, ReplaceStep, Moved, AtEnd, compression_of, is_replace, shifts, shifted, lacks_entry, is_ended, has_bad_list, index_in, move_of, moved, replace_step, is_at_end, unless_dropped}
-use Rattle.srv6_rules.specs.Endpoint.{Endpoint, Onward, Exposed, Delivered, Refused, TakesWhole, as_in, outcome_without, after_step, after_last, has_bad_segments, advanced, next_segment, next_csid, shifts_at, over_headers, is_allowed, upper_layer, at_header, at_upper, at_last_upper, at_end, at_sid, at_whole_segments, at_packed_segments, by_replace_step}
+use Rattle.srv6_rules.specs.Behaviours.{family_inside}
+use Rattle.srv6_rules.specs.Packet.{Packet, header_len, two_bytes, two_number, address_bytes}
+use Rattle.srv6_rules.specs.Srh.{srh_of, srh_spelling}
+use Rattle.srv6_rules.specs.Chain.{ChainPlace, Header, Chain, Upper, routing, is_extension, behind, from_place, chain_of, without}
+use Rattle.srv6_rules.specs.CompressedSteps.{compression_of, is_replace, shifts}
+use Rattle.srv6_rules.specs.Endpoint.{Endpoint, Onward, Exposed, Delivered, Refused, as_in, outcome_without, next_csid, over_headers, at_header, at_upper, at_last_upper, at_end, at_sid, at_whole_segments, at_packed_segments}
 use Rattle.srv6_rules.specs.Encapsulation.{segment_list}
 use Rattle.srv6_rules.specs.Policies.{inner_kind}
-use Rattle.srv6_rules.proofs.PublicLaws.{length-entries, entry-at, chain_of-start, chain_at-spelled, chain_at-upper, at_header-shifts, at_header-whole, at_header-packed, whole-last, whole-steps, whole-refuses, packed-steps, packed-last, packed-refuses}
+use Rattle.srv6_rules.proofs.PublicLaws.{length-entries, chain_of-start, chain_at-spelled, chain_at-upper, at_header-shifts, at_header-whole, at_header-packed}
 use Rattle.list_places.specs.Places.{Tunnel, header_with, on_way, inner_at}
 
 -- ---- the packet's chain
@@ -69,7 +65,8 @@ module _ (t : Tunnel) (left hop destination : ℕ) where
       let p : Packet = on_way t true left hop destination in
       let q : ChainPlace =
       record { at = header_len + length (srh_spelling (header_with t left)); kind = inner_kind t.inner; named_at = header_len } in
-      let size : header_len + length (srh_spelling (header_with t left)) ≡ inner_at t true = (let n = length-header t left in omega arith) in
+      let size : header_len + length (srh_spelling (header_with t left)) ≡ inner_at t true =
+      (let n = length-header t left in omega arith) in
       chain_of-start p
       ∙ chain_at-spelled p header_len NEXT_HEADER_AT (header_with t left) t.bytes (omega arith) (length-body t left) refl
       ∙ ap (behind (header_in t left)) (chain_at-upper p q (omega arith) (upper_kind t.inner))
@@ -147,7 +144,8 @@ at-shifts s allow t false left hop destination is = at-bare s allow t left hop d
 
 -- ---- where it doesn't shift
 
-module _ (s : SidEntry) (allow : List ℕ) (t : Tunnel) (left hop destination : ℕ) (still : shifts (compression_of s) destination ≡ false) where
+module _ (s : SidEntry) (allow : List ℕ) (t : Tunnel) (left hop destination : ℕ)
+    (still : shifts (compression_of s) destination ≡ false) where
   -- what comes of the upper layer
   abbrev pub upper : Bool → Endpoint
   upper routed = at_last_upper s allow (on_way t routed left hop destination) (upper_at t routed)

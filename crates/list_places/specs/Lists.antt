@@ -1,6 +1,6 @@
 -- Segment lists over compressed SIDs (RFC 9800 section 4): containers of 16 bytes, each of whole SIDs or of CSIDs, their values, and which
 -- lists are legal. Lengths count bits, and an address has 128.
-use Rattle.std.specs.Prelude.{◌≡◌, ℕ, ◌+◌, ◌-◌, ◌≤◌, Bool, true, false, ◌==◌, ◌&&◌, if◌then◌else◌, List, [], ◌∷◌, ◌++◌, length, map, All, Option, Some, None, ◌⊎◌}
+use Rattle.std.specs.Prelude.{◌≡◌, ℕ, ◌+◌, ◌-◌, ◌≤◌, ◌==◌, if◌then◌else◌, List, [], ◌∷◌, ◌++◌, length, map, All, Option, Some, None, ◌⊎◌}
 use Rattle.v6_addr.specs.Address.{PrefixValue, IsPrefix}
 use Rattle.srv6_rules.specs.declared.sid.Csid.{Csid}
 use Rattle.srv6_rules.specs.declared.sid.Csid.TheVariants.{Plain, Next, Replace}
@@ -127,8 +127,8 @@ IsLegal (c ∷ cs) = Follow None (c ∷ cs)
 
 -- ---- what a flat network adds
 
--- a SID in a block: it lies strictly inside, and its CSID isn't 0; if it is compressed it is as the block's SIDs are; and in a REPLACE block
--- it has a CSID as long as the block's
+-- a SID in a block: it lies strictly inside, and its CSID isn't 0; if it is compressed it is as the block's SIDs are; and in a REPLACE
+-- block it has a CSID as long as the block's
 pub record IsInBlock (b : SidBlock) (s : ListSid) : Type 0 where
   pub sid_of : IsSidOf b.prefix s.prefix
   pub kind : (s.csid ≡ Plain) ⊎ (s.csid ≡ b.kind)

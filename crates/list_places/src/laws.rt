@@ -12,7 +12,8 @@ ghost use Rattle.srv6_rules.specs.declared.sid.Csid.TheVariants.{Plain, Replace}
 ghost use Rattle.srv6_rules.specs.declared.sid.Family.{Family};
 ghost use Rattle.srv6_rules.specs.declared.sid.Reason.TheVariants.{BadSegments, HopLimit};
 ghost use Rattle.srv6_rules.specs.declared.sid.SidEntry.{SidEntry};
-ghost use Rattle.list_places.specs.Executions.{Execution, Executes, StandInOrder, after_next};
+ghost use Rattle.list_places.specs.Examples.{next_list, next_values, next_destinations, replace_list, replace_values, replace_destinations};
+ghost use Rattle.list_places.specs.Executions.{Execution, Executes, StandInOrder, after_next, destinations_from};
 ghost use Rattle.list_places.specs.Lists.{Container, IsFlatList, IsLegal, sids_in, values_of};
 ghost use Rattle.list_places.specs.Places.{Along, IsPlace, Place, StandsOn, Tunnel, active, at_the_end, behind_of, destination_of, first_of, form, may_lack, next_of, sids_from, stays_routed};
 
@@ -88,9 +89,9 @@ pub fn sid_leads_to_the_next_place()
         → (1 < hop) × (y : Place) × (next_of x ≡ Some y) × Along t y (hop - 1) q }
 {}
 
-/// At the last SID of a list a SID that exposes packets of the inner family exposes the packet
-/// inside, whatever the hop limit, as its behaviour or USD has it. One that does not has that packet
-/// as the upper layer, with USP behind no routing header (RFC 8986 sections 4.1 to 4.8, 4.16.2 and
+/// At the last SID of a list a SID that exposes packets of the inner family, by its behaviour or by
+/// USD, exposes the packet inside, whatever the hop limit. Another has that packet as the upper
+/// layer, with USP behind no segment routing header (RFC 8986 sections 4.1 to 4.8, 4.16.2 and
 /// 4.16.3).
 pub fn last_sid_has_the_packet_inside()
     ensures exposed { (s : SidEntry) (allow : List ℕ) (t : Tunnel) (x : Place) (hop : ℕ)
@@ -101,10 +102,10 @@ pub fn last_sid_has_the_packet_inside()
         → at_sid s allow p ≡ at_the_end s allow t x at.routed hop }
 {}
 
-/// A packet is exposed in the last container alone, and it is the packet inside. A SID that does not
-/// go on refuses a packet before the last container, for Segments Left; inside it one that is not
-/// compressed takes the packet wherever it stands, and one of REPLACE-CSID only at the last SID (RFC
-/// 8986 sections 4.4 to 4.8, RFC 9800 section 4.2).
+/// A packet is exposed in the last container alone, and what is exposed is the packet inside. A SID
+/// that does not go on refuses a packet before the last container, for Segments Left; inside it one
+/// that is not compressed takes the packet wherever it stands, and one of REPLACE-CSID only at the
+/// last SID (RFC 8986 sections 4.4 to 4.8, RFC 9800 section 4.2).
 pub fn packet_is_exposed_in_the_last_container()
     ensures only { (s : SidEntry) (allow : List ℕ) (t : Tunnel) (x : Place) (hop : ℕ)
         (p : Packet) (family : Family) (bytes : List ℕ) → Along t x hop p
@@ -135,4 +136,16 @@ pub fn executions_go_along_the_list()
         → Along t x p.hop_limit p → StandInOrder row (sids_from x) → Executes p row q
         → (z : Place) × (after_next (length row) x ≡ Some z) × Along t z q.hop_limit q
         × (q.hop_limit + length row ≤ p.hop_limit) }
+{}
+
+/// Two lists by hand: a NEXT-CSID container of four SIDs, and a SID of REPLACE-CSID with a container
+/// of three CSIDs behind it. Both are legal, and their SIDs are as in a flat network; their values,
+/// and the destinations on the way, are the ones written out (RFC 9800 sections 4.1 and 4.2).
+pub fn lists_by_hand_are_legal()
+    ensures next { IsLegal next_list × IsFlatList next_list }
+    ensures next_values { values_of next_list ≡ next_values }
+    ensures next_destinations { destinations_from 4 (first_of next_list) ≡ next_destinations }
+    ensures replace { IsLegal replace_list × IsFlatList replace_list }
+    ensures replace_values { values_of replace_list ≡ replace_values }
+    ensures replace_destinations { destinations_from 4 (first_of replace_list) ≡ replace_destinations }
 {}
