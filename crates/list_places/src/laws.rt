@@ -138,8 +138,8 @@ pub fn executions_go_along_the_list()
         × (q.hop_limit + length row ≤ p.hop_limit) }
 {}
 
-/// Two lists by hand: a NEXT-CSID container of four SIDs, and a SID of REPLACE-CSID with a container
-/// of three CSIDs behind it. Both are legal, and their SIDs are as in a flat network; their values,
+/// Two lists by hand: a NEXT-CSID container of four SIDs; and a SID of REPLACE-CSID with a container
+/// of three CSIDs behind it. Both are legal, and their SIDs are as in a flat network. Their values,
 /// and the destinations on the way, are the ones written out (RFC 9800 sections 4.1 and 4.2).
 pub fn lists_by_hand_are_legal()
     ensures next { IsLegal next_list × IsFlatList next_list }
