@@ -89,6 +89,15 @@ impl<'a> Ip6View<'a> {
         }
     }
 
+    /// Bytes can spell the packet: its fields fit their widths. An empty function, for the callers'
+    /// proofs.
+    #[tactic(auto, using(crate::proofs::PacketBytes::readings))]
+    pub fn keeps_rules(&self)
+        ensures { IsSpellable self.now }
+    {
+        let _ = &self.bytes;
+    }
+
     /// The traffic class.
     #[tactic(auto, unfolding(srv6_rules::specs::Packet::packet_at))]
     pub fn traffic_class(&self) -> u8

@@ -1,5 +1,0 @@
-use Rattle.srv6_rules.specs.Endpoint.{unknown_routing}
-use Rattle.node_stage.proofs.endpoint.fault_of_header.Goals as goal
-
-pub returns : goal.returns
-returns c = c.header_fault.ensures unknown_routing
