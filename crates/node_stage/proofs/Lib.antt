@@ -1,5 +1,3 @@
-pub mod SpellingLemmas
-pub mod ChainLemmas
 pub mod ReadingLemmas
-pub mod EndpointLemmas
+pub mod ReadingLemmas4
 pub mod StageLemmas
