@@ -1,0 +1,1 @@
+//! Packets at SIDs that decapsulate; their bytes are laid out by hand.
