@@ -7,6 +7,7 @@ pub mod EntryLemmas
 pub mod IsBestLemmas
 pub mod FlatLemmas
 pub mod BlockLemmas
+pub mod CompressionLaws
 pub mod AlikeLemmas
 pub mod GatheredLemmas
 pub mod JudgingLemmas

@@ -34,6 +34,7 @@ pub use laws::{
     best_match_is_one, blocks_hold_their_sids, entries_are_its_own,
     flat_networks_treat_addresses_alike, matched_sids_hold_the_address,
     no_fault_is_keeping_the_rules, places_are_of_passing_items, rules_mean_their_facts,
+    sids_suit_their_compression,
 };
 pub use limits::{
     BLOCK_UNIT, DEFAULT_HOP_LIMIT, LAST_FLOW_LABEL, LAST_OCTET, LAST_TABLE, LONG_CSID,
