@@ -8,9 +8,13 @@
 mod address;
 mod headers;
 mod outcome;
+mod removal;
+#[cfg(test)]
+mod tests;
 mod upper;
 
 pub use address::fault_at_address;
 pub use headers::{bad_segments, cut_fault, header_fault, unknown_routing_fault};
 pub use outcome::EndOutcome;
+pub use removal::take_out;
 pub use upper::{family_inside, is_allowed};

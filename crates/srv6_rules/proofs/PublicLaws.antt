@@ -6,7 +6,7 @@ pub use Rattle.srv6_rules.proofs.Contents.{content_of-never4, read_as-is_content
 pub use Rattle.srv6_rules.proofs.Edits.{spelling-behind, edit-hop_limit, edit-destination, edit-payload}
 pub use Rattle.srv6_rules.proofs.Headers.{srh_of-spelling, srh_of-spellable, srh_spelling-srh_of, entry-at, length-entries}
 pub use Rattle.srv6_rules.proofs.Chains.{chain_of-start, chain_at-goes_on, chain_at-upper, chain_at-cut, chain_at-header, chain_at-lies, chain_at-follow, chain_at-stand, chain_at-ends, chain_at-upper_stands, chain_at-spelled, follow-ascends, follow-chain, start-stands, behind-stands, extension_bytes-least, header_in-lies, lies-at, lies-spelled, lies-bytes, lies-stated}
-pub use Rattle.srv6_rules.proofs.Without.{without-others, without-length, without-behind, without-front, without-spellable, without-first_chain, without-later_chain, chain_at-split, chain_at-lowered}
+pub use Rattle.srv6_rules.proofs.Without.{without-others, without-bytes, without-length, without-behind, without-front, without-spellable, without-first_chain, without-later_chain, chain_at-split, chain_at-lowered}
 pub use Rattle.srv6_rules.proofs.AreaItems.{area_fault-empty, area_fault-item, area_fault-within, options_fault-within, tlvs_fault-within, pad1-skipped, option-skipped, option-discarded, option-told, option-bad, tlv-hmac, tlv-bad, tlv-pad1, tlv-skipped}
 pub use Rattle.srv6_rules.proofs.Reached.{over-goes_on, over-passed, over-all_passed, over-decides, reached-contained, reached-lies, reached-stands, first-there}
 pub use Rattle.srv6_rules.proofs.Treatments.{first-passed, late-refused, options-judged, options-passed, options-refused, fragment-refused, routing-by, unknown-passed, unknown-refused, plain-whole, header-by, sid-known, known-whole, known-packed, whole-last, whole-steps, whole-refuses, packed-steps, packed-last, packed-refuses, at_header-unshifted, at_header-shifts, at_header-options, at_header-routing, at_header-known, at_header-packed, at_header-whole, end-skipped, at_header-either, at_header-skipped, at_header-last, at_header-taken_out, at_header-passed, at_header-passed_other, at_header-after_step, at_header-steps, at_header-pops, at_header-refuses, at_header-unknown, at_address_header-either, at_address_header-passed, at_address_header-refuses}
