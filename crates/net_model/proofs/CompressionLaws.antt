@@ -1,5 +1,5 @@
 -- The SIDs of a network that keeps the rules suit their compression, and those that do not go on have no flavours.
-use Rattle.std.proofs.Common.{◌≡◌, ◌≢◌, ◌⊎◌, inl, inr, ℕ, ◌+◌, ◌-◌, ◌<◌, ◌≤◌, true, false, Option, Some, None, refl, sym, ap, ◌∙◌, subst, arith}
+use Rattle.std.proofs.Common.{◌≡◌, ◌≢◌, ◌⊎◌, inl, inr, ℕ, ◌-◌, ◌<◌, true, false, Option, Some, None, refl, sym, ◌∙◌, subst, arith}
 use Rattle.std.specs.List.{slice_get}
 use Rattle.srv6_rules.specs.declared.sid.Behaviour.{Behaviour}
 use Rattle.srv6_rules.specs.declared.sid.Behaviour.TheVariants.{End, EndX, EndT, Dx6, Dx4, Dt6, Dt4, Dt46, B6, B6Red}
@@ -7,13 +7,12 @@ use Rattle.srv6_rules.specs.declared.sid.Csid.{Csid}
 use Rattle.srv6_rules.specs.declared.sid.Csid.TheVariants as csids
 use Rattle.srv6_rules.specs.declared.sid.SidEntry.{SidEntry}
 use Rattle.srv6_rules.specs.Behaviours.{behaviour_goes_on, behaviour_takes_flavours, goes_on}
-use Rattle.srv6_rules.specs.Compressed.{IsCsidLen}
-use Rattle.srv6_rules.specs.CompressedSteps.{IsNext, IsReplace, SuitsKind, SuitsCompression, compression_of}
+use Rattle.srv6_rules.specs.CompressedSteps.{SuitsKind, SuitsCompression, compression_of}
 use Rattle.net_model.specs.declared.limits.TheConstants.{SHORT_CSID, LONG_CSID}
 use Rattle.net_model.specs.declared.parts.Block.{Block}
 use Rattle.net_model.specs.Network.{Network}
 use Rattle.net_model.specs.Rules.{block_of}
-use Rattle.net_model.specs.Keeps.{block_len_of, IsBlockOf, IsUnflavoured, SuitsBlock, KeepsBlock, KeepsSid, Keeps}
+use Rattle.net_model.specs.Keeps.{block_len_of, IsBlockOf, IsUnflavoured, SuitsBlock, KeepsSid, Keeps}
 use Rattle.net_model.proofs.BlockLemmas.{block_of-is}
 use Rattle.net_model.proofs.FlatLemmas.{get_from_contains}
 
