@@ -1,13 +1,13 @@
 -- IPv6 packets in bytes that spell them.
 use Rattle.std.proofs.Common.{◌≡◌, ℕ, ◌+◌, ◌-◌, ◌/◌, ◌≤◌, ◌==◌, Bool, true, false, nat_lt, if◌then◌else◌, List, length, take, slice_index, slice_set, refl, sym, ap, subst, ◌∙◌, arith}
 use Rattle.std.proofs.lemmas.Bool.{ltb-false}
-use Rattle.std.proofs.lemmas.List.{take_all}
 use Rattle.srv6_rules.specs.declared.sid.Reason.TheVariants.{Truncated, BadVersion}
 use Rattle.srv6_rules.specs.Packet.{Packet, V6, Unreadable, IsSpellable, Spells, header_len, content_of, packet_at, spelling, stated_len}
 use Rattle.srv6_rules.proofs.PublicLaws.{content_of-spelling_alone, length-spelling, all-spelling, edit-hop_limit, lowered-spellable}
 use Rattle.ip6_headers.specs.Reading.{HoldsPacket}
 use Rattle.ip6_headers.proofs.PublicLaws.{holds-spellable, holds-payload_len, holds-front}
 use Rattle.endpoint_chain.specs.Outcomes.{HoldsAlone}
+use Rattle.endpoint_chain.proofs.PublicLaws.{alone-spelled}
 
 -- bytes that read as a packet begin with it, and what their header states is there
 record Reads (bytes : List ℕ) (p : Packet) : Type 0 where
@@ -53,11 +53,6 @@ module _ (bytes : List ℕ) (h : HoldsPacket bytes) where
 
   pub front-packet : packet_at (take (header_len + stated_len bytes) bytes) ≡ packet_at bytes
   front-packet = ap packet_at (holds-front bytes h) ∙ packet_at-spelling (packet_at bytes) (holds-spellable bytes h)
-
--- bytes that hold a packet alone spell it
-pub alone-spelled : (bytes : List ℕ) → HoldsAlone bytes → bytes ≡ spelling (packet_at bytes)
-alone-spelled bytes h =
-    sym (take_all (header_len + stated_len bytes) bytes (let all = h.alone in omega arith)) ∙ holds-front bytes h.holds
 
 -- ---- bytes that spell a packet read as it
 

@@ -3,6 +3,7 @@
 ghost use Rattle.std.specs.Prelude.{◌≡◌, [], is_some};
 ghost use Rattle.srv6_rules.specs.Errors.{error_packet};
 ghost use Rattle.icmp6_errors.specs.Answer.{error_bytes};
+ghost use Rattle.walk_rules.specs.Treatment.{error_from};
 ghost use Rattle.node_stage.specs.Staging.{Tells, dropped_from};
 
 use crate::content::{Content, Held};
@@ -28,10 +29,27 @@ fn answered(packet: &Packet, kind: &IcmpKind, from: Addr, slot: &mut IcmpSlot) -
     error_for(packet.bytes(), kind, from, slot)
 }
 
+/// Writes the error about what a node with an address drops for a reason, with the fault's place in
+/// bytes from its first, into an empty slot, if one is made, and answers whether it is: about an
+/// IPv4 packet and about bytes that do not read none is, and for an IPv6 packet the reason names its
+/// kind (RFC 4443 section 3).
+fn error_about(content: &Content, reason: Reason, at: u32, from: Addr, slot: &mut IcmpSlot) -> bool
+    requires { slot.old.items ≡ [] }
+    ensures made { result ≡ is_some (error_from from.value reason at content.now) }
+    ensures bytes { slot.new.items ≡ error_bytes (error_from from.value reason at content.now) }
+{
+    match &content.held {
+        Held::V6(packet) => match IcmpKind::of(reason, at) {
+            Some(kind) => answered(packet, &kind, from, slot),
+            None => false,
+        },
+        Held::V4(_) => false,
+        Held::Unreadable(_, _) => false,
+    }
+}
+
 /// What stands at a node with an address is dropped as it is, for a reason, with the fault's place
-/// in bytes from its first; the error about it is written into an empty slot, if one is made: about
-/// an IPv4 packet and about bytes that do not read none is, and for an IPv6 packet the reason names
-/// its kind (RFC 4443 section 3).
+/// in bytes from its first; the error about it is written into an empty slot, if one is made.
 pub(crate) fn dropped(
     reason: Reason,
     at: u32,
@@ -42,30 +60,9 @@ pub(crate) fn dropped(
     requires { slot.old.items ≡ [] }
     ensures { Tells result slot.new.items (dropped_from from.value reason at content) }
 {
-    match content.held {
-        Held::V6(packet) => {
-            let error = match IcmpKind::of(reason, at) {
-                Some(kind) => answered(&packet, &kind, from, slot),
-                None => false,
-            };
-            Told {
-                outcome: Outcome::Drop { reason, error },
-                after: Content::of(packet),
-            }
-        }
-        Held::V4(packet) => Told {
-            outcome: Outcome::Drop {
-                reason,
-                error: false,
-            },
-            after: Content::of4(packet),
-        },
-        Held::Unreadable(bytes, why) => Told {
-            outcome: Outcome::Drop {
-                reason,
-                error: false,
-            },
-            after: Content::unreadable(bytes, why),
-        },
+    let error = error_about(&content, reason, at, from, slot);
+    Told {
+        outcome: Outcome::Drop { reason, error },
+        after: content,
     }
 }

@@ -8,9 +8,7 @@ use ip6_headers::four_at;
 use net_model::{
     Block, BlockKind, Link, Name, NamedPolicy, Net, NetParts, Node, Route, TypeList, are_in_range,
 };
-use srv6_rules::{
-    Behaviour, Csid, Family, LinkSet, Policy, Reason, SegmentList, SidEntry,
-};
+use srv6_rules::{Behaviour, Csid, Family, LinkSet, Policy, Reason, SegmentList, SidEntry};
 use std::alloc::{AllocError, Global};
 use std::process::Abort;
 use std::test::Fail;
@@ -269,7 +267,11 @@ fn at_b(
 /// follows.
 #[test]
 fn an_ipv4_packet_goes_through(rt: HostRuntime) -> Result<(), Fail> {
-    let net = net_with(&rt, rt.alloc(), sid_at_b(&rt, rt.alloc(), Behaviour::End, Csid::Plain))?;
+    let net = net_with(
+        &rt,
+        rt.alloc(),
+        sid_at_b(&rt, rt.alloc(), Behaviour::End, Csid::Plain),
+    )?;
     assert_eq!(rt; net.nodes(), 2);
     let mut content = Content::enter(Family::V4, PACKET_4.to_vec(rt.alloc())?);
     let mut error = IcmpSlot::new();
@@ -288,7 +290,11 @@ fn an_ipv4_packet_goes_through(rt: HostRuntime) -> Result<(), Fail> {
 /// An IPv4 packet with TTL 1 is dropped as it is, and no error is sent about it.
 #[test]
 fn a_ttl_of_one_is_not_sent(rt: HostRuntime) -> Result<(), Fail> {
-    let net = net_with(&rt, rt.alloc(), sid_at_b(&rt, rt.alloc(), Behaviour::End, Csid::Plain))?;
+    let net = net_with(
+        &rt,
+        rt.alloc(),
+        sid_at_b(&rt, rt.alloc(), Behaviour::End, Csid::Plain),
+    )?;
     assert_eq!(rt; net.nodes(), 2);
     let mut packet = PACKET_4;
     packet[8] = 1;
@@ -305,7 +311,11 @@ fn a_ttl_of_one_is_not_sent(rt: HostRuntime) -> Result<(), Fail> {
 /// At B the next segment becomes the destination; what stood behind the packet's end is gone.
 #[test]
 fn end_makes_the_next_segment_the_destination(rt: HostRuntime) -> Result<(), Fail> {
-    let net = net_with(&rt, rt.alloc(), sid_at_b(&rt, rt.alloc(), Behaviour::End, Csid::Plain))?;
+    let net = net_with(
+        &rt,
+        rt.alloc(),
+        sid_at_b(&rt, rt.alloc(), Behaviour::End, Csid::Plain),
+    )?;
     assert_eq!(rt; net.nodes(), 2);
     let mut bytes = joined(rt.alloc(), &HEADER, &SEGMENTS, &INSIDE)?;
     bytes.push(1)?;
@@ -371,7 +381,14 @@ fn dt46_exposes_packets_of_either_family(rt: HostRuntime) -> Result<(), Fail> {
     let bytes = joined(rt.alloc(), &HEADER, &SEGMENTS_BEHIND_END, &INSIDE)?;
     let (outcome, after) = at_b(rt.alloc(), &net, Family::V6, bytes)?;
     let family = Family::V6;
-    assert_eq!(rt; outcome, Outcome::Hand { sid: 0, how, family });
+    assert_eq!(rt;
+        outcome,
+        Outcome::Hand {
+            sid: 0,
+            how,
+            family
+        }
+    );
     assert_eq!(rt; after.as_slice(), INSIDE.as_slice());
     let mut header = HEADER;
     header[5] = 24;
@@ -379,7 +396,14 @@ fn dt46_exposes_packets_of_either_family(rt: HostRuntime) -> Result<(), Fail> {
     let bytes = joined(rt.alloc(), &header, &PACKET_4, &[])?;
     let (outcome, after) = at_b(rt.alloc(), &net, Family::V6, bytes)?;
     let family = Family::V4;
-    assert_eq!(rt; outcome, Outcome::Hand { sid: 0, how, family });
+    assert_eq!(rt;
+        outcome,
+        Outcome::Hand {
+            sid: 0,
+            how,
+            family
+        }
+    );
     assert_eq!(rt; after.as_slice(), PACKET_4.as_slice());
     Ok(())
 }
@@ -462,18 +486,28 @@ fn options_at_b(
 /// the place that names it. About an option that is discarded none is sent.
 #[test]
 fn an_error_points_at_the_fault(rt: HostRuntime) -> Result<(), Fail> {
-    let net = net_with(&rt, rt.alloc(), sid_at_b(&rt, rt.alloc(), Behaviour::End, Csid::Plain))?;
+    let net = net_with(
+        &rt,
+        rt.alloc(),
+        sid_at_b(&rt, rt.alloc(), Behaviour::End, Csid::Plain),
+    )?;
     assert_eq!(rt; net.nodes(), 2);
     let late = Outcome::Drop {
         reason: Reason::LateHopByHop,
         error: true,
     };
-    assert_eq!(rt; options_at_b(rt.alloc(), &net, &LATE_HOP_BY_HOP)?, (late, Some(40)));
+    assert_eq!(rt;
+        options_at_b(rt.alloc(), &net, &LATE_HOP_BY_HOP)?,
+        (late, Some(40))
+    );
     let discarded = Outcome::Drop {
         reason: Reason::OptionDiscard,
         error: false,
     };
-    assert_eq!(rt; options_at_b(rt.alloc(), &net, &DISCARDED_OPTION)?, (discarded, None));
+    assert_eq!(rt;
+        options_at_b(rt.alloc(), &net, &DISCARDED_OPTION)?,
+        (discarded, None)
+    );
     Ok(())
 }
 
@@ -481,7 +515,11 @@ fn an_error_points_at_the_fault(rt: HostRuntime) -> Result<(), Fail> {
 /// the slot holds is gone with the next stage.
 #[test]
 fn drop_is_told_from_the_node(rt: HostRuntime) -> Result<(), Fail> {
-    let net = net_with(&rt, rt.alloc(), sid_at_b(&rt, rt.alloc(), Behaviour::End, Csid::Plain))?;
+    let net = net_with(
+        &rt,
+        rt.alloc(),
+        sid_at_b(&rt, rt.alloc(), Behaviour::End, Csid::Plain),
+    )?;
     assert_eq!(rt; net.nodes(), 2);
     let mut content = Content::enter(Family::V6, INSIDE.to_vec(rt.alloc())?);
     assert_eq!(rt; content.len(), 40);

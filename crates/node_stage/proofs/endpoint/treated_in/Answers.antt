@@ -8,9 +8,9 @@ treated_at_sid-requires-clause-suits c =
 
 pub treated_at_sid-requires-clause-usp : goal.treated_at_sid-requires-clause-usp
 treated_at_sid-requires-clause-usp c = λ stays.
-  (sid-unflavoured c.args.net.now c.args.sid c.sid-entry.result.now c.keeps_rules.ensures.facts c.sid-entry.ensures stays).usp
+    (sid-unflavoured c.args.net.now c.args.sid c.sid-entry.result.now c.keeps_rules.ensures.facts c.sid-entry.ensures stays).usp
 
 pub treated_at_sid-requires-clause-next : goal.treated_at_sid-requires-clause-next
 treated_at_sid-requires-clause-next c = λ stays.
-  not-next c.sid-entry.result.now.csid
-  (sid-not_next c.args.net.now c.args.sid c.sid-entry.result.now c.keeps_rules.ensures.facts c.sid-entry.ensures stays)
+    not-next c.sid-entry.result.now.csid
+    (sid-not_next c.args.net.now c.args.sid c.sid-entry.result.now c.keeps_rules.ensures.facts c.sid-entry.ensures stays)

@@ -1,4 +1,4 @@
-use Rattle.std.proofs.Common.{◌≡◌, ◌+◌, ◌≤◌, ◌∙◌, List, ℕ, length, take, ap, sym, subst, arith}
+use Rattle.std.proofs.Common.{◌≡◌, ◌+◌, ◌∙◌, length, take, ap, sym, subst, arith}
 use Rattle.srv6_rules.specs.Packet.{Packet, header_len, packet_at, stated_len}
 use Rattle.ip6_headers.proofs.PublicLaws.{holds-payload_len}
 use Rattle.endpoint_chain.specs.Outcomes.{HoldsAlone}

@@ -1,6 +1,6 @@
 use Rattle.std.proofs.Common.{◌∙◌, ap}
 use Rattle.srv6_rules.specs.Packet.{Packet, spelling}
-use Rattle.node_stage.proofs.ReadingLemmas.{alone-spelled}
+use Rattle.endpoint_chain.proofs.PublicLaws.{alone-spelled}
 use Rattle.node_stage.proofs.packet.Packet.bytes.Goals as goal
 
 pub returns-clause-spelled : goal.returns-clause-spelled

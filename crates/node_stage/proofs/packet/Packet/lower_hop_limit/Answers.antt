@@ -1,4 +1,4 @@
-use Rattle.std.proofs.Common.{◌≡◌, ◌-◌, ◌∙◌, ℕ, slice_set, ap, sym, subst}
+use Rattle.std.proofs.Common.{◌≡◌, ◌-◌, ◌∙◌, slice_set, ap, sym, subst}
 use Rattle.srv6_rules.specs.Packet.{Packet, packet_at}
 use Rattle.endpoint_chain.specs.Outcomes.{HoldsAlone}
 use Rattle.pkt_buf.specs.BufferView.{Buffer}

@@ -1,4 +1,4 @@
-use Rattle.std.proofs.Common.{◌≡◌, ◌+◌, ◌≤◌, ◌∙◌, List, ℕ, length, take, ap, sym, subst, arith}
+use Rattle.std.proofs.Common.{◌≡◌, ◌∙◌, length, take, ap, sym, subst, arith}
 use Rattle.srv6_rules.specs.Packet4.{Packet4, packet4_at, spelling4, total_len}
 use Rattle.ip6_headers.proofs.PublicLaws.{holds4-length}
 use Rattle.pkt_buf.specs.BufferView.{Buffer}

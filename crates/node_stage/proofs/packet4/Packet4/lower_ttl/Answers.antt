@@ -1,4 +1,4 @@
-use Rattle.std.proofs.Common.{◌≡◌, ◌<◌, ◌∙◌, List, ℕ, length, slice_index, ap, sym, subst, arith}
+use Rattle.std.proofs.Common.{◌≡◌, ◌∙◌, List, ℕ, length, slice_index, ap, sym, subst, arith}
 use Rattle.srv6_rules.specs.Packet4.{Packet4, packet4_at, lowered4, ttl, ttl_lowered}
 use Rattle.srv6_rules.proofs.PublicLaws.{ttl_lowered-length}
 use Rattle.ip6_headers.proofs.PublicLaws.{holds4-byte}
