@@ -1,5 +1,5 @@
 -- What comes of a header at a SID that decapsulates, by its kind.
-use Rattle.std.proofs.Common.{◌≡◌, ℕ, ◌+◌, true, false, ◌==◌, List, length, refl, ◌∙◌, arith}
+use Rattle.std.proofs.Common.{◌≡◌, ℕ, true, false, ◌==◌, List, refl, ◌∙◌, arith}
 use Rattle.std.specs.Prelude.{◌≢◌}
 use Rattle.std.proofs.lemmas.Bool.{eq-eqb, ne_eqb}
 use Rattle.srv6_rules.specs.declared.sid.SidEntry.{SidEntry}

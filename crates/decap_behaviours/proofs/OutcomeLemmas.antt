@@ -1,5 +1,5 @@
 -- What is judged of a packet at a SID that decapsulates, in bytes that hold the packet alone.
-use Rattle.std.proofs.Common.{◌≡◌, ℕ, ◌+◌, ◌-◌, ◌<◌, ◌^◌, ◌≤◌, List, length, take, drop, refl, sym, ap, subst, ◌∙◌, arith, length-drop}
+use Rattle.std.proofs.Common.{◌≡◌, ℕ, ◌+◌, ◌-◌, ◌<◌, ◌^◌, ◌≤◌, List, length, take, drop, sym, ap, subst, ◌∙◌, arith, length-drop}
 use Rattle.std.proofs.lemmas.List.{drop-drop, take_all}
 use Rattle.srv6_rules.specs.declared.sid.Family.{Family}
 use Rattle.srv6_rules.specs.declared.sid.Reason.{Reason}
@@ -67,3 +67,6 @@ module _ (bytes : List ℕ) (h : HoldsAlone bytes) where
       let spellable = holds-spellable bytes h.holds in
       let fits = spellable.payload_len in
       omega arith
+
+-- the length that a packet states
+pub ruleset lengths = (holds-payload_len)

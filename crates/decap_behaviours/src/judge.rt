@@ -23,8 +23,8 @@ pub(crate) enum Judged {
     Refuse { fault: Fault },
 }
 
-/// The upper layer at a place: a SID that exposes it exposes the packet inside, and another is taken
-/// where it is allowed (RFC 8986 sections 4.1.1 and 4.4 to 4.8).
+/// The upper layer at a place: a SID that exposes it exposes the packet inside, and another upper
+/// layer is taken where it is allowed (RFC 8986 sections 4.1.1 and 4.4 to 4.8).
 fn judge_upper(sid: &SidEntry, allow: &[u8], place: ChainPlace) -> Judged
     ensures { (p : Packet) → IsWithin p place.at
         → IsJudged p (at_last_upper sid.now allow.now p (place_view place)) result }

@@ -13,20 +13,19 @@ use pkt_buf::PktBuf;
 use srv6_rules::SidEntry;
 
 /// A packet at a SID that decapsulates, of a node that takes the upper layers of `allow` at its
-/// SIDs: one of End.DX6, End.DX4, End.DT6, End.DT4 and End.DT46, which has neither USP nor NEXT-CSID
-/// (RFC 8986 sections 4.4 to 4.8).
+/// SIDs: one of End.DX6, End.DX4, End.DT6, End.DT4 and End.DT46, which has neither USP nor
+/// NEXT-CSID (RFC 8986 sections 4.4 to 4.8).
 ///
-/// The extension headers are gone through. A segment routing header with no segment left is passed
-/// over: one whose Segments Left is 0, or with REPLACE-CSID one that is at its end (RFC 9800 section
-/// 4.2); another is refused for `BadSegments`. The other headers are passed over or refused as at
-/// every SID (`header_fault` and `unknown_routing_fault` of `endpoint_chain`), and one that is cut
-/// is refused for `BadChain`.
+/// The first fault of an extension header decides: a segment routing header with a segment left is
+/// dropped for `BadSegments`, with REPLACE-CSID one that is not at its end, at Segments Left; the
+/// other headers are judged as at every SID (`header_fault` and `unknown_routing_fault` of
+/// `endpoint_chain`), and one that is cut is dropped for `BadChain`.
 ///
-/// `Hand` comes where the upper layer behind them is a packet that the SID exposes: of IPv6 at
+/// Behind them `Hand` comes where the upper layer is a packet that the SID exposes: of IPv6 at
 /// End.DX6 and End.DT6, of IPv4 at End.DX4 and End.DT4, of either at End.DT46. The buffer is left
 /// with the bytes from that packet's first on, of which none is changed. `Local` comes for another
-/// upper layer that is allowed, and `Drop` for `UpperLayer` where it is not; in both, as wherever a
-/// packet is dropped, the bytes are as they were.
+/// upper layer that is allowed, and `Drop` for `UpperLayer` where it is not, at its first byte. But
+/// for `Hand` the bytes are as they were. `On` never comes.
 pub fn decap_step(sid: &SidEntry, allow: &[u8], buf: &mut PktBuf) -> EndOutcome
     requires ends { goes_on sid.now ≡ false }
     requires suits { SuitsCompression sid.now }

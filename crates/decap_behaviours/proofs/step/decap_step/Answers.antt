@@ -1,4 +1,3 @@
-use Rattle.std.proofs.Common.{◌∙◌}
 use Rattle.srv6_rules.specs.Packet.{packet_at}
 use Rattle.srv6_rules.specs.Endpoint.{at_sid}
 use Rattle.decap_behaviours.specs.declared.judge.Judged.TheVariants.{Expose, Deliver, Refuse}
