@@ -9,7 +9,9 @@ pub mod FlatLemmas
 pub mod BlockLemmas
 pub mod CompressionLaws
 pub mod AlikeLemmas
-pub mod GatheredLemmas
+pub mod AnswerLemmas
+pub mod FillLemmas
+pub mod ListedLemmas
 pub mod JudgingLemmas
 pub mod PassesLemmas
 pub mod TableLaws

@@ -101,7 +101,7 @@ pub(crate) fn treated_in(net: &Net, node: u32, sid: u32, packet: Packet) -> Stag
 {
     net.keeps_rules();
     let entry = net.sid(sid);
-    if !entry.is_built() {
+    if entry.behaviour.policy().is_some() {
         return dropped_for(Reason::NotBuilt, Content::of(packet));
     }
     let allow = net.node(node).allow.as_slice();

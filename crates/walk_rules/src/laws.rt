@@ -6,7 +6,7 @@ ghost use Rattle.net_model.specs.Keeps.{Keeps, StartsAt};
 ghost use Rattle.net_model.specs.Network.{Network};
 ghost use Rattle.srv6_rules.specs.Packet.{Content, IsContent, Packet, V4, V6, bytes_of, read_as};
 ghost use Rattle.srv6_rules.specs.Packet4.{Packet4, ttl};
-ghost use Rattle.srv6_rules.specs.Behaviours.{is_built};
+ghost use Rattle.walk_rules.specs.Treatment.{is_built};
 ghost use Rattle.srv6_rules.specs.declared.sid.Behaviour.TheVariants.{B6, B6Red, Dt4, Dt46, Dt6, Dx4, Dx6, End, EndT, EndX};
 ghost use Rattle.srv6_rules.specs.declared.sid.Family.{Family};
 ghost use Rattle.srv6_rules.specs.declared.sid.Reason.{Reason};
