@@ -1,5 +1,4 @@
-pub mod SpellingLemmas
-pub mod ChainLemmas
 pub mod ReadingLemmas
+pub mod ReadingLemmas4
 pub mod EndpointLemmas
 pub mod StageLemmas

@@ -1,5 +1,3 @@
-pub mod PacketView
+pub mod Alone4
 pub mod ContentView
-pub mod Fronts
-pub mod Judging
 pub mod Staging

@@ -7,8 +7,8 @@ use Rattle.walk_rules.specs.declared.place.Outcome.TheVariants as outcomes
 use Rattle.walk_rules.specs.Treatment.{Gave, dropped, error_from, goes}
 use Rattle.icmp6_errors.specs.Answer.{error_bytes}
 use Rattle.node_stage.specs.declared.error.Told.{Told}
-use Rattle.node_stage.specs.declared.treatment.Staged.{Staged}
-use Rattle.node_stage.specs.declared.treatment.Staged.TheVariants.{Goes, Drops}
+use Rattle.node_stage.specs.declared.staged.Staged.{Staged}
+use Rattle.node_stage.specs.declared.staged.Staged.TheVariants.{Goes, Drops}
 
 -- what a stage at a node of a network gives
 abbrev pub gave_of : Network → ℕ → Staged → Gave

@@ -1,20 +1,24 @@
-//! What a node holds: a packet, or bytes that do not read as one.
+//! What a node holds: a packet of either family, or bytes that do not read as one.
 
-ghost use Rattle.std.specs.Prelude.{◌≡◌};
+ghost use Rattle.std.specs.Prelude.{◌≡◌, ◌^◌, ◌<◌, ◌++◌, length, All, OnOk, OnErr};
+ghost use Rattle.srv6_rules.specs.Packet.{bytes_of, IsContent};
 
 use crate::packet::Packet;
+use crate::packet4::Packet4;
 use pkt_buf::PktBuf;
 use srv6_rules::Reason;
+use std::alloc::AllocError;
 use std::marker::Model;
 use std::mem;
 
 #[derive(Debug, Drop)]
 pub(crate) enum Held {
     V6(Packet),
+    V4(Packet4),
     Unreadable(PktBuf, Reason),
 }
 
-/// A packet, or bytes that do not read as one and why.
+/// A packet of IPv6 or IPv4, or bytes that do not read as one and why.
 #[derive(Debug, Drop)]
 pub struct Content {
     pub(crate) held: Held,
@@ -29,12 +33,15 @@ impl Model for Content {
     ghost view = { λ c. content_view c.held };
 }
 
-impl Content {
-    ghost use Rattle.std.specs.Option.{option_copied};
-    ghost use Rattle.srv6_rules.specs.Packet.{V6};
-    ghost use Rattle.node_stage.specs.ContentView.{packet_in};
+/// Each byte is below 256.
+fn are_bytes(bytes: &[u8])
+    ensures { All (λ b. b < 2 ^ 8) bytes.now }
+{}
 
-    /// The content that a packet is.
+impl Content {
+    ghost use Rattle.srv6_rules.specs.Packet.{V6, V4, Unreadable};
+
+    /// The content that an IPv6 packet is.
     pub(crate) fn of(packet: Packet) -> Content
         ensures { result ≡ V6 packet }
     {
@@ -43,13 +50,21 @@ impl Content {
         }
     }
 
-    /// The packet, if it is one.
-    pub fn packet(&self) -> Option<&Packet>
-        ensures { option_copied result ≡ packet_in self.now }
+    /// The content that an IPv4 packet is.
+    pub(crate) fn of4(packet: Packet4) -> Content
+        ensures { result ≡ V4 packet }
     {
-        match &self.held {
-            Held::V6(packet) => Some(packet),
-            Held::Unreadable(_, _) => None,
+        Content {
+            held: Held::V4(packet),
+        }
+    }
+
+    /// Bytes that do not read, for a reason.
+    pub(crate) fn unreadable(bytes: PktBuf, reason: Reason) -> Content
+        ensures { result ≡ Unreadable bytes.bytes reason }
+    {
+        Content {
+            held: Held::Unreadable(bytes, reason),
         }
     }
 
@@ -59,13 +74,47 @@ impl Content {
     {
         let empty = match &self.held {
             Held::V6(packet) => packet.no_bytes(),
+            Held::V4(packet) => packet.no_bytes(),
             Held::Unreadable(bytes, _) => bytes.no_bytes(),
         };
-        mem::replace(
-            self,
-            Content {
-                held: Held::Unreadable(empty, Reason::Truncated),
-            },
-        )
+        mem::replace(self, Content::unreadable(empty, Reason::Truncated))
+    }
+
+    /// The bytes: those that spell the packet, or those that do not read.
+    pub fn bytes(&self) -> &[u8]
+        ensures { result.now ≡ bytes_of self.now }
+    {
+        match &self.held {
+            Held::V6(packet) => packet.bytes(),
+            Held::V4(packet) => packet.bytes(),
+            Held::Unreadable(bytes, _) => bytes.view(),
+        }
+    }
+
+    /// Appends the bytes; with want of memory nothing is appended.
+    pub fn append_to(&self, out: &mut Vec<u8>) -> Result<(), AllocError>
+        ensures ok { OnOk result (out.new.items ≡ out.old.items ++ bytes_of self.now) }
+        ensures err { OnErr result (out.new.items ≡ out.old.items) }
+    {
+        out.extend_from_slice(self.bytes())
+    }
+
+    /// The length of the bytes.
+    pub fn len(&self) -> usize
+        ensures { result ≡ length (bytes_of self.now) }
+    {
+        self.bytes().len()
+    }
+
+    /// Bytes can spell what is held: a packet's fields fit their widths, and each byte is a byte.
+    /// For the callers' proofs.
+    pub fn keeps_rules(&self)
+        ensures { IsContent self.now }
+    {
+        match &self.held {
+            Held::V6(packet) => packet.keeps_rules(),
+            Held::V4(packet) => packet.keeps_rules(),
+            Held::Unreadable(bytes, _) => are_bytes(bytes.view()),
+        }
     }
 }

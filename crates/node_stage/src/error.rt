@@ -1,9 +1,9 @@
 //! The ICMPv6 error about what is dropped.
 
 ghost use Rattle.std.specs.Prelude.{◌≡◌, [], is_some};
-ghost use Rattle.srv6_rules.specs.Packet.{V6};
 ghost use Rattle.srv6_rules.specs.Errors.{error_packet};
 ghost use Rattle.icmp6_errors.specs.Answer.{error_bytes};
+ghost use Rattle.walk_rules.specs.Treatment.{error_from};
 ghost use Rattle.node_stage.specs.Staging.{Tells, dropped_from};
 
 use crate::content::{Content, Held};
@@ -20,23 +20,36 @@ pub(crate) struct Told {
     pub(crate) after: Content,
 }
 
-/// Writes the error of a kind about a packet into a slot, from an address, if one is made; gives
-/// the packet back, and whether there is one. The packet's bytes are brought together in their
-/// place, so no memory is taken.
-fn answered(packet: Packet, kind: &IcmpKind, from: Addr, slot: &mut IcmpSlot) -> (Content, bool)
-    ensures packet { result.0 ≡ V6 packet }
-    ensures made { result.1 ≡ is_some (error_packet packet kind.now from.value) }
-    ensures bytes { slot.new.items ≡ error_bytes (error_packet packet kind.now from.value) }
+/// Writes the error of a kind about a packet into a slot, from an address, if one is made, and
+/// answers whether it is.
+fn answered(packet: &Packet, kind: &IcmpKind, from: Addr, slot: &mut IcmpSlot) -> bool
+    ensures made { result ≡ is_some (error_packet packet.now kind.now from.value) }
+    ensures bytes { slot.new.items ≡ error_bytes (error_packet packet.now kind.now from.value) }
 {
-    packet.keeps_rules();
-    let bytes = packet.spelled();
-    let made = error_for(bytes.view(), kind, from, slot);
-    (Content::read(bytes), made)
+    error_for(packet.bytes(), kind, from, slot)
+}
+
+/// Writes the error about what a node with an address drops for a reason, with the fault's place in
+/// bytes from its first, into an empty slot, if one is made, and answers whether it is: about an
+/// IPv4 packet and about bytes that do not read none is, and for an IPv6 packet the reason names its
+/// kind (RFC 4443 section 3).
+fn error_about(content: &Content, reason: Reason, at: u32, from: Addr, slot: &mut IcmpSlot) -> bool
+    requires { slot.old.items ≡ [] }
+    ensures made { result ≡ is_some (error_from from.value reason at content.now) }
+    ensures bytes { slot.new.items ≡ error_bytes (error_from from.value reason at content.now) }
+{
+    match &content.held {
+        Held::V6(packet) => match IcmpKind::of(reason, at) {
+            Some(kind) => answered(packet, &kind, from, slot),
+            None => false,
+        },
+        Held::V4(_) => false,
+        Held::Unreadable(_, _) => false,
+    }
 }
 
 /// What stands at a node with an address is dropped as it is, for a reason, with the fault's place
-/// in bytes from its first; the error about it is written into an empty slot, if one is made: about
-/// bytes that do not read none is, and for a packet the reason names its kind (RFC 4443 section 3).
+/// in bytes from its first; the error about it is written into an empty slot, if one is made.
 pub(crate) fn dropped(
     reason: Reason,
     at: u32,
@@ -47,18 +60,9 @@ pub(crate) fn dropped(
     requires { slot.old.items ≡ [] }
     ensures { Tells result slot.new.items (dropped_from from.value reason at content) }
 {
-    let (after, error) = match content.held {
-        Held::V6(packet) => match IcmpKind::of(reason, at) {
-            Some(kind) => answered(packet, &kind, from, slot),
-            None => (Content::of(packet), false),
-        },
-        Held::Unreadable(bytes, why) => {
-            let held = Held::Unreadable(bytes, why);
-            (Content { held }, false)
-        }
-    };
+    let error = error_about(&content, reason, at, from, slot);
     Told {
         outcome: Outcome::Drop { reason, error },
-        after,
+        after: content,
     }
 }

@@ -1,43 +1,45 @@
 //! A packet at a node of two; its bytes are laid out by hand.
 
-ghost use Rattle.std.specs.Prelude.{◌≡◌, ◌<◌, length};
+ghost use Rattle.std.specs.Prelude.{◌≡◌, ◌^◌, ◌<◌, length};
 
 use crate::{Content, stage};
 use icmp6_errors::IcmpSlot;
 use ip6_headers::four_at;
-use net_model::{Link, Name, Net, NetParts, Node, Route, TypeList, are_in_range};
-use srv6_rules::{Behaviour, Csid, Family, LinkSet, Reason, SidEntry};
+use net_model::{
+    Block, BlockKind, Link, Name, NamedPolicy, Net, NetParts, Node, Route, TypeList, are_in_range,
+};
+use srv6_rules::{Behaviour, Csid, Family, LinkSet, Policy, Reason, SegmentList, SidEntry};
 use std::alloc::{AllocError, Global};
 use std::process::Abort;
 use std::test::Fail;
 use v6_addr::{Addr, Prefix};
-use walk_rules::{Ended, How, Outcome, Place, ended_by, next_place};
+use walk_rules::{Ended, How, Outcome, arrival, ended_by, next_place};
 
-/// From 2001:db8::1 to fc00:b::1, hop limit 63, payload of 80 bytes.
+/// From 2001:db8::1 to fc00:b:1::1, hop limit 63, payload of 80 bytes.
 const HEADER: [u8; 40] = [
     0x60, 0x00, 0x00, 0x00, 0x00, 0x50, 0x2b, 0x3f, 0x20, 0x01, 0x0d, 0xb8, 0x00, 0x00, 0x00, 0x00,
-    0x00, 0x00, 0x00, 0x00, 0x00, 0x00, 0x00, 0x01, 0xfc, 0x00, 0x00, 0x0b, 0x00, 0x00, 0x00, 0x00,
+    0x00, 0x00, 0x00, 0x00, 0x00, 0x00, 0x00, 0x01, 0xfc, 0x00, 0x00, 0x0b, 0x00, 0x01, 0x00, 0x00,
     0x00, 0x00, 0x00, 0x00, 0x00, 0x00, 0x00, 0x01,
 ];
 
 /// The same at the second segment, hop limit 62.
 const HEADER_BEHIND_END: [u8; 40] = [
     0x60, 0x00, 0x00, 0x00, 0x00, 0x50, 0x2b, 0x3e, 0x20, 0x01, 0x0d, 0xb8, 0x00, 0x00, 0x00, 0x00,
-    0x00, 0x00, 0x00, 0x00, 0x00, 0x00, 0x00, 0x01, 0xfc, 0x00, 0x00, 0x0b, 0x00, 0x01, 0x00, 0x00,
+    0x00, 0x00, 0x00, 0x00, 0x00, 0x00, 0x00, 0x01, 0xfc, 0x00, 0x00, 0x0b, 0x00, 0x02, 0x00, 0x00,
     0x00, 0x00, 0x00, 0x00, 0x00, 0x00, 0x00, 0x00,
 ];
 
-/// Segments Left 1 of the segment list fc00:b:1::, fc00:b::1.
+/// Segments Left 1 of the segment list fc00:b:2::, fc00:b:1::1.
 const SEGMENTS: [u8; 40] = [
-    0x29, 0x04, 0x04, 0x01, 0x01, 0x00, 0x00, 0x00, 0xfc, 0x00, 0x00, 0x0b, 0x00, 0x01, 0x00, 0x00,
-    0x00, 0x00, 0x00, 0x00, 0x00, 0x00, 0x00, 0x00, 0xfc, 0x00, 0x00, 0x0b, 0x00, 0x00, 0x00, 0x00,
+    0x29, 0x04, 0x04, 0x01, 0x01, 0x00, 0x00, 0x00, 0xfc, 0x00, 0x00, 0x0b, 0x00, 0x02, 0x00, 0x00,
+    0x00, 0x00, 0x00, 0x00, 0x00, 0x00, 0x00, 0x00, 0xfc, 0x00, 0x00, 0x0b, 0x00, 0x01, 0x00, 0x00,
     0x00, 0x00, 0x00, 0x00, 0x00, 0x00, 0x00, 0x01,
 ];
 
 /// The same with Segments Left 0.
 const SEGMENTS_BEHIND_END: [u8; 40] = [
-    0x29, 0x04, 0x04, 0x00, 0x01, 0x00, 0x00, 0x00, 0xfc, 0x00, 0x00, 0x0b, 0x00, 0x01, 0x00, 0x00,
-    0x00, 0x00, 0x00, 0x00, 0x00, 0x00, 0x00, 0x00, 0xfc, 0x00, 0x00, 0x0b, 0x00, 0x00, 0x00, 0x00,
+    0x29, 0x04, 0x04, 0x00, 0x01, 0x00, 0x00, 0x00, 0xfc, 0x00, 0x00, 0x0b, 0x00, 0x02, 0x00, 0x00,
+    0x00, 0x00, 0x00, 0x00, 0x00, 0x00, 0x00, 0x00, 0xfc, 0x00, 0x00, 0x0b, 0x00, 0x01, 0x00, 0x00,
     0x00, 0x00, 0x00, 0x00, 0x00, 0x00, 0x00, 0x01,
 ];
 
@@ -60,34 +62,42 @@ const LATE_HOP_BY_HOP: [u8; 16] = [
     0x00, 0x00, 0x01, 0x04, 0x00, 0x00, 0x00, 0x00, 0x3b, 0x00, 0x01, 0x04, 0x00, 0x00, 0x00, 0x00,
 ];
 
-/// Destination Options of a Pad1, a PadN of no bytes, and an option of type 0x9e, of 1 byte.
-const UNKNOWN_OPTION: [u8; 8] = [0x3b, 0x00, 0x00, 0x01, 0x00, 0x9e, 0x01, 0x00];
-
 /// Destination Options of an option of type 0x5e, of 4 bytes.
 const DISCARDED_OPTION: [u8; 8] = [0x3b, 0x00, 0x5e, 0x04, 0x00, 0x00, 0x00, 0x00];
 
-/// Destination Options of an option of type 0x1e, of 5 bytes where 4 are left.
-const LONG_OPTION: [u8; 8] = [0x3b, 0x00, 0x1e, 0x05, 0x00, 0x00, 0x00, 0x00];
-
-/// A Fragment header, whose second byte is no length.
-const FRAGMENT: [u8; 8] = [0x3b, 0xff, 0x00, 0x00, 0x00, 0x00, 0x00, 0x01];
-
-/// A routing header of type 3 with Segments Left 1.
-const OTHER_ROUTING: [u8; 8] = [0x3b, 0x00, 0x03, 0x01, 0x00, 0x00, 0x00, 0x00];
-
-/// The same with Segments Left 0.
-const OTHER_ROUTING_BEHIND_END: [u8; 8] = [0x3b, 0x00, 0x03, 0x00, 0x00, 0x00, 0x00, 0x00];
-
-/// Segments Left 1 of the segment list fc00:b:1::, and an HMAC, which passes the header's end.
-const SEGMENT_AND_HMAC: [u8; 32] = [
-    0x3b, 0x03, 0x04, 0x01, 0x00, 0x00, 0x00, 0x00, 0xfc, 0x00, 0x00, 0x0b, 0x00, 0x01, 0x00, 0x00,
-    0x00, 0x00, 0x00, 0x00, 0x00, 0x00, 0x00, 0x00, 0x05, 0x26, 0x00, 0x00, 0x00, 0x00, 0x00, 0x00,
+/// IPv4 from 10.0.0.1 to 10.0.0.2, UDP, TTL 64, payload of 4 bytes.
+const PACKET_4: [u8; 24] = [
+    0x45, 0x00, 0x00, 0x18, 0x00, 0x01, 0x00, 0x00, 0x40, 0x11, 0x66, 0xd2, 0x0a, 0x00, 0x00, 0x01,
+    0x0a, 0x00, 0x00, 0x02, 0xde, 0xad, 0xbe, 0xef,
 ];
 
-/// The same with a Pad1, and an item of type 6, of 6 bytes where 5 are left.
-const SEGMENT_AND_CUT_ITEM: [u8; 32] = [
-    0x3b, 0x03, 0x04, 0x01, 0x00, 0x00, 0x00, 0x00, 0xfc, 0x00, 0x00, 0x0b, 0x00, 0x01, 0x00, 0x00,
-    0x00, 0x00, 0x00, 0x00, 0x00, 0x00, 0x00, 0x00, 0x00, 0x06, 0x06, 0x00, 0x00, 0x00, 0x00, 0x00,
+/// The same with TTL 62.
+const PACKET_4_BEHIND_B: [u8; 24] = [
+    0x45, 0x00, 0x00, 0x18, 0x00, 0x01, 0x00, 0x00, 0x3e, 0x11, 0x68, 0xd2, 0x0a, 0x00, 0x00, 0x01,
+    0x0a, 0x00, 0x00, 0x02, 0xde, 0xad, 0xbe, 0xef,
+];
+
+/// From 2001:db8::1 to fc00:b:1:2::, hop limit 63, no next header, no payload.
+const CARRIER: [u8; 40] = [
+    0x60, 0x00, 0x00, 0x00, 0x00, 0x00, 0x3b, 0x3f, 0x20, 0x01, 0x0d, 0xb8, 0x00, 0x00, 0x00, 0x00,
+    0x00, 0x00, 0x00, 0x00, 0x00, 0x00, 0x00, 0x01, 0xfc, 0x00, 0x00, 0x0b, 0x00, 0x01, 0x00, 0x02,
+    0x00, 0x00, 0x00, 0x00, 0x00, 0x00, 0x00, 0x00,
+];
+
+/// The same to fc00:b:2::, hop limit 62.
+const CARRIER_BEHIND_B: [u8; 40] = [
+    0x60, 0x00, 0x00, 0x00, 0x00, 0x00, 0x3b, 0x3e, 0x20, 0x01, 0x0d, 0xb8, 0x00, 0x00, 0x00, 0x00,
+    0x00, 0x00, 0x00, 0x00, 0x00, 0x00, 0x00, 0x01, 0xfc, 0x00, 0x00, 0x0b, 0x00, 0x02, 0x00, 0x00,
+    0x00, 0x00, 0x00, 0x00, 0x00, 0x00, 0x00, 0x00,
+];
+
+/// From 2001:db8::1 to fc00:b:1::7, hop limit 63: Segments Left 0 of one entry of CSIDs of 16 bits,
+/// at index 7 that of the destination, at index 6 0x0002, and none behind it.
+const CONTAINER: [u8; 64] = [
+    0x60, 0x00, 0x00, 0x00, 0x00, 0x18, 0x2b, 0x3f, 0x20, 0x01, 0x0d, 0xb8, 0x00, 0x00, 0x00, 0x00,
+    0x00, 0x00, 0x00, 0x00, 0x00, 0x00, 0x00, 0x01, 0xfc, 0x00, 0x00, 0x0b, 0x00, 0x01, 0x00, 0x00,
+    0x00, 0x00, 0x00, 0x00, 0x00, 0x00, 0x00, 0x07, 0x3b, 0x02, 0x04, 0x00, 0x00, 0x00, 0x00, 0x00,
+    0x00, 0x00, 0x00, 0x00, 0x00, 0x00, 0x00, 0x00, 0x00, 0x00, 0x00, 0x00, 0x00, 0x02, 0x00, 0x01,
 ];
 
 fn prefix(rt: &impl Abort, value: u128, len: u8) -> Prefix {
@@ -110,25 +120,28 @@ fn route(
     alloc: Global,
     node: u32,
     table: u32,
+    family: Family,
     prefix: Prefix,
     via: u32,
 ) -> Result<Route, AllocError> {
     Ok(Route {
         node,
         table,
-        family: Family::V6,
+        family,
         prefix,
         via: LinkSet::new([via].to_vec(alloc)?),
     })
 }
 
-fn sid_at_b(alloc: Global, prefix: Prefix, behaviour: Behaviour) -> SidEntry {
+/// A SID of a behaviour without flavours at B, with fc00:b:1::/48, and so in the block of 32 bits
+/// where it is compressed.
+fn sid_at_b(rt: &impl Abort, alloc: Global, behaviour: Behaviour, csid: Csid) -> SidEntry {
     SidEntry {
         node: 1,
-        prefix,
+        prefix: prefix(rt, 0xfc00_000b_0001_0000_0000_0000_0000_0000, 48),
         behaviour,
-        csid: Csid::Plain,
-        block_len: 0,
+        csid,
+        block_len: if csid == Csid::Plain { 0 } else { 32 },
         psp: false,
         usp: false,
         usd: false,
@@ -137,15 +150,42 @@ fn sid_at_b(alloc: Global, prefix: Prefix, behaviour: Behaviour) -> SidEntry {
     }
 }
 
-/// A has a route to B over ab. B has the SIDs `end`, of a behaviour, and `decapsulation` (End.DT6
-/// of table 5), and in table 5 a route to `inside` out of the network.
-fn two_nodes(
+/// The routes of both families: at A over ab, and at B in a table out of the network.
+fn routes(rt: &impl Abort, alloc: Global) -> Result<Vec<Route>, AllocError> {
+    let block = prefix(rt, 0xfc00_000b_0000_0000_0000_0000_0000_0000, 32);
+    let inside = prefix(rt, 0x2001_0db8_0000_0000_0000_0000_0000_0000, 32);
+    let inside4 = prefix(rt, 0x0a00_0000_0000_0000_0000_0000_0000_0000, 8);
+    let mut routes = Vec::new(alloc);
+    routes.push(route(alloc, 0, 0, Family::V6, block, 0)?)?;
+    routes.push(route(alloc, 0, 0, Family::V4, inside4, 0)?)?;
+    routes.push(route(alloc, 1, 0, Family::V4, inside4, 1)?)?;
+    routes.push(route(alloc, 1, 5, Family::V6, inside, 1)?)?;
+    routes.push(route(alloc, 1, 5, Family::V4, inside4, 1)?)?;
+    Ok(routes)
+}
+
+/// A policy of one segment.
+fn policy(alloc: Global) -> Result<NamedPolicy, AllocError> {
+    Ok(NamedPolicy {
+        name: name(alloc, "policy")?,
+        policy: Policy {
+            source: Addr { value: 2 },
+            segments: SegmentList::new([Addr { value: 3 }].to_vec(alloc)?),
+            traffic_class: 0,
+            flow_label: 0,
+            hop_limit: 64,
+            reduced: false,
+        },
+    })
+}
+
+/// A and B, a link ab and one out of the network from B, and a SID at B.
+fn net_of(
+    rt: &impl Abort,
     alloc: Global,
-    behaviour: Behaviour,
-    end: Prefix,
-    decapsulation: Prefix,
-    inside: Prefix,
-) -> Result<NetParts, AllocError> {
+    blocks: Vec<Block>,
+    sid: SidEntry,
+) -> Result<Net, AllocError> {
     let mut nodes = Vec::new(alloc);
     nodes.push(node(alloc, "A", 1)?)?;
     nodes.push(node(alloc, "B", 2)?)?;
@@ -160,47 +200,45 @@ fn two_nodes(
         from: 1,
         to: None,
     })?;
-    let mut routes = Vec::new(alloc);
-    routes.push(route(alloc, 0, 0, end, 0)?)?;
-    routes.push(route(alloc, 1, 5, inside, 1)?)?;
+    let mut policies = Vec::new(alloc);
+    policies.push(policy(alloc)?)?;
     let mut sids = Vec::new(alloc);
-    sids.push(sid_at_b(alloc, end, behaviour))?;
-    sids.push(sid_at_b(alloc, decapsulation, Behaviour::Dt6 { table: 5 }))?;
-    Ok(NetParts {
-        blocks: Vec::new(alloc),
+    sids.push(sid)?;
+    let parts = NetParts {
+        blocks,
         nodes,
         links,
-        routes,
-        policies: Vec::new(alloc),
+        routes: routes(rt, alloc)?,
+        policies,
         titles: Vec::new(alloc),
         sids,
-    })
-}
-
-fn spelled(alloc: Global, content: &Content) -> Result<Vec<u8>, AllocError> {
-    let mut out = Vec::new(alloc);
-    content.append_to(&mut out)?;
-    Ok(out)
-}
-
-/// The network with an End.
-fn net(rt: &impl Abort, alloc: Global) -> Result<Net, AllocError> {
-    net_with(rt, alloc, Behaviour::End)
-}
-
-/// The network with a behaviour, built.
-fn net_with(rt: &impl Abort, alloc: Global, behaviour: Behaviour) -> Result<Net, AllocError> {
-    let parts = two_nodes(
-        alloc,
-        behaviour,
-        prefix(rt, 0xfc00_000b_0000_0000_0000_0000_0000_0000, 32),
-        prefix(rt, 0xfc00_000b_0001_0000_0000_0000_0000_0000, 48),
-        prefix(rt, 0x2001_0db8_0000_0000_0000_0000_0000_0000, 32),
-    )?;
+    };
     assert!(rt; are_in_range(&parts));
     Ok(Net::build(alloc, parts, &[]).ok().expect(rt, "a network"))
 }
 
+/// The network with a plain SID.
+fn net_with(rt: &impl Abort, alloc: Global, sid: SidEntry) -> Result<Net, AllocError> {
+    net_of(rt, alloc, Vec::new(alloc), sid)
+}
+
+/// The network with a compressed End in a block of a kind.
+fn net_in_block(
+    rt: &impl Abort,
+    alloc: Global,
+    kind: BlockKind,
+    csid: Csid,
+) -> Result<Net, AllocError> {
+    let mut blocks = Vec::new(alloc);
+    blocks.push(Block {
+        prefix: prefix(rt, 0xfc00_000b_0000_0000_0000_0000_0000_0000, 32),
+        kind,
+        csid: 16,
+    })?;
+    net_of(rt, alloc, blocks, sid_at_b(rt, alloc, Behaviour::End, csid))
+}
+
+/// Three parts of a packet, one behind the other.
 fn joined(alloc: Global, a: &[u8], b: &[u8], c: &[u8]) -> Result<Vec<u8>, AllocError> {
     let mut bytes = a.to_vec(alloc)?;
     bytes.extend_from_slice(b)?;
@@ -208,20 +246,80 @@ fn joined(alloc: Global, a: &[u8], b: &[u8], c: &[u8]) -> Result<Vec<u8>, AllocE
     Ok(bytes)
 }
 
+/// What comes at B of bytes of a family that arrived in table 0, and the bytes after it.
+fn at_b(
+    alloc: Global,
+    net: &Net,
+    family: Family,
+    bytes: Vec<u8>,
+) -> Result<(Outcome, Vec<u8>), AllocError>
+    requires { length net.now.nodes ≡ 2 }
+{
+    let mut content = Content::enter(family, bytes);
+    let place = arrival(1, family);
+    let outcome = stage(net, &place, &mut content, 0, &mut IcmpSlot::new());
+    let mut after = Vec::new(alloc);
+    content.append_to(&mut after)?;
+    Ok((outcome, after))
+}
+
+/// An IPv4 packet goes through both nodes and leaves: its TTL is lowered twice, and the checksum
+/// follows.
+#[test]
+fn an_ipv4_packet_goes_through(rt: HostRuntime) -> Result<(), Fail> {
+    let net = net_with(
+        &rt,
+        rt.alloc(),
+        sid_at_b(&rt, rt.alloc(), Behaviour::End, Csid::Plain),
+    )?;
+    assert_eq!(rt; net.nodes(), 2);
+    let mut content = Content::enter(Family::V4, PACKET_4.to_vec(rt.alloc())?);
+    let mut error = IcmpSlot::new();
+    let start = arrival(0, Family::V4);
+    let sent = stage(&net, &start, &mut content, 0, &mut error);
+    assert_eq!(rt; sent, Outcome::Send { link: 0 });
+    let place = arrival(1, Family::V4);
+    assert_eq!(rt; next_place(&net, &start, &sent), Some(place));
+    let left = stage(&net, &place, &mut content, 0, &mut error);
+    assert_eq!(rt; left, Outcome::Send { link: 1 });
+    assert_eq!(rt; ended_by(&net, &place, &left), Ended::Left { link: 1 });
+    assert_eq!(rt; content.bytes(), PACKET_4_BEHIND_B.as_slice());
+    Ok(())
+}
+
+/// An IPv4 packet with TTL 1 is dropped as it is, and no error is sent about it.
+#[test]
+fn a_ttl_of_one_is_not_sent(rt: HostRuntime) -> Result<(), Fail> {
+    let net = net_with(
+        &rt,
+        rt.alloc(),
+        sid_at_b(&rt, rt.alloc(), Behaviour::End, Csid::Plain),
+    )?;
+    assert_eq!(rt; net.nodes(), 2);
+    let mut packet = PACKET_4;
+    packet[8] = 1;
+    let (outcome, after) = at_b(rt.alloc(), &net, Family::V4, packet.to_vec(rt.alloc())?)?;
+    let dropped = Outcome::Drop {
+        reason: Reason::Ttl,
+        error: false,
+    };
+    assert_eq!(rt; outcome, dropped);
+    assert_eq!(rt; after.as_slice(), packet.as_slice());
+    Ok(())
+}
+
 /// At B the next segment becomes the destination; what stood behind the packet's end is gone.
 #[test]
 fn end_makes_the_next_segment_the_destination(rt: HostRuntime) -> Result<(), Fail> {
-    let net = net(&rt, rt.alloc())?;
+    let net = net_with(
+        &rt,
+        rt.alloc(),
+        sid_at_b(&rt, rt.alloc(), Behaviour::End, Csid::Plain),
+    )?;
     assert_eq!(rt; net.nodes(), 2);
     let mut bytes = joined(rt.alloc(), &HEADER, &SEGMENTS, &INSIDE)?;
     bytes.push(1)?;
-    let mut content = Content::enter(bytes);
-    let place = Place {
-        node: 1,
-        how: How::Arrived { table: 0 },
-        family: Family::V6,
-    };
-    let outcome = stage(&net, &place, &mut content, 7, &mut IcmpSlot::new());
+    let (outcome, after) = at_b(rt.alloc(), &net, Family::V6, bytes)?;
     let how = How::Submitted { table: 0 };
     assert_eq!(rt; outcome, Outcome::Again { sid: 0, how });
     let wanted = joined(
@@ -230,106 +328,130 @@ fn end_makes_the_next_segment_the_destination(rt: HostRuntime) -> Result<(), Fai
         &SEGMENTS_BEHIND_END,
         &INSIDE,
     )?;
-    assert_eq!(rt;
-        spelled(rt.alloc(), &content)?.as_slice(),
-        wanted.as_slice()
-    );
+    assert_eq!(rt; after.as_slice(), wanted.as_slice());
     Ok(())
 }
 
-/// End.T makes the next segment the destination, to be looked up in its table.
+/// With PSP the segment routing header is gone where no segment is left; End.T looks the packet up
+/// in its table.
 #[test]
-fn end_t_looks_the_next_segment_up_in_its_table(rt: HostRuntime) -> Result<(), Fail> {
-    let net = net_with(&rt, rt.alloc(), Behaviour::EndT { table: 5 })?;
+fn psp_takes_the_header_out(rt: HostRuntime) -> Result<(), Fail> {
+    let mut sid = sid_at_b(&rt, rt.alloc(), Behaviour::EndT { table: 5 }, Csid::Plain);
+    sid.psp = true;
+    let net = net_with(&rt, rt.alloc(), sid)?;
     assert_eq!(rt; net.nodes(), 2);
     let bytes = joined(rt.alloc(), &HEADER, &SEGMENTS, &INSIDE)?;
-    let mut content = Content::enter(bytes);
-    let place = Place {
-        node: 1,
+    let (outcome, after) = at_b(rt.alloc(), &net, Family::V6, bytes)?;
+    let how = How::Submitted { table: 5 };
+    assert_eq!(rt; outcome, Outcome::Again { sid: 0, how });
+    let mut header = HEADER_BEHIND_END;
+    header[5] = 40;
+    header[6] = 41;
+    let wanted = joined(rt.alloc(), &header, &INSIDE, &[])?;
+    assert_eq!(rt; after.as_slice(), wanted.as_slice());
+    Ok(())
+}
+
+/// With USD the packet inside is exposed where no segment is left, and arrives in table 0.
+#[test]
+fn usd_exposes_the_packet_inside(rt: HostRuntime) -> Result<(), Fail> {
+    let mut sid = sid_at_b(&rt, rt.alloc(), Behaviour::End, Csid::Plain);
+    sid.usd = true;
+    let net = net_with(&rt, rt.alloc(), sid)?;
+    assert_eq!(rt; net.nodes(), 2);
+    let bytes = joined(rt.alloc(), &HEADER, &SEGMENTS_BEHIND_END, &INSIDE)?;
+    let (outcome, after) = at_b(rt.alloc(), &net, Family::V6, bytes)?;
+    let exposed = Outcome::Hand {
+        sid: 0,
         how: How::Arrived { table: 0 },
         family: Family::V6,
     };
-    let outcome = stage(&net, &place, &mut content, 0, &mut IcmpSlot::new());
-    let how = How::Submitted { table: 5 };
-    assert_eq!(rt; outcome, Outcome::Again { sid: 0, how });
+    assert_eq!(rt; outcome, exposed);
+    assert_eq!(rt; after.as_slice(), INSIDE.as_slice());
     Ok(())
 }
 
-/// The second SID exposes the packet inside.
+/// End.DT46 exposes packets of either family, which arrive in its table.
 #[test]
-fn decapsulation_exposes_the_packet_inside(rt: HostRuntime) -> Result<(), Fail> {
-    let net = net(&rt, rt.alloc())?;
+fn dt46_exposes_packets_of_either_family(rt: HostRuntime) -> Result<(), Fail> {
+    let sid = sid_at_b(&rt, rt.alloc(), Behaviour::Dt46 { table: 5 }, Csid::Plain);
+    let net = net_with(&rt, rt.alloc(), sid)?;
     assert_eq!(rt; net.nodes(), 2);
-    let bytes = joined(
-        rt.alloc(),
-        &HEADER_BEHIND_END,
-        &SEGMENTS_BEHIND_END,
-        &INSIDE,
-    )?;
-    let mut content = Content::enter(bytes);
-    let place = Place {
-        node: 1,
-        how: How::Submitted { table: 0 },
-        family: Family::V6,
-    };
-    let outcome = stage(&net, &place, &mut content, 0, &mut IcmpSlot::new());
     let how = How::Arrived { table: 5 };
+    let bytes = joined(rt.alloc(), &HEADER, &SEGMENTS_BEHIND_END, &INSIDE)?;
+    let (outcome, after) = at_b(rt.alloc(), &net, Family::V6, bytes)?;
+    let family = Family::V6;
     assert_eq!(rt;
         outcome,
         Outcome::Hand {
-            sid: 1,
+            sid: 0,
             how,
-            family: Family::V6
+            family
         }
     );
-    assert_eq!(rt;
-        spelled(rt.alloc(), &content)?.as_slice(),
-        INSIDE.as_slice()
-    );
-    Ok(())
-}
-
-/// A SID that is not built yet drops the packet as it is.
-#[test]
-fn a_sid_that_is_not_built_drops_the_packet(rt: HostRuntime) -> Result<(), Fail> {
-    let net = net_with(&rt, rt.alloc(), Behaviour::Dt46 { table: 5 })?;
-    assert_eq!(rt; net.nodes(), 2);
-    let bytes = joined(rt.alloc(), &HEADER, &SEGMENTS, &INSIDE)?;
-    let mut content = Content::enter(bytes);
-    let place = Place {
-        node: 1,
-        how: How::Arrived { table: 0 },
-        family: Family::V6,
-    };
-    let outcome = stage(&net, &place, &mut content, 0, &mut IcmpSlot::new());
+    assert_eq!(rt; after.as_slice(), INSIDE.as_slice());
+    let mut header = HEADER;
+    header[5] = 24;
+    header[6] = 4;
+    let bytes = joined(rt.alloc(), &header, &PACKET_4, &[])?;
+    let (outcome, after) = at_b(rt.alloc(), &net, Family::V6, bytes)?;
+    let family = Family::V4;
     assert_eq!(rt;
         outcome,
-        Outcome::Drop {
-            reason: Reason::NotBuilt,
-            error: false
+        Outcome::Hand {
+            sid: 0,
+            how,
+            family
         }
     );
-    let same = joined(rt.alloc(), &HEADER, &SEGMENTS, &INSIDE)?;
-    assert_eq!(rt; spelled(rt.alloc(), &content)?.as_slice(), same.as_slice());
+    assert_eq!(rt; after.as_slice(), PACKET_4.as_slice());
     Ok(())
 }
 
-/// The packet that was inside leaves the network.
+/// With NEXT-CSID the next compressed SID is moved up in the destination.
 #[test]
-fn the_packet_inside_leaves(rt: HostRuntime) -> Result<(), Fail> {
-    let net = net(&rt, rt.alloc())?;
+fn next_csid_moves_up(rt: HostRuntime) -> Result<(), Fail> {
+    let net = net_in_block(&rt, rt.alloc(), BlockKind::Next, Csid::Next)?;
     assert_eq!(rt; net.nodes(), 2);
-    let mut content = Content::enter(INSIDE.to_vec(rt.alloc())?);
-    assert_eq!(rt; content.len(), 40);
-    let place = Place {
-        node: 1,
-        how: How::Arrived { table: 5 },
-        family: Family::V6,
+    let (outcome, after) = at_b(rt.alloc(), &net, Family::V6, CARRIER.to_vec(rt.alloc())?)?;
+    let how = How::Submitted { table: 0 };
+    assert_eq!(rt; outcome, Outcome::Again { sid: 0, how });
+    assert_eq!(rt; after.as_slice(), CARRIER_BEHIND_B.as_slice());
+    Ok(())
+}
+
+/// With REPLACE-CSID the next compressed SID of the entry is written into the destination.
+#[test]
+fn replace_csid_is_written(rt: HostRuntime) -> Result<(), Fail> {
+    let net = net_in_block(&rt, rt.alloc(), BlockKind::Replace, Csid::Replace)?;
+    assert_eq!(rt; net.nodes(), 2);
+    let (outcome, after) = at_b(rt.alloc(), &net, Family::V6, CONTAINER.to_vec(rt.alloc())?)?;
+    let how = How::Submitted { table: 0 };
+    assert_eq!(rt; outcome, Outcome::Again { sid: 0, how });
+    // hop limit 62, to fc00:b:2::6
+    let mut wanted = CONTAINER;
+    wanted[7] = 62;
+    wanted[29] = 2;
+    wanted[39] = 6;
+    assert_eq!(rt; after.as_slice(), wanted.as_slice());
+    Ok(())
+}
+
+/// A SID that nodes do not run yet drops the packet as it is.
+#[test]
+fn a_binding_sid_drops_the_packet(rt: HostRuntime) -> Result<(), Fail> {
+    let sid = sid_at_b(&rt, rt.alloc(), Behaviour::B6 { policy: 0 }, Csid::Plain);
+    let net = net_with(&rt, rt.alloc(), sid)?;
+    assert_eq!(rt; net.nodes(), 2);
+    let bytes = joined(rt.alloc(), &HEADER, &SEGMENTS, &INSIDE)?;
+    let (outcome, after) = at_b(rt.alloc(), &net, Family::V6, bytes)?;
+    let dropped = Outcome::Drop {
+        reason: Reason::NotBuilt,
+        error: false,
     };
-    let outcome = stage(&net, &place, &mut content, 3, &mut IcmpSlot::new());
-    assert_eq!(rt; outcome, Outcome::Send { link: 1 });
-    assert_eq!(rt; next_place(&net, &place, &outcome), None);
-    assert_eq!(rt; ended_by(&net, &place, &outcome), Ended::Left { link: 1 });
+    assert_eq!(rt; outcome, dropped);
+    let same = joined(rt.alloc(), &HEADER, &SEGMENTS, &INSIDE)?;
+    assert_eq!(rt; after.as_slice(), same.as_slice());
     Ok(())
 }
 
@@ -341,72 +463,51 @@ fn pointer_of(error: &[u8]) -> Option<u32> {
     Some(four_at(error, 44))
 }
 
-/// What comes at B of a packet to its End, with a next header and what stands behind the IPv6
-/// header, and the pointer of the error that is sent, if one is.
-fn at_b(
+/// What comes at B of a packet to its SID with Destination Options, and the pointer of the error
+/// that is sent, if one is.
+fn options_at_b(
     alloc: Global,
     net: &Net,
-    next_header: u8,
     payload: &[u8],
 ) -> Result<(Outcome, Option<u32>), AllocError>
     requires nodes { length net.now.nodes ≡ 2 }
-    requires payload { length payload.now < 256 }
+    requires payload { length payload.now < 2 ^ 8 }
 {
     let mut header = HEADER;
     header[5] = payload.len() as u8;
-    header[6] = next_header;
-    let mut bytes = header.to_vec(alloc)?;
-    bytes.extend_from_slice(payload)?;
-    let mut content = Content::enter(bytes);
-    let place = Place {
-        node: 1,
-        how: How::Arrived { table: 0 },
-        family: Family::V6,
-    };
+    header[6] = 60;
+    let mut content = Content::enter(Family::V6, joined(alloc, &header, payload, &[])?);
     let mut error = IcmpSlot::new();
-    let outcome = stage(net, &place, &mut content, 0, &mut error);
+    let outcome = stage(net, &arrival(1, Family::V6), &mut content, 0, &mut error);
     Ok((outcome, pointer_of(error.as_slice())))
 }
 
-/// A drop with an error that has a pointer, or without one.
-fn drop_for(reason: Reason, pointer: Option<u32>) -> (Outcome, Option<u32>) {
-    let error = pointer.is_some();
-    (Outcome::Drop { reason, error }, pointer)
-}
-
-/// Options are judged one by one. A late Hop-by-Hop Options header is told by the place that names
-/// it, an option by its type.
+/// An error points at the fault in the packet as it was: a late Hop-by-Hop Options header is told by
+/// the place that names it. About an option that is discarded none is sent.
 #[test]
-fn options_refuse_at_b(rt: HostRuntime) -> Result<(), Fail> {
-    let net = net(&rt, rt.alloc())?;
+fn an_error_points_at_the_fault(rt: HostRuntime) -> Result<(), Fail> {
+    let net = net_with(
+        &rt,
+        rt.alloc(),
+        sid_at_b(&rt, rt.alloc(), Behaviour::End, Csid::Plain),
+    )?;
     assert_eq!(rt; net.nodes(), 2);
-    let late = at_b(rt.alloc(), &net, 60, &LATE_HOP_BY_HOP)?;
-    assert_eq!(rt; late, drop_for(Reason::LateHopByHop, Some(40)));
-    let unknown = at_b(rt.alloc(), &net, 60, &UNKNOWN_OPTION)?;
-    assert_eq!(rt; unknown, drop_for(Reason::OptionUnknown, Some(45)));
-    let discarded = at_b(rt.alloc(), &net, 60, &DISCARDED_OPTION)?;
-    assert_eq!(rt; discarded, drop_for(Reason::OptionDiscard, None));
-    let long = at_b(rt.alloc(), &net, 60, &LONG_OPTION)?;
-    assert_eq!(rt; long, drop_for(Reason::BadChain, None));
-    Ok(())
-}
-
-/// A Fragment header, routing headers and type-length-value areas; behind a routing header with no
-/// segments left the upper layer is judged.
-#[test]
-fn headers_refuse_at_b(rt: HostRuntime) -> Result<(), Fail> {
-    let net = net(&rt, rt.alloc())?;
-    assert_eq!(rt; net.nodes(), 2);
-    let fragment = at_b(rt.alloc(), &net, 44, &FRAGMENT)?;
-    assert_eq!(rt; fragment, drop_for(Reason::Fragment, None));
-    let other = at_b(rt.alloc(), &net, 43, &OTHER_ROUTING)?;
-    assert_eq!(rt; other, drop_for(Reason::UnknownRouting, Some(42)));
-    let behind = at_b(rt.alloc(), &net, 43, &OTHER_ROUTING_BEHIND_END)?;
-    assert_eq!(rt; behind, drop_for(Reason::UpperLayer, Some(48)));
-    let hmac = at_b(rt.alloc(), &net, 43, &SEGMENT_AND_HMAC)?;
-    assert_eq!(rt; hmac, drop_for(Reason::HmacTlv, None));
-    let cut = at_b(rt.alloc(), &net, 43, &SEGMENT_AND_CUT_ITEM)?;
-    assert_eq!(rt; cut, drop_for(Reason::BadTlv, None));
+    let late = Outcome::Drop {
+        reason: Reason::LateHopByHop,
+        error: true,
+    };
+    assert_eq!(rt;
+        options_at_b(rt.alloc(), &net, &LATE_HOP_BY_HOP)?,
+        (late, Some(40))
+    );
+    let discarded = Outcome::Drop {
+        reason: Reason::OptionDiscard,
+        error: false,
+    };
+    assert_eq!(rt;
+        options_at_b(rt.alloc(), &net, &DISCARDED_OPTION)?,
+        (discarded, None)
+    );
     Ok(())
 }
 
@@ -414,31 +515,26 @@ fn headers_refuse_at_b(rt: HostRuntime) -> Result<(), Fail> {
 /// the slot holds is gone with the next stage.
 #[test]
 fn drop_is_told_from_the_node(rt: HostRuntime) -> Result<(), Fail> {
-    let net = net(&rt, rt.alloc())?;
+    let net = net_with(
+        &rt,
+        rt.alloc(),
+        sid_at_b(&rt, rt.alloc(), Behaviour::End, Csid::Plain),
+    )?;
     assert_eq!(rt; net.nodes(), 2);
-    let mut content = Content::enter(INSIDE.to_vec(rt.alloc())?);
-    let mut place = Place {
-        node: 1,
-        how: How::Arrived { table: 0 },
-        family: Family::V6,
-    };
+    let mut content = Content::enter(Family::V6, INSIDE.to_vec(rt.alloc())?);
+    assert_eq!(rt; content.len(), 40);
+    let mut place = arrival(1, Family::V6);
     let mut error = IcmpSlot::new();
-    let dropped = stage(&net, &place, &mut content, 0, &mut error);
-    assert_eq!(rt;
-        dropped,
-        Outcome::Drop {
-            reason: Reason::NoRoute,
-            error: true
-        }
-    );
+    let dropped = Outcome::Drop {
+        reason: Reason::NoRoute,
+        error: true,
+    };
+    assert_eq!(rt; stage(&net, &place, &mut content, 0, &mut error), dropped);
     let wanted = joined(rt.alloc(), &NO_ROUTE, &INSIDE, &[])?;
     assert_eq!(rt; error.as_slice(), wanted.as_slice());
-    assert_eq!(rt;
-        spelled(rt.alloc(), &content)?.as_slice(),
-        INSIDE.as_slice()
-    );
+    assert_eq!(rt; content.bytes(), INSIDE.as_slice());
     place.how = How::Arrived { table: 5 };
-    let sent = stage(&net, &place, &mut content, 0, &mut error);
+    let sent = stage(&net, &place, &mut content, 3, &mut error);
     assert_eq!(rt; sent, Outcome::Send { link: 1 });
     assert!(rt; error.is_empty());
     Ok(())

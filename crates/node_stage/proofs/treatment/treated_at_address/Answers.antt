@@ -1,5 +1,0 @@
-use Rattle.srv6_rules.proofs.PublicLaws.{at_address-place}
-use Rattle.node_stage.proofs.treatment.treated_at_address.Goals as goal
-
-pub refused-requires : goal.refused-requires
-refused-requires c = at_address-place c.args.packet c.in-Some.fault.reason c.in-Some.fault.at c.in-Some.ensures

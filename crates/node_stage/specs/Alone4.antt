@@ -1,0 +1,9 @@
+-- An IPv4 packet in bytes that spell it.
+use Rattle.std.specs.Prelude.{◌≡◌, ℕ, List, length}
+use Rattle.srv6_rules.specs.Packet4.{total_len}
+use Rattle.ip6_headers.specs.Reading4.{HoldsPacket4}
+
+-- the bytes hold a packet, and nothing stands behind its end
+pub record HoldsAlone4 (bytes : List ℕ) : Type 0 where
+  pub holds : HoldsPacket4 bytes
+  pub alone : length bytes ≡ total_len bytes

@@ -1,0 +1,57 @@
+//! What a stage gives, before the error about what it drops.
+
+ghost use Rattle.std.specs.Prelude.{◌≡◌, ℕ, ◌+◌, ◌≤◌, length};
+ghost use Rattle.srv6_rules.specs.Packet.{V6};
+ghost use Rattle.net_model.specs.Network.{Network};
+ghost use Rattle.walk_rules.specs.Treatment.{dropped};
+ghost use Rattle.node_stage.specs.Staging.{gave_of};
+
+use crate::content::Content;
+use crate::packet::Packet;
+use ip6_headers::Fault;
+use srv6_rules::Reason;
+use srv6_rules::numbers::IPV6_HEADER_LEN;
+use walk_rules::Outcome;
+
+/// What a stage gives.
+#[derive(Debug, Drop)]
+pub(crate) enum Staged {
+    /// An outcome that is no drop, and what stands there after it.
+    Goes {
+        outcome: Outcome,
+        after: Content,
+    },
+    /// What stands there is dropped as it is, with the fault's place in bytes from its first, 0
+    /// where the reason has none.
+    Drops {
+        reason: Reason,
+        at: u32,
+        content: Content,
+    },
+}
+
+/// A packet is dropped as it is, for a fault at a place of it.
+pub(crate) fn refused(fault: Fault, packet: Packet) -> Staged
+    requires { fault.at ≤ IPV6_HEADER_LEN + length packet.payload }
+    ensures { (net : Network) (node : ℕ)
+        → gave_of net node result ≡ dropped net node fault.reason fault.at (V6 packet) }
+{
+    packet.keeps_rules();
+    Staged::Drops {
+        reason: fault.reason,
+        at: fault.at as u32,
+        content: Content::of(packet),
+    }
+}
+
+/// What stands at a node is dropped as it is, for a reason that has no place.
+pub(crate) fn dropped_for(reason: Reason, content: Content) -> Staged
+    ensures { (net : Network) (node : ℕ)
+        → gave_of net node result ≡ dropped net node reason 0 content }
+{
+    Staged::Drops {
+        reason,
+        at: 0,
+        content,
+    }
+}
