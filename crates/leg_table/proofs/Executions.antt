@@ -4,27 +4,29 @@ use Rattle.std.specs.Prelude.{◌↔◌}
 use Rattle.std.proofs.lemmas.Bool.{cases_Bool, false≢true, and_parts, and_from, eq-eqb, le-leb, lt-leb}
 use Rattle.std.proofs.lemmas.Bool.Decides.{leb_tells}
 use Rattle.srv6_rules.specs.declared.sid.Behaviour.{Behaviour}
+use Rattle.srv6_rules.specs.declared.sid.Csid.TheVariants as csids
 use Rattle.srv6_rules.specs.declared.sid.Family.{Family}
 use Rattle.srv6_rules.specs.declared.sid.Reason.TheVariants as reasons
 use Rattle.srv6_rules.specs.declared.sid.SidEntry.{SidEntry}
-use Rattle.srv6_rules.specs.Behaviours.{goes_on, exposes, is_built, ipv6_inside, family_inside}
+use Rattle.srv6_rules.specs.Behaviours.{goes_on, exposes, is_built, is_listed, ipv6_inside, family_inside}
 use Rattle.srv6_rules.specs.Packet.{Packet, V6, read_as}
 use Rattle.srv6_rules.specs.Srh.{Srh, srh_of, segments_left_at, routing_type_at}
 use Rattle.srv6_rules.specs.Areas.{Fault, options_fault, tlvs_fault}
 use Rattle.srv6_rules.specs.Chain.{Header, ChainEnd, Upper, Cut, hop_by_hop, fragment, destination_options, is_first, segments_left, is_segment_routing, from_place, chain_of, chain_from, without}
 use Rattle.srv6_rules.specs.Endpoint.{Endpoint, Onward, Exposed, Delivered, Refused, at_sid, at_header, at_end, over_headers, upper_layer, unless_fault, next_segment, has_bad_segments, advanced, as_in, outcome_without, leaves_none}
-use Rattle.srv6_rules.proofs.PublicLaws.{without-others}
+use Rattle.srv6_rules.proofs.PublicLaws.{without-others, upper-plain, listed-plain, listed-built}
 use Rattle.net_model.specs.Network.{Network}
 use Rattle.walk_rules.specs.declared.place.Place.{Place}
 use Rattle.walk_rules.specs.declared.place.Outcome.{Outcome}
 use Rattle.walk_rules.specs.declared.place.Outcome.TheVariants as outcomes
 use Rattle.walk_rules.specs.Way.{Way, Into, way_of}
-use Rattle.walk_rules.specs.Treatment.{Gave, goes, treated, treated_in, treated_at_sid, allow_of, step_of, on_from, dropped}
+use Rattle.walk_rules.specs.Treatment.{Gave, goes, treated, treated_in, treated_at_sid, allow_of, step_of, onward_from, exposed_from, dropped}
 use Rattle.intent_reader.specs.declared.intent.Step.{Step}
 use Rattle.leg_table.specs.Tasks.{left_after}
 use Rattle.leg_table.specs.Choices.{Ends, seen_at}
 use Rattle.leg_table.specs.Ride.{with_hop_limit}
 use Rattle.leg_table.specs.Sids.{takes_step, hands_over}
+use Rattle.leg_table.proofs.TakenSids.{plain_header, header-plain, over-plain}
 use Rattle.leg_table.specs.Leg.{is_onward, is_exposed, takes_on, takes_out, has_next_segment, has_packet_inside, is_again, is_hand, is_left, stage_executes, stage_exposes}
 
 -- what comes of a packet is that it goes on where its hop limit is above 1, else that it is dropped for its hop limit
@@ -32,6 +34,12 @@ abbrev pub GoesOnAbove : Packet → (Packet → Endpoint) → Type 0
 GoesOnAbove p treat =
     ((limit : ℕ) → 1 < limit → (q : Packet) × (treat (with_hop_limit limit p) ≡ Onward q) × (q.hop_limit ≡ limit - 1))
     × ((limit : ℕ) → limit ≤ 1 → treat (with_hop_limit limit p) ≡ Refused reasons.HopLimit 0)
+
+opens-same : (p : Packet) (one other : Packet → Endpoint) → ((q : Packet) → one q ≡ other q) → GoesOnAbove p one → GoesOnAbove p other
+opens-same p one other same opens = (
+  λ limit high. let r = opens.0 limit high in (r.0, sym (same (with_hop_limit limit p)) ∙ r.1, r.2),
+  λ limit low. sym (same (with_hop_limit limit p)) ∙ opens.1 limit low,
+)
 
 -- where a next segment is there, the step over the header depends on the hop limit alone
 segment_opens : (p : Packet) (at : ℕ) (s : Srh) → is_onward (next_segment (with_hop_limit 2 p) at s) ≡ true
@@ -97,21 +105,21 @@ chosen hop first options part fault known none goes usp pops h step behind =
     else Refused reasons.BadSegments (h.place.at + segments_left_at))
     else (if none then behind else Refused reasons.UnknownRouting (h.place.at + routing_type_at))
 
-module _ (s : SidEntry) where
+module _ (s : SidEntry) (plain : s.csid ≡ csids.Plain) where
   -- no packet goes on from the end of its chain
   end_stays : (p : Packet) (end : ChainEnd) → is_onward (at_end s [] p end) ≡ true → ⊥
   end_stays p (Cut place) on = false≢true on
-  end_stays p (Upper place) on = by_test (exposes s place.kind) on
+  end_stays p (Upper place) on = by_test (exposes s place.kind) (ap is_onward (sym (upper-plain s [] p place plain)) ∙ on)
     where
       by_test : (t : Bool) → is_onward (if t then Exposed (family_inside place.kind) (from_place p place.at)
           else upper_layer [] p place) ≡ true → ⊥
       by_test true on = false≢true on
       by_test false on = false≢true on
 
-  header_opens : (p : Packet) (h : Header) (behind : Endpoint) (rest : Packet → Endpoint)
-      → (is_onward behind ≡ true → GoesOnAbove p rest) → is_onward (at_header s (with_hop_limit 2 p) h behind) ≡ true
-      → GoesOnAbove p (λ q. at_header s q h (rest q))
-  header_opens p h behind rest ih on =
+  plain_opens : (p : Packet) (h : Header) (behind : Endpoint) (rest : Packet → Endpoint)
+      → (is_onward behind ≡ true → GoesOnAbove p rest) → is_onward (plain_header s (with_hop_limit 2 p) h behind) ≡ true
+      → GoesOnAbove p (λ q. plain_header s q h (rest q))
+  plain_opens p h behind rest ih on =
       by_tests (h.place.kind == hop_by_hop) (is_first h.place) (h.place.kind == destination_options) (h.place.kind == fragment)
       (options_fault h) (is_segment_routing h) (segments_left h == 0) (goes_on s) s.usp (s.psp && leaves_none (srh_of h.bytes)) on
     where
@@ -135,6 +143,13 @@ module _ (s : SidEntry) where
       by_tests false first false false fault false true goes usp pops on = ih on
       by_tests false first false false fault false false goes usp pops on = absurd (false≢true on)
 
+  header_opens : (p : Packet) (h : Header) (behind : Endpoint) (rest : Packet → Endpoint)
+      → (is_onward behind ≡ true → GoesOnAbove p rest) → is_onward (at_header s (with_hop_limit 2 p) h behind) ≡ true
+      → GoesOnAbove p (λ q. at_header s q h (rest q))
+  header_opens p h behind rest ih on =
+      opens-same p (λ q. plain_header s q h (rest q)) (λ q. at_header s q h (rest q)) (λ q. sym (header-plain s q h (rest q) plain))
+      (plain_opens p h behind rest ih (ap is_onward (sym (header-plain s (with_hop_limit 2 p) h behind plain)) ∙ on))
+
   headers_open : (allow : List ℕ) (p : Packet) (hs : List Header) (end : ChainEnd)
       → is_onward (over_headers (at_header s (with_hop_limit 2 p)) hs (at_end s [] (with_hop_limit 2 p) end)) ≡ true
       → GoesOnAbove p (λ q. over_headers (at_header s q) hs (at_end s allow q end))
@@ -157,7 +172,9 @@ module _ (s : SidEntry) where
   end_shows : (allow : List ℕ) (p : Packet) (limit : ℕ) (end : ChainEnd) → is_exposed (at_end s [] p end) ≡ true
       → Shows (at_end s allow (with_hop_limit limit p) end)
   end_shows allow p limit (Cut place) on = absurd (false≢true on)
-  end_shows allow p limit (Upper place) on = by_test (exposes s place.kind) on
+  end_shows allow p limit (Upper place) on =
+      subst Shows (sym (upper-plain s allow (with_hop_limit limit p) place plain))
+      (by_test (exposes s place.kind) (ap is_exposed (sym (upper-plain s [] p place plain)) ∙ on))
     where
       by_test : (t : Bool) → is_exposed (if t then Exposed (family_inside place.kind) (from_place p place.at)
           else upper_layer [] p place) ≡ true
@@ -166,9 +183,9 @@ module _ (s : SidEntry) where
       by_test true on = (family_inside place.kind, from_place p place.at, refl)
       by_test false on = absurd (false≢true on)
 
-  header_shows : (p q : Packet) (h : Header) (behind rest : Endpoint) → (is_exposed behind ≡ true → Shows rest)
-      → is_exposed (at_header s p h behind) ≡ true → Shows (at_header s q h rest)
-  header_shows p q h behind rest ih on =
+  plain_shows : (p q : Packet) (h : Header) (behind rest : Endpoint) → (is_exposed behind ≡ true → Shows rest)
+      → is_exposed (plain_header s p h behind) ≡ true → Shows (plain_header s q h rest)
+  plain_shows p q h behind rest ih on =
       by_tests (h.place.kind == hop_by_hop) (is_first h.place) (h.place.kind == destination_options) (h.place.kind == fragment)
       (options_fault h) (is_segment_routing h) (segments_left h == 0) (goes_on s) s.usp (s.psp && leaves_none (srh_of h.bytes)) on
     where
@@ -189,6 +206,12 @@ module _ (s : SidEntry) where
       by_tests false first false false fault true false false usp pops on = absurd (false≢true on)
       by_tests false first false false fault false true goes usp pops on = ih on
       by_tests false first false false fault false false goes usp pops on = absurd (false≢true on)
+
+  header_shows : (p q : Packet) (h : Header) (behind rest : Endpoint) → (is_exposed behind ≡ true → Shows rest)
+      → is_exposed (at_header s p h behind) ≡ true → Shows (at_header s q h rest)
+  header_shows p q h behind rest ih on =
+      subst Shows (sym (header-plain s q h rest plain))
+      (plain_shows p q h behind rest ih (ap is_exposed (sym (header-plain s p h behind plain)) ∙ on))
 
   headers_show : (allow : List ℕ) (p : Packet) (limit : ℕ) (hs : List Header) (end : ChainEnd)
       → is_exposed (over_headers (at_header s p) hs (at_end s [] p end)) ≡ true
@@ -217,13 +240,21 @@ some_packet destination limit =
       payload = 41 ∷ 2 ∷ 4 ∷ 1 ∷ 0 ∷ 0 ∷ 0 ∷ 0 ∷ 0 ∷ 0 ∷ 0 ∷ 0 ∷ 0 ∷ 0 ∷ 0 ∷ 0 ∷ 0 ∷ 0 ∷ 0 ∷ 0 ∷ 0 ∷ 0 ∷ 0 ∷ 0 ∷ [];
     }
 
-some_packet-onward : (s : SidEntry) (destination limit : ℕ) → goes_on s ≡ true
-    → is_onward (at_sid s [] (with_hop_limit 2 (some_packet destination limit))) ≡ true
+some_packet-opens : (s : SidEntry) (destination limit : ℕ) (end : Endpoint) → goes_on s ≡ true
+    → let p = with_hop_limit 2 (some_packet destination limit) in
+    is_onward (over_headers (plain_header s p) (chain_of p).headers end) ≡ true
 unfolding some_packet chain_from
-some_packet-onward s destination limit goes = elim (cases_Bool s.psp) [
+some_packet-opens s destination limit end goes = elim (cases_Bool s.psp) [
   | inl pops ↦ rw (goes, pops) refl
   | inr stays ↦ rw (goes, stays) refl
 ]
+
+some_packet-onward : (s : SidEntry) (destination limit : ℕ) → s.csid ≡ csids.Plain → goes_on s ≡ true
+    → is_onward (at_sid s [] (with_hop_limit 2 (some_packet destination limit))) ≡ true
+some_packet-onward s destination limit plain goes =
+    let p : Packet = with_hop_limit 2 (some_packet destination limit) in
+    ap is_onward (over-plain s p plain (chain_of p).headers (at_end s [] p (chain_of p).end))
+    ∙ some_packet-opens s destination limit (at_end s [] p (chain_of p).end) goes
 
 some_packet-fields : (destination limit : ℕ)
     → ((some_packet destination limit).destination ≡ destination) × ((some_packet destination limit).hop_limit ≡ limit)
@@ -234,10 +265,10 @@ pub some_packet-has : (net : Network) (n : ℕ) (s : SidEntry) (destination limi
     → (has_next_segment net n (some_packet destination limit) ≡ true) × ((some_packet destination limit).destination ≡ destination)
     × ((some_packet destination limit).hop_limit ≡ limit)
 some_packet-has net n s destination limit there goes =
-    let parts = and_parts (is_built s) (goes_on s) goes in
+    let parts = and_parts (is_listed s) (goes_on s) goes in
     let fields = some_packet-fields destination limit in (
       ap (λ (o : Option SidEntry). takes_on o (some_packet destination limit)) there
-          ∙ and_from (is_built s) _ parts.0 (some_packet-onward s destination limit parts.1),
+          ∙ and_from (is_listed s) _ parts.0 (some_packet-onward s destination limit (listed-plain s parts.0) parts.1),
       fields.0,
       fields.1,
     )
@@ -246,10 +277,10 @@ pub last_packet : ℕ → ℕ → Packet
 last_packet destination limit =
     record { traffic_class = 0; flow_label = 0; next_header = 41; hop_limit = limit; source = 0; destination = destination; payload = [] }
 
-last_packet-exposed : (s : SidEntry) (destination limit : ℕ) → exposes s ipv6_inside ≡ true
+last_packet-exposed : (s : SidEntry) (destination limit : ℕ) → s.csid ≡ csids.Plain → exposes s ipv6_inside ≡ true
     → is_exposed (at_sid s [] (last_packet destination limit)) ≡ true
 unfolding last_packet chain_from
-last_packet-exposed s destination limit shows = rw shows refl
+last_packet-exposed s destination limit plain shows = rw (plain, shows) refl
 
 last_packet-fields : (destination limit : ℕ)
     → ((last_packet destination limit).destination ≡ destination) × ((last_packet destination limit).hop_limit ≡ limit)
@@ -261,10 +292,10 @@ pub last_packet-has : (net : Network) (n : ℕ) (s : SidEntry) (destination limi
     → (has_packet_inside net n (last_packet destination limit) ≡ true) × ((last_packet destination limit).destination ≡ destination)
     × ((last_packet destination limit).hop_limit ≡ limit)
 last_packet-has net n s destination limit there shows =
-    let parts = and_parts (is_built s) (exposes s ipv6_inside) shows in
+    let parts = and_parts (is_listed s) (exposes s ipv6_inside) shows in
     let fields = last_packet-fields destination limit in (
       ap (λ (o : Option SidEntry). takes_out o (last_packet destination limit)) there
-          ∙ and_from (is_built s) _ parts.0 (last_packet-exposed s destination limit parts.1),
+          ∙ and_from (is_listed s) _ parts.0 (last_packet-exposed s destination limit (listed-plain s parts.0) parts.1),
       fields.0,
       fields.1,
     )
@@ -275,14 +306,6 @@ pub stage_into : (net : Network) (place : Place) (q : Packet) (n : ℕ) (s : Sid
     → step_of net place (V6 q) choice
     ≡ treated_at_sid net place.node n s.behaviour q (at_sid s (allow_of (slice_get net.nodes place.node)) q)
 stage_into net place q n s choice e f built =
-    ap (λ (w : Way). treated net place.node w q choice) e ∙ ap (λ (o : Option SidEntry). treated_in net place.node n o q) f
-    ∙ rw built refl
-
--- and where it is not built
-pub stage_not_built : (net : Network) (place : Place) (q : Packet) (n : ℕ) (s : SidEntry) (choice : ℕ)
-    → way_of net place q.destination ≡ Into n → slice_get net.sids n ≡ Some s → is_built s ≡ false
-    → step_of net place (V6 q) choice ≡ dropped net place.node reasons.NotBuilt 0 (V6 q)
-stage_not_built net place q n s choice e f built =
     ap (λ (w : Way). treated net place.node w q choice) e ∙ ap (λ (o : Option SidEntry). treated_in net place.node n o q) f
     ∙ rw built refl
 
@@ -368,15 +391,16 @@ module _ (net : Network) (place : Place) (p : Packet) (n : ℕ) (s : SidEntry) (
 
   drops : has_next_segment net n p ≡ true → limit ≤ 1 → stage ≡ dropped net place.node reasons.HopLimit 0 (V6 p')
   drops on low =
-      let has = and_parts (is_built s) _ (ap (λ (o : Option SidEntry). takes_on o p) (sym there) ∙ on) in
-      stage-is has.0 ∙ ap (treated_at_sid net place.node n s.behaviour p') ((steps_on s allow p has.1).1 limit low)
+      let has = and_parts (is_listed s) _ (ap (λ (o : Option SidEntry). takes_on o p) (sym there) ∙ on) in
+      stage-is (listed-built s has.0)
+      ∙ ap (treated_at_sid net place.node n s.behaviour p') ((steps_on s (listed-plain s has.0) allow p has.1).1 limit low)
 
   goes-on : has_next_segment net n p ≡ true → 1 < limit
-      → (q : Packet) × (stage ≡ goes (outcomes.Again n (on_from n s.behaviour)) (V6 q)) × (q.hop_limit ≡ limit - 1)
+      → (q : Packet) × (stage ≡ goes (outcomes.Again n (onward_from n s.behaviour)) (V6 q)) × (q.hop_limit ≡ limit - 1)
   goes-on on high =
-      let has = and_parts (is_built s) _ (ap (λ (o : Option SidEntry). takes_on o p) (sym there) ∙ on) in
-      let got = (steps_on s allow p has.1).0 limit high in
-      (got.0, stage-is has.0 ∙ ap (treated_at_sid net place.node n s.behaviour p') got.1, got.2)
+      let has = and_parts (is_listed s) _ (ap (λ (o : Option SidEntry). takes_on o p) (sym there) ∙ on) in
+      let got = (steps_on s (listed-plain s has.0) allow p has.1).0 limit high in
+      (got.0, stage-is (listed-built s has.0) ∙ ap (treated_at_sid net place.node n s.behaviour p') got.1, got.2)
 
   -- an execution after which the packet goes on
   pub executes-is : has_next_segment net n p ≡ true
@@ -405,11 +429,11 @@ module _ (net : Network) (place : Place) (p : Packet) (n : ℕ) (s : SidEntry) (
   Exposes gave = Ends gave.outcome (IsTrue (stage_exposes net n left behind ts (seen_at place (V6 p') gave)))
 
   hands-out : has_packet_inside net n p ≡ true
-      → (family : Family) × (bytes : List ℕ) × (stage ≡ goes (outcomes.Hand n (on_from n s.behaviour) family) (read_as family bytes))
+      → (family : Family) × (bytes : List ℕ) × (stage ≡ goes (outcomes.Hand n (exposed_from n s.behaviour) family) (read_as family bytes))
   hands-out on =
-      let has = and_parts (is_built s) _ (ap (λ (o : Option SidEntry). takes_out o p) (sym there) ∙ on) in
-      let got = shows_inside s allow p limit has.1 in
-      (got.0, got.1, stage-is has.0 ∙ ap (treated_at_sid net place.node n s.behaviour p') got.2)
+      let has = and_parts (is_listed s) _ (ap (λ (o : Option SidEntry). takes_out o p) (sym there) ∙ on) in
+      let got = shows_inside s (listed-plain s has.0) allow p limit has.1 in
+      (got.0, got.1, stage-is (listed-built s has.0) ∙ ap (treated_at_sid net place.node n s.behaviour p') got.2)
 
   -- an execution that exposes the packet inside
   pub exposes-is : has_packet_inside net n p ≡ true → Exposes stage ↔ (left_after net n ts ≡ Some left) × (limit ≡ behind)

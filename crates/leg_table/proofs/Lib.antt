@@ -2,6 +2,8 @@ pub mod Choices
 pub mod Links
 pub mod Rides
 pub mod Options
+pub mod SidSearches
+pub mod TakenSids
 pub mod Executions
 pub mod RideFacts
 pub mod LegLemmas

@@ -9,7 +9,7 @@ use Rattle.srv6_rules.specs.declared.sid.Reason.TheVariants as reasons
 use Rattle.srv6_rules.specs.declared.sid.SidEntry.{SidEntry}
 use Rattle.srv6_rules.specs.Packet.{Packet, Content, V6}
 use Rattle.srv6_rules.specs.declared.sid.Family.TheVariants as families
-use Rattle.srv6_rules.specs.Behaviours.{goes_on, exposes, is_built, ipv6_inside}
+use Rattle.srv6_rules.specs.Behaviours.{goes_on, exposes, is_listed, ipv6_inside}
 use Rattle.srv6_rules.specs.Endpoint.{is_allowed, Delivered, Refused}
 use Rattle.srv6_rules.specs.Encapsulation.{Encapsulation, at_segment, header_bytes}
 use Rattle.net_model.specs.Network.{Network}
@@ -22,7 +22,7 @@ use Rattle.walk_rules.specs.declared.place.Place.{Place}
 use Rattle.walk_rules.specs.declared.place.Outcome.{Outcome}
 use Rattle.walk_rules.specs.declared.place.Outcome.TheVariants as outcomes
 use Rattle.walk_rules.specs.Way.{Into, way_of}
-use Rattle.walk_rules.specs.Treatment.{Gave, goes, step_of, on_from, treated_at_sid, allow_of}
+use Rattle.walk_rules.specs.Treatment.{Gave, goes, step_of, onward_from, treated_at_sid, allow_of}
 use Rattle.walk_rules.specs.Walk as walks
 use Rattle.walk_rules.specs.Walk.{walk_of, next_place, decisions}
 use Rattle.intent_reader.specs.Rules.{IsIntent}
@@ -33,7 +33,7 @@ use Rattle.leg_table.specs.Trace.{Crossed, executed, Handed, after_events, hande
 use Rattle.leg_table.specs.Tasks.{meets, matches, left_after}
 use Rattle.leg_table.specs.Choices.{Crosses, Goes, Ends, AtNext, EveryWay}
 use Rattle.leg_table.specs.Ride.{Ride, ride_of, with_hop_limit, RideEnds}
-use Rattle.leg_table.specs.Sids.{takes_step, hands_over, is_sid_at, is_middle, sid_goes_on, sid_exposes, sid_address}
+use Rattle.leg_table.specs.Sids.{AllListed, takes_step, hands_over, is_sid_at, is_middle, sid_goes_on, sid_exposes, sid_address}
 use Rattle.leg_table.specs.Leg.{place_behind, place_from, is_start}
 use Rattle.leg_table.specs.Realizes.{AreSidAddresses, with_leg, path_need}
 use Rattle.leg_table.proofs.Options.{map-some, some-same}
@@ -43,7 +43,8 @@ use Rattle.leg_table.proofs.RideFacts.{ride-facts, StartFacts, start-facts}
 use Rattle.leg_table.proofs.LegLemmas.{NextRide, leg-from, finish-from}
 use Rattle.leg_table.proofs.StrictLaws.{into-stands, arrives, at-end}
 use Rattle.leg_table.proofs.Handing.{handed-stage, walk-same, handed-more, RideWalk, ride-walk}
-use Rattle.leg_table.proofs.Segments.{behind-again, into-address, not-built, mid-onward, mid-low, mid-stays, last-exposes, last-keeps, LeftBehind, meets-behind, behind-alone}
+use Rattle.leg_table.proofs.Segments.{behind-again, into-address, mid-onward, mid-low, mid-stays, last-exposes, last-keeps, LeftBehind, meets-behind, behind-alone}
+use Rattle.leg_table.proofs.TakenSids.{listed-at}
 use Rattle.leg_table.proofs.PathsUp.{first-left, rest-is}
 
 abbrev pub yes : List Step → walks.Step → Bool
@@ -225,8 +226,9 @@ pub record PathFrom (net : Network) (intent : Intent) (position : ℕ) (via : Op
   pub is_path : path_need net intent position via (first ∷ more) ≡ Some need
   pub below : need < hop
 
-module _ (net : Network) (network : IsNetwork net) (flat : IsFlat net) (intent : Intent) (is_intent : IsIntent net intent)
-    (e : Encapsulation) (bytes : List ℕ) (all : All (λ a. a < 2 ^ 128) e.segments) (named : AreSidAddresses net e.segments) where
+module _ (net : Network) (network : IsNetwork net) (flat : IsFlat net) (listed : AllListed net) (intent : Intent)
+    (is_intent : IsIntent net intent) (e : Encapsulation) (bytes : List ℕ) (all : All (λ a. a < 2 ^ 128) e.segments)
+    (named : AreSidAddresses net e.segments) where
   keeps : Keeps net
   keeps = keeps_from_network net network
 
@@ -279,6 +281,10 @@ module _ (net : Network) (network : IsNetwork net) (flat : IsFlat net) (intent :
             hands = hands-along net (drop position intent.steps) place (at_segment e bytes i hop) r w hands;
           }
 
+  -- lists take the SID that the packet comes to
+  taken-here : (position : ℕ) (via : Option ℕ) (i hop : ℕ) (place : Place) (c : Comes position via i hop place) → is_listed c.sid ≡ true
+  taken-here position via i hop place c = listed-at net c.ride.sid c.sid listed c.there
+
   -- at the last segment
   no-steps : (us : List Step) → matches us [] ≡ true → length us ≡ 0
   no-steps [] h = refl
@@ -286,10 +292,11 @@ module _ (net : Network) (network : IsNetwork net) (flat : IsFlat net) (intent :
 
   -- a SID that keeps an IPv6 packet inside hands nothing over there
   keeps-ends : (position : ℕ) (via : Option ℕ) (i hop : ℕ) (place : Place) (c : Comes position via i hop place)
-      → is_built c.sid ≡ true → exposes c.sid ipv6_inside ≡ false → i + 1 ≡ length e.segments → ⊥
-  keeps-ends position via i hop place c built keeps end =
+      → exposes c.sid ipv6_inside ≡ false → i + 1 ≡ length e.segments → ⊥
+  keeps-ends position via i hop place c keeps end =
       by_test (is_allowed (allow_of (slice_get net.nodes c.ride.place.node)) ipv6_inside)
-      (last-keeps net e bytes c.ride.place c.ride.sid i (hop - c.ride.lowered) 0 c.sid c.into c.there built keeps end)
+      (last-keeps net e bytes c.ride.place c.ride.sid i (hop - c.ride.lowered) 0 c.sid c.into c.there
+      (taken-here position via i hop place c) keeps end)
     where
       p : Packet
       p = at_segment e bytes i (hop - c.ride.lowered)
@@ -303,13 +310,6 @@ module _ (net : Network) (network : IsNetwork net) (flat : IsFlat net) (intent :
           (if t then Delivered p else Refused reasons.UpperLayer at) → ⊥
       by_test true gives = no-more net c.ride.place (V6 p) c.ride.left _ gives (λ later. refl) c.hands
       by_test false gives = no-more net c.ride.place (V6 p) c.ride.left _ gives (λ later. refl) c.hands
-
-  -- nor does one that is not built
-  not-built-ends : (position : ℕ) (via : Option ℕ) (i hop : ℕ) (place : Place) (c : Comes position via i hop place)
-      → is_built c.sid ≡ false → ⊥
-  not-built-ends position via i hop place c built =
-      let gives = not-built net e bytes c.ride.place c.ride.sid i (hop - c.ride.lowered) 0 c.sid c.into c.there built in
-      no-more net c.ride.place (V6 (at_segment e bytes i (hop - c.ride.lowered))) c.ride.left _ gives (λ later. refl) c.hands
 
   last-path : (position : ℕ) (via : Option ℕ) (i hop : ℕ) (place : Place) → is_start net intent position via ≡ true
       → place_from net intent via ≡ Some place → i + 1 ≡ length e.segments → (c : Comes position via i hop place)
@@ -339,13 +339,11 @@ module _ (net : Network) (network : IsNetwork net) (flat : IsFlat net) (intent :
   end-path : (position : ℕ) (via : Option ℕ) (i hop : ℕ) (place : Place) → is_start net intent position via ≡ true
       → place_from net intent via ≡ Some place → i + 1 ≡ length e.segments → Comes position via i hop place
       → PathFrom net intent position via (slice_index e.segments i ∷ []) hop
-  end-path position via i hop place start from last c = by_tests (is_built c.sid) (exposes c.sid ipv6_inside) refl refl
+  end-path position via i hop place start from last c = by_test (exposes c.sid ipv6_inside) refl
     where
-      by_tests : (b t : Bool) → is_built c.sid ≡ b → exposes c.sid ipv6_inside ≡ t
-          → PathFrom net intent position via (slice_index e.segments i ∷ []) hop
-      by_tests true true built f = last-path position via i hop place start from last c (and_from _ _ built f)
-      by_tests true false built f = absurd (keeps-ends position via i hop place c built f last)
-      by_tests false t built f = absurd (not-built-ends position via i hop place c built)
+      by_test : (t : Bool) → exposes c.sid ipv6_inside ≡ t → PathFrom net intent position via (slice_index e.segments i ∷ []) hop
+      by_test true f = last-path position via i hop place start from last c (and_from _ _ (taken-here position via i hop place c) f)
+      by_test false f = absurd (keeps-ends position via i hop place c f last)
 
   -- what follows the execution at a segment that is not the last
   record Goes-on (i hop : ℕ) (ride : Ride) (sid : SidEntry) : Type 0 where
@@ -361,7 +359,7 @@ module _ (net : Network) (network : IsNetwork net) (flat : IsFlat net) (intent :
       let n = c.ride.sid in
       let p = at_segment e bytes i (hop - c.ride.lowered) in
       let at = λ (pick : ℕ → ℕ). behind-hands net c.ride.place (place_behind n c.sid) (V6 p)
-      (V6 (at_segment e bytes (suc i) (hop - c.ride.lowered - 1))) c.ride.left pick n (on_from n c.sid.behaviour)
+      (V6 (at_segment e bytes (suc i) (hop - c.ride.lowered - 1))) c.ride.left pick n (onward_from n c.sid.behaviour)
       (mid-onward net e bytes c.ride.place n i (hop - c.ride.lowered) (pick 0) c.sid c.into c.there middle below all high)
       (behind-again net c.ride.place n c.sid c.stands c.family) c.hands in
       let zero_row : ℕ → ℕ = λ d. 0 in
@@ -378,21 +376,23 @@ module _ (net : Network) (network : IsNetwork net) (flat : IsFlat net) (intent :
   mid-goes : (position : ℕ) (via : Option ℕ) (i hop : ℕ) (place : Place) → i + 1 < length e.segments
       → (c : Comes position via i hop place) → Goes-on i hop c.ride c.sid
   mid-goes position via i hop place below c =
-      by_tests (is_built c.sid) (goes_on c.sid) refl refl (cases_lt 1 (hop - c.ride.lowered))
+      by_tests (goes_on c.sid) refl (cases_lt 1 (hop - c.ride.lowered))
     where
       p : Packet
       p = at_segment e bytes i (hop - c.ride.lowered)
 
-      by_tests : (b t : Bool) → is_built c.sid ≡ b → goes_on c.sid ≡ t → ((1 < hop - c.ride.lowered) ⊎ (hop - c.ride.lowered ≤ 1))
+      here : is_listed c.sid ≡ true
+      here = taken-here position via i hop place c
+
+      by_tests : (t : Bool) → goes_on c.sid ≡ t → ((1 < hop - c.ride.lowered) ⊎ (hop - c.ride.lowered ≤ 1))
           → Goes-on i hop c.ride c.sid
-      by_tests false t built f limit = absurd (not-built-ends position via i hop place c built)
-      by_tests true true built f (inl high) = mid-onwards position via i hop place below c (and_from _ _ built f) high
-      by_tests true true built f (inr low) =
-          let middle = and_from _ _ built f in
+      by_tests true f (inl high) = mid-onwards position via i hop place below c (and_from _ _ here f) high
+      by_tests true f (inr low) =
+          let middle = and_from _ _ here f in
           let gives = mid-low net e bytes c.ride.place c.ride.sid i (hop - c.ride.lowered) 0 c.sid c.into c.there middle below low in
           absurd (no-more net c.ride.place (V6 p) c.ride.left _ gives (λ later. refl) c.hands)
-      by_tests true false built f limit =
-          let gives = mid-stays net e bytes c.ride.place c.ride.sid i (hop - c.ride.lowered) 0 c.sid c.into c.there built f below in
+      by_tests false f limit =
+          let gives = mid-stays net e bytes c.ride.place c.ride.sid i (hop - c.ride.lowered) 0 c.sid c.into c.there here f below in
           absurd (no-more net c.ride.place (V6 p) c.ride.left _ gives (λ later. refl) c.hands)
 
   -- a leg in front of a path

@@ -11,7 +11,7 @@ use Rattle.net_model.specs.Network.{Network}
 use Rattle.net_model.specs.Keeps.{Keeps}
 use Rattle.walk_rules.specs.declared.place.Place.{Place}
 use Rattle.walk_rules.specs.Way.{Into, way_of}
-use Rattle.walk_rules.specs.Treatment.{goes, on_from}
+use Rattle.walk_rules.specs.Treatment.{goes, onward_from}
 use Rattle.walk_rules.specs.Walk.{walk_of}
 use Rattle.walk_rules.specs.declared.place.Outcome.TheVariants as outcomes
 use Rattle.walk_rules.proofs.PublicLaws.{way-into}
@@ -122,9 +122,9 @@ module _ (net : Network) (keeps : Keeps net) (intent : Intent) (is_intent : IsIn
       let stands = way-into net at (slice_index e.segments i) next into in
       let same : stands.sid ≡ sid.0 = some-same stands.sid sid.0 (sym stands.is_there ∙ sid.1) in
       let node : sid.0.node ≡ at.node = ap (λ (x : SidEntry). x.node) (sym same) ∙ stands.stands in
-      let again = outcomes.Again next (on_from next sid.0.behaviour) in
+      let again = outcomes.Again next (onward_from next sid.0.behaviour) in
       handed-behind net fuel at place (V6 (at_segment e bytes i hop)) (V6 (at_segment e bytes (suc i) less)) pick taken next
-      (on_from next sid.0.behaviour) h
+      (onward_from next sid.0.behaviour) h
       (mid-onward net e bytes at next i hop (pick taken) sid.0 into sid.1 sid.2 below all high
       ∙ ap (λ (j : ℕ). goes again (V6 (at_segment e bytes (suc i) j))) one)
       (behind-again net at next sid.0 node v6 ∙ (sym (ap (option_map (place_behind next)) sid.1) ∙ from)) handed

@@ -19,7 +19,7 @@ use Rattle.intent_reader.specs.declared.intent.Intent.{Intent}
 use Rattle.list_pack.specs.declared.types.Leg.{Leg}
 use Rattle.leg_table.specs.Trace.{handed_over}
 use Rattle.leg_table.specs.Ride.{Ride, ride_of}
-use Rattle.leg_table.specs.Sids.{first_address, sid_address}
+use Rattle.leg_table.specs.Sids.{AllListed, first_address, sid_address}
 use Rattle.leg_table.specs.Leg.{is_start, leg_of, finish_of}
 use Rattle.leg_table.specs.Realizes.{headend_place, encapsulation_of, HandsOver, AlwaysHandsOver, ReachesAbove, Realizes, path_need, AreSidAddresses, IsPathOf}
 use Rattle.leg_table.proofs.Options.{some-same}
@@ -136,10 +136,10 @@ lists-hands net intent segments inner hop all =
 
 -- a list that hands over for all choices is a path
 pub list-path : (net : Network) (intent : Intent) (segments : List ℕ) (inner : Packet) (hop : ℕ) → IsNetwork net → IsFlat net
-    → IsIntent net intent
+    → AllListed net → IsIntent net intent
     → AreSidAddresses net segments → 0 < length segments → 0 < hop → AlwaysHandsOver net intent segments inner hop
     → (sids : List ℕ) × (need : ℕ) × IsPathOf net intent segments sids need × (need < hop)
-list-path net intent segments inner hop network flat is_intent named some positive all =
+list-path net intent segments inner hop network flat listed is_intent named some positive all =
     by_list segments refl named some (lists-hands net intent segments inner hop all)
   where
     below : (xs : List ℕ) → AreSidAddresses net xs → (k d : ℕ) → k < length xs → get_or xs k d < 2 ^ 128
@@ -156,7 +156,7 @@ list-path net intent segments inner hop network flat is_intent named some positi
     by_list (a ∷ more) e named some hands =
         let begins : is_start net intent 0 None ≡ true
         = and_from (nat_le 0 (length intent.steps)) true (le-leb 0 (length intent.steps) (omega arith)) refl in
-        let path = path-from net network flat intent is_intent (encapsulation_of intent segments) (bytes_of_inner inner)
+        let path = path-from net network flat listed intent is_intent (encapsulation_of intent segments) (bytes_of_inner inner)
         (subst (λ (xs : List ℕ). All (λ a. a < 2 ^ 128) xs) (sym e) (λ k d h. below (a ∷ more) named k d h))
         (subst (AreSidAddresses net) (sym e) named) more a 0 None 0 hop (headend_place intent) begins refl e positive hands in
         (path.first ∷ path.more, path.need, record { names = path.names ∙ sym e; is_path = path.is_path }, path.below)
@@ -182,10 +182,10 @@ some_inner-spellable = (
 )
 
 -- a path of legs and a finish realizes the intent
-pub path-realizes : (net : Network) (intent : Intent) (sids : List ℕ) (need : ℕ) → IsNetwork net → IsFlat net → IsIntent net intent
-    → path_need net intent 0 None sids ≡ Some need → Realizes net intent (map (sid_address net) sids) need
-path-realizes net intent [] need network flat is_intent h = absurd (cc)
-path-realizes net intent (next ∷ more) need network flat is_intent h =
+pub path-realizes : (net : Network) (intent : Intent) (sids : List ℕ) (need : ℕ) → IsNetwork net → IsFlat net → AllListed net
+    → IsIntent net intent → path_need net intent 0 None sids ≡ Some need → Realizes net intent (map (sid_address net) sids) need
+path-realizes net intent [] need network flat listed is_intent h = absurd (cc)
+path-realizes net intent (next ∷ more) need network flat listed is_intent h =
     record { reaches = λ inner ok high hop above choices some. over inner ok hop above choices; least = λ n reaches. least n reaches }
   where
     keeps : Keeps net
@@ -215,7 +215,7 @@ path-realizes net intent (next ∷ more) need network flat is_intent h =
     least : (n : ℕ) → ReachesAbove net intent segments n → need ≤ n
     least n reaches =
         let inner = some_inner-spellable in
-        let path = list-path net intent segments some_inner (n + 1) network flat is_intent
+        let path = list-path net intent segments some_inner (n + 1) network flat listed is_intent
         (there-named net (next ∷ more) (path-there net intent more next 0 None need h))
         (omega arith) (omega arith) (reaches some_inner inner.0 inner.1 (n + 1) (omega arith)) in
         by_path path.0 path.1 path.2 path.3

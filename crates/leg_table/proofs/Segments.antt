@@ -7,12 +7,12 @@ use Rattle.v6_addr.specs.Address.{PrefixValue, Holds}
 use Rattle.srv6_rules.specs.declared.sid.Family.TheVariants as families
 use Rattle.srv6_rules.specs.declared.sid.Reason.TheVariants as reasons
 use Rattle.srv6_rules.specs.declared.sid.SidEntry.{SidEntry}
-use Rattle.srv6_rules.specs.Behaviours.{goes_on, exposes, is_built, ipv6_inside}
+use Rattle.srv6_rules.specs.Behaviours.{goes_on, exposes, is_listed, ipv6_inside}
 use Rattle.srv6_rules.specs.Packet.{V6, header_len, content_of}
 use Rattle.srv6_rules.specs.Endpoint.{Endpoint, at_sid, upper_layer}
 use Rattle.srv6_rules.specs.Srh.{segments_left_at}
 use Rattle.srv6_rules.specs.Encapsulation.{Encapsulation, inner_place, at_segment}
-use Rattle.srv6_rules.proofs.PublicLaws.{at_segment-onward, at_segment-hop_limit, at_segment-bad_segments, at_segment-upper_layer, at_segment-exposed, built-psp, built-usp}
+use Rattle.srv6_rules.proofs.PublicLaws.{at_segment-onward, at_segment-hop_limit, at_segment-bad_segments, at_segment-upper_layer, at_segment-exposed, listed-plain, listed-psp, listed-usp, listed-built}
 use Rattle.net_model.specs.declared.net.Hit.{Hit}
 use Rattle.net_model.specs.declared.net.Hit.TheVariants as hits
 use Rattle.net_model.specs.Network.{Network}
@@ -26,7 +26,7 @@ use Rattle.walk_rules.specs.declared.place.Place.{Place}
 use Rattle.walk_rules.specs.declared.place.Outcome.TheVariants as outcomes
 use Rattle.walk_rules.specs.Walk.{next_place}
 use Rattle.walk_rules.specs.Way.{Away, Into, is_multicast_of, way_of, way_by, way_by_hit}
-use Rattle.walk_rules.specs.Treatment.{Gave, goes, treated_at_sid, allow_of, step_of, on_from, dropped}
+use Rattle.walk_rules.specs.Treatment.{Gave, goes, treated_at_sid, allow_of, step_of, onward_from, exposed_from, dropped}
 use Rattle.intent_reader.specs.declared.intent.Step.{Step}
 use Rattle.intent_reader.specs.declared.intent.Step.TheVariants.{Links, Function}
 use Rattle.leg_table.specs.Trace.{Event, Executed, is_titled, executed}
@@ -34,14 +34,14 @@ use Rattle.leg_table.specs.Tasks.{matches, left_after, left_after_function}
 use Rattle.leg_table.specs.Leg.{place_behind}
 use Rattle.leg_table.specs.Sids.{takes_step, hands_over, first_address, sid_address}
 use Rattle.leg_table.proofs.Options.{if-some, some-same}
-use Rattle.leg_table.proofs.Executions.{stage_into, stage_not_built}
+use Rattle.leg_table.proofs.Executions.{stage_into}
 
 -- behind an execution of an IPv6 packet the packet stands at the SID's node, and goes on in the SID's way
 pub behind-again : (net : Network) (at : Place) (n : ℕ) (s : SidEntry) → s.node ≡ at.node → at.family ≡ families.V6
-    → next_place net at (outcomes.Again n (on_from n s.behaviour)) ≡ Some (place_behind n s)
+    → next_place net at (outcomes.Again n (onward_from n s.behaviour)) ≡ Some (place_behind n s)
 behind-again net at n s stands v6 =
-    ap (λ (x : ℕ). Some (record { node = x; how = on_from n s.behaviour; family = at.family })) (sym stands)
-    ∙ ap (λ x. Some (record { node = s.node; how = on_from n s.behaviour; family = x })) v6
+    ap (λ (x : ℕ). Some (record { node = x; how = onward_from n s.behaviour; family = at.family })) (sym stands)
+    ∙ ap (λ x. Some (record { node = s.node; how = onward_from n s.behaviour; family = x })) v6
 
 -- the way into a SID is by a look-up
 into-lookup : (net : Network) (place : Place) (a n : ℕ) → way_of net place a ≡ Into n
@@ -91,41 +91,41 @@ module _ (net : Network) (e : Encapsulation) (bytes : List ℕ) (place : Place) 
   abbrev given : Endpoint → Gave
   given x = treated_at_sid net place.node n s.behaviour (at_segment e bytes i hop) x
 
-  stage-is : is_built s ≡ true → stage ≡ given (at_sid s allow (at_segment e bytes i hop))
-  stage-is built = stage_into net place (at_segment e bytes i hop) n s choice into there built
-
-  -- at a SID that is not built
-  pub not-built : is_built s ≡ false → stage ≡ dropped net place.node reasons.NotBuilt 0 (V6 (at_segment e bytes i hop))
-  not-built built = stage_not_built net place (at_segment e bytes i hop) n s choice into there built
+  stage-is : is_listed s ≡ true → stage ≡ given (at_sid s allow (at_segment e bytes i hop))
+  stage-is listed = stage_into net place (at_segment e bytes i hop) n s choice into there (listed-built s listed)
 
   -- at a segment that is not the last
   pub mid-onward : takes_step s ≡ true → i + 1 < length e.segments → All (λ a. a < 2 ^ 128) e.segments → 1 < hop
-      → stage ≡ goes (outcomes.Again n (on_from n s.behaviour)) (V6 (at_segment e bytes (suc i) (hop - 1)))
+      → stage ≡ goes (outcomes.Again n (onward_from n s.behaviour)) (V6 (at_segment e bytes (suc i) (hop - 1)))
   mid-onward middle below all high =
-      let parts = and_parts (is_built s) (goes_on s) middle in
-      stage-is parts.0 ∙ ap given (at_segment-onward s allow e bytes i hop parts.1 (inl (built-psp s parts.0)) below all high)
-      ∙ ap (λ (j : ℕ). goes (outcomes.Again n (on_from n s.behaviour)) (V6 (at_segment e bytes j (hop - 1)))) (add-one i)
+      let parts = and_parts (is_listed s) (goes_on s) middle in
+      stage-is parts.0
+      ∙ ap given (at_segment-onward s (listed-plain s parts.0) allow e bytes i hop parts.1 (inl (listed-psp s parts.0)) below all high)
+      ∙ ap (λ (j : ℕ). goes (outcomes.Again n (onward_from n s.behaviour)) (V6 (at_segment e bytes j (hop - 1)))) (add-one i)
 
   pub mid-low : takes_step s ≡ true → i + 1 < length e.segments → hop ≤ 1
       → stage ≡ dropped net place.node reasons.HopLimit 0 (V6 (at_segment e bytes i hop))
   mid-low middle below low =
-      let parts = and_parts (is_built s) (goes_on s) middle in
-      stage-is parts.0 ∙ ap given (at_segment-hop_limit s allow e bytes i hop parts.1 below low)
+      let parts = and_parts (is_listed s) (goes_on s) middle in
+      stage-is parts.0 ∙ ap given (at_segment-hop_limit s (listed-plain s parts.0) allow e bytes i hop parts.1 below low)
 
-  pub mid-stays : is_built s ≡ true → goes_on s ≡ false → i + 1 < length e.segments
+  pub mid-stays : is_listed s ≡ true → goes_on s ≡ false → i + 1 < length e.segments
       → stage ≡ dropped net place.node reasons.BadSegments (header_len + segments_left_at) (V6 (at_segment e bytes i hop))
-  mid-stays built stays below = stage-is built ∙ ap given (at_segment-bad_segments s allow e bytes i hop stays below)
+  mid-stays listed stays below =
+      stage-is listed ∙ ap given (at_segment-bad_segments s (listed-plain s listed) allow e bytes i hop stays below)
 
   -- at the last segment
   pub last-exposes : hands_over s ≡ true → i + 1 ≡ length e.segments
-      → stage ≡ goes (outcomes.Hand n (on_from n s.behaviour) families.V6) (content_of bytes)
+      → stage ≡ goes (outcomes.Hand n (exposed_from n s.behaviour) families.V6) (content_of bytes)
   last-exposes shows end =
-      let parts = and_parts (is_built s) (exposes s ipv6_inside) shows in
-      stage-is parts.0 ∙ ap given (at_segment-exposed s allow e bytes i hop parts.1 end)
+      let parts = and_parts (is_listed s) (exposes s ipv6_inside) shows in
+      stage-is parts.0 ∙ ap given (at_segment-exposed s (listed-plain s parts.0) allow e bytes i hop parts.1 end)
 
-  pub last-keeps : is_built s ≡ true → exposes s ipv6_inside ≡ false → i + 1 ≡ length e.segments
+  pub last-keeps : is_listed s ≡ true → exposes s ipv6_inside ≡ false → i + 1 ≡ length e.segments
       → stage ≡ given (upper_layer allow (at_segment e bytes i hop) (inner_place e))
-  last-keeps built keeps end = stage-is built ∙ ap given (at_segment-upper_layer s allow e bytes i hop (built-usp s built) keeps end)
+  last-keeps listed keeps end =
+      stage-is listed
+      ∙ ap given (at_segment-upper_layer s (listed-plain s listed) allow e bytes i hop (listed-usp s listed) keeps end)
 
 -- the steps left behind an execution that meets the steps
 module _ (net : Network) (n : ℕ) where

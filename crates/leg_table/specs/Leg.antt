@@ -3,15 +3,15 @@ use Rattle.std.specs.Prelude.{◌≡◌, ℕ, zero, suc, ◌+◌, ◌-◌, ◌<�
 use Rattle.std.specs.Option.{option_map, option_and_then}
 use Rattle.srv6_rules.specs.declared.sid.Family.TheVariants as families
 use Rattle.srv6_rules.specs.declared.sid.SidEntry.{SidEntry}
-use Rattle.srv6_rules.specs.Behaviours.{is_built}
-use Rattle.srv6_rules.specs.Packet.{Packet, Content, V6, Unreadable}
+use Rattle.srv6_rules.specs.Behaviours.{is_listed}
+use Rattle.srv6_rules.specs.Packet.{Packet, Content, V6, V4, Unreadable}
 use Rattle.srv6_rules.specs.Endpoint.{Endpoint, Onward, Exposed, Delivered, Refused, at_sid}
 use Rattle.net_model.specs.Network.{Network}
 use Rattle.walk_rules.specs.declared.place.How.TheVariants.{Submitted}
 use Rattle.walk_rules.specs.declared.place.Place.{Place}
 use Rattle.walk_rules.specs.declared.place.Outcome.{Outcome}
 use Rattle.walk_rules.specs.declared.place.Outcome.TheVariants as outcomes
-use Rattle.walk_rules.specs.Treatment.{on_from}
+use Rattle.walk_rules.specs.Treatment.{onward_from}
 use Rattle.walk_rules.specs.Walk as walks
 use Rattle.intent_reader.specs.declared.intent.Step.{Step}
 use Rattle.intent_reader.specs.declared.intent.Intent.{Intent}
@@ -23,7 +23,7 @@ use Rattle.leg_table.specs.Sids.{takes_step, is_sid_at, is_middle, is_last, sid_
 
 -- from where a packet goes to the next SID: from the headend, which made it, or from the SID that was executed last
 abbrev pub place_behind : ℕ → SidEntry → Place
-place_behind v s = record { node = s.node; how = on_from v s.behaviour; family = families.V6 }
+place_behind v s = record { node = s.node; how = onward_from v s.behaviour; family = families.V6 }
 
 abbrev pub place_from : Network → Intent → Option ℕ → Option Place
 place_from net intent None = Some (record { node = intent.headend; how = Submitted 0; family = families.V6 })
@@ -87,15 +87,15 @@ is_exposed (Exposed family bytes) = true
 is_exposed (Delivered q) = false
 is_exposed (Refused reason at) = false
 
--- packets that a SID, which nodes run, takes on to a next segment where the hop limit allows it, and packets from which it
+-- packets that a SID, which lists take, takes on to a next segment where the hop limit allows it, and packets from which it
 -- exposes one
 abbrev pub takes_on : Option SidEntry → Packet → Bool
 takes_on None p = false
-takes_on (Some s) p = is_built s && is_onward (at_sid s [] (with_hop_limit 2 p))
+takes_on (Some s) p = is_listed s && is_onward (at_sid s [] (with_hop_limit 2 p))
 
 abbrev pub takes_out : Option SidEntry → Packet → Bool
 takes_out None p = false
-takes_out (Some s) p = is_built s && is_exposed (at_sid s [] p)
+takes_out (Some s) p = is_listed s && is_exposed (at_sid s [] p)
 
 abbrev pub has_next_segment : Network → ℕ → Packet → Bool
 has_next_segment net n p = takes_on (slice_get net.sids n) p
@@ -121,6 +121,7 @@ is_hand n (outcomes.Drop reason error) = false
 
 abbrev pub has_limit : ℕ → Content → Bool
 has_limit limit (V6 p) = p.hop_limit == limit
+has_limit limit (V4 p) = false
 has_limit limit (Unreadable bytes reason) = false
 
 abbrev pub is_left : ℕ → Option ℕ → Bool

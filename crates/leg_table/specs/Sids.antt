@@ -1,21 +1,26 @@
 -- The SIDs that may be executed at a position of an intent: after so many of its steps.
 use Rattle.std.specs.Prelude.{ℕ, zero, suc, Bool, true, false, ◌==◌, ◌&&◌, ◌||◌, nat_lt, if◌then◌else◌, List, [], ◌∷◌, take, length, slice_get, Option, Some, None, IsTrue, Contains, ◌↔◌}
+use Rattle.std.specs.List.{list_all}
 use Rattle.v6_addr.specs.Address.{PrefixValue}
 use Rattle.srv6_rules.specs.declared.sid.SidEntry.{SidEntry}
-use Rattle.srv6_rules.specs.Behaviours.{goes_on, exposes, is_built, ipv6_inside}
+use Rattle.srv6_rules.specs.Behaviours.{goes_on, exposes, is_listed, ipv6_inside}
 use Rattle.net_model.specs.Network.{Network}
 use Rattle.intent_reader.specs.Rules.{stand_after, is_at}
 use Rattle.intent_reader.specs.declared.intent.Step.{Step}
 use Rattle.intent_reader.specs.declared.intent.Step.TheVariants.{Links, Function}
 use Rattle.intent_reader.specs.declared.intent.Intent.{Intent}
 
--- nodes run the SID, and the packet goes on from it to a next segment
-abbrev pub takes_step : SidEntry → Bool
-takes_step s = is_built s && goes_on s
+-- every SID of the network is one that lists take so far
+abbrev pub AllListed : Network → Type 0
+AllListed net = IsTrue (list_all is_listed net.sids)
 
--- nodes run the SID, and it exposes an IPv6 packet inside
+-- lists take the SID, and the packet goes on from it to a next segment
+abbrev pub takes_step : SidEntry → Bool
+takes_step s = is_listed s && goes_on s
+
+-- lists take the SID, and it exposes an IPv6 packet inside
 abbrev pub hands_over : SidEntry → Bool
-hands_over s = is_built s && exposes s ipv6_inside
+hands_over s = is_listed s && exposes s ipv6_inside
 
 -- from a SID that is middle the packet goes on to a next segment
 abbrev pub sid_goes_on : Option SidEntry → Bool

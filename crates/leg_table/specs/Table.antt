@@ -9,7 +9,7 @@ use Rattle.intent_reader.specs.Rules.{IsIntent}
 use Rattle.intent_reader.specs.declared.intent.Intent.{Intent}
 use Rattle.list_pack.specs.declared.types.Shape.{Shape}
 use Rattle.leg_table.specs.declared.reach.Reach.{Reach}
-use Rattle.leg_table.specs.Sids.{sids_of, takes_step}
+use Rattle.leg_table.specs.Sids.{AllListed, sids_of, takes_step}
 use Rattle.leg_table.specs.Reach.{AreReaches}
 
 -- a table is that of an intent in a network
@@ -22,9 +22,11 @@ abbrev pub AreRows : Network → Intent → ℕ → List (List ℕ) → Type 0
 AreRows net intent last rows =
     (length rows ≡ last + 1) × ((position : ℕ) → position ≤ last → slice_get rows position ≡ Some (sids_of net intent position))
 
--- the intent keeps the rules in the network, the rows are the SIDs of its positions, and the ways are those from their nodes
+-- the intent keeps the rules in the network, whose SIDs lists take, the rows are the SIDs of its positions, and the ways are those
+-- from their nodes
 pub record IsTable (net : Network) (intent : Intent) (rows : List (List ℕ)) (reaches : List Reach) : Type 0 where
   pub network : IsNetwork net
+  pub listed : AllListed net
   pub is_intent : IsIntent net intent
   pub are_rows : AreRows net intent (length intent.steps) rows
   pub are_reaches : AreReaches net intent.headend intent.steps reaches

@@ -16,7 +16,7 @@ ghost use Rattle.intent_reader.specs.Rules.{IsIntent};
 ghost use Rattle.intent_reader.specs.declared.intent.Intent.{Intent};
 ghost use Rattle.list_pack.specs.declared.types.Leg.{Leg};
 ghost use Rattle.leg_table.specs.Leg.{leg_of, IsLeg, finish_of, IsFinish};
-ghost use Rattle.leg_table.specs.Sids.{sid_address, sids_of, AreSidsAt};
+ghost use Rattle.leg_table.specs.Sids.{sid_address, sids_of, AllListed, AreSidsAt};
 ghost use Rattle.leg_table.specs.Trace.{Handed, handed_over, trace_of, through_hand};
 ghost use Rattle.leg_table.specs.Realizes.{path_need, Realizes, AlwaysHandsOver, AreSidAddresses, IsPathOf};
 ghost use Rattle.net_model.specs.Flat.{IsFlat};
@@ -64,24 +64,24 @@ pub fn sids_of_a_position_are_in_order()
         AreSidsAt net intent position (sids_of net intent position) }
 {}
 
-/// A path of legs and a finish through SIDs, whose first addresses are the segments of a list,
-/// realizes the intent in both forms of the header, and the sum of its lowerings is the need: above
-/// that outer hop limit, for all inner packets and all choices, the packet crosses exactly the
-/// steps and the inner packet is handed over with its hop limit lowered by one; above no lower one
-/// is it so.
+/// In a network all of whose SIDs lists take, a path of legs and a finish through SIDs, whose first
+/// addresses are the segments of a list, realizes the intent in both forms of the header, and the
+/// sum of its lowerings is the need: above that outer hop limit, for all inner packets and all
+/// choices, the packet crosses exactly the steps and the inner packet is handed over with its hop
+/// limit lowered by one; above no lower one is it so.
 pub fn a_path_realizes_the_intent()
     ensures { (net : Network) (intent : Intent) (sids : List ℕ) (need : ℕ) →
-        IsNetwork net → IsFlat net → IsIntent net intent →
+        IsNetwork net → IsFlat net → AllListed net → IsIntent net intent →
         path_need net intent 0 None sids ≡ Some need →
         Realizes net intent (map (sid_address net) sids) need }
 {}
 
-/// Segments that are first addresses of SIDs, and by which an inner packet is handed over along
-/// exactly the steps for all choices at one outer hop limit, are a path of legs and a finish, whose
-/// need is below that hop limit.
+/// In a network all of whose SIDs lists take, segments that are first addresses of SIDs, and by
+/// which an inner packet is handed over along exactly the steps for all choices at one outer hop
+/// limit, are a path of legs and a finish, whose need is below that hop limit.
 pub fn a_list_that_always_hands_over_is_a_path()
     ensures { (net : Network) (intent : Intent) (segments : List ℕ) (inner : Packet) (hop : ℕ) →
-        IsNetwork net → IsFlat net → IsIntent net intent →
+        IsNetwork net → IsFlat net → AllListed net → IsIntent net intent →
         AreSidAddresses net segments → 0 < length segments → 0 < hop →
         AlwaysHandsOver net intent segments inner hop →
         (sids : List ℕ) × (need : ℕ) × IsPathOf net intent segments sids need × (need < hop) }

@@ -3,6 +3,7 @@
 #![tactic(auto)]
 
 mod laws;
+mod listed;
 mod reach;
 mod ride;
 mod rows;
@@ -14,6 +15,7 @@ pub use laws::{
     a_path_realizes_the_intent, every_way_is_a_ride, every_way_is_for_all_choices,
     sids_of_a_position_are_in_order, what_is_handed_over_has_its_trace,
 };
+pub use listed::all_listed;
 pub use strict_legs::StrictLegs;
 pub use types::{Container, Prefixes, SidList};
 

@@ -20,7 +20,7 @@ use srv6_rules::numbers::IPV6_INSIDE;
 use srv6_rules::{Csid, Family, SidEntry};
 use std::alloc::Global;
 use std::marker::Model;
-use walk_rules::{How, Place, on_from};
+use walk_rules::{How, Place, onward_from};
 
 /// The legs of an intent in a network, with the SIDs of each position and the ways from its node to
 /// all SIDs, so that each question is a look-up or two.
@@ -44,13 +44,15 @@ impl<'a> Model for StrictLegs<'a> {
 }
 
 impl<'a> StrictLegs<'a> {
-    /// The legs of an intent that keeps the rules in the network.
+    /// The legs of an intent that keeps the rules in a network, all of whose SIDs lists take (own
+    /// rule, until lists take the others).
     pub fn build(
         alloc: Global,
         net: &'a Net,
         intent: &'a Intent,
     ) -> Result<StrictLegs<'a>, NoMemory>
-        requires { IsIntent net.now intent.now }
+        requires intent { IsIntent net.now intent.now }
+        requires listed { sids.AllListed net.now }
         ensures { IfOk result (λ t. t ≡ record { net = net.now; intent = intent.now }) }
     {
         net.keeps_rules();
@@ -64,10 +66,12 @@ impl<'a> StrictLegs<'a> {
         })
     }
 
-    /// That the network and the intent keep their rules: a call for the callers' proofs alone.
+    /// That the network and the intent keep their rules, and that lists take the network's SIDs: a
+    /// call for the callers' proofs alone.
     pub fn keeps_rules(&self)
         ensures network { IsNetwork self.now.net }
         ensures facts { Keeps self.now.net }
+        ensures listed { sids.AllListed self.now.net }
         ensures intent { IsIntent self.now.net self.now.intent }
     {
         self.net.keeps_rules();
@@ -255,18 +259,18 @@ fn lowered_at_the_end(behind: &Behind) -> Option<u32>
     }
 }
 
-// nodes run the SID, and the packet goes on from it to a next segment
+// lists take the SID, and the packet goes on from it to a next segment
 fn takes_step(sid: &SidEntry) -> bool
     ensures { result ≡ sids.takes_step sid.now }
 {
-    sid.is_built() && sid.goes_on()
+    sid.is_listed() && sid.goes_on()
 }
 
-// nodes run the SID, and it exposes an IPv6 packet inside
+// lists take the SID, and it exposes an IPv6 packet inside
 fn hands_over(sid: &SidEntry) -> bool
     ensures { result ≡ sids.hands_over sid.now }
 {
-    sid.is_built() && sid.exposes(IPV6_INSIDE)
+    sid.is_listed() && sid.exposes(IPV6_INSIDE)
 }
 
 // from a SID the packet goes on to a next segment
@@ -293,7 +297,7 @@ fn place_behind(net: &Net, v: u32) -> Option<Place>
     let sid = net.sid(v);
     Some(Place {
         node: sid.node,
-        how: on_from(v, &sid.behaviour),
+        how: onward_from(v, &sid.behaviour),
         family: Family::V6,
     })
 }

@@ -1,4 +1,4 @@
-use crate::StrictLegs;
+use crate::{StrictLegs, all_listed};
 use intent_reader::{Intent, read_intent};
 use list_pack::{Leg, Legs};
 use net_model::{Net, compilable};
@@ -85,6 +85,7 @@ fn legs_of_a_row(rt: HostRuntime) -> Result<(), Fail> {
     let net = read_net(rt.alloc(), ROW.as_bytes())?;
     let intent = read_intent(rt.alloc(), ROW_INTENT.as_bytes(), &net)?;
     assert!(rt; compilable(&net).is_ok());
+    assert!(rt; all_listed(&net));
     let legs = StrictLegs::build(rt.alloc(), &net, &intent)?;
     assert_eq!(rt; legs.steps(), 4);
     assert_sids(&rt, &legs, 0, &[]);
@@ -135,6 +136,7 @@ fn legs_of_a_row(rt: HostRuntime) -> Result<(), Fail> {
 fn legs_of_a_loop(rt: HostRuntime) -> Result<(), Fail> {
     let net = read_net(rt.alloc(), LOOP.as_bytes())?;
     let intent = read_intent(rt.alloc(), LOOP_INTENT.as_bytes(), &net)?;
+    assert!(rt; all_listed(&net));
     let legs = StrictLegs::build(rt.alloc(), &net, &intent)?;
     assert_sids(&rt, &legs, 0, &[2]);
     assert_sids(&rt, &legs, 1, &[1]);
