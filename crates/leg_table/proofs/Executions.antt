@@ -8,19 +8,20 @@ use Rattle.srv6_rules.specs.declared.sid.Csid.TheVariants as csids
 use Rattle.srv6_rules.specs.declared.sid.Family.{Family}
 use Rattle.srv6_rules.specs.declared.sid.Reason.TheVariants as reasons
 use Rattle.srv6_rules.specs.declared.sid.SidEntry.{SidEntry}
-use Rattle.srv6_rules.specs.Behaviours.{goes_on, exposes, is_built, is_listed, ipv6_inside, family_inside}
+use Rattle.srv6_rules.specs.Behaviours.{goes_on, exposes, is_listed, ipv6_inside, family_inside}
 use Rattle.srv6_rules.specs.Packet.{Packet, V6, read_as}
 use Rattle.srv6_rules.specs.Srh.{Srh, srh_of, segments_left_at, routing_type_at}
 use Rattle.srv6_rules.specs.Areas.{Fault, options_fault, tlvs_fault}
 use Rattle.srv6_rules.specs.Chain.{Header, ChainEnd, Upper, Cut, hop_by_hop, fragment, destination_options, is_first, segments_left, is_segment_routing, from_place, chain_of, chain_from, without}
 use Rattle.srv6_rules.specs.Endpoint.{Endpoint, Onward, Exposed, Delivered, Refused, at_sid, at_header, at_end, over_headers, upper_layer, unless_fault, next_segment, has_bad_segments, advanced, as_in, outcome_without, leaves_none}
-use Rattle.srv6_rules.proofs.PublicLaws.{without-others, upper-plain, listed-plain, listed-built}
+use Rattle.srv6_rules.proofs.PublicLaws.{without-others, upper-plain, listed-plain, listed-unbound}
 use Rattle.net_model.specs.Network.{Network}
 use Rattle.walk_rules.specs.declared.place.Place.{Place}
 use Rattle.walk_rules.specs.declared.place.Outcome.{Outcome}
 use Rattle.walk_rules.specs.declared.place.Outcome.TheVariants as outcomes
 use Rattle.walk_rules.specs.Way.{Way, Into, way_of}
-use Rattle.walk_rules.specs.Treatment.{Gave, goes, treated, treated_in, treated_at_sid, allow_of, step_of, onward_from, exposed_from, dropped}
+use Rattle.walk_rules.specs.Treatment.{Gave, goes, treated, treated_in, treated_at_sid, onward_at_sid, allow_of, step_of, onward_from, exposed_from, dropped}
+use Rattle.walk_rules.proofs.PublicLaws.{onward-each}
 use Rattle.intent_reader.specs.declared.intent.Step.{Step}
 use Rattle.leg_table.specs.Tasks.{left_after}
 use Rattle.leg_table.specs.Choices.{Ends, seen_at}
@@ -300,50 +301,46 @@ last_packet-has net n s destination limit there shows =
       fields.1,
     )
 
--- the stage at a place from which a packet comes into SID n, which is built
+-- a SID that lists take binds no policy, so a packet that goes on from it is what stays at the node
+pub listed-onward : (net : Network) (node n : ℕ) (s : SidEntry) (p q : Packet) → is_listed s ≡ true
+    → treated_at_sid net node n s.behaviour p (Onward q) ≡ goes (outcomes.Again n (onward_from n s.behaviour)) (V6 q)
+listed-onward net node n s p q listed = ap (λ (o : Option ℕ). onward_at_sid net node n s.behaviour p q o) (listed-unbound s listed)
+
+-- the stage at a place from which a packet comes into SID n
 pub stage_into : (net : Network) (place : Place) (q : Packet) (n : ℕ) (s : SidEntry) (choice : ℕ)
-    → way_of net place q.destination ≡ Into n → slice_get net.sids n ≡ Some s → is_built s ≡ true
+    → way_of net place q.destination ≡ Into n → slice_get net.sids n ≡ Some s
     → step_of net place (V6 q) choice
     ≡ treated_at_sid net place.node n s.behaviour q (at_sid s (allow_of (slice_get net.nodes place.node)) q)
-stage_into net place q n s choice e f built =
+stage_into net place q n s choice e f =
     ap (λ (w : Way). treated net place.node w q choice) e ∙ ap (λ (o : Option SidEntry). treated_in net place.node n o q) f
-    ∙ rw built refl
 
 -- what an execution names is the SID that the packet came into
 module _ (net : Network) (node : ℕ) where
   again_names : (next n : ℕ) (b : Behaviour) (q : Packet) (e : Endpoint)
       → is_again next (treated_at_sid net node n b q e).outcome ≡ true → n ≡ next
-  again_names next n b q (Onward r) h = eqb-true n next h
+  again_names next n b q (Onward r) h =
+      onward-each net node n b q r (λ gave. is_again next gave.outcome ≡ true → n ≡ next) (λ plain is. eqb-true n next is)
+      (λ number named binds policy fits is. eqb-true n next is) (λ reason is. absurd (false≢true is)) h
   again_names next n b q (Exposed family bytes) h = absurd (false≢true h)
   again_names next n b q (Delivered r) h = absurd (false≢true h)
   again_names next n b q (Refused reason at) h = absurd (false≢true h)
 
   hand_names : (next n : ℕ) (b : Behaviour) (q : Packet) (e : Endpoint)
       → is_hand next (treated_at_sid net node n b q e).outcome ≡ true → n ≡ next
-  hand_names next n b q (Onward r) h = absurd (false≢true h)
+  hand_names next n b q (Onward r) h =
+      onward-each net node n b q r (λ gave. is_hand next gave.outcome ≡ true → n ≡ next) (λ plain is. absurd (false≢true is))
+      (λ number named binds policy fits is. absurd (false≢true is)) (λ reason is. absurd (false≢true is)) h
   hand_names next n b q (Exposed family bytes) h = eqb-true n next h
   hand_names next n b q (Delivered r) h = absurd (false≢true h)
   hand_names next n b q (Refused reason at) h = absurd (false≢true h)
 
   in-again_names : (next n : ℕ) (o : Option SidEntry) (q : Packet) → is_again next (treated_in net node n o q).outcome ≡ true → n ≡ next
   in-again_names next n None q h = absurd (false≢true h)
-  in-again_names next n (Some s) q h = by_built (is_built s) h
-    where
-      by_built : (built : Bool)
-          → is_again next (if built then treated_at_sid net node n s.behaviour q (at_sid s (allow_of (slice_get net.nodes node)) q)
-          else dropped net node reasons.NotBuilt 0 (V6 q)).outcome ≡ true → n ≡ next
-      by_built true h = again_names next n s.behaviour q (at_sid s (allow_of (slice_get net.nodes node)) q) h
-      by_built false h = absurd (false≢true h)
+  in-again_names next n (Some s) q h = again_names next n s.behaviour q (at_sid s (allow_of (slice_get net.nodes node)) q) h
 
   in-hand_names : (next n : ℕ) (o : Option SidEntry) (q : Packet) → is_hand next (treated_in net node n o q).outcome ≡ true → n ≡ next
   in-hand_names next n None q h = absurd (false≢true h)
-  in-hand_names next n (Some s) q h = by_built (is_built s) h
-    where
-      by_built : (built : Bool)
-          → is_hand next (if built then treated_at_sid net node n s.behaviour q (at_sid s (allow_of (slice_get net.nodes node)) q)
-          else dropped net node reasons.NotBuilt 0 (V6 q)).outcome ≡ true → n ≡ next
-      by_built true h = hand_names next n s.behaviour q (at_sid s (allow_of (slice_get net.nodes node)) q) h
-      by_built false h = absurd (false≢true h)
+  in-hand_names next n (Some s) q h = hand_names next n s.behaviour q (at_sid s (allow_of (slice_get net.nodes node)) q) h
 
 pub step-again_names : (net : Network) (place : Place) (q : Packet) (next n : ℕ) → way_of net place q.destination ≡ Into n
     → is_again next (step_of net place (V6 q) 0).outcome ≡ true → n ≡ next
@@ -383,8 +380,8 @@ module _ (net : Network) (place : Place) (p : Packet) (n : ℕ) (s : SidEntry) (
   abbrev stage : Gave
   stage = step_of net place (V6 p') 0
 
-  stage-is : is_built s ≡ true → stage ≡ treated_at_sid net place.node n s.behaviour p' (at_sid s allow p')
-  stage-is built = stage_into net place p' n s 0 into there built
+  stage-is : stage ≡ treated_at_sid net place.node n s.behaviour p' (at_sid s allow p')
+  stage-is = stage_into net place p' n s 0 into there
 
   abbrev Executes : Gave → Type 0
   Executes gave = Ends gave.outcome (IsTrue (stage_executes net n left behind ts (seen_at place (V6 p') gave)))
@@ -392,7 +389,7 @@ module _ (net : Network) (place : Place) (p : Packet) (n : ℕ) (s : SidEntry) (
   drops : has_next_segment net n p ≡ true → limit ≤ 1 → stage ≡ dropped net place.node reasons.HopLimit 0 (V6 p')
   drops on low =
       let has = and_parts (is_listed s) _ (ap (λ (o : Option SidEntry). takes_on o p) (sym there) ∙ on) in
-      stage-is (listed-built s has.0)
+      stage-is
       ∙ ap (treated_at_sid net place.node n s.behaviour p') ((steps_on s (listed-plain s has.0) allow p has.1).1 limit low)
 
   goes-on : has_next_segment net n p ≡ true → 1 < limit
@@ -400,7 +397,8 @@ module _ (net : Network) (place : Place) (p : Packet) (n : ℕ) (s : SidEntry) (
   goes-on on high =
       let has = and_parts (is_listed s) _ (ap (λ (o : Option SidEntry). takes_on o p) (sym there) ∙ on) in
       let got = (steps_on s (listed-plain s has.0) allow p has.1).0 limit high in
-      (got.0, stage-is (listed-built s has.0) ∙ ap (treated_at_sid net place.node n s.behaviour p') got.1, got.2)
+      (got.0, stage-is ∙ ap (treated_at_sid net place.node n s.behaviour p') got.1
+      ∙ listed-onward net place.node n s p' got.0 has.0, got.2)
 
   -- an execution after which the packet goes on
   pub executes-is : has_next_segment net n p ≡ true
@@ -433,7 +431,7 @@ module _ (net : Network) (place : Place) (p : Packet) (n : ℕ) (s : SidEntry) (
   hands-out on =
       let has = and_parts (is_listed s) _ (ap (λ (o : Option SidEntry). takes_out o p) (sym there) ∙ on) in
       let got = shows_inside s (listed-plain s has.0) allow p limit has.1 in
-      (got.0, got.1, stage-is (listed-built s has.0) ∙ ap (treated_at_sid net place.node n s.behaviour p') got.2)
+      (got.0, got.1, stage-is ∙ ap (treated_at_sid net place.node n s.behaviour p') got.2)
 
   -- an execution that exposes the packet inside
   pub exposes-is : has_packet_inside net n p ≡ true → Exposes stage ↔ (left_after net n ts ≡ Some left) × (limit ≡ behind)

@@ -8,7 +8,6 @@ use Rattle.std.proofs.lemmas.Bool.Decides.{leb_tells}
 use Rattle.srv6_rules.specs.declared.sid.SidEntry.{SidEntry}
 use Rattle.srv6_rules.specs.declared.sid.Behaviour.{Behaviour}
 use Rattle.srv6_rules.specs.declared.sid.Reason.TheVariants as reasons
-use Rattle.srv6_rules.specs.Behaviours.{is_built}
 use Rattle.srv6_rules.specs.Packet.{Packet, Content, V6}
 use Rattle.srv6_rules.specs.Endpoint.{Endpoint, Onward, Exposed, Delivered, Refused, at_sid, at_address}
 use Rattle.net_model.specs.Network.{Network}
@@ -22,7 +21,7 @@ use Rattle.walk_rules.specs.Treatment.{Gave, dropped, goes, member_of, lowered, 
 use Rattle.walk_rules.specs.Relation.{IsHow}
 use Rattle.walk_rules.specs.Walk as walks
 use Rattle.walk_rules.specs.Walk.{next_place, arrival}
-use Rattle.walk_rules.proofs.PublicLaws.{sent-low, sent-high, way-from}
+use Rattle.walk_rules.proofs.PublicLaws.{onward-each, sent-low, sent-high, way-from}
 use Rattle.intent_reader.specs.Rules.{stand_after, first_end, ends_at}
 use Rattle.intent_reader.specs.declared.intent.Step.{Step}
 use Rattle.intent_reader.specs.declared.intent.Step.TheVariants.{Links, Function}
@@ -47,20 +46,15 @@ goes-ends (outcomes.Drop reason error) t R E h = (λ x. x, λ x. x)
 
 at_sid-no_send : (net : Network) (node n : ℕ) (b : Behaviour) (p : Packet) (e : Endpoint)
     → IsNoSend (treated_at_sid net node n b p e).outcome
-at_sid-no_send net node n b p (Onward q) = tt
+at_sid-no_send net node n b p (Onward q) =
+    onward-each net node n b p q (λ gave. IsNoSend gave.outcome) (λ plain. tt) (λ number named binds policy fits. tt) (λ reason. tt)
 at_sid-no_send net node n b p (Exposed family bytes) = tt
 at_sid-no_send net node n b p (Delivered q) = tt
 at_sid-no_send net node n b p (Refused reason at) = tt
 
 in-no_send : (net : Network) (node n : ℕ) (o : Option SidEntry) (p : Packet) → IsNoSend (treated_in net node n o p).outcome
 in-no_send net node n None p = tt
-in-no_send net node n (Some s) p = by_built (is_built s)
-  where
-    by_built : (built : Bool)
-        → IsNoSend (if built then treated_at_sid net node n s.behaviour p (at_sid s (allow_of (slice_get net.nodes node)) p)
-        else dropped net node reasons.NotBuilt 0 (V6 p)).outcome
-    by_built true = at_sid-no_send net node n s.behaviour p (at_sid s (allow_of (slice_get net.nodes node)) p)
-    by_built false = tt
+in-no_send net node n (Some s) p = at_sid-no_send net node n s.behaviour p (at_sid s (allow_of (slice_get net.nodes node)) p)
 
 -- at the node's own address and away from the network a packet goes no further
 own-never : (net : Network) (node : ℕ) (p : Packet) (x : Endpoint) (t : Step) (R E : Type 0)

@@ -12,7 +12,7 @@ use Rattle.srv6_rules.specs.Packet.{V6, header_len, content_of}
 use Rattle.srv6_rules.specs.Endpoint.{Endpoint, at_sid, upper_layer}
 use Rattle.srv6_rules.specs.Srh.{segments_left_at}
 use Rattle.srv6_rules.specs.Encapsulation.{Encapsulation, inner_place, at_segment}
-use Rattle.srv6_rules.proofs.PublicLaws.{at_segment-onward, at_segment-hop_limit, at_segment-bad_segments, at_segment-upper_layer, at_segment-exposed, listed-plain, listed-psp, listed-usp, listed-built}
+use Rattle.srv6_rules.proofs.PublicLaws.{at_segment-onward, at_segment-hop_limit, at_segment-bad_segments, at_segment-upper_layer, at_segment-exposed, listed-plain, listed-psp, listed-usp}
 use Rattle.net_model.specs.declared.net.Hit.{Hit}
 use Rattle.net_model.specs.declared.net.Hit.TheVariants as hits
 use Rattle.net_model.specs.Network.{Network}
@@ -34,7 +34,7 @@ use Rattle.leg_table.specs.Tasks.{matches, left_after, left_after_function}
 use Rattle.leg_table.specs.Leg.{place_behind}
 use Rattle.leg_table.specs.Sids.{takes_step, hands_over, first_address, sid_address}
 use Rattle.leg_table.proofs.Options.{if-some, some-same}
-use Rattle.leg_table.proofs.Executions.{stage_into}
+use Rattle.leg_table.proofs.Executions.{stage_into, listed-onward}
 
 -- behind an execution of an IPv6 packet the packet stands at the SID's node, and goes on in the SID's way
 pub behind-again : (net : Network) (at : Place) (n : ℕ) (s : SidEntry) → s.node ≡ at.node → at.family ≡ families.V6
@@ -92,7 +92,7 @@ module _ (net : Network) (e : Encapsulation) (bytes : List ℕ) (place : Place) 
   given x = treated_at_sid net place.node n s.behaviour (at_segment e bytes i hop) x
 
   stage-is : is_listed s ≡ true → stage ≡ given (at_sid s allow (at_segment e bytes i hop))
-  stage-is listed = stage_into net place (at_segment e bytes i hop) n s choice into there (listed-built s listed)
+  stage-is listed = stage_into net place (at_segment e bytes i hop) n s choice into there
 
   -- at a segment that is not the last
   pub mid-onward : takes_step s ≡ true → i + 1 < length e.segments → All (λ a. a < 2 ^ 128) e.segments → 1 < hop
@@ -101,6 +101,7 @@ module _ (net : Network) (e : Encapsulation) (bytes : List ℕ) (place : Place) 
       let parts = and_parts (is_listed s) (goes_on s) middle in
       stage-is parts.0
       ∙ ap given (at_segment-onward s (listed-plain s parts.0) allow e bytes i hop parts.1 (inl (listed-psp s parts.0)) below all high)
+      ∙ listed-onward net place.node n s (at_segment e bytes i hop) (at_segment e bytes (i + 1) (hop - 1)) parts.0
       ∙ ap (λ (j : ℕ). goes (outcomes.Again n (onward_from n s.behaviour)) (V6 (at_segment e bytes j (hop - 1)))) (add-one i)
 
   pub mid-low : takes_step s ≡ true → i + 1 < length e.segments → hop ≤ 1
