@@ -1,12 +1,12 @@
 -- A packet alone in its bytes, and what is written into them.
-use Rattle.std.proofs.Common.{◌≡◌, ℕ, ◌+◌, ◌-◌, ◌^◌, ◌<◌, ◌≤◌, Bool, true, false, ◌==◌, if◌then◌else◌, List, ◌++◌, length, take, drop, slice_index, slice_set, All, refl, sym, ap, subst, ◌∙◌, arith, length-drop}
+use Rattle.std.proofs.Common.{◌≡◌, ℕ, ◌+◌, ◌-◌, ◌^◌, ◌<◌, ◌≤◌, Bool, true, false, ◌==◌, if◌then◌else◌, List, ◌++◌, length, take, drop, slice_index, slice_set, All, refl, sym, ap, subst, ◌∙◌, arith}
 use Rattle.std.specs.Prelude.{nat_lt, ◌/◌}
 use Rattle.std.proofs.lemmas.Bool.{ltb-false}
 use Rattle.std.proofs.lemmas.List.{drop-drop, length-set}
 use Rattle.std.proofs.lemmas.List.Elements.{All-set}
 use Rattle.srv6_rules.specs.declared.numbers.TheConstants.{IPV6_VERSION}
 use Rattle.srv6_rules.specs.declared.sid.Reason.TheVariants.{Truncated, BadVersion}
-use Rattle.srv6_rules.specs.Packet.{Packet, IsSpellable, Spells, Content, V6, Unreadable, header_len, content_of, packet_at, stated_len, spelling, address_bytes}
+use Rattle.srv6_rules.specs.Packet.{Packet, IsSpellable, Spells, V6, Unreadable, header_len, content_of, packet_at, stated_len, spelling, address_bytes}
 use Rattle.srv6_rules.specs.Chain.{from_place}
 use Rattle.srv6_rules.specs.CompressedSteps.{Move, moved, with_hop_and_destination}
 use Rattle.srv6_rules.proofs.PublicLaws.{content_of-spelling_alone, length-spelling, all-spelling, spelling-behind, edit-hop_limit, edit-destination, edit-payload}

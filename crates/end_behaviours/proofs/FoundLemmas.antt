@@ -1,5 +1,5 @@
 -- What is found at a header.
-use Rattle.std.proofs.Common.{◌≡◌, ◌≢◌, ℕ, zero, suc, ◌+◌, ◌-◌, ◌^◌, ◌<◌, ◌≤◌, Bool, true, false, ◌==◌, ◌&&◌, ◌||◌, not, if◌then◌else◌, List, [], length, slice_index, refl, sym, ap, subst, ◌∙◌, arith, inl, inr}
+use Rattle.std.proofs.Common.{◌≡◌, ◌≢◌, ℕ, zero, suc, ◌+◌, ◌-◌, ◌<◌, ◌≤◌, Bool, true, false, ◌==◌, ◌&&◌, ◌||◌, not, if◌then◌else◌, [], length, slice_index, refl, sym, ap, subst, ◌∙◌, arith, inl, inr}
 use Rattle.std.specs.Prelude.{Option, Some, None, IfSome}
 use Rattle.std.proofs.lemmas.Bool.{cases_Bool, and_parts, eq-eqb, eqb-false, eqb-true, ne_eqb}
 use Rattle.srv6_rules.specs.declared.numbers.TheConstants.{MOST_LEN}
@@ -8,11 +8,11 @@ use Rattle.srv6_rules.specs.declared.sid.Reason.{Reason}
 use Rattle.srv6_rules.specs.declared.sid.Reason.TheVariants.{UnknownRouting, LateHopByHop, Fragment}
 use Rattle.srv6_rules.specs.declared.sid.SidEntry.{SidEntry}
 use Rattle.srv6_rules.specs.Behaviours.{goes_on}
-use Rattle.srv6_rules.specs.Packet.{Packet, header_len, packet_at, spelling}
+use Rattle.srv6_rules.specs.Packet.{Packet, spelling}
 use Rattle.srv6_rules.specs.Areas as areas
 use Rattle.srv6_rules.specs.Areas.{options_fault}
 use Rattle.srv6_rules.specs.Srh.{segment_routing, srh_of}
-use Rattle.srv6_rules.specs.Chain.{ChainPlace, Header, LiesIn, StandsIn, destination_options, fragment, hop_by_hop, is_extension, is_first, is_segment_routing, place_behind, routing, routing_type, segments_left}
+use Rattle.srv6_rules.specs.Chain.{ChainPlace, Header, LiesIn, StandsIn, destination_options, fragment, hop_by_hop, is_first, is_segment_routing, place_behind, routing, routing_type, segments_left}
 use Rattle.srv6_rules.specs.CompressedSteps.{ReplaceStep, AtEnd, compression_of, is_at_end, is_ended, is_replace, lacks_entry, replace_step}
 use Rattle.srv6_rules.specs.Endpoint.{Endpoint, Exposed, Refused, after_last, at_header, at_header_by, at_segment_routing, at_sid_routing, by_replace_step, is_options, next_csid, outcome_without, shifts_at, unknown_routing, unless_fault}
 use Rattle.srv6_rules.proofs.PublicLaws.{at_header-known, at_header-routing, first-passed, fragment-refused, known-packed, known-whole, late-refused, lies-spelled, options-judged, options_fault-within, packed-last, packed-steps, unknown-passed, unknown-refused, whole-last}
@@ -96,6 +96,7 @@ module _ (s : SidEntry) (p : Packet) (h : Header) where
     where
       by_kind : is_replace s.csid ≡ true → is_last s p h ≡ is_at_end (compression_of s) (srh_of h.bytes) p.destination
       by_kind packed = rw packed refl
+
       by_whole : is_replace s.csid ≡ false → is_last s p h ≡ (segments_left h == 0)
       by_whole whole = rw whole refl
 

@@ -1,6 +1,6 @@
 -- Steps written into a packet's bytes, and what comes of the packet.
 use Rattle.std.proofs.Common.{◌≡◌, ℕ, ◌+◌, ◌-◌, ◌*◌, ◌^◌, ◌<◌, ◌≤◌, Bool, true, false, ◌==◌, ◌&&◌, not, nat_le, if◌then◌else◌, List, length, slice_index, refl, sym, ap, subst, ◌∙◌, arith, inl, inr}
-use Rattle.std.specs.Prelude.{Option, Some, None}
+use Rattle.std.specs.Prelude.{Some, None}
 use Rattle.std.proofs.lemmas.Bool.{cases_Bool, and_parts, eqb-true, eqb-false, eq-eqb, ne_eqb}
 use Rattle.std.proofs.lemmas.List.{length-set}
 use Rattle.srv6_rules.specs.declared.compression.Compression.{Compression}
@@ -12,9 +12,9 @@ use Rattle.srv6_rules.specs.declared.sid.SidEntry.{SidEntry}
 use Rattle.srv6_rules.specs.Packet.{Packet, IsSpellable, Spells, header_len, packet_at, spelling}
 use Rattle.srv6_rules.specs.Areas.{Fault, tlvs_fault}
 use Rattle.srv6_rules.specs.Srh.{Srh, srh_of}
-use Rattle.srv6_rules.specs.Chain.{ChainPlace, Header, LiesIn, extension_bytes, from_place, is_segment_routing, routing, routing_type, without}
+use Rattle.srv6_rules.specs.Chain.{ChainPlace, Header, LiesIn, extension_bytes, routing, routing_type, without}
 use Rattle.srv6_rules.specs.Compressed.{argument_of}
-use Rattle.srv6_rules.specs.CompressedSteps.{IsNext, IsReplace, SuitsKind, SuitsCompression, Move, ReplaceStep, Moved, AtEnd, Dropped, compression_of, hop_limit_fault, is_next, is_replace, is_at_end, shifted, moved, replace_step, with_hop_and_destination}
+use Rattle.srv6_rules.specs.CompressedSteps.{IsNext, IsReplace, SuitsKind, SuitsCompression, Move, ReplaceStep, Moved, AtEnd, Dropped, compression_of, is_next, is_replace, is_at_end, shifted, moved, replace_step, with_hop_and_destination}
 use Rattle.srv6_rules.specs.Endpoint.{Endpoint, Onward, Refused, after_step, as_in, by_replace_step, has_bad_segments, leaves_none, next_csid, next_segment, outcome_without, shifts_at}
 use Rattle.srv6_rules.proofs.PublicLaws.{lies-bytes, shifted-spellable, srh_of-spellable, step-at_end, step-place, step-spellable, tlvs_fault-within}
 use Rattle.pkt_buf.specs.Lending.{left_in}

@@ -10,7 +10,7 @@ use Rattle.endpoint_chain.specs.Outcomes.{HoldsAlone}
 use Rattle.endpoint_chain.specs.declared.outcome.EndOutcome.{EndOutcome}
 use Rattle.endpoint_chain.proofs.PublicLaws.{alone-length}
 use Rattle.end_behaviours.specs.declared.headers.Found.{Found}
-use Rattle.end_behaviours.specs.Finding.{IsFound, IsLast, LiesAt, at_sid_from, header_of}
+use Rattle.end_behaviours.specs.Finding.{IsFound, IsLast, LiesAt, at_sid_from}
 use Rattle.end_behaviours.specs.Stepping.{Remains}
 use Rattle.end_behaviours.proofs.AloneLemmas.{alone-from}
 

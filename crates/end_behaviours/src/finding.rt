@@ -43,7 +43,8 @@ fn found_upper(sid: &SidEntry, shifts: bool, allow: &[u8], place: ChainPlace) ->
     }
 }
 
-/// The SID shifts a packet: it has NEXT-CSID, and the argument of the packet's destination is not 0.
+/// The SID shifts a packet: it has NEXT-CSID, and the argument of the packet's destination is not 0
+/// (RFC 9800 section 4.1).
 fn shifts_at(sid: &SidEntry, bytes: &[u8]) -> bool
     requires suits { SuitsCompression sid.now }
     requires packet { HoldsPacket bytes.now }

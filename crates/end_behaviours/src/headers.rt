@@ -15,12 +15,13 @@ use endpoint_chain::{header_fault, unknown_routing_fault};
 use ip6_headers::{ChainPlace, Fault};
 use replace_csid::is_at_end;
 use srv6_rules::numbers::{
-    DESTINATION_OPTIONS, HOP_BY_HOP, MOST_LEN, ROUTING, ROUTING_TYPE_AT, SEGMENT_ROUTING, SEGMENTS_LEFT_AT,
+    DESTINATION_OPTIONS, HOP_BY_HOP, MOST_LEN, ROUTING, ROUTING_TYPE_AT, SEGMENT_ROUTING,
+    SEGMENTS_LEFT_AT,
 };
 use srv6_rules::{Csid, Family, SidEntry};
 
-/// What comes of a packet from a place of its chain on: where the headers in front of what decides
-/// are passed over.
+/// What decides what comes of a packet from a place of its chain on, behind headers that are passed
+/// over. Places are in bytes from the packet's first.
 #[derive(Clone, Copy, Debug)]
 pub(crate) enum Found {
     /// The SID shifts.
@@ -64,8 +65,9 @@ fn refused(fault: Option<Fault>) -> Option<Found>
     }
 }
 
-/// A segment routing header at a SID that goes on: at its end it is passed over, or taken out with
-/// USP, and else the step is taken over it (RFC 8986 sections 4.1 and 4.16.2, RFC 9800 section 4.2).
+/// A segment routing header at a SID: at its end it is passed over, or taken out with
+/// USP, and else the step is taken over it (RFC 8986 sections 4.1 and 4.16.2, RFC 9800 section
+/// 4.2).
 fn found_at_segments(
     sid: &SidEntry,
     bytes: &[u8],
@@ -95,13 +97,9 @@ fn found_at_segments(
     })
 }
 
-/// A routing header at a SID that goes on.
-fn found_at_routing(
-    sid: &SidEntry,
-    bytes: &[u8],
-    place: ChainPlace,
-    header: &[u8],
-) -> Option<Found>
+/// A routing header at a SID; one that the node does not know is passed over with no segments left
+/// and else refused (RFC 8200 section 4.4).
+fn found_at_routing(sid: &SidEntry, bytes: &[u8], place: ChainPlace, header: &[u8]) -> Option<Found>
     requires suits { SuitsCompression sid.now }
     requires packet { HoldsPacket bytes.now }
     requires lies { LiesIn (packet_at bytes.now) (header_at place header.now) }
@@ -116,7 +114,7 @@ fn found_at_routing(
     found_at_segments(sid, bytes, place, header)
 }
 
-/// A SID that shifts does so in front of what stands at a place: of any header but options.
+/// A SID that shifts does so at the header that stands at a place: at any but options.
 fn shifts_in_front(shifts: bool, place: ChainPlace) -> bool
     ensures { (bytes : List ℕ)
         → result ≡ (shifts && not (is_options (header_at place bytes))) }
@@ -124,7 +122,7 @@ fn shifts_in_front(shifts: bool, place: ChainPlace) -> bool
     shifts && place.kind != HOP_BY_HOP && place.kind != DESTINATION_OPTIONS
 }
 
-/// A header at a SID that goes on, or none where it is passed over. Where the SID shifts, it does
+/// What is found at a header, or none where it is passed over. Where the SID shifts, it does
 /// so at the first header that has no options, without a look inside.
 pub(crate) fn found_at(
     sid: &SidEntry,

@@ -53,18 +53,19 @@ fn step_from(sid: &SidEntry, allow: &[u8], buf: &mut PktBuf, start: ChainPlace) 
 /// SID it is the step alone, without the policy's header.
 ///
 /// The headers are gone over from the first. `On` comes where the SID shifts the destination, with
-/// NEXT-CSID and an argument that is not 0 and in front of any header but options, or where the step
-/// over a segment routing header that is not at its end was taken: the hop limit, the destination
-/// and Segments Left are written in their places, and with PSP the header is taken out where no
-/// segment is left then. `Hand` comes where the upper layer is an IPv6 or IPv4 packet and the SID
-/// has USD: the bytes are those of the packet inside, and all before them become spare. `Local`
-/// comes where the upper layer is one of `allow`. With USP each segment routing header at its end
-/// that stands in front is taken out, but only where the packet goes on or is handed over. A header
-/// that is taken out leaves the payload length lower by its own, and the field that named it names
-/// what stood behind it. `Drop` has the reason, and the place of the fault in bytes from the first
-/// of the packet as it came, 0 where the reason has none; no byte changes then.
+/// NEXT-CSID and an argument that is not 0, at the first header but options; or where the step over
+/// a segment routing header that is not at its end was taken: the hop limit, the destination and
+/// Segments Left are written in their places, and with PSP the header is taken out where no segment
+/// is left then. `Hand` comes where the upper layer is an IPv6 or IPv4 packet and the SID has USD:
+/// the bytes are those of the packet inside, and all before them become spare. `Local` comes where
+/// the upper layer is one of `allow`. With USP each segment routing header at its end that stands in
+/// front is taken out, but only where the packet goes on or is handed over. Where a header is taken
+/// out, the payload length is as much lower, and the field that named the header names what stood
+/// behind it. `Drop` has the reason, and the place of the fault in bytes from the first of the
+/// packet as it came, 0 where the reason has none; no byte changes then.
 ///
-/// It takes no memory. Headers that USP takes out are taken out one in the other's call.
+/// It takes no memory. The calls for the headers that USP takes out stand one in the other, at most
+/// 8,191 of them.
 pub fn end_step(sid: &SidEntry, allow: &[u8], buf: &mut PktBuf) -> EndOutcome
     requires goes_on { goes_on sid.now ≡ true }
     requires suits { SuitsCompression sid.now }

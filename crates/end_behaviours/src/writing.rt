@@ -76,8 +76,9 @@ fn pop(sid: &SidEntry, ended: bool, buf: &mut PktBuf, place: ChainPlace, len: us
     }
 }
 
-/// The step over the segment routing header of so many bytes at a place, by whole segments; with PSP
-/// the header is taken out where Segments Left becomes 0 (RFC 8986 sections 4.1 and 4.16.1).
+/// The step over the segment routing header of so many bytes at a place, one that is not at its
+/// end, by whole segments; with PSP the header is taken out where Segments Left becomes 0 (RFC 8986
+/// sections 4.1 and 4.16.1).
 fn step_whole(sid: &SidEntry, buf: &mut PktBuf, place: ChainPlace, len: usize) -> EndOutcome
     requires whole { is_replace sid.now.csid ≡ false }
     requires packet { HoldsAlone buf.old.bytes }
@@ -100,8 +101,8 @@ fn step_whole(sid: &SidEntry, buf: &mut PktBuf, place: ChainPlace, len: usize) -
 }
 
 /// The step over the segment routing header of so many bytes at a place, one that is not at its
-/// end, by packed segments; with PSP the header is taken out where no segment is left then (RFC 9800
-/// section 4.2).
+/// end, by packed segments; with PSP the header is taken out where no segment is left then (RFC
+/// 9800 section 4.2).
 fn step_packed(sid: &SidEntry, buf: &mut PktBuf, place: ChainPlace, len: usize) -> EndOutcome
     requires packed { is_replace sid.now.csid ≡ true }
     requires suits { SuitsCompression sid.now }

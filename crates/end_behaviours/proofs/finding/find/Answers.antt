@@ -1,8 +1,8 @@
-use Rattle.std.proofs.Common.{◌≡◌, ◌∙◌, sym, arith}
+use Rattle.std.proofs.Common.{arith}
 use Rattle.srv6_rules.specs.Chain.{Upper}
 use Rattle.srv6_rules.specs.Endpoint.{at_end, at_header}
 use Rattle.srv6_rules.specs.Packet.{packet_at}
-use Rattle.ip6_headers.specs.Stepping.{header_at, place_view}
+use Rattle.ip6_headers.specs.Stepping.{place_view}
 use Rattle.ip6_headers.proofs.PublicLaws.{holds-spellable}
 use Rattle.endpoint_chain.proofs.PublicLaws.{alone-length, comes-upper}
 use Rattle.end_behaviours.specs.Finding.{at_sid_from}
@@ -37,12 +37,14 @@ returns-in-Cut c =
     let q = place_view c.headers.place in
     let r = c.headers.invariant in
     rw c.cut_fault.ensures
-    (cut-found s allow c.args.bytes.now (place_view c.args.start) q c.headers.rest.now c.requires.packet r c.in-Cut.ensures.0 c.in-Cut.ensures.1)
+    (cut-found s allow c.args.bytes.now (place_view c.args.start) q c.headers.rest.now c.requires.packet r c.in-Cut.ensures.0
+    c.in-Cut.ensures.1)
 
 pub found_at-requires-clause-lies : goal.found_at-requires-clause-lies
 found_at-requires-clause-lies c =
     reached-lies c.args.sid.now c.args.allow.now (packet_at c.args.bytes.now) (place_view c.args.start) (place_view c.headers.place)
-    c.headers.rest.now c.split_at-in-Header.result.0.now c.in-Header.len c.headers.invariant c.in-Header.ensures c.split_at-in-Header.ensures.front
+    c.headers.rest.now c.split_at-in-Header.result.0.now c.in-Header.len c.headers.invariant c.in-Header.ensures
+    c.split_at-in-Header.ensures.front
 
 pub returns-in-Some : goal.returns-in-Some
 returns-in-Some c =
@@ -75,8 +77,8 @@ split_at-requires c =
 pub behind-place-requires-clause-fits : goal.behind-place-requires-clause-fits
 behind-place-requires-clause-fits c =
     let lies = reached-lies c.args.sid.now c.args.allow.now (packet_at c.args.bytes.now) (place_view c.args.start)
-    (place_view c.headers.place) c.headers.rest.now c.split_at-in-Header.result.0.now c.in-Header.len c.headers.invariant c.in-Header.ensures
-    c.split_at-in-Header.ensures.front in
+    (place_view c.headers.place) c.headers.rest.now c.split_at-in-Header.result.0.now c.in-Header.len c.headers.invariant
+    c.in-Header.ensures c.split_at-in-Header.ensures.front in
     let within = lies.within in
     let short = (holds-spellable c.args.bytes.now c.requires.packet.holds).payload_len in
     omega arith

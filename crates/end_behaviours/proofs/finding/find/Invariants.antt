@@ -1,5 +1,4 @@
-use Rattle.std.proofs.Common.{◌≤◌, length}
-use Rattle.srv6_rules.specs.Chain.{StandsIn}
+use Rattle.std.proofs.Common.{length}
 use Rattle.srv6_rules.specs.Packet.{packet_at}
 use Rattle.ip6_headers.specs.Stepping.{place_view}
 use Rattle.end_behaviours.proofs.FromLemmas.{Reached}

@@ -1,4 +1,4 @@
-use Rattle.std.proofs.Common.{◌≡◌, true, false, ◌∙◌, sym, arith}
+use Rattle.std.proofs.Common.{◌∙◌, sym, arith}
 use Rattle.srv6_rules.specs.Chain.{place_behind}
 use Rattle.srv6_rules.specs.Packet.{packet_at}
 use Rattle.ip6_headers.specs.Stepping.{header_at, place_view}

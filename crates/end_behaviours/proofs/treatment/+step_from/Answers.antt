@@ -1,4 +1,4 @@
-use Rattle.std.proofs.Common.{◌≡◌, ◌+◌, ◌-◌, ◌≤◌, ◌∙◌, length, refl, ap, sym, arith}
+use Rattle.std.proofs.Common.{◌+◌, ◌-◌, refl, ap, sym, arith}
 use Rattle.srv6_rules.specs.Packet.{packet_at}
 use Rattle.pkt_buf.specs.BufferView.{Buffer}
 use Rattle.ip6_headers.specs.Stepping.{place_view}
@@ -6,9 +6,9 @@ use Rattle.endpoint_chain.proofs.PublicLaws.{alone-length}
 use Rattle.end_behaviours.specs.declared.headers.Found.TheVariants.{Step, Last, Expose, Deliver}
 use Rattle.end_behaviours.specs.Finding.{at_sid_from, header_of}
 use Rattle.end_behaviours.proofs.AloneLemmas.{alone-spells}
-use Rattle.end_behaviours.proofs.RemovalLemmas.{left-remains, out-reaches_by, reaches-nearer}
+use Rattle.end_behaviours.proofs.RemovalLemmas.{left-remains, out-reaches_by}
 use Rattle.end_behaviours.proofs.StepLemmas.{comes-same}
-use Rattle.end_behaviours.proofs.TreatmentLemmas.{exposed-bytes, found-in, header-here, last-ends, remains-at}
+use Rattle.end_behaviours.proofs.TreatmentLemmas.{exposed-bytes, found-in, last-ends, remains-at}
 use Rattle.end_behaviours.proofs.treatment.+step_from.Goals as goal
 
 pub step_from-outcome-requires : goal.step_from-outcome-requires

@@ -3,7 +3,6 @@ use Rattle.srv6_rules.specs.Chain.{ChainPlace, StandsIn, start_of}
 use Rattle.srv6_rules.specs.Packet.{Packet, packet_at}
 use Rattle.srv6_rules.proofs.PublicLaws.{start-stands}
 use Rattle.ip6_headers.specs.Stepping.{first_place, place_view}
-use Rattle.end_behaviours.specs.Finding.{at_sid_from}
 use Rattle.end_behaviours.proofs.StepLemmas.{comes-same}
 use Rattle.end_behaviours.proofs.TreatmentLemmas.{sid-from}
 use Rattle.end_behaviours.proofs.treatment.end_step.Goals as goal

@@ -1,6 +1,5 @@
-use Rattle.std.proofs.Common.{◌≡◌, ◌+◌, ◌≤◌, ◌∙◌, length, ap, subst, arith}
+use Rattle.std.proofs.Common.{arith}
 use Rattle.srv6_rules.specs.CompressedSteps.{compression_of}
-use Rattle.srv6_rules.specs.Packet.{packet_at}
 use Rattle.ip6_headers.specs.Stepping.{place_view}
 use Rattle.replace_csid.specs.declared.step.ReplaceOutcome.TheVariants.{Moved, End, Drop}
 use Rattle.endpoint_chain.proofs.PublicLaws.{alone-length, alone-most}

@@ -1,7 +1,6 @@
-use Rattle.std.proofs.Common.{◌≡◌, ◌+◌, ◌≤◌, ◌∙◌, length, ap, arith}
-use Rattle.srv6_rules.specs.Packet.{packet_at}
+use Rattle.std.proofs.Common.{◌∙◌, length, ap, arith}
 use Rattle.replace_csid.specs.Replacing.{with_move}
-use Rattle.endpoint_chain.proofs.PublicLaws.{alone-length, alone-most}
+use Rattle.endpoint_chain.proofs.PublicLaws.{alone-most}
 use Rattle.ip6_headers.specs.Stepping.{place_view}
 use Rattle.end_behaviours.specs.Stepping.{move_to}
 use Rattle.end_behaviours.specs.declared.stepping.Judged.TheVariants.{Advance}

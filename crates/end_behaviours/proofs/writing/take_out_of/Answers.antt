@@ -1,4 +1,4 @@
-use Rattle.std.proofs.Common.{◌≡◌, ◌≤◌, ◌+◌, length}
+use Rattle.std.proofs.Common.{◌+◌}
 use Rattle.ip6_headers.specs.Stepping.{place_view}
 use Rattle.end_behaviours.proofs.RemovalLemmas.{out-comes, out-reaches, out-reaches_by, remains-alone, remains-within}
 use Rattle.end_behaviours.proofs.writing.take_out_of.Goals as goal
