@@ -1,16 +1,34 @@
 -- What a stage gives of a packet at a SID, by what came of it in its bytes.
-use Rattle.std.proofs.Common.{◌≡◌, ◌≢◌, ℕ, true, false, List, refl, sym, ap, ◌∙◌}
+use Rattle.std.proofs.Common.{◌≡◌, ◌≢◌, ℕ, true, false, List, Option, Some, None, IfSome, ◌+◌, ◌≤◌, ◌^◌, ◌<◌, length, slice_get, refl, sym, ap, subst, ◌∙◌, arith}
+use Rattle.std.specs.Prelude.{Result}
+use Rattle.srv6_rules.specs.declared.policy.Policy.{Policy}
+use Rattle.srv6_rules.specs.declared.sid.Family.{Family}
+use Rattle.srv6_rules.specs.declared.sid.Family.TheVariants as families
+use Rattle.srv6_rules.specs.declared.sid.Reason.{Reason}
+use Rattle.srv6_rules.specs.declared.sid.Reason.TheVariants as reasons
+use Rattle.srv6_rules.specs.Behaviours.{behaviour_policy, behaviour_reduces}
+use Rattle.srv6_rules.specs.Policies.{Encapsulating, IsPolicy, Outer, TooBig, pushed_by}
 use Rattle.srv6_rules.specs.declared.sid.Csid.{Csid}
 use Rattle.srv6_rules.specs.declared.sid.Csid.TheVariants as csids
 use Rattle.srv6_rules.specs.declared.sid.SidEntry.{SidEntry}
 use Rattle.srv6_rules.specs.CompressedSteps.{is_next}
-use Rattle.srv6_rules.specs.Endpoint.{Endpoint, Onward, Delivered, at_sid}
-use Rattle.srv6_rules.specs.Packet.{Packet, Content, content_of, packet_at}
+use Rattle.srv6_rules.specs.Endpoint.{Endpoint, Onward, Exposed, Delivered, Refused, at_sid}
+use Rattle.srv6_rules.specs.Packet.{Packet, Content, V6, Spells, content_of, packet_at, read_as, spelling}
+use Rattle.srv6_rules.specs.declared.numbers.TheConstants.{MOST_LEN}
+use Rattle.srv6_rules.proofs.PublicLaws.{length-spelling}
 use Rattle.net_model.specs.Network.{Network}
+use Rattle.net_model.specs.Keeps.{Keeps}
+use Rattle.net_model.specs.declared.parts.NamedPolicy.{NamedPolicy}
+use Rattle.net_model.specs.declared.parts.Node.{Node}
 use Rattle.walk_rules.specs.declared.place.How.{How}
 use Rattle.walk_rules.specs.declared.place.Outcome.TheVariants as outcomes
-use Rattle.walk_rules.specs.Treatment.{goes, onward_from, treated_at_sid}
-use Rattle.endpoint_chain.specs.Outcomes.{Leaves}
+use Rattle.walk_rules.specs.Treatment.{Gave, goes, dropped, onward_from, exposed_from, allow_of, pushed_at_sid, bound_at_sid, onward_at_sid, treated_at_sid, treated_in}
+use Rattle.endpoint_chain.specs.declared.outcome.EndOutcome.{EndOutcome}
+use Rattle.endpoint_chain.specs.declared.outcome.EndOutcome.TheVariants as ends
+use Rattle.endpoint_chain.specs.Outcomes.{HoldsAlone, Leaves, ComesOf}
+use Rattle.policy_encap.specs.Answers.{Makes}
+use Rattle.node_stage.specs.declared.staged.Staged.{Staged}
+use Rattle.node_stage.specs.Staging.{Stages}
 use Rattle.node_stage.proofs.ReadingLemmas.{spells-content}
 
 -- what is not of NEXT-CSID
@@ -19,22 +37,112 @@ not-next csids.Plain other = refl
 not-next csids.Next other = absurd (other refl)
 not-next csids.Replace other = refl
 
-module _ (net : Network) (node n : ℕ) (s : SidEntry) (allow : List ℕ) (p : Packet) (bytes : List ℕ) (is : packet_at bytes ≡ p) where
-  -- what came of the packet in its bytes is what came of it
-  came : (e : Endpoint) → at_sid s allow (packet_at bytes) ≡ e
-      → treated_at_sid net node n s.behaviour p e ≡ treated_at_sid net node n s.behaviour p (at_sid s allow p)
-  came e of = ap (treated_at_sid net node n s.behaviour p) (sym (ap (at_sid s allow) (sym is) ∙ of))
+-- ---- what came of a packet, by the outcome
 
-  pub came-on : (how : How) (new : List ℕ) (after : Content) → how ≡ onward_from n s.behaviour → after ≡ content_of new
-      → Leaves (at_sid s allow (packet_at bytes)) Onward new
-      → goes (outcomes.Again n how) after ≡ treated_at_sid net node n s.behaviour p (at_sid s allow p)
-  came-on how new after goes_so reads left =
-      ap (λ (h : How). goes (outcomes.Again n h) after) goes_so
-      ∙ ap (λ (c : Content). goes (outcomes.Again n (onward_from n s.behaviour)) c) (reads ∙ spells-content new left.packet left.spelled)
+pub comes-on : (e : Endpoint) (old new : List ℕ) (outcome : EndOutcome) → outcome ≡ ends.On → ComesOf e old new outcome → Leaves e Onward new
+comes-on e old new outcome is h = let P : EndOutcome → Type 0 = λ o. ComesOf e old new o in subst P is h
+
+pub comes-here : (e : Endpoint) (old new : List ℕ) (outcome : EndOutcome) → outcome ≡ ends.Local → ComesOf e old new outcome
+    → Leaves e Delivered new
+comes-here e old new outcome is h = let P : EndOutcome → Type 0 = λ o. ComesOf e old new o in subst P is h
+
+-- bytes that spell a packet are no more than a packet can have
+pub spells-most : (bytes : List ℕ) (p : Packet) → Spells bytes p → length bytes ≤ MOST_LEN
+spells-most bytes p h =
+    let fits = h.0.payload_len in
+    omega (arith, ap length h.1, length-spelling p)
+
+-- ---- what is given
+
+module _ (net : Network) (node n : ℕ) (s : SidEntry) (allow old : List ℕ) where
+  abbrev p : Packet
+  p = packet_at old
+
+  abbrev wanted : Gave
+  wanted = treated_at_sid net node n s.behaviour p (at_sid s allow p)
+
+  came : (e : Endpoint) → at_sid s allow p ≡ e → treated_at_sid net node n s.behaviour p e ≡ wanted
+  came e of = ap (treated_at_sid net node n s.behaviour p) (sym of)
+
+  -- a packet that goes on from a SID that binds no policy
+  pub came-on : (gave : Gave) (new : List ℕ) → gave ≡ goes (outcomes.Again n (onward_from n s.behaviour)) (content_of new)
+      → behaviour_policy s.behaviour ≡ None → Leaves (at_sid s allow p) Onward new → gave ≡ wanted
+  came-on gave new is unbound left =
+      is ∙ ap (goes (outcomes.Again n (onward_from n s.behaviour))) (spells-content new left.packet left.spelled)
+      ∙ sym (ap (λ (o : Option ℕ). onward_at_sid net node n s.behaviour p left.packet o) unbound)
       ∙ came (Onward left.packet) left.is
 
-  pub came-here : (new : List ℕ) (after : Content) → after ≡ content_of new → Leaves (at_sid s allow (packet_at bytes)) Delivered new
-      → goes outcomes.Local after ≡ treated_at_sid net node n s.behaviour p (at_sid s allow p)
+  pub came-here : (new : List ℕ) (after : Content) → after ≡ content_of new → Leaves (at_sid s allow p) Delivered new
+      → goes outcomes.Local after ≡ wanted
   came-here new after reads left =
       ap (λ (c : Content). goes outcomes.Local c) (reads ∙ spells-content new left.packet left.spelled)
       ∙ came (Delivered left.packet) left.is
+
+  pub came-exposed : (how : How) (family : Family) (new : List ℕ) (after : Content) → how ≡ exposed_from n s.behaviour
+      → after ≡ read_as family new → at_sid s allow p ≡ Exposed family new
+      → goes (outcomes.Hand n how family) after ≡ wanted
+  came-exposed how family new after goes_so reads is =
+      ap (λ (h : How). goes (outcomes.Hand n h family) after) goes_so
+      ∙ ap (goes (outcomes.Hand n (exposed_from n s.behaviour) family)) reads
+      ∙ came (Exposed family new) is
+
+  pub came-dropped : (reason : Reason) (at : ℕ) (new : List ℕ) (content : Content) → HoldsAlone old → content ≡ content_of new
+      → new ≡ old → at_sid s allow p ≡ Refused reason at → dropped net node reason at content ≡ wanted
+  came-dropped reason at new content alone reads same is =
+      ap (dropped net node reason at) (reads ∙ ap content_of same ∙ alone.holds.reads) ∙ came (Refused reason at) is
+
+  -- a packet that goes on from a SID that binds a policy, by what comes of putting the policy's header in front
+  module _ (number : ℕ) (named : NamedPolicy) (policy : Policy) (binds : behaviour_policy s.behaviour ≡ Some number)
+      (there : slice_get net.policies number ≡ Some named) (is : policy ≡ named.policy) (mid : List ℕ)
+      (left : Leaves (at_sid s allow p) Onward mid) where
+    pushed : (e : Encapsulating) → pushed_by policy (behaviour_reduces s.behaviour) families.V6 mid ≡ e
+        → pushed_at_sid net node n s.behaviour p e ≡ wanted
+    pushed e of =
+        let q : Packet = left.packet in
+        let by : pushed_by named.policy (behaviour_reduces s.behaviour) families.V6 (spelling q) ≡ e =
+        ap (λ (x : Policy). pushed_by x (behaviour_reduces s.behaviour) families.V6 (spelling q)) (sym is)
+        ∙ ap (pushed_by policy (behaviour_reduces s.behaviour) families.V6) (sym left.spelled.1) ∙ of in
+        ap (pushed_at_sid net node n s.behaviour p) (sym by)
+        ∙ sym (ap (bound_at_sid net node n s.behaviour p q) there)
+        ∙ sym (ap (onward_at_sid net node n s.behaviour p q) binds)
+        ∙ came (Onward q) left.is
+
+    pub pushed-on : (gave : Gave) (new : List ℕ) → gave ≡ goes (outcomes.Again n (onward_from n s.behaviour)) (content_of new)
+        → Makes (pushed_by policy (behaviour_reduces s.behaviour) families.V6 mid) new → gave ≡ wanted
+    pushed-on gave new so makes =
+        so ∙ ap (goes (outcomes.Again n (onward_from n s.behaviour))) (spells-content new makes.packet makes.spelled)
+        ∙ pushed (Outer makes.packet) makes.outer
+
+    pub pushed-big : (gave : Gave) (length : ℕ) → gave ≡ dropped net node reasons.TooBig 0 (V6 p)
+        → pushed_by policy (behaviour_reduces s.behaviour) families.V6 mid ≡ TooBig length → gave ≡ wanted
+    pushed-big gave length so big = so ∙ pushed (TooBig length) big
+
+-- the policy that a SID binds is there
+pub policy-there : (net : Network) (n : ℕ) (s : SidEntry) (number : ℕ) → Keeps net → slice_get net.sids n ≡ Some s
+    → behaviour_policy s.behaviour ≡ Some number → number < length net.policies
+policy-there net n s number keeps there binds =
+    let P : Option ℕ → Type 0 = λ o. IfSome o (λ (k : ℕ). k < length net.policies) in
+    subst P binds (keeps.sid n s there).behaviour.policy
+
+-- the policies of a network are policies that headers are made of
+pub policy-is : (net : Network) (number : ℕ) (named : NamedPolicy) (policy : Policy) → Keeps net
+    → slice_get net.policies number ≡ Some named → policy ≡ named.policy → IsPolicy policy
+policy-is net number named policy keeps there is =
+    let k = keeps.policy number named there in
+    let flow = k.flow_label in
+    subst IsPolicy (sym is) (record { some = k.some; most = k.at_most; flow_label = omega (arith, flow) })
+
+-- what comes of a packet at a SID of a node, by the SID and by the upper layers that the node takes
+pub sid-treated : (net : Network) (node n : ℕ) (s : SidEntry) (m : Node) (allow : List ℕ) (p : Packet)
+    → slice_get net.sids n ≡ Some s → slice_get net.nodes node ≡ Some m → allow ≡ m.allow
+    → treated_at_sid net node n s.behaviour p (at_sid s allow p) ≡ treated_in net node n (slice_get net.sids n) p
+sid-treated net node n s m allow p there at is =
+    let by : allow ≡ allow_of (slice_get net.nodes node) = is ∙ sym (ap allow_of at) in
+    ap (λ (a : List ℕ). treated_at_sid net node n s.behaviour p (at_sid s a p)) by
+    ∙ sym (ap (λ (o : Option SidEntry). treated_in net node n o p) there)
+
+-- what is given of a packet of another name
+pub stages-as : (net : Network) (node : ℕ) (p q : Packet) (r : Result Staged Content) (gave other : Gave) → p ≡ q → gave ≡ other
+    → Stages net node (V6 p) r gave → Stages net node (V6 q) r other
+stages-as net node p q r gave other same is h =
+    subst (λ (g : Gave). Stages net node (V6 q) r g) is (subst (λ (x : Packet). Stages net node (V6 x) r gave) same h)

@@ -1,5 +1,5 @@
 -- What a stage of the code gives and tells.
-use Rattle.std.specs.Prelude.{◌≡◌, ℕ, List, is_some}
+use Rattle.std.specs.Prelude.{◌≡◌, ℕ, List, [], is_some, Result, Ok, Err}
 use Rattle.srv6_rules.specs.declared.sid.Reason.{Reason}
 use Rattle.srv6_rules.specs.Packet.{Content}
 use Rattle.net_model.specs.Network.{Network}
@@ -24,3 +24,13 @@ dropped_from from reason at content =
 -- what is told is what is given, and the slot has the bytes of the error
 abbrev pub Tells : Told → List ℕ → Gave → Type 0
 Tells told slot gave = (told.outcome ≡ gave.outcome) × (told.after ≡ gave.after) × (slot ≡ error_bytes gave.error)
+
+-- what a stage gives, or, for want of memory, what stood there before
+abbrev pub Stages : Network → ℕ → Content → Result Staged Content → Gave → Type 0
+Stages net node before (Ok staged) gave = gave_of net node staged ≡ gave
+Stages net node before (Err kept) gave = kept ≡ before
+
+-- what is told, or, for want of memory, what stood there before, with an empty slot
+abbrev pub TellsOrKeeps : Content → Result Told Content → List ℕ → Gave → Type 0
+TellsOrKeeps before (Ok told) slot gave = Tells told slot gave
+TellsOrKeeps before (Err kept) slot gave = (kept ≡ before) × (slot ≡ [])

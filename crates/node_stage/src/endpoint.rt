@@ -1,14 +1,18 @@
 //! A packet at the node's own address and at its SIDs.
 
-ghost use Rattle.std.specs.Prelude.{◌≡◌, ℕ, true, false, ◌<◌, length, slice_get};
-ghost use Rattle.srv6_rules.specs.Behaviours.{goes_on};
+ghost use Rattle.std.specs.Prelude.{◌≡◌, ℕ, true, false, ◌<◌, List, Some, None, length, slice_get};
+ghost use Rattle.srv6_rules.specs.Behaviours.{behaviour_policy, goes_on};
 ghost use Rattle.srv6_rules.specs.CompressedSteps.{SuitsCompression, is_next};
 ghost use Rattle.srv6_rules.specs.Endpoint.{at_address, at_sid};
-ghost use Rattle.srv6_rules.specs.Packet.{packet_at};
+ghost use Rattle.srv6_rules.specs.Packet.{V6, content_of, packet_at};
+ghost use Rattle.srv6_rules.specs.Policies.{IsPolicy};
 ghost use Rattle.net_model.specs.Network.{Network};
-ghost use Rattle.walk_rules.specs.Treatment.{treated_at_address, treated_at_sid, treated_in};
+ghost use Rattle.net_model.specs.declared.parts.NamedPolicy.{NamedPolicy};
+ghost use Rattle.walk_rules.specs.Treatment.{goes, onward_from, treated_at_address, treated_at_sid, treated_in};
+ghost use Rattle.walk_rules.specs.declared.place.Outcome.TheVariants.{Again};
+ghost use Rattle.endpoint_chain.specs.declared.outcome.EndOutcome.TheVariants.{On};
 ghost use Rattle.endpoint_chain.specs.Outcomes.{ComesOf, HoldsAlone};
-ghost use Rattle.node_stage.specs.Staging.{gave_of};
+ghost use Rattle.node_stage.specs.Staging.{Stages, gave_of};
 
 use crate::content::Content;
 use crate::packet::Packet;
@@ -18,8 +22,15 @@ use end_behaviours::end_step;
 use endpoint_chain::{EndOutcome, fault_at_address};
 use net_model::Net;
 use pkt_buf::PktBuf;
-use srv6_rules::{Reason, SidEntry};
+use policy_encap::{PushFault, push};
+use srv6_rules::{Family, Policy, Reason, SidEntry};
+use std::alloc::Global;
 use walk_rules::{Outcome, exposed_from, onward_from};
+
+/// The longest header that a policy puts in front of a packet, in bytes: an IPv6 header of 40, and a
+/// segment routing header of 8 and 127 entries of 16 (RFC 8200 section 3, RFC 8754 section 2; that a
+/// policy has at most 127 segments is an own rule).
+const MOST_OUTER_LEN: usize = 2080;
 
 /// At the node's own address.
 pub(crate) fn treated_at_address(packet: Packet) -> Staged
@@ -51,26 +62,33 @@ fn step_at_sid(sid: &SidEntry, allow: &[u8], bytes: &mut PktBuf) -> EndOutcome
     }
 }
 
-/// At a SID with a number, of a node that takes some upper layers at its SIDs (RFC 8986 section 4);
-/// what is exposed is read as a packet of its family.
-fn treated_at_sid(sid: u32, entry: &SidEntry, allow: &[u8], packet: Packet) -> Staged
-    requires suits { SuitsCompression entry.now }
-    requires usp { goes_on entry.now ≡ false → entry.now.usp ≡ false }
-    requires next { goes_on entry.now ≡ false → is_next entry.now.csid ≡ false }
-    ensures { (net : Network) (node : ℕ)
-        → gave_of net node result
-        ≡ treated_at_sid net node sid entry.now.behaviour packet
-        (at_sid entry.now allow.now packet) }
+/// A packet goes on from a SID with a number and stays at the node.
+fn again(sid: u32, entry: &SidEntry, bytes: PktBuf) -> Staged
+    ensures { (net : Network) (node : ℕ) → gave_of net node result
+        ≡ goes (Again sid (onward_from sid entry.now.behaviour)) (content_of bytes.bytes) }
 {
-    let mut bytes = packet.into_bytes();
-    match step_at_sid(entry, allow, &mut bytes) {
-        EndOutcome::On => Staged::Goes {
-            outcome: Outcome::Again {
-                sid,
-                how: onward_from(sid, &entry.behaviour),
-            },
-            after: Content::read(bytes),
+    Staged::Goes {
+        outcome: Outcome::Again {
+            sid,
+            how: onward_from(sid, &entry.behaviour),
         },
+        after: Content::read(bytes),
+    }
+}
+
+/// What a stage gives of a packet at a SID with a number by what came of it in its bytes, where no
+/// policy's header is put in front (RFC 8986 section 4); what is exposed is read as a packet of its
+/// family.
+fn given(sid: u32, entry: &SidEntry, outcome: EndOutcome, bytes: PktBuf) -> Staged
+    ensures { (net : Network) (node : ℕ) (allow old : List ℕ) → HoldsAlone old
+        → (outcome ≡ On → behaviour_policy entry.now.behaviour ≡ None)
+        → ComesOf (at_sid entry.now allow (packet_at old)) old bytes.bytes outcome
+        → gave_of net node result
+        ≡ treated_at_sid net node sid entry.now.behaviour (packet_at old)
+        (at_sid entry.now allow (packet_at old)) }
+{
+    match outcome {
+        EndOutcome::On => again(sid, entry, bytes),
         EndOutcome::Hand { family } => Staged::Goes {
             outcome: Outcome::Hand {
                 sid,
@@ -91,19 +109,79 @@ fn treated_at_sid(sid: u32, entry: &SidEntry, allow: &[u8], packet: Packet) -> S
     }
 }
 
-/// At a SID of a node of the network; one that nodes do not run yet drops the packet before its
-/// headers are looked at (own rule).
-pub(crate) fn treated_in(net: &Net, node: u32, sid: u32, packet: Packet) -> Staged
+/// At a SID with a number that binds no policy, of a node that takes some upper layers at its SIDs.
+fn treated_at_sid(sid: u32, entry: &SidEntry, allow: &[u8], packet: Packet) -> Staged
+    requires unbound { behaviour_policy entry.now.behaviour ≡ None }
+    requires suits { SuitsCompression entry.now }
+    requires usp { goes_on entry.now ≡ false → entry.now.usp ≡ false }
+    requires next { goes_on entry.now ≡ false → is_next entry.now.csid ≡ false }
+    ensures { (net : Network) (node : ℕ)
+        → gave_of net node result
+        ≡ treated_at_sid net node sid entry.now.behaviour packet
+        (at_sid entry.now allow.now packet) }
+{
+    let mut bytes = packet.into_bytes();
+    let outcome = step_at_sid(entry, allow, &mut bytes);
+    given(sid, entry, outcome, bytes)
+}
+
+/// At a SID with a number that binds a policy: after the SID's own step the policy's header is put in
+/// front, in the form of the SID's behaviour, and a packet for which it would be too long is dropped
+/// as it came (RFC 8986 sections 4.13 and 4.14). The packet is worked on in a copy with room for the
+/// header; for want of memory it is given back.
+fn bound_at_sid(
+    alloc: Global,
+    sid: u32,
+    entry: &SidEntry,
+    policy: &Policy,
+    allow: &[u8],
+    packet: Packet,
+) -> Result<Staged, Content>
+    requires goes_on { goes_on entry.now ≡ true }
+    requires suits { SuitsCompression entry.now }
+    requires policy { IsPolicy policy.now }
+    ensures { (net : Network) (node number : ℕ) (named : NamedPolicy)
+        → behaviour_policy entry.now.behaviour ≡ Some number
+        → slice_get net.policies number ≡ Some named → policy.now ≡ named.policy
+        → Stages net node (V6 packet) result
+        (treated_at_sid net node sid entry.now.behaviour packet
+        (at_sid entry.now allow.now packet)) }
+{
+    packet.keeps_rules();
+    let Ok(mut bytes) = PktBuf::new(alloc, MOST_OUTER_LEN, packet.bytes()) else {
+        return Err(Content::of(packet));
+    };
+    let outcome = end_step(entry, allow, &mut bytes);
+    match outcome {
+        EndOutcome::On => match push(policy, entry.behaviour.reduces(), Family::V6, &mut bytes) {
+            Ok(()) => Ok(again(sid, entry, bytes)),
+            Err(PushFault::TooBig { .. }) => Ok(dropped_for(Reason::TooBig, Content::of(packet))),
+            Err(PushFault::NoMemory) => Err(Content::of(packet)),
+        },
+        EndOutcome::Hand { .. } | EndOutcome::Local | EndOutcome::Drop { .. } => {
+            Ok(given(sid, entry, outcome, bytes))
+        }
+    }
+}
+
+/// At a SID of a node of the network.
+pub(crate) fn treated_in(
+    alloc: Global,
+    net: &Net,
+    node: u32,
+    sid: u32,
+    packet: Packet,
+) -> Result<Staged, Content>
     requires node { node < length net.now.nodes }
     requires sid { sid < length net.now.sids }
-    ensures { gave_of net.now node result
-        ≡ treated_in net.now node sid (slice_get net.now.sids sid) packet }
+    ensures { Stages net.now node (V6 packet) result
+        (treated_in net.now node sid (slice_get net.now.sids sid) packet) }
 {
     net.keeps_rules();
     let entry = net.sid(sid);
-    if entry.behaviour.policy().is_some() {
-        return dropped_for(Reason::NotBuilt, Content::of(packet));
-    }
     let allow = net.node(node).allow.as_slice();
-    treated_at_sid(sid, entry, allow, packet)
+    match entry.behaviour.policy() {
+        Some(policy) => { bound_at_sid(alloc, sid, entry, net.policy(policy), allow, packet) }
+        None => Ok(treated_at_sid(sid, entry, allow, packet)),
+    }
 }

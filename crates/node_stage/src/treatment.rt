@@ -1,13 +1,14 @@
 //! The stage: what one node does with what stands at a place.
 
-ghost use Rattle.std.specs.Prelude.{◌≡◌, ◌<◌, [], length, IfSome};
+ghost use Rattle.std.specs.Prelude.{◌≡◌, ◌<◌, [], length, IfOk, IfSome, OnErr, OnOk};
+ghost use Rattle.srv6_rules.specs.Packet.{V6};
 ghost use Rattle.icmp6_errors.specs.Answer.{error_bytes};
 ghost use Rattle.walk_rules.specs.Laws.{TellsOfError};
 ghost use Rattle.walk_rules.specs.Relation.{IsPlace, Stage};
 ghost use Rattle.walk_rules.specs.Treatment.{step_of, treated, treated4};
 ghost use Rattle.walk_rules.specs.Walk.{next_place};
 ghost use Rattle.walk_rules.specs.Way.{IsWayFrom, way_in};
-ghost use Rattle.node_stage.specs.Staging.{Tells, gave_of};
+ghost use Rattle.node_stage.specs.Staging.{Stages, TellsOrKeeps, gave_of};
 
 use crate::content::{Content, Held};
 use crate::endpoint::{treated_at_address, treated_in};
@@ -16,22 +17,32 @@ use crate::packet::Packet;
 use crate::packet4::Packet4;
 use crate::sending::{sent, sent4};
 use crate::staged::{Staged, dropped_for};
+use base::NoMemory;
 use icmp6_errors::IcmpSlot;
 use net_model::Net;
 use srv6_rules::Reason;
+use std::alloc::Global;
 use walk_rules::{Outcome, Place, Way, way_of};
 
 /// An IPv6 packet on a way.
-fn treated(net: &Net, node: u32, way: Way<'_>, packet: Packet, choice: u32) -> Staged
+fn treated(
+    alloc: Global,
+    net: &Net,
+    node: u32,
+    way: Way<'_>,
+    packet: Packet,
+    choice: u32,
+) -> Result<Staged, Content>
     requires node { node < length net.now.nodes }
     requires leads { IsWayFrom net.now node (way_in way) }
-    ensures { gave_of net.now node result ≡ treated net.now node (way_in way.entry) packet choice }
+    ensures { Stages net.now node (V6 packet) result
+        (treated net.now node (way_in way.entry) packet choice) }
 {
     match way {
-        Way::Away { reason } => dropped_for(reason, Content::of(packet)),
-        Way::Over { links, lower } => sent(links, lower, packet, choice),
-        Way::Own => treated_at_address(packet),
-        Way::Into { sid } => treated_in(net, node, sid, packet),
+        Way::Away { reason } => Ok(dropped_for(reason, Content::of(packet))),
+        Way::Over { links, lower } => Ok(sent(links, lower, packet, choice)),
+        Way::Own => Ok(treated_at_address(packet)),
+        Way::Into { sid } => treated_in(alloc, net, node, sid, packet),
     }
 }
 
@@ -48,39 +59,56 @@ fn treated4(net: &Net, node: u32, way: Way<'_>, packet: Packet4, choice: u32) ->
     }
 }
 
-/// What stands at a place, treated.
-fn treat(net: &Net, place: &Place, content: Content, choice: u32) -> Staged
+/// What stands at a place, treated; for want of memory it is given back.
+fn treat(
+    alloc: Global,
+    net: &Net,
+    place: &Place,
+    content: Content,
+    choice: u32,
+) -> Result<Staged, Content>
     requires { IsPlace net.now place.now }
-    ensures { gave_of net.now place.now.node result ≡ step_of net.now place.now content choice }
+    ensures { Stages net.now place.now.node content result
+        (step_of net.now place.now content choice) }
 {
     match content.held {
         Held::V6(packet) => {
             let way = way_of(net, place, packet.destination());
-            treated(net, place.node, way, packet, choice)
+            treated(alloc, net, place.node, way, packet, choice)
         }
         Held::V4(packet) => {
             let way = way_of(net, place, packet.destination());
-            treated4(net, place.node, way, packet, choice)
+            Ok(treated4(net, place.node, way, packet, choice))
         }
-        Held::Unreadable(bytes, reason) => {
-            dropped_for(reason, Content::unreadable(bytes, reason))
-        }
+        Held::Unreadable(bytes, reason) => Ok(dropped_for(
+            reason,
+            Content::unreadable(bytes, reason),
+        )),
     }
 }
 
-/// What a stage gives, with the error about what it drops in an empty slot.
-fn told(net: &Net, place: &Place, content: Content, choice: u32, slot: &mut IcmpSlot) -> Told
+/// What a stage gives, with the error about what it drops in an empty slot; for want of memory what
+/// stands there is given back.
+fn told(
+    alloc: Global,
+    net: &Net,
+    place: &Place,
+    content: Content,
+    choice: u32,
+    slot: &mut IcmpSlot,
+) -> Result<Told, Content>
     requires place { IsPlace net.now place.now }
     requires empty { slot.old.items ≡ [] }
-    ensures { Tells result slot.new.items (step_of net.now place.now content choice) }
+    ensures { TellsOrKeeps content result slot.new.items
+        (step_of net.now place.now content choice) }
 {
-    match treat(net, place, content, choice) {
-        Staged::Goes { outcome, after } => Told { outcome, after },
+    match treat(alloc, net, place, content, choice)? {
+        Staged::Goes { outcome, after } => Ok(Told { outcome, after }),
         Staged::Drops {
             reason,
             at,
             content,
-        } => dropped(reason, at, content, net.node(place.node).address, slot),
+        } => Ok(dropped(reason, at, content, net.node(place.node).address, slot)),
     }
 }
 
@@ -90,31 +118,45 @@ fn told(net: &Net, place: &Place, content: Content, choice: u32, slot: &mut Icmp
 /// number of members. The slot holds the ICMPv6 error that the node sends about what it drops, from
 /// its own address, exactly where the outcome says so, and else nothing; what it held is gone. The
 /// error's pointer counts in bytes from the first of the packet as it was (RFC 4443 section 3). It
-/// takes no memory.
+/// takes memory only at a SID that binds a policy. `NoMemory` leaves what stands there as it was.
 pub fn stage(
+    alloc: Global,
     net: &Net,
     place: &Place,
     content: &mut Content,
     choice: u32,
     error: &mut IcmpSlot,
-) -> Outcome
+) -> Result<Outcome, NoMemory>
     requires { IsPlace net.now place.now }
-    ensures function { let gave = step_of net.now place.now content.old choice in
-        record { outcome = result; after = content.new; error = gave.error } ≡ gave }
+    ensures function { IfOk result (λ outcome.
+        let gave = step_of net.now place.now content.old choice in
+        record { outcome = outcome; after = content.new; error = gave.error } ≡ gave) }
 
     // The slot has the bytes of that error, and the outcome says whether there is one.
-    ensures error { error.new.items
-        ≡ error_bytes (step_of net.now place.now content.old choice).error }
-    ensures tells { TellsOfError result (step_of net.now place.now content.old choice).error }
-    ensures relation { Stage net.now place.now content.old result content.new
-        (step_of net.now place.now content.old choice).error }
+    ensures error { OnOk result (error.new.items
+        ≡ error_bytes (step_of net.now place.now content.old choice).error) }
+    ensures tells { IfOk result (λ outcome.
+        TellsOfError outcome (step_of net.now place.now content.old choice).error) }
+    ensures relation { IfOk result (λ outcome.
+        Stage net.now place.now content.old outcome content.new
+        (step_of net.now place.now content.old choice).error) }
 
     // Where the packet stands next is a place too.
-    ensures next { IfSome (next_place net.now place.now result) (IsPlace net.now) }
+    ensures next { IfOk result (λ outcome.
+        IfSome (next_place net.now place.now outcome) (IsPlace net.now)) }
+    ensures kept { OnErr result (content.new ≡ content.old) }
+    ensures empty { OnErr result (error.new.items ≡ []) }
 {
     net.keeps_rules();
     error.clear();
-    let Told { outcome, after } = told(net, place, content.take(), choice, error);
-    *content = after;
-    outcome
+    match told(alloc, net, place, content.take(), choice, error) {
+        Ok(Told { outcome, after }) => {
+            *content = after;
+            Ok(outcome)
+        }
+        Err(kept) => {
+            *content = kept;
+            Err(NoMemory)
+        }
+    }
 }

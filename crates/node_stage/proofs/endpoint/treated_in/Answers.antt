@@ -1,5 +1,6 @@
+use Rattle.std.proofs.Common.{refl, sym, ◌∙◌}
 use Rattle.net_model.proofs.PublicLaws.{sid-suits, sid-unflavoured, sid-not_next}
-use Rattle.node_stage.proofs.EndpointLemmas.{not-next}
+use Rattle.node_stage.proofs.EndpointLemmas.{not-next, policy-there, policy-is, stages-as, sid-treated}
 use Rattle.node_stage.proofs.endpoint.treated_in.Goals as goal
 
 pub treated_at_sid-requires-clause-suits : goal.treated_at_sid-requires-clause-suits
@@ -14,3 +15,25 @@ pub treated_at_sid-requires-clause-next : goal.treated_at_sid-requires-clause-ne
 treated_at_sid-requires-clause-next c = λ stays.
     not-next c.sid-entry.result.now.csid
     (sid-not_next c.args.net.now c.args.sid c.sid-entry.result.now c.keeps_rules.ensures.facts c.sid-entry.ensures stays)
+
+pub bound_at_sid-requires-clause-suits : goal.bound_at_sid-requires-clause-suits
+bound_at_sid-requires-clause-suits c =
+    sid-suits c.args.net.now c.args.sid c.sid-entry.result.now c.keeps_rules.ensures.facts c.sid-entry.ensures
+
+pub policy-requires-in-Some : goal.policy-requires-in-Some
+policy-requires-in-Some c =
+    policy-there c.args.net.now c.args.sid c.sid-entry.result.now c.in-Some.policy c.keeps_rules.ensures.facts c.sid-entry.ensures
+    (sym c.policy.ensures ∙ c.in-Some.is)
+
+pub bound_at_sid-requires-clause-policy : goal.bound_at_sid-requires-clause-policy
+bound_at_sid-requires-clause-policy c =
+    let (named, there, is) = c.policy-in-Some.ensures in
+    policy-is c.args.net.now c.in-Some.policy named _ c.keeps_rules.ensures.facts there is
+
+pub returns-in-Some : goal.returns-in-Some
+returns-in-Some c =
+    let (named, there, is) = c.policy-in-Some.ensures in
+    stages-as c.args.net.now c.args.node _ _ _ _ _ refl
+    (sid-treated c.args.net.now c.args.node c.args.sid c.sid-entry.result.now _ _ c.args.packet c.sid-entry.ensures c.node.ensures
+    c.as_slice-allow.ensures)
+    (c.bound_at_sid.ensures c.args.net.now c.args.node c.in-Some.policy named (sym c.policy.ensures ∙ c.in-Some.is) there is)

@@ -1,9 +1,13 @@
-use Rattle.std.proofs.Common.{◌∙◌}
+use Rattle.std.proofs.Common.{sym, ap, ◌∙◌}
+use Rattle.node_stage.specs.declared.staged.Staged.{Staged}
+use Rattle.node_stage.specs.Staging.{gave_of}
 use Rattle.node_stage.proofs.StageLemmas.{tells_same, drops_from}
 use Rattle.node_stage.proofs.treatment.told.Goals as goal
 
 pub returns-in-Drops : goal.returns-in-Drops
 returns-in-Drops c =
-    let from = drops_from c.args.net.now c.args.place.now.node c.node.result.now c.in-Drops.reason c.in-Drops.at c.in-Drops.content
-    c.node.ensures in
-    tells_same c.dropped.result c.dropped.new.slot.items _ _ (from ∙ c.in-Drops.ensures) c.dropped.ensures
+    let net = c.args.net.now in
+    let node = c.args.place.now.node in
+    let from = drops_from net node c.node.result.now c.in-Drops.reason c.in-Drops.at c.in-Drops.content c.node.ensures in
+    let drops = sym (ap (λ (s : Staged). gave_of net node s) c.in-Drops.is) in
+    tells_same c.dropped.result c.dropped.new.slot.items _ _ (from ∙ drops ∙ c.in_ok-outcome.ensures) c.dropped.ensures
