@@ -17,7 +17,7 @@ use Rattle.list_pack.specs.Costs.{Move, AtMost, cost_of, Under, start}
 use Rattle.list_pack.specs.Least.{IsFirstLeast, IsPathOrNone, IsSolution, IsWithoutPath, step_of, path_before}
 use Rattle.leg_table.specs.declared.types.Container.{Container}
 use Rattle.leg_table.specs.Realizes.{path_need, Realizes, AlwaysHandsOver, AreSidAddresses}
-use Rattle.leg_table.specs.Sids.{sid_address}
+use Rattle.leg_table.specs.Sids.{AllListed, sid_address}
 use Rattle.leg_table.specs.Value.{legs_value}
 use Rattle.leg_table.proofs.PublicLaws.{path-realizes, list-path}
 use Rattle.base.specs.declared.no_memory.NoMemory.{NoMemory}
@@ -65,11 +65,12 @@ pub record IsAlong (net : Network) (intent : Intent) (segments : List ℕ) (need
   pub is_path : path_need net intent 0 None sids ≡ Some least
   pub within : least ≤ need
 
-module _ (net : Network) (intent : Intent) (network : IsNetwork net) (flat : IsFlat net) (is_intent : IsIntent net intent) where
+module _ (net : Network) (intent : Intent) (network : IsNetwork net) (flat : IsFlat net) (listed : AllListed net)
+    (is_intent : IsIntent net intent) where
   along : (segments : List ℕ) (need : ℕ) → AreSidAddresses net segments → 0 < length segments → Realizes net intent segments need
       → IsAlong net intent segments need
   along segments need are some real =
-      let p = list-path net intent segments small-packet (need + 1) network flat is_intent are some (omega arith)
+      let p = list-path net intent segments small-packet (need + 1) network flat listed is_intent are some (omega arith)
       (real.reaches small-packet small-spellable small-high (need + 1) (omega arith)) in
       let below = p.3 in
       record {
@@ -136,7 +137,7 @@ module _ (net : Network) (intent : Intent) (network : IsNetwork net) (flat : IsF
             header = list.header;
             path = ap (λ (x : Solution). x.path) list.solution ∙ steps;
           };
-          realizes = path-realizes net intent sids d.need network flat is_intent need;
+          realizes = path-realizes net intent sids d.need network flat listed is_intent need;
           least =
               subst (λ (n : ℕ). IsLeastList net intent n d.need) (sym read.0)
               (subst (λ (n : ℕ). IsLeastList net intent c.containers n) (sym read.1) least-list);
@@ -175,7 +176,7 @@ module _ (net : Network) (intent : Intent) (network : IsNetwork net) (flat : IsF
       let never : (segments : List ℕ) (inner : Packet) (hop : ℕ) → AreSidAddresses net segments → 0 < length segments → 0 < hop
       → AlwaysHandsOver net intent segments inner hop → ⊥ =
       λ segments inner hop are some above always.
-      let p = list-path net intent segments inner hop network flat is_intent are some above always in
+      let p = list-path net intent segments inner hop network flat listed is_intent are some above always in
       let one : path_need net intent 0 None p.0 ≡ Some p.1 = p.2.is_path in
       let zero : path_need net intent 0 None p.0 ≡ None = no p.0 in
       cc in

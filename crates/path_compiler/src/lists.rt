@@ -5,6 +5,7 @@ ghost use Rattle.std.specs.Option.{option_map};
 ghost use Rattle.srv6_rules.specs.Encapsulation as encapsulation;
 ghost use Rattle.net_model.specs.Flat.{IsFlat, flatness_of};
 ghost use Rattle.intent_reader.specs.Rules.{IsIntent};
+ghost use Rattle.leg_table.specs.Sids.{AllListed};
 ghost use Rattle.leg_table.specs.Value.{legs_value};
 ghost use Rattle.list_pack.specs.Least.{IsSolution};
 ghost use Rattle.path_compiler.specs.Compiled.{CompileAnswers, IsFound, IsListIn, container_in, cost_in};
@@ -71,7 +72,8 @@ fn compiled_of(alloc: Global, reduced: bool, solution: Solution) -> Result<Compi
 
 // what the search over the intent's legs finds
 fn solution_of(alloc: Global, net: &Net, intent: &Intent) -> Result<Solution, NoMemory>
-    requires { IsIntent net.now intent.now }
+    requires listed { AllListed net.now }
+    requires intent { IsIntent net.now intent.now }
     ensures { IfOk result (IsSolution (legs_value net.now intent.now)) }
 {
     let legs = StrictLegs::build(alloc, net, intent)?;
@@ -86,6 +88,7 @@ fn found_of(
     solution: Solution,
 ) -> Result<Compiled, NoMemory>
     requires flat { IsFlat net.now }
+    requires listed { AllListed net.now }
     requires intent { IsIntent net.now intent.now }
     requires solution { IsSolution (legs_value net.now intent.now) solution }
     requires path { 0 < length solution.path }
@@ -111,15 +114,17 @@ fn judged(net: &Net, intent: &Intent, found: Compiled) -> Result<Compiled, Compi
     Ok(found)
 }
 
-/// Compiles an intent that keeps the rules in the network to the least list of SIDs, one to a
-/// container, that takes each packet of the intent along exactly its steps, whichever equal next
-/// hop is chosen: no other such list has fewer containers, or as many and a smaller need, and of
-/// equal ones it is the first in the order of paths (own rule; the header is that of RFC 8986
-/// sections 5.1 and 5.2). `NotFlat` comes where the network is not flat; else `NoList` where there
-/// is no such list; else `TooLong` where the least list has more than `max_containers` containers;
-/// else `HopLimit` where its need is not below `hop_limit`.
+/// Compiles an intent that keeps the rules in a network, all of whose SIDs lists take (own rule,
+/// until lists take the others), to the least list of SIDs, one to a container, that takes each
+/// packet of the intent along exactly its steps, whichever equal next hop is chosen: no other such
+/// list has fewer containers, or as many and a smaller need, and of equal ones it is the first in
+/// the order of paths (own rule; the header is that of RFC 8986 sections 5.1 and 5.2). `NotFlat`
+/// comes where the network is not flat; else `NoList` where there is no such list; else `TooLong`
+/// where the least list has more than `max_containers` containers; else `HopLimit` where its need is
+/// not below `hop_limit`.
 pub fn compile(alloc: Global, net: &Net, intent: &Intent) -> Result<Compiled, CompileFault>
-    requires { IsIntent net.now intent.now }
+    requires listed { AllListed net.now }
+    requires intent { IsIntent net.now intent.now }
     ensures { CompileAnswers net.now intent.now result }
 {
     net.keeps_rules();

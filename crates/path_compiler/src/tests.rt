@@ -1,6 +1,6 @@
 use crate::{CompileFault, Compiled, compile};
 use intent_reader::read_intent;
-use leg_table::Container;
+use leg_table::{Container, all_listed};
 use list_pack::Cost;
 use net_model::NotFlat;
 use net_reader::read_net;
@@ -130,6 +130,7 @@ fn a_row_compiles(rt: HostRuntime) -> Result<(), Fail> {
     let alloc = rt.alloc();
     let text = format!(in alloc; "{ROW}{SIDS}{CROSS}")?;
     let net = read_net(alloc, text.as_bytes())?;
+    assert!(&rt; all_listed(&net));
     for (more, header) in [
         (REDUCED, 96),
         ("mode = \"full\"\nhop_limit = 5\nmax_containers = 4\n", 112),
@@ -149,6 +150,7 @@ fn a_row_is_refused(rt: HostRuntime) -> Result<(), Fail> {
     let alloc = rt.alloc();
     let text = format!(in alloc; "{ROW}{SIDS}{CROSS}")?;
     let net = read_net(alloc, text.as_bytes())?;
+    assert!(&rt; all_listed(&net));
     let text = format!(in alloc; "{INTENT}{REDUCED}hop_limit = 4\nmax_containers = 3\n")?;
     let long = read_intent(alloc, text.as_bytes(), &net)?;
     match compile(alloc, &net, &long) {
@@ -169,6 +171,7 @@ fn a_row_has_no_list(rt: HostRuntime) -> Result<(), Fail> {
     let alloc = rt.alloc();
     let text = format!(in alloc; "{ROW}{SIDS}")?;
     let net = read_net(alloc, text.as_bytes())?;
+    assert!(&rt; all_listed(&net));
     let text = format!(in alloc; "{INTENT}{REDUCED}")?;
     let intent = read_intent(alloc, text.as_bytes(), &net)?;
     match compile(alloc, &net, &intent) {
@@ -179,6 +182,7 @@ fn a_row_has_no_list(rt: HostRuntime) -> Result<(), Fail> {
     }
     let text = format!(in alloc; "{ROW}{SIDS}{CROSS}{INSIDE}")?;
     let nested = read_net(alloc, text.as_bytes())?;
+    assert!(&rt; all_listed(&nested));
     let text = format!(in alloc; "{INTENT}{REDUCED}")?;
     let intent = read_intent(alloc, text.as_bytes(), &nested)?;
     let outer = Prefix::new(Addr { value: END_B }, 48).expect(&rt, "a prefix");
@@ -233,6 +237,7 @@ step = [{ links = ["bc"] }, { function = "vpn" }]
 fn the_least_list_is_taken(rt: HostRuntime) -> Result<(), Fail> {
     let alloc = rt.alloc();
     let net = read_net(alloc, PAIR.as_bytes())?;
+    assert!(&rt; all_listed(&net));
     let intent = read_intent(alloc, PAIR_INTENT.as_bytes(), &net)?;
     match compile(alloc, &net, &intent) {
         Ok(compiled) => {

@@ -1,7 +1,11 @@
 -- What is written of an intent, by whether the compiler takes it.
 use Rattle.std.proofs.Common.{◌≡◌, Bool, true, false, Result, Ok, Err, refl, sym, subst}
+use Rattle.std.specs.List.{list_all}
+use Rattle.std.proofs.lemmas.Bool.{and_parts}
+use Rattle.srv6_rules.specs.Behaviours.{is_listed}
 use Rattle.net_model.specs.Network.{Network}
 use Rattle.intent_reader.specs.declared.intent.Intent.{Intent}
+use Rattle.leg_table.specs.Sids.{AllListed}
 use Rattle.path_compiler.specs.declared.compiled.Compiled.{Compiled}
 use Rattle.path_compiler.specs.declared.compiled.CompileFault.{CompileFault}
 use Rattle.path_compiler.specs.Compiled.{CompileAnswers}
@@ -10,7 +14,7 @@ use Rattle.srv6_cli.specs.declared.halt.Failure.TheVariants as failures
 use Rattle.srv6_cli.specs.declared.halt.Halt.{Halt}
 use Rattle.srv6_cli.specs.declared.halt.Halt.TheVariants as halts
 use Rattle.srv6_cli.specs.declared.refusal.Refusal.TheVariants as refusals
-use Rattle.srv6_cli.specs.Command.Compile.{takes, output_of_answer, TakenWants, Gives, GivesOf}
+use Rattle.srv6_cli.specs.Command.Compile.{is_ipv6, takes, output_of_answer, TakenWants, Gives, GivesOf}
 use Rattle.srv6_cli.specs.Judgements.{refused}
 use Rattle.srv6_cli.specs.Pieces.{Output}
 
@@ -30,4 +34,8 @@ taken_gives net intent compiled (Err (halts.Refused refusal)) is answers gives =
 taken_gives net intent compiled (Err (halts.Failed failures.Fault)) is answers gives = absurd gives
 taken_gives net intent compiled (Err (halts.Failed failures.NoMemory)) is answers gives = tt
 
-pub ruleset taken = (not_taken, taken_gives)
+-- the compiler takes networks alone all of whose SIDs lists take
+pub taken_listed : (net : Network) (intent : Intent) → takes net intent ≡ true → AllListed net
+taken_listed net intent is = (and_parts (is_ipv6 intent.inner) (list_all is_listed net.sids) is).1
+
+pub ruleset taken = (not_taken, taken_gives, taken_listed)

@@ -8,7 +8,6 @@ pub mod FrameSteps
 pub mod Walking
 pub mod Writable
 pub mod Commanding
-pub mod SidSearches
 pub mod Compiling
 pub mod Serving
 pub mod Stops

@@ -6,7 +6,7 @@ use Rattle.v6_addr.specs.Address.{PrefixValue}
 use Rattle.v6_addr.specs.Text.{address_text}
 use Rattle.srv6_rules.specs.declared.sid.Family.{Family}
 use Rattle.srv6_rules.specs.declared.sid.Family.TheVariants as families
-use Rattle.srv6_rules.specs.Behaviours.{is_built}
+use Rattle.srv6_rules.specs.Behaviours.{is_listed}
 use Rattle.net_model.specs.Network.{Network}
 use Rattle.net_model.specs.declared.flat.NotFlat.{NotFlat}
 use Rattle.net_model.specs.declared.flat.NotFlat.TheVariants as flats
@@ -85,14 +85,14 @@ AnswerWants (Err (faults.TooLong found)) output = output ≡ reported (report_of
 AnswerWants (Err (faults.HopLimit found)) output = output ≡ reported (report_of found) (hop_limit_line found.need) statuses.NoAnswer
 AnswerWants (Err faults.NoMemory) output = ⊥
 
--- what the compiler takes so far: a network all of whose SIDs nodes run, and an intent of IPv6 packets
+-- what the compiler takes so far: a network all of whose SIDs lists take, and an intent of IPv6 packets
 
 abbrev pub is_ipv6 : Family → Bool
 is_ipv6 families.V6 = true
 is_ipv6 families.V4 = false
 
 abbrev pub takes : Network → Intent → Bool
-takes net intent = is_ipv6 intent.inner && list_all is_built net.sids
+takes net intent = is_ipv6 intent.inner && list_all is_listed net.sids
 
 -- the description is judged, then the intent, then whether the compiler takes them, and then any answer of it will do
 

@@ -2,7 +2,7 @@
 
 ghost use Rattle.std.specs.Prelude.{◌≡◌, IfOk, string_bytes};
 ghost use Rattle.std.specs.List.{flat_map, list_all};
-ghost use Rattle.srv6_rules.specs.Behaviours.{is_built};
+ghost use Rattle.srv6_rules.specs.Behaviours.{is_listed};
 ghost use Rattle.srv6_cli.specs.Answers.{CommandsUnread};
 ghost use Rattle.srv6_cli.specs.Words.{Compile};
 ghost use Rattle.intent_reader.specs.Rules.{IsIntent};
@@ -16,7 +16,7 @@ use crate::status::Status;
 use crate::told::{Text, Told};
 use crate::walk::write_all;
 use intent_reader::Intent;
-use leg_table::Container;
+use leg_table::{Container, all_listed};
 use net_model::{Net, NotFlat};
 use path_compiler::{CompileFault, Compiled};
 use srv6_rules::Family;
@@ -86,25 +86,12 @@ fn is_ipv6(family: Family) -> bool
     matches!(family, Family::V6)
 }
 
-/// Whether nodes run all SIDs of the network.
-#[tactic(auto, using(crate::proofs::SidSearches::passing))]
-fn runs_all(net: &Net) -> bool
-    ensures { result ≡ list_all is_built net.now.sids }
-{
-    for n in 0..net.sids() {
-        if !net.sid(n).is_built() {
-            return false;
-        }
-    }
-    true
-}
-
-/// Whether the compiler takes the network and the intent: nodes run all SIDs, and the packets are
+/// Whether the compiler takes the network and the intent: lists take all SIDs, and the packets are
 /// IPv6. (own rule)
 fn takes(net: &Net, intent: &Intent) -> bool
     ensures { result ≡ takes net.now intent.now }
 {
-    is_ipv6(intent.inner) && runs_all(net)
+    is_ipv6(intent.inner) && all_listed(net)
 }
 
 /// What `compile` has to write: its report on `out`, and what it has to say.
