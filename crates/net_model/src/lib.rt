@@ -7,8 +7,8 @@
 //! node's table that fits an address best, and `Net::table` one table for many look-ups.
 //! `compilable` tells whether the network is flat: then no entry lies strictly inside the prefix of
 //! a SID, and all addresses of that prefix are looked up alike. Only building takes memory. The
-//! laws about the definitions are the contracts of empty functions. `NetFault` says why a text gives
-//! no network or no intent, and where in it.
+//! laws about the definitions are the contracts of empty functions. `NetFault` says why a text
+//! gives no network or no intent, and where in it.
 #![tactic(auto)]
 
 mod fault;

@@ -1,0 +1,29 @@
+use Rattle.std.proofs.Common.{◌≡◌, ◌∙◌, ap, sym, subst}
+use Rattle.srv6_rules.specs.Chain.{ChainPlace, StandsIn, start_of}
+use Rattle.srv6_rules.specs.Packet.{Packet, packet_at}
+use Rattle.srv6_rules.proofs.PublicLaws.{start-stands}
+use Rattle.ip6_headers.specs.Stepping.{first_place, place_view}
+use Rattle.end_behaviours.specs.Finding.{at_sid_from}
+use Rattle.end_behaviours.proofs.StepLemmas.{comes-same}
+use Rattle.end_behaviours.proofs.TreatmentLemmas.{sid-from}
+use Rattle.end_behaviours.proofs.treatment.end_step.Goals as goal
+
+pub step_from-requires-clause-stands : goal.step_from-requires-clause-stands
+step_from-requires-clause-stands c =
+    let p = packet_at c.args.buf.now.bytes in
+    let is : place_view c.first.result ≡ start_of p =
+    c.first.ensures ∙ ap first_place (c.next_header-next_header.ensures
+    ∙ ap (λ (x : Packet). x.next_header) (c.over.ensures ∙ ap packet_at c.view.ensures)) in
+    let P : ChainPlace → Type 0 = λ k. StandsIn p k in
+    subst P (sym is) (start-stands p)
+
+pub returns : goal.returns
+returns c =
+    let s = c.args.sid.now in
+    let allow = c.args.allow.now in
+    let p = packet_at c.args.buf.now.bytes in
+    let is : place_view c.first.result ≡ start_of p =
+    c.first.ensures ∙ ap first_place (c.next_header-next_header.ensures
+    ∙ ap (λ (x : Packet). x.next_header) (c.over.ensures ∙ ap packet_at c.view.ensures)) in
+    comes-same _ _ c.args.buf.now.bytes c.step_from.new.buf.bytes c.step_from.result (sid-from s allow p (place_view c.first.result) is)
+    c.step_from.ensures.outcome

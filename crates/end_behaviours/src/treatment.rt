@@ -1,0 +1,77 @@
+//! A packet at a SID that goes on.
+
+ghost use Rattle.std.specs.Prelude.{◌≡◌, true};
+ghost use Rattle.srv6_rules.specs.Behaviours.{goes_on};
+ghost use Rattle.srv6_rules.specs.Chain.{StandsIn};
+ghost use Rattle.srv6_rules.specs.CompressedSteps.{SuitsCompression};
+ghost use Rattle.srv6_rules.specs.Endpoint.{at_sid};
+ghost use Rattle.srv6_rules.specs.Packet.{packet_at};
+ghost use Rattle.endpoint_chain.specs.Outcomes.{ComesOf, HoldsAlone};
+ghost use Rattle.ip6_headers.specs.Stepping.{place_view};
+ghost use Rattle.end_behaviours.specs.Finding.{at_sid_from};
+ghost use Rattle.end_behaviours.specs.Stepping.{Reaches};
+
+use crate::finding::find;
+use crate::headers::Found;
+use crate::writing::{shift_on, step_over, take_out_of};
+use endpoint_chain::EndOutcome;
+use ip6_headers::{ChainPlace, Ip6View};
+use pkt_buf::PktBuf;
+use srv6_rules::SidEntry;
+
+/// What comes of a packet from a place of its chain on. The segment routing headers that USP takes
+/// out are taken out from the last to the first, once it is known what comes of the packet.
+fn step_from(sid: &SidEntry, allow: &[u8], buf: &mut PktBuf, start: ChainPlace) -> EndOutcome
+    requires goes_on { goes_on sid.now ≡ true }
+    requires suits { SuitsCompression sid.now }
+    requires packet { HoldsAlone buf.old.bytes }
+    requires stands { StandsIn (packet_at buf.old.bytes) (place_view start) }
+    ensures outcome { ComesOf
+        (at_sid_from sid.now allow.now (packet_at buf.old.bytes) (place_view start))
+        buf.old.bytes buf.new.bytes result }
+    ensures reaches { Reaches start.at buf.new.bytes result }
+{
+    match find(sid, allow, buf.view(), start) {
+        Found::Shift => shift_on(sid, buf),
+        Found::Step { place, len } => step_over(sid, buf, place, len),
+        Found::Last { place, next } => {
+            let outcome = step_from(sid, allow, buf, next);
+            take_out_of(outcome, buf, place, next.at - place.at);
+            outcome
+        }
+        Found::Expose { family, at } => {
+            buf.drop_front(at);
+            EndOutcome::Hand { family }
+        }
+        Found::Deliver => EndOutcome::Local,
+        Found::Refuse { fault } => EndOutcome::dropped(fault),
+    }
+}
+
+/// A packet at a SID that goes on, in its bytes, of a node that takes some upper layers at its SIDs
+/// (RFC 8986 sections 4.1 to 4.3, 4.13, 4.14 and 4.16, RFC 9800 sections 4.1 and 4.2); of a binding
+/// SID it is the step alone, without the policy's header.
+///
+/// The headers are gone over from the first. `On` comes where the SID shifts the destination, with
+/// NEXT-CSID and an argument that is not 0 and in front of any header but options, or where the step
+/// over a segment routing header that is not at its end was taken: the hop limit, the destination
+/// and Segments Left are written in their places, and with PSP the header is taken out where no
+/// segment is left then. `Hand` comes where the upper layer is an IPv6 or IPv4 packet and the SID
+/// has USD: the bytes are those of the packet inside, and all before them become spare. `Local`
+/// comes where the upper layer is one of `allow`. With USP each segment routing header at its end
+/// that stands in front is taken out, but only where the packet goes on or is handed over. A header
+/// that is taken out leaves the payload length lower by its own, and the field that named it names
+/// what stood behind it. `Drop` has the reason, and the place of the fault in bytes from the first
+/// of the packet as it came, 0 where the reason has none; no byte changes then.
+///
+/// It takes no memory. Headers that USP takes out are taken out one in the other's call.
+pub fn end_step(sid: &SidEntry, allow: &[u8], buf: &mut PktBuf) -> EndOutcome
+    requires goes_on { goes_on sid.now ≡ true }
+    requires suits { SuitsCompression sid.now }
+    requires packet { HoldsAlone buf.old.bytes }
+    ensures { ComesOf (at_sid sid.now allow.now (packet_at buf.old.bytes))
+        buf.old.bytes buf.new.bytes result }
+{
+    let next_header = Ip6View::over(buf.view()).next_header();
+    step_from(sid, allow, buf, ChainPlace::first(next_header))
+}
