@@ -21,7 +21,7 @@ pub record ListSid : Type 0 where
   pub block : Option SidBlock
   pub csid : Csid
 
--- the lengths of a block and of its CSIDs, 0 where there is none
+-- the length of a block, and that of the CSIDs of a REPLACE block; 0 where there is none
 abbrev pub block_len : Option SidBlock → ℕ
 block_len None = 0
 block_len (Some b) = b.prefix.len
@@ -55,11 +55,12 @@ pub data Container : Type 0 where
   Full : ListSid → List ListSid → Container
   Packed : ListSid → List ListSid → Container
 
+-- the SIDs of a container, in the order in which they are visited
 abbrev pub sids_of : Container → List ListSid
 sids_of (Full s ss) = s ∷ ss
 sids_of (Packed s ss) = s ∷ ss
 
--- the SIDs of a list, in the order in which they are visited
+-- the SIDs of a list in that order
 abbrev pub sids_in : List Container → List ListSid
 sids_in [] = []
 sids_in (c ∷ cs) = sids_of c ++ sids_in cs
@@ -75,10 +76,12 @@ full_value s ss = container_of (block_len s.block) (map prefix_of (s ∷ ss))
 abbrev pub packed_value : Option SidBlock → List ListSid → ℕ
 packed_value block sids = packed_entry (csid_len_in block) (map (csid_of (block_len block)) (map prefix_of sids))
 
+-- the 16-byte value of a container, as a number
 abbrev pub value_of : Container → ℕ
 value_of (Full s ss) = full_value s ss
 value_of (Packed s ss) = packed_value s.block (s ∷ ss)
 
+-- the values of a list: the segments in the order in which they are visited
 abbrev pub values_of : List Container → List ℕ
 values_of cs = map value_of cs
 
@@ -134,15 +137,17 @@ pub record IsInBlock (b : SidBlock) (s : ListSid) : Type 0 where
   pub kind : (s.csid ≡ Plain) ⊎ (s.csid ≡ b.kind)
   pub packed : b.kind ≡ Replace → IsReplaceSid b.prefix b.csid_len s.prefix
 
+-- a SID suits the block that it lies in; one in none is not compressed
 abbrev pub SuitsBlock : Option SidBlock → ListSid → Type 0
 SuitsBlock None s = s.csid ≡ Plain
 SuitsBlock (Some b) s = IsInBlock b s
 
--- a SID of a flat network
+-- a SID as a flat network has it
 pub record IsFlatSid (s : ListSid) : Type 0 where
   pub prefix : IsPrefix s.prefix
   pub block : SuitsBlock s.block s
 
+-- containers, and lists, of such SIDs
 abbrev pub IsFlatContainer : Container → Type 0
 IsFlatContainer c = All IsFlatSid (sids_of c)
 

@@ -23,10 +23,12 @@ pub data Place : Type 0 where
   InFull : ListSid → List ListSid → List Container → Place
   InPacked : List ListSid → ListSid → List ListSid → List Container → Place
 
+-- the SID that the destination is an address of
 abbrev pub active : Place → ListSid
 active (InFull s ss cs) = s
 active (InPacked bs s ss cs) = s
 
+-- the containers behind the active SID's: as many segments are left
 abbrev pub behind_of : Place → List Container
 behind_of (InFull s ss cs) = cs
 behind_of (InPacked bs s ss cs) = cs
@@ -41,6 +43,7 @@ abbrev pub entered : Container → List Container → Place
 entered (Full s ss) cs = InFull s ss cs
 entered (Packed s ss) cs = InPacked [] s ss cs
 
+-- the first place of a list
 abbrev pub first_of : List Container → Option Place
 first_of [] = None
 first_of (c ∷ cs) = Some (entered c cs)
@@ -57,7 +60,7 @@ abbrev pub destination_of : Place → ℕ
 destination_of (InFull s ss cs) = full_value s ss
 destination_of (InPacked bs s ss cs) = s.prefix.value + index_behind (compression s) (length bs)
 
--- in the last container no segment is left; in a REPLACE container the routing header is read up to the last CSID
+-- the segment routing header may lack in the last container, but in a REPLACE container, where it is read, only at the last SID
 abbrev pub may_lack : Place → Bool
 may_lack (InFull s ss []) = true
 may_lack (InFull s ss (c ∷ cs)) = false
@@ -112,12 +115,14 @@ stays_routed psp x y routed = if shifts_in x then routed else not (psp && may_la
 
 -- ---- the rules of lists at a place
 
+-- in a full container: it keeps the rules from the active SID on, and so do the containers behind; and all SIDs are as in a flat network
 pub record IsInFull (s : ListSid) (ss : List ListSid) (cs : List Container) : Type 0 where
   pub container : IsFull s ss
   pub behind : Follow (asked_behind (last_of s ss)) cs
   pub flat : All IsFlatSid (s ∷ ss)
   pub flat_behind : IsFlatList cs
 
+-- in a REPLACE container: the whole of it keeps the rules, and so do the containers behind
 pub record IsInPacked (bs : List ListSid) (s : ListSid) (ss : List ListSid) (cs : List Container) : Type 0 where
   pub block : SidBlock
   pub own_block : s.block ≡ Some block

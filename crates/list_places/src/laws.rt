@@ -138,14 +138,14 @@ pub fn executions_go_along_the_list()
         × (q.hop_limit + length row ≤ p.hop_limit) }
 {}
 
-/// Two lists by hand: a NEXT-CSID container of four SIDs; and a SID of REPLACE-CSID with a container
-/// of three CSIDs behind it. Both are legal, and their SIDs are as in a flat network. Their values,
+/// Two lists by hand: a NEXT-CSID container of four SIDs, and a SID of REPLACE-CSID with three more
+/// in one container behind it. Both are legal, over SIDs as a flat network has them. Their values,
 /// and the destinations on the way, are the ones written out (RFC 9800 sections 4.1 and 4.2).
 pub fn lists_by_hand_are_legal()
     ensures next { IsLegal next_list × IsFlatList next_list }
     ensures next_values { values_of next_list ≡ next_values }
-    ensures next_destinations { destinations_from 4 (first_of next_list) ≡ next_destinations }
+    ensures next_path { destinations_from 4 (first_of next_list) ≡ next_destinations }
     ensures replace { IsLegal replace_list × IsFlatList replace_list }
     ensures replace_values { values_of replace_list ≡ replace_values }
-    ensures replace_destinations { destinations_from 4 (first_of replace_list) ≡ replace_destinations }
+    ensures replace_path { destinations_from 4 (first_of replace_list) ≡ replace_destinations }
 {}

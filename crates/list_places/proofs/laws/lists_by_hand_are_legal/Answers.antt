@@ -5,8 +5,8 @@ pub returns : goal.returns
 returns c = record {
   next = (next-legal, next-flat);
   next_values = next-values;
-  next_destinations = next-destinations;
+  next_path = next-destinations;
   replace = (replace-legal, replace-flat);
   replace_values = replace-values;
-  replace_destinations = replace-destinations;
+  replace_path = replace-destinations;
 }
