@@ -1,15 +1,14 @@
 -- A header taken out of a packet's bytes.
-use Rattle.std.proofs.Common.{◌≡◌, ◌⊎◌, inl, inr, ℕ, ◌+◌, ◌-◌, ◌^◌, ◌<◌, ◌≤◌, true, false, List, [], ◌∷◌, ◌++◌, length, take, drop, slice_index, slice_set, All, refl, sym, ap, subst, ◌∙◌, arith, length-drop, length-append}
+use Rattle.std.proofs.Common.{◌≡◌, ◌⊎◌, inl, inr, ℕ, ◌+◌, ◌-◌, ◌^◌, ◌<◌, ◌≤◌, true, false, List, [], ◌∷◌, ◌++◌, length, take, drop, slice_index, slice_set, refl, sym, ap, ◌∙◌, arith, length-drop, length-append}
 use Rattle.std.proofs.Math.Seq.{take-append-add, drop-append-add}
 use Rattle.std.proofs.lemmas.Bool.{eq-eqb, ne_eqb}
-use Rattle.std.proofs.lemmas.List.{append_assoc, take_at, drop_at, take-append-le, length-take-le, take_all, length-set, set-append_right, get_or-take, get_or-drop}
+use Rattle.std.proofs.lemmas.List.{append_assoc, take_at, drop_at, length-take-le, take_all, length-set, set-append_right, get_or-take, get_or-drop}
 use Rattle.std.proofs.lemmas.List.Elements.{All-take, All-drop}
 use Rattle.srv6_rules.specs.declared.numbers.TheConstants.{NEXT_HEADER_AT}
 use Rattle.srv6_rules.specs.Packet.{Packet, IsSpellable, Spells, header_len, spelling, header_spelling, first_word, two_bytes, four_bytes, address_bytes, packet_at, stated_len}
 use Rattle.srv6_rules.specs.Chain.{ChainPlace, Header, cut_out, without, is_first}
 use Rattle.srv6_rules.proofs.PublicLaws.{length-spelling, length-two_bytes, length-four_bytes, length-address_bytes, edit-payload, without-bytes}
-use Rattle.ip6_headers.specs.Reading.{HoldsPacket}
-use Rattle.ip6_headers.proofs.PublicLaws.{holds-spellable, holds-front}
+use Rattle.ip6_headers.proofs.PublicLaws.{holds-spellable, holds-front, holds-payload_len}
 use Rattle.endpoint_chain.specs.Outcomes.{HoldsAlone}
 use Rattle.endpoint_chain.specs.Removal.{with_payload_len}
 
@@ -174,3 +173,5 @@ module _ (bytes : List ℕ) (place : ChainPlace) (len : ℕ) (alone : HoldsAlone
       → Spells new (without p h)
   taken-out (inl first) named cut new m is at_cut length_is write = (out-spellable, write ∙ first-out first named cut m is at_cut length_is)
   taken-out (inr later) named cut new m is at_cut length_is write = (out-spellable, write ∙ later-out later named cut m is at_cut length_is)
+
+pub ruleset lengths = (holds-payload_len)

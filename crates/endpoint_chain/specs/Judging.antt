@@ -1,5 +1,5 @@
 -- What is judged of a header at a node, and of a packet at the node's own address.
-use Rattle.std.specs.Prelude.{◌≡◌, ℕ, List, Option, Some, None}
+use Rattle.std.specs.Prelude.{◌≡◌, Option, Some, None}
 use Rattle.srv6_rules.specs.Packet.{Packet}
 use Rattle.srv6_rules.specs.Endpoint.{Endpoint, Delivered, Refused, unless_fault}
 use Rattle.ip6_headers.specs.declared.areas.Fault.{Fault}

@@ -4,8 +4,11 @@ use Rattle.std.specs.Prelude.{ℕ, ◌+◌, ◌-◌, ◌==◌, min, nat_lt, if�
 use Rattle.std.specs.List.{range_with_len}
 use Rattle.std.specs.Fmt.{decimal}
 use Rattle.v6_addr.specs.Text.{address_text}
+use Rattle.v6_addr.specs.Text4.{address4_text}
+use Rattle.srv6_rules.specs.declared.sid.Reason.{Reason}
 use Rattle.srv6_rules.specs.declared.sid.Reason.TheVariants.{BadVersion}
-use Rattle.srv6_rules.specs.Packet.{Packet, Content, V6, Unreadable, header_len}
+use Rattle.srv6_rules.specs.Packet.{Packet, Content, V6, V4, Unreadable, header_len}
+use Rattle.srv6_rules.specs.Packet4.{Packet4, ttl, protocol, source4, destination4, spelling4}
 use Rattle.srv6_rules.specs.Chain.{Header, ChainEnd, Upper, Cut, Chain, hop_by_hop, fragment, destination_options, chain_of, is_segment_routing, routing_type, segments_left}
 use Rattle.srv6_rules.specs.Srh.{Srh, srh_of, entries_of, entry_of, tlv_bytes}
 
@@ -20,6 +23,13 @@ ip6_line p =
     ++ (codes " payload " ++ (decimal (length p.payload) ++ (codes " next " ++ (decimal p.next_header
     ++ (codes " hop " ++ (decimal p.hop_limit ++ (codes " src " ++ (address_text p.source
     ++ (codes " dst " ++ (address_text p.destination ++ 10 ∷ [])))))))))))))
+
+-- an IPv4 packet, its header among its length (RFC 791 section 3.1)
+unfoldable pub ip4_line : Packet4 → List ℕ
+ip4_line p =
+    codes "ip4 ttl " ++ (decimal (ttl p) ++ (codes " proto " ++ (decimal (protocol p)
+    ++ (codes " total " ++ (decimal (length (spelling4 p)) ++ (codes " src " ++ (address4_text (source4 p)
+    ++ (codes " dst " ++ (address4_text (destination4 p) ++ 10 ∷ [])))))))))
 
 -- the end of a line: where something stands, and how long it is
 abbrev pub stands : ℕ → ℕ → List ℕ
@@ -102,7 +112,8 @@ headers_lines len (h ∷ hs) end = header_lines h ++ (if h.place.kind == fragmen
 abbrev pub chain_lines : Packet → Chain → List ℕ
 chain_lines p c = headers_lines (header_len + length p.payload) c.headers c.end
 
--- bytes that do not read are of another version, or else there are too few of them (RFC 8200 section 3)
+-- bytes that do not read are of another version, or else there are too few of them, or their header states lengths that do not
+-- fit (RFC 8200 section 3, RFC 791 section 3.1)
 
 unfoldable pub bad_version_line : List ℕ
 bad_version_line = codes "bad version" ++ 10 ∷ []
@@ -110,11 +121,15 @@ bad_version_line = codes "bad version" ++ 10 ∷ []
 unfoldable pub truncated_line : List ℕ
 truncated_line = codes "truncated" ++ 10 ∷ []
 
--- what bytes read as
+abbrev pub fault_line : Reason → List ℕ
+fault_line BadVersion = bad_version_line
+fault_line reason = truncated_line
+
+-- what bytes read as; nothing is shown behind an IPv4 header
 abbrev pub content_lines : Content → List ℕ
 content_lines (V6 p) = ip6_line p ++ chain_lines p (chain_of p)
-content_lines (Unreadable bytes BadVersion) = bad_version_line
-content_lines (Unreadable bytes reason) = truncated_line
+content_lines (V4 p) = ip4_line p
+content_lines (Unreadable bytes reason) = fault_line reason
 
 -- a packet of a number, by what its bytes read as
 abbrev pub packet_lines : ℕ → Content → List ℕ

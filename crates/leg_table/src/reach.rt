@@ -146,7 +146,7 @@ fn reach_of(
     requires few_lowered { (n : ℕ) → IfSome (way_at later.now n) (λ b. b.lowered ≤ 48) }
     ensures { IfOk result (λ reach. IsReach net.now steps.now node reach) }
 {
-    let table = NodeTable::gather(alloc, net, node, 0, Family::V6)?;
+    let table = net.table(node, 0, Family::V6);
     let arrived = ways_of(alloc, net, node, &table, true, steps, later)?;
     let submitted = ways_of(alloc, net, node, &table, false, steps, later)?;
     Ok(Reach { arrived, submitted })

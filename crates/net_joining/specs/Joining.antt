@@ -13,6 +13,7 @@ use Rattle.net_model.specs.declared.parts.Route.{Route}
 use Rattle.net_model.specs.declared.parts.NamedPolicy.{NamedPolicy}
 use Rattle.net_model.specs.Network.{Network}
 use Rattle.net_model.specs.Rules.{block_of}
+use Rattle.net_model.specs.Judging.{block_len_of}
 use Rattle.net_words.specs.declared.block.DescribedBlock.{DescribedBlock}
 use Rattle.net_words.specs.declared.node.DescribedNode.{DescribedNode}
 use Rattle.net_words.specs.declared.link.DescribedLink.{DescribedLink}
@@ -90,11 +91,6 @@ behaviour_with words.Dt46 table policy = kinds.Dt46 table
 behaviour_with words.B6 table policy = kinds.B6 policy
 behaviour_with words.B6Red table policy = kinds.B6Red policy
 
--- the length of the block that a prefix lies strictly inside, 0 where it lies in none
-abbrev pub length_of : Option Block → ℕ
-length_of None = 0
-length_of (Some b) = b.prefix.len
-
 abbrev pub is_psp : Flavour → Bool
 is_psp Psp = true
 is_psp Usp = false
@@ -133,7 +129,7 @@ joined_sid nodes links policies blocks n s = record {
   prefix = s.prefix;
   behaviour = behaviour_with s.behaviour (or_zero s.table) (or_zero (option_map (number_of policies) s.policy));
   csid = s.csid;
-  block_len = length_of (block_of blocks s.prefix);
+  block_len = block_len_of (block_of blocks s.prefix);
   psp = list_any is_psp s.flavours;
   usp = list_any is_usp s.flavours;
   usd = list_any is_usd s.flavours;

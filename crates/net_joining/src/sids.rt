@@ -3,8 +3,9 @@
 ghost use Rattle.std.specs.Prelude.{◌≡◌, ◌<◌, ◌^◌, ◌++◌, ℕ, IfOk, OnOk, map, option_map, option_to_list, length, vec_len};
 ghost use Rattle.std.specs.List.{list_any, filter_map};
 ghost use Rattle.net_model.specs.Rules.{block_of};
+ghost use Rattle.net_model.specs.Judging.{block_len_of};
 ghost use Rattle.net_joining.specs.Numbering.{number_of};
-ghost use Rattle.net_joining.specs.Joining.{behaviour_with, length_of, is_psp, is_usp, is_usd, or_zero, or_none, title_number, joined_sid, joined_sids, title_in};
+ghost use Rattle.net_joining.specs.Joining.{behaviour_with, is_psp, is_usp, is_usd, or_zero, or_none, title_number, joined_sid, joined_sids, title_in};
 
 use crate::joining::{Names, numbers, same_name};
 use crate::numbering::Numbering;
@@ -44,7 +45,7 @@ fn block_of(blocks: &[Block], prefix: &Prefix) -> Option<Block>
 
 /// The length of that block, 0 where there is none.
 fn block_len(blocks: &[Block], prefix: &Prefix) -> u8
-    ensures { result ≡ length_of (block_of blocks.now prefix.now) }
+    ensures { result ≡ block_len_of (block_of blocks.now prefix.now) }
 {
     match block_of(blocks, prefix) {
         Some(block) => block.prefix.len(),

@@ -1,11 +1,8 @@
--- The longest of joined entries, and a scan one item on.
-use Rattle.std.proofs.Common.{◌≡◌, ℕ, ◌+◌, ltb, ◌==◌, List, [], ◌∷◌, ◌++◌, Option, Some, None, refl, sym, ap, ◌∙◌, arith, inl, inr}
+-- The longest of joined entries.
+use Rattle.std.proofs.Common.{◌≡◌, ℕ, ltb, List, [], ◌∷◌, ◌++◌, Option, Some, None, refl, sym, arith, inl, inr}
 use Rattle.std.proofs.lemmas.Bool.{cases_Bool, ltb-true, ltb-false, lt-ltb, le-ltb}
 use Rattle.v6_addr.specs.Address.{holds_address}
-use Rattle.srv6_rules.specs.declared.sid.Family.{Family}
-use Rattle.srv6_rules.specs.declared.sid.SidEntry.{SidEntry}
-use Rattle.net_model.specs.declared.parts.Route.{Route}
-use Rattle.net_model.specs.Best.{Entry, longer, longest, sid_entries, is_route_of, route_entries}
+use Rattle.net_model.specs.Best.{Entry, longer, longest}
 
 longer_three : (e f g : Entry) → longer (longer (Some e) (Some f)) (Some g) ≡ longer (Some e) (longer (Some f) (Some g))
 longer_three e f g =
@@ -20,7 +17,7 @@ longer_three e f g =
       ]
     ]
 
-longer_none : (o : Option Entry) → longer o None ≡ o
+pub longer_none : (o : Option Entry) → longer o None ≡ o
 longer_none None = refl
 longer_none (Some e) = refl
 
@@ -37,46 +34,3 @@ longest-append a (x ∷ xs) ys =
       | inl h ↦ rw (h, longest-append a xs ys) (sym (longer_assoc (Some x) (longest a xs) (longest a ys)))
       | inr h ↦ rw h (longest-append a xs ys)
     ]
-
-pub sid_entries-cons : (node n : ℕ) (s : SidEntry) (more : List SidEntry)
-    → sid_entries node n (s ∷ more) ≡ sid_entries node n (s ∷ []) ++ sid_entries node (n + 1) more
-sid_entries-cons node n s more =
-    elim (cases_Bool (s.node == node)) [ inl h ↦ rw h refl | inr h ↦ rw h refl ]
-
-pub route_entries-cons : (node table : ℕ) (family : Family) (n : ℕ) (r : Route) (more : List Route)
-    → route_entries node table family n (r ∷ more)
-    ≡ route_entries node table family n (r ∷ []) ++ route_entries node table family (n + 1) more
-route_entries-cons node table family n r more =
-    elim (cases_Bool (is_route_of node table family r)) [ inl h ↦ rw h refl | inr h ↦ rw h refl ]
-
--- a scan of SIDs, one SID on: what was found joined with what the rest gives stays the same
-pub sid_scan_more : (a node n : ℕ) (s : SidEntry) (more : List SidEntry) (found next : Option Entry)
-    → next ≡ longer found (longest a (sid_entries node n (s ∷ [])))
-    → longer next (longest a (sid_entries node (n + 1) more)) ≡ longer found (longest a (sid_entries node n (s ∷ more)))
-sid_scan_more a node n s more found next e =
-    ap (λ o. longer o (longest a (sid_entries node (n + 1) more))) e
-    ∙ longer_assoc found (longest a (sid_entries node n (s ∷ []))) (longest a (sid_entries node (n + 1) more))
-    ∙ ap (longer found) (sym (longest-append a (sid_entries node n (s ∷ [])) (sid_entries node (n + 1) more))
-    ∙ ap (longest a) (sym (sid_entries-cons node n s more)))
-
-pub route_scan_more : (a node table : ℕ) (family : Family) (n : ℕ) (r : Route) (more : List Route) (found next : Option Entry)
-    → next ≡ longer found (longest a (route_entries node table family n (r ∷ [])))
-    → longer next (longest a (route_entries node table family (n + 1) more))
-    ≡ longer found (longest a (route_entries node table family n (r ∷ more)))
-route_scan_more a node table family n r more found next e =
-    ap (λ o. longer o (longest a (route_entries node table family (n + 1) more))) e
-    ∙ longer_assoc found (longest a (route_entries node table family n (r ∷ []))) (longest a (route_entries node table family (n + 1) more))
-    ∙ ap (longer found) (sym (longest-append a (route_entries node table family n (r ∷ [])) (route_entries node table family (n + 1) more))
-    ∙ ap (longest a) (sym (route_entries-cons node table family n r more)))
-
-pub scan_end : (o : Option Entry) → longer o None ≡ o
-scan_end o = longer_none o
-
--- three scans in a row
-pub three_scans : (a : ℕ) (xs ys zs : List Entry) (o p q : Option Entry) → o ≡ longest a xs → p ≡ longer o (longest a ys)
-    → q ≡ longer p (longest a zs) → q ≡ longest a (xs ++ (ys ++ zs))
-three_scans a xs ys zs o p q is_o is_p is_q =
-    is_q ∙ ap (λ b. longer b (longest a zs)) (is_p ∙ ap (λ b. longer b (longest a ys)) is_o)
-    ∙ longer_assoc (longest a xs) (longest a ys) (longest a zs)
-    ∙ ap (longer (longest a xs)) (sym (longest-append a ys zs))
-    ∙ sym (longest-append a xs (ys ++ zs))

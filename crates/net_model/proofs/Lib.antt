@@ -7,8 +7,11 @@ pub mod EntryLemmas
 pub mod IsBestLemmas
 pub mod FlatLemmas
 pub mod BlockLemmas
+pub mod CompressionLaws
 pub mod AlikeLemmas
-pub mod GatheredLemmas
+pub mod AnswerLemmas
+pub mod FillLemmas
+pub mod ListedLemmas
 pub mod JudgingLemmas
 pub mod PassesLemmas
 pub mod TableLaws

@@ -2,5 +2,6 @@
 pub use Rattle.net_model.proofs.KeepsLemmas.{keeps_from_network, link_set_from}
 pub use Rattle.net_model.proofs.AlikeLemmas.{one_sid_prefix, matched_sid_holds}
 pub use Rattle.net_model.proofs.BlockLemmas.{block_of-is}
+pub use Rattle.net_model.proofs.CompressionLaws.{sid-suits, sid-unflavoured, sid-not_next}
 pub use Rattle.net_model.proofs.NamedLemmas.{position_item, position-None}
 pub use Rattle.net_model.proofs.SidLaws.{exact_law, enough_law}

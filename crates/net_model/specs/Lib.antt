@@ -4,10 +4,9 @@ pub mod Best
 pub mod Titles
 pub mod Keeps
 pub mod Named
-pub mod Found
 pub mod Entries
 pub mod Flat
-pub mod Gathered
+pub mod Tables
 pub mod Keys
 pub mod Judging
-pub mod RouteKeys
+pub mod EntryKeys

@@ -6,10 +6,10 @@ ghost use Rattle.v6_addr.specs.Address.{PrefixValue, is_inside};
 ghost use Rattle.net_model.specs.Network.{network_of};
 ghost use Rattle.net_model.specs.Flat.{sid_prefix, route_prefix, is_ipv6_route, address_prefix, inner_entries, first_inside, first_nested, flatness_of, IsFlat, IsJudged};
 
-use crate::lookup::whole;
 use crate::net::Net;
 use crate::parts::{NetParts, Node, Route};
 use crate::rules::same_family;
+use crate::tables::whole;
 use srv6_rules::{Family, SidEntry};
 use v6_addr::Prefix;
 

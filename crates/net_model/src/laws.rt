@@ -1,7 +1,10 @@
 //! Laws of the definitions: each is the contract of an empty function.
 
-ghost use Rattle.std.specs.Prelude.{◌≡◌, ◌↔◌, ℕ, Bool, true, false, List, [], Some, None, slice_get, position, Contains, Ok};
+ghost use Rattle.std.specs.Prelude.{◌≡◌, ◌≢◌, ◌↔◌, ℕ, Bool, true, false, List, [], Some, None, slice_get, position, Contains, Ok};
 ghost use Rattle.v6_addr.specs.Address.{PrefixValue, Holds};
+ghost use Rattle.srv6_rules.specs.Behaviours.{goes_on};
+ghost use Rattle.srv6_rules.specs.CompressedSteps.{SuitsCompression};
+ghost use Rattle.srv6_rules.specs.declared.sid.Csid.TheVariants.{Next};
 ghost use Rattle.srv6_rules.specs.declared.sid.Family.{Family};
 ghost use Rattle.srv6_rules.specs.declared.sid.Family.TheVariants.{V6};
 ghost use Rattle.srv6_rules.specs.declared.sid.SidEntry.{SidEntry};
@@ -11,7 +14,7 @@ ghost use Rattle.net_model.specs.Network.{Network};
 ghost use Rattle.net_model.specs.declared.parts.Link.{Link};
 ghost use Rattle.net_model.specs.declared.parts.Block.{Block};
 ghost use Rattle.net_model.specs.Rules.{IsNetwork, is_link_set, block_of};
-ghost use Rattle.net_model.specs.Keeps.{IsLinkSet, IsBlockOf, Keeps};
+ghost use Rattle.net_model.specs.Keeps.{IsLinkSet, IsBlockOf, IsUnflavoured, Keeps};
 ghost use Rattle.net_model.specs.declared.standing.Standing.{Standing};
 ghost use Rattle.net_model.specs.Judging.{InRange, judging};
 ghost use Rattle.net_model.specs.Best.{Entry, entries_of, IsBest, lookup_of};
@@ -69,6 +72,18 @@ pub fn rules_mean_their_facts()
 /// block, so a block is not its own.
 pub fn blocks_hold_their_sids()
     ensures { (blocks : List Block) (p : PrefixValue) → IsBlockOf blocks p (block_of blocks p) }
+{}
+
+/// In a network that keeps the rules the compression of each SID suits the lengths of its prefix
+/// and its block (RFC 9800 sections 4.1 and 4.2). A SID that does not go on has no flavours (RFC
+/// 8986 section 4.16) and is not of NEXT-CSID (own rule).
+pub fn sids_suit_their_compression()
+    ensures suits { (net : Network) (n : ℕ) (s : SidEntry) → Keeps net
+        → slice_get net.sids n ≡ Some s → SuitsCompression s }
+    ensures unflavoured { (net : Network) (n : ℕ) (s : SidEntry) → Keeps net
+        → slice_get net.sids n ≡ Some s → goes_on s ≡ false → IsUnflavoured s }
+    ensures not_next { (net : Network) (n : ℕ) (s : SidEntry) → Keeps net
+        → slice_get net.sids n ≡ Some s → goes_on s ≡ false → s.csid ≢ Next }
 {}
 
 /// What the place that a test finds in a list means: its item passes the test, and with no place

@@ -2,12 +2,13 @@
 //! lists in the order of its description.
 //!
 //! `Net::build` takes the parts that keep the rules of descriptions, or names the first fault, and
-//! `Net::keeps_rules` tells the rules to proofs. `Net::lookup` gives the entry of a node's table
-//! that fits an address best, and `NodeTable` gathers the entries of one table for many look-ups.
+//! `Net::keeps_rules` tells the rules to proofs. Beside its parts a network has a table of prefixes
+//! for each node, table number and family that has entries: `Net::lookup` gives the entry of a
+//! node's table that fits an address best, and `Net::table` one table for many look-ups.
 //! `compilable` tells whether the network is flat: then no entry lies strictly inside the prefix of
-//! a SID, and all addresses of that prefix are looked up alike. Only gathering and building take
-//! memory. The laws about the definitions are the contracts of empty functions. `NetFault` says why
-//! a text gives no network or no intent, and where in it.
+//! a SID, and all addresses of that prefix are looked up alike. Only building takes memory. The
+//! laws about the definitions are the contracts of empty functions. `NetFault` says why a text
+//! gives no network or no intent, and where in it.
 #![tactic(auto)]
 
 mod fault;
@@ -16,7 +17,6 @@ mod judge;
 mod judge_sids;
 mod laws;
 mod limits;
-mod lookup;
 mod named;
 mod net;
 mod node_table;
@@ -25,6 +25,7 @@ mod range;
 mod route_set;
 mod rules;
 mod standing;
+mod tables;
 #[cfg(test)]
 mod tests;
 
@@ -34,6 +35,7 @@ pub use laws::{
     best_match_is_one, blocks_hold_their_sids, entries_are_its_own,
     flat_networks_treat_addresses_alike, matched_sids_hold_the_address,
     no_fault_is_keeping_the_rules, places_are_of_passing_items, rules_mean_their_facts,
+    sids_suit_their_compression,
 };
 pub use limits::{
     BLOCK_UNIT, DEFAULT_HOP_LIMIT, LAST_FLOW_LABEL, LAST_OCTET, LAST_TABLE, LONG_CSID,

@@ -2,11 +2,13 @@
 
 use crate::fault::NetFault;
 use crate::judge_sids::judge_parts;
-use crate::lookup::lookup_in;
 use crate::named::{place_of_link, place_of_node};
+use crate::node_table::NodeTable;
 use crate::parts::{Block, Link, Name, NetParts, Node, Route};
 use crate::rules::is_link_set;
 use crate::standing::Standing;
+use crate::tables::{Tables, table_key, tables_of};
+use prefix_table::Table;
 use srv6_rules::{Family, Policy, SidEntry};
 use std::alloc::Global;
 use std::marker::Model;
@@ -29,27 +31,32 @@ pub enum Hit {
 #[derive(Debug, Drop)]
 pub struct Net {
     parts: NetParts,
+    tables: Tables,
 }
 
 impl Model for Net {
     ghost use Rattle.net_model.specs.Network.{Network, network_of};
     ghost use Rattle.net_model.specs.Rules.{IsNetwork};
+    ghost use Rattle.net_model.specs.Tables.{AreTables};
 
     ghost Value = { Network };
 
     ghost view = { λ n. network_of n.parts };
 
-    ghost invariant = { λ n. IsNetwork (network_of n.parts) };
+    ghost invariant = { λ n. IsNetwork (network_of n.parts)
+        × AreTables (network_of n.parts) n.tables };
 }
 
 impl Net {
-    ghost use Rattle.std.specs.Prelude.{◌≡◌, ◌↔◌, ℕ, ◌<◌, false, length, slice_get, IsTrue, IsSome, IfSome, IfNone, IfOk};
+    ghost use Rattle.std.specs.Prelude.{◌≡◌, ◌↔◌, ℕ, ◌<◌, [], false, length, slice_get, option_copied, IsTrue, IsSome, IfSome, IfNone, IfOk};
+    ghost use Rattle.std.specs.Option.{unwrap_or};
     ghost use Rattle.net_model.specs.declared.parts.NamedPolicy.{NamedPolicy};
     ghost use Rattle.net_model.specs.Network.{network_of};
     ghost use Rattle.net_model.specs.Rules.{IsNetwork, is_network, is_link_set};
     ghost use Rattle.net_model.specs.Judging.{InRange, judging, Judges};
     ghost use Rattle.net_model.specs.Keeps.{Keeps};
-    ghost use Rattle.net_model.specs.Best.{IsBest, lookup_of};
+    ghost use Rattle.net_model.specs.Best.{IsBest, entries_of, lookup_of};
+    ghost use Rattle.net_model.specs.Tables.{AnswersFor};
     ghost use Rattle.net_model.specs.Named.{node_numbered, link_numbered, IsNodeNumbered, IsLinkNumbered};
 
     /// The network with these parts, or the first fault of them (own rules): the tables in the
@@ -81,7 +88,8 @@ impl Net {
         ensures value { IfOk result (λ net. net ≡ network_of parts) }
     {
         judge_parts(alloc, &parts, standings)?;
-        Ok(Net { parts })
+        let tables = tables_of(alloc, &parts)?;
+        Ok(Net { parts, tables })
     }
 
     /// That the network keeps the rules: an empty function, for the callers' proofs.
@@ -212,8 +220,24 @@ impl Net {
         ensures value { result ≡ lookup_of self.now node table family a.value }
         ensures best { IsBest self.now node table family a.value result }
     {
-        self.keeps_rules();
-        lookup_in(&self.parts, node, table, family, a)
+        self.table(node, table, family).lookup(a)
+    }
+
+    /// The table of a node with a number, for packets of a family, for many look-ups.
+    pub fn table(&self, node: u32, table: u32, family: Family) -> NodeTable<'_>
+        requires { node < length self.now.nodes }
+        ensures { result ≡ record { net = self.now; node = node; table = table; family = family } }
+    {
+        NodeTable::of(self, node, table, family)
+    }
+
+    /// The entries of a node's table with a number, for packets of a family; none are kept for a
+    /// table that has none.
+    pub(crate) fn entries(&self, node: u32, table: u32, family: Family) -> Option<&Table<Hit>>
+        ensures { AnswersFor (entries_of self.now node table family)
+            (unwrap_or (option_copied result) []) }
+    {
+        self.tables.get(&table_key(node, table, family))
     }
 
     /// The link with a number, counted from 0.

@@ -1,21 +1,22 @@
-//! The routes that came before, as a set.
+//! The entries of tables that came before, as a set.
 
 ghost use Rattle.std.specs.Prelude.{◌≡◌, ◌∷◌, ◌++◌, [], List, IfOk, OnOk};
 ghost use Rattle.std.specs.BTreeSet.{BTreeSet};
 ghost use Rattle.net_model.specs.declared.parts.Route.{Route};
 ghost use Rattle.net_model.specs.Rules.{same_route};
 ghost use Rattle.net_model.specs.Judging.{stands_before};
-ghost use Rattle.net_model.specs.RouteKeys.{key_of, HasKeys};
+ghost use Rattle.net_model.specs.EntryKeys.{entry_key, key_of, HasKeys};
 
 use crate::parts::Route;
 use crate::rules::same_family;
 use srv6_rules::Family;
 use std::alloc::AllocError;
 use std::collections::BTreeSet;
+use v6_addr::Prefix;
 
-/// What tells a route from another.
+/// What tells an entry of a table from others.
 #[derive(Clone, Copy, PartialEq, Eq, PartialOrd, Ord)]
-pub(crate) struct RouteKey {
+pub(crate) struct EntryKey {
     node: u32,
     table: u32,
     is_ipv6: bool,
@@ -23,21 +24,28 @@ pub(crate) struct RouteKey {
     len: u8,
 }
 
-/// What tells a route from others.
-fn key_of(r: &Route) -> RouteKey
-    ensures { result ≡ key_of r.now }
+/// What tells an entry of a node's table from others.
+pub(crate) fn entry_key(node: u32, table: u32, family: Family, prefix: Prefix) -> EntryKey
+    ensures { result ≡ entry_key node table family prefix }
 {
-    RouteKey {
-        node: r.node,
-        table: r.table,
-        is_ipv6: same_family(r.family, Family::V6),
-        address: r.prefix.value().value,
-        len: r.prefix.len(),
+    EntryKey {
+        node,
+        table,
+        is_ipv6: same_family(family, Family::V6),
+        address: prefix.value().value,
+        len: prefix.len(),
     }
 }
 
+/// What tells a route from others.
+fn key_of(r: &Route) -> EntryKey
+    ensures { result ≡ key_of r.now }
+{
+    entry_key(r.node, r.table, r.family, r.prefix)
+}
+
 /// Puts a route to those before, and tells whether it stood among them.
-pub(crate) fn put_route(keys: &mut BTreeSet<RouteKey>, r: &Route) -> Result<bool, AllocError>
+pub(crate) fn put_route(keys: &mut BTreeSet<EntryKey>, r: &Route) -> Result<bool, AllocError>
     ensures told { (before : List Route) → HasKeys keys.old before
         → IfOk result (λ stood. stood ≡ stands_before same_route before r.now) }
     ensures kept { (before : List Route) → HasKeys keys.old before

@@ -2,7 +2,7 @@
 
 use crate::{
     Block, BlockKind, Hit, Key, Link, MAX_SIDS_OF_NODE, Name, Net, NetFault, NetParts, Node,
-    NodeTable, NotFlat, Route, Standing, TableKind, TypeList, are_in_range, compilable,
+    NotFlat, Route, Standing, TableKind, TypeList, are_in_range, compilable,
 };
 use srv6_rules::{Behaviour, Csid, Family, LinkSet, SidEntry};
 use std::alloc::{AllocError, Global};
@@ -143,8 +143,22 @@ fn nodes_look_addresses_up(rt: HostRuntime) -> Result<(), Fail> {
     ] {
         assert!(rt; node < net.nodes());
         assert!(rt; net.lookup(node, table, Family::V6, Addr { value }) == hit);
-        let gathered = NodeTable::gather(rt.alloc(), &net, node, table, Family::V6)?;
-        assert!(rt; gathered.lookup(Addr { value }) == hit);
+        let one = net.table(node, table, Family::V6);
+        assert!(rt; one.lookup(Addr { value }) == hit);
+    }
+    Ok(())
+}
+
+#[test]
+fn of_equal_prefixes_a_sid_stays_then_the_address(rt: HostRuntime) -> Result<(), Fail> {
+    let alloc = rt.alloc();
+    let mut sids = Vec::new(alloc);
+    sids.push(end_at_b(alloc, prefix(&rt, OWN_B, 128)))?;
+    let parts = two_nodes(alloc, ("A", "B"), prefix(&rt, OWN_A, 128), sids)?;
+    let net = network(&rt, alloc, parts);
+    for (node, value, hit) in [(0, OWN_A, Hit::Address), (1, OWN_B, Hit::Sid(0))] {
+        assert!(rt; node < net.nodes());
+        assert!(rt; net.lookup(node, 0, Family::V6, Addr { value }) == hit);
     }
     Ok(())
 }
@@ -171,8 +185,8 @@ fn ipv4_has_tables_of_its_own(rt: HostRuntime) -> Result<(), Fail> {
     ] {
         assert!(rt; 0 < net.nodes());
         assert!(rt; net.lookup(0, 0, family, Addr { value }) == hit);
-        let gathered = NodeTable::gather(alloc, &net, 0, 0, family)?;
-        assert!(rt; gathered.lookup(Addr { value }) == hit);
+        let one = net.table(0, 0, family);
+        assert!(rt; one.lookup(Addr { value }) == hit);
     }
     Ok(())
 }

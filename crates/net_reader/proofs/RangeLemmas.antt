@@ -17,7 +17,7 @@ use Rattle.net_words.specs.declared.sid.BehaviourWord.TheVariants as words
 use Rattle.net_words.specs.declared.description.Description.{Description}
 use Rattle.net_words.specs.Description.{description_of}
 use Rattle.net_joining.specs.Numbering.{number_of}
-use Rattle.net_joining.specs.Joining.{node_names, link_names, policy_names, joined_block, joined_node, joined_link, joined_route, joined_policy, or_zero, or_none, behaviour_with, length_of, title_number, behind_title, title_in, joined_sid, joined_sids, joined}
+use Rattle.net_joining.specs.Joining.{node_names, link_names, policy_names, joined_block, joined_node, joined_link, joined_route, joined_policy, or_zero, or_none, behaviour_with, title_number, behind_title, title_in, joined_sid, joined_sids, joined}
 use Rattle.net_reader.proofs.YieldLemmas.{yielded}
 use Rattle.net_reader.proofs.DescribedLemmas.{route_fits, table_fits, links_fit, title_fits, sid_fits, Fits, description-fits}
 
@@ -99,10 +99,6 @@ links_few : (links : List (List ℕ)) (given : Option (List (List ℕ))) → lin
 links_few links None h = refl
 links_few links (Some given) h = ap (λ n. nat_le n MAX_LINKS_OF_SET) (length-map given (number_of links)) ∙ h
 
-same_len : (block : Option Block) → (length_of block == block_len_of block) ≡ true
-same_len None = refl
-same_len (Some block) = eq-eqb _ _ refl
-
 module _ (nodes links policies : List (List ℕ)) (blocks : List Block) where
   sid_joined : (n count : ℕ) (s : DescribedSid) (titles : List (List ℕ)) → n + length (cons_option s.title titles) ≡ count
       → sid_fits s ≡ true → sid_in_range blocks count (joined_sid nodes links policies blocks n s) ≡ true
@@ -112,7 +108,7 @@ module _ (nodes links policies : List (List ℕ)) (blocks : List Block) where
       let table = and_parts _ _ prefix.1 in
       let rest = and_parts _ _ table.1 in
       and_from _ _ long.0 (and_from _ _ prefix.0 (and_from _ _ (table_suits s.behaviour _ _ (table_or_zero s.table table.0))
-      (and_from _ _ (links_few links s.links rest.0) (and_from _ _ (same_len (block_of blocks s.prefix))
+      (and_from _ _ (links_few links s.links rest.0) (and_from _ _ (eq-eqb (block_len_of (block_of blocks s.prefix)) _ refl)
       (is_there n s.title titles count e)))))
 
   sids_joined : (n count : ℕ) (ss : List DescribedSid) → n + length (filter_map title_in ss) ≡ count → list_all sid_fits ss ≡ true

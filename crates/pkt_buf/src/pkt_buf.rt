@@ -124,8 +124,8 @@ impl PktBuf {
         self.front = front;
     }
 
-    /// Gives at least so many spare bytes in front; the packet's bytes stay. Where there are as many
-    /// nothing changes and no memory is taken, and with want of memory nothing changes.
+    /// Gives at least so many spare bytes in front; the packet's bytes stay. Where as many are
+    /// spare nothing changes and no memory is taken. With want of memory nothing changes either.
     pub fn reserve_front(&mut self, n: usize) -> Result<(), NoMemory>
         ensures room { OnOk result (n ≤ self.new.front) }
         ensures bytes { self.new.bytes ≡ self.old.bytes }

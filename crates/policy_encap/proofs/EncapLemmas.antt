@@ -1,15 +1,14 @@
 -- An IPv6 packet that is encapsulated, in bytes.
-use Rattle.std.proofs.Common.{◌≡◌, ℕ, ◌+◌, ◌-◌, ◌^◌, ◌<◌, ◌≤◌, Bool, List, [], ◌++◌, length, take, drop, slice_index, slice_set, All, refl, sym, ap, subst, ◌∙◌, arith, length-append, length-drop}
-use Rattle.std.proofs.lemmas.List.{take_all, drop_all, append-nil, length-set, length-take-le}
+use Rattle.std.proofs.Common.{◌≡◌, ℕ, ◌+◌, ◌-◌, ◌^◌, ◌<◌, ◌≤◌, Bool, List, length, drop, slice_index, slice_set, All, refl, sym, ap, subst, ◌∙◌, arith}
+use Rattle.std.proofs.lemmas.List.{take_all, length-set}
 use Rattle.std.proofs.lemmas.List.Elements.{All-drop}
 use Rattle.srv6_rules.specs.declared.policy.Policy.{Policy}
 use Rattle.srv6_rules.specs.declared.sid.Family.{Family}
 use Rattle.srv6_rules.specs.declared.sid.Family.TheVariants.{V6, V4}
 use Rattle.srv6_rules.specs.Packet.{Packet, IsSpellable, Spells, header_len, stated_len, packet_at, spelling, two_number}
 use Rattle.srv6_rules.specs.Packet4.{total_len, packet4_at, spelling4, ttl_lowered}
-use Rattle.srv6_rules.specs.Encapsulation.{header_bytes}
 use Rattle.srv6_rules.specs.Policies.{IsPolicy, encapsulation_by, inner_hop, inner_lowered_bytes, outer_by, pushed_by, encapsulated_by, TooBig, InnerHop}
-use Rattle.srv6_rules.proofs.PublicLaws.{two_number-below, spelling-behind, lowered-spelling, lowered4-spelling, ttl_lowered-length, round-next_header, by-length, round-other, round-behind, made-fits, made-big, headend-low, headend-high}
+use Rattle.srv6_rules.proofs.PublicLaws.{two_number-below, spelling-behind, lowered-spelling, lowered4-spelling, ttl_lowered-length, round-next_header, made-fits, made-big, headend-low, headend-high}
 use Rattle.policy_encap.specs.Inner.{HoldsInner}
 use Rattle.ip6_headers.proofs.PublicLaws.{holds-spellable, holds-payload_len, holds-front, holds4-spellable, holds4-byte, holds4-length, holds4-front}
 use Rattle.policy_encap.specs.Headers.{FitsOuter}

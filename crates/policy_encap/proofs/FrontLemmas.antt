@@ -1,6 +1,6 @@
 -- Headers put in front of what a buffer holds.
-use Rattle.std.proofs.Common.{◌≡◌, ℕ, ◌+◌, ◌-◌, ◌*◌, ◌<◌, ◌≤◌, Bool, true, false, ◌==◌, List, [], ◌∷◌, ◌++◌, length, map, reverse, slice_index, refl, sym, ap, ◌∙◌, arith, length-append}
-use Rattle.std.proofs.lemmas.Bool.{eqb-true, eqb-false}
+use Rattle.std.proofs.Common.{◌≡◌, ℕ, ◌+◌, ◌-◌, ◌*◌, Bool, false, ◌==◌, List, [], ◌∷◌, ◌++◌, length, map, reverse, slice_index, sym, ap, ◌∙◌, arith, length-append}
+use Rattle.std.proofs.lemmas.Bool.{eqb-false}
 use Rattle.std.proofs.lemmas.List.{append_assoc}
 use Rattle.v6_addr.specs.declared.address.Addr.{Addr}
 use Rattle.srv6_rules.specs.declared.policy.Policy.{Policy}
@@ -8,14 +8,13 @@ use Rattle.srv6_rules.specs.declared.sid.Family.{Family}
 use Rattle.srv6_rules.specs.Packet.{Packet, header_spelling, spelling, first_word, two_bytes, four_bytes, address_bytes}
 use Rattle.srv6_rules.specs.Srh.{srh_spelling}
 use Rattle.srv6_rules.specs.Chain.{routing}
-use Rattle.srv6_rules.specs.Encapsulation.{header_bytes}
 use Rattle.srv6_rules.specs.Policies.{inner_kind, outer_by}
-use Rattle.srv6_rules.proofs.PublicLaws.{length-two_bytes, length-four_bytes, length-address_bytes, by-payload}
+use Rattle.srv6_rules.proofs.PublicLaws.{length-two_bytes, length-four_bytes, length-address_bytes}
 use Rattle.srh_codec.specs.Writing.{numbers_of, header_over}
 use Rattle.pkt_buf.specs.BufferView.{Buffer}
 use Rattle.pkt_buf.proofs.PublicLaws.{same_buffer}
-use Rattle.policy_encap.specs.Headers.{listed, framed, routing_bytes}
-use Rattle.policy_encap.proofs.RoundLemmas.{round-bare, round-routed, round-len}
+use Rattle.policy_encap.specs.Headers.{listed, framed}
+use Rattle.policy_encap.proofs.RoundLemmas.{round-routed}
 
 -- a buffer with bytes put in front of its own
 abbrev pub put : List ℕ → Buffer → Buffer
@@ -57,55 +56,18 @@ outer-put policy next_header len word to old b1 b2 b3 b4 b5 four two one other l
     ∙ same_buffer (record { bytes = spelling (framed policy next_header old.bytes); front = old.front - 40 })
     (header ++ old.bytes) (old.front - length header) (ap (λ xs. xs ++ old.bytes) is) (ap (λ n. old.front - n) size)
 
--- ---- all headers of a policy
-
-module _ (policy : Policy) (reduced : Bool) (inner : Family) (old : Buffer) where
-  abbrev whole : Packet
-  whole = outer_by policy reduced inner old.bytes
-
-  abbrev done : Buffer
-  done = record { bytes = spelling whole; front = old.front - header_bytes reduced (length policy.segments) }
-
-  -- what stands in front of the bytes is the IPv6 header and the segment routing header
-  front-len : (n front : ℕ) → 0 < length policy.segments → n ≡ routing_bytes (listed policy reduced) → front ≡ old.front - n - 40
-      → front ≡ old.front - header_bytes reduced (length policy.segments)
-  front-len n front some is left =
-      let len = round-len policy reduced inner old.bytes some in
-      let whole_len = by-payload policy reduced inner old.bytes in
-      omega (arith, len, whole_len)
-
-  pub put-bare : (kind : ℕ) (list : List Addr) (new : Buffer) → 0 < length policy.segments → list ≡ listed policy reduced
-      → (length list == 0) ≡ true → kind ≡ inner_kind inner
-      → new ≡ record { bytes = spelling (framed policy kind old.bytes); front = old.front - 40 } → new ≡ done
-  put-bare kind list new some is none kinds put_in =
-      let zero_len : length (listed policy reduced) ≡ 0 = ap length (sym is) ∙ eqb-true (length list) 0 none in
-      let shape : framed policy kind old.bytes ≡ whole =
-      ap (λ k. framed policy k old.bytes) kinds ∙ sym (round-bare policy reduced inner old.bytes some zero_len) in
-      let nothing : 0 ≡ routing_bytes (listed policy reduced) = rw zero_len refl in
-      put_in
-      ∙ same_buffer done (spelling (framed policy kind old.bytes)) (old.front - 40) (ap spelling shape)
-      (front-len 0 (old.front - 40) some nothing (omega arith))
-
-  -- what stands in front of it with a segment routing header
-  pub routed : (kind left : ℕ) (list segments : List Addr) → list ≡ listed policy reduced
-      → (length list == 0) ≡ false → kind ≡ inner_kind inner → segments ≡ policy.segments → left ≡ length segments - 1
-      → framed policy routing (srh_spelling (header_over kind left (reverse (numbers_of list))) ++ old.bytes) ≡ whole
-  routed kind left list segments is some kinds all lefts =
-      let more = eqb-false (length list) 0 some in
-      let count : length list ≡ length (listed policy reduced) = ap length is in
-      let srh : ℕ → ℕ → List Addr → Packet =
-      λ k l xs. framed policy routing (srh_spelling (header_over k l (reverse (numbers_of xs))) ++ old.bytes) in
-      ap (λ k. srh k left list) kinds
-      ∙ ap (λ n. srh (inner_kind inner) n list) (lefts ∙ ap (λ (xs : List Addr). length xs - 1) all)
-      ∙ ap (srh (inner_kind inner) (length policy.segments - 1)) is
-      ∙ sym (round-routed policy reduced inner old.bytes (omega arith))
-
-  pub put-routed : (srh : List ℕ) (list : List Addr) (mid new : Buffer) → 0 < length policy.segments
-      → list ≡ listed policy reduced → framed policy routing (srh ++ old.bytes) ≡ whole
-      → mid ≡ record { bytes = srh ++ old.bytes; front = old.front - routing_bytes list }
-      → new ≡ record { bytes = spelling (framed policy routing mid.bytes); front = mid.front - 40 } → new ≡ done
-  put-routed srh list mid new some is shape first second =
-      second
-      ∙ ap (λ (b : Buffer). record { bytes = spelling (framed policy routing b.bytes); front = b.front - 40 }) first
-      ∙ same_buffer done (spelling (framed policy routing (srh ++ old.bytes))) (old.front - routing_bytes list - 40)
-      (ap spelling shape) (front-len (routing_bytes list) (old.front - routing_bytes list - 40) some (ap routing_bytes is) refl)
+-- the segment routing header of a policy, and what it is put in front of, are the outer packet's payload
+pub routed : (policy : Policy) (reduced : Bool) (inner : Family) (bytes : List ℕ) (kind left : ℕ) (list segments : List Addr)
+    → list ≡ listed policy reduced → (length list == 0) ≡ false → kind ≡ inner_kind inner
+    → segments ≡ policy.segments → left ≡ length segments - 1
+    → framed policy routing (srh_spelling (header_over kind left (reverse (numbers_of list))) ++ bytes)
+    ≡ outer_by policy reduced inner bytes
+routed policy reduced inner bytes kind left list segments is some kinds all lefts =
+    let more = eqb-false (length list) 0 some in
+    let count : length list ≡ length (listed policy reduced) = ap length is in
+    let round : ℕ → ℕ → List Addr → Packet =
+    λ k l xs. framed policy routing (srh_spelling (header_over k l (reverse (numbers_of xs))) ++ bytes) in
+    ap (λ k. round k left list) kinds
+    ∙ ap (λ n. round (inner_kind inner) n list) (lefts ∙ ap (λ (xs : List Addr). length xs - 1) all)
+    ∙ ap (round (inner_kind inner) (length policy.segments - 1)) is
+    ∙ sym (round-routed policy reduced inner bytes (omega arith))

@@ -1,11 +1,11 @@
 -- The packet that a policy's header makes, by the segments that its segment list has.
-use Rattle.std.proofs.Common.{◌≡◌, ℕ, ◌+◌, ◌-◌, ◌*◌, ◌<◌, Bool, true, false, ◌==◌, if◌then◌else◌, List, [], ◌∷◌, ◌++◌, length, take, drop, map, reverse, replicate, slice_index, get_or, flat_map, refl, sym, ap, ◌∙◌, arith, inl, inr, length-append, length-drop}
-use Rattle.std.proofs.lemmas.Bool.{cases_lt, lt-ltb, le-ltb, eq-eqb, ne_eqb, eqb-true, eqb-false}
-use Rattle.std.proofs.lemmas.List.{drop-map, length-map, reverse-reverse, reverse-append, map-append, append-nil, append_assoc, take_at, take_all, drop_at, drop_all, get_or-map, length-replicate}
+use Rattle.std.proofs.Common.{◌≡◌, ℕ, ◌+◌, ◌-◌, ◌*◌, ◌<◌, Bool, true, false, ◌==◌, if◌then◌else◌, List, [], ◌∷◌, ◌++◌, length, map, reverse, slice_index, get_or, flat_map, refl, sym, ap, ◌∙◌, arith, inl, inr, length-drop}
+use Rattle.std.proofs.lemmas.Bool.{cases_lt, lt-ltb, le-ltb, eq-eqb, ne_eqb}
+use Rattle.std.proofs.lemmas.List.{drop-map, length-map, reverse-reverse, reverse-append, map-append, get_or-map}
 use Rattle.v6_addr.specs.declared.address.Addr.{Addr}
 use Rattle.srv6_rules.specs.declared.policy.Policy.{Policy}
 use Rattle.srv6_rules.specs.declared.sid.Family.{Family}
-use Rattle.srv6_rules.specs.Packet.{Packet, header_spelling, spelling, first_word, two_bytes, four_bytes, address_bytes}
+use Rattle.srv6_rules.specs.Packet.{Packet, address_bytes}
 use Rattle.srv6_rules.specs.Srh.{Srh, srh_spelling}
 use Rattle.srv6_rules.specs.Chain.{routing}
 use Rattle.srv6_rules.specs.Encapsulation.{Encapsulation, segment_list, has_segment_routing, header_bytes}
@@ -41,14 +41,6 @@ has-routing policy true some =
     let same = length-map policy.segments (λ (a : Addr). a.value) in
     lt-ltb 1 (length (map (λ (a : Addr). a.value) policy.segments)) (omega arith)
 has-routing policy false some = refl
-
-has-none : (policy : Policy) (reduced : Bool) → 0 < length policy.segments → length (listed policy reduced) ≡ 0
-    → has_segment_routing (encapsulation_by policy reduced) ≡ false
-has-none policy true some none =
-    let len = length-listed policy true in
-    let same = length-map policy.segments (λ (a : Addr). a.value) in
-    le-ltb 1 (length (map (λ (a : Addr). a.value) policy.segments)) (omega arith)
-has-none policy false some none = let bad : 0 < 0 = omega arith in elim bad [ ]
 
 -- the header over entries, field by field
 abbrev header_on : ℕ → ℕ → List ℕ → Srh
@@ -92,15 +84,6 @@ module _ (policy : Policy) (reduced : Bool) (inner : Family) (bytes : List ℕ) 
       ∙ ap (λ b. shaped b (length (numbers_of policy.segments) - 1) (segment_list e)) (has-routing policy reduced some)
       ∙ ap (λ n. shaped true n (segment_list e)) left
       ∙ ap (shaped true (length policy.segments - 1)) list
-
-  -- without one
-  pub round-bare : 0 < length policy.segments → length (listed policy reduced) ≡ 0
-      → outer_by policy reduced inner bytes ≡ framed policy (inner_kind inner) bytes
-  unfolding shaped
-  round-bare some none =
-      by-shape
-      ∙ ap (λ b. shaped b (length (numbers_of policy.segments) - 1) (segment_list (encapsulation_by policy reduced)))
-      (has-none policy reduced some none)
 
 -- the bytes in front of the inner packet, by the segments that are listed
 listed-bytes : (reduced : Bool) (n m : ℕ) → 0 < n → m ≡ (if reduced then n - 1 else n)

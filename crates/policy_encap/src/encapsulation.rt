@@ -9,7 +9,9 @@ ghost use Rattle.policy_encap.specs.declared.faults.PushFault.TheVariants as pus
 ghost use Rattle.policy_encap.specs.declared.faults.EncapFault.TheVariants as encapsulating;
 
 use crate::faults::{EncapFault, PushFault};
-use crate::headers::{MOST_PAYLOAD_LEN, bytes_fit, front_len, outer_fits, payload_len, put_headers};
+use crate::headers::{
+    MOST_PAYLOAD_LEN, bytes_fit, front_len, outer_fits, payload_len, put_headers,
+};
 use crate::inner::{inner_hop, inner_len, lower};
 use pkt_buf::PktBuf;
 use srv6_rules::numbers::MOST_LEN;
@@ -47,6 +49,7 @@ pub fn push(
     }
     buf.reserve_front(front_len(policy, reduced))?;
     put_headers(buf, policy, reduced, inner);
+    // Fields and bytes fit their widths, so the outer packet is one that bytes can spell.
     outer_fits(policy);
     bytes_fit(buf.view());
     Ok(())
@@ -84,6 +87,7 @@ pub fn encap(policy: &Policy, inner: Family, buf: &mut PktBuf) -> Result<(), Enc
     buf.reserve_front(front_len(policy, policy.reduced))?;
     lower(inner, buf.view_mut());
     put_headers(buf, policy, policy.reduced, inner);
+    // Fields and bytes fit their widths, so the outer packet is one that bytes can spell.
     outer_fits(policy);
     bytes_fit(buf.view());
     Ok(())

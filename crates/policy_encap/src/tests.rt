@@ -11,6 +11,7 @@ use crate::{EncapFault, PushFault, encap, push};
 use base::Seq;
 use ip6_headers::{Ip4View, Ip6View};
 use pkt_buf::PktBuf;
+use srv6_rules::numbers::MOST_LEN;
 use srv6_rules::{Family, Policy};
 use std::alloc::{AllocError, Global};
 use std::process::Abort;
@@ -92,6 +93,16 @@ fn joined(alloc: Global, a: &[u8], b: &[u8]) -> Result<Vec<u8>, AllocError> {
     Ok(bytes)
 }
 
+/// A packet of so many bytes of 0, with none spare in front.
+fn zeros(alloc: Global, n: usize) -> Result<PktBuf, AllocError>
+    requires { n ≤ MOST_LEN }
+    ensures { IfOk result (λ buf. length buf.bytes ≤ MOST_LEN) }
+{
+    let mut bytes = Vec::new(alloc);
+    bytes.resize(n, 0)?;
+    Ok(PktBuf::of(bytes))
+}
+
 /// The bytes hold an IPv6 packet, and nothing stands behind its end.
 #[tactic(auto, using(crate::proofs::EncapLemmas::lengths))]
 fn is_whole(rt: &impl Abort, bytes: &[u8])
@@ -170,15 +181,13 @@ fn hop_limit_1_is_refused(rt: HostRuntime) -> Result<(), Fail> {
 #[test]
 fn payload_above_65535_is_refused(rt: HostRuntime) -> Result<(), Fail> {
     let policy = policy(rt.alloc(), &SEGMENTS, true)?;
-    let mut bytes = Vec::new(rt.alloc());
-    bytes.resize(65496, 0)?;
-    let mut packet = PktBuf::of(bytes);
+    let mut packet = zeros(rt.alloc(), 65496)?;
     let refused = push(&policy, false, Family::V6, &mut packet);
     assert_eq!(rt; refused, Err(PushFault::TooBig { length: 65536 }));
     assert_eq!(rt; packet.len(), 65496);
-    packet.truncate(65495);
-    assert_eq!(rt; push(&policy, false, Family::V6, &mut packet), Ok(()));
-    assert_eq!(rt; packet.len(), 65575);
+    let mut shorter = zeros(rt.alloc(), 65495)?;
+    assert_eq!(rt; push(&policy, false, Family::V6, &mut shorter), Ok(()));
+    assert_eq!(rt; shorter.len(), 65575);
     Ok(())
 }
 

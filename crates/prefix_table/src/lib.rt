@@ -10,7 +10,7 @@ mod scan;
 mod table;
 
 pub use fault::TableFault;
-pub use laws::best_is_one;
+pub use laws::{best_is_one, best_with_one_more};
 pub use table::Table;
 
 #[cfg(test)]

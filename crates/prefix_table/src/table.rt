@@ -1,12 +1,12 @@
 //! The table: a list of entries that is scanned.
 
-ghost use Rattle.std.specs.Prelude.{◌≡◌, ℕ, ◌<◌, ◌↔◌, IsTrue, List, [], ◌∷◌, ◌++◌, length, slice_get, Some, MatchOption, MatchResult};
+ghost use Rattle.std.specs.Prelude.{◌≡◌, ℕ, ◌<◌, ◌↔◌, IsTrue, List, [], ◌∷◌, ◌++◌, length, slice_get, Some, MatchOption, MatchResult, OnOk, OnErr};
 ghost use Rattle.v6_addr.specs.Address.{PrefixValue, IsPrefix};
 ghost use Rattle.prefix_table.specs.Table.{HasPrefix, InsertFails, IsTable, HoldsNone, IsBest};
 
 use crate::fault::TableFault;
 use crate::scan::with_entry;
-use std::alloc::Global;
+use std::alloc::{AllocFailed, Global};
 use std::marker::Model;
 use v6_addr::{Addr, Prefix};
 
@@ -73,6 +73,18 @@ impl<T> Table<T> {
         if is_taken(&self.entries, p) {
             return Err(TableFault::Taken { prefix: p });
         }
+        self.insert_new(p, t)?;
+        Ok(())
+    }
+
+    /// Adds an entry, whose prefix is known not to be there, behind the others. After want of memory
+    /// the table is as it was.
+    pub fn insert_new(&mut self, p: Prefix, t: T) -> Result<(), AllocFailed<(Prefix, T)>>
+        requires { ¬ HasPrefix self.old p }
+        ensures ok { OnOk result (self.new ≡ self.old ++ (p, t) ∷ []) }
+        ensures err { OnErr result (self.new ≡ self.old) }
+    {
+        let _ = p.len();
         self.entries.push((p, t))?;
         Ok(())
     }
@@ -80,8 +92,9 @@ impl<T> Table<T> {
     /// The longest entry that holds the address (RFC 1812 section 5.2.4.3, rule 2). `None` exactly
     /// where no entry holds it.
     pub fn best(&self, a: Addr) -> Option<(&Prefix, &T)>
-        ensures { MatchOption result (HoldsNone self.now a.value)
+        ensures best { MatchOption result (HoldsNone self.now a.value)
             (λ e. IsBest self.now a.value (e.0.now, e.1.now)) }
+        ensures table { IsTable self.now }
     {
         let mut best = None;
         for entry in &self.entries {

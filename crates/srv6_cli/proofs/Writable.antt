@@ -1,13 +1,15 @@
 -- What a stage sends can be written: its link is there, and its packet is no longer than a packet can be.
-use Rattle.std.proofs.Common.{◌≡◌, ℕ, zero, suc, ◌<◌, ◌≤◌, Bool, true, false, if◌then◌else◌, List, [], ◌∷◌, length, slice_get, Option, Some, None, sym, arith, subst}
+use Rattle.std.proofs.Common.{◌≡◌, ℕ, zero, suc, ◌<◌, ◌≤◌, Bool, true, false, if◌then◌else◌, List, [], ◌∷◌, length, drop, ◌^◌, length-append, slice_get, Option, Some, None, sym, arith, subst}
+use Rattle.std.proofs.lemmas.List.Elements.{All-drop}
 use Rattle.srv6_rules.specs.declared.sid.Behaviour.{Behaviour}
 use Rattle.srv6_rules.specs.declared.sid.Reason.{Reason}
 use Rattle.srv6_rules.specs.declared.sid.Reason.TheVariants as reasons
 use Rattle.srv6_rules.specs.declared.sid.SidEntry.{SidEntry}
 use Rattle.srv6_rules.specs.Behaviours.{is_built}
-use Rattle.srv6_rules.specs.Packet.{Packet, Content, V6, Unreadable, IsContent, bytes_of, most_len}
+use Rattle.srv6_rules.specs.Packet.{Packet, Content, V6, V4, Unreadable, IsContent, bytes_of, most_len}
+use Rattle.srv6_rules.specs.Packet4.{Packet4, IsSpellable4, spelling4, destination4, total_len}
 use Rattle.srv6_rules.specs.Endpoint.{Endpoint, Onward, Exposed, Delivered, Refused, at_sid, at_address}
-use Rattle.srv6_rules.proofs.PublicLaws.{length-spelling}
+use Rattle.srv6_rules.proofs.PublicLaws.{length-spelling, two_number-below}
 use Rattle.net_model.specs.declared.parts.Link.{Link}
 use Rattle.net_model.specs.Network.{Network}
 use Rattle.net_model.specs.Keeps.{Keeps, StartsAt}
@@ -16,13 +18,14 @@ use Rattle.walk_rules.specs.declared.place.Outcome.{Outcome}
 use Rattle.walk_rules.specs.declared.place.Outcome.TheVariants as outcomes
 use Rattle.walk_rules.specs.Way.{Way, Away, Over, Own, Into, way_of}
 use Rattle.walk_rules.specs.Treatment.{Gave, dropped, step_of, treated_at_address, treated_in, treated_at_sid, allow_of}
-use Rattle.walk_rules.specs.Relation.{Treats, Stage, IsPlace}
+use Rattle.walk_rules.specs.Relation.{Treats, Treats4, Stage, IsPlace}
 use Rattle.walk_rules.specs.Walk.{far_end, left_or_stages, end_by}
 use Rattle.walk_rules.proofs.PublicLaws.{stage-member, hops-start, stage-step, step-content}
 use Rattle.srv6_cli.specs.Sent.{IsWritable, IsEnd}
 
 abbrev IsPacket : Content → Type 0
 IsPacket (V6 p) = Unit {0}
+IsPacket (V4 p) = Unit {0}
 IsPacket (Unreadable bytes reason) = ⊥
 
 drop-sends : (reason : Reason) (told : Bool) (link : ℕ) → outcomes.Send link ≡ outcomes.Drop reason told → ⊥
@@ -62,13 +65,33 @@ way-packet net node (Over set false) p link after error h = subst IsPacket (sym 
 way-packet net node Own p link after error h = absurd (address-sends net node p (at_address p) link h.0)
 way-packet net node (Into n) p link after error h = absurd (sid-sends net node n (slice_get net.sids n) p link h.0)
 
+way4-packet : (net : Network) (node : ℕ) (w : Way) (p : Packet4) (link : ℕ) (after : Content) (error : Option Packet)
+    → Treats4 net node w p (outcomes.Send link) after error → IsPacket after
+way4-packet net node (Away reason) p link after error h = absurd (drop-sends reason _ link h.0)
+way4-packet net node (Over set true) p link after error h = subst IsPacket (sym h.2) tt
+way4-packet net node (Over set false) p link after error h = subst IsPacket (sym h.1) tt
+way4-packet net node Own p link after error h = absurd (drop-sends reasons.NoRoute _ link h.0)
+way4-packet net node (Into n) p link after error h = absurd (drop-sends reasons.NoRoute _ link h.0)
+
 stage-packet : (net : Network) (place : Place) (content : Content) (link : ℕ) (after : Content) (error : Option Packet)
     → Stage net place content (outcomes.Send link) after error → IsPacket after
 stage-packet net place (Unreadable bytes reason) link after error h = absurd (drop-sends reason _ link h.0)
 stage-packet net place (V6 p) link after error h = way-packet net place.node (way_of net place p.destination) p link after error h
 
+stage-packet net place (V4 p) link after error h =
+    way4-packet net place.node (way_of net place (destination4 p)) p link after error h
+
+-- an IPv4 packet is no longer than it states
+packet4-fits : (p : Packet4) → IsSpellable4 p → length (spelling4 p) ≤ most_len
+unfolding total_len
+packet4-fits p is =
+    let stated = is.total in
+    let below : total_len p.header < 2 ^ 16 = two_number-below (drop 2 p.header) (All-drop (λ b. b < 2 ^ 8) 2 p.header is.header) in
+    omega (arith, length-append p.header p.payload)
+
 packet-fits : (content : Content) → IsPacket content → IsContent content → length (bytes_of content) ≤ most_len
 packet-fits (V6 p) packet is = let small = is.payload_len in omega (arith, length-spelling p)
+packet-fits (V4 p) packet is = packet4-fits p is
 packet-fits (Unreadable bytes reason) packet is = absurd packet
 
 within : (links : List Link) (n : ℕ) (l : Link) → slice_get links n ≡ Some l → n < length links

@@ -49,7 +49,7 @@ HasHead (Capture head input) = HEAD_LEN ≤ length input
 -- why a frame's packet isn't read, if it isn't
 abbrev pub unread_in : Body → Option Unread
 unread_in (bodies.V6 packet) = None
-unread_in (bodies.V4 packet) = Some unreads.NotBuilt
+unread_in (bodies.V4 packet) = None
 unread_in bodies.ShortFrame = Some unreads.ShortFrame
 unread_in bodies.NotIp = Some unreads.NotIp
 

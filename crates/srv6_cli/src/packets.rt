@@ -39,8 +39,6 @@ pub enum Unread {
     ShortFrame,
     /// It holds no IP packet.
     NotIp,
-    /// It holds an IPv4 packet, which is a form that isn't built yet.
-    NotBuilt,
 }
 
 /// The cause's name. (own rule)
@@ -55,7 +53,6 @@ impl fmt::Display for Unread {
         f.write_str(match self {
             Unread::ShortFrame => "ShortFrame",
             Unread::NotIp => "NotIp",
-            Unread::NotBuilt => "NotBuilt",
         })
     }
 }
@@ -101,8 +98,7 @@ pub fn unread_of(body: &Body) -> Option<Unread>
     ensures { result ≡ unread_in body.now }
 {
     match body {
-        Body::V6(_) => None,
-        Body::V4(_) => Some(Unread::NotBuilt),
+        Body::V6(_) | Body::V4(_) => None,
         Body::ShortFrame => Some(Unread::ShortFrame),
         Body::NotIp => Some(Unread::NotIp),
     }

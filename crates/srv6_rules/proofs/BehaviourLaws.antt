@@ -1,5 +1,6 @@
--- What each behaviour does, and which SIDs are built.
+-- What each behaviour does, and which SIDs lists take.
 use Rattle.std.proofs.Common.{◌≡◌, ℕ, Bool, true, false, ◌==◌, ◌&&◌, ◌||◌, not, refl, ap, ◌⊎◌, ◌↔◌, inl, inr}
+use Rattle.std.specs.Prelude.{None}
 use Rattle.std.proofs.lemmas.Bool.{eqb-true, or_cases}
 use Rattle.srv6_rules.specs.declared.sid.Behaviour.{Behaviour}
 use Rattle.srv6_rules.specs.declared.sid.Behaviour.TheVariants.{End, EndX, EndT, Dx6, Dx4, Dt6, Dt4, Dt46, B6, B6Red}
@@ -7,7 +8,7 @@ use Rattle.srv6_rules.specs.declared.sid.Csid.{Csid}
 use Rattle.srv6_rules.specs.declared.sid.Csid.TheVariants as csids
 use Rattle.srv6_rules.specs.declared.sid.Family.TheVariants as families
 use Rattle.srv6_rules.specs.declared.sid.SidEntry.{SidEntry}
-use Rattle.srv6_rules.specs.Behaviours.{behaviour_goes_on, behaviour_exposes, behaviour_is_built, behaviour_is_listed, goes_on, exposes, is_plain, is_built, is_listed, ipv6_inside, ipv4_inside, family_inside, is_packet_inside}
+use Rattle.srv6_rules.specs.Behaviours.{behaviour_goes_on, behaviour_exposes, behaviour_policy, behaviour_is_listed, goes_on, exposes, is_plain, is_listed, ipv6_inside, ipv4_inside, family_inside, is_packet_inside}
 
 -- ---- what goes on
 
@@ -231,42 +232,18 @@ listed-usd s e = ((listed-is s).0 e).1.1.1.0
 pub listed-plain : (s : SidEntry) → is_listed s ≡ true → s.csid ≡ csids.Plain
 listed-plain s e = ((listed-is s).0 e).0
 
--- ---- what nodes run
+-- a SID that lists take binds no policy
+unbound-by : (b : Behaviour) → behaviour_is_listed b ≡ true → behaviour_policy b ≡ None
+unbound-by End e = refl
+unbound-by EndX e = refl
+unbound-by (EndT table) e = refl
+unbound-by Dx6 e = refl
+unbound-by Dx4 e = refl
+unbound-by (Dt6 table) e = refl
+unbound-by (Dt4 table) e = refl
+unbound-by (Dt46 table) e = refl
+unbound-by (B6 policy) e = cc
+unbound-by (B6Red policy) e = cc
 
-binds-forth : (b : Behaviour) → behaviour_is_built b ≡ false → ((policy : ℕ) × (b ≡ B6 policy)) ⊎ ((policy : ℕ) × (b ≡ B6Red policy))
-binds-forth End e = cc
-binds-forth EndX e = cc
-binds-forth (EndT table) e = cc
-binds-forth Dx6 e = cc
-binds-forth Dx4 e = cc
-binds-forth (Dt6 table) e = cc
-binds-forth (Dt4 table) e = cc
-binds-forth (Dt46 table) e = cc
-binds-forth (B6 policy) e = inl (policy, refl)
-binds-forth (B6Red policy) e = inr (policy, refl)
-
-binds-back : (b : Behaviour) → ((policy : ℕ) × (b ≡ B6 policy)) ⊎ ((policy : ℕ) × (b ≡ B6Red policy)) → behaviour_is_built b ≡ false
-binds-back b (inl bound) = ap behaviour_is_built bound.1
-binds-back b (inr bound) = ap behaviour_is_built bound.1
-
-pub built-is : (s : SidEntry) → (is_built s ≡ false)
-    ↔ (((policy : ℕ) × (s.behaviour ≡ B6 policy)) ⊎ ((policy : ℕ) × (s.behaviour ≡ B6Red policy)))
-built-is s = (binds-forth s.behaviour, binds-back s.behaviour)
-
-listed_behaviour-built : (b : Behaviour) → behaviour_is_listed b ≡ true → behaviour_is_built b ≡ true
-listed_behaviour-built End e = refl
-listed_behaviour-built EndX e = refl
-listed_behaviour-built (EndT table) e = refl
-listed_behaviour-built Dx6 e = refl
-listed_behaviour-built Dx4 e = refl
-listed_behaviour-built (Dt6 table) e = refl
-listed_behaviour-built (Dt4 table) e = refl
-listed_behaviour-built (Dt46 table) e = refl
-listed_behaviour-built (B6 policy) e = cc
-listed_behaviour-built (B6Red policy) e = cc
-
--- nodes run what lists take
-pub listed-built : (s : SidEntry) → is_listed s ≡ true → is_built s ≡ true
-listed-built s e =
-    listed_behaviour-built s.behaviour
-    (listed-back s.behaviour ((listed-is s).0 e).1.1.1.1)
+pub listed-unbound : (s : SidEntry) → is_listed s ≡ true → behaviour_policy s.behaviour ≡ None
+listed-unbound s e = unbound-by s.behaviour (listed-back s.behaviour ((listed-is s).0 e).1.1.1.1)

@@ -5,7 +5,6 @@ use Rattle.std.proofs.lemmas.List.{get_or-set_other, get_or-set_same, length-set
 use Rattle.std.proofs.lemmas.List.Elements.{All-drop, All-take}
 use Rattle.std.specs.Prelude.{None}
 use Rattle.srv6_rules.specs.declared.sid.Family.{Family}
-use Rattle.srv6_rules.specs.declared.sid.Family.TheVariants as families
 use Rattle.srv6_rules.specs.declared.sid.Reason.{Reason}
 use Rattle.srv6_rules.specs.declared.sid.Reason.TheVariants as reasons
 use Rattle.srv6_rules.specs.declared.sid.SidEntry.{SidEntry}
@@ -27,7 +26,7 @@ use Rattle.srv6_rules.proofs.Contents.{read_as-is_content, read_as-bytes_of, rea
 use Rattle.srv6_rules.proofs.AreaItems.{tlvs_fault-within}
 use Rattle.srv6_rules.proofs.Chains.{start-stands, chain_at-stand, lies-at}
 use Rattle.srv6_rules.proofs.Reached.{over-reached, reached-lies, reached-stands}
-use Rattle.srv6_rules.proofs.Treatments.{fault_cases, by-kind, header-by, at_header-known, sid-known, known-whole, known-packed, whole-last, whole-steps, whole-refuses, packed-steps, packed-last, packed-refuses, end-skipped, plain-whole, last-stays, last-out}
+use Rattle.srv6_rules.proofs.Treatments.{fault_cases, by-kind, header-by, at_header-known, sid-known, known-whole, known-packed, whole-last, whole-steps, whole-refuses, packed-steps, packed-last, packed-refuses, end-skipped, last-stays, last-out}
 use Rattle.srv6_rules.proofs.SteppedPackets.{step-at_end, at_end-none, step-place}
 
 -- ---- what is so of each outcome at a SID

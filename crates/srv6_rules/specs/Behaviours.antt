@@ -89,6 +89,19 @@ behaviour_policy (Dt46 table) = None
 behaviour_policy (B6 policy) = Some policy
 behaviour_policy (B6Red policy) = Some policy
 
+-- the behaviours that put it there in the reduced form (RFC 8986 section 4.14)
+abbrev pub behaviour_reduces : Behaviour → Bool
+behaviour_reduces End = false
+behaviour_reduces EndX = false
+behaviour_reduces (EndT table) = false
+behaviour_reduces Dx6 = false
+behaviour_reduces Dx4 = false
+behaviour_reduces (Dt6 table) = false
+behaviour_reduces (Dt4 table) = false
+behaviour_reduces (Dt46 table) = false
+behaviour_reduces (B6 policy) = false
+behaviour_reduces (B6Red policy) = true
+
 -- the behaviours that take flavours: End, End.X and End.T (RFC 8986 section 4.16)
 abbrev pub behaviour_takes_flavours : Behaviour → Bool
 behaviour_takes_flavours End = true
@@ -113,23 +126,6 @@ is_packet_inside kind = (kind == ipv6_inside) || (kind == ipv4_inside)
 -- 4.16.3)
 abbrev pub exposes : SidEntry → ℕ → Bool
 exposes s kind = behaviour_exposes s.behaviour kind || (s.usd && is_packet_inside kind)
-
--- ---- what nodes run so far: every SID but those that bind a policy
-
-abbrev pub behaviour_is_built : Behaviour → Bool
-behaviour_is_built End = true
-behaviour_is_built EndX = true
-behaviour_is_built (EndT table) = true
-behaviour_is_built Dx6 = true
-behaviour_is_built Dx4 = true
-behaviour_is_built (Dt6 table) = true
-behaviour_is_built (Dt4 table) = true
-behaviour_is_built (Dt46 table) = true
-behaviour_is_built (B6 policy) = false
-behaviour_is_built (B6Red policy) = false
-
-abbrev pub is_built : SidEntry → Bool
-is_built s = behaviour_is_built s.behaviour
 
 -- ---- what the compiler's lists take so far: plain End, End.X, End.T, End.DX6 and End.DT6 without flavours
 

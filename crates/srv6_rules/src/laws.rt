@@ -1,7 +1,7 @@
 //! Laws about the definitions, each the contract of a function that does nothing.
 
 ghost use Rattle.std.specs.Prelude.{◌≡◌, ◌≢◌, ◌⊎◌, ◌↔◌, ◌<◌, ◌≤◌, ◌+◌, ◌-◌, ◌*◌, ◌^◌, true, false, if◌then◌else◌, List, [], ℕ, ◌∷◌, ◌++◌, length, take, drop, slice_index, slice_set, All, flat_map, Contains, Option, Some, None};
-ghost use Rattle.srv6_rules.specs.Behaviours.{ipv6_inside, ipv4_inside, is_packet_inside, goes_on, exposes, is_built, is_listed};
+ghost use Rattle.srv6_rules.specs.Behaviours.{ipv6_inside, ipv4_inside, is_packet_inside, behaviour_policy, goes_on, exposes, is_listed};
 ghost use Rattle.srv6_rules.specs.CompressedSteps.{SuitsCompression, compression_of, is_replace, shifted};
 ghost use Rattle.srv6_rules.specs.Packet4.{Packet4, spelling4};
 ghost use Rattle.srv6_rules.specs.declared.numbers.TheConstants.{NEXT_HEADER_AT, PAD1, HMAC, OPTIONS_AT, SEGMENT_LIST_AT, SEGMENT_LEN};
@@ -531,21 +531,15 @@ pub fn behaviours_go_on_or_expose()
         → exposes s kind ≡ is_packet_inside kind }
 {}
 
-/// Nodes run so far every SID but those of End.B6.Encaps and its reduced form (RFC 8986 sections
-/// 4.13 and 4.14).
-pub fn binding_sids_are_not_built()
-    ensures { (s : SidEntry) → (is_built s ≡ false) ↔ (((policy : ℕ) × (s.behaviour ≡ B6 policy))
-        ⊎ ((policy : ℕ) × (s.behaviour ≡ B6Red policy))) }
-{}
-
 /// The compiler's lists take so far the SIDs of End, End.X, End.T, End.DX6 and End.DT6 that are not
-/// compressed and have no flavours; nodes run these (RFC 8986 sections 4.1 to 4.4 and 4.6).
+/// compressed and have no flavours; none of these binds a policy (RFC 8986 sections 4.1 to 4.4 and
+/// 4.6).
 pub fn plain_sids_are_listed()
     ensures listed { (s : SidEntry) → (is_listed s ≡ true) ↔ ((s.csid ≡ Plain)
         × ((s.psp ≡ false) × ((s.usp ≡ false) × ((s.usd ≡ false) × ((s.behaviour ≡ End)
         ⊎ ((s.behaviour ≡ EndX) ⊎ (((table : ℕ) × (s.behaviour ≡ EndT table))
         ⊎ ((s.behaviour ≡ Dx6) ⊎ ((table : ℕ) × (s.behaviour ≡ Dt6 table)))))))))) }
-    ensures built { (s : SidEntry) → is_listed s ≡ true → is_built s ≡ true }
+    ensures unbound { (s : SidEntry) → is_listed s ≡ true → behaviour_policy s.behaviour ≡ None }
 {}
 
 /// A packet that goes on from a SID, whichever its flavours, had a hop limit above 1 and has one

@@ -2,8 +2,8 @@
 
 ghost use Rattle.std.specs.Prelude.{◌≡◌, Some};
 ghost use Rattle.srv6_rules.specs.Reasons.{reason_name};
-ghost use Rattle.srv6_rules.specs.Behaviours.{behaviour_goes_on, behaviour_exposes, behaviour_takes_links, behaviour_table, behaviour_policy, behaviour_takes_flavours, behaviour_is_built, behaviour_is_listed};
-ghost use Rattle.srv6_rules.specs.Behaviours.{goes_on, exposes, is_built, is_listed};
+ghost use Rattle.srv6_rules.specs.Behaviours.{behaviour_goes_on, behaviour_exposes, behaviour_takes_links, behaviour_table, behaviour_policy, behaviour_reduces, behaviour_takes_flavours, behaviour_is_listed};
+ghost use Rattle.srv6_rules.specs.Behaviours.{goes_on, exposes, is_listed};
 ghost use Rattle.srv6_rules.specs.CompressedSteps.{compression_of};
 
 use crate::compression::Compression;
@@ -257,8 +257,8 @@ impl Behaviour {
         }
     }
 
-    /// The number of the policy whose header it puts in front, and whether it is the reduced form:
-    /// End.B6.Encaps and its reduced form (RFC 8986 sections 4.13 and 4.14).
+    /// The number of the policy whose header it puts in front: End.B6.Encaps's and that of its
+    /// reduced form (RFC 8986 sections 4.13 and 4.14).
     pub fn policy(&self) -> Option<u32>
         ensures { result ≡ behaviour_policy self.now }
     {
@@ -275,6 +275,25 @@ impl Behaviour {
         }
     }
 
+    /// It puts a policy's header in front in the reduced form: End.B6.Encaps.Red (RFC 8986 section
+    /// 4.14).
+    pub fn reduces(&self) -> bool
+        ensures { result ≡ behaviour_reduces self.now }
+    {
+        match self {
+            Behaviour::B6Red { .. } => true,
+            Behaviour::End
+            | Behaviour::EndX
+            | Behaviour::EndT { .. }
+            | Behaviour::Dx6
+            | Behaviour::Dx4
+            | Behaviour::Dt6 { .. }
+            | Behaviour::Dt4 { .. }
+            | Behaviour::Dt46 { .. }
+            | Behaviour::B6 { .. } => false,
+        }
+    }
+
     /// It takes flavours: End, End.X and End.T (RFC 8986 section 4.16).
     pub fn takes_flavours(&self) -> bool
         ensures { result ≡ behaviour_takes_flavours self.now }
@@ -288,23 +307,6 @@ impl Behaviour {
             | Behaviour::Dt46 { .. }
             | Behaviour::B6 { .. }
             | Behaviour::B6Red { .. } => false,
-        }
-    }
-
-    /// Nodes run it: so far every behaviour but End.B6.Encaps and its reduced form.
-    fn is_built(&self) -> bool
-        ensures { result ≡ behaviour_is_built self.now }
-    {
-        match self {
-            Behaviour::End
-            | Behaviour::EndX
-            | Behaviour::EndT { .. }
-            | Behaviour::Dx6
-            | Behaviour::Dx4
-            | Behaviour::Dt6 { .. }
-            | Behaviour::Dt4 { .. }
-            | Behaviour::Dt46 { .. } => true,
-            Behaviour::B6 { .. } | Behaviour::B6Red { .. } => false,
         }
     }
 
@@ -352,13 +354,6 @@ impl SidEntry {
             prefix_len: self.prefix.len(),
             block_len: self.block_len,
         }
-    }
-
-    /// Nodes run it: so far the SIDs of every behaviour but End.B6.Encaps and its reduced form.
-    pub fn is_built(&self) -> bool
-        ensures { result ≡ is_built self.now }
-    {
-        self.behaviour.is_built()
     }
 
     /// The compiler's lists take it: so far the plain SIDs of End, End.X, End.T, End.DX6 and

@@ -3,36 +3,38 @@ use Rattle.std.proofs.Common.{◌≡◌, ℕ, Bool, true, false, List, Option, S
 use Rattle.srv6_rules.specs.declared.sid.Family.{Family}
 use Rattle.srv6_rules.specs.declared.sid.Family.TheVariants as families
 use Rattle.srv6_rules.specs.declared.sid.SidEntry.{SidEntry}
-use Rattle.srv6_rules.specs.Packet.{Packet, Content, V6, Unreadable, IsSpellable, IsContent, read_as, bytes_of}
+use Rattle.srv6_rules.specs.CompressedSteps.{SuitsCompression}
+use Rattle.srv6_rules.specs.Packet.{Packet, Content, V6, V4, Unreadable, IsSpellable, IsContent, read_as, content4_by, bytes_of}
+use Rattle.srv6_rules.specs.Packet4.{Packet4, IsSpellable4, spelling4, destination4}
 use Rattle.srv6_rules.specs.Endpoint.{Endpoint, Onward, Exposed, Delivered, Refused, at_sid, at_address}
-use Rattle.srv6_rules.proofs.PublicLaws.{content_of-spelling_alone, at_sid-spellable, at_sid-content, at_sid-exposed_back, at_sid-delivered_spellable, at_address-delivered}
+use Rattle.srv6_rules.proofs.PublicLaws.{content_of-spelling_alone, read4-alone, lowered4-spellable, read_as-family6, read_as-family4, at_sid-spellable, at_sid-content, at_sid-exposed_back, at_sid-delivered_spellable, at_address-delivered}
 use Rattle.net_model.specs.Network.{Network}
+use Rattle.net_model.specs.Keeps.{Keeps}
+use Rattle.net_model.proofs.PublicLaws.{sid-suits}
 use Rattle.walk_rules.specs.declared.place.How.TheVariants.{Arrived}
 use Rattle.walk_rules.specs.declared.place.Place.{Place}
 use Rattle.walk_rules.specs.declared.place.Outcome.{Outcome}
 use Rattle.walk_rules.specs.declared.place.Outcome.TheVariants as outcomes
 use Rattle.walk_rules.specs.Way.{way_of}
-use Rattle.walk_rules.specs.Treatment.{Gave, lowered, treated_at_address, treated_at_sid, step_of, allow_of}
+use Rattle.walk_rules.specs.Treatment.{Gave, lowered, ttl_lowered, treated_at_address, treated_at_sid, step_of, allow_of}
 use Rattle.walk_rules.specs.Walk.{far_end, arrival, next_place}
 use Rattle.walk_rules.specs.Laws.{family_after}
-use Rattle.walk_rules.proofs.Outcomes.{treated-each}
+use Rattle.walk_rules.proofs.Outcomes.{treated-each, treated4-each}
 
 -- a content that can be spelled and, if something is so, reads again from its bytes as a packet of a family
 abbrev IsBack : Type 0 → Family → Content → Type 0
 IsBack If family content = IsContent content × (If → read_as family (bytes_of content) ≡ content)
 
--- the same where the packet stood at a place of IPv6
-abbrev GaveBack : Place → Gave → Type 0
-GaveBack place gave = IsBack (place.family ≡ families.V6) (family_after place gave.outcome) gave.after
+-- the same where the packet stood at a place of a family
+abbrev GaveBack : Place → Family → Gave → Type 0
+GaveBack place family gave = IsBack (place.family ≡ family) (family_after place gave.outcome) gave.after
 
--- an IPv6 packet reads again as one
+-- a packet reads again as one of its family
 packet-back : (family : Family) (p : Packet) → IsSpellable p → IsBack (family ≡ families.V6) family (V6 p)
 packet-back family p ok = (ok, λ e. rw e (content_of-spelling_alone p ok))
 
--- what reads as an IPv6 packet is one of IPv6
-reads-v6 : (family : Family) (p : Packet) (bytes : List ℕ) → read_as family bytes ≡ V6 p → family ≡ families.V6
-reads-v6 families.V6 p bytes e = refl
-reads-v6 families.V4 p bytes e = cc
+packet4-back : (family : Family) (p : Packet4) → IsSpellable4 p → IsBack (family ≡ families.V4) family (V4 p)
+packet4-back family p ok = (ok, λ e. rw e (ap (content4_by (spelling4 p)) (read4-alone p ok)))
 
 lowered-spellable : (lower : Bool) (p : Packet) → IsSpellable p → IsSpellable (lowered lower p)
 lowered-spellable false p ok = ok
@@ -48,48 +50,67 @@ lowered-spellable true p ok =
       payload = ok.payload;
     }
 
+ttl-spellable : (lower : Bool) (p : Packet4) → IsSpellable4 p → IsSpellable4 (ttl_lowered lower p)
+ttl-spellable false p ok = ok
+ttl-spellable true p ok = lowered4-spellable p ok
+
 same-back : (family : Family) (p q : Packet) → q ≡ p → IsSpellable p → IsBack (family ≡ families.V6) family (V6 q)
 same-back family p q same ok = packet-back family q (subst IsSpellable (sym same) ok)
 
 address-back : (net : Network) (place : Place) (p : Packet) (e : Endpoint) → IsSpellable p → at_address p ≡ e
-    → GaveBack place (treated_at_address net place.node p e)
+    → GaveBack place families.V6 (treated_at_address net place.node p e)
 address-back net place p (Onward q) ok same = packet-back place.family p ok
 address-back net place p (Exposed family bytes) ok same = packet-back place.family p ok
 address-back net place p (Delivered q) ok same = same-back place.family p q (at_address-delivered p q same) ok
 address-back net place p (Refused reason at) ok same = packet-back place.family p ok
 
-endpoint-back : (net : Network) (place : Place) (n : ℕ) (s : SidEntry) (allow : List ℕ) (p : Packet) (e : Endpoint) → IsSpellable p
-    → at_sid s allow p ≡ e → GaveBack place (treated_at_sid net place.node n s.behaviour p e)
-endpoint-back net place n s allow p (Onward q) ok same = packet-back place.family q (at_sid-spellable s allow p q ok same)
-endpoint-back net place n s allow p (Exposed family bytes) ok same =
+endpoint-back : (net : Network) (place : Place) (n : ℕ) (s : SidEntry) (allow : List ℕ) (p : Packet) (e : Endpoint)
+    → SuitsCompression s → IsSpellable p → at_sid s allow p ≡ e
+    → GaveBack place families.V6 (treated_at_sid net place.node n s.behaviour p e)
+endpoint-back net place n s allow p (Onward q) suits ok same = packet-back place.family q (at_sid-spellable s allow p q suits ok same)
+endpoint-back net place n s allow p (Exposed family bytes) suits ok same =
     (at_sid-content s allow p family bytes ok same, λ v6. at_sid-exposed_back s allow p family bytes ok same)
-endpoint-back net place n s allow p (Delivered q) ok same = packet-back place.family q (at_sid-delivered_spellable s allow p q ok same)
-endpoint-back net place n s allow p (Refused reason at) ok same = packet-back place.family p ok
+endpoint-back net place n s allow p (Delivered q) suits ok same =
+    packet-back place.family q (at_sid-delivered_spellable s allow p q ok same)
+endpoint-back net place n s allow p (Refused reason at) suits ok same = packet-back place.family p ok
 
-step-packet : (net : Network) (place : Place) (p : Packet) (choice : ℕ) → IsSpellable p
-    → GaveBack place (step_of net place (V6 p) choice)
-step-packet net place p choice ok =
+step-packet : (net : Network) (place : Place) (p : Packet) (choice : ℕ) → Keeps net → IsSpellable p
+    → GaveBack place families.V6 (step_of net place (V6 p) choice)
+step-packet net place p choice keeps ok =
     let allow : List ℕ = allow_of (slice_get net.nodes place.node) in
-    treated-each (GaveBack place) net place.node (way_of net place p.destination) p choice
+    treated-each (GaveBack place families.V6) net place.node (way_of net place p.destination) p choice
     (record {
       drop = λ reason at. packet-back place.family p ok;
       send = λ set lower over. packet-back place.family (lowered lower p) (lowered-spellable lower p ok);
       own = address-back net place p (at_address p) ok refl;
-      sid = λ n s into there built. endpoint-back net place n s allow p (at_sid s allow p) ok refl;
+      sid = λ n s into there built. endpoint-back net place n s allow p (at_sid s allow p) (sid-suits net n s keeps there) ok refl;
+    })
+
+step-packet4 : (net : Network) (place : Place) (p : Packet4) (choice : ℕ) → IsSpellable4 p
+    → GaveBack place families.V4 (step_of net place (V4 p) choice)
+step-packet4 net place p choice ok =
+    treated4-each (GaveBack place families.V4) net place.node (way_of net place (destination4 p)) p choice
+    (record {
+      drop = λ reason. packet4-back place.family p ok;
+      send = λ set lower over. packet4-back place.family (ttl_lowered lower p) (ttl-spellable lower p ok);
     })
 
 -- what stands there stays a content that bytes can spell
-pub step-content : (net : Network) (place : Place) (content : Content) (choice : ℕ) → IsContent content
+pub step-content : (net : Network) (place : Place) (content : Content) (choice : ℕ) → Keeps net → IsContent content
     → IsContent (step_of net place content choice).after
-step-content net place (Unreadable bytes reason) choice is = is
-step-content net place (V6 p) choice is = (step-packet net place p choice is).0
+step-content net place (Unreadable bytes reason) choice keeps is = is
+step-content net place (V6 p) choice keeps is = (step-packet net place p choice keeps is).0
+step-content net place (V4 p) choice keeps is = (step-packet4 net place p choice is).0
 
 -- what reads again from its bytes does so after the stage
-pub step-back : (net : Network) (place : Place) (content : Content) (choice : ℕ) → IsContent content
+pub step-back : (net : Network) (place : Place) (content : Content) (choice : ℕ) → Keeps net → IsContent content
     → read_as place.family (bytes_of content) ≡ content
     → let gave = step_of net place content choice in read_as (family_after place gave.outcome) (bytes_of gave.after) ≡ gave.after
-step-back net place (Unreadable bytes reason) choice is same = same
-step-back net place (V6 p) choice is same = (step-packet net place p choice is).1 (reads-v6 place.family p (bytes_of (V6 p)) same)
+step-back net place (Unreadable bytes reason) choice keeps is same = same
+step-back net place (V6 p) choice keeps is same =
+    (step-packet net place p choice keeps is).1 (read_as-family6 place.family (bytes_of (V6 p)) p same)
+step-back net place (V4 p) choice keeps is same =
+    (step-packet4 net place p choice is).1 (read_as-family4 place.family (bytes_of (V4 p)) p same)
 
 -- the next place has the family of what stands there
 next-family : (place next : Place) (family : Family) → place.family ≡ family → Some place ≡ Some next → next.family ≡ family

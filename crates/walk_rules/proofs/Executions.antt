@@ -3,8 +3,9 @@
 use Rattle.std.proofs.Common.{◌≡◌, ℕ, ◌+◌, ◌<◌, true, List, Some, slice_get, refl, sym, ◌∙◌, subst, ap}
 use Rattle.srv6_rules.specs.declared.sid.Family.{Family}
 use Rattle.srv6_rules.specs.declared.sid.SidEntry.{SidEntry}
-use Rattle.srv6_rules.specs.Behaviours.{is_built}
-use Rattle.srv6_rules.specs.Packet.{Packet, Content, V6, Unreadable}
+use Rattle.walk_rules.specs.Treatment.{is_built}
+use Rattle.srv6_rules.specs.Packet.{Packet, Content, V6, V4, Unreadable}
+use Rattle.srv6_rules.specs.Packet4.{destination4}
 use Rattle.srv6_rules.specs.Endpoint.{Endpoint, Onward, Exposed, Delivered, Refused, at_sid, at_address}
 use Rattle.srv6_rules.proofs.PublicLaws.{at_sid-lowers}
 use Rattle.net_model.specs.Network.{Network}
@@ -13,15 +14,15 @@ use Rattle.walk_rules.specs.declared.place.Place.{Place}
 use Rattle.walk_rules.specs.declared.place.Outcome.{Outcome}
 use Rattle.walk_rules.specs.declared.place.Outcome.TheVariants as outcomes
 use Rattle.walk_rules.specs.Way.{Into, way_of, StandsAt}
-use Rattle.walk_rules.specs.Treatment.{Gave, treated_at_address, treated_at_sid, step_of, allow_of}
+use Rattle.walk_rules.specs.Treatment.{Gave, onward_from, exposed_from, treated_at_address, treated_at_sid, step_of, allow_of}
 use Rattle.walk_rules.specs.Laws.{IsLoweredByOne, Executes}
-use Rattle.walk_rules.proofs.Outcomes.{at_entry, treated-each}
+use Rattle.walk_rules.proofs.Outcomes.{at_entry, treated-each, treated4-each}
 use Rattle.walk_rules.proofs.Routing.{way-into}
 
 -- what a stage gave is an execution where its outcome says so
 abbrev ExecutesBy : Network → Place → Content → Gave → Outcome → Type 0
-ExecutesBy net place content gave (outcomes.Again n how) = Executes net place content gave n how
-ExecutesBy net place content gave (outcomes.Hand n how family) = Executes net place content gave n how
+ExecutesBy net place content gave (outcomes.Again n how) = Executes onward_from net place content gave n how
+ExecutesBy net place content gave (outcomes.Hand n how family) = Executes exposed_from net place content gave n how
 ExecutesBy net place content gave (outcomes.Send link) = Unit {0}
 ExecutesBy net place content gave outcomes.Local = Unit {0}
 ExecutesBy net place content gave (outcomes.Drop reason error) = Unit {0}
@@ -85,18 +86,21 @@ step-executes net place (V6 p) choice =
           endpoint-executes net place p n s (at_sid s (allow_of (slice_get net.nodes place.node)) p) into there
           (stands-there net place.node n s there (way-into net place p.destination n into)) built refl;
     })
+step-executes net place (V4 p) choice =
+    treated4-each (IfExecutes net place (V4 p)) net place.node (way_of net place (destination4 p)) p choice
+    (record { drop = λ reason. tt; send = λ set lower e. tt })
 
 -- Again names the SID that was executed
 pub step-again : (net : Network) (place : Place) (content : Content) (choice n : ℕ) (how : How)
     → (step_of net place content choice).outcome ≡ outcomes.Again n how
-    → Executes net place content (step_of net place content choice) n how
+    → Executes onward_from net place content (step_of net place content choice) n how
 step-again net place content choice n how e =
     subst (λ (o : Outcome). ExecutesBy net place content (step_of net place content choice) o) e (step-executes net place content choice)
 
 -- Hand names the SID that was executed
 pub step-hand : (net : Network) (place : Place) (content : Content) (choice n : ℕ) (how : How) (family : Family)
     → (step_of net place content choice).outcome ≡ outcomes.Hand n how family
-    → Executes net place content (step_of net place content choice) n how
+    → Executes exposed_from net place content (step_of net place content choice) n how
 step-hand net place content choice n how family e =
     subst (λ (o : Outcome). ExecutesBy net place content (step_of net place content choice) o) e (step-executes net place content choice)
 
@@ -126,7 +130,7 @@ endpoint-less net node n s allow p (Delivered q) same = tt
 endpoint-less net node n s allow p (Refused reason at) same = tt
 
 executes-less : (net : Network) (place : Place) (content : Content) (gave : Gave) (n : ℕ) (how : How)
-    → Executes net place content gave n how → gave.outcome ≡ outcomes.Again n how → IsLoweredByOne content gave.after
+    → Executes onward_from net place content gave n how → gave.outcome ≡ outcomes.Again n how → IsLoweredByOne content gave.after
 executes-less net place content gave n how x e =
     let allow : List ℕ = allow_of (slice_get net.nodes place.node) in
     let less = endpoint-less net place.node n x.sid allow x.packet (at_sid x.sid allow x.packet) refl in

@@ -1,6 +1,7 @@
 pub mod Walks
 pub mod Lookups
 pub mod Routing
+pub mod Sending
 pub mod Stages
 pub mod Choices
 pub mod Outcomes

@@ -1,22 +1,23 @@
 -- What holds of each outcome of a stage: what its ends leave, the error that it tells of, and the link that it names.
-use Rattle.std.proofs.Common.{◌≡◌, ℕ, Bool, true, false, if◌then◌else◌, List, Option, Some, None, slice_get, Contains, refl, sym, ◌∙◌, ap, subst}
+use Rattle.std.proofs.Common.{◌≡◌, ℕ, ◌⊎◌, inl, inr, Bool, true, false, if◌then◌else◌, List, Option, Some, None, slice_get, Contains, refl, sym, ◌∙◌, ap, subst}
 use Rattle.srv6_rules.specs.declared.sid.Behaviour.{Behaviour}
-use Rattle.srv6_rules.specs.Behaviours.{is_built}
+use Rattle.walk_rules.specs.Treatment.{is_built}
 use Rattle.srv6_rules.specs.declared.sid.Reason.{Reason}
 use Rattle.srv6_rules.specs.declared.sid.Reason.TheVariants as reasons
 use Rattle.srv6_rules.specs.declared.sid.SidEntry.{SidEntry}
-use Rattle.srv6_rules.specs.Packet.{Packet, Content, V6, Unreadable}
+use Rattle.srv6_rules.specs.Packet.{Packet, Content, V6, V4, Unreadable}
+use Rattle.srv6_rules.specs.Packet4.{Packet4, ttl, destination4}
 use Rattle.srv6_rules.specs.Endpoint.{Endpoint, Onward, Exposed, Delivered, Refused, at_sid, at_address}
-use Rattle.srv6_rules.proofs.PublicLaws.{at_sid-delivered, at_address-delivered, built-usp}
+use Rattle.srv6_rules.proofs.PublicLaws.{at_sid-delivered, at_sid-delivered_fields, at_address-delivered}
 use Rattle.net_model.specs.Network.{Network}
 use Rattle.walk_rules.specs.declared.place.Place.{Place}
 use Rattle.walk_rules.specs.declared.place.Outcome.{Outcome}
 use Rattle.walk_rules.specs.declared.place.Outcome.TheVariants as outcomes
 use Rattle.walk_rules.specs.Way.{Way, Away, Over, Own, Into, way_of}
-use Rattle.walk_rules.specs.Treatment.{Gave, dropped, goes, member_of, lowered, treated_at_address, treated_at_sid, treated_in, treated, step_of, allow_of}
-use Rattle.walk_rules.specs.Relation.{Sends, Treats, Stage}
-use Rattle.walk_rules.specs.Laws.{set_of, hops_at, TellsOfError}
-use Rattle.walk_rules.proofs.Choices.{sent-either}
+use Rattle.walk_rules.specs.Treatment.{Gave, dropped, goes, member_of, lowered, ttl_lowered, treated_at_address, treated_at_sid, treated_in, treated, treated4, step_of, allow_of}
+use Rattle.walk_rules.specs.Relation.{Treats, Treats4, Stage}
+use Rattle.walk_rules.specs.Laws.{set_of, hops_at, IsDeliveredBehindUsp, TellsOfError}
+use Rattle.walk_rules.proofs.Sending.{sends-by, sends4-by, sent_by-either, sends_by-member, sends_by-each}
 
 -- what is given at SID n of a node, whose entry is this one
 abbrev pub at_entry : Network → ℕ → ℕ → SidEntry → Packet → Gave
@@ -45,57 +46,104 @@ treated-each P net node w p choice each = by_way w refl
 
     by_way : (v : Way) → w ≡ v → P (treated net node v p choice)
     by_way (Away reason) e = each.drop reason 0
-    by_way (Over set lower) e = sent-either P net node set lower p choice (each.drop reasons.HopLimit 0) (each.send set lower e)
+    by_way (Over set lower) e =
+        sent_by-either net node set p.hop_limit reasons.HopLimit (V6 p) (V6 (lowered lower p)) P lower choice
+        (each.drop reasons.HopLimit 0) (each.send set lower e)
     by_way Own e = each.own
     by_way (Into n) e = by_sid n (slice_get net.sids n) e refl
 
--- what stands after an outcome that ends a packet here is what stood before
-abbrev Leaves : Content → Outcome → Content → Type 0
-Leaves content (outcomes.Send link) after = Unit {0}
-Leaves content (outcomes.Again n how) after = Unit {0}
-Leaves content (outcomes.Hand n how family) after = Unit {0}
-Leaves content outcomes.Local after = after ≡ content
-Leaves content (outcomes.Drop reason error) after = after ≡ content
+-- so of each thing that a node may do with an IPv4 packet
+pub record EachWay4 (P : Gave → Type 0) (net : Network) (node : ℕ) (w : Way) (p : Packet4) (choice : ℕ) : Type 0 where
+  pub drop : (reason : Reason) → P (dropped net node reason 0 (V4 p))
+  pub send : (set : List ℕ) (lower : Bool) → w ≡ Over set lower
+      → P (goes (outcomes.Send (member_of set choice)) (V4 (ttl_lowered lower p)))
 
-abbrev GaveLeaves : Content → Gave → Type 0
-GaveLeaves content gave = Leaves content gave.outcome gave.after
+pub treated4-each : (P : Gave → Type 0) (net : Network) (node : ℕ) (w : Way) (p : Packet4) (choice : ℕ) → EachWay4 P net node w p choice
+    → P (treated4 net node w p choice)
+treated4-each P net node w p choice each = by_way w refl
+  where
+    by_way : (v : Way) → w ≡ v → P (treated4 net node v p choice)
+    by_way (Away reason) e = each.drop reason
+    by_way (Over set lower) e =
+        sent_by-either net node set (ttl p) reasons.Ttl (V4 p) (V4 (ttl_lowered lower p)) P lower choice (each.drop reasons.Ttl)
+        (each.send set lower e)
+    by_way Own e = each.drop reasons.NoRoute
+    by_way (Into n) e = each.drop reasons.NoRoute
 
-address-leaves : (net : Network) (node : ℕ) (p : Packet) (e : Endpoint) → at_address p ≡ e
-    → GaveLeaves (V6 p) (treated_at_address net node p e)
-address-leaves net node p (Onward q) same = refl
-address-leaves net node p (Exposed family bytes) same = refl
-address-leaves net node p (Delivered q) same = ap V6 (at_address-delivered p q same)
-address-leaves net node p (Refused reason at) same = refl
+-- what stands after an outcome that ends a packet here is what stood before, but for headers that a SID with USP took out
+abbrev Leaves : Network → Place → Content → Outcome → Content → Type 0
+Leaves net place content (outcomes.Send link) after = Unit {0}
+Leaves net place content (outcomes.Again n how) after = Unit {0}
+Leaves net place content (outcomes.Hand n how family) after = Unit {0}
+Leaves net place content outcomes.Local after = (after ≡ content) ⊎ IsDeliveredBehindUsp net place content after
+Leaves net place content (outcomes.Drop reason error) after = after ≡ content
 
-endpoint-leaves : (net : Network) (node n : ℕ) (s : SidEntry) (allow : List ℕ) (p : Packet) (e : Endpoint) → is_built s ≡ true
-    → at_sid s allow p ≡ e → GaveLeaves (V6 p) (treated_at_sid net node n s.behaviour p e)
-endpoint-leaves net node n s allow p (Onward q) built same = tt
-endpoint-leaves net node n s allow p (Exposed family bytes) built same = tt
-endpoint-leaves net node n s allow p (Delivered q) built same = ap V6 (at_sid-delivered s allow p q (built-usp s built) same)
-endpoint-leaves net node n s allow p (Refused reason at) built same = refl
+abbrev GaveLeaves : Network → Place → Content → Gave → Type 0
+GaveLeaves net place content gave = Leaves net place content gave.outcome gave.after
 
-step-leaves : (net : Network) (place : Place) (content : Content) (choice : ℕ) → GaveLeaves content (step_of net place content choice)
+address-leaves : (net : Network) (place : Place) (p : Packet) (e : Endpoint) → at_address p ≡ e
+    → GaveLeaves net place (V6 p) (treated_at_address net place.node p e)
+address-leaves net place p (Onward q) same = refl
+address-leaves net place p (Exposed family bytes) same = refl
+address-leaves net place p (Delivered q) same = inl (ap V6 (at_address-delivered p q same))
+address-leaves net place p (Refused reason at) same = refl
+
+-- a SID hands a packet over as it was, or has USP
+delivered-leaves : (net : Network) (place : Place) (n : ℕ) (s : SidEntry) (allow : List ℕ) (p q : Packet) (usp : Bool)
+    → way_of net place p.destination ≡ Into n → slice_get net.sids n ≡ Some s → s.usp ≡ usp → at_sid s allow p ≡ Delivered q
+    → (V6 q ≡ V6 p) ⊎ IsDeliveredBehindUsp net place (V6 p) (V6 q)
+delivered-leaves net place n s allow p q false into there usp same = inl (ap V6 (at_sid-delivered s allow p q usp same))
+delivered-leaves net place n s allow p q true into there usp same =
+    inr (record {
+      before = p;
+      left = q;
+      was = refl;
+      is = refl;
+      n = n;
+      sid = s;
+      way = into;
+      is_there = there;
+      usp = usp;
+      others = at_sid-delivered_fields s allow p q same;
+    })
+
+endpoint-leaves : (net : Network) (place : Place) (n : ℕ) (s : SidEntry) (allow : List ℕ) (p : Packet) (e : Endpoint)
+    → way_of net place p.destination ≡ Into n → slice_get net.sids n ≡ Some s → at_sid s allow p ≡ e
+    → GaveLeaves net place (V6 p) (treated_at_sid net place.node n s.behaviour p e)
+endpoint-leaves net place n s allow p (Onward q) into there same = tt
+endpoint-leaves net place n s allow p (Exposed family bytes) into there same = tt
+endpoint-leaves net place n s allow p (Delivered q) into there same = delivered-leaves net place n s allow p q s.usp into there refl same
+endpoint-leaves net place n s allow p (Refused reason at) into there same = refl
+
+step-leaves : (net : Network) (place : Place) (content : Content) (choice : ℕ)
+    → GaveLeaves net place content (step_of net place content choice)
 step-leaves net place (Unreadable bytes reason) choice = refl
 step-leaves net place (V6 p) choice =
-    treated-each (GaveLeaves (V6 p)) net place.node (way_of net place p.destination) p choice
+    treated-each (GaveLeaves net place (V6 p)) net place.node (way_of net place p.destination) p choice
     (record {
       drop = λ reason at. refl;
       send = λ set lower e. tt;
-      own = address-leaves net place.node p (at_address p) refl;
+      own = address-leaves net place p (at_address p) refl;
       sid = λ n s into there built.
           let allow = allow_of (slice_get net.nodes place.node) in
-          endpoint-leaves net place.node n s allow p (at_sid s allow p) built refl;
+          endpoint-leaves net place n s allow p (at_sid s allow p) into there refl;
     })
+step-leaves net place (V4 p) choice =
+    treated4-each (GaveLeaves net place (V4 p)) net place.node (way_of net place (destination4 p)) p choice
+    (record { drop = λ reason. refl; send = λ set lower e. tt })
 
 pub step-drop : (net : Network) (place : Place) (content : Content) (choice : ℕ) (reason : Reason) (error : Bool)
     → (step_of net place content choice).outcome ≡ outcomes.Drop reason error → (step_of net place content choice).after ≡ content
 step-drop net place content choice reason error e =
-    subst (λ (o : Outcome). Leaves content o (step_of net place content choice).after) e (step-leaves net place content choice)
+    subst (λ (o : Outcome). Leaves net place content o (step_of net place content choice).after) e
+    (step-leaves net place content choice)
 
 pub step-local : (net : Network) (place : Place) (content : Content) (choice : ℕ)
-    → (step_of net place content choice).outcome ≡ outcomes.Local → (step_of net place content choice).after ≡ content
+    → let gave = step_of net place content choice in gave.outcome ≡ outcomes.Local
+    → (gave.after ≡ content) ⊎ IsDeliveredBehindUsp net place content gave.after
 step-local net place content choice e =
-    subst (λ (o : Outcome). Leaves content o (step_of net place content choice).after) e (step-leaves net place content choice)
+    subst (λ (o : Outcome). Leaves net place content o (step_of net place content choice).after) e
+    (step-leaves net place content choice)
 
 -- a drop tells whether an error is sent, and with another outcome none is
 abbrev GaveTells : Gave → Type 0
@@ -123,6 +171,9 @@ step-tells net place (V6 p) choice =
       own = address-tells net place.node p (at_address p);
       sid = λ n s e there built. endpoint-tells net place.node n s.behaviour p (at_sid s (allow_of (slice_get net.nodes place.node)) p);
     })
+step-tells net place (V4 p) choice =
+    treated4-each GaveTells net place.node (way_of net place (destination4 p)) p choice
+    (record { drop = λ reason. refl; send = λ set lower e. refl })
 
 -- a choice sends on the member that it names, and else nothing is sent
 abbrev Names : List ℕ → ℕ → Gave → Type 0
@@ -157,21 +208,12 @@ sid-quiet net node n (Some s) p link = by_built (is_built s)
     by_built false e = drop-quiet reasons.NotBuilt _ link e
 
 module _ (net : Network) (node : ℕ) where
-  sends-member : (set : List ℕ) (lower : Bool) (p : Packet) (link : ℕ) (after : Content) (error : Option Packet)
-      → Sends net node set lower p (outcomes.Send link) after error → Contains set link
-  sends-member set true p link after error h = h.0
-  sends-member set false p link after error h = h.0
-
-  sends-each : (set : List ℕ) (lower : Bool) (p : Packet) (link other : ℕ) (after : Content) (error : Option Packet)
-      → Sends net node set lower p (outcomes.Send link) after error → Contains set other
-      → Sends net node set lower p (outcomes.Send other) after error
-  sends-each set true p link other after error h there = (there, h.1, h.2, h.3)
-  sends-each set false p link other after error h there = (there, h.1, h.2)
-
   treats-member : (w : Way) (p : Packet) (link : ℕ) (after : Content) (error : Option Packet)
       → Treats net node w p (outcomes.Send link) after error → Contains (set_of w) link
   treats-member (Away reason) p link after error h = absurd (drop-quiet reason _ link h.0)
-  treats-member (Over set lower) p link after error h = sends-member set lower p link after error h
+  treats-member (Over set lower) p link after error h =
+      sends_by-member net node set p.hop_limit reasons.HopLimit (V6 p) (V6 (lowered lower p)) lower link after error
+      ((sends-by net node set lower p (outcomes.Send link) after error).0 h)
   treats-member Own p link after error h = absurd (address-quiet net node p (at_address p) link h.0)
   treats-member (Into n) p link after error h = absurd (sid-quiet net node n (slice_get net.sids n) p link h.0)
 
@@ -179,9 +221,32 @@ module _ (net : Network) (node : ℕ) where
       → Treats net node w p (outcomes.Send link) after error → Contains (set_of w) other
       → Treats net node w p (outcomes.Send other) after error
   treats-each (Away reason) p link other after error h there = absurd (drop-quiet reason _ link h.0)
-  treats-each (Over set lower) p link other after error h there = sends-each set lower p link other after error h there
+  treats-each (Over set lower) p link other after error h there =
+      (sends-by net node set lower p (outcomes.Send other) after error).1
+      (sends_by-each net node set p.hop_limit reasons.HopLimit (V6 p) (V6 (lowered lower p)) lower link other after error
+      ((sends-by net node set lower p (outcomes.Send link) after error).0 h) there)
   treats-each Own p link other after error h there = absurd (address-quiet net node p (at_address p) link h.0)
   treats-each (Into n) p link other after error h there = absurd (sid-quiet net node n (slice_get net.sids n) p link h.0)
+
+  treats4-member : (w : Way) (p : Packet4) (link : ℕ) (after : Content) (error : Option Packet)
+      → Treats4 net node w p (outcomes.Send link) after error → Contains (set_of w) link
+  treats4-member (Away reason) p link after error h = absurd (drop-quiet reason _ link h.0)
+  treats4-member (Over set lower) p link after error h =
+      sends_by-member net node set (ttl p) reasons.Ttl (V4 p) (V4 (ttl_lowered lower p)) lower link after error
+      ((sends4-by net node set lower p (outcomes.Send link) after error).0 h)
+  treats4-member Own p link after error h = absurd (drop-quiet reasons.NoRoute _ link h.0)
+  treats4-member (Into n) p link after error h = absurd (drop-quiet reasons.NoRoute _ link h.0)
+
+  treats4-each : (w : Way) (p : Packet4) (link other : ℕ) (after : Content) (error : Option Packet)
+      → Treats4 net node w p (outcomes.Send link) after error → Contains (set_of w) other
+      → Treats4 net node w p (outcomes.Send other) after error
+  treats4-each (Away reason) p link other after error h there = absurd (drop-quiet reason _ link h.0)
+  treats4-each (Over set lower) p link other after error h there =
+      (sends4-by net node set lower p (outcomes.Send other) after error).1
+      (sends_by-each net node set (ttl p) reasons.Ttl (V4 p) (V4 (ttl_lowered lower p)) lower link other after error
+      ((sends4-by net node set lower p (outcomes.Send link) after error).0 h) there)
+  treats4-each Own p link other after error h there = absurd (drop-quiet reasons.NoRoute _ link h.0)
+  treats4-each (Into n) p link other after error h there = absurd (drop-quiet reasons.NoRoute _ link h.0)
 
 -- a stage sends on members of its set of equal next hops alone, and on each of them where it sends on one
 pub stage-member : (net : Network) (place : Place) (content : Content) (link : ℕ) (after : Content) (error : Option Packet)
@@ -189,6 +254,8 @@ pub stage-member : (net : Network) (place : Place) (content : Content) (link : �
 stage-member net place (Unreadable bytes reason) link after error h = absurd (drop-quiet reason _ link h.0)
 stage-member net place (V6 p) link after error h =
     treats-member net place.node (way_of net place p.destination) p link after error h
+stage-member net place (V4 p) link after error h =
+    treats4-member net place.node (way_of net place (destination4 p)) p link after error h
 
 pub stage-each : (net : Network) (place : Place) (content : Content) (link other : ℕ) (after : Content) (error : Option Packet)
     → Stage net place content (outcomes.Send link) after error → Contains (hops_at net place content) other
@@ -196,6 +263,8 @@ pub stage-each : (net : Network) (place : Place) (content : Content) (link other
 stage-each net place (Unreadable bytes reason) link other after error h there = absurd (drop-quiet reason _ link h.0)
 stage-each net place (V6 p) link other after error h there =
     treats-each net place.node (way_of net place p.destination) p link other after error h there
+stage-each net place (V4 p) link other after error h there =
+    treats4-each net place.node (way_of net place (destination4 p)) p link other after error h there
 
 -- a choice sends on the member that it names
 named : (set other : List ℕ) (choice link : ℕ) → set ≡ other → outcomes.Send link ≡ outcomes.Send (member_of set choice)
@@ -215,6 +284,13 @@ step-names net place (V6 p) choice =
       send = λ set lower over link e. named set (set_of w) choice link (ap set_of (sym over)) e;
       own = λ link e. absurd (address-quiet net node p (at_address p) link e);
       sid = λ n s into there built link e. absurd (endpoint-quiet net node n s.behaviour p _ link e);
+    })
+step-names net place (V4 p) choice =
+    let w = way_of net place (destination4 p) in
+    treated4-each (Names (set_of w) choice) net place.node w p choice
+    (record {
+      drop = λ reason link e. absurd (drop-quiet reason _ link e);
+      send = λ set lower over link e. named set (set_of w) choice link (ap set_of (sym over)) e;
     })
 
 pub step-member : (net : Network) (place : Place) (content : Content) (choice link : ℕ)

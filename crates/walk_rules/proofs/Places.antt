@@ -1,10 +1,10 @@
 -- Places go on to places, and what a stage gives at a place is one of its outcomes.
-use Rattle.std.proofs.Common.{◌≡◌, ℕ, ◌<◌, Bool, true, false, List, [], length, Option, Some, None, slice_get, Contains, refl, sym, subst, ap, ◌∙◌, arith}
+use Rattle.std.proofs.Common.{◌≡◌, ℕ, ◌<◌, Bool, true, false, List, [], length, Option, Some, None, slice_get, Contains, refl, sym, subst, arith}
 use Rattle.std.specs.Prelude.{MatchBool}
-use Rattle.srv6_rules.specs.declared.sid.Behaviour.{Behaviour}
-use Rattle.srv6_rules.specs.Behaviours.{behaviour_goes_on, behaviour_takes_links, behaviour_table}
+use Rattle.srv6_rules.specs.Behaviours.{behaviour_takes_links, behaviour_table}
 use Rattle.srv6_rules.specs.declared.sid.SidEntry.{SidEntry}
-use Rattle.srv6_rules.specs.Packet.{Content, V6, Unreadable}
+use Rattle.srv6_rules.specs.Packet.{Content, V6, V4, Unreadable}
+use Rattle.srv6_rules.specs.Packet4.{destination4}
 use Rattle.net_model.specs.declared.parts.Link.{Link}
 use Rattle.net_model.specs.Network.{Network}
 use Rattle.net_model.specs.Keeps.{Keeps, StartsAt, IsLinkSet, EndsElsewhere}
@@ -14,13 +14,13 @@ use Rattle.walk_rules.specs.declared.place.Place.{Place}
 use Rattle.walk_rules.specs.declared.place.Outcome.{Outcome}
 use Rattle.walk_rules.specs.declared.place.Outcome.TheVariants as outcomes
 use Rattle.walk_rules.specs.Way.{Way, Away, Over, Own, Into, way_of, IsWayFrom}
-use Rattle.walk_rules.specs.Treatment.{Gave, way_on, on_from, step_of}
+use Rattle.walk_rules.specs.Treatment.{Gave, way_on, onward_from, exposed_from, step_of}
 use Rattle.walk_rules.specs.Walk.{far_end, arrival, next_place}
 use Rattle.walk_rules.specs.Laws.{set_of, hops_at, Executes}
 use Rattle.walk_rules.specs.Relation.{Stage, IsThrough, IsHow, IsPlace}
 use Rattle.walk_rules.proofs.Executions.{step-again, step-hand}
 use Rattle.walk_rules.proofs.Routing.{way-from}
-use Rattle.walk_rules.proofs.Stages.{HasLinks, treated-treats}
+use Rattle.walk_rules.proofs.Stages.{HasLinks, treated-treats, treated4-treats}
 
 has-links : (net : Network) (node : ℕ) (w : Way) → IsWayFrom net node w → HasLinks w
 has-links net node (Away reason) from = tt
@@ -40,6 +40,8 @@ pub hops-start : (net : Network) (place : Place) (content : Content) (n : ℕ) �
 hops-start net place (Unreadable bytes reason) n keeps is there = absurd (omega (arith, there.1))
 hops-start net place (V6 p) n keeps is there =
     set-starts net place.node (way_of net place p.destination) (way-from net place p.destination keeps is.1) n there
+hops-start net place (V4 p) n keeps is there =
+    set-starts net place.node (way_of net place (destination4 p)) (way-from net place (destination4 p) keeps is.1) n there
 
 -- at a place the function gives an outcome of the relation
 pub stage-step : (net : Network) (place : Place) (content : Content) (choice : ℕ) → Keeps net → IsPlace net place
@@ -48,6 +50,9 @@ stage-step net place (Unreadable bytes reason) choice keeps is = (refl, refl, re
 stage-step net place (V6 p) choice keeps is =
     let w = way_of net place p.destination in
     treated-treats net place.node w p choice (has-links net place.node w (way-from net place p.destination keeps is.1))
+stage-step net place (V4 p) choice keeps is =
+    let w = way_of net place (destination4 p) in
+    treated4-treats net place.node w p choice (has-links net place.node w (way-from net place (destination4 p) keeps is.1))
 
 -- a SID that takes links has some
 links-some : (links : List Link) (node : ℕ) (takes : Bool) (set : List ℕ) → takes ≡ true
@@ -61,25 +66,30 @@ way_on-how net node n true goes_on table through = through refl
 way_on-how net node n false true table through = tt
 way_on-how net node n false false table through = tt
 
--- how a packet goes on from a SID that is there and stands at the node
-on_from-how : (net : Network) (node n : ℕ) (s : SidEntry) (b : Behaviour) → Keeps net → slice_get net.sids n ≡ Some s
-    → s.node ≡ node → s.behaviour ≡ b → IsHow net node (on_from n b)
-on_from-how net node n s b keeps there stands is =
-    way_on-how net node n (behaviour_takes_links b) (behaviour_goes_on b) (behaviour_table b) (λ takes.
+-- how a packet, or what was exposed, goes on from a SID that is there and stands at the node
+way_from-how : (net : Network) (node n : ℕ) (s : SidEntry) (goes_on : Bool) → Keeps net → slice_get net.sids n ≡ Some s
+    → s.node ≡ node → IsHow net node (way_on n (behaviour_takes_links s.behaviour) goes_on (behaviour_table s.behaviour))
+way_from-how net node n s goes_on keeps there stands =
+    way_on-how net node n (behaviour_takes_links s.behaviour) goes_on (behaviour_table s.behaviour) (λ takes.
     rw there (
       stands,
-      links-some net.links s.node (behaviour_takes_links s.behaviour) s.links
-          (ap behaviour_takes_links is ∙ takes) (keeps.sid n s there).behaviour.links,
+      links-some net.links s.node (behaviour_takes_links s.behaviour) s.links takes (keeps.sid n s there).behaviour.links,
     ))
 
-pub sid-how : (net : Network) (n : ℕ) (s : SidEntry) → Keeps net → slice_get net.sids n ≡ Some s → IsHow net s.node (on_from n s.behaviour)
-sid-how net n s keeps there = on_from-how net s.node n s s.behaviour keeps there refl refl
+pub sid-how : (net : Network) (n : ℕ) (s : SidEntry) → Keeps net → slice_get net.sids n ≡ Some s
+    → IsHow net s.node (onward_from n s.behaviour)
+sid-how net n s keeps there = way_from-how net s.node n s true keeps there refl
 
-executes-how : (net : Network) (place : Place) (content : Content) (gave : Gave) (n : ℕ) (how : How) → Keeps net
-    → Executes net place content gave n how → IsHow net place.node how
-executes-how net place content gave n how keeps x =
+pub exposed-how : (net : Network) (n : ℕ) (s : SidEntry) → Keeps net → slice_get net.sids n ≡ Some s
+    → IsHow net s.node (exposed_from n s.behaviour)
+exposed-how net n s keeps there = way_from-how net s.node n s false keeps there refl
+
+executes-how : (net : Network) (place : Place) (content : Content) (gave : Gave) (n : ℕ) (how : How) (goes_on : Bool) → Keeps net
+    → Executes (λ m b. way_on m (behaviour_takes_links b) goes_on (behaviour_table b)) net place content gave n how
+    → IsHow net place.node how
+executes-how net place content gave n how goes_on keeps x =
     subst (λ (h : How). IsHow net place.node h) (sym x.goes_on)
-    (on_from-how net place.node n x.sid x.sid.behaviour keeps x.is_there x.stands refl)
+    (way_from-how net place.node n x.sid goes_on keeps x.is_there x.stands)
 
 same_place : (net : Network) (place next : Place) → Some place ≡ Some next → IsPlace net place → IsPlace net next
 same_place net place next e is =
@@ -108,12 +118,15 @@ outcome-place : (net : Network) (place : Place) (content : Content) (choice : �
     → IsPlace net place → (step_of net place content choice).outcome ≡ outcome → next_place net place outcome ≡ Some next
     → IsPlace net next
 outcome-place net place content choice next (outcomes.Again n how) keeps is o e =
-    same_place net (record { node = place.node; how = how; family = place.family }) next e
-    (is.0, executes-how net place content (step_of net place content choice) n how keeps (step-again net place content choice n how o))
+    same_place net (record { node = place.node; how = how; family = place.family }) next e (
+      is.0,
+      executes-how net place content (step_of net place content choice) n how true keeps
+          (step-again net place content choice n how o),
+    )
 outcome-place net place content choice next (outcomes.Hand n how family) keeps is o e =
     let gave = step_of net place content choice in
     same_place net (record { node = place.node; how = how; family = family }) next e
-    (is.0, executes-how net place content gave n how keeps (step-hand net place content choice n how family o))
+    (is.0, executes-how net place content gave n how false keeps (step-hand net place content choice n how family o))
 outcome-place net place content choice next (outcomes.Send link) keeps is o e =
     link-place net place next link (slice_get net.links link) keeps refl e
 outcome-place net place content choice next outcomes.Local keeps is o e = cc

@@ -2,7 +2,6 @@
 use Rattle.std.specs.Prelude.{◌≡◌, ◌≢◌, ℕ, true, ◌+◌, ◌<◌, List, [], ◌∷◌, slice_get, Option, Some, None, is_some, Contains}
 use Rattle.srv6_rules.specs.declared.sid.Family.{Family}
 use Rattle.srv6_rules.specs.declared.sid.SidEntry.{SidEntry}
-use Rattle.srv6_rules.specs.Behaviours.{is_built}
 use Rattle.srv6_rules.specs.Packet.{Packet, Content, V6, V4, Unreadable}
 use Rattle.srv6_rules.specs.Packet4.{destination4}
 use Rattle.srv6_rules.specs.declared.sid.Behaviour.{Behaviour}
@@ -13,7 +12,7 @@ use Rattle.walk_rules.specs.declared.place.Place.{Place}
 use Rattle.walk_rules.specs.declared.place.Outcome.{Outcome}
 use Rattle.walk_rules.specs.declared.place.Outcome.TheVariants as outcomes
 use Rattle.walk_rules.specs.Way.{Way, Away, Over, Own, Into, way_of}
-use Rattle.walk_rules.specs.Treatment.{Gave, allow_of, treated_at_sid}
+use Rattle.walk_rules.specs.Treatment.{Gave, allow_of, is_built, treated_at_sid}
 use Rattle.walk_rules.specs.Relation.{Stage, IsPlace}
 use Rattle.walk_rules.specs.Walk.{Step, decisions}
 

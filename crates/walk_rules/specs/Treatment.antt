@@ -1,7 +1,7 @@
 -- One node's treatment of one packet, as a function of the place, the packet and the choice among equal next hops.
-use Rattle.std.specs.Prelude.{ℕ, ◌-◌, ◌%◌, Bool, true, false, not, ◌&&◌, nat_le, if◌then◌else◌, List, [], length, slice_index, slice_get, Option, Some, None, is_some}
+use Rattle.std.specs.Prelude.{ℕ, ◌-◌, ◌%◌, Bool, true, false, not, ◌&&◌, nat_le, if◌then◌else◌, List, [], length, slice_index, slice_get, Option, Some, None, is_some, is_none}
 use Rattle.srv6_rules.specs.declared.sid.Behaviour.{Behaviour}
-use Rattle.srv6_rules.specs.Behaviours.{behaviour_takes_links, behaviour_table, is_built}
+use Rattle.srv6_rules.specs.Behaviours.{behaviour_takes_links, behaviour_table, behaviour_policy}
 use Rattle.srv6_rules.specs.declared.sid.Reason.{Reason}
 use Rattle.srv6_rules.specs.declared.sid.Reason.TheVariants as reasons
 use Rattle.srv6_rules.specs.declared.sid.SidEntry.{SidEntry}
@@ -119,6 +119,10 @@ treated_at_sid net node n b p (Onward q) = goes (outcomes.Again n (onward_from n
 treated_at_sid net node n b p (Exposed family bytes) = goes (outcomes.Hand n (exposed_from n b) family) (read_as family bytes)
 treated_at_sid net node n b p (Delivered q) = goes outcomes.Local (V6 q)
 treated_at_sid net node n b p (Refused reason at) = dropped net node reason at (V6 p)
+
+-- nodes run so far every SID but those that bind a policy
+abbrev pub is_built : SidEntry → Bool
+is_built s = is_none (behaviour_policy s.behaviour)
 
 -- a SID that nodes do not run yet drops the packet before its headers are looked at (own rule)
 abbrev pub treated_by_entry : Network → ℕ → ℕ → SidEntry → Packet → Gave

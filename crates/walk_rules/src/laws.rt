@@ -6,7 +6,7 @@ ghost use Rattle.net_model.specs.Keeps.{Keeps, StartsAt};
 ghost use Rattle.net_model.specs.Network.{Network};
 ghost use Rattle.srv6_rules.specs.Packet.{Content, IsContent, Packet, V4, V6, bytes_of, read_as};
 ghost use Rattle.srv6_rules.specs.Packet4.{Packet4, ttl};
-ghost use Rattle.srv6_rules.specs.Behaviours.{is_built};
+ghost use Rattle.walk_rules.specs.Treatment.{is_built};
 ghost use Rattle.srv6_rules.specs.declared.sid.Behaviour.TheVariants.{B6, B6Red, Dt4, Dt46, Dt6, Dx4, Dx6, End, EndT, EndX};
 ghost use Rattle.srv6_rules.specs.declared.sid.Family.{Family};
 ghost use Rattle.srv6_rules.specs.declared.sid.Reason.{Reason};
@@ -34,9 +34,9 @@ pub fn a_way_leads_from_its_place()
         IsWayFrom net place.node (way_of net place destination) }
 {}
 
-/// Where the hop limit, or the TTL of an IPv4 packet, is lowered, a packet for which it is at most 1
-/// is dropped, and each other is sent on the member that the choice names (RFC 8200 section 3, RFC
-/// 791 section 3.2).
+/// Where the hop limit, or the TTL of an IPv4 packet, is lowered, a packet for which it is at most
+/// 1 is dropped, and each other is sent on the member that the choice names (RFC 8200 section 3,
+/// RFC 791 section 3.2).
 pub fn a_low_hop_limit_is_not_sent()
     ensures low { (net : Network) (node : ℕ) (set : List ℕ) (p : Packet) (choice : ℕ) →
         p.hop_limit ≤ 1 →
@@ -138,9 +138,9 @@ pub fn an_execution_lowers_the_hop_limit()
         gave.outcome ≡ Outcome.Again n how → IsLoweredByOne content gave.after }
 {}
 
-/// After a drop what stands there is what stood there before, and so where an upper layer took it, but
-/// that a SID with USP, into which the way led, may have taken out segment routing headers: then the
-/// next header and the payload alone are others (RFC 8986 section 4.16.2).
+/// After a drop what stands there is what stood there before, and so where an upper layer took it,
+/// but that a SID with USP, into which the way led, may have taken out segment routing headers:
+/// then the next header and the payload alone are others (RFC 8986 section 4.16.2).
 pub fn an_end_leaves_what_stood_there()
     ensures dropped { (net : Network) (place : Place) (content : Content) (choice : ℕ) →
         (reason : Reason) (error : Bool) →
@@ -217,14 +217,14 @@ pub fn ways_on_are_by_behaviour()
     ensures dt46 { (n table : ℕ) → exposed_from n (Dt46 table) ≡ Arrived table }
 {}
 
-/// What bytes can spell stays so in a stage, and what reads as itself from its bytes, as a
-/// packet of the place's family, does so after it; the next place has the family of what stands
-/// there then.
+/// In a network that keeps the rules, where SIDs suit their compression, what bytes can spell stays
+/// so in a stage, and what reads as itself from its bytes, as a packet of the place's family, does
+/// so after it. The next place has the family of what stands there then.
 pub fn a_stage_keeps_a_content()
     ensures content { (net : Network) (place : Place) (content : Content) (choice : ℕ) →
-        IsContent content → IsContent (step_of net place content choice).after }
+        Keeps net → IsContent content → IsContent (step_of net place content choice).after }
     ensures back { (net : Network) (place : Place) (content : Content) (choice : ℕ) →
-        IsContent content → read_as place.family (bytes_of content) ≡ content →
+        Keeps net → IsContent content → read_as place.family (bytes_of content) ≡ content →
         let gave = step_of net place content choice in
         read_as (family_after place gave.outcome) (bytes_of gave.after) ≡ gave.after }
     ensures family { (net : Network) (place next : Place) (outcome : Outcome) →

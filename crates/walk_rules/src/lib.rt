@@ -20,8 +20,8 @@ pub use laws::{
     a_walk_unfolds, a_way_leads_from_its_place, an_end_leaves_what_stood_there,
     an_ended_walk_stays, an_execution_lowers_the_hop_limit, an_execution_names_its_sid,
     an_outcome_has_a_choice, each_next_hop_is_an_outcome, only_a_send_depends_on_the_choice,
-    outcomes_differ_in_the_link, ways_on_are_by_behaviour,
+    outcomes_differ_in_the_link, sids_that_are_not_built_drop_the_packet, ways_on_are_by_behaviour,
 };
-pub use next::{arrival, ended_by, far_end, next_place, on_from};
+pub use next::{arrival, ended_by, exposed_from, far_end, next_place, onward_from};
 pub use place::{Ended, How, Outcome, Place};
 pub use way::{Way, way_in_table, way_of};

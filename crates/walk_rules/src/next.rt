@@ -1,34 +1,38 @@
 //! How a packet goes on from a SID, where it stands after a stage, and how a walk ended.
 
 ghost use Rattle.std.specs.Prelude.{◌≡◌, slice_get};
-ghost use Rattle.walk_rules.specs.Treatment.{on_from};
+ghost use Rattle.walk_rules.specs.Treatment.{exposed_from, onward_from};
 ghost use Rattle.walk_rules.specs.Walk.{end_by, far_end, next_place};
 
 use crate::place::{Ended, How, Outcome, Place};
 use net_model::Net;
 use srv6_rules::{Behaviour, Family};
 
-/// How a packet goes on from a SID with a number: after End and a binding SID by a look-up in table
-/// 0, after End.T in its table, after End.X over the SID's links; what was exposed goes over the
-/// links of an End.DX6 or End.DX4, and by a look-up in the table of an End.DT6, End.DT4 or End.DT46
-/// (RFC 8986 sections 4.1 to 4.8, 4.13 and 4.14). Over the links of a SID the hop limit of what was
-/// exposed is lowered, and not of a packet that goes on itself.
-pub fn on_from(sid: u32, behaviour: &Behaviour) -> How
-    ensures { result ≡ on_from sid behaviour.now }
+/// How a packet that goes on itself does so from a SID with a number: from End.X over the SID's
+/// links without another lowering of the hop limit, from End.T submitted to its table, and from End
+/// and a binding SID to table 0 (RFC 8986 sections 4.1 to 4.3, 4.13 and 4.14).
+pub fn onward_from(sid: u32, behaviour: &Behaviour) -> How
+    ensures { result ≡ onward_from sid behaviour.now }
 {
-    let goes_on = behaviour.goes_on();
     if behaviour.takes_links() {
-        return How::Through {
-            sid,
-            lower: !goes_on,
-        };
+        return How::Through { sid, lower: false };
     }
     let table = behaviour.table().unwrap_or(0);
-    if goes_on {
-        How::Submitted { table }
-    } else {
-        How::Arrived { table }
+    How::Submitted { table }
+}
+
+/// How what a SID with a number exposed goes on: from End.DX6, End.DX4 and End.X with USD over the
+/// SID's links with a lowering of the hop limit or TTL; else it arrives, from End.DT6, End.DT4,
+/// End.DT46 and End.T with USD in the SID's table, and from End with USD in table 0 (RFC 8986
+/// sections 4.4 to 4.8 and 4.16.3).
+pub fn exposed_from(sid: u32, behaviour: &Behaviour) -> How
+    ensures { result ≡ exposed_from sid behaviour.now }
+{
+    if behaviour.takes_links() {
+        return How::Through { sid, lower: true };
     }
+    let table = behaviour.table().unwrap_or(0);
+    How::Arrived { table }
 }
 
 /// The number of the node where a link ends: `None` where it leaves the network, and for a number

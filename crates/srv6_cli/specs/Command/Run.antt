@@ -5,7 +5,8 @@ use Rattle.pcap_io.specs.declared.frame.Body.{Body}
 use Rattle.pcap_io.specs.declared.frame.Body.TheVariants as bodies
 use Rattle.pcap_io.specs.declared.frame.Frame.{Frame}
 use Rattle.pcap_io.specs.Capture.{written_head_bytes}
-use Rattle.srv6_rules.specs.declared.sid.Family.TheVariants.{V6}
+use Rattle.srv6_rules.specs.declared.sid.Family.{Family}
+use Rattle.srv6_rules.specs.declared.sid.Family.TheVariants.{V6, V4}
 use Rattle.srv6_rules.specs.Packet.{Content, entered}
 use Rattle.net_model.specs.Network.{Network}
 use Rattle.walk_rules.specs.declared.place.How.TheVariants.{Arrived}
@@ -28,10 +29,10 @@ use Rattle.srv6_cli.specs.Words.{has_two_words}
 abbrev pub is_run : List ℕ → List ℕ → List ℕ → Bool
 is_run verb file node = has_two_words (codes "run") verb file node
 
--- the walk of what stands at a node, as it enters there, with a list of choices
-abbrev pub walk_from : Network → ℕ → List ℕ → Content → List Step
-walk_from net node choices content =
-    walk_of STAGES net (Some (record { node = node; how = Arrived 0; family = V6 })) content (choice_at choices) 0
+-- the walk of what stands at a node as a packet of a family, as it enters there, with a list of choices
+abbrev pub walk_from : Network → ℕ → List ℕ → Family → Content → List Step
+walk_from net node choices family content =
+    walk_of STAGES net (Some (record { node = node; how = Arrived 0; family = family })) content (choice_at choices) 0
 
 -- the list of choices where the words give none
 abbrev pub no_choices : List ℕ
@@ -53,10 +54,15 @@ unread_lines frames = flat_map unread_of_frame frames
 abbrev pub packet_pieces : Network → ℕ → List Step → List Piece
 packet_pieces net number steps = ForOut (frames_of number steps) ∷ ForErr (packet_line net number (end_of net steps)) ∷ []
 
+-- the packet of a family that bytes are
+abbrev pub walked_as : Network → ℕ → List ℕ → ℕ → Family → List ℕ → List Piece
+walked_as net node choices number family packet =
+    packet_pieces net number (walk_from net node choices family (entered family packet))
+
 -- the packet of a frame, if it is read
 abbrev pub walked_by : Network → ℕ → List ℕ → ℕ → Body → List Piece
-walked_by net node choices number (bodies.V6 packet) = packet_pieces net number (walk_from net node choices (entered packet))
-walked_by net node choices number (bodies.V4 packet) = []
+walked_by net node choices number (bodies.V6 packet) = walked_as net node choices number V6 packet
+walked_by net node choices number (bodies.V4 packet) = walked_as net node choices number V4 packet
 walked_by net node choices number bodies.ShortFrame = []
 walked_by net node choices number bodies.NotIp = []
 

@@ -6,7 +6,8 @@ use Rattle.std.specs.Fmt.{decimal}
 use Rattle.pcap_io.specs.declared.frame.Body.{Body}
 use Rattle.pcap_io.specs.declared.frame.Body.TheVariants as bodies
 use Rattle.pcap_io.specs.declared.frame.Frame.{Frame}
-use Rattle.srv6_rules.specs.Packet.{content_of}
+use Rattle.srv6_rules.specs.declared.sid.Family.TheVariants.{V6, V4}
+use Rattle.srv6_rules.specs.Packet.{read_as}
 use Rattle.header_lines.specs.Lines.{packet_lines}
 use Rattle.srv6_cli.specs.declared.packets.Packets.{Packets}
 use Rattle.srv6_cli.specs.declared.packets.Unread.{Unread}
@@ -27,10 +28,10 @@ unfoldable pub not_read_lines : ℕ → Unread → List ℕ
 not_read_lines number cause =
     codes "packet " ++ (decimal number ++ 10 ∷ (codes "not read " ++ (unread_name cause ++ 10 ∷ [])))
 
--- the lines of a frame of a number
+-- the lines of a frame of a number, by the family of its packet
 abbrev pub lines_by : ℕ → Body → List ℕ
-lines_by number (bodies.V6 packet) = packet_lines number (content_of packet)
-lines_by number (bodies.V4 packet) = not_read_lines number unreads.NotBuilt
+lines_by number (bodies.V6 packet) = packet_lines number (read_as V6 packet)
+lines_by number (bodies.V4 packet) = packet_lines number (read_as V4 packet)
 lines_by number bodies.ShortFrame = not_read_lines number unreads.ShortFrame
 lines_by number bodies.NotIp = not_read_lines number unreads.NotIp
 

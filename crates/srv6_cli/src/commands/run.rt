@@ -82,6 +82,7 @@ fn walk_packet<O: Sink, E: Sink>(
     node: u32,
     choices: &[u32],
     number: u32,
+    family: Family,
     content: Content,
     buffers: &mut Buffers,
     out: &mut O,
@@ -90,13 +91,13 @@ fn walk_packet<O: Sink, E: Sink>(
     requires node { node < length net.now.nodes }
     requires choices { 0 < length choices.now }
     ensures { WroteAll (ending_of_step result)
-        (packet_pieces net.now number (walk_from net.now node choices.now content))
+        (packet_pieces net.now number (walk_from net.now node choices.now family content))
         (sinks_of (O.seen out.old) (E.seen err.old)) (sinks_of (O.seen out.new) (E.seen err.new)) }
 {
     let place = Place {
         node,
         how: How::Arrived { table: 0 },
-        family: Family::V6,
+        family,
     };
     let ended = write_walk(net, place, number, content, choices, buffers, out)?;
     let line = line_of_packet(alloc, net, number, &ended)?;
@@ -121,15 +122,15 @@ fn walk_frame<O: Sink, E: Sink>(
         (sinks_of (O.seen out.old) (E.seen err.old)) (sinks_of (O.seen out.new) (E.seen err.new)) }
 {
     let Frame { number, body } = frame;
-    match body {
-        Body::V6(bytes) => {
-            let content = Content::enter(bytes.into_vec());
-            walk_packet(
-                alloc, net, node, choices, number, content, buffers, out, err,
-            )
-        }
-        Body::V4(_) | Body::ShortFrame | Body::NotIp => Ok(()),
-    }
+    let (family, bytes) = match body {
+        Body::V6(bytes) => (Family::V6, bytes),
+        Body::V4(bytes) => (Family::V4, bytes),
+        Body::ShortFrame | Body::NotIp => return Ok(()),
+    };
+    let content = Content::enter(family, bytes.into_vec());
+    walk_packet(
+        alloc, net, node, choices, number, family, content, buffers, out, err,
+    )
 }
 
 /// Walks the packets of the frames behind a capture's head, one after the other, and gives the

@@ -16,6 +16,7 @@ use crate::told::{Text, Told};
 use crate::walk::write_all;
 use header_lines::lines_of_packet;
 use pcap_io::{Body, CaptureHead, Frame, FrameReader, HEAD_LEN, MAX_FRAMES};
+use srv6_rules::Family;
 use srx_edge::{Sink, Source};
 use std::alloc::{AllocError, Global};
 
@@ -27,13 +28,13 @@ fn lines_of_unread(alloc: Global, number: u32, cause: Unread) -> Result<String, 
     format!(in alloc; "packet {number}\nnot read {cause}\n")
 }
 
-/// The lines of a frame.
+/// The lines of a frame, by the family of its packet.
 fn lines_of_frame(alloc: Global, frame: &Frame) -> Result<String, AllocError>
     ensures { IfOk result (λ lines. string_bytes lines ≡ frame_lines frame.now) }
 {
     match &frame.body {
-        Body::V6(packet) => lines_of_packet(alloc, frame.number, packet.as_slice()),
-        Body::V4(_) => lines_of_unread(alloc, frame.number, Unread::NotBuilt),
+        Body::V6(packet) => lines_of_packet(alloc, frame.number, Family::V6, packet.as_slice()),
+        Body::V4(packet) => lines_of_packet(alloc, frame.number, Family::V4, packet.as_slice()),
         Body::ShortFrame => lines_of_unread(alloc, frame.number, Unread::ShortFrame),
         Body::NotIp => lines_of_unread(alloc, frame.number, Unread::NotIp),
     }

@@ -1,4 +1,4 @@
-use Rattle.std.proofs.Common.{ℕ, ◌++◌, ◌≤◌, List, length, take, drop, slice_index, slice_set, ap, ◌∙◌, arith}
+use Rattle.std.proofs.Common.{ℕ, ◌++◌, List, length, take, drop, slice_index, slice_set, ap, ◌∙◌, arith}
 use Rattle.pkt_buf.specs.BufferView.{Buffer}
 use Rattle.srv6_rules.specs.Packet.{two_bytes}
 use Rattle.endpoint_chain.proofs.RemovalLemmas.{set-two}

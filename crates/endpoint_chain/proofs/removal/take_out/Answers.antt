@@ -1,8 +1,7 @@
-use Rattle.std.proofs.Common.{ℕ, ◌+◌, ◌-◌, ◌≡◌, ◌++◌, List, length, take, drop, slice_index, slice_set, ap, sym, ◌∙◌, arith, length-append, length-drop}
+use Rattle.std.proofs.Common.{ℕ, ◌+◌, ◌-◌, ◌≡◌, List, length, take, drop, slice_index, slice_set, ap, ◌∙◌, arith, length-append, length-drop}
 use Rattle.std.proofs.lemmas.List.{length-set, length-take-le}
 use Rattle.pkt_buf.specs.BufferView.{Buffer}
 use Rattle.ip6_headers.specs.Stepping.{place_view}
-use Rattle.endpoint_chain.specs.Removal.{with_payload_len}
 use Rattle.endpoint_chain.proofs.RemovalLemmas.{alone-most, taken-out}
 use Rattle.endpoint_chain.proofs.removal.take_out.Goals as goal
 

@@ -1,4 +1,3 @@
-use Rattle.std.proofs.Common.{refl}
 use Rattle.srv6_rules.proofs.Treatments.{at_header-shifts, at_header-options, plain-whole}
 use Rattle.srv6_rules.proofs.Endpoints.{at_sid-shifted, upper-shifts}
 use Rattle.srv6_rules.proofs.laws.sid_shifts_at_the_first_header_without_options.Goals as goal

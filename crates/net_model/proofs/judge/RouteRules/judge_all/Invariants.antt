@@ -1,7 +1,7 @@
 use Rattle.std.proofs.Common.{take}
 use Rattle.net_model.specs.declared.fault.TableKind.TheVariants as tables
 use Rattle.net_model.specs.Judging.{judge_route}
-use Rattle.net_model.specs.RouteKeys.{HasKeys}
+use Rattle.net_model.specs.EntryKeys.{HasKeys}
 use Rattle.net_model.proofs.JudgingLemmas.{HasJudged}
 use Rattle.net_model.proofs.judge.RouteRules.judge_all.Given as goal
 

@@ -3,4 +3,7 @@ use Rattle.net_model.proofs.SidLaws.{enough_law}
 use Rattle.net_model.proofs.net.Net.build.Goals as goal
 
 pub invariant_of-result : goal.invariant_of-result
-invariant_of-result c = enough_law (network_of c.args.parts) c.args.standings.now c.requires c.in_ok-judge_parts.ensures
+invariant_of-result c = (
+  enough_law (network_of c.args.parts) c.args.standings.now c.requires c.in_ok-judge_parts.ensures,
+  c.in_ok-tables.ensures,
+)

@@ -15,8 +15,8 @@ loop-entry-preserved g c =
     (best_more items i c.entry-item.result c.args.a.value _ (omega arith) c.entry-item.is
     (c.with_entry-best.ensures (take i items) so_far))
 
-pub returns-in-None : goal.returns-in-None
-returns-in-None g c =
+pub returns-in-None-clause-best : goal.returns-in-None-clause-best
+returns-in-None-clause-best g c =
     let same : c.deref-entry-items.result.now ≡ c.args.self.now = cc in
     best_end c.args.self.now c.args.self.now c.loop-entry.entry-index c.args.a.value _ None (omega (arith, ap length same)) refl
     (ap option_copied c.in-None.is) c.loop-entry.invariant

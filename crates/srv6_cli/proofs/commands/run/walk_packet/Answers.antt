@@ -21,7 +21,7 @@ returns-in_err-line g c =
 
 pub returns : goal.returns
 returns g c =
-    let steps = walk_from c.args.net.now c.args.node c.args.choices.now c.args.content in
+    let steps = walk_from c.args.net.now c.args.node c.args.choices.now c.args.family c.args.content in
     line_behind_out (frames_of c.args.number steps) (packet_line c.args.net.now c.args.number (end_of c.args.net.now steps)) [] _ _ _ _
     c.in_ok-ended.ensures.wrote (ending_of_step c.write_all.result)
     (rw (c.as_bytes.ensures.value, c.in_ok-line.ensures, c.in_ok-ended.ensures.ended) at c.write_all.ensures)

@@ -1,0 +1,35 @@
+use Rattle.srv6_rules.specs.Packet.{packet_at}
+use Rattle.srv6_rules.specs.Endpoint.{at_sid}
+use Rattle.decap_behaviours.specs.declared.judge.Judged.TheVariants.{Expose, Deliver, Refuse}
+use Rattle.decap_behaviours.proofs.OutcomeLemmas.{alone-exposes, alone-fault, alone-leaves, judged-in, place-there}
+use Rattle.decap_behaviours.proofs.step.decap_step.Goals as goal
+
+pub drop_front-requires : goal.drop_front-requires
+drop_front-requires c =
+    let bytes = c.args.buf.now.bytes in
+    let at = c.in-Expose.at in
+    let is = judged-in c.args.sid.now c.args.allow.now c.view.result.now bytes (Expose c.in-Expose.family at) c.view.ensures
+    c.in-Expose.ensures in
+    place-there bytes c.requires.packet at is.1
+
+pub dropped-requires : goal.dropped-requires
+dropped-requires c =
+    let bytes = c.args.buf.now.bytes in
+    let fault = c.in-Refuse.fault in
+    let is = judged-in c.args.sid.now c.args.allow.now c.view.result.now bytes (Refuse fault) c.view.ensures c.in-Refuse.ensures in
+    alone-fault bytes c.requires.packet c.args.sid.now c.args.allow.now fault.reason fault.at is
+
+pub returns-in-Expose : goal.returns-in-Expose
+returns-in-Expose c =
+    let bytes = c.args.buf.now.bytes in
+    let at = c.in-Expose.at in
+    let is = judged-in c.args.sid.now c.args.allow.now c.view.result.now bytes (Expose c.in-Expose.family at) c.view.ensures
+    c.in-Expose.ensures in
+    rw c.drop_front.ensures
+    (alone-exposes bytes c.requires.packet (at_sid c.args.sid.now c.args.allow.now (packet_at bytes)) c.in-Expose.family at is.0 is.1)
+
+pub returns-in-Deliver : goal.returns-in-Deliver
+returns-in-Deliver c =
+    let bytes = c.args.buf.now.bytes in
+    let is = judged-in c.args.sid.now c.args.allow.now c.view.result.now bytes Deliver c.view.ensures c.in-Deliver.ensures in
+    alone-leaves bytes c.requires.packet (at_sid c.args.sid.now c.args.allow.now (packet_at bytes)) is

@@ -1,0 +1,12 @@
+use Rattle.std.proofs.Common.{◌++◌, take, List}
+use Rattle.net_model.specs.declared.tables.TableEntry.{TableEntry}
+use Rattle.net_model.specs.Tables.{entries_from, AnswerFor, AreTaken}
+use Rattle.net_model.proofs.tables.put_all.Given as goal
+
+-- the items so far are in their tables
+abbrev pub invariant-loop-i : goal.invariant-loop-i
+invariant-loop-i g l = record {
+  taken : AreTaken l.taken l.tables;
+  answers : (before : List TableEntry) → AnswerFor before l.fn.tables
+      → AnswerFor (before ++ entries_from g.X.Listed.entry 0 (take l.i l.items)) l.tables;
+}

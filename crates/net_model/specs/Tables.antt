@@ -1,0 +1,110 @@
+-- The tables in which addresses are looked up: one for each node, table number and family that has entries.
+use Rattle.std.specs.Prelude.{◌≡◌, ◌↔◌, ℕ, ◌+◌, Bool, true, ◌==◌, ◌&&◌, if◌then◌else◌, List, [], ◌∷◌, ◌++◌, Option, Some, None}
+use Rattle.std.specs.Option.{unwrap_or}
+use Rattle.std.specs.declared.cmp.Ordering.{Ordering}
+use Rattle.std.specs.Ordering.{nat_cmp, bool_cmp, ordering_then}
+use Rattle.std.specs.BTreeMap.{BTreeMap}
+use Rattle.std.specs.BTreeMap as map
+use Rattle.std.specs.BTreeSet.{BTreeSet}
+use Rattle.std.specs.BTreeSet as tree
+use Rattle.v6_addr.specs.Address.{PrefixValue}
+use Rattle.prefix_table.specs.Table.{HasPrefix, IsBestMatch}
+use Rattle.srv6_rules.specs.declared.sid.Family.{Family}
+use Rattle.srv6_rules.specs.declared.sid.Family.TheVariants as families
+use Rattle.srv6_rules.specs.declared.sid.SidEntry.{SidEntry}
+use Rattle.net_model.specs.declared.parts.Node.{Node}
+use Rattle.net_model.specs.declared.parts.Route.{Route}
+use Rattle.net_model.specs.declared.net.Hit.{Hit}
+use Rattle.net_model.specs.declared.net.Hit.TheVariants as hits
+use Rattle.net_model.specs.declared.route_set.EntryKey.{EntryKey}
+use Rattle.net_model.specs.declared.tables.TableKey.{TableKey}
+use Rattle.net_model.specs.declared.tables.TableEntry.{TableEntry}
+use Rattle.net_model.specs.Network.{Network}
+use Rattle.net_model.specs.Rules.{same_family}
+use Rattle.net_model.specs.Best.{Entry, longest, entries_of}
+use Rattle.net_model.specs.EntryKeys.{entry_key_cmp, entry_key}
+
+-- a table of a node of a network
+pub record TableOf : Type 0 where
+  pub net : Network
+  pub node : ℕ
+  pub table : ℕ
+  pub family : Family
+
+-- a table of prefixes, each with what it is of
+abbrev pub HitTable : Type 0
+HitTable = List (PrefixValue × Hit)
+
+abbrev pub paired : Option Entry → Option (PrefixValue × Hit)
+paired None = None
+paired (Some e) = Some (e.prefix, e.hit)
+
+-- a table answers for entries: for each address its best match is the first of the longest entries that hold it
+abbrev pub AnswersFor : List Entry → HitTable → Type 0
+AnswersFor entries t = (a : ℕ) → IsBestMatch t a (paired (longest a entries))
+
+-- by node, table number and family
+abbrev pub table_key_cmp : TableKey → TableKey → Ordering
+table_key_cmp a b = ordering_then (nat_cmp a.node b.node) (ordering_then (nat_cmp a.table b.table) (bool_cmp a.is_ipv6 b.is_ipv6))
+
+abbrev pub table_key : ℕ → ℕ → Family → TableKey
+table_key node table family = record { node = node; table = table; is_ipv6 = same_family family families.V6 }
+
+-- the table of a node, with a number and for a family; a table that isn't kept has no entries
+abbrev pub table_at : BTreeMap TableKey HitTable → ℕ → ℕ → Family → HitTable
+table_at tables node table family = unwrap_or (map.get table_key_cmp tables (table_key node table family)) []
+
+-- each table of a network answers for the entries of that table
+abbrev pub AreTables : Network → BTreeMap TableKey HitTable → Type 0
+AreTables net tables = (node table : ℕ) (family : Family)
+    → AnswersFor (entries_of net node table family) (table_at tables node table family)
+
+-- ---- while the tables are filled
+
+-- the entry is of the node's table
+abbrev pub is_entry_of : ℕ → ℕ → Family → TableEntry → Bool
+is_entry_of node table family e = (e.node == node) && ((e.table == table) && same_family e.family family)
+
+-- of entries of many tables those of one
+abbrev pub entries_at : List TableEntry → ℕ → ℕ → Family → List Entry
+entries_at [] node table family = []
+entries_at (e ∷ es) node table family =
+    if is_entry_of node table family e then record { hit = e.hit; prefix = e.prefix } ∷ entries_at es node table family
+    else entries_at es node table family
+
+-- each table answers for its entries
+abbrev pub AnswerFor : List TableEntry → BTreeMap TableKey HitTable → Type 0
+AnswerFor entries tables = (node table : ℕ) (family : Family)
+    → AnswersFor (entries_at entries node table family) (table_at tables node table family)
+
+-- the keys tell of each prefix whether it is in a table
+abbrev pub AreTaken : BTreeSet EntryKey → BTreeMap TableKey HitTable → Type 0
+AreTaken taken tables = (node table : ℕ) (family : Family) (p : PrefixValue)
+    → (tree.contains entry_key_cmp taken (entry_key node table family p) ≡ true) ↔ HasPrefix (table_at tables node table family) p
+
+-- the tables with one entry more, behind the others of its table
+abbrev pub HasOneMore : TableEntry → BTreeMap TableKey HitTable → BTreeMap TableKey HitTable → Type 0
+HasOneMore e old new = (node table : ℕ) (family : Family) → table_at new node table family
+    ≡ (if is_entry_of node table family e then table_at old node table family ++ (e.prefix, e.hit) ∷ [] else table_at old node table family)
+
+-- the entries of items, the first of which has the number n
+abbrev pub entries_from : {X : Type 0} → (ℕ → X → TableEntry) → ℕ → List X → List TableEntry
+entries_from entry n [] = []
+entries_from entry n (x ∷ xs) = entry n x ∷ entries_from entry (n + 1) xs
+
+-- a SID stands in its node's table 0 of IPv6
+abbrev pub sid_entry : ℕ → SidEntry → TableEntry
+sid_entry n s = record { node = s.node; table = 0; family = families.V6; hit = hits.Sid n; prefix = s.prefix }
+
+-- and so does a node's own address, as a prefix of all its bits
+abbrev pub address_entry : ℕ → Node → TableEntry
+address_entry n node =
+    record { node = n; table = 0; family = families.V6; hit = hits.Address; prefix = record { value = node.address.value; len = 128 } }
+
+abbrev pub route_entry : ℕ → Route → TableEntry
+route_entry n r = record { node = r.node; table = r.table; family = r.family; hit = hits.Route n; prefix = r.prefix }
+
+-- the entries of all tables: the SIDs, then the nodes' addresses, then the routes
+abbrev pub all_entries : Network → List TableEntry
+all_entries net =
+    entries_from sid_entry 0 net.sids ++ (entries_from address_entry 0 net.nodes ++ entries_from route_entry 0 net.routes)
