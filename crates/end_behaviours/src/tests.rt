@@ -135,13 +135,14 @@ fn end(alloc: Global, prefix: Prefix, csid: Csid, flavours: Flavours) -> SidEntr
 }
 
 /// The bytes hold a packet, and nothing stands behind its end.
-fn holds_alone(bytes: &[u8]) -> bool
-    ensures { result ≡ true → HoldsAlone bytes.now }
+#[tactic(auto, using(crate::proofs::AloneLemmas::lengths))]
+fn holds_alone(rt: &impl Abort, bytes: &[u8])
+    ensures { HoldsAlone bytes.now }
 {
-    match Ip6View::read(bytes) {
-        Ok(packet) => bytes.len() == 40 + usize::from(packet.payload_len()),
-        Err(_) => false,
-    }
+    let Ok(view) = Ip6View::read(bytes) else {
+        panic!(rt; "no packet")
+    };
+    assert_eq!(rt; bytes.len(), 40 + usize::from(view.payload_len()));
 }
 
 /// A packet from 2001:db8::1 with so many bytes of payload, in three parts.
@@ -163,23 +164,22 @@ fn packet(
     Ok(PktBuf::of(bytes))
 }
 
-/// What comes of a packet at an End of a node that takes UDP, or none where the bytes hold none.
+/// What comes of a packet at an End of a node that takes UDP.
 fn step(
     rt: &impl Abort,
     alloc: Global,
     csid: Csid,
     flavours: Flavours,
     buf: &mut PktBuf,
-) -> Option<EndOutcome> {
+) -> EndOutcome {
+    holds_alone(rt, buf.view());
     let address = Addr {
         value: 0xfc00_0000_000b_0001_0000_0000_0000_0000,
     };
     let prefix = Prefix::new(address, 64).expect(rt, "a prefix");
-    if prefix.len() != 64 || !holds_alone(buf.view()) {
-        return None;
-    }
+    assert_eq!(rt; prefix.len(), 64);
     let sid = end(alloc, prefix, csid, flavours);
-    Some(end_step(&sid, &[0x11], buf))
+    end_step(&sid, &[0x11], buf)
 }
 
 #[test]
@@ -187,7 +187,7 @@ fn psp_takes_the_header_out_where_no_segment_is_left(rt: HostRuntime) -> Result<
     let alloc = rt.alloc();
     let mut buf = packet(alloc, 40, 60, 3, &SID, [&OPTIONS, &ONE_LEFT, &DATAGRAM])?;
     let outcome = step(&rt, alloc, Csid::Plain, PSP, &mut buf);
-    assert_eq!(rt; outcome, Some(EndOutcome::On));
+    assert_eq!(rt; outcome, EndOutcome::On);
     // The options name the datagram.
     let options: [u8; 8] = [0x11, 0x00, 0x01, 0x04, 0x00, 0x00, 0x00, 0x00];
     let left = packet(alloc, 16, 60, 2, &NEXT_SID, [&options, &DATAGRAM, &[]])?;
@@ -200,7 +200,7 @@ fn psp_leaves_a_header_that_was_at_its_end(rt: HostRuntime) -> Result<(), Fail> 
     let alloc = rt.alloc();
     let mut buf = packet(alloc, 32, 43, 3, &SID, [&NONE_LEFT, &DATAGRAM, &[]])?;
     let outcome = step(&rt, alloc, Csid::Plain, PSP, &mut buf);
-    assert_eq!(rt; outcome, Some(EndOutcome::Local));
+    assert_eq!(rt; outcome, EndOutcome::Local);
     let left = packet(alloc, 32, 43, 3, &SID, [&NONE_LEFT, &DATAGRAM, &[]])?;
     assert_eq!(rt; buf.view(), left.view());
     Ok(())
@@ -211,11 +211,11 @@ fn usp_takes_one_and_two_headers_out(rt: HostRuntime) -> Result<(), Fail> {
     let alloc = rt.alloc();
     let mut one = packet(alloc, 32, 43, 1, &SID, [&NONE_LEFT, &DATAGRAM, &[]])?;
     let outcome = step(&rt, alloc, Csid::Plain, USP, &mut one);
-    assert_eq!(rt; outcome, Some(EndOutcome::Local));
+    assert_eq!(rt; outcome, EndOutcome::Local);
     let parts: [&[u8]; 3] = [&NONE_LEFT_BEFORE_ROUTING, &NONE_LEFT, &DATAGRAM];
     let mut two = packet(alloc, 56, 43, 1, &SID, parts)?;
     let outcome = step(&rt, alloc, Csid::Replace, USP, &mut two);
-    assert_eq!(rt; outcome, Some(EndOutcome::Local));
+    assert_eq!(rt; outcome, EndOutcome::Local);
     let left = packet(alloc, 8, 17, 1, &SID, [&DATAGRAM, &[], &[]])?;
     assert_eq!(rt; one.view(), left.view());
     assert_eq!(rt; two.view(), left.view());
@@ -228,7 +228,7 @@ fn usp_and_a_step_behind_it(rt: HostRuntime) -> Result<(), Fail> {
     let parts: [&[u8]; 3] = [&NONE_LEFT_BEFORE_ROUTING, &ONE_LEFT, &DATAGRAM];
     let mut buf = packet(alloc, 56, 43, 3, &SID, parts)?;
     let outcome = step(&rt, alloc, Csid::Plain, USP, &mut buf);
-    assert_eq!(rt; outcome, Some(EndOutcome::On));
+    assert_eq!(rt; outcome, EndOutcome::On);
     let left = packet(alloc, 32, 43, 2, &NEXT_SID, [&NONE_LEFT, &DATAGRAM, &[]])?;
     assert_eq!(rt; buf.view(), left.view());
     let mut low = packet(alloc, 56, 43, 1, &SID, parts)?;
@@ -237,7 +237,7 @@ fn usp_and_a_step_behind_it(rt: HostRuntime) -> Result<(), Fail> {
         reason: Reason::HopLimit,
         at: 0,
     };
-    assert_eq!(rt; outcome, Some(dropped));
+    assert_eq!(rt; outcome, dropped);
     let left = packet(alloc, 56, 43, 1, &SID, parts)?;
     assert_eq!(rt; low.view(), left.view());
     Ok(())
@@ -259,7 +259,7 @@ fn usp_takes_many_headers_out(rt: HostRuntime) -> Result<(), Fail> {
     let headers = many_headers(alloc)?;
     let mut buf = packet(alloc, 65528, 43, 1, &SID, [headers.as_slice(), &[], &[]])?;
     let outcome = step(&rt, alloc, Csid::Plain, USP, &mut buf);
-    assert_eq!(rt; outcome, Some(EndOutcome::Local));
+    assert_eq!(rt; outcome, EndOutcome::Local);
     assert!(rt; buf.len() == 40);
     // The payload length is 0, and the IPv6 header names the datagram.
     assert!(rt; buf.view()[4..7] == [0, 0, 0x11]);
@@ -271,21 +271,21 @@ fn usd_exposes_packets_alone(rt: HostRuntime) -> Result<(), Fail> {
     let alloc = rt.alloc();
     let mut six = packet(alloc, 8, 41, 1, &SID, [&DATAGRAM, &[], &[]])?;
     let outcome = step(&rt, alloc, Csid::Plain, USD, &mut six);
-    assert_eq!(rt; outcome, Some(EndOutcome::Hand { family: Family::V6 }));
+    assert_eq!(rt; outcome, EndOutcome::Hand { family: Family::V6 });
     assert_eq!(rt; six.view(), DATAGRAM.as_slice());
     let mut four = packet(alloc, 8, 4, 1, &SID, [&DATAGRAM, &[], &[]])?;
     let outcome = step(&rt, alloc, Csid::Plain, USD, &mut four);
-    assert_eq!(rt; outcome, Some(EndOutcome::Hand { family: Family::V4 }));
+    assert_eq!(rt; outcome, EndOutcome::Hand { family: Family::V4 });
     let refused = EndOutcome::Drop {
         reason: Reason::UpperLayer,
         at: 40,
     };
     let mut other = packet(alloc, 8, 58, 1, &SID, [&DATAGRAM, &[], &[]])?;
     let outcome = step(&rt, alloc, Csid::Plain, USD, &mut other);
-    assert_eq!(rt; outcome, Some(refused));
+    assert_eq!(rt; outcome, refused);
     let mut without = packet(alloc, 8, 41, 1, &SID, [&DATAGRAM, &[], &[]])?;
     let outcome = step(&rt, alloc, Csid::Plain, PSP, &mut without);
-    assert_eq!(rt; outcome, Some(refused));
+    assert_eq!(rt; outcome, refused);
     Ok(())
 }
 
@@ -295,13 +295,13 @@ fn next_shifts_in_front_of_a_routing_header(rt: HostRuntime) -> Result<(), Fail>
     let parts: [&[u8]; 3] = [&OPTIONS, &ONE_LEFT, &DATAGRAM];
     let mut buf = packet(alloc, 40, 60, 3, &SID_WITH_ARGUMENT, parts)?;
     let outcome = step(&rt, alloc, Csid::Next, PSP, &mut buf);
-    assert_eq!(rt; outcome, Some(EndOutcome::On));
+    assert_eq!(rt; outcome, EndOutcome::On);
     let left = packet(alloc, 40, 60, 2, &NEXT_SID, parts)?;
     assert_eq!(rt; buf.view(), left.view());
     // With an argument of 0 the step is taken.
     let mut last = packet(alloc, 32, 43, 3, &SID, [&ONE_LEFT, &DATAGRAM, &[]])?;
     let outcome = step(&rt, alloc, Csid::Next, PSP, &mut last);
-    assert_eq!(rt; outcome, Some(EndOutcome::On));
+    assert_eq!(rt; outcome, EndOutcome::On);
     let left = packet(alloc, 8, 17, 2, &NEXT_SID, [&DATAGRAM, &[], &[]])?;
     assert_eq!(rt; last.view(), left.view());
     Ok(())
@@ -313,13 +313,13 @@ fn psp_after_the_last_csid_alone(rt: HostRuntime) -> Result<(), Fail> {
     let parts: [&[u8]; 3] = [&TWO_CSIDS, &DATAGRAM, &[]];
     let mut last = packet(alloc, 32, 43, 3, &SID_AT_INDEX_7, parts)?;
     let outcome = step(&rt, alloc, Csid::Replace, PSP, &mut last);
-    assert_eq!(rt; outcome, Some(EndOutcome::On));
+    assert_eq!(rt; outcome, EndOutcome::On);
     let left = packet(alloc, 8, 17, 2, &NEXT_SID_AT_INDEX_6, [&DATAGRAM, &[], &[]])?;
     assert_eq!(rt; last.view(), left.view());
     let parts: [&[u8]; 3] = [&THREE_CSIDS, &DATAGRAM, &[]];
     let mut further = packet(alloc, 32, 43, 3, &SID_AT_INDEX_7, parts)?;
     let outcome = step(&rt, alloc, Csid::Replace, PSP, &mut further);
-    assert_eq!(rt; outcome, Some(EndOutcome::On));
+    assert_eq!(rt; outcome, EndOutcome::On);
     let left = packet(alloc, 32, 43, 2, &NEXT_SID_AT_INDEX_6, parts)?;
     assert_eq!(rt; further.view(), left.view());
     Ok(())
