@@ -16,9 +16,10 @@ use Rattle.walk_rules.specs.Treatment.{Gave, step_of}
 use Rattle.walk_rules.specs.Walk.{Step, walk_of, far_end, arrival, next_place, decisions, left_or_stages, end_by, end_of}
 use Rattle.walk_rules.proofs.PublicLaws.{walk_of-suc, walk_of-zero, walk_of-none}
 use Rattle.srv6_cli.specs.declared.halt.Failure.{Failure}
+use Rattle.srv6_cli.specs.declared.halt.Failure.TheVariants as failures
 use Rattle.srv6_cli.specs.Answers.{ending_of_failure}
 use Rattle.srv6_cli.specs.Capture.{frames_of, frame_by, frame_of_gave}
-use Rattle.srv6_cli.proofs.Writing.{wrote_longer, wrote_after}
+use Rattle.srv6_cli.proofs.Writing.{wrote_longer, wrote_after, wanted_after}
 
 -- of a whole walk some stages are left: what went out before is a front of its frames, and its end is theirs
 pub record Progress (number : ℕ) (net : Network) (left whole : List Step) (first now : SinkSeen) : Type 0 where
@@ -74,6 +75,14 @@ module _ (number : ℕ) (net : Network) (left whole rest : List Step) (s : Step)
   progress_cut failure wrote = subst (λ (bytes : List ℕ). Wrote (ending_of_failure failure) bytes first later) frames-on
       (wrote_longer failure (p.bytes ++ frame_of_gave number s.gave) (frames_of number rest) first later
       (wrote_after failure p.bytes (frame_of_gave number s.gave) first now later p.seen wrote))
+
+-- memory was wanting before a stage
+pub progress_wants : (number : ℕ) (net : Network) (left whole : List Step) (first now : SinkSeen)
+    → Progress number net left whole first now
+    → Wrote (ending_of_failure failures.NoMemory) (frames_of number whole) first now
+progress_wants number net left whole first now p =
+    subst (λ (bytes : List ℕ). Wrote (ending_of_failure failures.NoMemory) bytes first now) p.frames
+    (wanted_after p.bytes (frames_of number left) first now p.seen)
 
 -- no stage is left: all went out, and the walk ended as the last stage did
 

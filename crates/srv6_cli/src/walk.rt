@@ -1,6 +1,6 @@
 //! A packet's walk, written as it goes.
 
-ghost use Rattle.std.specs.Prelude.{◌≡◌, ◌≤◌, ◌<◌, ◌+◌, IfOk, IfSome, Option, Some, length};
+ghost use Rattle.std.specs.Prelude.{◌≡◌, ◌≤◌, ◌<◌, ◌+◌, IfOk, IfSome, OnOk, Option, Some, length};
 ghost use Rattle.icmp6_errors.specs.Answer.{error_bytes};
 ghost use Rattle.pcap_io.specs.Capture.{written_frame_bytes};
 ghost use Rattle.srx_edge.specs.Steps.{Wrote};
@@ -15,6 +15,7 @@ ghost use Rattle.walk_rules.specs.Walk.{next_place as place_after, decisions, wa
 
 use crate::halt::Failure;
 use crate::limits::STAGES;
+use base::NoMemory;
 use icmp6_errors::IcmpSlot;
 use net_model::Net;
 use node_stage::{Content, stage};
@@ -129,31 +130,36 @@ fn decisions_of(outcome: &Outcome) -> usize
 
 /// One stage, of which what it sends can be written; the slot has the error about what it drops.
 fn staged(
+    alloc: Global,
     net: &Net,
     place: &Place,
     content: &mut Content,
     choice: u32,
     error: &mut IcmpSlot,
-) -> Outcome
+) -> Result<Outcome, NoMemory>
     requires { IsPlace net.now place.now }
-    ensures function { let gave = step_of net.now place.now content.old choice in
-        gave ≡ record { outcome = result; after = content.new; error = gave.error } }
-    ensures error { error.new.items
-        ≡ error_bytes (step_of net.now place.now content.old choice).error }
-    ensures tells { TellsOfError result (step_of net.now place.now content.old choice).error }
-    ensures writable { IsWritable result content.new }
-    ensures next { IfSome (place_after net.now place.now result) (IsPlace net.now) }
-    ensures ends { IsEnd net.now (end_by net.now place.now result) }
+    ensures function { IfOk result (λ outcome.
+        let gave = step_of net.now place.now content.old choice in
+        gave ≡ record { outcome = outcome; after = content.new; error = gave.error }) }
+    ensures error { OnOk result (error.new.items
+        ≡ error_bytes (step_of net.now place.now content.old choice).error) }
+    ensures tells { IfOk result (λ outcome.
+        TellsOfError outcome (step_of net.now place.now content.old choice).error) }
+    ensures writable { IfOk result (λ outcome. IsWritable outcome content.new) }
+    ensures next { IfOk result (λ outcome.
+        IfSome (place_after net.now place.now outcome) (IsPlace net.now)) }
+    ensures ends { IfOk result (λ outcome. IsEnd net.now (end_by net.now place.now outcome)) }
 {
     net.keeps_rules();
     content.keeps_rules();
-    stage(net, place, content, choice, error)
+    stage(alloc, net, place, content, choice, error)
 }
 
 /// Walks a packet from a place and writes each of its frames, with its number, and that of the
 /// ICMPv6 error about it, if a node sends one. Decision d takes the choice at d modulo the number
 /// of choices. The walk ends as its last stage does, after at most 10,000 stages.
 pub fn write_walk<O: Sink>(
+    alloc: Global,
     net: &Net,
     start: Place,
     number: u32,
@@ -177,7 +183,7 @@ pub fn write_walk<O: Sink>(
     let mut taken = 0;
     for used in 0..STAGES {
         let choice = choices[taken % choices.len()];
-        let outcome = staged(net, &place, &mut content, choice, &mut error);
+        let outcome = staged(alloc, net, &place, &mut content, choice, &mut error)?;
         write_outcome(number, &outcome, &content, &error, buffers, out)?;
         taken += decisions_of(&outcome);
         match next_place(net, &place, &outcome) {

@@ -99,7 +99,7 @@ fn walk_packet<O: Sink, E: Sink>(
         how: How::Arrived { table: 0 },
         family,
     };
-    let ended = write_walk(net, place, number, content, choices, buffers, out)?;
+    let ended = write_walk(alloc, net, place, number, content, choices, buffers, out)?;
     let line = line_of_packet(alloc, net, number, &ended)?;
     write_all(err, line.as_bytes())
 }
