@@ -1,6 +1,6 @@
 //! A packet at a node of two; its bytes are laid out by hand.
 
-ghost use Rattle.std.specs.Prelude.{◌≡◌, ◌^◌, ◌<◌, length};
+ghost use Rattle.std.specs.Prelude.{◌≡◌, ◌^◌, ◌<◌, ◌≤◌, length};
 
 use crate::{Content, stage};
 use base::NoMemory;
