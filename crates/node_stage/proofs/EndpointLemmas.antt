@@ -1,5 +1,5 @@
 -- What a stage gives of a packet at a SID, by what came of it in its bytes.
-use Rattle.std.proofs.Common.{◌≡◌, ◌≢◌, ℕ, true, false, List, Option, Some, None, IfSome, ◌+◌, ◌≤◌, ◌^◌, ◌<◌, length, slice_get, refl, sym, ap, subst, ◌∙◌, arith}
+use Rattle.std.proofs.Common.{◌≡◌, ◌≢◌, ℕ, false, List, Option, Some, None, IfSome, ◌≤◌, ◌<◌, length, slice_get, refl, sym, ap, subst, ◌∙◌, arith}
 use Rattle.std.specs.Prelude.{Result}
 use Rattle.srv6_rules.specs.declared.policy.Policy.{Policy}
 use Rattle.srv6_rules.specs.declared.sid.Family.{Family}

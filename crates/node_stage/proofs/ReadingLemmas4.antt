@@ -1,5 +1,5 @@
 -- IPv4 packets in bytes that spell them.
-use Rattle.std.proofs.Common.{◌≡◌, ℕ, ◌+◌, ◌-◌, ◌/◌, ◌^◌, ◌<◌, ◌≤◌, ◌==◌, ◌||◌, Bool, true, false, nat_lt, if◌then◌else◌, List, [], ◌++◌, length, take, slice_index, All, refl, sym, ap, subst, ◌∙◌, length-append, arith}
+use Rattle.std.proofs.Common.{◌≡◌, ℕ, ◌/◌, ◌^◌, ◌<◌, ◌≤◌, ◌==◌, ◌||◌, Bool, true, false, nat_lt, if◌then◌else◌, List, [], length, take, slice_index, refl, sym, ap, subst, ◌∙◌, arith}
 use Rattle.std.proofs.lemmas.Bool.{ltb-false}
 use Rattle.std.proofs.lemmas.List.{take_all}
 use Rattle.std.proofs.lemmas.List.Elements.{All-append}
@@ -7,13 +7,13 @@ use Rattle.std.specs.Prelude.{Result, Ok, Err}
 use Rattle.srv6_rules.specs.declared.sid.Reason.{Reason}
 use Rattle.srv6_rules.specs.declared.sid.Reason.TheVariants.{Truncated, BadVersion}
 use Rattle.srv6_rules.specs.Packet as packets
-use Rattle.srv6_rules.specs.Packet4.{Packet4, IsSpellable4, packet4_at, read4, spelling4, stated_header_len, total_len, ttl, ttl_lowered, lowered4}
+use Rattle.srv6_rules.specs.Packet4.{Packet4, IsSpellable4, packet4_at, read4, spelling4, stated_header_len, total_len, ttl_lowered, lowered4}
 use Rattle.srv6_rules.proofs.PublicLaws.{read4-alone, lowered4-spelling, lowered4-spellable}
 use Rattle.ip6_headers.specs.declared.faults.ReadFault.{ReadFault}
 use Rattle.ip6_headers.specs.declared.faults.ReadFault.TheVariants as faults
 use Rattle.ip6_headers.specs.Reading.{unreadable}
 use Rattle.ip6_headers.specs.Reading4.{HoldsPacket4, reason_of}
-use Rattle.ip6_headers.proofs.PublicLaws.{holds4-spellable, holds4-byte, holds4-length, holds4-front}
+use Rattle.ip6_headers.proofs.PublicLaws.{holds4-spellable, holds4-length, holds4-front}
 use Rattle.node_stage.specs.Alone4.{HoldsAlone4}
 
 -- bytes that read as a packet begin with it, and what their header states is there

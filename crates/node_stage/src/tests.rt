@@ -1,8 +1,9 @@
 //! A packet at a node of two; its bytes are laid out by hand.
 
-ghost use Rattle.std.specs.Prelude.{◌≡◌, ◌^◌, ◌<◌, length};
+ghost use Rattle.std.specs.Prelude.{◌≡◌, ◌^◌, ◌<◌, ◌≤◌, length};
 
 use crate::{Content, stage};
+use base::NoMemory;
 use icmp6_errors::IcmpSlot;
 use ip6_headers::four_at;
 use net_model::{
@@ -100,6 +101,35 @@ const CONTAINER: [u8; 64] = [
     0x00, 0x00, 0x00, 0x00, 0x00, 0x00, 0x00, 0x00, 0x00, 0x00, 0x00, 0x00, 0x00, 0x02, 0x00, 0x01,
 ];
 
+/// The segments of the policies.
+const FIRST_AND_LAST: [Addr; 2] = [Addr { value: 3 }, Addr { value: 4 }];
+
+/// The policy of two segments in the full form, in front of 120 bytes: to ::3, 160 bytes of payload,
+/// next header 43; then next header 41, 4 units, Segments Left 1, Last Entry 1, ::4 and ::3.
+const FULL: [u8; 80] = [
+    0x60, 0x00, 0x00, 0x00, 0x00, 0xa0, 0x2b, 0x40, 0x00, 0x00, 0x00, 0x00, 0x00, 0x00, 0x00, 0x00,
+    0x00, 0x00, 0x00, 0x00, 0x00, 0x00, 0x00, 0x02, 0x00, 0x00, 0x00, 0x00, 0x00, 0x00, 0x00, 0x00,
+    0x00, 0x00, 0x00, 0x00, 0x00, 0x00, 0x00, 0x03, 0x29, 0x04, 0x04, 0x01, 0x01, 0x00, 0x00, 0x00,
+    0x00, 0x00, 0x00, 0x00, 0x00, 0x00, 0x00, 0x00, 0x00, 0x00, 0x00, 0x00, 0x00, 0x00, 0x00, 0x04,
+    0x00, 0x00, 0x00, 0x00, 0x00, 0x00, 0x00, 0x00, 0x00, 0x00, 0x00, 0x00, 0x00, 0x00, 0x00, 0x03,
+];
+
+/// The same in the reduced form: 144 bytes of payload; 2 units, Last Entry 0, and ::4 alone.
+const REDUCED: [u8; 64] = [
+    0x60, 0x00, 0x00, 0x00, 0x00, 0x90, 0x2b, 0x40, 0x00, 0x00, 0x00, 0x00, 0x00, 0x00, 0x00, 0x00,
+    0x00, 0x00, 0x00, 0x00, 0x00, 0x00, 0x00, 0x02, 0x00, 0x00, 0x00, 0x00, 0x00, 0x00, 0x00, 0x00,
+    0x00, 0x00, 0x00, 0x00, 0x00, 0x00, 0x00, 0x03, 0x29, 0x02, 0x04, 0x01, 0x00, 0x00, 0x00, 0x00,
+    0x00, 0x00, 0x00, 0x00, 0x00, 0x00, 0x00, 0x00, 0x00, 0x00, 0x00, 0x00, 0x00, 0x00, 0x00, 0x04,
+];
+
+/// The policy of one segment in the reduced form, in front of 120 bytes: next header 41, and no
+/// segment routing header.
+const BARE: [u8; 40] = [
+    0x60, 0x00, 0x00, 0x00, 0x00, 0x78, 0x29, 0x40, 0x00, 0x00, 0x00, 0x00, 0x00, 0x00, 0x00, 0x00,
+    0x00, 0x00, 0x00, 0x00, 0x00, 0x00, 0x00, 0x02, 0x00, 0x00, 0x00, 0x00, 0x00, 0x00, 0x00, 0x00,
+    0x00, 0x00, 0x00, 0x00, 0x00, 0x00, 0x00, 0x03,
+];
+
 fn prefix(rt: &impl Abort, value: u128, len: u8) -> Prefix {
     Prefix::new(Addr { value }, len).expect(rt, "a prefix")
 }
@@ -164,22 +194,28 @@ fn routes(rt: &impl Abort, alloc: Global) -> Result<Vec<Route>, AllocError> {
     Ok(routes)
 }
 
-/// A policy of one segment.
-fn policy(alloc: Global) -> Result<NamedPolicy, AllocError> {
+/// A policy over some segments, from ::2 with hop limit 64.
+fn policy(
+    alloc: Global,
+    text: &str,
+    segments: &[Addr],
+    reduced: bool,
+) -> Result<NamedPolicy, AllocError> {
     Ok(NamedPolicy {
-        name: name(alloc, "policy")?,
+        name: name(alloc, text)?,
         policy: Policy {
             source: Addr { value: 2 },
-            segments: SegmentList::new([Addr { value: 3 }].to_vec(alloc)?),
+            segments: SegmentList::new(segments.to_vec(alloc)?),
             traffic_class: 0,
             flow_label: 0,
             hop_limit: 64,
-            reduced: false,
+            reduced,
         },
     })
 }
 
-/// A and B, a link ab and one out of the network from B, and a SID at B.
+/// A and B, a link ab and one out of the network from B, a SID at B, and policies of two segments and
+/// of one, whose own forms are not those that the tests' SIDs put in front.
 fn net_of(
     rt: &impl Abort,
     alloc: Global,
@@ -201,7 +237,8 @@ fn net_of(
         to: None,
     })?;
     let mut policies = Vec::new(alloc);
-    policies.push(policy(alloc)?)?;
+    policies.push(policy(alloc, "two", &FIRST_AND_LAST, true)?)?;
+    policies.push(policy(alloc, "one", FIRST_AND_LAST.split_at(1).0, false)?)?;
     let mut sids = Vec::new(alloc);
     sids.push(sid)?;
     let parts = NetParts {
@@ -252,12 +289,12 @@ fn at_b(
     net: &Net,
     family: Family,
     bytes: Vec<u8>,
-) -> Result<(Outcome, Vec<u8>), AllocError>
+) -> Result<(Outcome, Vec<u8>), NoMemory>
     requires { length net.now.nodes ≡ 2 }
 {
     let mut content = Content::enter(family, bytes);
     let place = arrival(1, family);
-    let outcome = stage(net, &place, &mut content, 0, &mut IcmpSlot::new());
+    let outcome = stage(alloc, net, &place, &mut content, 0, &mut IcmpSlot::new())?;
     let mut after = Vec::new(alloc);
     content.append_to(&mut after)?;
     Ok((outcome, after))
@@ -276,11 +313,11 @@ fn an_ipv4_packet_goes_through(rt: HostRuntime) -> Result<(), Fail> {
     let mut content = Content::enter(Family::V4, PACKET_4.to_vec(rt.alloc())?);
     let mut error = IcmpSlot::new();
     let start = arrival(0, Family::V4);
-    let sent = stage(&net, &start, &mut content, 0, &mut error);
+    let sent = stage(rt.alloc(), &net, &start, &mut content, 0, &mut error)?;
     assert_eq!(rt; sent, Outcome::Send { link: 0 });
     let place = arrival(1, Family::V4);
     assert_eq!(rt; next_place(&net, &start, &sent), Some(place));
-    let left = stage(&net, &place, &mut content, 0, &mut error);
+    let left = stage(rt.alloc(), &net, &place, &mut content, 0, &mut error)?;
     assert_eq!(rt; left, Outcome::Send { link: 1 });
     assert_eq!(rt; ended_by(&net, &place, &left), Ended::Left { link: 1 });
     assert_eq!(rt; content.bytes(), PACKET_4_BEHIND_B.as_slice());
@@ -437,20 +474,94 @@ fn replace_csid_is_written(rt: HostRuntime) -> Result<(), Fail> {
     Ok(())
 }
 
-/// A SID that nodes do not run yet drops the packet as it is.
+/// What comes at B, whose SID has a behaviour, of the packet with a segment left, and the bytes after
+/// it.
+fn with_a_segment_left(
+    rt: &impl Abort,
+    alloc: Global,
+    behaviour: Behaviour,
+) -> Result<(Outcome, Vec<u8>), NoMemory> {
+    let net = net_with(rt, alloc, sid_at_b(rt, alloc, behaviour, Csid::Plain))?;
+    assert_eq!(rt; net.nodes(), 2);
+    let bytes = joined(alloc, &HEADER, &SEGMENTS, &INSIDE)?;
+    at_b(alloc, &net, Family::V6, bytes)
+}
+
+/// End.B6.Encaps puts the full form in front, End.B6.Encaps.Red the reduced form, whatever the
+/// policy's own form is; behind it stands the packet at its next segment with its hop limit lowered.
 #[test]
-fn a_binding_sid_drops_the_packet(rt: HostRuntime) -> Result<(), Fail> {
+fn binding_sids_put_a_header_in_front(rt: HostRuntime) -> Result<(), Fail> {
+    let rows: [(Behaviour, &[u8]); 3] = [
+        (Behaviour::B6 { policy: 0 }, &FULL),
+        (Behaviour::B6Red { policy: 0 }, &REDUCED),
+        (Behaviour::B6Red { policy: 1 }, &BARE),
+    ];
+    for (behaviour, front) in rows {
+        let (outcome, after) = with_a_segment_left(&rt, rt.alloc(), behaviour)?;
+        let how = How::Submitted { table: 0 };
+        assert_eq!(rt; outcome, Outcome::Again { sid: 0, how });
+        let mut wanted = front.to_vec(rt.alloc())?;
+        wanted.extend_from_slice(&HEADER_BEHIND_END)?;
+        wanted.extend_from_slice(&SEGMENTS_BEHIND_END)?;
+        wanted.extend_from_slice(&INSIDE)?;
+        assert_eq!(rt; after.as_slice(), wanted.as_slice());
+    }
+    Ok(())
+}
+
+/// A packet to B's SID with a segment left, of so many bytes; those behind its headers are 0.
+fn long_packet(alloc: Global, len: u16) -> Result<Vec<u8>, AllocError>
+    requires { 80 ≤ len }
+{
+    let mut header = HEADER;
+    let payload = (len - 40).to_be_bytes();
+    header[4] = payload[0];
+    header[5] = payload[1];
+    let mut bytes = joined(alloc, &header, &SEGMENTS, &[])?;
+    bytes.resize(usize::from(len), 0)?;
+    Ok(bytes)
+}
+
+/// Behind a segment routing header of 40 bytes a packet of 65,495 bytes is the longest: one more,
+/// and it is dropped as it came.
+#[test]
+fn a_packet_too_long_for_the_header_is_dropped(rt: HostRuntime) -> Result<(), Fail> {
     let sid = sid_at_b(&rt, rt.alloc(), Behaviour::B6 { policy: 0 }, Csid::Plain);
     let net = net_with(&rt, rt.alloc(), sid)?;
     assert_eq!(rt; net.nodes(), 2);
-    let bytes = joined(rt.alloc(), &HEADER, &SEGMENTS, &INSIDE)?;
-    let (outcome, after) = at_b(rt.alloc(), &net, Family::V6, bytes)?;
+    let longest = long_packet(rt.alloc(), 65495)?;
+    let (outcome, after) = at_b(rt.alloc(), &net, Family::V6, longest)?;
+    let how = How::Submitted { table: 0 };
+    assert_eq!(rt; outcome, Outcome::Again { sid: 0, how });
+    assert_eq!(rt; after.len(), 65575);
+    let longer = long_packet(rt.alloc(), 65496)?;
+    let (outcome, after) = at_b(rt.alloc(), &net, Family::V6, longer)?;
     let dropped = Outcome::Drop {
-        reason: Reason::NotBuilt,
+        reason: Reason::TooBig,
         error: false,
     };
     assert_eq!(rt; outcome, dropped);
-    let same = joined(rt.alloc(), &HEADER, &SEGMENTS, &INSIDE)?;
+    let same = long_packet(rt.alloc(), 65496)?;
+    assert_eq!(rt; after.as_slice(), same.as_slice());
+    Ok(())
+}
+
+/// A binding SID drops a packet with hop limit 1 as it came, before a header is put in front.
+#[test]
+fn a_binding_sid_lowers_no_hop_limit_of_one(rt: HostRuntime) -> Result<(), Fail> {
+    let sid = sid_at_b(&rt, rt.alloc(), Behaviour::B6Red { policy: 1 }, Csid::Plain);
+    let net = net_with(&rt, rt.alloc(), sid)?;
+    assert_eq!(rt; net.nodes(), 2);
+    let mut header = HEADER;
+    header[7] = 1;
+    let bytes = joined(rt.alloc(), &header, &SEGMENTS, &INSIDE)?;
+    let (outcome, after) = at_b(rt.alloc(), &net, Family::V6, bytes)?;
+    let dropped = Outcome::Drop {
+        reason: Reason::HopLimit,
+        error: true,
+    };
+    assert_eq!(rt; outcome, dropped);
+    let same = joined(rt.alloc(), &header, &SEGMENTS, &INSIDE)?;
     assert_eq!(rt; after.as_slice(), same.as_slice());
     Ok(())
 }
@@ -469,7 +580,7 @@ fn options_at_b(
     alloc: Global,
     net: &Net,
     payload: &[u8],
-) -> Result<(Outcome, Option<u32>), AllocError>
+) -> Result<(Outcome, Option<u32>), NoMemory>
     requires nodes { length net.now.nodes ≡ 2 }
     requires payload { length payload.now < 2 ^ 8 }
 {
@@ -478,7 +589,8 @@ fn options_at_b(
     header[6] = 60;
     let mut content = Content::enter(Family::V6, joined(alloc, &header, payload, &[])?);
     let mut error = IcmpSlot::new();
-    let outcome = stage(net, &arrival(1, Family::V6), &mut content, 0, &mut error);
+    let place = arrival(1, Family::V6);
+    let outcome = stage(alloc, net, &place, &mut content, 0, &mut error)?;
     Ok((outcome, pointer_of(error.as_slice())))
 }
 
@@ -529,12 +641,13 @@ fn drop_is_told_from_the_node(rt: HostRuntime) -> Result<(), Fail> {
         reason: Reason::NoRoute,
         error: true,
     };
-    assert_eq!(rt; stage(&net, &place, &mut content, 0, &mut error), dropped);
+    let told = stage(rt.alloc(), &net, &place, &mut content, 0, &mut error)?;
+    assert_eq!(rt; told, dropped);
     let wanted = joined(rt.alloc(), &NO_ROUTE, &INSIDE, &[])?;
     assert_eq!(rt; error.as_slice(), wanted.as_slice());
     assert_eq!(rt; content.bytes(), INSIDE.as_slice());
     place.how = How::Arrived { table: 5 };
-    let sent = stage(&net, &place, &mut content, 3, &mut error);
+    let sent = stage(rt.alloc(), &net, &place, &mut content, 3, &mut error)?;
     assert_eq!(rt; sent, Outcome::Send { link: 1 });
     assert!(rt; error.is_empty());
     Ok(())
