@@ -41,6 +41,8 @@ pub enum Unread {
     NotIp,
     /// It holds an IPv4 packet, which is a form that isn't built yet.
     NotBuilt,
+    /// It holds a packet of another family than the intent's.
+    WrongVersion,
 }
 
 /// The cause's name. (own rule)
@@ -56,6 +58,7 @@ impl fmt::Display for Unread {
             Unread::ShortFrame => "ShortFrame",
             Unread::NotIp => "NotIp",
             Unread::NotBuilt => "NotBuilt",
+            Unread::WrongVersion => "WrongVersion",
         })
     }
 }
