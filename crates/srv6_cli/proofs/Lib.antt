@@ -10,6 +10,7 @@ pub mod Writable
 pub mod Commanding
 pub mod SidSearches
 pub mod Compiling
+pub mod WalkEnds
 pub mod Serving
 pub mod Stops
 pub mod Consequences

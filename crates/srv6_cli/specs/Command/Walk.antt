@@ -1,6 +1,6 @@
 -- The command `walk`: the inner packets of the input, encapsulated at the headend of the intent of a file with the list that
 -- the intent is compiled to, in the network that another file describes (RFC 8986 sections 5.1 and 5.2).
-use Rattle.std.specs.Prelude.{◌≡◌, ℕ, Bool, true, false, IsTrue, List, [], ◌∷◌, ◌++◌, codes, map, slice_get, Option, Some, None, Result, Ok, Err, IsSomeAnd, ⊤}
+use Rattle.std.specs.Prelude.{◌≡◌, ℕ, Bool, true, false, List, [], ◌∷◌, ◌++◌, codes, map, slice_get, Option, Some, None, Result, Ok, Err, IsSomeAnd, ⊤}
 use Rattle.std.specs.Fmt.{decimal}
 use Rattle.std.specs.List.{flat_map}
 use Rattle.v6_addr.specs.declared.address.Addr.{Addr}
@@ -171,7 +171,7 @@ NetworkWants (Ok net) intent choices input output =
 
 abbrev pub HasList : Network → Result Intent Refusal → Type 0
 HasList net (Err refusal) = ⊥
-HasList net (Ok intent) = IsTrue (takes net intent) × ((c : Compiled) × IsCompiled net intent c)
+HasList net (Ok intent) = (takes net intent ≡ true) × ((c : Compiled) × IsCompiled net intent c)
 
 abbrev pub HasListIn : Result Network Refusal → Option (List ℕ) → Type 0
 HasListIn (Err refusal) intent = ⊥
@@ -195,7 +195,7 @@ walk_shape file intent choices = record {
 -- how a walk starts, as its steps answer it: with the policy of a list, or there is no list, or the refusal
 abbrev pub StartsAs : Network → Intent → Result Start Halt → Type 0
 StartsAs net intent (Ok (starts.List policy)) =
-    IsTrue (takes net intent) × ((c : Compiled) × IsCompiled net intent c × (policy ≡ policy_of intent c))
+    (takes net intent ≡ true) × ((c : Compiled) × IsCompiled net intent c × (policy ≡ policy_of intent c))
 StartsAs net intent (Ok (starts.NoList line)) =
     (choices input : List ℕ) → TakenWants net intent choices input (takes net intent) (no_list (bytes_of_text line))
 StartsAs net intent (Err (halts.Refused refusal)) =
