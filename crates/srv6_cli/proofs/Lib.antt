@@ -11,6 +11,11 @@ pub mod Commanding
 pub mod SidSearches
 pub mod Compiling
 pub mod WalkEnds
+pub mod WalkSteps
+pub mod HeadendSteps
+pub mod WalkStarts
+pub mod HandingOver
+pub mod WalkKeeping
 pub mod Serving
 pub mod Stops
 pub mod Consequences

@@ -1,6 +1,6 @@
 -- The command `walk`: the inner packets of the input, encapsulated at the headend of the intent of a file with the list that
 -- the intent is compiled to, in the network that another file describes (RFC 8986 sections 5.1 and 5.2).
-use Rattle.std.specs.Prelude.{◌≡◌, ℕ, Bool, true, false, List, [], ◌∷◌, ◌++◌, codes, map, slice_get, Option, Some, None, Result, Ok, Err, IsSomeAnd, ⊤}
+use Rattle.std.specs.Prelude.{◌≡◌, ℕ, ◌+◌, ◌^◌, ◌<◌, ◌≤◌, Bool, true, false, IsTrue, List, [], ◌∷◌, ◌++◌, codes, length, map, slice_get, Option, Some, None, Result, Ok, Err, IsSomeAnd, ⊤}
 use Rattle.std.specs.Fmt.{decimal}
 use Rattle.std.specs.List.{flat_map}
 use Rattle.v6_addr.specs.declared.address.Addr.{Addr}
@@ -11,7 +11,7 @@ use Rattle.pcap_io.specs.Capture.{written_head_bytes}
 use Rattle.srv6_rules.specs.declared.policy.Policy.{Policy}
 use Rattle.srv6_rules.specs.declared.sid.Family.TheVariants as families
 use Rattle.srv6_rules.specs.Encapsulation.{inner_lowered}
-use Rattle.srv6_rules.specs.Packet.{Content, V6, Unreadable, entered, spelling}
+use Rattle.srv6_rules.specs.Packet.{Packet, Content, V6, Unreadable, IsSpellable, entered, most_len, spelling}
 use Rattle.srv6_rules.specs.Policies.{Encapsulating, Outer, TooBig, InnerHop, headend_by}
 use Rattle.srv6_rules.specs.Reasons.{reason_name}
 use Rattle.net_model.specs.Network.{Network}
@@ -19,6 +19,8 @@ use Rattle.walk_rules.specs.Walk.{Step, walk_of, choice_at}
 use Rattle.intent_reader.specs.declared.intent.Intent.{Intent}
 use Rattle.leg_table.specs.declared.types.Container.{Container}
 use Rattle.leg_table.specs.Realizes.{headend_place}
+use Rattle.leg_table.specs.Tasks.{matches}
+use Rattle.leg_table.specs.Trace.{Handed, handed_over}
 use Rattle.path_compiler.specs.declared.compiled.Compiled.{Compiled}
 use Rattle.path_compiler.specs.declared.compiled.CompileFault.{CompileFault}
 use Rattle.path_compiler.specs.declared.compiled.CompileFault.TheVariants as faults
@@ -118,16 +120,14 @@ walked_of_frame net intent policy choices frame = walked_by net intent choices f
 
 -- the head of the capture that is written; the lines of the packets that end at the headend, by their numbers; and the
 -- others, one after the other
+
+abbrev pub pieces_behind_head : Network → Intent → Policy → List ℕ → List Frame → List Piece
+pieces_behind_head net intent policy choices frames =
+    ForErr (flat_map (ended_of_frame net intent policy) frames) ∷ flat_map (walked_of_frame net intent policy choices) frames
+
 abbrev pub walk_pieces : Network → Intent → Policy → List ℕ → List Frame → List Piece
 walk_pieces net intent policy choices frames =
-    ForOut written_head_bytes ∷ ForErr (flat_map (ended_of_frame net intent policy) frames)
-    ∷ flat_map (walked_of_frame net intent policy choices) frames
-
--- the same of a bare packet, behind the head
-abbrev pub bare_pieces : Network → Intent → Policy → List ℕ → List ℕ → List Piece
-bare_pieces net intent policy choices packet =
-    ForErr (ended_line net intent.headend 1 (at_headend policy (bodies.V6 packet)))
-    ∷ walked_by net intent choices 1 (at_headend policy (bodies.V6 packet))
+    ForOut written_head_bytes ∷ pieces_behind_head net intent policy choices frames
 
 abbrev pub walked : Network → Intent → Policy → List ℕ → Packets → Output
 walked net intent policy choices packets =
@@ -202,3 +202,27 @@ StartsAs net intent (Err (halts.Refused refusal)) =
     (choices input : List ℕ) → TakenWants net intent choices input (takes net intent) (refused refusal)
 StartsAs net intent (Err (halts.Failed failures.Fault)) = ⊥
 StartsAs net intent (Err (halts.Failed failures.NoMemory)) = ⊤
+
+-- What `walk` does for an inner packet, by what the compiler says of its list.
+
+-- an inner packet that the headend encapsulates: bytes spell it, its hop limit can be lowered, and the outer packet is not too big
+pub record IsEncapsulated (c : Compiled) (inner : Packet) : Type 0 where
+  pub spellable : IsSpellable inner
+  pub hop_limit : 2 ≤ inner.hop_limit
+  pub small : c.header + length (spelling inner) ≤ most_len
+
+-- it enters, its walk's trace up to the first hand-over is the intent's steps, and what is handed over is the inner packet
+-- with its hop limit lowered by one
+pub record KeepsTo (net : Network) (intent : Intent) (c : Compiled) (choices : List ℕ) (inner : Packet) : Type 0 where
+  pub outer : Content
+  pub enters : of_content (policy_of intent c) (V6 inner) ≡ Enters outer
+  pub handed : Handed
+  pub first : handed_over net (walk_at_headend net intent choices outer) ≡ Some handed
+  pub steps : IsTrue (matches intent.steps handed.trace)
+  pub lowered : handed.content ≡ V6 (inner_lowered inner)
+
+-- so it is for every intent and every list that it may be compiled to, whatever is chosen; a hop limit is a byte
+abbrev pub WalksKeepTo : Type 0
+WalksKeepTo =
+    (net : Network) (intent : Intent) (c : Compiled) (choices : List ℕ) (inner : Packet) → intent.hop_limit < 2 ^ 8
+    → IsCompiled net intent c → 0 < length choices → IsEncapsulated c inner → KeepsTo net intent c choices inner

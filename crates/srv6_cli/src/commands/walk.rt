@@ -14,7 +14,7 @@ ghost use Rattle.srv6_cli.specs.Answers.{Commands, ending_of_step};
 ghost use Rattle.srv6_cli.specs.Words.{Walk};
 ghost use Rattle.srv6_cli.specs.Command.Compile.{none_line, too_long_line, hop_limit_line, takes as is_taken};
 ghost use Rattle.srv6_cli.specs.Command.Run.{packet_pieces};
-ghost use Rattle.srv6_cli.specs.Command.Walk.{StartsAs, at_headend, bare_pieces, drop_line, ended_line, ended_of_frame, of_content, of_encapsulating, policy_of, segment_of, walk_at_headend, walk_pieces, walked_by, walked_of_frame};
+ghost use Rattle.srv6_cli.specs.Command.Walk.{StartsAs, at_headend, drop_line, ended_line, ended_of_frame, of_content, of_encapsulating, pieces_behind_head, policy_of, segment_of, walk_at_headend, walk_pieces, walked_by, walked_of_frame};
 ghost use Rattle.srv6_cli.specs.Lines.{bytes_of_text};
 ghost use Rattle.srv6_cli.specs.Outside.{outside};
 ghost use Rattle.srv6_cli.specs.Packets.{HasHead, fault_of, reading_of};
@@ -30,7 +30,7 @@ use crate::refusal::Refusal;
 use crate::status::Status;
 use crate::told::{Text, Told};
 use crate::walk::{Buffers, write_all, write_walk};
-use base::Seq;
+use base::{NoMemory, Seq};
 use intent_reader::Intent;
 use ip6_headers::Ip6View;
 use leg_table::Container;
@@ -190,8 +190,16 @@ fn start_of_intent(alloc: Global, net: &Net, intent: &Intent) -> Result<Start, H
     start_of_answer(alloc, net, intent, &compiled)
 }
 
+/// What enters with the bytes of a buffer.
+fn content_of(alloc: Global, buf: &PktBuf) -> Result<Content, NoMemory>
+    ensures { IfOk result (λ content. content ≡ entered buf.now.bytes) }
+{
+    let bytes = buf.view().to_vec(alloc)?;
+    Ok(Content::enter(bytes))
+}
+
 /// A packet that the headend encapsulates, or drops.
-fn encapsulated(alloc: Global, policy: &Policy, inner: PktBuf) -> Result<AtHeadend, Failure>
+fn encapsulated(alloc: Global, policy: &Policy, inner: PktBuf) -> Result<AtHeadend, NoMemory>
     requires policy { IsPolicy policy.now }
     requires packet { HoldsInner Family.V6 inner.bytes }
     ensures { IfOk result (λ at.
@@ -199,17 +207,18 @@ fn encapsulated(alloc: Global, policy: &Policy, inner: PktBuf) -> Result<AtHeade
 {
     let mut buf = inner;
     match encap(policy, Family::V6, &mut buf) {
-        Ok(()) => Ok(AtHeadend::Enters(Content::enter(
-            buf.view().to_vec(alloc)?,
-        ))),
+        Ok(()) => {
+            let outer = content_of(alloc, &buf)?;
+            Ok(AtHeadend::Enters(outer))
+        }
         Err(EncapFault::InnerHop) => Ok(AtHeadend::Dropped(HeadendDrop::InnerHop)),
         Err(EncapFault::TooBig { .. }) => Ok(AtHeadend::Dropped(HeadendDrop::TooBig)),
-        Err(EncapFault::NoMemory) => Err(Failure::NoMemory),
+        Err(EncapFault::NoMemory) => Err(NoMemory),
     }
 }
 
 /// Bytes that enter the headend, in place: what stands behind the packet's end is cut.
-fn entering(alloc: Global, policy: &Policy, bytes: Vec<u8>) -> Result<AtHeadend, Failure>
+fn entering(alloc: Global, policy: &Policy, bytes: Vec<u8>) -> Result<AtHeadend, NoMemory>
     requires { IsPolicy policy.now }
     ensures { IfOk result (λ at. at ≡ of_content policy.now (entered bytes.items)) }
 {
@@ -226,7 +235,7 @@ fn entering(alloc: Global, policy: &Policy, bytes: Vec<u8>) -> Result<AtHeadend,
 }
 
 /// What becomes of a frame's packet at the headend.
-fn at_headend(alloc: Global, policy: &Policy, body: Body) -> Result<AtHeadend, Failure>
+fn at_headend(alloc: Global, policy: &Policy, body: Body) -> Result<AtHeadend, NoMemory>
     requires { IsPolicy policy.now }
     ensures { IfOk result (λ at. at ≡ at_headend policy.now body) }
 {
@@ -462,7 +471,8 @@ fn walk_bare<O: Sink, E: Sink>(
     requires policy { IsPolicy policy.now }
     requires choices { 0 < length choices.now }
     ensures { WroteAll (ending_of_step result)
-        (bare_pieces net.now intent.now policy.now choices.now packet)
+        (pieces_behind_head net.now intent.now policy.now choices.now
+        (reading_of (Packets.Bare packet)).frames)
         (sinks_of (O.seen out.old) (E.seen err.old)) (sinks_of (O.seen out.new) (E.seen err.new)) }
 {
     let at = at_headend(alloc, policy, Body::V6(packet))?;
@@ -524,7 +534,9 @@ fn headend_fits(net: &Net, intent: &Intent, policy: &Policy)
     ensures headend { intent.now.headend < length net.now.nodes }
     ensures policy { IsPolicy policy.now }
 {
-    let _ = (net, intent, policy);
+    let _ = net;
+    let _ = intent;
+    let _ = policy;
 }
 
 /// Walks the inner packets of the input, one after the other, from the headend of the intent of a
@@ -552,7 +564,8 @@ pub fn walk<F: Files, S: Source, O: Sink, E: Sink>(
 {
     let net = network_of_file(alloc, files, file)?;
     let intent = intent_of_file(alloc, files, &net, intent)?;
-    let policy = match start_of_intent(alloc, &net, &intent)? {
+    let start = start_of_intent(alloc, &net, &intent)?;
+    let policy = match start {
         Start::List(policy) => policy,
         Start::NoList(line) => {
             return Ok(Told {
