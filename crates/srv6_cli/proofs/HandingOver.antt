@@ -157,7 +157,7 @@ module _ (net : Network) (pick : ℕ → ℕ) where
         absurd (cc (sym (ap (option_map f) none) ∙ e))
     behind f (Some place) e less =
         let got = behind-some f (handed_over net (walk_of fuel net (Some place) gave.after pick taken)) h e in
-        ap (option_map f) (enough place gave.after taken got.0 got.1.0 (less place refl)) ∙ got.1.1
+        ap (option_map f) (enough place gave.after taken got.0 got.1 (less place refl)) ∙ got.2
 
   arrived-less : (content : Content) (n : ℕ) (end : Option ℕ) (from place : Place) → arrival end from ≡ Some place
       → rank (Arrived 0) content < n → rank place.how content < n

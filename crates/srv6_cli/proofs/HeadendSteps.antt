@@ -56,10 +56,21 @@ spelling-holds p ok =
       in_range = all-spelling p ok;
     }, got.1)
 
+v6-same : {p q : Packet} → V6 p ≡ V6 q → p ≡ q
+v6-same e = cc
+
 -- bytes that hold a packet, cut behind its end
-module _ (bytes cut : List ℕ) (holds : HoldsPacket bytes) (is : cut ≡ take (header_len + length (packet_at bytes).payload) bytes) where
+module _ (bytes cut : List ℕ) (view : Packet) (n : ℕ) (holds : HoldsPacket bytes) (content : content_of bytes ≡ V6 view)
+    (end : n ≡ header_len + length view.payload) (is : cut ≡ take n bytes) where
+  view-is : view ≡ packet_at bytes
+  view-is = v6-same (sym content ∙ holds.reads)
+
+  end-is : n ≡ header_len + stated_len bytes
+  end-is = end ∙ (ap (λ (p : Packet). header_len + length p.payload) view-is
+      ∙ ap (λ (k : ℕ). header_len + k) (holds-payload_len bytes holds))
+
   cut-spelled : cut ≡ spelling (packet_at bytes)
-  cut-spelled = is ∙ (ap (λ (n : ℕ). take (header_len + n) bytes) (holds-payload_len bytes holds) ∙ holds-front bytes holds)
+  cut-spelled = is ∙ (ap (λ (k : ℕ). take k bytes) end-is ∙ holds-front bytes holds)
 
   cut-packet : packet_at cut ≡ packet_at bytes
   cut-packet = ap packet_at cut-spelled ∙ (spelling-holds (packet_at bytes) (holds-spellable bytes holds)).1
@@ -73,7 +84,7 @@ module _ (bytes cut : List ℕ) (holds : HoldsPacket bytes) (is : cut ≡ take (
       let len : length cut ≡ 40 + length (packet_at cut).payload =
       ap length cut-spelled ∙ (length-spelling (packet_at bytes)
       ∙ ap (λ (p : Packet). 40 + length p.payload) (sym cut-packet)) in
-      (cut-holds, len ∙ ap (λ (n : ℕ). 40 + n) payload)
+      (cut-holds, len ∙ ap (λ (k : ℕ). 40 + k) payload)
 
   pub cut_enters : (policy : Policy) → of_encapsulating (encapsulated_by policy families.V6 cut) ≡ of_content policy (content_of bytes)
   cut_enters policy =

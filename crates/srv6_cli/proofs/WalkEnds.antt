@@ -191,7 +191,7 @@ module _ (file intent choices : List ℕ) where
             (λ text. HasListIn (network_in text) (file_named held intent))
             (λ text is. subst (λ (j : Result Network Refusal). HasListIn j (file_named held intent)) (sym is)
             (some-map (file_named held intent) (λ text. intent_in net text ≡ Ok value) (λ text. HasList net (intent_in net text))
-            (λ text is'. subst (HasList net) (sym is') (begins.0, begins.1.0, begins.1.1.0)) r)) h
+            (λ text is'. subst (HasList net) (sym is') (begins.0, (begins.1.0, begins.1.1))) r)) h
 
         unread : IfSome f.told (λ held. (¬ ReadsInput file intent held) → t ≡ s)
         unread = each-map f.told (ReadsInput file intent) (λ held. (¬ ReadsInput file intent held) → t ≡ s)
@@ -212,8 +212,8 @@ module _ (file intent choices : List ℕ) where
             → WantedOf (walk_shape file intent choices) f.told s.left output
         wants-list Q output q w = wants-answer Q output q
             (λ input h. subst (λ (b : Bool). TakenWants net value choices input b output) (sym begins.0)
-            (Ok begins.1.0, begins.1.1.0,
-            w input h ∙ ap (λ (p : Policy). walk_output net value p choices input) begins.1.1.1))
+            (Ok begins.1.0, begins.1.1,
+            w input h ∙ ap (λ (p : Policy). walk_output net value p choices input) begins.1.2))
 
         -- the input was refused, wasn't read, or memory was wanting
         pub walk_halted_at_input : (halt : Halt) → JudgesInput packets_in (Err halt) s t

@@ -1,5 +1,5 @@
 -- A walk of the compiled list keeps to the intent's steps.
-use Rattle.std.proofs.Common.{◌≡◌, ℕ, ◌+◌, ◌-◌, ◌*◌, ◌^◌, ◌<◌, ◌≤◌, List, [], ◌∷◌, length, map, slice_index, slice_get, Option, None, Some, refl, sym, ap, ◌∙◌, subst, arith}
+use Rattle.std.proofs.Common.{◌≡◌, ℕ, ◌+◌, ◌-◌, ◌*◌, ◌^◌, ◌<◌, ◌≤◌, List, [], ◌∷◌, length, map, slice_index, slice_get, Option, None, Some, refl, sym, ap, ap₂, ◌∙◌, subst, arith}
 use Rattle.std.proofs.lemmas.List.{length-map}
 use Rattle.v6_addr.specs.declared.address.Addr.{Addr}
 use Rattle.srv6_rules.specs.declared.policy.Policy.{Policy}
@@ -31,7 +31,7 @@ round-ipv6 e bytes hop =
 
 -- the segments are the first addresses of the SIDs of the path
 
-value_of : Addr → ℕ
+abbrev value_of : Addr → ℕ
 value_of a = a.value
 
 one-address : (net : Network) (intent : Intent) (n : ℕ)
@@ -46,7 +46,8 @@ one-address net intent n = by_sid (slice_get net.sids n) refl
 all-addresses : (net : Network) (intent : Intent) (sids : List ℕ)
     → map (λ (a : Addr). a.value) (map segment_of (containers_of (legs_value net intent).shape sids)) ≡ map (sid_address net) sids
 all-addresses net intent [] = refl
-all-addresses net intent (n ∷ ns) = rw (one-address net intent n, all-addresses net intent ns) refl
+all-addresses net intent (n ∷ ns) =
+    ap₂ (λ (a : ℕ) (as : List ℕ). a ∷ as) (one-address net intent n) (all-addresses net intent ns)
 
 module _ (net : Network) (intent : Intent) (c : Compiled) (compiled : IsCompiled net intent c) where
   segments : List ℕ
@@ -91,8 +92,8 @@ walks_keep net intent c choices inner byte compiled some is =
     record {
       outer = V6 packet;
       enters = ap of_encapsulating (made net intent c compiled inner is);
-      handed = got.1.0;
-      first = hands-within net (choice_at choices) got.0 STAGES _ (V6 packet) 0 got.1.0 got.1.1.0 (omega (arith, byte));
-      steps = got.1.1.1.0;
-      lowered = got.1.1.1.1;
+      handed = got.1;
+      first = hands-within net (choice_at choices) got.0 STAGES _ (V6 packet) 0 got.1 got.2 (omega (arith, byte));
+      steps = got.3;
+      lowered = got.4;
     }

@@ -77,14 +77,14 @@ list_fits net intent c is compiled =
     ∙ (ap length found.is_list.list ∙ length-map found.sids (container_of (legs_value net intent).shape)) in
     let containers = found.is_list.containers in
     let short = compiled.short in
-    let most = bounds.1.0 in
+    let most = bounds.1 in
     record {
       some = omega (arith, some, count);
       most = omega (arith, count, containers, short, most);
-      flow_label = bounds.1.1;
+      flow_label = bounds.2;
     }
 
 pub policy_fits : (net : Network) (intent : Intent) (policy : Policy) → IsIntent net intent
     → StartsAs net intent (Ok (starts.List policy)) → IsPolicy policy
 policy_fits net intent policy is begins =
-    subst IsPolicy (sym begins.1.1.1) (list_fits net intent begins.1.0 is begins.1.1.0)
+    subst IsPolicy (sym begins.1.2) (list_fits net intent begins.1.0 is begins.1.1)

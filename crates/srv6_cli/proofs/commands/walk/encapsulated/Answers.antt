@@ -3,5 +3,5 @@ use Rattle.srv6_cli.specs.declared.commands.walk.AtHeadend.TheVariants.{Enters}
 use Rattle.srv6_cli.proofs.HeadendSteps.{made_enters}
 use Rattle.srv6_cli.proofs.commands.walk.encapsulated.Goals as goal
 
-pub returns-in_ok-outer-in-Ok : goal.returns-in_ok-outer-in-Ok
-returns-in_ok-outer-in-Ok c = ap Enters c.in_ok-outer-in-Ok.ensures ∙ made_enters _ _ c.in-Ok.ensures.answer
+pub returns-in-Ok : goal.returns-in-Ok
+returns-in-Ok c = ap Enters c.in_ok-outer-in-Ok.ensures ∙ made_enters _ _ c.in-Ok.ensures.answer

@@ -3,6 +3,9 @@ use Rattle.std.proofs.lemmas.Result.{err_from_is_err_and}
 use Rattle.srv6_cli.specs.Answers.{ending_of_step, ending_of_failure}
 use Rattle.srx_edge.specs.Steps.{Whole}
 use Rattle.pcap_io.specs.Capture.{written_head_bytes}
+use Rattle.srv6_cli.specs.declared.packets.Packets.TheVariants.{Bare}
+use Rattle.srv6_cli.specs.Command.Walk.{pieces_behind_head}
+use Rattle.srv6_cli.specs.Packets.{reading_of}
 use Rattle.srv6_cli.proofs.PieceSteps.{cut_at_out, cut_at_line, behind_line}
 use Rattle.srv6_cli.proofs.WalkSteps.{behind_head}
 use Rattle.srv6_cli.proofs.commands.walk.walk_packets.Goals as goal
@@ -22,7 +25,8 @@ returns-in_err-walk_bare-in-Bare-clause-wrote g c =
 
 pub returns-in_ok-walk_bare-in-Bare-clause-wrote : goal.returns-in_ok-walk_bare-in-Bare-clause-wrote
 returns-in_ok-walk_bare-in-Bare-clause-wrote g c =
-    rw c.in-Bare.is (behind_head Whole _ (g.O.Sink.seen c.args.out.now) (g.O.Sink.seen c.write_head.new.out)
+    rw c.in-Bare.is (behind_head Whole (pieces_behind_head c.args.net.now c.args.intent.now c.args.policy.now c.args.choices.now
+    (reading_of (Bare c.in-Bare.packet)).frames) (g.O.Sink.seen c.args.out.now) (g.O.Sink.seen c.write_head.new.out)
     (g.E.Sink.seen c.args.err.now) _ c.in_ok-write_head.ensures c.in_ok-walk_bare-in-Bare.ensures)
 
 pub returns-in_err-tell_frames-in-Capture-clause-wrote : goal.returns-in_err-tell_frames-in-Capture-clause-wrote
