@@ -167,6 +167,7 @@ module _ (net : Network) (pick : ℕ → ℕ) where
     where
       some-place : {a b : Place} → Some a ≡ Some b → a ≡ b
       some-place e = cc
+
       rank-arrived : (c : Content) (n : ℕ) → rank (Arrived 0) c < n → rank (Arrived 0) c < n
       rank-arrived c n h = h
 

@@ -49,12 +49,14 @@ reads-whole bytes p e = reads-inside (length bytes == 0) ((slice_index bytes 0 /
 spelling-holds : (p : Packet) → IsSpellable p → HoldsPacket (spelling p) × (packet_at (spelling p) ≡ p)
 spelling-holds p ok =
     let reads = content_of-spelling_alone p ok in
-    let got = reads-whole (spelling p) p reads in
-    (record {
-      reads = reads ∙ ap V6 (sym got.1);
-      whole = ltb-false (length (spelling p)) (header_len + stated_len (spelling p)) got.0;
-      in_range = all-spelling p ok;
-    }, got.1)
+    let got = reads-whole (spelling p) p reads in (
+      record {
+        reads = reads ∙ ap V6 (sym got.1);
+        whole = ltb-false (length (spelling p)) (header_len + stated_len (spelling p)) got.0;
+        in_range = all-spelling p ok;
+      },
+      got.1,
+    )
 
 v6-same : {p q : Packet} → V6 p ≡ V6 q → p ≡ q
 v6-same e = cc

@@ -117,7 +117,8 @@ module _ (file intent choices : List ℕ) where
       (each f.told (λ held. IsFrontOf (names_of (walk_shape file intent choices) held) h.names)
       (λ held. front_longer (file ∷ []) h.names (behind held) h.front)) h.seen) refl) e
 
-  module _ (f mid g : FilesSeen) (s t : SourceSeen) (o e : SinkSeen) (net : Network) (judged : JudgesFile network_in file (Ok net) f mid) where
+  module _ (f mid g : FilesSeen) (s t : SourceSeen) (o e : SinkSeen) (net : Network)
+      (judged : JudgesFile network_in file (Ok net) f mid) where
     -- what is told is told of the files as they were
     of-first : (P : Held → Type 0) → IfSome mid.told P → IfSome f.told P
     of-first P h = subst (λ (files : FilesSeen). IfSome files.told P) judged.1 h
@@ -178,7 +179,8 @@ module _ (file intent choices : List ℕ) where
           → told.line ≡ line → told.status ≡ statuses.NoAnswer
           → Commands (Walk file intent choices) (Ok told) (outside f s o e) (outside g s o e)
       walk_without_list line told h is status = pieces_whole (Walk file intent choices) [] (outside f s o e) (outside g s o e) told refl
-          (rw (is, status) (wants-answer (λ input. Unit {0}) (no_list (bytes_of_text line)) (any-input s.left) (λ input _. h choices input)))
+          (rw (is, status) (wants-answer (λ input. Unit {0}) (no_list (bytes_of_text line)) (any-input s.left)
+          (λ input _. h choices input)))
           (rw status refl) (inr (inr (inl status))) (takes-unread Never f g s (asks-both Never read.1) refl)
           (λ done. cc (sym status ∙ done))
 
@@ -211,9 +213,11 @@ module _ (file intent choices : List ℕ) where
             → ((input : List ℕ) → Q input → output ≡ walk_output net value policy choices input)
             → WantedOf (walk_shape file intent choices) f.told s.left output
         wants-list Q output q w = wants-answer Q output q
-            (λ input h. subst (λ (b : Bool). TakenWants net value choices input b output) (sym begins.0)
-            (Ok begins.1.0, begins.1.1,
-            w input h ∙ ap (λ (p : Policy). walk_output net value p choices input) begins.1.2))
+            (λ input h. subst (λ (b : Bool). TakenWants net value choices input b output) (sym begins.0) (
+              Ok begins.1.0,
+              begins.1.1,
+              w input h ∙ ap (λ (p : Policy). walk_output net value p choices input) begins.1.2,
+            ))
 
         -- the input was refused, wasn't read, or memory was wanting
         pub walk_halted_at_input : (halt : Halt) → JudgesInput packets_in (Err halt) s t

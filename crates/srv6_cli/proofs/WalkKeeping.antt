@@ -47,7 +47,7 @@ all-addresses : (net : Network) (intent : Intent) (sids : List ℕ)
     → map (λ (a : Addr). a.value) (map segment_of (containers_of (legs_value net intent).shape sids)) ≡ map (sid_address net) sids
 all-addresses net intent [] = refl
 all-addresses net intent (n ∷ ns) =
-    ap₂ (λ (a : ℕ) (as : List ℕ). a ∷ as) (one-address net intent n) (all-addresses net intent ns)
+    ap₂ (λ (a : ℕ) (more : List ℕ). a ∷ more) (one-address net intent n) (all-addresses net intent ns)
 
 module _ (net : Network) (intent : Intent) (c : Compiled) (compiled : IsCompiled net intent c) where
   segments : List ℕ

@@ -56,9 +56,11 @@ intent_bounds net intent h =
     let b = and_parts (nat_le 1 intent.hop_limit) _ a.1 in
     let c = and_parts (nat_le 1 intent.max_containers) _ b.1 in
     let d = and_parts (nat_le intent.max_containers 127) _ c.1 in
-    let e = and_parts (nat_lt intent.flow_label (2 ^ 20)) _ d.1 in
-    (ltb-true intent.headend (length net.nodes) a.0, leb-true intent.max_containers 127 d.0,
-    ltb-true intent.flow_label (2 ^ 20) e.0)
+    let e = and_parts (nat_lt intent.flow_label (2 ^ 20)) _ d.1 in (
+      ltb-true intent.headend (length net.nodes) a.0,
+      leb-true intent.max_containers 127 d.0,
+      ltb-true intent.flow_label (2 ^ 20) e.0,
+    )
 
 -- a path has a SID
 some-sids : (net : Network) (intent : Intent) (sids : List ℕ) (need : ℕ) → path_need net intent 0 None sids ≡ Some need → 0 < length sids

@@ -121,14 +121,14 @@ fn read_words(alloc: Global, words: &[String]) -> Result<Words<'_>, AllocError>
                 intent: intent.as_str(),
             })
         }
-        [verb, file, intent]
-            if verb.as_str() == "walk" && !file.is_empty() && !intent.is_empty() => {
-            Ok(Words::Walk {
-                file: file.as_str(),
-                intent: intent.as_str(),
-                choices: vec![in alloc; 0]?,
-            })
-        }
+        [verb, file, intent] if verb.as_str() == "walk" && !file.is_empty() && !intent.is_empty() =>
+            {
+                Ok(Words::Walk {
+                    file: file.as_str(),
+                    intent: intent.as_str(),
+                    choices: vec![in alloc; 0]?,
+                })
+            }
         [verb, file, intent, choices]
             if verb.as_str() == "walk" && !file.is_empty() && !intent.is_empty() => {
             walk_with(alloc, file.as_str(), intent.as_str(), choices.as_str())

@@ -520,9 +520,7 @@ fn walk_packets<O: Sink, E: Sink>(
         Packets::Capture(head, bytes) => {
             let behind = bytes.as_slice().split_at(HEAD_LEN).1;
             tell_frames(alloc, net, intent, policy, head, behind, err)?;
-            walk_frames(
-                alloc, net, intent, policy, choices, head, behind, out, err,
-            )
+            walk_frames(alloc, net, intent, policy, choices, head, behind, out, err)
         }
     }
 }

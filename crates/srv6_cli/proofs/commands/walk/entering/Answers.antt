@@ -1,4 +1,4 @@
-use Rattle.std.proofs.Common.{◌≡◌, ◌+◌, ap, ◌∙◌, sym, subst, IfOk, take}
+use Rattle.std.proofs.Common.{◌≡◌, ◌+◌, ap, ◌∙◌, sym, subst, refl, IfOk, take}
 use Rattle.pkt_buf.specs.BufferView.{Buffer}
 use Rattle.srv6_rules.specs.Packet.{header_len, content_of}
 use Rattle.srv6_cli.specs.declared.commands.walk.AtHeadend.{AtHeadend}
@@ -8,7 +8,7 @@ use Rattle.srv6_cli.proofs.commands.walk.entering.Goals as goal
 
 pub encapsulated-requires-clause-packet : goal.encapsulated-requires-clause-packet
 encapsulated-requires-clause-packet c =
-    cut_inner c.as_slice.result.now c.of.result.bytes c.in-Ok.view (header_len + c.from.result) (c.in-Ok.ensures.whole tt)
+    cut_inner c.as_slice.result.now c.of.result.bytes c.in-Ok.view (header_len + c.from.result) (c.in-Ok.ensures.whole refl)
     c.in-Ok.ensures.content (ap (λ k. header_len + k) (c.from.ensures ∙ c.payload_len.ensures))
     (ap (λ (b : Buffer). b.bytes) c.of.ensures ∙ (c.truncate-2.ensures.items
     ∙ ap (take (header_len + c.from.result)) (sym c.as_slice.ensures.value)))
@@ -16,7 +16,7 @@ encapsulated-requires-clause-packet c =
 pub returns : goal.returns
 returns c =
     subst (λ (a : AtHeadend). IfOk c.encapsulated.result (λ at. at ≡ a))
-    (cut_enters c.as_slice.result.now c.of.result.bytes c.in-Ok.view (header_len + c.from.result) (c.in-Ok.ensures.whole tt)
+    (cut_enters c.as_slice.result.now c.of.result.bytes c.in-Ok.view (header_len + c.from.result) (c.in-Ok.ensures.whole refl)
     c.in-Ok.ensures.content (ap (λ k. header_len + k) (c.from.ensures ∙ c.payload_len.ensures))
     (ap (λ (b : Buffer). b.bytes) c.of.ensures ∙ (c.truncate-2.ensures.items
     ∙ ap (take (header_len + c.from.result)) (sym c.as_slice.ensures.value)))

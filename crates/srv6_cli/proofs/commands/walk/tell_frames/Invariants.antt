@@ -6,7 +6,8 @@ use Rattle.srv6_cli.proofs.FrameSteps.{LinesWent}
 use Rattle.srv6_cli.proofs.commands.walk.tell_frames.Given as goal
 
 abbrev pub invariant-frames : goal.invariant-frames
-invariant-frames g l = LinesWent (ended_of_frame l.net l.intent l.policy) (frames_of l.fn.head MAX_FRAMES 1 l.behind) l.reader (g.E.Sink.seen l.fn.err)
+invariant-frames g l = LinesWent (ended_of_frame l.net l.intent l.policy)
+    (frames_of l.fn.head MAX_FRAMES 1 l.behind) l.reader (g.E.Sink.seen l.fn.err)
     (g.E.Sink.seen l.err)
 
 abbrev pub decreases-frames : goal.decreases-frames
