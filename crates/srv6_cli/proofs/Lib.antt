@@ -9,6 +9,12 @@ pub mod Walking
 pub mod Writable
 pub mod Commanding
 pub mod Compiling
+pub mod WalkEnds
+pub mod WalkSteps
+pub mod HeadendSteps
+pub mod WalkStarts
+pub mod HandingOver
+pub mod WalkKeeping
 pub mod Serving
 pub mod Stops
 pub mod Consequences

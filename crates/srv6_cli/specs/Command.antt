@@ -1,6 +1,7 @@
 -- The words of the command line, and the shapes of the commands that they name (own rules).
 pub mod Run
 pub mod Compile
+pub mod Walk
 pub mod Show
 use Rattle.std.specs.Prelude.{◌≡◌, ℕ, ◌<◌, true, false, if◌then◌else◌, List, [], ◌∷◌, length, map, Option, Some, None, String, string_bytes, ⊤}
 use Rattle.std.specs.declared.alloc.Global.{Global}
@@ -15,6 +16,7 @@ use Rattle.srv6_cli.specs.Words.{Command}
 use Rattle.srv6_cli.specs.Words as commands
 use Rattle.srv6_cli.specs.Command.Run.{is_run, no_choices, run_shape}
 use Rattle.srv6_cli.specs.Command.Compile.{is_compile, compile_shape}
+use Rattle.srv6_cli.specs.Command.Walk.{is_walk, walk_shape}
 use Rattle.srv6_cli.specs.Command.Show.{is_show, show_shape}
 
 abbrev pub command_of_one : List ℕ → Command
@@ -24,15 +26,21 @@ abbrev pub run_with : List ℕ → List ℕ → Option (List ℕ) → Command
 run_with file node None = commands.Unknown
 run_with file node (Some choices) = commands.Run file node choices
 
+abbrev pub walk_with : List ℕ → List ℕ → Option (List ℕ) → Command
+walk_with file intent None = commands.Unknown
+walk_with file intent (Some choices) = commands.Walk file intent choices
+
 abbrev pub command_of_three : List ℕ → List ℕ → List ℕ → Command
 command_of_three verb first second =
     if is_run verb first second then commands.Run first second no_choices
     else if is_compile verb first second then commands.Compile first second
+    else if is_walk verb first second then commands.Walk first second no_choices
     else commands.Unknown
 
 abbrev pub command_of_four : List ℕ → List ℕ → List ℕ → List ℕ → Command
 command_of_four verb first second third =
     if is_run verb first second then run_with first second (choices_in third)
+    else if is_walk verb first second then walk_with first second (choices_in third)
     else commands.Unknown
 
 abbrev pub command_of : List (List ℕ) → Command
@@ -62,6 +70,7 @@ usage_shape = record {
 abbrev pub shape_of : Command → Shape
 shape_of (commands.Run file node choices) = run_shape file node choices
 shape_of (commands.Compile file intent) = compile_shape file intent
+shape_of (commands.Walk file intent choices) = walk_shape file intent choices
 shape_of commands.Show = show_shape
 shape_of commands.Unknown = usage_shape
 
@@ -69,12 +78,14 @@ shape_of commands.Unknown = usage_shape
 abbrev pub command_seen : Words → Command
 command_seen (words.Run file node choices) = commands.Run file.now node.now choices.items
 command_seen (words.Compile file intent) = commands.Compile file.now intent.now
+command_seen (words.Walk file intent choices) = commands.Walk file.now intent.now choices.items
 command_seen words.Show = commands.Show
 command_seen words.Unknown = commands.Unknown
 
--- a run has at least one choice
+-- a run and a walk have at least one choice
 abbrev pub HasChoices : Words → Type 0
 HasChoices (words.Run file node choices) = 0 < length choices.items
 HasChoices (words.Compile file intent) = ⊤
+HasChoices (words.Walk file intent choices) = 0 < length choices.items
 HasChoices words.Show = ⊤
 HasChoices words.Unknown = ⊤

@@ -139,6 +139,7 @@ packet_line net number ends.Stages = stages_line number
 unfoldable pub unread_name : Unread → List ℕ
 unread_name unreads.ShortFrame = codes "ShortFrame"
 unread_name unreads.NotIp = codes "NotIp"
+unread_name unreads.WrongVersion = codes "WrongVersion"
 
 unfoldable pub unread_line : ℕ → Unread → List ℕ
 unread_line number cause = codes "packet " ++ (decimal number ++ (codes ": not read, " ++ (unread_name cause ++ 10 ∷ [])))

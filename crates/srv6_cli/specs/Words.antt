@@ -6,6 +6,7 @@ use Rattle.std.specs.Str.{bytes_eq}
 pub data Command : Type 0 where
   Run : List ℕ → List ℕ → List ℕ → Command
   Compile : List ℕ → List ℕ → Command
+  Walk : List ℕ → List ℕ → List ℕ → Command
   Show : Command
   Unknown : Command
 

@@ -3,12 +3,13 @@
 ghost use Rattle.std.specs.Prelude.{◌≡◌, IfOk};
 ghost use Rattle.srv6_cli.specs.Answers.{Commands, UsageTold};
 ghost use Rattle.srv6_cli.specs.Choices.{choices_in};
-ghost use Rattle.srv6_cli.specs.Command.{HasChoices, command_of, command_seen, run_with, words_of};
+ghost use Rattle.srv6_cli.specs.Command.{HasChoices, command_of, command_seen, run_with, walk_with, words_of};
 ghost use Rattle.srv6_cli.specs.Outside.{outside};
 
 mod compile;
 mod run;
 mod show;
+mod walk;
 
 use crate::choices::choices_of;
 use crate::halt::Halt;
@@ -37,6 +38,16 @@ pub enum Words<'a> {
         /// The intent's name.
         intent: &'a str,
     },
+    /// A walk of the inner packets of the input along the list for the intent of a file in the
+    /// network that another describes.
+    Walk {
+        /// The description's name.
+        file: &'a str,
+        /// The intent's name.
+        intent: &'a str,
+        /// The choices that each packet takes, at least one.
+        choices: Vec<u32>,
+    },
     /// The headers of the packets of the input as lines.
     Show,
     /// Nothing that there is.
@@ -58,6 +69,27 @@ fn run_with<'a>(
         Some(choices) => Ok(Words::Run {
             file,
             node,
+            choices,
+        }),
+        None => Ok(Words::Unknown),
+    }
+}
+
+/// What the words of a walk with choices spell.
+fn walk_with<'a>(
+    alloc: Global,
+    file: &'a str,
+    intent: &'a str,
+    choices: &str,
+) -> Result<Words<'a>, AllocError>
+    ensures spelled { IfOk result (λ words. command_seen words
+        ≡ walk_with file.now intent.now (choices_in choices.now)) }
+    ensures some { IfOk result HasChoices }
+{
+    match choices_of(alloc, choices)? {
+        Some(choices) => Ok(Words::Walk {
+            file,
+            intent,
             choices,
         }),
         None => Ok(Words::Unknown),
@@ -88,6 +120,18 @@ fn read_words(alloc: Global, words: &[String]) -> Result<Words<'_>, AllocError>
                 file: file.as_str(),
                 intent: intent.as_str(),
             })
+        }
+        [verb, file, intent] if verb.as_str() == "walk" && !file.is_empty() && !intent.is_empty() =>
+            {
+                Ok(Words::Walk {
+                    file: file.as_str(),
+                    intent: intent.as_str(),
+                    choices: vec![in alloc; 0]?,
+                })
+            }
+        [verb, file, intent, choices]
+            if verb.as_str() == "walk" && !file.is_empty() && !intent.is_empty() => {
+            walk_with(alloc, file.as_str(), intent.as_str(), choices.as_str())
         }
         _ => Ok(Words::Unknown),
     }
@@ -134,6 +178,20 @@ pub fn command<F: Files, S: Source, O: Sink, E: Sink>(
             err,
         ),
         Words::Compile { file, intent } => compile::compile(alloc, file, intent, files, out),
+        Words::Walk {
+            file,
+            intent,
+            choices,
+        } => walk::walk(
+            alloc,
+            file,
+            intent,
+            choices.as_slice(),
+            files,
+            input,
+            out,
+            err,
+        ),
         Words::Show => show::show(alloc, input, out),
         Words::Unknown => usage(),
     }

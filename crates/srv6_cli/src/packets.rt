@@ -39,6 +39,8 @@ pub enum Unread {
     ShortFrame,
     /// It holds no IP packet.
     NotIp,
+    /// It holds a packet of another family than the intent's.
+    WrongVersion,
 }
 
 /// The cause's name. (own rule)
@@ -53,6 +55,7 @@ impl fmt::Display for Unread {
         f.write_str(match self {
             Unread::ShortFrame => "ShortFrame",
             Unread::NotIp => "NotIp",
+            Unread::WrongVersion => "WrongVersion",
         })
     }
 }

@@ -78,6 +78,24 @@ links = ["bc"]
 function = "vpn"
 "#;
 
+/// The same with an outer hop limit that is enough.
+const ENOUGH: &str = r#"
+headend = "A"
+source = "2001:db8::a"
+inner = "ipv6"
+mode = "reduced"
+hop_limit = 2
+
+[[step]]
+links = ["ab"]
+
+[[step]]
+links = ["bc"]
+
+[[step]]
+function = "vpn"
+"#;
+
 /// One segment, and no routing header: 40 bytes of outer header.
 const REPORT: &str = "# container fcbb:bb00:f001::\n# containers 1\n# header 40\n# need 1\n";
 
@@ -127,7 +145,7 @@ fn words_of(alloc: Global, words: &[&str]) -> Result<Vec<String>, AllocError> {
     Ok(list)
 }
 
-/// The two files, of which the read of this number fails.
+/// The files, of which the read of this number fails.
 fn files_of(alloc: Global, fails: u64) -> Result<MemFiles, Fail> {
     let mut files = MemFiles::new(alloc, &[fails])?;
     if !files.holds("net.toml") {
@@ -135,6 +153,9 @@ fn files_of(alloc: Global, fails: u64) -> Result<MemFiles, Fail> {
     }
     if !files.holds("intent.toml") {
         files.hold("intent.toml", INTENT.as_bytes())?;
+    }
+    if !files.holds("enough.toml") {
+        files.hold("enough.toml", ENOUGH.as_bytes())?;
     }
     Ok(files)
 }
@@ -183,12 +204,30 @@ const RUN: &[&str] = &["run", "net.toml", "A"];
 
 const COMPILE: &[&str] = &["compile", "net.toml", "intent.toml"];
 
+const WALK: &[&str] = &["walk", "net.toml", "enough.toml", "0"];
+
+const WALK_WITHOUT_LIST: &[&str] = &["walk", "net.toml", "intent.toml"];
+
 const SHOW: &[&str] = &["show"];
 
 /// The description is read by one call; the input by one, and a second one finds its end; the head
 /// and each of three frames are written by one, and so is the line.
 const OF_RUN: &[Faults] = &[
     Faults { files: 1, ..NONE },
+    Faults { input: 1, ..NONE },
+    Faults { input: 2, ..NONE },
+    Faults { out: 1, ..NONE },
+    Faults { out: 2, ..NONE },
+    Faults { out: 3, ..NONE },
+    Faults { out: 4, ..NONE },
+    Faults { err: 1, ..NONE },
+];
+
+/// Each file is read by one call; the input by one, and a second one finds its end; the head and
+/// each of three frames are written by one, and so is the line.
+const OF_WALK: &[Faults] = &[
+    Faults { files: 1, ..NONE },
+    Faults { files: 2, ..NONE },
     Faults { input: 1, ..NONE },
     Faults { input: 2, ..NONE },
     Faults { out: 1, ..NONE },
@@ -232,6 +271,31 @@ fn each_call_of_show_fails(rt: HostRuntime) -> Result<(), Fail> {
 #[test]
 fn each_call_of_compile_fails(rt: HostRuntime) -> Result<(), Fail> {
     expect_fronts(&rt, rt.alloc(), COMPILE, OF_COMPILE)
+}
+
+/// The outer packet crosses two links with 40 bytes more, and C hands the inner packet over, which
+/// leaves with its hop limit lowered at the headend and at C, 64 less 2.
+#[test]
+fn each_call_of_walk_fails(rt: HostRuntime) -> Result<(), Fail> {
+    expect_fronts(&rt, rt.alloc(), WALK, OF_WALK)?;
+    let whole = serve_words(rt.alloc(), WALK, &NONE)?;
+    assert_eq!(rt; whole.status, Status::Done);
+    // A head of 24 bytes, two frames of 16 and 80, and one of 16 and 40.
+    assert_eq!(rt; whole.out.len(), 272);
+    assert_eq!(rt; whole.out.as_slice().get(239), Some(&62));
+    assert_eq!(rt; whole.err.as_slice(), b"packet 1: left out\n".as_slice());
+    Ok(())
+}
+
+/// There is no capture, and the input is not read.
+#[test]
+fn walk_without_list(rt: HostRuntime) -> Result<(), Fail> {
+    let beyond = Faults { input: 1, ..NONE };
+    let one = serve_words(rt.alloc(), WALK_WITHOUT_LIST, &beyond)?;
+    assert_eq!(rt; one.status, Status::NoAnswer);
+    assert_eq!(rt; one.out.len(), 0);
+    assert_eq!(rt; one.err.as_slice(), b"no answer HopLimit 1\n".as_slice());
+    Ok(())
 }
 
 #[test]

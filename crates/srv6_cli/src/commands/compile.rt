@@ -25,7 +25,7 @@ use std::alloc::{AllocError, Global};
 use v6_addr::Addr;
 
 /// The address of a container.
-fn address_of_container(container: &Container) -> Addr
+pub fn address_of_container(container: &Container) -> Addr
     ensures { result.value ≡ container_address container.now }
 {
     let Container::Full(prefixes) = container;
@@ -88,7 +88,7 @@ fn is_ipv6(family: Family) -> bool
 
 /// Whether the compiler takes the network and the intent: lists take all SIDs, and the packets are
 /// IPv6. (own rule)
-fn takes(net: &Net, intent: &Intent) -> bool
+pub fn takes(net: &Net, intent: &Intent) -> bool
     ensures { result ≡ takes net.now intent.now }
 {
     is_ipv6(intent.inner) && all_listed(net)

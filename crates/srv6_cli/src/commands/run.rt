@@ -31,7 +31,7 @@ use walk_rules::{How, Place};
 
 /// Writes the capture's head.
 #[tactic(auto, using(crate::proofs::Writing::writing))]
-fn write_head<O: Sink>(alloc: Global, out: &mut O) -> Result<(), Failure>
+pub fn write_head<O: Sink>(alloc: Global, out: &mut O) -> Result<(), Failure>
     ensures { Wrote (ending_of_step result) written_head_bytes (O.seen out.old) (O.seen out.new) }
 {
     let mut head = Vec::new(alloc);

@@ -1,0 +1,268 @@
+-- A walk that hands over does so within its stages: each stage before that lowers the hop limit, or sends what was submitted.
+use Rattle.std.proofs.Common.{◌≡◌, ℕ, zero, suc, ◌+◌, ◌-◌, ◌*◌, ◌<◌, ◌≤◌, Bool, true, false, List, [], ◌∷◌, Option, None, Some, refl, sym, ap, ◌∙◌, subst, arith, inl, inr}
+use Rattle.std.specs.Prelude.{slice_get, nat_le, ◌&&◌, not, if◌then◌else◌}
+use Rattle.std.specs.List.{list_all}
+use Rattle.std.specs.Option.{option_map}
+use Rattle.std.proofs.lemmas.Bool.{cases_lt, and_parts}
+use Rattle.srv6_rules.specs.Packet.{Packet, Content, V6, V4, Unreadable, spelling}
+use Rattle.srv6_rules.specs.declared.sid.Behaviour.{Behaviour}
+use Rattle.srv6_rules.specs.declared.sid.Behaviour.TheVariants as behaviours
+use Rattle.srv6_rules.specs.declared.sid.Family.TheVariants as families
+use Rattle.srv6_rules.specs.declared.sid.Family.{Family}
+use Rattle.srv6_rules.specs.declared.sid.Reason.{Reason}
+use Rattle.srv6_rules.specs.declared.sid.Reason.TheVariants as reasons
+use Rattle.srv6_rules.specs.declared.sid.SidEntry.{SidEntry}
+use Rattle.srv6_rules.specs.Endpoint.{Endpoint, Onward, Exposed, Delivered, Refused, at_sid, at_address}
+use Rattle.srv6_rules.specs.Behaviours.{behaviour_policy, behaviour_reduces, behaviour_is_listed, is_plain, is_listed}
+use Rattle.srv6_rules.specs.Policies.{Encapsulating, Outer, TooBig, InnerHop, pushed_by}
+use Rattle.net_model.specs.Best.{lookup_of}
+use Rattle.net_model.specs.declared.parts.NamedPolicy.{NamedPolicy}
+use Rattle.net_model.specs.Network.{Network}
+use Rattle.net_model.specs.declared.net.Hit.{Hit}
+use Rattle.net_model.specs.declared.net.Hit.TheVariants as hits
+use Rattle.walk_rules.specs.declared.place.How.{How}
+use Rattle.walk_rules.specs.declared.place.How.TheVariants.{Arrived, Submitted, Through}
+use Rattle.walk_rules.specs.declared.place.Place.{Place}
+use Rattle.walk_rules.specs.declared.place.Outcome.{Outcome}
+use Rattle.walk_rules.specs.declared.place.Outcome.TheVariants as outcomes
+use Rattle.walk_rules.specs.Treatment.{Gave, step_of, treated, treated_in, treated_at_sid, treated_at_address, sent, pushed_at_sid, bound_at_sid, onward_at_sid, allow_of}
+use Rattle.walk_rules.specs.Way.{Way, Away, Over, Own, Into, way_of, way_by, way_by_hit, is_multicast_of}
+use Rattle.walk_rules.specs.Walk.{Step, walk_of, far_end, arrival, next_place, decisions}
+use Rattle.walk_rules.specs.Laws.{IsLoweredByOne}
+use Rattle.walk_rules.proofs.PublicLaws.{walk_of-suc, walk_of-zero, walk_of-none, step-again, step-less, sent-low, sent-high}
+use Rattle.leg_table.specs.Sids.{AllListed}
+use Rattle.leg_table.specs.Trace.{Handed, after_events, executed, Crossed, handed_first, handed_over}
+
+-- how often a packet may still be looked up: twice for each lowering that its hop limit has left, and once more where its
+-- next Send lowers nothing
+
+abbrev waits : How → ℕ
+waits (Arrived table) = 0
+waits (Submitted table) = 1
+waits (Through sid lower) = 1
+
+-- a packet may be looked up less often than a number; no other content comes before a packet is handed over
+abbrev pub IsUnder : How → Content → ℕ → Type 0
+IsUnder how (V6 p) n = 2 * p.hop_limit + waits how < n
+IsUnder how (V4 p) n = ⊥
+IsUnder how (Unreadable bytes reason) n = ⊥
+
+-- what arrived is lowered where it is sent
+
+abbrev Suits : How → Way → Type 0
+Suits how (Over set true) = Unit {0}
+Suits how (Over set false) = waits how ≡ 1
+Suits how (Away reason) = Unit {0}
+Suits how Own = Unit {0}
+Suits how (Into n) = Unit {0}
+
+suits-hit : (net : Network) (how : How) (lower : Bool) (reason : Reason) (away : Bool) (hit : Hit) → Suits how (Over [] lower)
+    → Suits how (if away then Away reason else way_by_hit net lower hit)
+suits-hit net how lower reason true hit h = tt
+suits-hit net how lower reason false (hits.Sid n) h = tt
+suits-hit net how lower reason false hits.Address h = tt
+suits-hit net how true reason false (hits.Route n) h = tt
+suits-hit net how false reason false (hits.Route n) h = h
+suits-hit net how lower reason false hits.Nothing h = tt
+
+suits-by : (net : Network) (node : ℕ) (how : How) (family : Family) (d : ℕ) → Suits how (way_by net node how family d)
+suits-by net node (Arrived table) family d = suits-hit net (Arrived table) true reasons.Multicast (is_multicast_of family d)
+    (lookup_of net node table family d) tt
+suits-by net node (Submitted table) family d = suits-hit net (Submitted table) false reasons.Multicast (is_multicast_of family d)
+    (lookup_of net node table family d) refl
+suits-by net node (Through sid true) family d = tt
+suits-by net node (Through sid false) family d = refl
+
+suits : (net : Network) (place : Place) (d : ℕ) → Suits place.how (way_of net place d)
+unfolding way_of
+suits net place d = suits-by net place.node place.how place.family d
+
+-- a Send leaves less
+
+abbrev SendLess : ℕ → Outcome → Content → Type 0
+SendLess n (outcomes.Send link) after = IsUnder (Arrived 0) after n
+SendLess n (outcomes.Again sid how) after = Unit {0}
+SendLess n (outcomes.Hand sid how family) after = Unit {0}
+SendLess n outcomes.Local after = Unit {0}
+SendLess n (outcomes.Drop reason told) after = Unit {0}
+
+abbrev GaveLess : ℕ → Gave → Type 0
+GaveLess n gave = SendLess n gave.outcome gave.after
+
+sent-less : (net : Network) (node : ℕ) (how : How) (set : List ℕ) (lower : Bool) (p : Packet) (choice n : ℕ) → Suits how (Over set lower)
+    → IsUnder how (V6 p) (suc n) → GaveLess n (sent net node set lower p choice)
+sent-less net node how set true p choice n h under = elim (cases_lt 1 p.hop_limit) [
+  | inl high ↦ subst (GaveLess n) (sym (sent-high net node set p choice high)) (omega (arith, high, under))
+  | inr low ↦ subst (GaveLess n) (sym (sent-low net node set p choice low)) tt
+]
+sent-less net node how set false p choice n h under = omega (arith, h, under)
+
+address-less : (net : Network) (node n : ℕ) (p : Packet) (e : Endpoint) → GaveLess n (treated_at_address net node p e)
+address-less net node n p (Onward q) = tt
+address-less net node n p (Exposed family bytes) = tt
+address-less net node n p (Delivered q) = tt
+address-less net node n p (Refused reason at) = tt
+
+pushed-less : (net : Network) (node n k : ℕ) (b : Behaviour) (p : Packet) (e : Encapsulating) → GaveLess n (pushed_at_sid net node k b p e)
+pushed-less net node n k b p (Outer outer) = tt
+pushed-less net node n k b p (TooBig length) = tt
+pushed-less net node n k b p InnerHop = tt
+
+bound-less : (net : Network) (node n k : ℕ) (b : Behaviour) (p q : Packet) (o : Option NamedPolicy)
+    → GaveLess n (bound_at_sid net node k b p q o)
+bound-less net node n k b p q None = tt
+bound-less net node n k b p q (Some named) =
+    pushed-less net node n k b p (pushed_by named.policy (behaviour_reduces b) families.V6 (spelling q))
+
+onward-less : (net : Network) (node n k : ℕ) (b : Behaviour) (p q : Packet) (o : Option ℕ) → GaveLess n (onward_at_sid net node k b p q o)
+onward-less net node n k b p q None = tt
+onward-less net node n k b p q (Some number) = bound-less net node n k b p q (slice_get net.policies number)
+
+sid-less : (net : Network) (node n k : ℕ) (b : Behaviour) (p : Packet) (e : Endpoint) → GaveLess n (treated_at_sid net node k b p e)
+sid-less net node n k b p (Onward q) = onward-less net node n k b p q (behaviour_policy b)
+sid-less net node n k b p (Exposed family bytes) = tt
+sid-less net node n k b p (Delivered q) = tt
+sid-less net node n k b p (Refused reason at) = tt
+
+into-less : (net : Network) (node n k : ℕ) (p : Packet) (o : Option SidEntry) → GaveLess n (treated_in net node k o p)
+into-less net node n k p None = tt
+into-less net node n k p (Some s) = sid-less net node n k s.behaviour p (at_sid s (allow_of (slice_get net.nodes node)) p)
+
+way-less : (net : Network) (node : ℕ) (how : How) (w : Way) (p : Packet) (choice n : ℕ) → Suits how w → IsUnder how (V6 p) (suc n)
+    → GaveLess n (treated net node w p choice)
+way-less net node how (Away reason) p choice n h under = tt
+way-less net node how (Over set lower) p choice n h under = sent-less net node how set lower p choice n h under
+way-less net node how Own p choice n h under = address-less net node n p (at_address p)
+way-less net node how (Into k) p choice n h under = into-less net node n k p (slice_get net.sids k)
+
+step-sends-less : (net : Network) (place : Place) (content : Content) (choice n : ℕ) → IsUnder place.how content (suc n)
+    → GaveLess n (step_of net place content choice)
+step-sends-less net place (Unreadable bytes reason) choice n under = absurd under
+step-sends-less net place (V4 p) choice n under = absurd under
+step-sends-less net place (V6 p) choice n under =
+    way-less net place.node place.how (way_of net place p.destination) p choice n (suits net place p.destination) under
+
+-- so does an execution after which the packet stays at the node
+
+again-less : (how on : How) (content after : Content) (n : ℕ) → IsLoweredByOne content after → IsUnder how content (suc n)
+    → IsUnder on after n
+again-less how (Arrived table) (V6 p) (V6 q) n h under = let less = h.1 in omega (arith, less, under)
+again-less how (Submitted table) (V6 p) (V6 q) n h under = let less = h.1 in omega (arith, less, under)
+again-less how (Through sid lower) (V6 p) (V6 q) n h under = let less = h.1 in omega (arith, less, under)
+again-less how on (V6 p) (V4 q) n h under = absurd h
+again-less how on (V6 p) (Unreadable bytes reason) n h under = absurd h
+again-less how on (V4 p) after n h under = absurd h
+again-less how on (Unreadable bytes reason) after n h under = absurd h
+
+-- a SID that lists take binds no policy
+
+behaviour-unbound : (b : Behaviour) → behaviour_is_listed b ≡ true → behaviour_policy b ≡ None
+behaviour-unbound behaviours.End is = refl
+behaviour-unbound behaviours.EndX is = refl
+behaviour-unbound (behaviours.EndT table) is = refl
+behaviour-unbound behaviours.Dx6 is = refl
+behaviour-unbound behaviours.Dx4 is = refl
+behaviour-unbound (behaviours.Dt6 table) is = refl
+behaviour-unbound (behaviours.Dt4 table) is = refl
+behaviour-unbound (behaviours.Dt46 table) is = refl
+behaviour-unbound (behaviours.B6 policy) is = cc
+behaviour-unbound (behaviours.B6Red policy) is = cc
+
+listed-unbound : (s : SidEntry) → is_listed s ≡ true → behaviour_policy s.behaviour ≡ None
+listed-unbound s is =
+    let plain = and_parts (is_plain s.csid) _ is in
+    let psp = and_parts (not s.psp) _ plain.1 in
+    let usp = and_parts (not s.usp) _ psp.1 in
+    behaviour-unbound s.behaviour (and_parts (not s.usd) (behaviour_is_listed s.behaviour) usp.1).1
+
+listed-in : (ss : List SidEntry) (n : ℕ) (s : SidEntry) → list_all is_listed ss ≡ true → slice_get ss n ≡ Some s → is_listed s ≡ true
+listed-in [] n s all there = cc
+listed-in (t ∷ ts) zero s all there =
+    let same : t ≡ s = some-same there in
+    ap is_listed (sym same) ∙ (and_parts (is_listed t) (list_all is_listed ts) all).0
+  where
+    some-same : {a b : SidEntry} → Some a ≡ Some b → a ≡ b
+    some-same e = cc
+listed-in (t ∷ ts) (suc n) s all there = listed-in ts n s (and_parts (is_listed t) (list_all is_listed ts) all).1 there
+
+again-lowers : (net : Network) (place : Place) (content : Content) (choice m : ℕ) (how : How) → AllListed net
+    → (step_of net place content choice).outcome ≡ outcomes.Again m how
+    → IsLoweredByOne content (step_of net place content choice).after
+again-lowers net place content choice m how listed is =
+    let x = step-again net place content choice m how is in
+    step-less net place content choice m how x.sid x.is_there
+    (listed-unbound x.sid (listed-in net.sids m x.sid listed x.is_there)) is
+
+-- what is handed over behind a stage
+behind-some : (f : Handed → Handed) (o : Option Handed) (h : Handed) → option_map f o ≡ Some h
+    → (later : Handed) × (o ≡ Some later) × (option_map f (Some later) ≡ Some h)
+behind-some f None h e = absurd (cc)
+behind-some f (Some later) h e = (later, refl, e)
+
+none-under : (how : How) (content : Content) → IsUnder how content 0 → ⊥
+none-under how (V6 p) h = omega (arith, h)
+none-under how (V4 p) h = h
+none-under how (Unreadable bytes reason) h = h
+
+module _ (net : Network) (listed : AllListed net) (pick : ℕ → ℕ) where
+  -- fewer stages are enough for what a walk hands over, from each place and content that is less
+  abbrev Enough : ℕ → ℕ → Type 0
+  Enough fuel n = (place : Place) (content : Content) (taken : ℕ) (h : Handed)
+      → handed_over net (walk_of fuel net (Some place) content pick taken) ≡ Some h → IsUnder place.how content n
+      → handed_over net (walk_of n net (Some place) content pick taken) ≡ Some h
+
+  module _ (fuel n : ℕ) (enough : Enough fuel n) (gave : Gave) (taken : ℕ) (h : Handed) where
+    -- what was handed over behind events
+    behind : (f : Handed → Handed) (next : Option Place)
+        → option_map f (handed_over net (walk_of fuel net next gave.after pick taken)) ≡ Some h
+        → ((place : Place) → next ≡ Some place → IsUnder place.how gave.after n)
+        → option_map f (handed_over net (walk_of n net next gave.after pick taken)) ≡ Some h
+    behind f None e less =
+        let none : handed_over net (walk_of fuel net None gave.after pick taken) ≡ None =
+        ap (handed_over net) (walk_of-none fuel net gave.after pick taken) in
+        absurd (cc (sym (ap (option_map f) none) ∙ e))
+    behind f (Some place) e less =
+        let got = behind-some f (handed_over net (walk_of fuel net (Some place) gave.after pick taken)) h e in
+        ap (option_map f) (enough place gave.after taken got.0 got.1 (less place refl)) ∙ got.2
+
+  some-place : {a b : Place} → Some a ≡ Some b → a ≡ b
+  some-place e = cc
+
+  arrived-less : (content : Content) (n : ℕ) (end : Option ℕ) (from place : Place) → arrival end from ≡ Some place
+      → IsUnder (Arrived 0) content n → IsUnder place.how content n
+  arrived-less content n None from place e less = absurd (cc)
+  arrived-less content n (Some node) from place e less = subst (λ (p : Place). IsUnder p.how content n) (some-place e) less
+
+  module _ (fuel n : ℕ) (enough : Enough fuel n) (place : Place) (content : Content) (taken : ℕ) (h : Handed)
+      (within : IsUnder place.how content (suc n)) where
+    abbrev gave : Gave
+    gave = step_of net place content (pick taken)
+
+    abbrev rest : ℕ → Outcome → Option Handed
+    rest k o = handed_over net (walk_of k net (next_place net place o) gave.after pick (taken + decisions o))
+
+    by-outcome : (o : Outcome) → gave.outcome ≡ o → SendLess n o gave.after
+        → handed_first net gave o (rest fuel o) ≡ Some h → handed_first net gave o (rest n o) ≡ Some h
+    by-outcome (outcomes.Hand m how family) is less e = e
+    by-outcome outcomes.Local is less e = absurd (cc)
+    by-outcome (outcomes.Drop reason told) is less e = absurd (cc)
+    by-outcome (outcomes.Again m how) is less e =
+        behind fuel n enough gave (taken + 0) h (after_events (executed net m))
+        (next_place net place (outcomes.Again m how)) e
+        (λ next same. subst (λ (p : Place). IsUnder p.how gave.after n) (some-place same)
+        (again-less place.how how content gave.after n (again-lowers net place content (pick taken) m how listed is) within))
+    by-outcome (outcomes.Send link) is less e =
+        behind fuel n enough gave (taken + 1) h (after_events (Crossed link ∷ []))
+        (next_place net place (outcomes.Send link)) e
+        (λ next same. arrived-less gave.after n (far_end (slice_get net.links link)) place next same less)
+
+  pub hands-within : (fuel n : ℕ) → Enough fuel n
+  hands-within zero n place content taken h e less =
+      absurd (cc (sym (ap (handed_over net) (walk_of-zero net (Some place) content pick taken)) ∙ e))
+  hands-within (suc fuel) zero place content taken h e less = absurd (none-under place.how content less)
+  hands-within (suc fuel) (suc n) place content taken h e less =
+      let gave : Gave = step_of net place content (pick taken) in
+      ap (handed_over net) (walk_of-suc n net place content pick taken)
+      ∙ by-outcome fuel n (hands-within fuel n) place content taken h less gave.outcome refl
+      (step-sends-less net place content (pick taken) n less)
+      (sym (ap (handed_over net) (walk_of-suc fuel net place content pick taken)) ∙ e)
