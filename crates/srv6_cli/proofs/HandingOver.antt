@@ -1,6 +1,6 @@
 -- A walk that hands over does so within its stages: each stage before that lowers the hop limit, or sends what was submitted.
-use Rattle.std.proofs.Common.{◌≡◌, ℕ, zero, suc, ◌+◌, ◌-◌, ◌*◌, ◌<◌, ◌≤◌, Bool, true, false, List, [], ◌∷◌, Option, None, Some, refl, sym, ap, ◌∙◌, subst, arith, inl, inr}
-use Rattle.std.specs.Prelude.{slice_get, nat_le, ◌&&◌, not, if◌then◌else◌}
+use Rattle.std.proofs.Common.{◌≡◌, ℕ, zero, suc, ◌+◌, ◌*◌, ◌<◌, Bool, true, false, List, [], ◌∷◌, Option, None, Some, refl, sym, ap, ◌∙◌, subst, arith, inl, inr}
+use Rattle.std.specs.Prelude.{slice_get, not, if◌then◌else◌}
 use Rattle.std.specs.List.{list_all}
 use Rattle.std.specs.Option.{option_map}
 use Rattle.std.proofs.lemmas.Bool.{cases_lt, and_parts}
@@ -27,7 +27,7 @@ use Rattle.walk_rules.specs.declared.place.Outcome.{Outcome}
 use Rattle.walk_rules.specs.declared.place.Outcome.TheVariants as outcomes
 use Rattle.walk_rules.specs.Treatment.{Gave, step_of, treated, treated_in, treated_at_sid, treated_at_address, sent, pushed_at_sid, bound_at_sid, onward_at_sid, allow_of}
 use Rattle.walk_rules.specs.Way.{Way, Away, Over, Own, Into, way_of, way_by, way_by_hit, is_multicast_of}
-use Rattle.walk_rules.specs.Walk.{Step, walk_of, far_end, arrival, next_place, decisions}
+use Rattle.walk_rules.specs.Walk.{walk_of, far_end, arrival, next_place, decisions}
 use Rattle.walk_rules.specs.Laws.{IsLoweredByOne}
 use Rattle.walk_rules.proofs.PublicLaws.{walk_of-suc, walk_of-zero, walk_of-none, step-again, step-less, sent-low, sent-high}
 use Rattle.leg_table.specs.Sids.{AllListed}

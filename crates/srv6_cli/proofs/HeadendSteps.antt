@@ -1,5 +1,5 @@
 -- What enters the headend, up to its end, and what it makes of it.
-use Rattle.std.proofs.Common.{◌≡◌, ℕ, ◌+◌, ◌<◌, ◌≤◌, Bool, true, false, List, length, take, refl, sym, ap, ◌∙◌, subst, arith, take_all}
+use Rattle.std.proofs.Common.{◌≡◌, ℕ, ◌+◌, ◌≤◌, Bool, true, false, List, length, take, refl, sym, ap, ◌∙◌, subst, arith, take_all}
 use Rattle.std.specs.Prelude.{◌==◌, ◌/◌, nat_lt, slice_index, if◌then◌else◌}
 use Rattle.std.proofs.lemmas.Bool.{ltb-false}
 use Rattle.srv6_rules.specs.declared.numbers.TheConstants.{IPV6_VERSION}
@@ -7,14 +7,13 @@ use Rattle.srv6_rules.specs.declared.policy.Policy.{Policy}
 use Rattle.srv6_rules.specs.declared.sid.Family.TheVariants as families
 use Rattle.srv6_rules.specs.declared.sid.Reason.TheVariants.{Truncated, BadVersion}
 use Rattle.srv6_rules.specs.Encapsulation.{inner_lowered}
-use Rattle.srv6_rules.specs.Packet.{Packet, Content, V6, Unreadable, IsSpellable, header_len, most_len, spelling, content_of, packet_at, stated_len, entered}
+use Rattle.srv6_rules.specs.Packet.{Packet, V6, Unreadable, IsSpellable, header_len, most_len, spelling, content_of, packet_at, stated_len, entered}
 use Rattle.srv6_rules.specs.Policies.{Encapsulating, headend_by, encapsulated_by}
 use Rattle.srv6_rules.proofs.PublicLaws.{content_of-spelling_alone, length-spelling, all-spelling}
 use Rattle.ip6_headers.specs.Reading.{HoldsPacket}
 use Rattle.ip6_headers.proofs.PublicLaws.{holds-spellable, holds-payload_len, holds-front}
 use Rattle.policy_encap.specs.Inner.{HoldsInner}
 use Rattle.policy_encap.specs.Answers.{Makes}
-use Rattle.srv6_cli.specs.declared.commands.walk.AtHeadend.{AtHeadend}
 use Rattle.srv6_cli.specs.declared.commands.walk.AtHeadend.TheVariants.{Enters}
 use Rattle.srv6_cli.specs.Command.Walk.{of_content, of_encapsulating}
 

@@ -9,8 +9,6 @@ use Rattle.srx_edge.specs.Steps.{How}
 use Rattle.srv6_rules.specs.declared.policy.Policy.{Policy}
 use Rattle.net_model.specs.Network.{Network}
 use Rattle.intent_reader.specs.declared.intent.Intent.{Intent}
-use Rattle.path_compiler.specs.declared.compiled.Compiled.{Compiled}
-use Rattle.path_compiler.specs.Compiled.{IsCompiled}
 use Rattle.srv6_cli.specs.declared.commands.walk.Start.TheVariants as starts
 use Rattle.srv6_cli.specs.declared.halt.Failure.{Failure}
 use Rattle.srv6_cli.specs.declared.halt.Failure.TheVariants as failures
@@ -24,7 +22,7 @@ use Rattle.srv6_cli.specs.declared.told.Told.{Told}
 use Rattle.srv6_cli.specs.Answers.{ending_of_failure, JudgesFile, JudgesInput, Commands}
 use Rattle.srv6_cli.specs.Words.{Walk}
 use Rattle.srv6_cli.specs.Command.Compile.{takes as is_taken, asks_for_intent}
-use Rattle.srv6_cli.specs.Command.Walk.{TakenWants, IntentWants, NetworkWants, HasList, HasListIn, ReadsInput, StartsAs, policy_of, no_list, walk_pieces, walk_output, walked, walk_shape}
+use Rattle.srv6_cli.specs.Command.Walk.{TakenWants, IntentWants, NetworkWants, HasList, HasListIn, ReadsInput, StartsAs, no_list, walk_pieces, walk_output, walked, walk_shape}
 use Rattle.srv6_cli.specs.Judgements.{network_in, intent_in, refused, ended_by}
 use Rattle.srv6_cli.specs.Lines.{bytes_of_text, refusal_line}
 use Rattle.srv6_cli.specs.Outside.{outside, IsFrontOf, Asks, Reads, asked_for_all, files_left_by}

@@ -1,13 +1,12 @@
 -- A walk of the compiled list keeps to the intent's steps.
-use Rattle.std.proofs.Common.{◌≡◌, ℕ, ◌+◌, ◌-◌, ◌*◌, ◌^◌, ◌<◌, ◌≤◌, List, [], ◌∷◌, length, map, slice_index, slice_get, Option, None, Some, refl, sym, ap, ap₂, ◌∙◌, subst, arith}
+use Rattle.std.proofs.Common.{◌≡◌, ℕ, ◌-◌, List, [], ◌∷◌, length, map, slice_index, slice_get, Option, None, Some, refl, sym, ap, ap₂, ◌∙◌, arith}
 use Rattle.std.proofs.lemmas.List.{length-map}
 use Rattle.v6_addr.specs.declared.address.Addr.{Addr}
-use Rattle.srv6_rules.specs.declared.policy.Policy.{Policy}
 use Rattle.srv6_rules.specs.declared.sid.Family.TheVariants as families
 use Rattle.srv6_rules.specs.declared.sid.SidEntry.{SidEntry}
 use Rattle.srv6_rules.specs.Encapsulation.{Encapsulation, outer, pushed, inner_lowered, encapsulated, header_bytes}
-use Rattle.srv6_rules.specs.Packet.{Packet, Content, V6, spelling}
-use Rattle.srv6_rules.specs.Policies.{Encapsulating, Outer, encapsulation_by, pushed_round, outer_by, pushed_by, headend_by}
+use Rattle.srv6_rules.specs.Packet.{Packet, V6, spelling}
+use Rattle.srv6_rules.specs.Policies.{Outer, encapsulation_by, pushed_round, outer_by, headend_by}
 use Rattle.srv6_rules.proofs.PublicLaws.{length-spelling, by-fits, headend-high}
 use Rattle.net_model.specs.Network.{Network}
 use Rattle.walk_rules.specs.Walk.{choice_at}
@@ -15,12 +14,11 @@ use Rattle.intent_reader.specs.declared.intent.Intent.{Intent}
 use Rattle.leg_table.specs.declared.types.Container.{Container}
 use Rattle.leg_table.specs.Realizes.{encapsulation_of}
 use Rattle.leg_table.specs.Sids.{sid_address}
-use Rattle.leg_table.specs.Table.{shape_by}
 use Rattle.leg_table.specs.Value.{legs_value}
 use Rattle.path_compiler.specs.declared.compiled.Compiled.{Compiled}
 use Rattle.path_compiler.specs.Compiled.{IsCompiled, containers_of, container_of}
 use Rattle.srv6_cli.specs.declared.limits.TheConstants.{STAGES}
-use Rattle.srv6_cli.specs.Command.Walk.{IsEncapsulated, KeepsTo, WalksKeepTo, of_encapsulating, policy_of, segment_of}
+use Rattle.srv6_cli.specs.Command.Walk.{IsEncapsulated, WalksKeepTo, of_encapsulating, policy_of, segment_of}
 use Rattle.srv6_cli.proofs.Compiling.{taken_listed}
 use Rattle.srv6_cli.proofs.HandingOver.{hands-within}
 

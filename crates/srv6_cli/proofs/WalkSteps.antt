@@ -1,5 +1,5 @@
 -- What the steps of `walk` leave of the sinks.
-use Rattle.std.proofs.Common.{◌≡◌, ℕ, List, [], ◌∷◌, ◌++◌, refl, sym, ap, ap₂, ◌∙◌, subst, append-nil}
+use Rattle.std.proofs.Common.{◌≡◌, ℕ, List, [], ◌∷◌, refl, sym, ap, ap₂, subst, append-nil}
 use Rattle.pcap_io.specs.declared.frame.Body.{Body}
 use Rattle.pcap_io.specs.Capture.{written_head_bytes}
 use Rattle.srx_edge.specs.Sinks.{SinkSeen, sent}
@@ -10,7 +10,7 @@ use Rattle.intent_reader.specs.declared.intent.Intent.{Intent}
 use Rattle.srv6_cli.specs.declared.halt.Failure.{Failure}
 use Rattle.srv6_cli.specs.Answers.{ending_of_failure}
 use Rattle.srv6_cli.specs.Command.Walk.{at_headend, ended_line, walked_by, pieces_behind_head}
-use Rattle.srv6_cli.specs.Pieces.{Piece, ForOut, ForErr, Sinks, sinks_of, gone, WroteAll}
+use Rattle.srv6_cli.specs.Pieces.{Piece, ForOut, ForErr, Sinks, sinks_of, WroteAll}
 use Rattle.srv6_cli.proofs.PieceSteps.{all_longer, all_then, all_wanting, all_on_err}
 
 -- memory was wanting before a step of pieces

@@ -1,5 +1,5 @@
 -- What a stage sends can be written: its link is there, and its packet is no longer than a packet can be.
-use Rattle.std.proofs.Common.{◌≡◌, ℕ, zero, suc, ◌<◌, ◌≤◌, Bool, true, false, if◌then◌else◌, List, [], ◌∷◌, length, drop, ◌^◌, length-append, slice_get, Option, Some, None, sym, arith, subst}
+use Rattle.std.proofs.Common.{◌≡◌, ℕ, zero, suc, ◌<◌, ◌≤◌, Bool, true, false, List, [], ◌∷◌, length, drop, ◌^◌, length-append, slice_get, Option, Some, None, sym, arith, subst}
 use Rattle.std.specs.Prelude.{Result, Ok, Err, IfOk}
 use Rattle.std.proofs.lemmas.List.Elements.{All-drop}
 use Rattle.srv6_rules.specs.declared.sid.Behaviour.{Behaviour}
@@ -22,7 +22,7 @@ use Rattle.walk_rules.specs.declared.place.Place.{Place}
 use Rattle.walk_rules.specs.declared.place.Outcome.{Outcome}
 use Rattle.walk_rules.specs.declared.place.Outcome.TheVariants as outcomes
 use Rattle.walk_rules.specs.Way.{Way, Away, Over, Own, Into, way_of}
-use Rattle.walk_rules.specs.Treatment.{Gave, dropped, step_of, treated_at_address, treated_in, treated_at_sid, pushed_at_sid, bound_at_sid, onward_at_sid, allow_of}
+use Rattle.walk_rules.specs.Treatment.{Gave, step_of, treated_at_address, treated_in, treated_at_sid, pushed_at_sid, bound_at_sid, onward_at_sid, allow_of}
 use Rattle.walk_rules.specs.Relation.{Treats, Treats4, Stage, IsPlace}
 use Rattle.walk_rules.specs.Walk.{far_end, left_or_stages, end_by}
 use Rattle.walk_rules.proofs.PublicLaws.{stage-member, hops-start, stage-step, step-content}
@@ -98,7 +98,6 @@ stage-packet : (net : Network) (place : Place) (content : Content) (link : ℕ) 
     → Stage net place content (outcomes.Send link) after error → IsPacket after
 stage-packet net place (Unreadable bytes reason) link after error h = absurd (drop-sends reason _ link h.0)
 stage-packet net place (V6 p) link after error h = way-packet net place.node (way_of net place p.destination) p link after error h
-
 stage-packet net place (V4 p) link after error h =
     way4-packet net place.node (way_of net place (destination4 p)) p link after error h
 

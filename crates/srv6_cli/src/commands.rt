@@ -3,7 +3,7 @@
 ghost use Rattle.std.specs.Prelude.{◌≡◌, IfOk};
 ghost use Rattle.srv6_cli.specs.Answers.{Commands, UsageTold};
 ghost use Rattle.srv6_cli.specs.Choices.{choices_in};
-ghost use Rattle.srv6_cli.specs.Command.{HasChoices, command_of, command_seen, run_with, walk_with, words_of};
+ghost use Rattle.srv6_cli.specs.Command.{HasChoices, command_of, command_of_four, command_of_three, command_seen, run_with, walk_with, words_of};
 ghost use Rattle.srv6_cli.specs.Outside.{outside};
 
 mod compile;
@@ -96,6 +96,61 @@ fn walk_with<'a>(
     }
 }
 
+/// What a verb with two words behind it spells.
+fn words_of_three<'a>(
+    alloc: Global,
+    verb: &str,
+    first: &'a str,
+    second: &'a str,
+) -> Result<Words<'a>, AllocError>
+    ensures spelled { IfOk result (λ words. command_seen words
+        ≡ command_of_three verb.now first.now second.now) }
+    ensures some { IfOk result HasChoices }
+{
+    if verb == "run" && !first.is_empty() && !second.is_empty() {
+        return Ok(Words::Run {
+            file: first,
+            node: second,
+            choices: vec![in alloc; 0]?,
+        });
+    }
+    if verb == "compile" && !first.is_empty() && !second.is_empty() {
+        return Ok(Words::Compile {
+            file: first,
+            intent: second,
+        });
+    }
+    if verb == "walk" && !first.is_empty() && !second.is_empty() {
+        return Ok(Words::Walk {
+            file: first,
+            intent: second,
+            choices: vec![in alloc; 0]?,
+        });
+    }
+    Ok(Words::Unknown)
+}
+
+/// What a verb with two words and choices behind it spells.
+fn words_of_four<'a>(
+    alloc: Global,
+    verb: &str,
+    first: &'a str,
+    second: &'a str,
+    choices: &str,
+) -> Result<Words<'a>, AllocError>
+    ensures spelled { IfOk result (λ words. command_seen words
+        ≡ command_of_four verb.now first.now second.now choices.now) }
+    ensures some { IfOk result HasChoices }
+{
+    if verb == "run" && !first.is_empty() && !second.is_empty() {
+        return run_with(alloc, first, second, choices);
+    }
+    if verb == "walk" && !first.is_empty() && !second.is_empty() {
+        return walk_with(alloc, first, second, choices);
+    }
+    Ok(Words::Unknown)
+}
+
 /// What the words spell.
 fn read_words(alloc: Global, words: &[String]) -> Result<Words<'_>, AllocError>
     ensures spelled { IfOk result (λ read. command_seen read ≡ command_of (words_of words.now)) }
@@ -103,36 +158,16 @@ fn read_words(alloc: Global, words: &[String]) -> Result<Words<'_>, AllocError>
 {
     match words {
         [verb] if verb.as_str() == "show" => Ok(Words::Show),
-        [verb, file, node] if verb.as_str() == "run" && !file.is_empty() && !node.is_empty() => {
-            Ok(Words::Run {
-                file: file.as_str(),
-                node: node.as_str(),
-                choices: vec![in alloc; 0]?,
-            })
+        [verb, first, second] => {
+            words_of_three(alloc, verb.as_str(), first.as_str(), second.as_str())
         }
-        [verb, file, node, choices]
-            if verb.as_str() == "run" && !file.is_empty() && !node.is_empty() => {
-            run_with(alloc, file.as_str(), node.as_str(), choices.as_str())
-        }
-        [verb, file, intent]
-            if verb.as_str() == "compile" && !file.is_empty() && !intent.is_empty() => {
-            Ok(Words::Compile {
-                file: file.as_str(),
-                intent: intent.as_str(),
-            })
-        }
-        [verb, file, intent] if verb.as_str() == "walk" && !file.is_empty() && !intent.is_empty() =>
-            {
-                Ok(Words::Walk {
-                    file: file.as_str(),
-                    intent: intent.as_str(),
-                    choices: vec![in alloc; 0]?,
-                })
-            }
-        [verb, file, intent, choices]
-            if verb.as_str() == "walk" && !file.is_empty() && !intent.is_empty() => {
-            walk_with(alloc, file.as_str(), intent.as_str(), choices.as_str())
-        }
+        [verb, first, second, choices] => words_of_four(
+            alloc,
+            verb.as_str(),
+            first.as_str(),
+            second.as_str(),
+            choices.as_str(),
+        ),
         _ => Ok(Words::Unknown),
     }
 }

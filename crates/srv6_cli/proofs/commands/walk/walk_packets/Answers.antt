@@ -1,4 +1,4 @@
-use Rattle.std.proofs.Common.{[], refl}
+use Rattle.std.proofs.Common.{[]}
 use Rattle.std.proofs.lemmas.Result.{err_from_is_err_and}
 use Rattle.srv6_cli.specs.Answers.{ending_of_step, ending_of_failure}
 use Rattle.srx_edge.specs.Steps.{Whole}
