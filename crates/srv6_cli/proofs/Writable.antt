@@ -98,7 +98,6 @@ stage-packet : (net : Network) (place : Place) (content : Content) (link : ℕ) 
     → Stage net place content (outcomes.Send link) after error → IsPacket after
 stage-packet net place (Unreadable bytes reason) link after error h = absurd (drop-sends reason _ link h.0)
 stage-packet net place (V6 p) link after error h = way-packet net place.node (way_of net place p.destination) p link after error h
-
 stage-packet net place (V4 p) link after error h =
     way4-packet net place.node (way_of net place (destination4 p)) p link after error h
 
