@@ -396,9 +396,12 @@ module _ (net : Network) (place : Place) (p : Packet) (n : ℕ) (s : SidEntry) (
       → (q : Packet) × (stage ≡ goes (outcomes.Again n (onward_from n s.behaviour)) (V6 q)) × (q.hop_limit ≡ limit - 1)
   goes-on on high =
       let has = and_parts (is_listed s) _ (ap (λ (o : Option SidEntry). takes_on o p) (sym there) ∙ on) in
-      let got = (steps_on s (listed-plain s has.0) allow p has.1).0 limit high in
-      (got.0, stage-is ∙ ap (treated_at_sid net place.node n s.behaviour p') got.1
-      ∙ listed-onward net place.node n s p' got.0 has.0, got.2)
+      let got = (steps_on s (listed-plain s has.0) allow p has.1).0 limit high in (
+        got.0,
+        stage-is ∙ ap (treated_at_sid net place.node n s.behaviour p') got.1
+            ∙ listed-onward net place.node n s p' got.0 has.0,
+        got.2,
+      )
 
   -- an execution after which the packet goes on
   pub executes-is : has_next_segment net n p ≡ true
