@@ -1,5 +1,5 @@
 -- What `walk` leaves, by where it ends.
-use Rattle.std.proofs.Common.{◌≡◌, inl, inr, ℕ, Bool, true, false, List, [], ◌∷◌, Option, None, Some, IfSome, Result, Ok, Err, refl, sym, ap, ◌∙◌, subst}
+use Rattle.std.proofs.Common.{◌≡◌, inl, inr, ℕ, Bool, true, false, List, [], ◌∷◌, Option, None, Some, IfSome, Result, Ok, Err, refl, sym, ap, ◌∙◌, subst, ◌<◌, ◌^◌, length}
 use Rattle.std.specs.Prelude.{IsSomeAnd, if◌then◌else◌}
 use Rattle.srx_edge.specs.Edge.{file_named}
 use Rattle.srx_edge.specs.FilesRead.{FilesSeen, asked_for}
@@ -31,6 +31,7 @@ use Rattle.srv6_cli.specs.Pieces.{Piece, Output, Which, Stop, Never, AtFiles, At
 use Rattle.srv6_cli.specs.Serves.{Takes}
 use Rattle.srv6_cli.specs.Shape.{Held, goes_on_with, names_of, WantedOf}
 use Rattle.srv6_cli.proofs.Asking.{each, each-map, some-map, front_whole, front_longer, front_after, asks_all, asks_fault, asks_front}
+use Rattle.srv6_cli.proofs.WalkKeeping.{walks_keep}
 use Rattle.srv6_cli.proofs.Commanding.{refused_commands, files_fault, input_fault, memory_wants, pieces_whole, pieces_refused, pieces_cut}
 
 -- the names that are asked for, by the judgement of the description
@@ -182,7 +183,8 @@ module _ (file intent choices : List ℕ) where
           (rw status refl) (inr (inr (inl status))) (takes-unread Never f g s (asks-both Never read.1) refl)
           (λ done. cc (sym status ∙ done))
 
-      module _ (policy : Policy) (begins : StartsAs net value (Ok (starts.List policy))) where
+      module _ (policy : Policy) (begins : StartsAs net value (Ok (starts.List policy))) (byte : value.hop_limit < 2 ^ 8)
+          (some : 0 < length choices) where
         -- so the input is read
         has-list : (told : Option Held) → IfSome told (DescriptionIs (Ok net)) → IfSome told (IntentIs net (Ok value))
             → IfSome told (ReadsInput file intent)
@@ -214,7 +216,10 @@ module _ (file intent choices : List ℕ) where
             (λ input h. subst (λ (b : Bool). TakenWants net value choices input b output) (sym begins.0) (
               Ok begins.1.0,
               begins.1.1,
-              w input h ∙ ap (λ (p : Policy). walk_output net value p choices input) begins.1.2,
+              (
+                w input h ∙ ap (λ (p : Policy). walk_output net value p choices input) begins.1.2,
+                λ inner is. walks_keep net value begins.1.0 choices inner begins.0 byte begins.1.1 some is,
+              ),
             ))
 
         -- the input was refused, wasn't read, or memory was wanting

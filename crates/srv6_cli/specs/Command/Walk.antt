@@ -142,9 +142,31 @@ walk_output net intent policy choices input = after (packets_in input) (walked n
 abbrev pub no_list : List ℕ → Output
 no_list told = record { pieces = ForErr told ∷ []; status = statuses.NoAnswer }
 
+-- an inner packet that the headend encapsulates: bytes spell it, its hop limit can be lowered, and the outer packet is not too big
+pub record IsEncapsulated (c : Compiled) (inner : Packet) : Type 0 where
+  pub spellable : IsSpellable inner
+  pub hop_limit : 2 ≤ inner.hop_limit
+  pub small : c.header + length (spelling inner) ≤ most_len
+
+-- it enters, its walk's trace up to the first hand-over is the intent's steps, and what is handed over is the inner packet
+-- with its hop limit lowered by one
+pub record KeepsTo (net : Network) (intent : Intent) (c : Compiled) (choices : List ℕ) (inner : Packet) : Type 0 where
+  pub outer : Content
+  pub enters : of_content (policy_of intent c) (V6 inner) ≡ Enters outer
+  pub handed : Handed
+  pub first : handed_over net (walk_at_headend net intent choices outer) ≡ Some handed
+  pub steps : IsTrue (matches intent.steps handed.trace)
+  pub lowered : handed.content ≡ V6 (inner_lowered inner)
+
+-- the output of a list, whose walks keep to the intent
+abbrev pub ListWants : Network → Intent → List ℕ → List ℕ → Compiled → Output → Type 0
+ListWants net intent choices input c output =
+    (output ≡ walk_output net intent (policy_of intent c) choices input)
+    × ((inner : Packet) → IsEncapsulated c inner → KeepsTo net intent c choices inner)
+
 -- the output of an answer of the compiler; want of memory has none
 abbrev pub AnswerWants : Network → Intent → List ℕ → List ℕ → Result Compiled CompileFault → Output → Type 0
-AnswerWants net intent choices input (Ok c) output = output ≡ walk_output net intent (policy_of intent c) choices input
+AnswerWants net intent choices input (Ok c) output = ListWants net intent choices input c output
 AnswerWants net intent choices input (Err (faults.NotFlat why)) output = output ≡ refused (flat_refusal why)
 AnswerWants net intent choices input (Err (faults.NoList solution)) output = output ≡ no_list none_line
 AnswerWants net intent choices input (Err (faults.TooLong found)) output = output ≡ no_list (too_long_line found.containers)
@@ -203,24 +225,6 @@ StartsAs net intent (Err (halts.Refused refusal)) =
     (choices input : List ℕ) → TakenWants net intent choices input (takes net intent) (refused refusal)
 StartsAs net intent (Err (halts.Failed failures.Fault)) = ⊥
 StartsAs net intent (Err (halts.Failed failures.NoMemory)) = ⊤
-
--- What `walk` does for an inner packet, by what the compiler says of its list.
-
--- an inner packet that the headend encapsulates: bytes spell it, its hop limit can be lowered, and the outer packet is not too big
-pub record IsEncapsulated (c : Compiled) (inner : Packet) : Type 0 where
-  pub spellable : IsSpellable inner
-  pub hop_limit : 2 ≤ inner.hop_limit
-  pub small : c.header + length (spelling inner) ≤ most_len
-
--- it enters, its walk's trace up to the first hand-over is the intent's steps, and what is handed over is the inner packet
--- with its hop limit lowered by one
-pub record KeepsTo (net : Network) (intent : Intent) (c : Compiled) (choices : List ℕ) (inner : Packet) : Type 0 where
-  pub outer : Content
-  pub enters : of_content (policy_of intent c) (V6 inner) ≡ Enters outer
-  pub handed : Handed
-  pub first : handed_over net (walk_at_headend net intent choices outer) ≡ Some handed
-  pub steps : IsTrue (matches intent.steps handed.trace)
-  pub lowered : handed.content ≡ V6 (inner_lowered inner)
 
 -- so it is for every intent that the compiler takes and every list that it may be compiled to, whatever is chosen; a hop limit is
 -- a byte

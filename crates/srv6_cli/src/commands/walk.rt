@@ -1,7 +1,7 @@
 //! The command `walk`: the inner packets of the input, encapsulated at the headend of the intent of
 //! a file with the list that the intent is compiled to, in the network that another describes.
 
-ghost use Rattle.std.specs.Prelude.{◌≡◌, ◌<◌, true, IfOk, Ok, length, map, string_bytes};
+ghost use Rattle.std.specs.Prelude.{◌≡◌, ◌<◌, ◌^◌, true, IfOk, Ok, length, map, string_bytes};
 ghost use Rattle.std.specs.List.{flat_map};
 ghost use Rattle.pcap_io.specs.Frames.{frames_of as frames_in};
 ghost use Rattle.srx_edge.specs.Steps.{Wrote};
@@ -526,6 +526,13 @@ fn walk_packets<O: Sink, E: Sink>(
     }
 }
 
+/// A hop limit is a byte.
+fn hop_limit_fits(hop_limit: u8)
+    ensures { hop_limit < 2 ^ 8 }
+{
+    let _ = hop_limit;
+}
+
 /// The headend is there, and what is compiled makes a policy.
 fn headend_fits(net: &Net, intent: &Intent, policy: &Policy)
     requires intent { IsIntent net.now intent.now }
@@ -573,6 +580,7 @@ pub fn walk<F: Files, S: Source, O: Sink, E: Sink>(
             });
         }
     };
+    hop_limit_fits(intent.hop_limit);
     headend_fits(&net, &intent, &policy);
     let packets = packets_of_input(alloc, input)?;
     match walk_packets(alloc, &net, &intent, &policy, choices, packets, out, err)? {
