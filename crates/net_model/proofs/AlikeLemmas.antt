@@ -21,7 +21,7 @@ use Rattle.net_model.specs.Flat.{sid_prefix, route_prefix, is_ipv6_route, addres
 use Rattle.net_model.proofs.KeepsLemmas.{keeps_from_network}
 use Rattle.net_model.proofs.EntryLemmas.{same_family-from, entry_means, entry_is_there, contains_none, contains_cases, contains_first, contains_later}
 use Rattle.net_model.proofs.IsBestLemmas.{lookup_is_best, best_is_one, same_prefix_value}
-use Rattle.net_model.proofs.FlatLemmas.{contains_from_get, get_from_contains}
+use Rattle.net_model.proofs.PairLemmas.{contains_from_get, get_from_contains}
 
 -- the scans agree where each entry holds both addresses or neither
 longest_alike : (a b : ℕ) (es : List Entry) → ((e : Entry) → Contains es e → holds_address e.prefix a ≡ holds_address e.prefix b)
@@ -76,7 +76,7 @@ no_longer : (net : Network) (node table n a : ℕ) (s : SidEntry) (e : Entry) �
     → Contains (entries_of net node table families.V6) e → Holds e.prefix a → e.prefix.len ≤ s.prefix.len
 no_longer net node table n a s e flat at s_a there e_a =
     elim (cases_lt s.prefix.len e.prefix.len) [
-      | inl longer ↦ absurd (flat s e.prefix (contains_from_get net.sids n s at)
+      | inl longer ↦ absurd (flat.nested s e.prefix (contains_from_get net.sids n s at)
           (entry_among net node table e.prefix e.hit (entry_means net node table families.V6 e there))
           (longer, Holds_nested s.prefix e.prefix a (omega arith) s_a e_a))
       | inr shorter ↦ shorter
@@ -123,7 +123,7 @@ sid_no_longer : (net : Network) (n m a : ℕ) (s t : SidEntry) → IsFlat net �
     → Holds s.prefix a → Holds t.prefix a → t.prefix.len ≤ s.prefix.len
 sid_no_longer net n m a s t flat at_n at_m s_a t_a =
     elim (cases_lt s.prefix.len t.prefix.len) [
-      | inl longer ↦ absurd (flat s t.prefix (contains_from_get net.sids n s at_n)
+      | inl longer ↦ absurd (flat.nested s t.prefix (contains_from_get net.sids n s at_n)
           (Contains-append_left (map sid_prefix net.sids) _ t.prefix (contains_mapped sid_prefix net.sids m t at_m))
           (longer, Holds_nested s.prefix t.prefix a (omega arith) s_a t_a))
       | inr shorter ↦ shorter

@@ -1,116 +1,27 @@
 -- The first entry inside a prefix, and what flatness means.
-use Rattle.std.proofs.Common.{◌≡◌, ℕ, zero, suc, ◌<◌, Bool, true, false, List, [], ◌∷◌, ◌++◌, map, length, Option, Some, None, Result, Ok, Err, ◌↔◌, refl, sym, ap, ◌∙◌, subst, arith, inl, inr}
-use Rattle.std.specs.List.{slice_get, find, Contains}
+use Rattle.std.proofs.Common.{◌≡◌, ℕ, Bool, List, ◌++◌, map, Option, Some, None, Result, Ok, Err, ◌↔◌, refl, sym, ap, ◌∙◌, subst, inl, inr}
+use Rattle.std.specs.List.{slice_get}
 use Rattle.std.specs.Option.{option_or, option_map}
 use Rattle.std.specs.Result.{IsOk}
-use Rattle.std.proofs.lemmas.Bool.{cases_Bool, both_ways}
-use Rattle.std.proofs.lemmas.Option.{same_Some, slice_get_read, slice_get_within, slice_get-map, get_or_from_slice_get}
+use Rattle.std.proofs.lemmas.Option.{same_Some, slice_get-map}
 use Rattle.std.proofs.lemmas.List.Folds.{find-append}
-use Rattle.v6_addr.specs.Address.{PrefixValue, IsInside, is_inside}
-use Rattle.v6_addr.proofs.PublicLaws.{is_inside_is}
+use Rattle.v6_addr.specs.Address.{PrefixValue, IsInside}
 use Rattle.srv6_rules.specs.declared.sid.SidEntry.{SidEntry}
 use Rattle.net_model.specs.declared.flat.NotFlat.{NotFlat}
-use Rattle.net_model.specs.declared.flat.NotFlat.TheVariants.{Nested}
+use Rattle.net_model.specs.declared.flat.NotFlat.TheVariants.{Nested, ZeroCsid, MixedBlock, Clash}
 use Rattle.net_model.specs.Network.{Network}
-use Rattle.net_model.specs.Flat.{sid_prefix, inner_entries, IsFlat, IsNestedAt, IsFirstNested, IsJudged, first_inside, nested_or, first_nested, flatness_of}
+use Rattle.net_model.specs.Flat.{sid_prefix, inner_entries, IsNested, IsZeroIn, IsMixed, IsClash, NoneNested, NoneZero, NoneMixed, IsFlat, IsFirst, IsJudged, is_nested, is_zero_in, zero_csid, is_mixed, mixed_block, is_clash, clash, first_inside, or_later, no_nested, no_zero, no_mixed, no_clash, flatness_of}
+use Rattle.net_model.proofs.PairLemmas.{get_from_contains, contains_from_get, HaveNone, none_among, first_among, AreJudged, are_judged}
+use Rattle.net_model.proofs.PairMeanings.{nested_is, zero_is, mixed_is, clash_is, clash_in_order}
 
 -- the first of three lists in a row
 pub joined : (outer : PrefixValue) (xs ys zs : List PrefixValue)
     → first_inside outer (xs ++ (ys ++ zs)) ≡ option_or (first_inside outer xs) (option_or (first_inside outer ys) (first_inside outer zs))
 joined outer xs ys zs =
-    let test : PrefixValue → Bool = λ inner. is_inside inner outer in
+    let test : PrefixValue → Bool = is_nested outer in
     find-append test xs (ys ++ zs) ∙ ap (option_or (first_inside outer xs)) (find-append test ys zs)
 
--- the first item that passes a test stands at a place, and those before it fail
-abbrev pub IsFirstPassing : {X : Type 0} → (X → Bool) → List X → X → Type 0
-IsFirstPassing {X} p xs x = (j : ℕ) × (slice_get xs j ≡ Some x) × (p x ≡ true) × ((k : ℕ) (y : X) → k < j → slice_get xs k ≡ Some y
-    → p y ≡ false)
-
-first_later : {X : Type 0} (p : X → Bool) (y : X) (ys : List X) (x : X) → p y ≡ false → IsFirstPassing p ys x → IsFirstPassing p (y ∷ ys) x
-first_later p y ys x fails (j, at, passes, before) =
-    (suc j, at, passes, earlier)
-  where
-    earlier : (k : ℕ) (z : _) → k < suc j → slice_get (y ∷ ys) k ≡ Some z → p z ≡ false
-    earlier zero z below e = subst (λ w. p w ≡ false) (same_Some y z e) fails
-    earlier (suc k) z below e = before k z (omega arith) e
-
-pub find_first : {X : Type 0} (p : X → Bool) (xs : List X) (x : X) → find p xs ≡ Some x → IsFirstPassing p xs x
-find_first p [] x e = cc
-find_first p (y ∷ ys) x e =
-    elim (cases_Bool (p y)) [
-      | inl passes ↦ let same = same_Some y x (rw passes at e) in
-          (0, ap Some same, subst (λ z. p z ≡ true) same passes, λ k z below. absurd (omega arith))
-      | inr fails ↦ first_later p y ys x fails (find_first p ys x (rw fails at e))
-    ]
-
-pub find_none : {X : Type 0} (p : X → Bool) (xs : List X) → find p xs ≡ None → (k : ℕ) (x : X) → slice_get xs k ≡ Some x → p x ≡ false
-find_none p [] e k x at = cc
-find_none p (y ∷ ys) e zero x at =
-    elim (cases_Bool (p y)) [
-      | inl passes ↦ absurd (let none = rw passes at e in cc)
-      | inr fails ↦
-          subst (λ z. p z ≡ false) (same_Some y x at) fails
-    ]
-find_none p (y ∷ ys) e (suc k) x at =
-    elim (cases_Bool (p y)) [ inl passes ↦ absurd (let none = rw passes at e in cc) | inr fails ↦ find_none p ys (rw fails at e) k x at ]
-
--- what is judged of the outer entries from one on
-abbrev pub IsJudgedOver : List PrefixValue → List PrefixValue → Result (Unit {0}) NotFlat → Type 0
-IsJudgedOver outers inners (Ok accepted) = (i j : ℕ) (p q : PrefixValue) → ¬ IsNestedAt outers inners i j p q
-IsJudgedOver outers inners (Err (Nested outer inner)) = IsFirstNested outers inners outer inner
-
--- an outer entry in front with nothing inside it
-not_in_front : (o : PrefixValue) (outers inners : List PrefixValue) (r : Result (Unit {0}) NotFlat) → first_inside o inners ≡ None
-    → IsJudgedOver outers inners r → IsJudgedOver (o ∷ outers) inners r
-not_in_front o outers inners (Ok accepted) none none_later = nowhere
-  where
-    nowhere : (i j : ℕ) (p q : PrefixValue) → ¬ IsNestedAt (o ∷ outers) inners i j p q
-    nowhere zero j p q at = both_ways _ (find_none (λ inner. is_inside inner o) inners none j q at.1)
-        (subst (λ z. is_inside q z ≡ true) (sym (same_Some o p at.0)) ((is_inside_is q p).1 at.2))
-    nowhere (suc i) j p q at = none_later i j p q at
-not_in_front o outers inners (Err (Nested outer inner)) none later = record {
-  outer_place = suc later.outer_place;
-  inner_place = later.inner_place;
-  nested = later.nested;
-  no_earlier_outer = nowhere;
-  no_earlier_inner = later.no_earlier_inner;
-}
-  where
-    nowhere : (i j : ℕ) (p q : PrefixValue) → i < suc later.outer_place → ¬ IsNestedAt (o ∷ outers) inners i j p q
-    nowhere zero j p q before at = both_ways _ (find_none (λ inner. is_inside inner o) inners none j q at.1)
-        (subst (λ z. is_inside q z ≡ true) (sym (same_Some o p at.0)) ((is_inside_is q p).1 at.2))
-    nowhere (suc i) j p q before at = later.no_earlier_outer i j p q (omega arith) at
-
--- an outer entry in front with an entry inside it
-in_front : (o inner : PrefixValue) (outers inners : List PrefixValue) → first_inside o inners ≡ Some inner
-    → IsFirstNested (o ∷ outers) inners o inner
-in_front o inner outers inners found =
-    let (j, at, passes, before) = find_first (λ q. is_inside q o) inners inner found in
-    record {
-      outer_place = 0;
-      inner_place = j;
-      nested = (refl, at, (is_inside_is inner o).0 passes);
-      no_earlier_outer = λ i k p q below. absurd (omega arith);
-      no_earlier_inner = λ k q below nested. both_ways _ (before k q below nested.1) ((is_inside_is q o).1 nested.2);
-    }
-
-judged_by : (o : PrefixValue) (outers inners : List PrefixValue) (f : Option PrefixValue) (r : Result (Unit {0}) NotFlat)
-    → first_inside o inners ≡ f → IsJudgedOver outers inners r → IsJudgedOver (o ∷ outers) inners (nested_or o f r)
-judged_by o outers inners None r found later = not_in_front o outers inners r found later
-judged_by o outers inners (Some inner) r found later = in_front o inner outers inners found
-
-first_nested-judged : (outers inners : List PrefixValue) → IsJudgedOver outers inners (first_nested inners outers)
-first_nested-judged [] inners = λ i j p q at. let e = at.0 in cc
-first_nested-judged (o ∷ outers) inners =
-    judged_by o outers inners (first_inside o inners) (first_nested inners outers) refl (first_nested-judged outers inners)
-
--- the same over a network
-
-pub get_from_contains : {X : Type 0} (xs : List X) (x : X) → Contains xs x → (k : ℕ) × (slice_get xs k ≡ Some x)
-get_from_contains xs x c = (c.0, slice_get_read xs (length xs) c.0 x refl c.1 (sym c.2))
-
-pub contains_from_get : {X : Type 0} (xs : List X) (k : ℕ) (x : X) → slice_get xs k ≡ Some x → Contains xs x
-contains_from_get xs k x e = (k, slice_get_within xs k x e, get_or_from_slice_get xs k x x e)
+-- ---- nested entries stand in SIDs' prefixes
 
 prefix_at : (sids : List SidEntry) (i : ℕ) (s : SidEntry) → slice_get sids i ≡ Some s → slice_get (map sid_prefix sids) i ≡ Some s.prefix
 prefix_at sids i s e = slice_get-map sid_prefix sids i ∙ ap (option_map sid_prefix) e
@@ -123,31 +34,96 @@ sid_at : (sids : List SidEntry) (i : ℕ) (p : PrefixValue) → slice_get (map s
     → (s : SidEntry) × (slice_get sids i ≡ Some s) × (s.prefix ≡ p)
 sid_at sids i p e = sid_by (slice_get sids i) p (sym (slice_get-map sid_prefix sids i) ∙ e)
 
-flat_from : (net : Network) → ((i j : ℕ) (p q : PrefixValue) → ¬ IsNestedAt (map sid_prefix net.sids) (inner_entries net) i j p q)
-    → IsFlat net
-flat_from net none s inner is_sid is_inner inside =
+none_nested_from : (net : Network) → HaveNone IsNested (map sid_prefix net.sids) (inner_entries net) → NoneNested net
+none_nested_from net none s inner is_sid is_inner inside =
     let (i, at_i) = get_from_contains net.sids s is_sid in
     let (j, at_j) = get_from_contains (inner_entries net) inner is_inner in
     none i j s.prefix inner (prefix_at net.sids i s at_i, at_j, inside)
 
-not_flat_from : (net : Network) (i j : ℕ) (p q : PrefixValue) → IsNestedAt (map sid_prefix net.sids) (inner_entries net) i j p q
-    → ¬ IsFlat net
-not_flat_from net i j p q (at_i, at_j, inside) flat =
-    let (s, at_s, is) = sid_at net.sids i p at_i in
-    flat s q (contains_from_get net.sids i s at_s) (contains_from_get (inner_entries net) j q at_j) (subst (IsInside q) (sym is) inside)
+some_nested : (net : Network) (p q : PrefixValue) → IsFirst IsNested (map sid_prefix net.sids) (inner_entries net) p q → ¬ NoneNested net
+some_nested net p q first none =
+    let (at_i, at_j, inside) = first.pair in
+    let (s, at_s, is) = sid_at net.sids first.outer_place p at_i in
+    none s q (contains_from_get net.sids first.outer_place s at_s) (contains_from_get (inner_entries net) first.inner_place q at_j)
+    (subst (IsInside q) (sym is) inside)
 
-judged_from : (net : Network) (r : Result (Unit {0}) NotFlat) → IsJudgedOver (map sid_prefix net.sids) (inner_entries net) r
-    → IsJudged net r
-judged_from net (Ok accepted) none = flat_from net none
-judged_from net (Err (Nested outer inner)) first = first
+-- ---- one refusal after the other
+
+clash_judges : (net : Network) → NoneNested net → NoneZero net → NoneMixed net
+    → AreJudged is_clash IsClash clash clash_is net.sids net.sids (no_clash net) → IsJudged net (no_clash net)
+clash_judges net nested zero mixed (inl (none, e)) =
+    subst (IsJudged net) (sym e)
+    (record { nested = nested; zero = zero; mixed = mixed; clash = none_among IsClash net.sids net.sids none })
+clash_judges net nested zero mixed (inr (s, t, first, e)) =
+    subst (IsJudged net) (sym e)
+    (record {
+      none_nested = nested;
+      none_zero = zero;
+      none_mixed = mixed;
+      earlier = s;
+      later = t;
+      first = first;
+      in_order = clash_in_order net.sids s t first;
+      its_prefix = refl;
+      its_node = refl;
+      other_node = refl;
+    })
+
+mixed_judges : (net : Network) → NoneNested net → NoneZero net
+    → AreJudged is_mixed IsMixed mixed_block mixed_is net.blocks net.sids (no_mixed net)
+    → IsJudged net (or_later (no_mixed net) (no_clash net))
+mixed_judges net nested zero (inl (none, e)) =
+    subst (IsJudged net) (sym (ap (λ r. or_later r (no_clash net)) e))
+    (clash_judges net nested zero (none_among IsMixed net.blocks net.sids none)
+    (are_judged is_clash IsClash clash clash_is net.sids net.sids))
+mixed_judges net nested zero (inr (b, s, first, e)) =
+    subst (IsJudged net) (sym (ap (λ r. or_later r (no_clash net)) e))
+    (record {
+      none_nested = nested;
+      none_zero = zero;
+      block = b;
+      sid = s;
+      first = first;
+      its_block = refl;
+      its_prefix = refl;
+    })
+
+zero_judges : (net : Network) → NoneNested net → AreJudged is_zero_in IsZeroIn zero_csid zero_is net.sids net.blocks (no_zero net)
+    → IsJudged net (or_later (no_zero net) (or_later (no_mixed net) (no_clash net)))
+zero_judges net nested (inl (none, e)) =
+    subst (IsJudged net) (sym (ap (λ r. or_later r (or_later (no_mixed net) (no_clash net))) e))
+    (mixed_judges net nested (none_among IsZeroIn net.sids net.blocks none)
+    (are_judged is_mixed IsMixed mixed_block mixed_is net.blocks net.sids))
+zero_judges net nested (inr (s, b, first, e)) =
+    subst (IsJudged net) (sym (ap (λ r. or_later r (or_later (no_mixed net) (no_clash net))) e))
+    (record { none_nested = nested; sid = s; block = b; first = first; its_prefix = refl })
+
+nested_judges : (net : Network)
+    → AreJudged is_nested IsNested Nested nested_is (map sid_prefix net.sids) (inner_entries net) (no_nested net)
+    → IsJudged net (flatness_of net)
+nested_judges net (inl (none, e)) =
+    subst (IsJudged net) (sym (ap (λ r. or_later r (or_later (no_zero net) (or_later (no_mixed net) (no_clash net)))) e))
+    (zero_judges net (none_nested_from net none) (are_judged is_zero_in IsZeroIn zero_csid zero_is net.sids net.blocks))
+nested_judges net (inr (p, q, first, e)) =
+    subst (IsJudged net) (sym (ap (λ r. or_later r (or_later (no_zero net) (or_later (no_mixed net) (no_clash net)))) e)) first
 
 pub flatness_judges : (net : Network) → IsJudged net (flatness_of net)
-flatness_judges net = judged_from net (flatness_of net) (first_nested-judged (map sid_prefix net.sids) (inner_entries net))
+flatness_judges net = nested_judges net (are_judged is_nested IsNested Nested nested_is (map sid_prefix net.sids) (inner_entries net))
 
+-- what is refused is not flat
 ok_where_flat : (net : Network) (r : Result (Unit {0}) NotFlat) → IsJudged net r → IsOk r ↔ IsFlat net
 ok_where_flat net (Ok accepted) flat = (λ _. flat, λ _. refl)
 ok_where_flat net (Err (Nested outer inner)) first =
-    (λ ok. absurd (let e = ok in cc), λ flat. absurd (not_flat_from net first.outer_place first.inner_place outer inner first.nested flat))
+    (λ ok. absurd (let e = ok in cc), λ flat. absurd (some_nested net outer inner first flat.nested))
+ok_where_flat net (Err (ZeroCsid prefix)) is =
+    let (in_sids, in_blocks, pair) = first_among IsZeroIn net.sids net.blocks is.sid is.block is.first in
+    (λ ok. absurd (let e = ok in cc), λ flat. absurd (flat.zero is.sid is.block in_sids in_blocks pair))
+ok_where_flat net (Err (MixedBlock block prefix)) is =
+    let (in_blocks, in_sids, pair) = first_among IsMixed net.blocks net.sids is.block is.sid is.first in
+    (λ ok. absurd (let e = ok in cc), λ flat. absurd (flat.mixed is.block is.sid in_blocks in_sids pair))
+ok_where_flat net (Err (Clash prefix first second)) is =
+    let (in_sids, also, pair) = first_among IsClash net.sids net.sids is.earlier is.later is.first in
+    (λ ok. absurd (let e = ok in cc), λ flat. absurd (flat.clash is.earlier is.later in_sids also pair))
 
 pub flatness_ok : (net : Network) → IsOk (flatness_of net) ↔ IsFlat net
 flatness_ok net = ok_where_flat net (flatness_of net) (flatness_judges net)

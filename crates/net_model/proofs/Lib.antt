@@ -5,9 +5,12 @@ pub mod NamedLemmas
 pub mod BestLemmas
 pub mod EntryLemmas
 pub mod IsBestLemmas
+pub mod PairLemmas
+pub mod PairMeanings
 pub mod FlatLemmas
 pub mod BlockLemmas
 pub mod CompressionLaws
+pub mod FlatLaws
 pub mod AlikeLemmas
 pub mod AnswerLemmas
 pub mod FillLemmas

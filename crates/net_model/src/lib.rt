@@ -6,13 +6,16 @@
 //! for each node, table number and family that has entries: `Net::lookup` gives the entry of a
 //! node's table that fits an address best, and `Net::table` one table for many look-ups.
 //! `compilable` tells whether the network is flat: then no entry lies strictly inside the prefix of
-//! a SID, and all addresses of that prefix are looked up alike. Only building takes memory. The
+//! a SID, and all addresses of that prefix are looked up alike; SIDs fit the blocks that they lie
+//! in; and SIDs of one prefix are compressed alike. Only building takes memory. The
 //! laws about the definitions are the contracts of empty functions. `NetFault` says why a text
 //! gives no network or no intent, and where in it.
 #![tactic(auto)]
 
 mod fault;
 mod flat;
+#[cfg(test)]
+mod flat_tests;
 mod judge;
 mod judge_sids;
 mod laws;
@@ -32,9 +35,10 @@ mod tests;
 pub use fault::{FaultPlace, Key, NetFault, TableKind};
 pub use flat::{NotFlat, compilable};
 pub use laws::{
-    best_match_is_one, blocks_hold_their_sids, entries_are_its_own,
-    flat_networks_treat_addresses_alike, matched_sids_hold_the_address,
-    no_fault_is_keeping_the_rules, places_are_of_passing_items, rules_mean_their_facts,
+    best_match_is_one, blocks_hold_or_miss, blocks_hold_their_sids, entries_are_its_own,
+    flat_networks_are_refused_for_nothing, flat_networks_treat_addresses_alike,
+    matched_sids_hold_the_address, no_fault_is_keeping_the_rules, places_are_of_passing_items,
+    prefixes_have_one_flavour, rules_mean_their_facts, sids_of_blocks_are_whole_units,
     sids_suit_their_compression,
 };
 pub use limits::{

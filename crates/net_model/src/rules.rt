@@ -263,7 +263,7 @@ pub(crate) fn same_family(a: Family, b: Family) -> bool
     a == b
 }
 
-fn same_prefix(p: &Prefix, q: &Prefix) -> bool
+pub(crate) fn same_prefix(p: &Prefix, q: &Prefix) -> bool
     ensures { result ≡ same_prefix p.now q.now }
 {
     p.value().value == q.value().value && p.len() == q.len()

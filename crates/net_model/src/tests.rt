@@ -1,8 +1,8 @@
 //! A network of two nodes.
 
 use crate::{
-    Block, BlockKind, Hit, Key, Link, MAX_SIDS_OF_NODE, Name, Net, NetFault, NetParts, Node,
-    NotFlat, Route, Standing, TableKind, TypeList, are_in_range, compilable,
+    Block, BlockKind, Hit, Key, Link, MAX_SIDS_OF_NODE, Name, Net, NetFault, NetParts, Node, Route,
+    Standing, TableKind, TypeList, are_in_range,
 };
 use srv6_rules::{Behaviour, Csid, Family, LinkSet, SidEntry};
 use std::alloc::{AllocError, Global};
@@ -17,13 +17,13 @@ const OWN_B: u128 = 0x2001_0db8_0000_0000_0000_0000_0000_0002;
 /// 10.0.0.0, in the first 32 bits
 const NET_10: u128 = 0x0a00_0000_0000_0000_0000_0000_0000_0000;
 /// fcbb:bb00::
-const BLOCK: u128 = 0xfcbb_bb00_0000_0000_0000_0000_0000_0000;
+pub(crate) const BLOCK: u128 = 0xfcbb_bb00_0000_0000_0000_0000_0000_0000;
 /// fcbb:bb00:2::
-const SID: u128 = 0xfcbb_bb00_0002_0000_0000_0000_0000_0000;
+pub(crate) const SID: u128 = 0xfcbb_bb00_0002_0000_0000_0000_0000_0000;
 /// fcbb:bb00:2:e001::
-const INNER_SID: u128 = 0xfcbb_bb00_0002_e001_0000_0000_0000_0000;
+pub(crate) const INNER_SID: u128 = 0xfcbb_bb00_0002_e001_0000_0000_0000_0000;
 
-fn prefix(rt: &impl Abort, value: u128, len: u8) -> Prefix {
+pub(crate) fn prefix(rt: &impl Abort, value: u128, len: u8) -> Prefix {
     Prefix::new(Addr { value }, len).expect(rt, "a prefix")
 }
 
@@ -40,7 +40,7 @@ fn node(alloc: Global, text: &str, address: u128) -> Result<Node, AllocError> {
 }
 
 /// An End at B that is not compressed, in no block.
-fn end_at_b(alloc: Global, prefix: Prefix) -> SidEntry {
+pub(crate) fn end_at_b(alloc: Global, prefix: Prefix) -> SidEntry {
     SidEntry {
         node: 1,
         prefix,
@@ -57,7 +57,7 @@ fn end_at_b(alloc: Global, prefix: Prefix) -> SidEntry {
 
 /// Nodes of these names, a link from the first to the second, a default route over it, and the SIDs
 /// at the second.
-fn two_nodes(
+pub(crate) fn two_nodes(
     alloc: Global,
     names: (&str, &str),
     all: Prefix,
@@ -105,7 +105,7 @@ fn fault_of(
 }
 
 /// The network of parts.
-fn network(rt: &impl Abort, alloc: Global, parts: NetParts) -> Net {
+pub(crate) fn network(rt: &impl Abort, alloc: Global, parts: NetParts) -> Net {
     assert!(rt; are_in_range(&parts));
     Net::build(alloc, parts, &[]).ok().expect(rt, "a network")
 }
@@ -227,28 +227,6 @@ fn nodes_have_names(rt: HostRuntime) -> Result<(), Fail> {
     let net = two_sids(&rt, rt.alloc())?;
     assert!(rt; net.node_named(b"B") == Some(1));
     assert!(rt; net.node_named(b"C") == None);
-    Ok(())
-}
-
-#[test]
-fn a_sid_inside_a_sid_is_not_flat(rt: HostRuntime) -> Result<(), Fail> {
-    let net = two_sids(&rt, rt.alloc())?;
-    let nested = NotFlat::Nested {
-        outer: prefix(&rt, SID, 48),
-        inner: prefix(&rt, INNER_SID, 64),
-    };
-    assert!(rt; compilable(&net) == Err(nested));
-    Ok(())
-}
-
-#[test]
-fn one_sid_is_flat(rt: HostRuntime) -> Result<(), Fail> {
-    let alloc = rt.alloc();
-    let mut sids = Vec::new(alloc);
-    sids.push(end_at_b(alloc, prefix(&rt, SID, 48)))?;
-    let parts = two_nodes(alloc, ("A", "B"), prefix(&rt, 0, 0), sids)?;
-    let net = network(&rt, alloc, parts);
-    assert!(rt; compilable(&net) == Ok(()));
     Ok(())
 }
 
