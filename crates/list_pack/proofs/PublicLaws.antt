@@ -3,3 +3,8 @@
 pub use Rattle.list_pack.proofs.Rooming.{both-blocks}
 pub use Rattle.list_pack.proofs.Costing.{at_most-both, under-none, under-itself, under-trans, under-plus, EdgeParts, edge-parts, edge-made, LastParts, last-parts, last-made}
 pub use Rattle.list_pack.proofs.Leasts.{under-behind, under-last, attained}
+pub use Rattle.list_pack.proofs.CostSplits.{cost-splits, Split, split-of, cost-made}
+pub use Rattle.list_pack.proofs.PathLaws.{list-same, path-list, list-path}
+pub use Rattle.list_pack.proofs.FlatSids.{same-self, same-is, flat-lists}
+pub use Rattle.list_pack.proofs.Ruled.{legal-flat}
+pub use Rattle.list_pack.proofs.Valued.{legal-valued}

@@ -3,3 +3,9 @@ pub mod Value
 pub mod Rooms
 pub mod Costs
 pub mod Least
+pub mod SidLists
+pub mod Paths
+pub mod PathLists
+pub mod Meaning
+pub mod SegmentValues
+pub mod OpenContainers

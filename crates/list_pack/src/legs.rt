@@ -1,6 +1,9 @@
 //! Legs as a search sees them.
 
-ghost use Rattle.std.specs.Prelude.{◌≡◌, ◌≤◌};
+ghost use Rattle.std.specs.Prelude.{◌≡◌, ◌≤◌, ℕ, List};
+ghost use Rattle.net_model.specs.Network.{Network};
+ghost use Rattle.list_pack.specs.declared.types.Container.{Container};
+ghost use Rattle.list_pack.specs.Meaning.{Means};
 ghost use Rattle.list_pack.specs.Value.{LegsValue, IsSid, KeepsLaws};
 
 use crate::types::{Leg, Shape};
@@ -39,4 +42,23 @@ pub trait Legs {
     /// arguments for which `leg` is.
     fn finish(&self, position: u32, via: Option<u32>, next: u32) -> Option<u32>
         ensures { result ≡ (seen self.now).finish position via next };
+}
+
+/// Legs that mean something: their paths are the legal lists of a network that realize what the
+/// legs are for, and the least path is the least list. What the search and certificates do needs
+/// no meaning. (own rule)
+pub trait ListLegs: Legs {
+    /// The network of the lists.
+    ghost network: { Self → Network };
+
+    /// That a list of the network realizes what the legs are for, and needs such a hop limit.
+    ghost realizes: { Self → List Container → ℕ → Type 0 };
+
+    /// That as many SIDs of a list are executed wherever it hands a packet over.
+    ghost executes: { Self → List Container → ℕ → Type 0 };
+
+    /// That the legs mean this: a call for the callers' proofs alone.
+    fn keeps_meaning(&self)
+        ensures { Means (Self.seen self.now) (network self.now) (realizes self.now)
+            (executes self.now) };
 }

@@ -48,5 +48,9 @@ fn costs_and_steps(rt: HostRuntime) -> Result<(), Fail> {
     a_path_of_tight_edges_is_least();
     unlisted_states_have_no_path();
     least_costs_are_good();
+    a_cost_is_containers_and_hops();
+    a_path_is_a_legal_list();
+    a_legal_list_is_a_path();
+    sids_of_a_flat_network_suit_lists();
     Ok(())
 }

@@ -77,3 +77,20 @@ pub struct Solution {
     /// The first least path from the start to the end; empty where there is none.
     pub path: Seq<PathStep>,
 }
+
+/// The prefixes of SIDs in a container behind its first, in the order in which they are visited.
+pub type Prefixes = Seq<Prefix>;
+
+/// 16 bytes of a segment list, by the prefixes of its SIDs: the first to be visited, and those
+/// behind it.
+#[derive(Debug, Drop)]
+pub enum Container {
+    /// An address that begins with its first SID; behind it the CSIDs of the others (RFC 8754
+    /// section 2, RFC 9800 section 4.1).
+    Full(Prefix, Prefixes),
+    /// A REPLACE container, of CSIDs alone (RFC 9800 section 4.2).
+    Packed(Prefix, Prefixes),
+}
+
+/// A list of SIDs as containers, the first to be visited first.
+pub type SidList = Seq<Container>;

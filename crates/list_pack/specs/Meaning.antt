@@ -1,0 +1,42 @@
+-- What legs mean: their paths are the legal lists of a network that realize what the legs are for.
+use Rattle.std.specs.Prelude.{◌≡◌, ℕ, ◌≤◌, List, length, map, slice_get, Option, Some}
+use Rattle.srv6_rules.specs.declared.sid.SidEntry.{SidEntry}
+use Rattle.net_model.specs.Network.{Network}
+use Rattle.list_pack.specs.declared.types.Container.{Container}
+use Rattle.list_pack.specs.declared.types.Cost.{Cost}
+use Rattle.list_pack.specs.declared.types.PathStep.{PathStep}
+use Rattle.list_pack.specs.Value.{LegsValue, IsSid}
+use Rattle.list_pack.specs.Costs.{Move, cost_of, start}
+use Rattle.list_pack.specs.Least.{step_of}
+use Rattle.list_pack.specs.Paths.{cost_with}
+use Rattle.list_pack.specs.PathLists.{list_of, IsListOfPath}
+use Rattle.list_pack.specs.SidLists.{IsLegalList, prefixes_in, steps_in}
+
+-- each SID of the legs is one of the network, with its prefix and its node
+abbrev pub AreSidsOf : LegsValue → Network → Type 0
+AreSidsOf v net =
+    (n : ℕ) → IsSid v n
+    → (s : SidEntry) × (slice_get net.sids n ≡ Some s) × (s.prefix ≡ (v.shape n).prefix) × (s.node ≡ v.node n)
+
+-- the list of a path is legal, has the path's steps and containers, realizes with the path's hops as its need, and all its SIDs are executed
+pub record IsRealized (net : Network) (Realizes Executes : List Container → ℕ → Type 0) (path : List PathStep) (c : Cost) : Type 0 where
+  pub of_path : IsListOfPath net path c.containers
+  pub legal : IsLegalList net (list_of net path)
+  pub realizes : Realizes (list_of net path) c.hops
+  pub executes : Executes (list_of net path) (length (prefixes_in (list_of net path)))
+
+-- a path of as many containers as a list has and of no more hops than its need; where all SIDs of the list are executed it has the list's
+-- steps
+pub record IsPathOf (v : LegsValue) (Executes : List Container → ℕ → Type 0) (list : List Container) (need : ℕ) : Type 0 where
+  pub moves : List Move
+  pub hops : ℕ
+  pub cost : cost_of v start moves ≡ Some (cost_with (length list) hops)
+  pub within : hops ≤ need
+  pub whole : Executes list (length (prefixes_in list)) → map (step_of v) moves ≡ steps_in list
+
+-- by a relation that says that a list realizes with a need, and one that says that as many SIDs of a list are executed: each path is a
+-- legal list that realizes with the path's cost, and each legal list that realizes has a path of no greater cost
+pub record Means (v : LegsValue) (net : Network) (Realizes Executes : List Container → ℕ → Type 0) : Type 0 where
+  pub sids : AreSidsOf v net
+  pub lists : (moves : List Move) (c : Cost) → cost_of v start moves ≡ Some c → IsRealized net Realizes Executes (map (step_of v) moves) c
+  pub paths : (list : List Container) (need : ℕ) → IsLegalList net list → Realizes list need → IsPathOf v Executes list need
