@@ -1,0 +1,12 @@
+pub mod Orders
+pub mod Listed
+pub mod Passing
+pub mod Ranges
+pub mod Pathing
+pub mod Judging
+pub mod Showing
+pub mod Networks
+pub mod Readings
+pub mod GridLaws
+pub mod GridNets
+pub mod PublicLaws

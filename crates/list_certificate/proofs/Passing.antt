@@ -1,0 +1,182 @@
+-- Which moves pass, and what it says of a state that all of them do.
+use Rattle.std.proofs.Common.{◌≡◌, ℕ, ◌+◌, ◌<◌, ◌≤◌, inl, inr, Bool, true, false, List, [], ◌∷◌, length, Option, Some, None, slice_get, Contains, get_or, refl, sym, ◌∙◌, ap, subst, arith}
+use Rattle.std.specs.Option.{option_map, option_and_then}
+use Rattle.std.proofs.lemmas.Bool.{cases_lt}
+use Rattle.std.proofs.lemmas.Option.{none-some, same_Some, slice_get_within, slice_get-get_or}
+use Rattle.list_pack.specs.declared.types.Cost.{Cost}
+use Rattle.list_pack.specs.declared.types.State.{State}
+use Rattle.list_pack.specs.declared.types.Shape.{Shape}
+use Rattle.list_pack.specs.declared.types.Leg.{Leg}
+use Rattle.list_pack.specs.Value.{LegsValue, KeepsLaws, IsSid}
+use Rattle.list_pack.specs.Rooms.{room_behind}
+use Rattle.list_pack.specs.Costs.{Move, Edge, plus, move_cost, room_of, edge_by, edge_of, last_of, behind, Under, IsState, IsStateBy}
+use Rattle.list_pack.specs.Least.{IsGoodAt}
+use Rattle.list_pack.proofs.PublicLaws.{under-none, under-behind, under-last, edge-parts, edge-made, last-parts}
+use Rattle.list_certificate.specs.declared.types.PotentialLine.{PotentialLine}
+use Rattle.list_certificate.specs.Certs.{potential_at}
+use Rattle.list_certificate.specs.Tests.{PassesMove, PassesLast, move_of, Tells, PassLegsTo, PassLegs, PassEnds}
+
+-- an item by its place
+pub place-in : (xs : List ℕ) (n : ℕ) → Contains xs n → (k : ℕ) × (k < length xs) × (slice_get xs k ≡ Some n)
+place-in xs n h = (h.0, h.1, slice_get-get_or xs h.0 n h.1 ∙ ap (λ (x : ℕ). Some x) h.2)
+
+pub item-in : (xs : List ℕ) (k n : ℕ) → slice_get xs k ≡ Some n → Contains xs n
+item-in xs k n e =
+    let within = slice_get_within xs k n e in
+    (k, within, same_Some (get_or xs k n) n (sym (slice_get-get_or xs k n within) ∙ e))
+
+-- both ways of standing in a container
+pub both-stays : (P : Bool → Type 0) → P true → P false → (stays : Bool) → P stays
+both-stays P h k true = h
+both-stays P h k false = k
+
+module _ (v : LegsValue) (lines : List PotentialLine) (s : State) where
+  -- a move without room, or to a state that is not listed
+  pub no-room : (m : Move) → room_of v s m ≡ None → PassesMove v lines s m
+  no-room m e =
+      let none : edge_of v s m ≡ None =
+      ap (λ (o : Option ℕ). option_and_then (λ (r : ℕ). option_map (edge_by m r) (v.leg s.position s.via m.sid)) o) e in
+      subst (λ (o : Option Edge). Under (potential_at lines s) (behind o (potential_at lines))) (sym none)
+      (under-none (potential_at lines s))
+
+  by-room : (m : Move) (room : ℕ) (leg : Leg) → room_of v s m ≡ Some room → v.leg s.position s.via m.sid ≡ Some leg → (rest : Option Cost)
+      → potential_at lines (record { position = leg.to; via = Some m.sid; room = room }) ≡ rest
+      → behind (edge_of v s m) (potential_at lines) ≡ option_map (plus (move_cost m.stays leg.hops)) rest
+  by-room m room leg e f rest h =
+      ap (λ (o : Option Edge). behind o (potential_at lines)) (edge-made v s m room leg e f)
+      ∙ ap (λ (o : Option Cost). option_map (plus (move_cost m.stays leg.hops)) o) h
+
+  unlisted : (m : Move) (room : ℕ) (leg : Leg) → room_of v s m ≡ Some room → v.leg s.position s.via m.sid ≡ Some leg
+      → potential_at lines (record { position = leg.to; via = Some m.sid; room = room }) ≡ None
+      → PassesMove v lines s m
+  unlisted m room leg e f h =
+      subst (λ (o : Option Cost). Under (potential_at lines s) o) (sym (by-room m room leg e f None h)) (under-none (potential_at lines s))
+
+  pub room-is : (n : ℕ) (stays : Bool) (from : Option Shape) (next : Shape) (o p : Option ℕ) → from ≡ option_map v.shape s.via
+      → next ≡ v.shape n
+      → o ≡ room_behind stays from s.room next → o ≡ p → room_of v s (move_of n stays) ≡ p
+  room-is n stays from next o p e f h k =
+      sym (h ∙ ap (λ (x : Option Shape). room_behind stays x s.room next) e
+      ∙ ap (λ (x : Shape). room_behind stays (option_map v.shape s.via) s.room x) f) ∙ k
+
+  pub passes-unlisted : (n : ℕ) (stays : Bool) (room : ℕ) (leg : Leg) → room_of v s (move_of n stays) ≡ Some room
+      → v.leg s.position s.via n ≡ Some leg
+      → potential_at lines (record { position = leg.to; via = Some n; room = room }) ≡ None
+      → PassesMove v lines s (move_of n stays)
+  passes-unlisted n stays room leg e f h = unlisted (move_of n stays) room leg e f h
+
+  pub passes-listed : (n : ℕ) (stays : Bool) (room : ℕ) (leg : Leg) (rest : Cost) (own : Option Cost) (b : Bool)
+      → room_of v s (move_of n stays) ≡ Some room
+      → v.leg s.position s.via n ≡ Some leg
+      → potential_at lines (record { position = leg.to; via = Some n; room = room }) ≡ Some rest
+      → own ≡ potential_at lines s
+      → Tells (Under own (Some (plus (move_cost stays leg.hops) rest))) b → Tells (PassesMove v lines s (move_of n stays)) b
+  passes-listed n stays room leg rest own b e f h o t =
+      subst (λ (x : Option Cost). Tells (Under (potential_at lines s) x) b) (sym (by-room (move_of n stays) room leg e f (Some rest) h))
+      (subst (λ (x : Option Cost). Tells (Under x (Some (plus (move_cost stays leg.hops) rest))) b) o t)
+
+  -- a state passes exactly where its moves by legs do and those to the end
+  pub good-legs : IsGoodAt v (potential_at lines) s → PassLegs v lines s
+  good-legs good m = under-behind v (potential_at lines s) (edge_of v s m) (potential_at lines) (good.edges m)
+
+  pub good-ends : IsGoodAt v (potential_at lines) s → PassEnds v lines s
+  good-ends good m = under-last (potential_at lines s) (last_of v s m) (good.lasts m)
+
+  pub good-both : PassLegs v lines s → PassEnds v lines s → IsGoodAt v (potential_at lines) s
+  good-both legs ends =
+      record {
+        edges = λ m e h. subst (λ (o : Option Edge). Under (potential_at lines s) (behind o (potential_at lines))) h (legs m);
+        lasts = λ m c h. subst (λ (o : Option Cost). Under (potential_at lines s) o) h (ends m);
+      }
+
+  -- moves by legs to some of the SIDs of a position
+  abbrev pub SomeLegsTo : ℕ → List ℕ → ℕ → Type 0
+  SomeLegsTo to sids count = (i n : ℕ) (leg : Leg) (stays : Bool) → i < count → slice_get sids i ≡ Some n
+      → v.leg s.position s.via n ≡ Some leg → leg.to ≡ to
+      → PassesMove v lines s (move_of n stays)
+
+  pub legs-none : (to : ℕ) (sids : List ℕ) → SomeLegsTo to sids 0
+  legs-none to sids i n leg stays h = absurd (omega (arith, h))
+
+  pub legs-more : (to : ℕ) (sids : List ℕ) (count n : ℕ) → slice_get sids count ≡ Some n
+      → ((leg : Leg) (stays : Bool) → v.leg s.position s.via n ≡ Some leg → leg.to ≡ to → PassesMove v lines s (move_of n stays))
+      → SomeLegsTo to sids count → SomeLegsTo to sids (count + 1)
+  legs-more to sids count n e pass so i k leg stays h f g l =
+      elim (cases_lt i count) as (λ w. PassesMove v lines s (move_of k stays)) [
+        | inl less ↦ so i k leg stays less f g l
+        | inr more ↦
+            let same : i ≡ count = omega (arith, h, more) in
+            let is : n ≡ k = same_Some n k (sym e ∙ ap (slice_get sids) (sym same) ∙ f) in
+            subst (λ (x : ℕ). PassesMove v lines s (move_of x stays)) is
+            (pass leg stays (ap (v.leg s.position s.via) is ∙ g) l)
+      ]
+
+  pub legs-all-to : KeepsLaws v → (to : ℕ) (sids : List ℕ) (count : ℕ) → sids ≡ v.sids_at to → length sids ≤ count
+      → SomeLegsTo to sids count
+      → PassLegsTo v lines s to
+  legs-all-to laws to sids count e h so n leg stays f l =
+      let is_next = (laws.leg s.position s.via n leg f).is_next in
+      let sids_are : v.sids_at leg.to ≡ sids = ap v.sids_at l ∙ sym e in
+      let place = place-in sids n (subst (λ (xs : List ℕ). Contains xs n) sids_are is_next) in
+      so place.0 n leg stays (omega (arith, place.1, h)) place.2 f l
+
+  -- moves by legs to positions below one
+  abbrev pub LegsBelow : ℕ → Type 0
+  LegsBelow to = (n : ℕ) (leg : Leg) (stays : Bool) → v.leg s.position s.via n ≡ Some leg → leg.to < to
+      → PassesMove v lines s (move_of n stays)
+
+  pub below-none : KeepsLaws v → LegsBelow s.position
+  below-none laws n leg stays e h =
+      let forward = (laws.leg s.position s.via n leg e).forward in
+      absurd (omega (arith, h, forward))
+
+  pub below-more : (to : ℕ) → PassLegsTo v lines s to → LegsBelow to → LegsBelow (to + 1)
+  below-more to here so n leg stays e h =
+      elim (cases_lt leg.to to) as (λ w. PassesMove v lines s (move_of n stays)) [
+        | inl less ↦ so n leg stays e less
+        | inr more ↦ here n leg stays e (omega (arith, h, more))
+      ]
+
+  pub below-all : KeepsLaws v → (to : ℕ) → v.steps < to → LegsBelow to → PassLegs v lines s
+  below-all laws to h so m =
+      under-behind v (potential_at lines s) (edge_of v s m) (potential_at lines) (λ e k.
+      let parts = edge-parts v s m e k in
+      let within = (laws.leg s.position s.via m.sid parts.leg parts.leg_is).within in
+      subst (λ (o : Option Edge). Under (potential_at lines s) (behind o (potential_at lines))) k
+      (so m.sid parts.leg m.stays parts.leg_is (omega (arith, within, h))))
+
+  -- moves to the end by some of the SIDs of the last position
+  abbrev pub SomeEnds : List ℕ → ℕ → Type 0
+  SomeEnds sids count = (i n : ℕ) (stays : Bool) → i < count → slice_get sids i ≡ Some n → PassesLast v lines s (move_of n stays)
+
+  pub ends-none : (sids : List ℕ) → SomeEnds sids 0
+  ends-none sids i n stays h = absurd (omega (arith, h))
+
+  pub ends-more : (sids : List ℕ) (count n : ℕ) → slice_get sids count ≡ Some n
+      → ((stays : Bool) → PassesLast v lines s (move_of n stays))
+      → SomeEnds sids count → SomeEnds sids (count + 1)
+  ends-more sids count n e pass so i k stays h f =
+      elim (cases_lt i count) as (λ w. PassesLast v lines s (move_of k stays)) [
+        | inl less ↦ so i k stays less f
+        | inr more ↦
+            let same : i ≡ count = omega (arith, h, more) in
+            let is : n ≡ k = same_Some n k (sym e ∙ ap (slice_get sids) (sym same) ∙ f) in
+            subst (λ (x : ℕ). PassesLast v lines s (move_of x stays)) is (pass stays)
+      ]
+
+  pub ends-by : (n : ℕ) → v.finish s.position s.via n ≡ None → (stays : Bool) → PassesLast v lines s (move_of n stays)
+  ends-by n e stays =
+      under-last (potential_at lines s) (last_of v s (move_of n stays)) (λ c h.
+      let parts = last-parts v s (move_of n stays) c h in
+      absurd (none-some parts.hops (sym e ∙ parts.finish_is)))
+
+  pub ends-all : KeepsLaws v → (sids : List ℕ) (steps count : ℕ) → steps ≡ v.steps → sids ≡ v.sids_at steps → length sids ≤ count
+      → SomeEnds sids count
+      → PassEnds v lines s
+  ends-all laws sids steps count e f h so m =
+      under-last (potential_at lines s) (last_of v s m) (λ c k.
+      let parts = last-parts v s m c k in
+      let is_next = (laws.finish s.position s.via m.sid parts.hops parts.finish_is).is_next in
+      let sids_are : v.sids_at v.steps ≡ sids = ap v.sids_at (sym e) ∙ sym f in
+      let place = place-in sids m.sid (subst (λ (xs : List ℕ). Contains xs m.sid) sids_are is_next) in
+      subst (λ (o : Option Cost). Under (potential_at lines s) o) k (so place.0 m.sid m.stays (omega (arith, place.1, h)) place.2))

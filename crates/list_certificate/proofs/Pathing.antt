@@ -1,0 +1,313 @@
+-- Where the lines of a path lead, and what they cost.
+use Rattle.std.proofs.Common.{◌≡◌, ℕ, zero, suc, ◌+◌, ◌*◌, ◌<◌, ◌≤◌, inl, inr, Bool, true, false, List, [], ◌∷◌, ◌++◌, map, length, take, drop, get_or, Option, Some, None, slice_get, Contains, append_assoc, refl, sym, ◌∙◌, ap, subst, arith}
+use Rattle.std.specs.Option.{option_map}
+use Rattle.std.proofs.lemmas.Bool.{cases_lt}
+use Rattle.std.proofs.lemmas.Option.{none-some, same_Some, slice_get_within, slice_get-get_or}
+use Rattle.list_pack.specs.declared.types.Cost.{Cost}
+use Rattle.list_pack.specs.declared.types.State.{State}
+use Rattle.list_pack.specs.declared.types.PathStep.{PathStep}
+use Rattle.list_pack.specs.declared.types.Leg.{Leg}
+use Rattle.list_pack.specs.Value.{LegsValue, KeepsLaws}
+use Rattle.list_pack.specs.Costs.{Move, Edge, plus, nothing, move_cost, room_of, edge_by, edge_of, last_of, behind, cost_of, start, IsState}
+use Rattle.list_pack.specs.Least.{step_of}
+use Rattle.list_pack.proofs.PublicLaws.{edge-parts, edge-made, last-parts, last-made}
+use Rattle.list_pack.proofs.Costing.{edge-state}
+use Rattle.list_certificate.specs.declared.types.PathLine.{PathLine}
+use Rattle.list_certificate.specs.declared.path.Reached.{Reached}
+use Rattle.list_certificate.specs.declared.path.Spent.{Spent}
+use Rattle.list_certificate.specs.Verdicts.{GoesAlong, Leads, IsAstray, steps_of, BreaksAt, PathCosts}
+use Rattle.list_certificate.specs.Tests.{Tells, edge_value, IsEdgeOf, IsEdgeTo, IsEdgeBy, IsLastBy, IsLastOf, Finishes, Run, spent_value, IsWalked, Adds, move_of}
+use Rattle.list_certificate.proofs.Passing.{place-in}
+
+cost-one : (stays : Bool) (hops : ℕ) → (move_cost stays hops).containers ≤ 1
+cost-one true hops = omega arith
+cost-one false hops = omega arith
+
+-- a move that was found
+pub edge-stands : (v : LegsValue) → KeepsLaws v → (s : State) (step : PathStep) (to n room : ℕ) (leg : Leg) (cost : Cost) → IsState v s
+    → (v.shape n).prefix ≡ step.prefix
+    → v.leg s.position s.via n ≡ Some leg → leg.to ≡ to → room_of v s (move_of n step.stays) ≡ Some room
+    → cost ≡ move_cost step.stays leg.hops
+    → IsEdgeBy v s step to n (Some (record { state = record { position = to; via = Some n; room = room }; cost = cost }))
+edge-stands v laws s step to n room leg cost is_s prefix is_leg at is_room is_cost =
+    let m : Move = move_of n step.stays in
+    let e : Edge = record { to = record { position = to; via = Some n; room = room }; cost = cost } in
+    let made : edge_of v s m ≡ Some (edge_by m room leg) = edge-made v s m room leg is_room is_leg in
+    let same : edge_by m room leg ≡ e =
+    ap (λ (x : ℕ). let y : Edge = record { to = record { position = x; via = Some n; room = room }; cost = move_cost step.stays leg.hops } in y) at
+    ∙ ap (λ (x : Cost). let y : Edge = record { to = record { position = to; via = Some n; room = room }; cost = x } in y) (sym is_cost) in
+    let edge : edge_of v s m ≡ Some e = made ∙ ap (λ (x : Edge). Some x) same in
+    let is_step : step_of v m ≡ step =
+    ap (λ (p : _). let y : PathStep = record { stays = step.stays; prefix = p } in y) prefix in
+    let along : GoesAlong v s step e = record { move = m; is_step = is_step; edge = edge } in
+    let hops = (laws.leg s.position s.via n leg is_leg).hops in
+    let few : cost.containers ≤ 1 = subst (λ (x : Cost). x.containers ≤ 1) (sym is_cost) (cost-one step.stays leg.hops) in
+    let low : cost.hops ≤ 1000 = subst (λ (x : Cost). x.hops ≤ 1000) (sym is_cost) hops in
+    (along, edge-state v laws s m e is_s edge, few, low)
+
+pub last-stands : (v : LegsValue) → KeepsLaws v → (s : State) (step : PathStep) (n room hops : ℕ) (cost : Cost)
+    → (v.shape n).prefix ≡ step.prefix
+    → v.finish s.position s.via n ≡ Some hops → room_of v s (move_of n step.stays) ≡ Some room → cost ≡ move_cost step.stays hops
+    → IsLastBy v s step n (Some cost)
+last-stands v laws s step n room hops cost prefix is_finish is_room is_cost =
+    let m : Move = move_of n step.stays in
+    let last : last_of v s m ≡ Some cost =
+    last-made v s m room hops is_room is_finish ∙ ap (λ (x : Cost). Some x) (sym is_cost) in
+    let is_step : step_of v m ≡ step =
+    ap (λ (p : _). let y : PathStep = record { stays = step.stays; prefix = p } in y) prefix in
+    let low = (laws.finish s.position s.via n hops is_finish).hops in (
+      record { move = m; is_step = is_step; last = last },
+      subst (λ (x : Cost). x.containers ≤ 1) (sym is_cost) (cost-one step.stays hops),
+      subst (λ (x : Cost). x.hops ≤ 1000) (sym is_cost) low,
+    )
+
+module _ (v : LegsValue) (s : State) (step : PathStep) where
+  -- none of the first SIDs of a position has the step's edge
+  abbrev pub NoEdgeTo : ℕ → List ℕ → ℕ → Type 0
+  NoEdgeTo to sids count = (i n : ℕ) → i < count → slice_get sids i ≡ Some n → IsEdgeBy v s step to n None
+
+  pub no-edge-none : (to : ℕ) (sids : List ℕ) → NoEdgeTo to sids 0
+  no-edge-none to sids i n h = absurd (omega (arith, h))
+
+  pub no-edge-more : (to : ℕ) (sids : List ℕ) (count n : ℕ) → slice_get sids count ≡ Some n → IsEdgeBy v s step to n None
+      → NoEdgeTo to sids count
+      → NoEdgeTo to sids (count + 1)
+  no-edge-more to sids count n e here so i k h f =
+      elim (cases_lt i count) as (λ w. IsEdgeBy v s step to k None) [
+        | inl less ↦ so i k less f
+        | inr more ↦
+            let same : i ≡ count = omega (arith, h, more) in
+            let is : n ≡ k = same_Some n k (sym e ∙ ap (slice_get sids) (sym same) ∙ f) in
+            subst (λ (x : ℕ). IsEdgeBy v s step to x None) is here
+      ]
+
+  pub no-edge-all : KeepsLaws v → (to : ℕ) (sids : List ℕ) (count : ℕ) → sids ≡ v.sids_at to → length sids ≤ count
+      → NoEdgeTo to sids count
+      → IsEdgeTo v s step to None
+  no-edge-all laws to sids count sids_are h so e along at =
+      let parts = edge-parts v s along.move e along.edge in
+      let is_next = (laws.leg s.position s.via along.move.sid parts.leg parts.leg_is).is_next in
+      let there : parts.leg.to ≡ to = ap (λ (x : Edge). x.to.position) parts.is ∙ at in
+      let place = place-in sids along.move.sid
+      (subst (λ (xs : List ℕ). Contains xs along.move.sid) (ap v.sids_at there ∙ sym sids_are) is_next) in
+      so place.0 along.move.sid (omega (arith, place.1, h)) place.2 e along.move along.is_step refl along.edge at
+
+  -- the step has no edge to a position below one
+  abbrev pub NoEdgeBelow : ℕ → Type 0
+  NoEdgeBelow to = (e : Edge) → GoesAlong v s step e → e.to.position < to → ⊥
+
+  pub below-first : KeepsLaws v → NoEdgeBelow s.position
+  below-first laws e along h =
+      let parts = edge-parts v s along.move e along.edge in
+      let forward = (laws.leg s.position s.via along.move.sid parts.leg parts.leg_is).forward in
+      let there : parts.leg.to ≡ e.to.position = ap (λ (x : Edge). x.to.position) parts.is in
+      omega (arith, forward, there, h)
+
+  pub below-next : (to : ℕ) → IsEdgeTo v s step to None → NoEdgeBelow to → NoEdgeBelow (to + 1)
+  below-next to here so e along h =
+      elim (cases_lt e.to.position to) as (λ w. ⊥) [
+        | inl less ↦ so e along less
+        | inr more ↦ here e along (omega (arith, h, more))
+      ]
+
+  pub below-last : KeepsLaws v → (to : ℕ) → v.steps < to → NoEdgeBelow to → IsEdgeOf v s step None
+  below-last laws to h so e along =
+      let parts = edge-parts v s along.move e along.edge in
+      let within = (laws.leg s.position s.via along.move.sid parts.leg parts.leg_is).within in
+      let there : parts.leg.to ≡ e.to.position = ap (λ (x : Edge). x.to.position) parts.is in
+      so e along (omega (arith, within, there, h))
+
+  -- with none of the first SIDs of the last position the step finishes
+  abbrev pub NoLast : List ℕ → ℕ → Type 0
+  NoLast sids count = (i n : ℕ) → i < count → slice_get sids i ≡ Some n → IsLastBy v s step n None
+
+  pub no-last-none : (sids : List ℕ) → NoLast sids 0
+  no-last-none sids i n h = absurd (omega (arith, h))
+
+  pub no-last-more : (sids : List ℕ) (count n : ℕ) → slice_get sids count ≡ Some n → IsLastBy v s step n None → NoLast sids count
+      → NoLast sids (count + 1)
+  no-last-more sids count n e here so i k h f =
+      elim (cases_lt i count) as (λ w. IsLastBy v s step k None) [
+        | inl less ↦ so i k less f
+        | inr more ↦
+            let same : i ≡ count = omega (arith, h, more) in
+            let is : n ≡ k = same_Some n k (sym e ∙ ap (slice_get sids) (sym same) ∙ f) in
+            subst (λ (x : ℕ). IsLastBy v s step x None) is here
+      ]
+
+  pub no-last-all : KeepsLaws v → (sids : List ℕ) (steps count : ℕ) → steps ≡ v.steps → sids ≡ v.sids_at steps → length sids ≤ count
+      → NoLast sids count
+      → IsLastOf v s step None
+  no-last-all laws sids steps count e sids_are h so c last =
+      let parts = last-parts v s last.move c last.last in
+      let is_next = (laws.finish s.position s.via last.move.sid parts.hops parts.finish_is).is_next in
+      let place = place-in sids last.move.sid
+      (subst (λ (xs : List ℕ). Contains xs last.move.sid) (ap v.sids_at (sym e) ∙ sym sids_are) is_next) in
+      so place.0 last.move.sid (omega (arith, place.1, h)) place.2 c last.move last.is_step refl last.last
+
+-- lists, cut at a place
+pub cut-at : {X : Type 0} (xs : List X) (k : ℕ) (x : X) → slice_get xs k ≡ Some x → xs ≡ take k xs ++ x ∷ drop (k + 1) xs
+cut-at [] k x e = absurd (none-some x e)
+cut-at (y ∷ ys) zero x e = ap (λ z. z ∷ ys) (same_Some y x e)
+cut-at (y ∷ ys) (suc k) x e =
+    let next : suc (k + 1) ≡ suc k + 1 = omega arith in
+    ap (λ zs. y ∷ zs) (cut-at ys k x e) ∙ ap (λ n. y ∷ (take k ys ++ x ∷ drop n (y ∷ ys))) next
+
+pub take-one : {X : Type 0} (xs : List X) (k : ℕ) (x : X) → slice_get xs k ≡ Some x → take (k + 1) xs ≡ take k xs ++ x ∷ []
+take-one [] k x e = absurd (none-some x e)
+take-one (y ∷ ys) zero x e = ap (λ z. z ∷ []) (same_Some y x e)
+take-one (y ∷ ys) (suc k) x e =
+    let next : suc k + 1 ≡ suc (k + 1) = omega arith in
+    ap (λ n. take n (y ∷ ys)) next ∙ ap (λ zs. y ∷ zs) (take-one ys k x e)
+
+map-end : {X Y : Type 0} (f : X → Y) (xs : List X) (x : X) → map f (xs ++ x ∷ []) ≡ map f xs ++ f x ∷ []
+map-end f [] x = refl
+map-end f (y ∷ ys) x = ap (λ zs. f y ∷ zs) (map-end f ys x)
+
+-- sums of costs
+plus-three : (a b : Cost) (o : Option Cost) → option_map (plus a) (option_map (plus b) o) ≡ option_map (plus (plus a b)) o
+plus-three a b None = refl
+plus-three a b (Some c) =
+    let one : a.containers + (b.containers + c.containers) ≡ a.containers + b.containers + c.containers = omega arith in
+    let two : a.hops + (b.hops + c.hops) ≡ a.hops + b.hops + c.hops = omega arith in
+    ap (λ (x : ℕ). let y : Cost = record { containers = x; hops = a.hops + (b.hops + c.hops) } in Some y) one
+    ∙ ap (λ (x : ℕ). let y : Cost = record { containers = a.containers + b.containers + c.containers; hops = x } in Some y) two
+
+plus-none : (o : Option Cost) → option_map (plus nothing) o ≡ o
+plus-none None = refl
+plus-none (Some c) =
+    let one : 0 + c.containers ≡ c.containers = omega arith in
+    let two : 0 + c.hops ≡ c.hops = omega arith in
+    ap (λ (x : ℕ). let y : Cost = record { containers = x; hops = 0 + c.hops } in Some y) one
+    ∙ ap (λ (x : ℕ). let y : Cost = record { containers = c.containers; hops = x } in Some y) two
+
+leads-more : (v : LegsValue) (s t : State) (steps : List PathStep) (step : PathStep) (e : Edge) → Leads v s steps t → GoesAlong v t step e
+    → Leads v s (steps ++ step ∷ []) e.to
+leads-more v s t [] step e h along = (e, subst (λ (x : State). GoesAlong v x step e) (sym h) along, refl)
+leads-more v s t (p ∷ ps) step e h along = (h.0, h.1, leads-more v h.0.to t ps step e h.2 along)
+
+pub run-none : (v : LegsValue) (s : State) → Run v s [] nothing s
+run-none v s =
+    record { moves = []; steps_are = refl; leads = refl; goes_on = λ m more. sym (plus-none (cost_of v s (m ∷ more))) }
+
+pub run-more : (v : LegsValue) (s t : State) (steps : List PathStep) (spent : Cost) (step : PathStep) (e : Edge) → Run v s steps spent t
+    → GoesAlong v t step e
+    → Run v s (steps ++ step ∷ []) (plus spent e.cost) e.to
+run-more v s t steps spent step e run along =
+    record {
+      moves = run.moves ++ along.move ∷ [];
+      steps_are =
+          map-end (step_of v) run.moves along.move ∙ ap (λ (xs : List PathStep). xs ++ step_of v along.move ∷ []) run.steps_are
+          ∙ ap (λ (x : PathStep). steps ++ x ∷ []) along.is_step;
+      leads = leads-more v s t steps step e run.leads along;
+      goes_on = λ m more.
+          ap (cost_of v s) (append_assoc run.moves (along.move ∷ []) (m ∷ more))
+          ∙ run.goes_on along.move (m ∷ more)
+          ∙ ap (λ (o : Option Edge). option_map (plus spent) (behind o (λ (x : State). cost_of v x (m ∷ more)))) along.edge
+          ∙ plus-three spent e.cost (cost_of v e.to (m ∷ more));
+    }
+
+-- what is known of a path up to a line
+pub record Walking (v : LegsValue) (lines : List PathLine) (k : ℕ) (state : State) (spent : Spent) : Type 0 where
+  pub run : Run v start (steps_of (take k lines)) (spent_value spent) state
+  pub is_state : IsState v state
+  pub containers : spent.containers ≤ k
+  pub hops : spent.hops ≤ 1000 * k
+
+pub walking-none : (v : LegsValue) (lines : List PathLine)
+    → Walking v lines 0 (record { position = 0; via = None; room = 0 }) (record { containers = 0; hops = 0 })
+walking-none v lines =
+    record { run = run-none v start; is_state = (refl, refl); containers = omega arith; hops = omega arith }
+
+steps-one : (lines : List PathLine) (k : ℕ) (l : PathLine) → slice_get lines k ≡ Some l
+    → steps_of (take (k + 1) lines) ≡ steps_of (take k lines) ++ l.step ∷ []
+steps-one lines k l e = ap steps_of (take-one lines k l e) ∙ map-end (λ (x : PathLine). x.step) (take k lines) l
+
+pub walking-more : (v : LegsValue) (lines : List PathLine) (k : ℕ) (l : PathLine) (state : State) (spent after : Spent) (r : Reached)
+    → slice_get lines k ≡ Some l
+    → Walking v lines k state spent → IsEdgeOf v state l.step (Some r) → Adds spent r.cost after
+    → Walking v lines (k + 1) r.state after
+walking-more v lines k l state spent after r e so edge adds =
+    let more = run-more v start state (steps_of (take k lines)) (spent_value spent) l.step (edge_value r) so.run edge.0 in
+    let containers : after.containers ≡ spent.containers + r.cost.containers = ap (λ (c : Cost). c.containers) adds in
+    let hops : after.hops ≡ spent.hops + r.cost.hops = ap (λ (c : Cost). c.hops) adds in
+    record {
+      run =
+          subst (λ (xs : List PathStep). Run v start xs (spent_value after) r.state) (sym (steps-one lines k l e))
+          (subst (λ (c : Cost). Run v start (steps_of (take k lines) ++ l.step ∷ []) c r.state) (sym adds) more);
+      is_state = edge.1;
+      containers = omega (arith, so.containers, containers, edge.2);
+      hops = omega (arith, so.hops, hops, edge.3);
+    }
+
+-- a line that goes astray
+astray-inner : (v : LegsValue) (s : State) (step : PathStep) (ls : List PathLine) → 0 < length ls → IsEdgeOf v s step None
+    → IsAstray v s step ls
+astray-inner v s step [] h none = absurd (omega (arith, h))
+astray-inner v s step (l ∷ ls) h none = none
+
+astray-last : (v : LegsValue) (s : State) (step : PathStep) (ls : List PathLine) → length ls ≡ 0 → IsLastOf v s step None
+    → IsAstray v s step ls
+astray-last v s step [] h none = λ m c e f. none c (record { move = m; is_step = e; last = f })
+astray-last v s step (l ∷ ls) h none = absurd (omega (arith, h))
+
+drop-size : {X : Type 0} (xs : List X) (n : ℕ) → n ≤ length xs → length (drop n xs) + n ≡ length xs
+drop-size xs zero h = omega arith
+drop-size [] (suc n) h = absurd (omega (arith, h))
+drop-size (x ∷ xs) (suc n) h =
+    let rest = drop-size xs n (omega (arith, h)) in
+    omega (arith, rest)
+
+pub breaks-inner : (v : LegsValue) (lines : List PathLine) (k : ℕ) (l : PathLine) (state : State) (spent : Spent) → slice_get lines k ≡ Some l
+    → k + 1 < length lines
+    → Walking v lines k state spent → IsEdgeOf v state l.step None → BreaksAt v start lines l.line
+breaks-inner v lines k l state spent e h so none =
+    let size = drop-size lines (k + 1) (omega (arith, h)) in
+    record {
+      before = take k lines;
+      bad = l;
+      behind = drop (k + 1) lines;
+      parts = cut-at lines k l e;
+      reached = state;
+      leads = so.run.leads;
+      astray = astray-inner v state l.step (drop (k + 1) lines) (omega (arith, size, h)) none;
+      line_is = refl;
+    }
+
+pub breaks-last : (v : LegsValue) (lines : List PathLine) (k : ℕ) (l : PathLine) (state : State) (spent : Spent) → slice_get lines k ≡ Some l
+    → k + 1 ≡ length lines
+    → Walking v lines k state spent → IsLastOf v state l.step None → BreaksAt v start lines l.line
+breaks-last v lines k l state spent e h so none =
+    let size = drop-size lines (k + 1) (omega (arith, h)) in
+    record {
+      before = take k lines;
+      bad = l;
+      behind = drop (k + 1) lines;
+      parts = cut-at lines k l e;
+      reached = state;
+      leads = so.run.leads;
+      astray = astray-last v state l.step (drop (k + 1) lines) (omega (arith, size, h)) none;
+      line_is = refl;
+    }
+
+take-whole : {X : Type 0} (xs : List X) (k : ℕ) → length xs ≤ k → take k xs ≡ xs
+take-whole [] zero h = refl
+take-whole [] (suc k) h = refl
+take-whole (x ∷ xs) zero h = absurd (omega (arith, h))
+take-whole (x ∷ xs) (suc k) h = ap (λ zs. x ∷ zs) (take-whole xs k (omega (arith, h)))
+
+pub walked-all : (v : LegsValue) (lines : List PathLine) (k : ℕ) (l : PathLine) (state : State) (spent after : Spent) (c : Cost)
+    → slice_get lines k ≡ Some l
+    → k + 1 ≡ length lines → Walking v lines k state spent → IsLastOf v state l.step (Some c) → Adds spent c after
+    → PathCosts v start lines (spent_value after)
+walked-all v lines k l state spent after c e h so last adds =
+    let whole : take (k + 1) lines ≡ lines = take-whole lines (k + 1) (omega (arith, h)) in
+    record {
+      moves = so.run.moves ++ last.0.move ∷ [];
+      steps_are =
+          map-end (step_of v) so.run.moves last.0.move ∙ ap (λ (xs : List PathStep). xs ++ step_of v last.0.move ∷ []) so.run.steps_are
+          ∙ ap (λ (x : PathStep). steps_of (take k lines) ++ x ∷ []) last.0.is_step ∙ sym (steps-one lines k l e) ∙ ap steps_of whole;
+      cost_is =
+          so.run.goes_on last.0.move [] ∙ ap (option_map (plus (spent_value spent))) last.0.last
+          ∙ ap (λ (x : Cost). Some x) (sym adds);
+    }

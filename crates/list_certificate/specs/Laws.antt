@@ -1,0 +1,27 @@
+-- What a verdict shows, and what the certificate of a solution shows.
+use Rattle.std.specs.Prelude.{◌≡◌, ℕ, List, [], ◌∷◌, Option, Some, None}
+use Rattle.list_pack.specs.declared.types.Cost.{Cost}
+use Rattle.list_pack.specs.declared.types.PathStep.{PathStep}
+use Rattle.list_pack.specs.declared.types.Solution.{Solution}
+use Rattle.list_pack.specs.Value.{LegsValue}
+use Rattle.list_pack.specs.Costs.{start}
+use Rattle.list_pack.specs.Least.{IsLeast}
+use Rattle.list_certificate.specs.declared.types.Verdict.{Verdict}
+use Rattle.list_certificate.specs.declared.types.Verdict.TheVariants.{Least, NoList, No}
+use Rattle.list_certificate.specs.Certs.{IsCert, certificate_of}
+use Rattle.list_certificate.specs.Verdicts.{IsVerdict}
+
+-- what a verdict shows of the start: its least cost, or that there is no path
+abbrev pub Shows : LegsValue → Verdict → Type 0
+Shows v (Least containers hops) = IsLeast v start (Some (record { containers = containers; hops = hops }))
+Shows v NoList = IsLeast v start None
+Shows v (No line why) = Unit {0}
+
+-- the verdict on the certificate of a solution: without a path that there is none, else what the start's least path costs
+pub record IsAccepted (v : LegsValue) (head : ℕ) (s : Solution) (cost : Cost) : Type 0 where
+  pub least : IsLeast v start (Some cost)
+  pub verdict : IsVerdict v (certificate_of head s) (Least cost.containers cost.hops)
+
+abbrev pub IsAcceptedBy : LegsValue → ℕ → Solution → List PathStep → Type 0
+IsAcceptedBy v head s [] = IsVerdict v (certificate_of head s) NoList
+IsAcceptedBy v head s (p ∷ ps) = (cost : Cost) × IsAccepted v head s cost

@@ -1,0 +1,7 @@
+pub mod Certs
+pub mod Verdicts
+pub mod Tests
+pub mod Laws
+pub mod Spelling
+pub mod Reading
+pub mod Grid

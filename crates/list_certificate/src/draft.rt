@@ -1,0 +1,251 @@
+//! What was read so far of a certificate.
+
+ghost use Rattle.std.specs.Prelude.{◌≡◌, Some, None, Ok, Err, IfOk};
+ghost use Rattle.list_pack.specs.Order.{lex_before};
+ghost use Rattle.list_pack.specs.Costs.{IsState};
+ghost use Rattle.list_pack.specs.Least.{state_key};
+ghost use Rattle.list_certificate.specs.Reading as reading;
+
+use crate::item::Item;
+use crate::types::{PathLine, PotentialLine};
+use base::NoMemory;
+use list_pack::{Legs, PathStep, Potential, State};
+use net_model::Net;
+use std::alloc::Global;
+
+/// What the next line may be.
+#[derive(Clone, Copy, Debug, PartialEq, Eq)]
+pub enum Stage {
+    /// A comment or the head.
+    BeforeHead,
+    /// A potential, a step of the path, or that there is none.
+    AfterHead,
+    /// A step of the path or the end.
+    InPath,
+    /// The end.
+    BeforeEnd,
+    /// None.
+    AtEnd,
+}
+
+/// What was read so far.
+#[derive(Debug, Drop)]
+pub struct Draft {
+    /// What the next line may be.
+    pub stage: Stage,
+    /// The line of the head, 0 before it.
+    pub head: u32,
+    /// The potentials.
+    pub potentials: Vec<PotentialLine>,
+    /// The steps of the path.
+    pub path: Vec<PathLine>,
+    /// The line that says that there is no path.
+    pub none: Option<u32>,
+    /// The line of the end, 0 before it.
+    pub end: u32,
+}
+
+impl Draft {
+    /// Nothing read.
+    pub fn new(alloc: Global) -> Draft
+        ensures { reading.read_value result ≡ reading.nothing_read }
+    {
+        Draft {
+            stage: Stage::BeforeHead,
+            head: 0,
+            potentials: Vec::new(alloc),
+            path: Vec::new(alloc),
+            none: None,
+            end: 0,
+        }
+    }
+}
+
+/// What the order of states goes by, but for the start.
+#[derive(Clone, Copy, Debug)]
+struct Key {
+    position: u32,
+    value: u128,
+    len: u8,
+    node: u32,
+    room: u8,
+}
+
+// the key of a state at a SID
+fn key_of<L: Legs>(net: &Net, legs: &L, state: State, n: u32) -> Key
+    requires net { reading.IsNetworkOf net.now (L.seen legs.now) }
+    requires state { IsState (L.seen legs.now) state }
+    requires via { state.via ≡ Some n }
+    ensures { reading.key_value result ≡ state_key (L.seen legs.now) state }
+{
+    let prefix = legs.shape(n).prefix;
+    Key {
+        position: state.position,
+        value: prefix.value().value,
+        len: prefix.len(),
+        node: net.sid(n).node,
+        room: state.room,
+    }
+}
+
+fn is_key_before(a: Key, b: Key) -> bool
+    ensures { result ≡ lex_before (reading.key_value a) (reading.key_value b) }
+{
+    if a.position != b.position {
+        return a.position < b.position;
+    }
+    if a.value != b.value {
+        return a.value < b.value;
+    }
+    if a.len != b.len {
+        return a.len < b.len;
+    }
+    if a.node != b.node {
+        return a.node < b.node;
+    }
+    a.room < b.room
+}
+
+// a state comes before another
+fn is_before<L: Legs>(net: &Net, legs: &L, a: State, b: State) -> bool
+    requires net { reading.IsNetworkOf net.now (L.seen legs.now) }
+    requires first { IsState (L.seen legs.now) a }
+    requires second { IsState (L.seen legs.now) b }
+    ensures { result ≡ lex_before (state_key (L.seen legs.now) a) (state_key (L.seen legs.now) b) }
+{
+    match (a.via, b.via) {
+        (_, None) => false,
+        (None, Some(_)) => true,
+        (Some(n), Some(m)) => is_key_before(key_of(net, legs, a, n), key_of(net, legs, b, m)),
+    }
+}
+
+// a state comes behind all lines
+fn is_next<L: Legs>(net: &Net, legs: &L, lines: &[PotentialLine], state: State) -> bool
+    requires net { reading.IsNetworkOf net.now (L.seen legs.now) }
+    requires lines { reading.AreStates (L.seen legs.now) lines.now }
+    requires state { IsState (L.seen legs.now) state }
+    ensures { result ≡ reading.is_next (L.seen legs.now) lines.now state }
+{
+    match lines.last() {
+        None => true,
+        Some(line) => is_before(net, legs, line.potential.state, state),
+    }
+}
+
+// with a line before the head
+fn before_head(draft: Draft, line: u32, item: Item) -> Option<Draft>
+    ensures { reading.read_values result ≡ reading.before_head (reading.read_value draft) line item }
+{
+    match item {
+        Item::Comment => Some(draft),
+        Item::Head => Some(Draft {
+            stage: Stage::AfterHead,
+            head: line,
+            ..draft
+        }),
+        Item::Listed(_) | Item::Step(_) | Item::NoPath | Item::End | Item::Other => None,
+    }
+}
+
+// with the end
+fn before_end(draft: Draft, line: u32, item: Item) -> Option<Draft>
+    ensures { reading.read_values result ≡ reading.before_end (reading.read_value draft) line item }
+{
+    match item {
+        Item::End => Some(Draft {
+            stage: Stage::AtEnd,
+            end: line,
+            ..draft
+        }),
+        Item::Comment | Item::Head | Item::Listed(_) | Item::Step(_) | Item::NoPath | Item::Other =>
+            None,
+    }
+}
+
+// with a step of the path
+fn with_step(mut draft: Draft, line: u32, step: PathStep) -> Result<Draft, NoMemory>
+    ensures { IfOk result (λ d. reading.read_value d
+        ≡ reading.with_step (reading.read_value draft) line step) }
+{
+    draft.path.push(PathLine { step, line })?;
+    draft.stage = Stage::InPath;
+    Ok(draft)
+}
+
+// with a potential
+fn with_potential(mut draft: Draft, line: u32, potential: Potential) -> Result<Draft, NoMemory>
+    ensures { IfOk result (λ d. reading.read_value d
+        ≡ reading.with_potential (reading.read_value draft) line potential) }
+{
+    draft.potentials.push(PotentialLine { potential, line })?;
+    Ok(draft)
+}
+
+// with a line of the path
+fn in_path(draft: Draft, line: u32, item: Item) -> Result<Option<Draft>, NoMemory>
+    ensures { IfOk result (λ o. reading.read_values o
+        ≡ reading.in_path (reading.read_value draft) line item) }
+{
+    match item {
+        Item::Step(step) => Ok(Some(with_step(draft, line, step)?)),
+        Item::End => Ok(before_end(draft, line, Item::End)),
+        Item::Comment | Item::Head | Item::Listed(_) | Item::NoPath | Item::Other => Ok(None),
+    }
+}
+
+// with a line behind the head
+fn after_head<L: Legs>(
+    net: &Net,
+    legs: &L,
+    draft: Draft,
+    line: u32,
+    item: Item,
+) -> Result<Option<Draft>, NoMemory>
+    requires net { reading.IsNetworkOf net.now (L.seen legs.now) }
+    requires lines { reading.AreStates (L.seen legs.now) draft.potentials.items }
+    requires item { reading.IsItem (L.seen legs.now) item }
+    ensures { IfOk result (λ o. reading.read_values o
+        ≡ reading.after_head (L.seen legs.now) (reading.read_value draft) line item) }
+{
+    match item {
+        Item::Listed(potential) => {
+            if is_next(net, legs, draft.potentials.as_slice(), potential.state) {
+                Ok(Some(with_potential(draft, line, potential)?))
+            } else {
+                Ok(None)
+            }
+        }
+        Item::Step(step) => Ok(Some(with_step(draft, line, step)?)),
+        Item::NoPath => Ok(Some(Draft {
+            stage: Stage::BeforeEnd,
+            none: Some(line),
+            ..draft
+        })),
+        Item::Comment | Item::Head | Item::End | Item::Other => Ok(None),
+    }
+}
+
+/// What was read with a line more; none where that may not stand there.
+#[tactic(auto, unfolding(crate::specs::Reading::with_line))]
+pub fn with_line<L: Legs>(
+    net: &Net,
+    legs: &L,
+    draft: Draft,
+    line: u32,
+    item: Item,
+) -> Result<Option<Draft>, NoMemory>
+    requires net { reading.IsNetworkOf net.now (L.seen legs.now) }
+    requires lines { reading.AreStates (L.seen legs.now) draft.potentials.items }
+    requires item { reading.IsItem (L.seen legs.now) item }
+    ensures { IfOk result (λ o. reading.read_values o
+        ≡ reading.with_line (L.seen legs.now) (reading.read_value draft) line item) }
+{
+    match draft.stage {
+        Stage::BeforeHead => Ok(before_head(draft, line, item)),
+        Stage::AfterHead => after_head(net, legs, draft, line, item),
+        Stage::InPath => in_path(draft, line, item),
+        Stage::BeforeEnd => Ok(before_end(draft, line, item)),
+        Stage::AtEnd => Ok(None),
+    }
+}

@@ -1,0 +1,170 @@
+//! Whether a state passes: along each of its edges the potential falls by at most the cost.
+
+ghost use Rattle.std.specs.Prelude.{◌≡◌, ◌≤◌, Some, length};
+ghost use Rattle.list_pack.specs.Costs.{IsState, Under, plus};
+ghost use Rattle.list_pack.specs.Least.{IsGoodAt};
+ghost use Rattle.list_certificate.specs.Certs.{potential_at};
+ghost use Rattle.list_certificate.specs.Tests as tests;
+
+use crate::search::potential_at;
+use crate::types::PotentialLine;
+use list_pack::{Cost, Leg, Legs, Shape, State, is_below, move_cost, room_behind};
+
+/// A state with its SID's shape and its potential.
+#[derive(Debug, Drop)]
+pub struct Spot {
+    /// The state.
+    pub state: State,
+    /// The shape of its SID; none at the start.
+    pub from: Option<Shape>,
+    /// Its potential; none where it is not listed.
+    pub potential: Option<Cost>,
+}
+
+// a potential is there and at most the sum of two costs, as whole numbers
+fn is_under_sum(potential: Option<Cost>, edge: Cost, rest: Cost) -> bool
+    ensures { tests.Tells (Under potential (Some (plus edge rest))) result }
+{
+    let Some(cost) = potential else {
+        return false;
+    };
+    let containers = u64::from(edge.containers) + u64::from(rest.containers);
+    let hops = u64::from(edge.hops) + u64::from(rest.hops);
+    let own = u64::from(cost.containers);
+    own < containers || (own == containers && u64::from(cost.hops) <= hops)
+}
+
+// a potential is there and at most a cost
+fn is_under(potential: Option<Cost>, cost: Cost) -> bool
+    ensures { tests.Tells (Under potential (Some cost)) result }
+{
+    match potential {
+        None => false,
+        Some(own) => !is_below(cost, own),
+    }
+}
+
+// a move by a leg passes, which stays in the container or doesn't
+fn passes_move<L: Legs>(
+    legs: &L,
+    lines: &[PotentialLine],
+    spot: &Spot,
+    n: u32,
+    leg: Leg,
+    stays: bool,
+) -> bool
+    requires sorted { tests.AreSorted (L.seen legs.now) lines.now }
+    requires spot { tests.IsSpot (L.seen legs.now) lines.now spot.now }
+    requires leg { (L.seen legs.now).leg spot.now.state.position spot.now.state.via n ≡ Some leg }
+    ensures { tests.Tells (tests.PassesMove (L.seen legs.now) lines.now spot.now.state
+        (tests.move_of n stays)) result }
+{
+    legs.steps();
+    let next = legs.shape(n);
+    let Some(room) = room_behind(stays, &spot.from, spot.state.room, &next) else {
+        return true;
+    };
+    let to = State {
+        position: leg.to,
+        via: Some(n),
+        room,
+    };
+    match potential_at(legs, lines, to) {
+        None => true,
+        Some(rest) => is_under_sum(spot.potential, move_cost(stays, leg.hops), rest),
+    }
+}
+
+// a move to the end passes, which stays in the container or doesn't
+fn passes_last<L: Legs>(
+    legs: &L,
+    lines: &[PotentialLine],
+    spot: &Spot,
+    n: u32,
+    hops: u32,
+    stays: bool,
+) -> bool
+    requires spot { tests.IsSpot (L.seen legs.now) lines.now spot.now }
+    requires finish { (L.seen legs.now).finish spot.now.state.position spot.now.state.via n
+        ≡ Some hops }
+    ensures { tests.Tells (tests.PassesLast (L.seen legs.now) lines.now spot.now.state
+        (tests.move_of n stays)) result }
+{
+    legs.steps();
+    let next = legs.shape(n);
+    if room_behind(stays, &spot.from, spot.state.room, &next).is_none() {
+        return true;
+    }
+    is_under(spot.potential, move_cost(stays, hops))
+}
+
+// all moves by legs to a position pass
+fn passes_legs_to<L: Legs>(legs: &L, lines: &[PotentialLine], spot: &Spot, to: u32) -> bool
+    requires sorted { tests.AreSorted (L.seen legs.now) lines.now }
+    requires spot { tests.IsSpot (L.seen legs.now) lines.now spot.now }
+    requires within { to ≤ (L.seen legs.now).steps }
+    ensures { tests.ShowsLegsTo (L.seen legs.now) lines.now spot.now.state to result }
+{
+    legs.steps();
+    for n in legs.sids_at(to) {
+        if let Some(leg) = legs.leg(spot.state.position, spot.state.via, *n) {
+            if leg.to == to {
+                if !passes_move(legs, lines, spot, *n, leg, true) {
+                    return false;
+                }
+                if !passes_move(legs, lines, spot, *n, leg, false) {
+                    return false;
+                }
+            }
+        }
+    }
+    true
+}
+
+// all moves by legs pass
+fn passes_legs<L: Legs>(legs: &L, lines: &[PotentialLine], spot: &Spot) -> bool
+    requires sorted { tests.AreSorted (L.seen legs.now) lines.now }
+    requires spot { tests.IsSpot (L.seen legs.now) lines.now spot.now }
+    ensures { tests.ShowsLegs (L.seen legs.now) lines.now spot.now.state result }
+{
+    let steps = legs.steps();
+    for to in spot.state.position..steps + 1 {
+        if !passes_legs_to(legs, lines, spot, to) {
+            return false;
+        }
+    }
+    true
+}
+
+// all moves to the end pass
+fn passes_ends<L: Legs>(legs: &L, lines: &[PotentialLine], spot: &Spot) -> bool
+    requires spot { tests.IsSpot (L.seen legs.now) lines.now spot.now }
+    ensures { tests.ShowsEnds (L.seen legs.now) lines.now spot.now.state result }
+{
+    for n in legs.sids_at(legs.steps()) {
+        if let Some(hops) = legs.finish(spot.state.position, spot.state.via, *n) {
+            if !passes_last(legs, lines, spot, *n, hops, true) {
+                return false;
+            }
+            if !passes_last(legs, lines, spot, *n, hops, false) {
+                return false;
+            }
+        }
+    }
+    true
+}
+
+/// Whether a state passes: along each edge to a listed state, and along each to the end, its
+/// potential is there and falls by at most the cost.
+pub fn passes<L: Legs>(legs: &L, lines: &[PotentialLine], spot: &Spot) -> bool
+    requires sorted { tests.AreSorted (L.seen legs.now) lines.now }
+    requires spot { tests.IsSpot (L.seen legs.now) lines.now spot.now }
+    ensures { tests.Tells (IsGoodAt (L.seen legs.now) (potential_at lines.now) spot.now.state)
+        result }
+{
+    legs.steps();
+    if !passes_legs(legs, lines, spot) {
+        return false;
+    }
+    passes_ends(legs, lines, spot)
+}

@@ -1,0 +1,36 @@
+//! Certificates for least lists of SIDs, over any legs.
+//!
+//! A certificate lists states with their potentials and a path from the start to the end, or says
+//! that there is none. `check` tests it against legs, without memory: a potential falls along no
+//! edge by more than the edge costs, no edge leads from a state that is not listed to a listed one
+//! or to the end, and the path goes along edges and costs the start's potential. What passes shows
+//! the least cost of a path, wherever the certificate comes from. `print` spells the certificate of
+//! a solution, and `read` reads a text for the legs of a network.
+//!
+//! `specs/Certs.antt` has what lines say of states, `specs/Verdicts.antt` the tests and verdicts in
+//! their order, `specs/Laws.antt` what a verdict shows, `specs/Spelling.antt` the text of a
+//! solution, and `specs/Reading.antt` what a text says, line by line. The functions of `laws` do
+//! nothing: their contracts are the laws of verdicts.
+#![tactic(auto)]
+
+mod draft;
+mod firsts;
+mod good;
+mod item;
+mod judge;
+mod laws;
+mod path;
+mod reader;
+mod search;
+mod spelling;
+mod types;
+mod words;
+
+pub use judge::check;
+pub use laws::{a_certificate_that_is_least_is_least, a_solution_is_good};
+pub use reader::{MAX_BYTES, read};
+pub use spelling::{append_state, print};
+pub use types::{Cert, CertFault, PathLine, PotentialLine, Verdict, Why};
+
+#[cfg(test)]
+mod tests;

@@ -1,0 +1,64 @@
+//! The reading of a certificate.
+
+ghost use Rattle.std.specs.Prelude.{◌≡◌, ◌≤◌, length, IfOk};
+ghost use Rattle.list_certificate.specs.Certs.{IsCert};
+ghost use Rattle.list_certificate.specs.Reading as reading;
+
+use crate::draft::{Draft, Stage, with_line};
+use crate::item::item_of;
+use crate::types::{Cert, CertFault};
+use crate::words::cut;
+use base::Seq;
+use list_pack::Legs;
+use net_model::Net;
+use std::alloc::Global;
+
+/// The most bytes of a certificate: 4 MiB. (own rule)
+pub const MAX_BYTES: usize = 4_194_304;
+
+// the certificate of what was read, where nothing follows its end
+fn finished(draft: Draft, line: u32, last: &[u8]) -> Result<Cert, CertFault>
+    ensures { reading.Gives result (reading.ended (reading.read_value draft) line last.now) }
+{
+    match draft.stage {
+        Stage::AtEnd if last.is_empty() => Ok(Cert {
+            head: draft.head,
+            potentials: Seq::new(draft.potentials),
+            path: Seq::new(draft.path),
+            none: draft.none,
+            end: draft.end,
+        }),
+        Stage::BeforeHead | Stage::AfterHead | Stage::InPath | Stage::BeforeEnd | Stage::AtEnd =>
+            Err(CertFault::BadCert { line }),
+    }
+}
+
+/// The certificate that a text of at most 4 MiB spells, for legs of the network. Lines that begin
+/// with `#` may stand before its head; the states of its potentials ascend by position, prefix
+/// value, prefix length, node and room, and the start comes first; a SID is named by any text of
+/// its prefix, and where another SID of the network has that prefix too, by `@` and the name of its
+/// node behind it. `BadCert` has the first line that is outside the grammar or names no state of
+/// the legs, counted from 1; where there is none and the text ends too early, the line after the
+/// last. `NoMemory` says nothing about the text. (own rule)
+pub fn read<L: Legs>(alloc: Global, net: &Net, legs: &L, text: &[u8]) -> Result<Cert, CertFault>
+    requires net { reading.IsNetworkOf net.now (L.seen legs.now) }
+    requires few { length text.now ≤ MAX_BYTES }
+    ensures value { reading.Gives result (reading.read_of net.now (L.seen legs.now) text.now) }
+    ensures cert { IfOk result (IsCert (L.seen legs.now)) }
+{
+    let mut draft = Draft::new(alloc);
+    let mut rest = text;
+    let mut line: u32 = 1;
+    loop {
+        let Some(parts) = cut(rest, b'\n') else {
+            return finished(draft, line, rest);
+        };
+        let item = item_of(net, legs, parts.front);
+        match with_line(net, legs, draft, line, item)? {
+            Some(more) => draft = more,
+            None => return Err(CertFault::BadCert { line }),
+        }
+        rest = parts.rest;
+        line += 1;
+    }
+}

@@ -1,0 +1,203 @@
+//! The text of a certificate.
+
+ghost use Rattle.std.specs.Prelude.{◌≡◌, ◌++◌, ◌<◌, length, slice_get, count_by, flat_map, take, All, OnOk, OnErr, IfOk, string_bytes};
+ghost use Rattle.net_model.specs.Rules.{same_prefix};
+ghost use Rattle.list_pack.specs.declared.types.Potential.{Potential};
+ghost use Rattle.list_certificate.specs.Spelling.{is_shared, sid_text, state_text, potential_text, potential_of_text, placed_text, start_text, step_text, way_text, head_text, end_text, none_text, spelled, IsKnown};
+
+use base::NoMemory;
+use list_pack::{Cost, PathStep, Potential, Solution, State};
+use net_model::Net;
+use std::alloc::{AllocError, Global};
+use v6_addr::Prefix;
+
+// two prefixes are one
+pub(crate) fn is_same_prefix(a: &Prefix, b: &Prefix) -> bool
+    ensures { result ≡ same_prefix a.now b.now }
+{
+    a.value().value == b.value().value && a.len() == b.len()
+}
+
+// two SIDs of the network or more have the prefix
+pub(crate) fn is_shared(net: &Net, prefix: &Prefix) -> bool
+    ensures { result ≡ is_shared net.now prefix.now }
+{
+    let mut count: u32 = 0;
+    for n in 0..net.sids() {
+        if is_same_prefix(&net.sid(n).prefix, prefix) {
+            count += 1;
+        }
+    }
+    count > 1
+}
+
+// the text of a SID is put behind the others
+fn append_sid(net: &Net, n: u32, out: &mut String) -> Result<(), AllocError>
+    requires { n < length net.now.sids }
+    ensures { OnOk result (string_bytes out.new ≡ string_bytes out.old ++ sid_text net.now n) }
+{
+    net.keeps_rules();
+    let sid = net.sid(n);
+    let prefix = &sid.prefix;
+    if is_shared(net, prefix) {
+        let name = &net.node(sid.node).name;
+        write!(out, "{prefix}@{name}")
+    } else {
+        write!(out, "{prefix}")
+    }
+}
+
+#[tactic(auto, unfolding(crate::specs::Spelling::start_text))]
+fn append_start(out: &mut String) -> Result<(), AllocError>
+    ensures { OnOk result (string_bytes out.new ≡ string_bytes out.old ++ start_text) }
+{
+    write!(out, "0 - 0")
+}
+
+// the text of a state at a SID
+#[tactic(auto, unfolding(crate::specs::Spelling::placed_text))]
+fn append_placed(
+    net: &Net,
+    position: u32,
+    n: u32,
+    room: u8,
+    out: &mut String,
+) -> Result<(), AllocError>
+    requires { n < length net.now.sids }
+    ensures { OnOk result (string_bytes out.new
+        ≡ string_bytes out.old ++ placed_text position (sid_text net.now n) room) }
+{
+    write!(out, "{position} ")?;
+    append_sid(net, n, out)?;
+    write!(out, " {room}")
+}
+
+/// Appends the text of a state: its position, its SID and its room, or `0 - 0` for the start. A SID
+/// is written by its prefix, and where another SID of the network has that prefix too, by `@` and
+/// the name of its node behind it. Only want of memory is an error. (own rule)
+pub fn append_state(net: &Net, state: State, out: &mut String) -> Result<(), AllocError>
+    requires { IsKnown net.now state }
+    ensures { OnOk result (string_bytes out.new ≡ string_bytes out.old ++ state_text net.now state) }
+{
+    match state.via {
+        None => append_start(out),
+        Some(n) => append_placed(net, state.position, n, state.room, out),
+    }
+}
+
+// the line of a potential
+#[tactic(auto, unfolding(crate::specs::Spelling::potential_of_text))]
+fn append_potential(net: &Net, state: State, cost: Cost, out: &mut String) -> Result<(), AllocError>
+    requires { IsKnown net.now state }
+    ensures { OnOk result (string_bytes out.new ≡ string_bytes out.old
+        ++ potential_of_text (state_text net.now state) cost.containers cost.hops) }
+{
+    let containers = cost.containers;
+    let hops = cost.hops;
+    write!(out, "potential ")?;
+    append_state(net, state, out)?;
+    writeln!(out, " {containers} {hops}")
+}
+
+// the lines of potentials
+fn append_potentials(
+    net: &Net,
+    potentials: &[Potential],
+    out: &mut String,
+) -> Result<(), AllocError>
+    requires { All (λ (q : Potential). IsKnown net.now q.state) potentials.now }
+    ensures { OnOk result (string_bytes out.new
+        ≡ string_bytes out.old ++ flat_map (potential_text net.now) potentials.now) }
+{
+    for potential in potentials {
+        append_potential(net, potential.state, potential.cost, out)?;
+    }
+    Ok(())
+}
+
+// the line of a step of the path
+#[tactic(auto, unfolding(crate::specs::Spelling::stay_text, crate::specs::Spelling::new_text))]
+fn append_step(step: &PathStep, out: &mut String) -> Result<(), AllocError>
+    ensures { OnOk result (string_bytes out.new ≡ string_bytes out.old ++ step_text step.now) }
+{
+    let prefix = &step.prefix;
+    if step.stays {
+        writeln!(out, "path stay {prefix}")
+    } else {
+        writeln!(out, "path new {prefix}")
+    }
+}
+
+#[tactic(auto, unfolding(crate::specs::Spelling::none_text))]
+fn append_none(out: &mut String) -> Result<(), AllocError>
+    ensures { OnOk result (string_bytes out.new ≡ string_bytes out.old ++ none_text) }
+{
+    writeln!(out, "none")
+}
+
+fn append_steps(path: &[PathStep], out: &mut String) -> Result<(), AllocError>
+    ensures { OnOk result (string_bytes out.new
+        ≡ string_bytes out.old ++ flat_map step_text path.now) }
+{
+    for step in path {
+        append_step(step, out)?;
+    }
+    Ok(())
+}
+
+// the lines of the path, or the one that says that there is none
+fn append_way(path: &[PathStep], out: &mut String) -> Result<(), AllocError>
+    ensures { OnOk result (string_bytes out.new ≡ string_bytes out.old ++ way_text path.now) }
+{
+    if path.is_empty() {
+        append_none(out)
+    } else {
+        append_steps(path, out)
+    }
+}
+
+#[tactic(auto, unfolding(crate::specs::Spelling::head_text))]
+fn append_head(out: &mut String) -> Result<(), AllocError>
+    ensures { OnOk result (string_bytes out.new ≡ string_bytes out.old ++ head_text) }
+{
+    writeln!(out, "srv6 certificate 1")
+}
+
+#[tactic(auto, unfolding(crate::specs::Spelling::end_text))]
+fn append_end(out: &mut String) -> Result<(), AllocError>
+    ensures { OnOk result (string_bytes out.new ≡ string_bytes out.old ++ end_text) }
+{
+    writeln!(out, "end")
+}
+
+// the text of a solution's certificate
+fn text_of(alloc: Global, net: &Net, solution: &Solution) -> Result<String, AllocError>
+    requires { All (λ (q : Potential). IsKnown net.now q.state) solution.now.potentials }
+    ensures { IfOk result (λ text. string_bytes text ≡ spelled net.now solution.now) }
+{
+    let mut text = String::new(alloc);
+    append_head(&mut text)?;
+    append_potentials(net, solution.potentials.as_slice(), &mut text)?;
+    append_way(solution.path.as_slice(), &mut text)?;
+    append_end(&mut text)?;
+    Ok(text)
+}
+
+/// Appends the text of a solution's certificate: the head `srv6 certificate 1`, a line
+/// `potential POSITION PREFIX ROOM CONTAINERS HOPS` for each potential, lines `path new PREFIX` and
+/// `path stay PREFIX` for the path or the line `none`, and `end`. `NoMemory` leaves the bytes as
+/// they were. (own rule)
+pub fn print(
+    alloc: Global,
+    net: &Net,
+    solution: &Solution,
+    out: &mut Vec<u8>,
+) -> Result<(), NoMemory>
+    requires { All (λ (q : Potential). IsKnown net.now q.state) solution.now.potentials }
+    ensures ok { OnOk result (out.new.items ≡ out.old.items ++ spelled net.now solution.now) }
+    ensures err { OnErr result (out.new.items ≡ out.old.items) }
+{
+    let text = text_of(alloc, net, solution)?;
+    out.extend_from_slice(text.as_bytes())?;
+    Ok(())
+}
