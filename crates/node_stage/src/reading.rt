@@ -45,12 +45,20 @@ impl Content {
         }
     }
 
-    /// What enters a node with these bytes as a packet of a family, in place: of bytes that do not
-    /// read at most 65,575 are kept (own rule).
-    pub fn enter(family: Family, mut bytes: Vec<u8>) -> Content
+    /// What enters a node with the bytes of a buffer as a packet of a family, in place: of bytes that
+    /// do not read at most 65,575 are kept (own rule).
+    pub fn enter_buf(family: Family, mut buf: PktBuf) -> Content
+        ensures { result ≡ entered family buf.bytes }
+    {
+        let len = MOST_LEN.min(buf.len());
+        buf.truncate(len);
+        Content::read_as(family, buf)
+    }
+
+    /// What enters a node with these bytes as a packet of a family, in place, as from a buffer.
+    pub fn enter(family: Family, bytes: Vec<u8>) -> Content
         ensures { result ≡ entered family bytes.items }
     {
-        bytes.truncate(MOST_LEN);
-        Content::read_as(family, PktBuf::of(bytes))
+        Content::enter_buf(family, PktBuf::of(bytes))
     }
 }

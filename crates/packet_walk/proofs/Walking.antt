@@ -1,0 +1,142 @@
+-- A packet on its way to its end: all is as after some turns of it.
+use Rattle.std.proofs.Common.{◌≡◌, ◌≢◌, ℕ, zero, suc, ◌+◌, ◌-◌, ◌<◌, ◌≤◌, List, length, Option, Some, None, IfSome, IsSome, Result, Ok, refl, sym, ap, ◌∙◌, arith, subst}
+use Rattle.std.proofs.lemmas.Bool.{false≢true}
+use Rattle.net_model.specs.Network.{Network}
+use Rattle.walk_rules.specs.declared.place.Ended.{Ended}
+use Rattle.packet_walk.specs.declared.event.TheConstants.{STAGES}
+use Rattle.packet_walk.specs.declared.event.Event.{Event}
+use Rattle.packet_walk.specs.Flight.{InFlight, Flight, IsCounted, IsGiven, IsInFlight, Turns, packet_of, packet_in, with_packet, after_stage, staged, turned, without_error}
+use Rattle.packet_walk.specs.Rest.{end_from, turned_times, HasTurned, HasWanted}
+use Rattle.packet_walk.proofs.Packets.{turned-going, packet-same, length-with, given-packet}
+use Rattle.packet_walk.proofs.Rests.{staged-counted, end-going, end-ended}
+use Rattle.packet_walk.proofs.Moves.{turned_times-suc}
+
+abbrev pub stages_of : Option InFlight → ℕ
+stages_of None = 0
+stages_of (Some p) = p.stages
+
+-- a packet that has had so many turns, and ends as one that hadn't
+pub record Walking (number : ℕ) (first now : Flight) : Type 0 where
+  pub given : IsGiven now number
+  pub packet : InFlight
+  pub there : packet_of now number ≡ Some packet
+  pub counted : IsCounted packet
+  pub net : now.net ≡ first.net
+  pub times : ℕ
+  pub few : times ≤ packet.stages
+  pub is : now ≡ turned_times number times first
+  pub ends : (p : InFlight) → packet_of first number ≡ Some p → end_from first.net packet ≡ end_from first.net p
+
+some-same : {X : Type 0} (x y : X) → Some x ≡ Some y → x ≡ y
+some-same x y e = cc
+
+some≢none : (end : Ended) → Some end ≡ None → ⊥
+some≢none end e = cc
+
+some-none : (o : Option Ended) → IsSome o → o ≡ None → ⊥
+some-none None some none = absurd (false≢true some)
+some-none (Some end) some none = absurd (some≢none end none)
+
+-- at the start it had none
+pub walking-from : (number : ℕ) (f : Flight) (p : InFlight) → IsGiven f number → packet_of f number ≡ Some p → IsCounted p
+    → Walking number f f
+walking-from number f p given there counted =
+    record {
+      given = given;
+      packet = p;
+      there = there;
+      counted = counted;
+      net = refl;
+      times = 0;
+      few = omega arith;
+      is = refl;
+      ends = λ q is. ap (end_from f.net) (some-same p q (sym there ∙ is));
+    }
+
+pub walking-starts : (number : ℕ) (f : Flight) → IsGiven f number → IfSome (packet_of f number) (IsInFlight f.net) → Walking number f f
+walking-starts number f given is =
+    let p = given-packet f number given in
+    let in_flight : IsInFlight f.net p.0 = subst (λ (o : Option InFlight). IfSome o (IsInFlight f.net)) p.1 is in
+    walking-from number f p.0 given p.1 in_flight.counted
+
+module _ (number : ℕ) (first now : Flight) (w : Walking number first now) where
+  abbrev p : InFlight
+  p = w.packet
+
+  -- it gets one more
+  module _ (later : Flight) (going : p.ended ≡ None) (went : later ≡ after_stage number now p) where
+    later-there : packet_of later number ≡ Some (staged now.net p)
+    later-there = ap (λ (g : Flight). packet_of g number) went ∙ packet-same now.packets number p (staged now.net p) w.there
+
+    later-is : later ≡ turned_times number (suc w.times) first
+    later-is = went ∙ (sym (turned-going number now p w.there going)
+        ∙ (ap (turned number) w.is ∙ sym (turned_times-suc number w.times first)))
+
+    later-given : IsGiven later number
+    later-given =
+        let e : length later.packets ≡ length now.packets =
+        ap (λ (g : Flight). length g.packets) went ∙ length-with now.packets number (staged now.net p) in
+        record { first = w.given.first; last = omega (arith, e, w.given.last) }
+
+    pub walking-on : Walking number first later
+    walking-on = record {
+      given = later-given;
+      packet = staged now.net p;
+      there = later-there;
+      counted = staged-counted now.net p going w.counted;
+      net = ap (λ (g : Flight). g.net) went ∙ w.net;
+      times = suc w.times;
+      few = omega (arith, w.few);
+      is = later-is;
+      ends = λ q is. ap (λ (net : Network). end_from first.net (staged net p)) w.net
+          ∙ (end-going first.net p going (w.counted.left going) ∙ w.ends q is);
+    }
+
+    -- fewer stages are left
+    pub walking-less : STAGES - stages_of (packet_of later number) < STAGES - stages_of (packet_of now number)
+    walking-less =
+        let new : stages_of (packet_of later number) ≡ p.stages + 1 = ap stages_of later-there in
+        let old : stages_of (packet_of now number) ≡ p.stages = ap stages_of w.there in
+        let left : p.stages < STAGES = w.counted.left going in
+        omega (arith, new, old, left)
+
+  few-times : w.times ≤ STAGES
+  few-times = omega (arith, w.few, w.counted.stages)
+
+  pub has-turned : HasTurned number first now
+  has-turned = record { times = w.times; few = few-times; is = w.is }
+
+  -- it has ended
+  pub walking-end : (end : Ended) (q : InFlight) → packet_of first number ≡ Some q → IfSome (packet_of now number) (λ q. Some end ≡ q.ended)
+      → (end ≡ end_from first.net q) × HasTurned number first now × IfSome (packet_of now number) (λ q. q.ended ≡ Some end)
+  walking-end end q at is =
+      let ended : Some end ≡ p.ended = subst (λ (o : Option InFlight). IfSome o (λ q. Some end ≡ q.ended)) w.there is in (
+        sym (end-ended first.net p end (sym ended)) ∙ w.ends q at,
+        has-turned,
+        subst (λ (o : Option InFlight). IfSome o (λ q. q.ended ≡ Some end)) (sym w.there) (sym ended),
+      )
+
+  -- memory is wanting
+  pub walking-wants : (later : Flight) → p.ended ≡ None → later ≡ without_error now → HasWanted number first later
+  walking-wants later going is = record {
+    before = now;
+    turns = has-turned;
+    going = subst (λ (o : Option InFlight). IfSome o (λ q. q.ended ≡ None)) (sym w.there) going;
+    is = is;
+  }
+
+  -- what a turn of it answers, as it has not ended
+  turn-gave : (o : Option Event) (later : Flight) → p.ended ≡ None → Turns number now p (Ok o) later
+      → (p.ended ≡ None) × (later ≡ after_stage number now p)
+  turn-gave None later going turns = absurd (some-none p.ended turns.0 going)
+  turn-gave (Some event) later going turns = (going, turns.2)
+
+  pub walking-going : IfSome (packet_of now number) (λ q. None ≡ q.ended) → p.ended ≡ None
+  walking-going is = sym (subst (λ (o : Option InFlight). IfSome o (λ q. None ≡ q.ended)) w.there is)
+
+  pub walking-turn : (o : Option Event) (later : Flight) → IfSome (packet_of now number) (λ q. None ≡ q.ended)
+      → IfSome (packet_of now number) (λ q. Turns number now q (Ok o) later)
+      → (p.ended ≡ None) × (later ≡ after_stage number now p)
+  walking-turn o later is turns =
+      turn-gave o later (walking-going is)
+      (subst (λ (x : Option InFlight). IfSome x (λ q. Turns number now q (Ok o) later)) w.there turns)

@@ -1,0 +1,11 @@
+use Rattle.std.proofs.Common.{◌≡◌, ℕ, ◌-◌, ◌≤◌, Option, Some, None}
+use Rattle.packet_walk.specs.declared.event.TheConstants.{STAGES}
+use Rattle.packet_walk.specs.Flight.{InFlight, packet_of}
+use Rattle.packet_walk.proofs.Walking.{Walking, stages_of}
+use Rattle.packet_walk.proofs.flight.Flight.walk.Given as goal
+
+abbrev pub invariant-turns : goal.invariant-turns
+invariant-turns l = Walking l.number l.fn.self l.self
+
+abbrev pub decreases-turns : goal.decreases-turns
+decreases-turns l = STAGES - stages_of (packet_of l.self l.number)

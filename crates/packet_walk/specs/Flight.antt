@@ -1,0 +1,164 @@
+-- Packets in flight: what is held of them, and what a turn of one of them leaves.
+use Rattle.std.specs.Prelude.{◌≡◌, ℕ, zero, suc, ◌+◌, ◌^◌, ◌<◌, ◌≤◌, if◌then◌else◌, nat_lt, List, [], ◌∷◌, ◌++◌, length, slice_get, slice_set, Option, Some, None, Result, Ok, Err, IsSome}
+use Rattle.base.specs.declared.no_memory.NoMemory.{NoMemory}
+use Rattle.srv6_rules.specs.Packet.{Content, IsContent}
+use Rattle.icmp6_errors.specs.Answer.{error_bytes}
+use Rattle.net_model.specs.Network.{Network}
+use Rattle.walk_rules.specs.declared.place.Ended.{Ended}
+use Rattle.walk_rules.specs.declared.place.Ended.TheVariants as ends
+use Rattle.walk_rules.specs.declared.place.Outcome.{Outcome}
+use Rattle.walk_rules.specs.declared.place.Place.{Place}
+use Rattle.walk_rules.specs.Relation.{IsPlace}
+use Rattle.walk_rules.specs.Walk.{Step, stage_of, choice_at, decisions, next_place, end_by}
+use Rattle.packet_walk.specs.declared.event.Event.{Event}
+use Rattle.packet_walk.specs.declared.event.TheConstants.{STAGES}
+
+-- a packet in flight: what stands there and where, its list of choices, the decisions that it has taken, the stages that it has used,
+-- and how it ended, if it has; a packet that ended stands where its last stage left it
+pub record InFlight : Type 0 where
+  pub content : Content
+  pub place : Place
+  pub choices : List ℕ
+  pub decisions : ℕ
+  pub stages : ℕ
+  pub ended : Option Ended
+
+-- a network, the bytes of the ICMPv6 error of the last stage, none where it sent none, and the packets in flight
+pub record Flight : Type 0 where
+  pub net : Network
+  pub error : List ℕ
+  pub packets : List InFlight
+
+-- a packet that enters has taken no decision, used no stage and not ended
+abbrev pub entering : Content → Place → List ℕ → InFlight
+entering content place choices =
+    record { content = content; place = place; choices = choices; decisions = 0; stages = 0; ended = None }
+
+-- the stage that a packet takes next: where it stands, of what stands there, under the choice of its next decision
+abbrev pub stage_in : Network → InFlight → Step
+stage_in net p = stage_of net p.place p.content (choice_at p.choices p.decisions)
+
+-- where a packet stands after a stage: where it goes on, if it does, and else where it stood
+abbrev pub place_from : Place → Option Place → Place
+place_from place None = place
+place_from place (Some next) = next
+
+-- how a packet has ended after so many stages: as the last one ended it where it doesn't go on, and else where all its stages are used
+abbrev pub ended_after : ℕ → Ended → Option Place → Option Ended
+ended_after used end None = Some end
+ended_after used end (Some next) = if nat_lt used STAGES then None else Some ends.Stages
+
+-- a packet after a stage of an outcome, which left a content
+abbrev pub advanced : Network → Outcome → Content → InFlight → InFlight
+advanced net outcome after p =
+    record {
+      content = after;
+      place = place_from p.place (next_place net p.place outcome);
+      choices = p.choices;
+      decisions = p.decisions + decisions outcome;
+      stages = p.stages + 1;
+      ended = ended_after (p.stages + 1) (end_by net p.place outcome) (next_place net p.place outcome);
+    }
+
+-- a packet after its next stage
+abbrev pub staged : Network → InFlight → InFlight
+staged net p = let s = stage_in net p in advanced net s.gave.outcome s.gave.after p
+
+-- the packet of a number; they count from 1, in the order of entering
+abbrev pub packet_in : List InFlight → ℕ → Option InFlight
+packet_in packets zero = None
+packet_in packets (suc before) = slice_get packets before
+
+abbrev pub packet_of : Flight → ℕ → Option InFlight
+packet_of f number = packet_in f.packets number
+
+-- the packets, with another as that of a number
+abbrev pub with_packet : List InFlight → ℕ → InFlight → List InFlight
+with_packet packets zero p = packets
+with_packet packets (suc before) p = slice_set packets before p
+
+-- a flight after the next stage of a packet of a number
+abbrev pub after_stage : ℕ → Flight → InFlight → Flight
+after_stage number f p =
+    record {
+      net = f.net;
+      error = error_bytes (stage_in f.net p).gave.error;
+      packets = with_packet f.packets number (staged f.net p);
+    }
+
+-- a flight after a turn of the packet of a number: where it has ended, and where there is none, nothing changes
+
+abbrev pub turned_where : ℕ → Flight → InFlight → Option Ended → Flight
+turned_where number f p None = after_stage number f p
+turned_where number f p (Some end) = f
+
+abbrev pub turned_by : ℕ → Flight → Option InFlight → Flight
+turned_by number f None = f
+turned_by number f (Some p) = turned_where number f p p.ended
+
+abbrev pub turned : ℕ → Flight → Flight
+turned number f = turned_by number f (packet_of f number)
+
+-- a flight that another packet entered
+abbrev pub entered : Flight → InFlight → Flight
+entered f p = record { net = f.net; error = f.error; packets = f.packets ++ p ∷ [] }
+
+-- a flight without the last error
+abbrev pub without_error : Flight → Flight
+without_error f = record { net = f.net; error = []; packets = f.packets }
+
+-- the number is one that was given
+pub record IsGiven (f : Flight) (number : ℕ) : Type 0 where
+  pub first : 1 ≤ number
+  pub last : number ≤ length f.packets
+
+-- the event of a stage of the packet of a number
+abbrev pub event_of : ℕ → Step → Event
+event_of number s = record { packet = number; node = s.place.node; outcome = s.gave.outcome }
+
+-- what entering answers and leaves
+abbrev pub Enters : Flight → InFlight → Result ℕ NoMemory → Flight → Type 0
+Enters old p (Ok number) new = (number ≡ length old.packets + 1) × (new ≡ entered old p)
+Enters old p (Err why) new = new ≡ old
+
+-- what the next stage of the packet of a number answers and leaves
+abbrev pub StagesIn : ℕ → Flight → InFlight → Result Outcome NoMemory → Flight → Type 0
+StagesIn number old p (Ok outcome) new = (outcome ≡ (stage_in old.net p).gave.outcome) × (new ≡ after_stage number old p)
+StagesIn number old p (Err why) new = new ≡ without_error old
+
+-- what a turn of a packet answers and leaves
+abbrev pub Turns : ℕ → Flight → InFlight → Result (Option Event) NoMemory → Flight → Type 0
+Turns number old p (Ok None) new = IsSome p.ended × (new ≡ old)
+Turns number old p (Ok (Some event)) new =
+    (p.ended ≡ None) × (event ≡ event_of number (stage_in old.net p)) × (new ≡ after_stage number old p)
+Turns number old p (Err why) new = (p.ended ≡ None) × (new ≡ without_error old)
+
+-- what is so of a packet's counts: it has choices, at most as many decisions as stages, and no more stages than it may have; one
+-- that has not ended has stages left
+pub record IsCounted (p : InFlight) : Type 0 where
+  pub choices : 0 < length p.choices
+  pub decisions : p.decisions ≤ p.stages
+  pub stages : p.stages ≤ STAGES
+  pub left : p.ended ≡ None → p.stages < STAGES
+
+-- what is so of each packet in flight in a network
+pub record IsInFlight (net : Network) (p : InFlight) : Type 0 where
+  pub place : IsPlace net p.place
+  pub content : IsContent p.content
+  pub counted : IsCounted p
+
+-- the packets stand at places of the network, and numbers can count them
+pub record IsFlight (net : Network) (packets : List InFlight) : Type 0 where
+  pub few : length packets < 2 ^ 32
+  pub places : (before : ℕ) (p : InFlight) → slice_get packets before ≡ Some p → IsPlace net p.place
+
+-- a packet by what is held of it
+abbrev pub packet_value : Content → Place → List ℕ → ℕ → ℕ → Option Ended → InFlight
+packet_value content place choices decisions stages ended =
+    record { content = content; place = place; choices = choices; decisions = decisions; stages = stages; ended = ended }
+
+-- what the next stage of a packet answers and leaves, of the packet and in the slot
+abbrev pub StagesAs : Network → InFlight → Result Outcome NoMemory → InFlight → List ℕ → Type 0
+StagesAs net old (Ok outcome) new slot =
+    let s = stage_in net old in (outcome ≡ s.gave.outcome) × (new ≡ staged net old) × (slot ≡ error_bytes s.gave.error)
+StagesAs net old (Err why) new slot = (new ≡ old) × (slot ≡ [])
