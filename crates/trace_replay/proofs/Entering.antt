@@ -1,0 +1,45 @@
+-- A packet that enters as it is.
+use Rattle.std.proofs.Common.{◌≡◌, ℕ, ◌<◌, ◌≤◌, Bool, true, false, List, length, take, Some, None, refl, sym, ap, ◌∙◌, arith, rules}
+use Rattle.std.specs.Prelude.{nat_le, ◌==◌, ◌&&◌, if◌then◌else◌, Option}
+use Rattle.std.proofs.lemmas.Bool.{eq-eqb, ne_eqb}
+use Rattle.std.proofs.lemmas.List.{take_all}
+use Rattle.srv6_rules.specs.declared.sid.Family.{Family}
+use Rattle.srv6_rules.specs.Packet.{bytes_of, entered, most_len, read_as}
+use Rattle.trace_replay.specs.declared.line.Line.{Line}
+use Rattle.trace_replay.specs.declared.line.Line.TheVariants as lines
+use Rattle.trace_replay.specs.Grammar.{is_entering, packet_by}
+
+by-test : (family : Family) (node : ℕ) (packet : List ℕ) (is : Bool) → is_entering family packet ≡ is
+    → packet_by (Some family) (Some node) (Some packet) ≡ (if is then Some (lines.Packet family node packet) else None)
+by-test family node packet is e = ap (λ (b : Bool). if b then Some (lines.Packet family node packet) else None) e
+
+-- of a packet that is not too long all is read
+entered-whole : (family : Family) (packet : List ℕ) → length packet ≤ most_len → entered family packet ≡ read_as family packet
+entered-whole family packet short = ap (read_as family) (take_all most_len packet short)
+
+short-enough : (a b : Bool) → a ≡ true → (a && b) ≡ b
+short-enough true b h = refl
+short-enough false b h = cc
+
+module _ (family : Family) (node : ℕ) (packet : List ℕ) where
+  pub enters-not-long : most_len < length packet → None ≡ packet_by (Some family) (Some node) (Some packet)
+  enters-not-long long =
+      let test : nat_le (length packet) most_len ≡ false = search (rules, long) in
+      sym (by-test family node packet false (ap (λ (b : Bool). b && (length (bytes_of (read_as family packet)) == length packet)) test))
+
+  module _ (short : length packet ≤ most_len) where
+    same-test : is_entering family packet ≡ (length (bytes_of (entered family packet)) == length packet)
+    same-test =
+        let test : nat_le (length packet) most_len ≡ true = search (rules, short) in
+        short-enough (nat_le (length packet) most_len) (length (bytes_of (read_as family packet)) == length packet) test
+        ∙ ap (λ c. length (bytes_of c) == length packet) (sym (entered-whole family packet short))
+
+    pub enters-not-whole : (n : ℕ) → n ≡ length (bytes_of (entered family packet)) → (n ≡ length packet → ⊥)
+        → None ≡ packet_by (Some family) (Some node) (Some packet)
+    enters-not-whole n is other =
+        sym (by-test family node packet false (same-test ∙ ap (λ k. k == length packet) (sym is) ∙ ne_eqb n (length packet) other))
+
+    pub enters-whole : (n : ℕ) → n ≡ length (bytes_of (entered family packet)) → n ≡ length packet
+        → Some (lines.Packet family node packet) ≡ packet_by (Some family) (Some node) (Some packet)
+    enters-whole n is same =
+        sym (by-test family node packet true (same-test ∙ ap (λ k. k == length packet) (sym is) ∙ eq-eqb n (length packet) same))

@@ -1,0 +1,96 @@
+-- The lines of a walk are right, and behind them the packet has ended.
+use Rattle.std.proofs.Common.{◌≡◌, ℕ, zero, suc, ◌+◌, Bool, true, cond, List, [], ◌∷◌, ◌++◌, length, map, Option, Some, None, Result, Ok, Err, refl, sym, ap, ◌∙◌, subst, arith}
+use Rattle.std.specs.Prelude.{bytes_eq, if◌then◌else◌}
+use Rattle.std.proofs.lemmas.Slice.Eq.{bytes_eq-Decides}
+use Rattle.srv6_rules.specs.Packet.{Content}
+use Rattle.net_model.specs.Network.{Network}
+use Rattle.net_model.specs.Keeps.{Keeps}
+use Rattle.walk_rules.specs.declared.place.Place.{Place}
+use Rattle.walk_rules.specs.Relation.{IsPlace}
+use Rattle.walk_rules.specs.Treatment.{Gave, step_of}
+use Rattle.walk_rules.specs.Walk.{Step, decisions, next_place, place_after, stage_of, walk_of, walk_on}
+use Rattle.walk_rules.proofs.PublicLaws.{step-place, walk_of-none, walk_of-suc, walk_of-zero}
+use Rattle.trace_replay.specs.declared.state.State.{State}
+use Rattle.trace_replay.specs.declared.state.State.TheVariants as states
+use Rattle.trace_replay.specs.Laws.{stages_lines, state_behind, state_by, walk_lines}
+use Rattle.trace_replay.specs.Lines.{stage_text, stages_text}
+use Rattle.trace_replay.specs.Replays.{Wrong, going, line_judged, wrong_by, wrong_from}
+use Rattle.trace_replay.proofs.Printed.{line-leads}
+
+-- behind a packet that used all its stages the line that says so is right
+stopped-ends : (net : Network) → state_behind net states.Stopped (stages_text ∷ []) ≡ Some states.Ended
+stopped-ends net =
+    let same : bytes_eq stages_text stages_text ≡ true = (bytes_eq-Decides stages_text stages_text).1 refl in
+    ap (λ (b : Bool). state_by (λ next. Some next) (if b then Ok states.Ended else Err stages_text)) same
+
+-- where the packet goes on, and the rest of its lines
+abbrev GoesOn : Network → ℕ → Option Place → Content → (ℕ → ℕ) → ℕ → Type 0
+GoesOn net left next content pick taken =
+    state_behind net (going next content left) (walk_lines net next (walk_of left net next content pick taken)) ≡ Some states.Ended
+
+goes-none : (net : Network) (left : ℕ) (content : Content) (pick : ℕ → ℕ) (taken : ℕ) → GoesOn net left None content pick taken
+goes-none net left content pick taken =
+    ap (λ (steps : List Step). state_behind net states.Ended (walk_lines net None steps)) (walk_of-none left net content pick taken)
+
+goes-zero : (net : Network) (next : Option Place) (content : Content) (pick : ℕ → ℕ) (taken : ℕ) → GoesOn net zero next content pick taken
+goes-zero net None content pick taken = goes-none net zero content pick taken
+goes-zero net (Some p) content pick taken =
+    ap (λ (steps : List Step). state_behind net states.Stopped (walk_lines net (Some p) steps))
+    (walk_of-zero net (Some p) content pick taken)
+    ∙ stopped-ends net
+
+goes-suc : (net : Network) (left : ℕ) (next : Option Place) (content : Content) (pick : ℕ → ℕ) (taken : ℕ)
+    → ((p : Place) → next ≡ Some p → state_behind net (states.Going p content left)
+    (walk_lines net (Some p) (walk_of (suc left) net (Some p) content pick taken)) ≡ Some states.Ended)
+    → GoesOn net (suc left) next content pick taken
+goes-suc net left None content pick taken on = goes-none net (suc left) content pick taken
+goes-suc net left (Some p) content pick taken on = on p refl
+
+walk-step : (net : Network) (left : ℕ) (place : Place) (content : Content) (pick : ℕ → ℕ) (taken : ℕ) → Keeps net → IsPlace net place
+    → let gave = step_of net place content (pick taken) in
+    GoesOn net left (next_place net place gave.outcome) gave.after pick (taken + decisions gave.outcome)
+    → state_behind net (states.Going place content left)
+    (walk_lines net (Some place) (walk_of (suc left) net (Some place) content pick taken)) ≡ Some states.Ended
+walk-step net left place content pick taken keeps is on =
+    let gave = step_of net place content (pick taken) in
+    let rest = walk_of left net (next_place net place gave.outcome) gave.after pick (taken + decisions gave.outcome) in
+    ap (λ (steps : List Step). state_behind net (states.Going place content left) (walk_lines net (Some place) steps))
+    (walk_of-suc left net place content pick taken)
+    ∙ (ap (state_by (λ next. state_behind net next (walk_lines net (next_place net place gave.outcome) rest)))
+    (line-leads net place content keeps is (pick taken) left)
+    ∙ on)
+
+pub walk-replays : (net : Network) (left : ℕ) (place : Place) (content : Content) (pick : ℕ → ℕ) (taken : ℕ) → Keeps net
+    → IsPlace net place
+    → state_behind net (states.Going place content left)
+    (walk_lines net (Some place) (walk_of (suc left) net (Some place) content pick taken)) ≡ Some states.Ended
+walk-replays net zero place content pick taken keeps is =
+    let gave = step_of net place content (pick taken) in
+    walk-step net zero place content pick taken keeps is
+    (goes-zero net (next_place net place gave.outcome) gave.after pick (taken + decisions gave.outcome))
+walk-replays net (suc left) place content pick taken keeps is =
+    let gave = step_of net place content (pick taken) in
+    walk-step net (suc left) place content pick taken keeps is
+    (goes-suc net left (next_place net place gave.outcome) gave.after pick (taken + decisions gave.outcome)
+    (λ p e. walk-replays net left p gave.after pick (taken + decisions gave.outcome) keeps
+    (step-place net place content (pick taken) p keeps is e)))
+
+-- the first wrong line stands behind lines that are right
+
+passed-by : (net : Network) (next : State) (n k : ℕ) (one : State → Option State) (other : State → Option Wrong) (last : Option Wrong)
+    → (r : Result State (List ℕ)) → ((s : State) → one s ≡ Some next → other s ≡ last)
+    → state_by one r ≡ Some next → wrong_by n other r ≡ last
+passed-by net next n k one other last (Ok s) on h = on s h
+passed-by net next n k one other last (Err expected) on h = cc
+
+pub lines-passed : (net : Network) (state next : State) (n : ℕ) (lines more : List (List ℕ)) → state_behind net state lines ≡ Some next
+    → wrong_from net state n (lines ++ more) ≡ wrong_from net next (n + length lines) more
+lines-passed net state next n [] more h =
+    let same : state ≡ next = cc in
+    let count : n ≡ n + 0 = omega arith in
+    ap (λ (s : State). wrong_from net s n more) same ∙ ap (λ k. wrong_from net next k more) count
+lines-passed net state next n (line ∷ lines) more h =
+    let count : (n + 1) + length lines ≡ n + length (line ∷ lines) = omega arith in
+    passed-by net next n 0 (λ s. state_behind net s lines) (λ s. wrong_from net s (n + 1) (lines ++ more))
+    (wrong_from net next (n + length (line ∷ lines)) more) (line_judged net state line)
+    (λ s e. lines-passed net s next (n + 1) lines more e ∙ ap (λ k. wrong_from net next k more) count) h

@@ -1,0 +1,5 @@
+use Rattle.trace_replay.proofs.Printing.{lines-passed}
+use Rattle.trace_replay.proofs.laws.right_lines_are_passed.Goals as goal
+
+pub returns : goal.returns
+returns c = lines-passed

@@ -1,0 +1,36 @@
+//! Words of lines that are numbers.
+
+ghost use Rattle.std.specs.Prelude.{◌≡◌};
+ghost use Rattle.std.specs.Char.{is_ascii_digit};
+ghost use Rattle.std.specs.List.{list_all};
+ghost use Rattle.trace_replay.specs.Grammar.{is_number, is_numeral};
+
+/// Whether all bytes are decimal digits.
+fn are_digits(bytes: &[u8]) -> bool
+    ensures { result ≡ list_all is_ascii_digit bytes.now }
+{
+    bytes.iter().all(|byte| byte.is_ascii_digit())
+}
+
+/// Whether bytes are decimal digits without a leading zero.
+fn is_numeral(bytes: &[u8]) -> bool
+    ensures { result ≡ is_numeral bytes.now }
+{
+    match bytes {
+        [] => false,
+        [first, ..] => (bytes.len() == 1 || *first != b'0') && are_digits(bytes),
+    }
+}
+
+/// Whether a word is a number that is at most another.
+pub(crate) fn is_number(most: u32, word: &str) -> bool
+    ensures { result ≡ is_number most word.now }
+{
+    if !is_numeral(word.as_bytes()) {
+        return false;
+    }
+    match word.parse::<u32>() {
+        Ok(number) => number <= most,
+        Err(_) => false,
+    }
+}
