@@ -1,11 +1,18 @@
 -- Rides by the way that the code finds, and the end of the first link of a set.
-use Rattle.std.proofs.Common.{◌≡◌, ℕ, ◌<◌, List, [], ◌∷◌, length, get_or, Option, Some, None, slice_get, refl, sym, subst, arith}
-use Rattle.std.specs.Prelude.{IfSome}
+use Rattle.std.proofs.Common.{◌≡◌, ℕ, ◌<◌, Bool, true, false, ◌&&◌, if◌then◌else◌, List, [], ◌∷◌, length, get_or, Option, Some, None, slice_get, refl, sym, ◌∙◌, ap, subst, arith}
+use Rattle.std.specs.Prelude.{IfSome, drop}
+use Rattle.std.specs.Option.{option_map, option_and_then}
 use Rattle.net_model.specs.declared.parts.Link.{Link}
 use Rattle.net_model.specs.Network.{Network}
 use Rattle.net_model.specs.Keeps.{Keeps, EndsElsewhere}
 use Rattle.walk_rules.specs.Walk.{far_end}
 use Rattle.intent_reader.specs.Rules.{first_end}
+use Rattle.walk_rules.specs.declared.place.Place.{Place}
+use Rattle.intent_reader.specs.declared.intent.Intent.{Intent}
+use Rattle.leg_table.specs.Course.{behind_with, behind_of, finish_from_behind, way_behind}
+use Rattle.leg_table.specs.Leg.{place_from, is_start, left_behind, if_none_left, finish_behind, finish_of}
+use Rattle.leg_table.specs.Ride.{Ride, ride_of}
+use Rattle.leg_table.specs.Sids.{is_last, sid_address}
 use Rattle.leg_table.proofs.Links.{far_end-is}
 
 -- the end of the first link of a set
@@ -27,3 +34,32 @@ pub end-within : (net : Network) → Keeps net → (n : ℕ) (to : Option ℕ) �
 end-within net keeps n to e =
     let P : Option ℕ → Type 0 = λ o. IfSome o (λ node. node < length net.nodes) in
     subst P (sym e) (far-within net keeps n (slice_get net.links n) refl)
+
+-- the finish by the way that was found
+pub finish-way : (net : Network) (intent : Intent) (position : ℕ) (via : Option ℕ) (next : ℕ) → is_last net intent.inner next ≡ true
+    → option_and_then finish_from_behind (way_behind net intent position via next) ≡ finish_of net intent position via next
+finish-way net intent position via next last =
+    by_start (is_start net intent position via) (place_from net intent via)
+    ∙ ap (λ (t : Bool). if is_start net intent position via && t
+    then finish_behind net next (option_and_then (ride_of net (sid_address net next) (drop position intent.steps))
+    (place_from net intent via))
+    else None) (sym last)
+  where
+    by_left : (lowered : ℕ) (o : Option ℕ)
+        → option_and_then finish_from_behind (option_map (behind_with lowered) o) ≡ option_and_then (if_none_left lowered) o
+    by_left lowered None = refl
+    by_left lowered (Some left) = refl
+
+    by_ride : (o : Option Ride) → option_and_then finish_from_behind (behind_of net next o) ≡ finish_behind net next o
+    by_ride None = refl
+    by_ride (Some r) = by_left r.lowered (left_behind net next r)
+
+    by_start : (starts : Bool) (o : Option Place)
+        → option_and_then finish_from_behind
+        (option_and_then (λ (place : Place). behind_of net next (ride_of net (sid_address net next) (drop position intent.steps) place))
+        (if starts then o else None))
+        ≡ (if starts && true
+        then finish_behind net next (option_and_then (ride_of net (sid_address net next) (drop position intent.steps)) o) else None)
+    by_start false o = refl
+    by_start true None = refl
+    by_start true (Some place) = by_ride (ride_of net (sid_address net next) (drop position intent.steps) place)

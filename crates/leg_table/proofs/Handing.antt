@@ -1,5 +1,5 @@
 -- What walks hand over: with more fuel, under other choices, and along a ride.
-use Rattle.std.proofs.Common.{◌≡◌, ℕ, zero, suc, ◌+◌, ◌-◌, ◌<◌, ◌≤◌, Bool, true, false, ◌&&◌, if◌then◌else◌, List, [], ◌∷◌, ◌++◌, length, Option, Some, None, slice_get, refl, sym, ◌∙◌, ap, subst, arith, append_assoc, zero-add, add-zero}
+use Rattle.std.proofs.Common.{◌≡◌, ℕ, zero, suc, ◌+◌, ◌-◌, ◌<◌, ◌≤◌, ◌⊎◌, inl, inr, Bool, true, false, ◌&&◌, if◌then◌else◌, List, [], ◌∷◌, ◌++◌, length, Option, Some, None, slice_get, refl, sym, ◌∙◌, ap, subst, arith, append_assoc, zero-add, add-zero}
 use Rattle.std.specs.Prelude.{is_some}
 use Rattle.std.specs.List.{list_all}
 use Rattle.std.specs.Option.{option_map}
@@ -20,7 +20,7 @@ use Rattle.walk_rules.proofs.PublicLaws.{sent-high, way-from}
 use Rattle.intent_reader.specs.Rules.{stand_after, first_end, ends_at}
 use Rattle.intent_reader.specs.declared.intent.Step.{Step}
 use Rattle.intent_reader.specs.declared.intent.Step.TheVariants.{Links, Function}
-use Rattle.leg_table.specs.Trace.{Event, Crossed, Executed, is_titled, executed, Handed, after_events, handed_first, handed_over}
+use Rattle.leg_table.specs.Trace.{Event, Crossed, Executed, is_titled, executed, Handed, after_events, after_execution, handed_first, handed_over}
 use Rattle.leg_table.specs.Tasks.{has_link, meets, matches}
 use Rattle.leg_table.specs.Ride.{Ride, one_if, more_lowered, ride_on, ride_by, ride_end, ride_of, with_hop_limit}
 use Rattle.leg_table.proofs.Links.{member-of_all, far_end-is, link_ends, first_end-is, step_opens}
@@ -31,7 +31,8 @@ use Rattle.leg_table.proofs.Rides.{arrived, same_packet}
 pub after-after : (xs ys : List Event) (o : Option Handed)
     → option_map (after_events xs) (option_map (after_events ys) o) ≡ option_map (after_events (xs ++ ys)) o
 after-after xs ys None = refl
-after-after xs ys (Some h) = ap (λ (t : List Event). Some (record { trace = t; content = h.content })) (sym (append_assoc xs ys h.trace))
+after-after xs ys (Some h) = ap (λ (t : List Event). Some (record { trace = t; sids = h.sids; content = h.content }))
+    (sym (append_assoc xs ys h.trace))
 
 pub after-none : (o : Option Handed) → option_map (after_events []) o ≡ o
 after-none None = refl
@@ -49,17 +50,28 @@ module _ (net : Network) where
       ap (λ (g : Gave). handed_first net g g.outcome
       (handed_over net (walk_of more net (next_place net place g.outcome) g.after pick (taken + decisions g.outcome)))) e
 
+  -- a walk that hands over has a first stage, and hands over by it
+  pub first-stage : (fuel : ℕ) (place : Place) (content : Content) (pick : ℕ → ℕ) (taken : ℕ) (h : Handed) (gave : Gave)
+      → step_of net place content (pick taken) ≡ gave → handed_over net (walk_of fuel net (Some place) content pick taken) ≡ Some h
+      → (more : ℕ)
+      × (handed_first net gave gave.outcome
+      (handed_over net (walk_of more net (next_place net place gave.outcome) gave.after pick (taken + decisions gave.outcome))) ≡ Some h)
+  unfolding walk_of
+  first-stage zero place content pick taken h gave gives e = absurd (cc)
+  first-stage (suc more) place content pick taken h gave gives e =
+      (more, sym (handed-stage more place content pick taken gave gives) ∙ e)
+
   -- what is handed over behind an execution, by the stage of the execution
   pub handed-behind : (fuel : ℕ) (place next : Place) (content after : Content) (pick : ℕ → ℕ) (taken n : ℕ) (how : How) (h : Handed)
       → step_of net place content (pick taken) ≡ goes (outcomes.Again n how) after
       → next_place net place (outcomes.Again n how) ≡ Some next
       → handed_over net (walk_of fuel net (Some next) after pick (taken + 0)) ≡ Some h
-      → handed_over net (walk_of (suc fuel) net (Some place) content pick taken) ≡ Some (after_events (executed net n) h)
+      → handed_over net (walk_of (suc fuel) net (Some place) content pick taken) ≡ Some (after_execution net n h)
   handed-behind fuel place next content after pick taken n how h stage leads e =
       handed-stage fuel place content pick taken (goes (outcomes.Again n how) after) stage
-      ∙ ap (λ (o : Option Place). option_map (after_events (executed net n)) (handed_over net (walk_of fuel net o after pick (taken + 0))))
+      ∙ ap (λ (o : Option Place). option_map (after_execution net n) (handed_over net (walk_of fuel net o after pick (taken + 0))))
       leads
-      ∙ ap (option_map (after_events (executed net n))) e
+      ∙ ap (option_map (after_execution net n)) e
 
   -- rows that agree from here on give one walk
   pub walk-same : (fuel : ℕ) (o : Option Place) (content : Content) (pick qick : ℕ → ℕ) (taken uaken : ℕ)
@@ -89,8 +101,8 @@ module _ (net : Network) where
       → handed_first net gave o later ≡ Some h → handed_first net gave o more ≡ Some h
   first-more gave (outcomes.Hand n how family) later more h f e = e
   first-more gave (outcomes.Again n how) later more h f e =
-      let got = map-some (after_events (executed net n)) later h e in
-      ap (option_map (after_events (executed net n))) (f got.0 got.1) ∙ ap Some got.2
+      let got = map-some (after_execution net n) later h e in
+      ap (option_map (after_execution net n)) (f got.0 got.1) ∙ ap Some got.2
   first-more gave (outcomes.Send link) later more h f e =
       let got = map-some (after_events (Crossed link ∷ [])) later h e in
       ap (option_map (after_events (Crossed link ∷ []))) (f got.0 got.1) ∙ ap Some got.2
@@ -128,10 +140,10 @@ module _ (net : Network) where
       → matches ts h.trace ≡ true → handed_first net gave o later ≡ Some h → handed_first net gave o other ≡ Some h
   first-agree gave (outcomes.Hand n how family) ts later other h f m e = e
   first-agree gave (outcomes.Again n how) ts later other h f m e =
-      let got = map-some (after_events (executed net n)) later h e in
+      let got = map-some (after_execution net n) later h e in
       let met : matches ts (executed net n ++ got.0.trace) ≡ true = ap (λ (k : Handed). matches ts k.trace) got.2 ∙ m in
       let us = executed-meets ts n got.0.trace met in
-      ap (option_map (after_events (executed net n))) (f us.0 got.0 (omega (arith, us.2)) us.1 got.1) ∙ ap Some got.2
+      ap (option_map (after_execution net n)) (f us.0 got.0 (omega (arith, us.2)) us.1 got.1) ∙ ap Some got.2
   first-agree gave (outcomes.Send link) [] later other h f m e =
       let got = map-some (after_events (Crossed link ∷ [])) later h e in
       let met : matches [] (Crossed link ∷ got.0.trace) ≡ true = ap (λ (k : Handed). matches [] k.trace) got.2 ∙ m in
@@ -174,6 +186,10 @@ module _ (net : Network) where
           → (d : ℕ) → d ≤ u → p (a + k + d) ≡ q (b + k + d)
       later a b k u p q few same d h = ap p (omega arith) ∙ (same (k + d) (omega arith) ∙ ap q (omega arith))
 
+-- so many lowerings let a packet with a hop limit through
+abbrev pub Free : ℕ → ℕ → Type 0
+Free lowered hop = (lowered ≡ 0) ⊎ (lowered < hop)
+
 -- a walk along a ride: its stages send, its events meet the steps that are ridden, and then it goes on where the ride ends
 pub record RideWalk (net : Network) (ts : List Step) (place : Place) (p : Packet) (r : Ride) : Type 0 where
   pub count : ℕ
@@ -208,7 +224,7 @@ module _ (net : Network) (keeps : Keeps net) where
 
   -- the stage that sends, in a set whose members lie in the step
   sends : (place : Place) (p : Packet) (set : List ℕ) (lower : Bool) (k : ℕ) → way_of net place p.destination ≡ Over set lower
-      → one_if lower + k < p.hop_limit
+      → Free (one_if lower + k) p.hop_limit
       → (choice : ℕ) → step_of net place (V6 p) choice ≡ goes (outcomes.Send (member_of set choice)) (V6 (lowered lower p))
   sends place p set false k e high choice = ap (λ (w : Way). treated net place.node w p choice) e
   sends place p set true k e high choice =
@@ -223,14 +239,16 @@ module _ (net : Network) (keeps : Keeps net) where
   same_destination p true = refl
   same_destination p false = refl
 
-  high_enough : (p : Packet) (lower : Bool) (k : ℕ) → one_if lower + k < p.hop_limit → k < (lowered lower p).hop_limit
-  high_enough p true k h = omega arith
-  high_enough p false k h = omega arith
+  high_enough : (p : Packet) (lower : Bool) (k : ℕ) → Free (one_if lower + k) p.hop_limit → Free k (lowered lower p).hop_limit
+  high_enough p true k (inl none) = absurd (omega arith)
+  high_enough p true k (inr h) = inr (omega arith)
+  high_enough p false k (inl none) = inl (omega arith)
+  high_enough p false k (inr h) = inr (omega arith)
 
   walk-later : (step : List ℕ) (ts : List Step) (place : Place) (p : Packet) (set : List ℕ) (lower : Bool) (to : ℕ) (r : Ride)
       → way_of net place p.destination ≡ Over set lower → list_all (has_link step) set ≡ true → 0 < length set
       → list_all (ends_at net to) step ≡ true
-      → one_if lower + r.lowered < p.hop_limit → RideWalk net ts (arrived to place) (lowered lower p) r
+      → Free (one_if lower + r.lowered) p.hop_limit → RideWalk net ts (arrived to place) (lowered lower p) r
       → RideWalk net (Links step ∷ ts) place p (more_lowered lower r)
   walk-later step ts place p set lower to r way all some ends high w =
       record {
@@ -275,7 +293,7 @@ module _ (net : Network) (keeps : Keeps net) where
 
   pub ride-walk : (ts : List Step) (place : Place) (p : Packet) (r : Ride) → IsHow net place.node place.how
       → is_some (stand_after net place.node ts) ≡ true
-      → ride_of net p.destination ts place ≡ Some r → r.lowered < p.hop_limit → RideWalk net ts place p r
+      → ride_of net p.destination ts place ≡ Some r → Free r.lowered p.hop_limit → RideWalk net ts place p r
   ride-walk [] place p r how stands h high = by_way (way_of net place p.destination) refl h
     where
       by_way : (w : Way) → way_of net place p.destination ≡ w → ride_end place w ≡ Some r → RideWalk net [] place p r
@@ -291,7 +309,7 @@ module _ (net : Network) (keeps : Keeps net) where
           → is_some (stand_after net place.node (t ∷ ts)) ≡ true
           → ride_by net place (t ∷ ts) t (ride_of net p.destination ts) w ≡ Some r
           → ((to : ℕ) (q : Packet) (k : Ride) → is_some (stand_after net to ts) ≡ true
-          → ride_of net q.destination ts (arrived to place) ≡ Some k → k.lowered < q.hop_limit
+          → ride_of net q.destination ts (arrived to place) ≡ Some k → Free k.lowered q.hop_limit
           → RideWalk net ts (arrived to place) q k)
           → RideWalk net (t ∷ ts) place p r
       by_way t (Away reason) e links stands h ih = absurd (cc)
@@ -305,7 +323,7 @@ module _ (net : Network) (keeps : Keeps net) where
           let at : first_end net set ≡ Some opened.0 = first_end-is net opened.0 step set opened.1 all.0 links.some in
           let later : ride_of net p.destination ts (arrived opened.0 place) ≡ Some got.0
           = ap (λ (o : Option ℕ). ride_on (arrival o place) (ride_of net p.destination ts)) (sym at) ∙ got.1 in
-          let low : one_if lower + got.0.lowered < p.hop_limit = subst (λ (x : Ride). x.lowered < p.hop_limit) (sym got.2) high in
+          let low : Free (one_if lower + got.0.lowered) p.hop_limit = subst (λ (x : Ride). Free x.lowered p.hop_limit) (sym got.2) high in
           subst (RideWalk net (Links step ∷ ts) place p) got.2
           (walk-later step ts place p set lower opened.0 got.0 e all.0 links.some opened.1 low
           (ih opened.0 (lowered lower p) got.0 opened.2

@@ -30,7 +30,7 @@ use Rattle.leg_table.specs.Course.{behind_with, behind_of}
 use Rattle.leg_table.specs.Reach.{way_along, stand, AreWays, AreLater, way_or_none, way_at, lowered_more, way_by}
 use Rattle.leg_table.proofs.Links.{first_end-is, step_opens}
 use Rattle.leg_table.proofs.Options.{map-some, if-some, some-same}
-use Rattle.leg_table.proofs.LegLemmas.{left_after-le}
+use Rattle.leg_table.proofs.NextRides.{left_after-le}
 use Rattle.leg_table.proofs.RideFacts.{ride-facts}
 use Rattle.leg_table.proofs.Ways.{address-is}
 

@@ -1,226 +1,227 @@
 -- A path of legs and a finish realizes the intent with the sum of its lowerings as its need.
-use Rattle.std.proofs.Common.{◌≡◌, ℕ, zero, suc, ◌+◌, ◌^◌, ◌<◌, ◌≤◌, true, List, [], ◌∷◌, length, drop, map, get_or, Option, Some, None, slice_get, refl, sym, ◌∙◌, ap, subst, arith, lit<}
-use Rattle.std.specs.Prelude.{nat_le}
+use Rattle.std.proofs.Common.{◌≡◌, ℕ, suc, ◌+◌, ◌<◌, ◌≤◌, Bool, true, false, ◌&&◌, ◌||◌, List, [], ◌∷◌, length, map, take, Option, Some, None, refl, sym, ◌∙◌, ap, subst, arith}
+use Rattle.std.specs.Prelude.{nat_le, is_some}
 use Rattle.std.specs.List.{All}
-use Rattle.std.proofs.lemmas.Bool.{and_from, le-leb}
+use Rattle.std.proofs.lemmas.Bool.{false≢true, and_from, le-leb}
+use Rattle.std.proofs.lemmas.List.Elements.{All-nil, All-cons}
+use Rattle.v6_addr.specs.Address.{PrefixValue}
+use Rattle.srv6_rules.specs.declared.sid.Behaviour.{Behaviour}
+use Rattle.srv6_rules.specs.declared.sid.Behaviour.TheVariants as behaviours
+use Rattle.srv6_rules.specs.declared.sid.Family.{Family}
+use Rattle.srv6_rules.specs.declared.sid.Family.TheVariants as families
 use Rattle.srv6_rules.specs.declared.sid.SidEntry.{SidEntry}
-use Rattle.srv6_rules.specs.Packet.{Packet, V6, IsSpellable, spelling}
-use Rattle.srv6_rules.specs.Encapsulation.{at_segment, inner_lowered}
-use Rattle.srv6_rules.proofs.PublicLaws.{content_of-spelling_alone, lowered-spellable}
+use Rattle.srv6_rules.specs.Behaviours.{behaviour_exposes, behaviour_policy, behaviour_takes_flavours, is_packet_inside, exposes}
+use Rattle.srv6_rules.specs.Packet.{Content, V6, V4, Unreadable, bytes_of, content4_by, read_as}
+use Rattle.srv6_rules.specs.Packet4.{lowered4, spelling4}
+use Rattle.srv6_rules.specs.Encapsulation.{inner_lowered}
+use Rattle.srv6_rules.specs.Policies.{inner_kind}
+use Rattle.srv6_rules.proofs.PublicLaws.{content_of-spelling_alone, lowered-spellable, read4-alone, lowered4-spellable}
 use Rattle.net_model.specs.Network.{Network}
 use Rattle.net_model.specs.Rules.{IsNetwork}
 use Rattle.net_model.specs.Flat.{IsFlat}
-use Rattle.net_model.specs.Keeps.{Keeps}
+use Rattle.net_model.specs.Keeps.{Keeps, KeepsSid}
 use Rattle.net_model.proofs.PublicLaws.{keeps_from_network}
 use Rattle.walk_rules.specs.declared.place.Place.{Place}
 use Rattle.walk_rules.specs.Walk.{walk_of, choice_at}
 use Rattle.intent_reader.specs.Rules.{IsIntent}
 use Rattle.intent_reader.specs.declared.intent.Intent.{Intent}
-use Rattle.list_pack.specs.declared.types.Leg.{Leg}
+use Rattle.list_places.specs.Lists.{IsFlatList}
+use Rattle.list_places.specs.Places as places
+use Rattle.list_places.specs.Places.{Tunnel, sids_from, first_of, Along}
+use Rattle.list_places.proofs.PublicLaws.{first-some, starts-first, sids-first}
+use Rattle.list_pack.specs.declared.types.Container.{Container}
+use Rattle.list_pack.specs.SidLists.{list_sid, list_in, prefixes_in, IsSidPrefix, IsLegalList, list_values}
+use Rattle.leg_table.proofs.FlatNets.{FlatFacts}
 use Rattle.leg_table.specs.Trace.{handed_over}
-use Rattle.leg_table.specs.Ride.{Ride, ride_of}
-use Rattle.leg_table.specs.Sids.{AllListed, first_address, sid_address}
-use Rattle.leg_table.specs.Leg.{is_start, leg_of, finish_of}
-use Rattle.leg_table.specs.Realizes.{headend_place, encapsulation_of, HandsOver, AlwaysHandsOver, ReachesAbove, Realizes, path_need, AreSidAddresses, IsPathOf}
+use Rattle.leg_table.specs.Sids.{binds, is_binding, sid_binds, prefix_at}
+use Rattle.leg_table.specs.Leg.{is_start, leg_of}
+use Rattle.leg_table.specs.Realizes.{headend_place, encapsulation_of, IsInner, content_lowered, encapsulated_for, HandsOver, AlwaysHandsOver, ReachesAbove, Realizes, Executes, path_need, IsPathAlong}
 use Rattle.leg_table.proofs.Options.{some-same}
 use Rattle.leg_table.proofs.Choices.{row_from, length-row_from, row_agrees}
-use Rattle.leg_table.proofs.LegLemmas.{NextRide, leg-ride, finish-ride, middle-sid, last-sid}
+use Rattle.leg_table.proofs.Executions.{step-parts}
+use Rattle.leg_table.proofs.NextRides.{leg-ride, finish-ride, middle-sid, last-sid}
 use Rattle.leg_table.proofs.Handing.{hands-agree}
-use Rattle.leg_table.proofs.PathsUp.{with_leg-some, path-hands}
-use Rattle.leg_table.proofs.PathsDown.{yes, Hands, path-from}
+use Rattle.leg_table.proofs.ListPlaces.{active-first, sids-list, flat-list, before-first}
+use Rattle.leg_table.proofs.PathsUp.{with_leg-some, Names, path-hands}
+use Rattle.leg_table.proofs.Single.{path-executes}
+use Rattle.leg_table.proofs.AllWays.{yes}
+use Rattle.leg_table.proofs.AllHands.{Unbound, Hands}
+use Rattle.leg_table.proofs.PathsDown.{path-from}
+use Rattle.leg_table.proofs.Inners.{some_inner, some_inner-is}
 
-module _ (net : Network) (keeps : Keeps net) where
-  address-below : (n : ℕ) → sid_address net n < 2 ^ 128
-  address-below n = by_sid (slice_get net.sids n) refl
-    where
-      by_sid : (o : Option SidEntry) → slice_get net.sids n ≡ o → first_address o < 2 ^ 128
-      by_sid None e = lit< tt
-      by_sid (Some s) e = (keeps.sid n s e).prefix.1
+-- what is handed over reads as the inner packet, lowered
+inner-reads : (family : Family) (inner : Content) → IsInner family inner
+    → read_as family (bytes_of (content_lowered inner)) ≡ content_lowered inner
+inner-reads families.V6 (V6 p) is = content_of-spelling_alone (inner_lowered p) (lowered-spellable p is.0)
+inner-reads families.V6 (V4 p) is = absurd is
+inner-reads families.V6 (Unreadable bytes reason) is = absurd is
+inner-reads families.V4 (V6 p) is = absurd is
+inner-reads families.V4 (V4 p) is = ap (content4_by (spelling4 (lowered4 p))) (read4-alone (lowered4 p) (lowered4-spellable p is.0))
+inner-reads families.V4 (Unreadable bytes reason) is = absurd is
 
-  addresses-below : (sids : List ℕ) (k d : ℕ) → k < length (map (sid_address net) sids) → get_or (map (sid_address net) sids) k d < 2 ^ 128
-  addresses-below [] k d h = absurd (omega arith)
-  addresses-below (n ∷ ns) zero d h = address-below n
-  addresses-below (n ∷ ns) (suc k) d h = addresses-below ns k d (omega arith)
+-- ---- a SID that exposes a packet binds no policy
 
-  all-addresses : (sids : List ℕ) → All (λ a. a < 2 ^ 128) (map (sid_address net) sids)
-  all-addresses sids = λ k d h. addresses-below sids k d h
+policy-exposes : (b : Behaviour) (usd : Bool) (kind : ℕ) → (behaviour_takes_flavours b ≡ false → usd ≡ false)
+    → (behaviour_exposes b kind || (usd && is_packet_inside kind)) ≡ true → is_some (behaviour_policy b) ≡ false
+policy-exposes behaviours.End usd kind plain shows = refl
+policy-exposes behaviours.EndX usd kind plain shows = refl
+policy-exposes (behaviours.EndT table) usd kind plain shows = refl
+policy-exposes behaviours.Dx6 usd kind plain shows = refl
+policy-exposes behaviours.Dx4 usd kind plain shows = refl
+policy-exposes (behaviours.Dt6 table) usd kind plain shows = refl
+policy-exposes (behaviours.Dt4 table) usd kind plain shows = refl
+policy-exposes (behaviours.Dt46 table) usd kind plain shows = refl
+policy-exposes (behaviours.B6 policy) usd kind plain shows =
+    absurd (false≢true (sym (ap (λ (u : Bool). u && is_packet_inside kind) (plain refl)) ∙ shows))
+policy-exposes (behaviours.B6Red policy) usd kind plain shows =
+    absurd (false≢true (sym (ap (λ (u : Bool). u && is_packet_inside kind) (plain refl)) ∙ shows))
 
--- SIDs that are there
-abbrev Are-there : Network → List ℕ → Type 0
-Are-there net [] = Unit {0}
-Are-there net (n ∷ ns) = ((s : SidEntry) × (slice_get net.sids n ≡ Some s)) × Are-there net ns
+last-unbound : (net : Network) (s : SidEntry) (kind : ℕ) → KeepsSid net s → exposes s kind ≡ true → binds s ≡ false
+last-unbound net s kind keeps shows =
+    policy-exposes s.behaviour s.usd kind (λ plain. (keeps.behaviour.flavours plain).usd) shows
 
-path-there : (net : Network) (intent : Intent) (more : List ℕ) (next position : ℕ) (via : Option ℕ) (need : ℕ)
-    → path_need net intent position via (next ∷ more) ≡ Some need
-    → Are-there net (next ∷ more)
-path-there net intent [] next position via need h =
-    let got = last-sid net next (finish-ride net intent position via next need h).1 in ((got.0, got.1), tt)
-path-there net intent (m ∷ more) next position via need h =
+-- the SIDs of a path bind no policies
+path-unbound : (net : Network) (intent : Intent) → Keeps net → (more : List ℕ) (next position : ℕ) (via : Option ℕ) (need : ℕ)
+    → path_need net intent position via (next ∷ more) ≡ Some need → Unbound net (next ∷ more)
+path-unbound net intent keeps [] next position via need h =
+    let sid = last-sid net intent.inner next (finish-ride net intent position via next need h).1 in
+    All-cons (λ (n : ℕ). is_binding net n ≡ false) next []
+    (ap sid_binds sid.1 ∙ last-unbound net sid.0 (inner_kind intent.inner) (keeps.sid next sid.0 sid.1) sid.2)
+    (All-nil (λ (n : ℕ). is_binding net n ≡ false))
+path-unbound net intent keeps (m ∷ more) next position via need h =
     let got = with_leg-some (leg_of net intent position via next) (λ to. path_need net intent to (Some next) (m ∷ more)) need h in
-    let s = middle-sid net next (leg-ride net intent position via next got.0 got.1).1 in
-    ((s.0, s.1), path-there net intent more m got.0.to (Some next) got.2 got.3)
+    let sid = middle-sid net next (leg-ride net intent position via next got.0 got.1).1 in
+    All-cons (λ (n : ℕ). is_binding net n ≡ false) next (m ∷ more) (ap sid_binds sid.1 ∙ (step-parts sid.0 sid.2).1)
+    (path-unbound net intent keeps more m got.0.to (Some next) got.2 got.3)
 
-there-named : (net : Network) (sids : List ℕ) → Are-there net sids → AreSidAddresses net (map (sid_address net) sids)
-there-named net [] h i below = absurd (omega arith)
-there-named net (n ∷ ns) h zero below = (n, h.0.0, h.0.1, sym (ap first_address h.0.1))
-there-named net (n ∷ ns) h (suc i) below = there-named net ns h.1 i (omega arith)
+module _ (net : Network) (network : IsNetwork net) (flat : IsFlat net) (facts : FlatFacts net) (intent : Intent)
+    (is_intent : IsIntent net intent) (list : List Container) (legal : IsLegalList net list) where
+  keeps : Keeps net
+  keeps = keeps_from_network net network
 
-module _ (net : Network) (intent : Intent) where
-  -- SIDs with one first address to which packets are taken are one
-  same-next : (position : ℕ) (via : Option ℕ) (next other : ℕ) → NextRide net intent position via next
-      → NextRide net intent position via other
-      → sid_address net next ≡ sid_address net other → next ≡ other
-  same-next position via next other n m address =
-      let place : n.place ≡ m.place = some-same n.place m.place (sym n.from ∙ m.from) in
-      let ride : n.ride ≡ m.ride
-      = some-same n.ride m.ride
-      (sym n.is_ride
-      ∙ ap (λ (d : ℕ). ride_of net d (drop position intent.steps) n.place) address
-      ∙ ap (ride_of net (sid_address net other) (drop position intent.steps)) place
-      ∙ m.is_ride) in
-      sym n.sid ∙ ap (λ (r : Ride). r.sid) ride ∙ m.sid
+  abbrev segments : List ℕ
+  segments = list_values net list
 
-  heads : (a b : ℕ) (xs ys : List ℕ) → Path (List ℕ) (a ∷ xs) (b ∷ ys) → (a ≡ b) × (xs ≡ ys)
-  heads a b xs ys e = (cc, cc)
+  flat-cs : IsFlatList (list_in net list)
+  flat-cs = flat-list net facts list legal.named
 
-  -- one list of first addresses has one path
-  path-unique : (more : List ℕ) (next : ℕ) (others : List ℕ) (other position : ℕ) (via : Option ℕ) (need least : ℕ)
-      → map (sid_address net) (next ∷ more) ≡ map (sid_address net) (other ∷ others)
-      → path_need net intent position via (next ∷ more) ≡ Some need → path_need net intent position via (other ∷ others) ≡ Some least
-      → need ≡ least
-  path-unique [] next [] other position via need least names h k =
-      let n = (finish-ride net intent position via next need h).0 in
-      let m = (finish-ride net intent position via other least k).0 in
-      let same = same-next position via next other n m (heads _ _ [] [] names).0 in
-      some-same need least (sym h ∙ ap (finish_of net intent position via) same ∙ k)
-  path-unique [] next (o ∷ others) other position via need least names h k =
-      absurd (cc (heads _ _ [] (sid_address net o ∷ map (sid_address net) others) names).1)
-  path-unique (m ∷ more) next [] other position via need least names h k =
-      absurd (cc (heads _ _ (sid_address net m ∷ map (sid_address net) more) [] names).1)
-  path-unique (m ∷ more) next (o ∷ others) other position via need least names h k =
-      let a = with_leg-some (leg_of net intent position via next) (λ to. path_need net intent to (Some next) (m ∷ more)) need h in
-      let b = with_leg-some (leg_of net intent position via other) (λ to. path_need net intent to (Some other) (o ∷ others)) least k in
-      let parts = heads (sid_address net next) (sid_address net other) (map (sid_address net) (m ∷ more))
-      (map (sid_address net) (o ∷ others)) names in
-      let same : next ≡ other
-      = same-next position via next other (leg-ride net intent position via next a.0 a.1).0
-      (leg-ride net intent position via other b.0 b.1).0 parts.0 in
-      let leg : a.0 ≡ b.0 = some-same a.0 b.0 (sym a.1 ∙ ap (leg_of net intent position via) same ∙ b.1) in
-      let tail : path_need net intent a.0.to (Some next) (o ∷ others) ≡ Some b.2
-      = ap (λ (l : Leg). path_need net intent l.to (Some next) (o ∷ others)) leg
-      ∙ ap (λ (n : ℕ). path_need net intent b.0.to (Some n) (o ∷ others)) same ∙ b.3 in
-      let rest = path-unique more m others o a.0.to (Some next) a.2 b.2 parts.1 a.3 tail in
-      sym a.4 ∙ ap (λ (l : Leg). l.hops + a.2) leg ∙ ap (λ (n : ℕ). b.0.hops + n) rest ∙ b.4
+  start : (x : places.Place) × (first_of (list_in net list) ≡ Some x)
+  start = first-some (list_in net list) legal.rules
 
--- the inner packet's bytes behind the outer header
-abbrev bytes_of_inner : Packet → List ℕ
-bytes_of_inner inner = spelling (inner_lowered inner)
+  abbrev tunnel : Content → Tunnel
+  tunnel inner =
+      record { encapsulation = encapsulation_of intent segments; inner = intent.inner; bytes = bytes_of (content_lowered inner) }
 
--- what is handed over for all lists of choices is handed over under every row of choices
-lists-hands : (net : Network) (intent : Intent) (segments : List ℕ) (inner : Packet) (hop : ℕ)
-    → AlwaysHandsOver net intent segments inner hop
-    → Hands net (headend_place intent) (V6 (at_segment (encapsulation_of intent segments) (bytes_of_inner inner) 0 hop)) intent.steps
-lists-hands net intent segments inner hop all =
-    λ pick.
-    let n = suc (length intent.steps) in
-    let row = row_from net yes pick 0 n in
-    let some : 0 < length row = rw (length-row_from net yes pick 0 n) (omega arith) in
-    let got = all row some in (
-      got.0,
-      got.1,
-      hands-agree net got.0 intent.steps (Some (headend_place intent))
-          (V6 (at_segment (encapsulation_of intent segments) (bytes_of_inner inner) 0 hop))
-          (choice_at row) pick 0 0 got.1 (λ d few. row_agrees net yes pick n d (omega arith)) got.3 got.2,
-      got.3,
-    )
+  starts : (inner : Content) (hop : ℕ) → Along (tunnel inner) start.0 hop (encapsulated_for intent segments inner hop)
+  starts inner hop =
+      starts-first (encapsulation_of intent segments) intent.inner (bytes_of (content_lowered inner)) hop (list_in net list) start.0
+      legal.rules flat-cs refl start.1
 
--- a list that hands over for all choices is a path
-pub list-path : (net : Network) (intent : Intent) (segments : List ℕ) (inner : Packet) (hop : ℕ) → IsNetwork net → IsFlat net
-    → AllListed net → IsIntent net intent
-    → AreSidAddresses net segments → 0 < length segments → 0 < hop → AlwaysHandsOver net intent segments inner hop
-    → (sids : List ℕ) × (need : ℕ) × IsPathOf net intent segments sids need × (need < hop)
-list-path net intent segments inner hop network flat listed is_intent named some positive all =
-    by_list segments refl named some (lists-hands net intent segments inner hop all)
-  where
-    below : (xs : List ℕ) → AreSidAddresses net xs → (k d : ℕ) → k < length xs → get_or xs k d < 2 ^ 128
-    below [] named k d h = absurd (omega arith)
-    below (x ∷ xs) named zero d h =
-        let got = named 0 (omega arith) in
-        subst (λ (a : ℕ). a < 2 ^ 128) got.3 (((keeps_from_network net network).sid got.0 got.1 got.2).prefix.1)
-    below (x ∷ xs) named (suc k) d h = below xs (λ i within. named (suc i) (omega arith)) k d (omega arith)
+  named : sids_from start.0 ≡ map (list_sid net) (prefixes_in list)
+  named = sids-first (list_in net list) start.0 start.1 ∙ sids-list net list
 
-    by_list : (xs : List ℕ) → segments ≡ xs → AreSidAddresses net xs → 0 < length xs
-        → Hands net (headend_place intent) (V6 (at_segment (encapsulation_of intent segments) (bytes_of_inner inner) 0 hop)) intent.steps
-        → (sids : List ℕ) × (need : ℕ) × IsPathOf net intent segments sids need × (need < hop)
-    by_list [] e named some hands = absurd (omega arith)
-    by_list (a ∷ more) e named some hands =
-        let begins : is_start net intent 0 None ≡ true
-        = and_from (nat_le 0 (length intent.steps)) true (le-leb 0 (length intent.steps) (omega arith)) refl in
-        let path = path-from net network flat listed intent is_intent (encapsulation_of intent segments) (bytes_of_inner inner)
-        (subst (λ (xs : List ℕ). All (λ a. a < 2 ^ 128) xs) (sym e) (λ k d h. below (a ∷ more) named k d h))
-        (subst (AreSidAddresses net) (sym e) named) more a 0 None 0 hop (headend_place intent) begins refl e positive hands in
-        (path.first ∷ path.more, path.need, record { names = path.names ∙ sym e; is_path = path.is_path }, path.below)
+  module _ (sids : List ℕ) (need : ℕ) (names : map (prefix_at net) sids ≡ prefixes_in list) where
+    all-named : Names net start.0 sids
+    all-named = named ∙ ap (map (list_sid net)) (sym names)
 
--- a packet that bytes spell and that may be encapsulated
-some_inner : Packet
-some_inner = record { traffic_class = 0; flow_label = 0; next_header = 59; hop_limit = 2; source = 0; destination = 0; payload = [] }
-
-some_inner-spellable : IsSpellable some_inner × (2 ≤ some_inner.hop_limit)
-unfolding some_inner
-some_inner-spellable = (
-  record {
-    traffic_class = lit< tt;
-    flow_label = lit< tt;
-    next_header = lit< tt;
-    hop_limit = lit< tt;
-    source = lit< tt;
-    destination = lit< tt;
-    payload_len = lit< tt;
-    payload = λ k d h. absurd (omega arith);
-  },
-  omega arith,
-)
-
--- a path of legs and a finish realizes the intent
-pub path-realizes : (net : Network) (intent : Intent) (sids : List ℕ) (need : ℕ) → IsNetwork net → IsFlat net → AllListed net
-    → IsIntent net intent → path_need net intent 0 None sids ≡ Some need → Realizes net intent (map (sid_address net) sids) need
-path-realizes net intent [] need network flat listed is_intent h = absurd (cc)
-path-realizes net intent (next ∷ more) need network flat listed is_intent h =
-    record { reaches = λ inner ok high hop above choices some. over inner ok hop above choices; least = λ n reaches. least n reaches }
-  where
-    keeps : Keeps net
-    keeps = keeps_from_network net network
-
-    segments : List ℕ
-    segments = map (sid_address net) (next ∷ more)
-
-    over : (inner : Packet) → IsSpellable inner → (hop : ℕ) → need < hop → (choices : List ℕ)
-        → HandsOver net intent segments inner hop choices
-    over inner ok hop above choices =
-        let got = path-hands net keeps intent is_intent (encapsulation_of intent segments) (bytes_of_inner inner)
-        (all-addresses net keeps (next ∷ more))
-        more next 0 None 0 hop need (choice_at choices) 0 refl h above in
+    over : (ns : List ℕ) → ns ≡ sids → path_need net intent 0 None ns ≡ Some need → (inner : Content) → IsInner intent.inner inner
+        → (hop : ℕ) → need < hop → (choices : List ℕ) → HandsOver net intent segments inner hop choices
+    over [] same h inner ok hop above choices = absurd (cc)
+    over (next ∷ more) same h inner ok hop above choices =
+        let got = path-hands net keeps facts intent is_intent (tunnel inner) more next 0 None start.0 hop
+        (encapsulated_for intent segments inner hop) need (choice_at choices) 0 refl (starts inner hop)
+        (all-named ∙ ap (λ ms. map (list_sid net) (map (prefix_at net) ms)) (sym same)) h above in
         let hand = got.2 in
-        let place : got.0 ≡ headend_place intent = some-same got.0 (headend_place intent) (sym got.1) in (
-          hand.fuel,
-          hand.handed,
-          ap (λ (p : Place). handed_over net
-              (walk_of hand.fuel net (Some p) (V6 (at_segment (encapsulation_of intent segments) (bytes_of_inner inner) 0 hop))
-              (choice_at choices) 0))
-              (sym place) ∙ hand.is_handed,
-          hand.meets_steps,
-          hand.content ∙ content_of-spelling_alone (inner_lowered inner) (lowered-spellable inner ok),
-        )
+        let place : got.0 ≡ headend_place intent = some-same got.0 (headend_place intent) (sym got.1) in
+        record {
+          fuel = hand.fuel;
+          handed = hand.handed;
+          first =
+              ap (λ (p : Place). handed_over net
+              (walk_of hand.fuel net (Some p) (V6 (encapsulated_for intent segments inner hop)) (choice_at choices) 0)) (sym place)
+              ∙ hand.is_handed;
+          steps = hand.meets_steps;
+          content = hand.content ∙ inner-reads intent.inner inner ok;
+          unbound = subst (Unbound net) (sym hand.executes) (path-unbound net intent keeps more next 0 None need h);
+        }
 
-    least : (n : ℕ) → ReachesAbove net intent segments n → need ≤ n
-    least n reaches =
-        let inner = some_inner-spellable in
-        let path = list-path net intent segments some_inner (n + 1) network flat listed is_intent
-        (there-named net (next ∷ more) (path-there net intent more next 0 None need h))
-        (omega arith) (omega arith) (reaches some_inner inner.0 inner.1 (n + 1) (omega arith)) in
-        by_path path.0 path.1 path.2 path.3
-      where
-        by_path : (sids : List ℕ) (k : ℕ) → IsPathOf net intent segments sids k → k < n + 1 → need ≤ n
-        by_path [] k p below = absurd (cc p.is_path)
-        by_path (other ∷ others) k p below =
-            let same = path-unique net intent more next others other 0 None need k (sym p.names) h p.is_path in omega arith
+    executes : (ns : List ℕ) → ns ≡ sids → path_need net intent 0 None ns ≡ Some need → (inner : Content) (hop : ℕ) (choices : List ℕ)
+        → (h : HandsOver net intent segments inner hop choices) → (h.handed.sids ≡ ns) × (0 < hop → need < hop)
+    executes [] same h inner hop choices over = absurd (cc)
+    executes (next ∷ more) same h inner hop choices over =
+        path-executes net keeps facts intent is_intent (tunnel inner) more next 0 None start.0 hop
+        (encapsulated_for intent segments inner hop) need (headend_place intent) (choice_at choices) 0 over.handed refl (starts inner hop)
+        (all-named ∙ ap (λ ms. map (list_sid net) (map (prefix_at net) ms)) (sym same)) h refl (over.fuel, over.first)
+
+    least : path_need net intent 0 None sids ≡ Some need → (n : ℕ) → ReachesAbove net intent segments n → need ≤ n
+    least h n reaches =
+        let inner = some_inner intent.inner in
+        let over = reaches inner (some_inner-is intent.inner) (n + 1) (omega arith) (0 ∷ []) (omega arith) in
+        let above = (executes sids refl h inner (n + 1) (0 ∷ []) over).1 (omega arith) in
+        omega arith
+
+  -- a path of legs and a finish realizes the intent
+  pub path-realizes : (sids : List ℕ) (need : ℕ) → map (prefix_at net) sids ≡ prefixes_in list
+      → path_need net intent 0 None sids ≡ Some need → Realizes net intent segments need
+  path-realizes sids need names h =
+      record {
+        reaches = λ inner ok hop above choices some. over sids need names sids refl h inner ok hop above choices;
+        least = least sids need names h;
+      }
+
+  -- and wherever it is handed over, all its SIDs are executed
+  pub path-counts : (sids : List ℕ) (need : ℕ) → map (prefix_at net) sids ≡ prefixes_in list
+      → path_need net intent 0 None sids ≡ Some need → Executes net intent segments (length (prefixes_in list))
+  path-counts sids need names h inner hop choices over =
+      ap length (executes sids need names sids refl h inner hop choices over).0 ∙ sym (map-length sids) ∙ ap length names
+    where
+      map-length : (ns : List ℕ) → length (map (prefix_at net) ns) ≡ length ns
+      map-length [] = refl
+      map-length (n ∷ ns) = ap suc (map-length ns)
+
+  -- what is handed over for all lists of choices is handed over under every row of choices
+  lists-hands : (inner : Content) (hop : ℕ) → AlwaysHandsOver net intent segments inner hop
+      → Hands net (headend_place intent) (V6 (encapsulated_for intent segments inner hop)) intent.steps
+  lists-hands inner hop all =
+      λ pick.
+      let n = suc (length intent.steps) in
+      let row = row_from net yes pick 0 n in
+      let some : 0 < length row = rw (length-row_from net yes pick 0 n) (omega arith) in
+      let got = all row some in (
+        got.handed,
+        (
+          got.fuel,
+          hands-agree net got.fuel intent.steps (Some (headend_place intent)) (V6 (encapsulated_for intent segments inner hop))
+              (choice_at row) pick 0 0 got.handed (λ d few. row_agrees net yes pick n d (omega arith)) got.steps got.first,
+        ),
+        got.steps,
+        got.unbound,
+      )
+
+  -- a list that hands over for all choices is along a path
+  pub list-path : (inner : Content) (hop : ℕ) → 0 < hop → (always : AlwaysHandsOver net intent segments inner hop)
+      → (sids : List ℕ) × (need : ℕ) × IsPathAlong net intent list sids need × (need < hop)
+      × ((choices : List ℕ) (some : 0 < length choices) → (always choices some).handed.sids ≡ sids)
+  list-path inner hop positive always = by_prefixes (prefixes_in list) refl
+    where
+      by_prefixes : (ps : List PrefixValue) → prefixes_in list ≡ ps
+          → (sids : List ℕ) × (need : ℕ) × IsPathAlong net intent list sids need × (need < hop)
+          × ((choices : List ℕ) (some : 0 < length choices) → (always choices some).handed.sids ≡ sids)
+      by_prefixes [] e = let first = active-first start.0 in absurd (cc (first.1, named, ap (map (list_sid net)) e))
+      by_prefixes (q ∷ qs) e =
+          let begins : is_start net intent 0 None ≡ true
+          = and_from (nat_le 0 (length intent.steps)) true (le-leb 0 (length intent.steps) (omega arith)) refl in
+          let path = path-from net network flat facts intent is_intent (tunnel inner) refl qs q 0 None start.0 hop
+          (encapsulated_for intent segments inner hop) (headend_place intent) begins refl (named ∙ ap (map (list_sid net)) e)
+          (subst (All (IsSidPrefix net)) e legal.named) (starts inner hop) positive (lists-hands inner hop always) in (
+            path.first ∷ path.more,
+            path.need,
+            record {
+              is_path = path.is_path;
+              names = path.names ∙ ap (take (length (path.first ∷ path.more))) (sym e);
+              few = let l = ap length e in let few = path.few in omega arith;
+              last = let b = before-first net list start.0 start.1 in let l = path.last in omega arith;
+            },
+            path.below,
+            λ choices some. let over = always choices some in path.executes (choice_at choices) 0 over.handed (over.fuel, over.first),
+          )

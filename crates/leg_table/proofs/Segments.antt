@@ -1,18 +1,12 @@
--- Encapsulated packets at the SIDs of their segments.
-use Rattle.std.proofs.Common.{◌≡◌, ℕ, suc, ◌+◌, ◌-◌, ◌^◌, ◌<◌, ◌≤◌, Bool, true, false, ◌==◌, ◌&&◌, if◌then◌else◌, List, [], ◌∷◌, ◌++◌, length, drop, Some, None, slice_get, slice_index, refl, sym, ◌∙◌, ap, arith, eqb-true, add-one}
-use Rattle.std.proofs.Common.{append-nil, inl}
-use Rattle.std.specs.List.{All}
+-- Packets at the places of a list: the stage of the SID that is active there, and the steps left behind it.
+use Rattle.std.proofs.Common.{◌≡◌, ℕ, suc, ◌-◌, ◌<◌, ◌≤◌, Bool, true, false, ◌==◌, ◌&&◌, if◌then◌else◌, List, [], ◌∷◌, ◌++◌, length, drop, Some, None, slice_get, refl, sym, ◌∙◌, ap, arith, eqb-true, append-nil}
 use Rattle.std.proofs.lemmas.Bool.{false≢true, and_parts, eq-eqb}
-use Rattle.v6_addr.specs.Address.{PrefixValue, Holds}
+use Rattle.v6_addr.specs.Address.{Holds}
 use Rattle.srv6_rules.specs.declared.sid.Family.TheVariants as families
 use Rattle.srv6_rules.specs.declared.sid.Reason.TheVariants as reasons
 use Rattle.srv6_rules.specs.declared.sid.SidEntry.{SidEntry}
-use Rattle.srv6_rules.specs.Behaviours.{goes_on, exposes, is_listed, ipv6_inside}
-use Rattle.srv6_rules.specs.Packet.{V6, header_len, content_of}
-use Rattle.srv6_rules.specs.Endpoint.{Endpoint, at_sid, upper_layer}
-use Rattle.srv6_rules.specs.Srh.{segments_left_at}
-use Rattle.srv6_rules.specs.Encapsulation.{Encapsulation, inner_place, at_segment}
-use Rattle.srv6_rules.proofs.PublicLaws.{at_segment-onward, at_segment-hop_limit, at_segment-bad_segments, at_segment-upper_layer, at_segment-exposed, listed-plain, listed-psp, listed-usp}
+use Rattle.srv6_rules.specs.Packet.{Packet, V6, read_as}
+use Rattle.srv6_rules.specs.Endpoint.{Endpoint, at_sid}
 use Rattle.net_model.specs.declared.net.Hit.{Hit}
 use Rattle.net_model.specs.declared.net.Hit.TheVariants as hits
 use Rattle.net_model.specs.Network.{Network}
@@ -29,12 +23,15 @@ use Rattle.walk_rules.specs.Way.{Away, Into, is_multicast_of, way_of, way_by, wa
 use Rattle.walk_rules.specs.Treatment.{Gave, goes, treated_at_sid, allow_of, step_of, onward_from, exposed_from, dropped}
 use Rattle.intent_reader.specs.declared.intent.Step.{Step}
 use Rattle.intent_reader.specs.declared.intent.Step.TheVariants.{Links, Function}
+use Rattle.list_places.specs.Places as lists
+use Rattle.list_places.specs.Places.{Tunnel, form, active, next_of, stays_routed, StandsOn, Along}
+use Rattle.list_places.proofs.PublicLaws.{along-onward, along-tired, along-next, along-exposed}
 use Rattle.leg_table.specs.Trace.{Event, Executed, is_titled, executed}
 use Rattle.leg_table.specs.Tasks.{matches, left_after, left_after_function}
 use Rattle.leg_table.specs.Leg.{place_behind}
-use Rattle.leg_table.specs.Sids.{takes_step, hands_over, first_address, sid_address}
+use Rattle.leg_table.specs.Sids.{takes_step, hands_over}
 use Rattle.leg_table.proofs.Options.{if-some, some-same}
-use Rattle.leg_table.proofs.Executions.{stage_into, listed-onward}
+use Rattle.leg_table.proofs.Executions.{step-parts, stage_into, taken-onward}
 
 -- behind an execution of an IPv6 packet the packet stands at the SID's node, and goes on in the SID's way
 pub behind-again : (net : Network) (at : Place) (n : ℕ) (s : SidEntry) → s.node ≡ at.node → at.family ≡ families.V6
@@ -67,66 +64,49 @@ into-lookup net place a n e = by_how place.how e
     by_how (Submitted table) e = by_table table false (is_multicast_of place.family a) e
     by_how (Through sid lower) e = absurd (cc)
 
-holds-itself : (p : PrefixValue) → Holds p p.value
-unfolding Holds
-holds-itself p = refl
+-- in a flat network a packet to an address of a SID's prefix comes into SIDs of that prefix alone
+pub into-prefix : (net : Network) → IsNetwork net → IsFlat net → (place : Place) (m n a : ℕ) (s t : SidEntry)
+    → slice_get net.sids m ≡ Some s
+    → slice_get net.sids n ≡ Some t → Holds s.prefix a → way_of net place a ≡ Into n → s.prefix ≡ t.prefix
+into-prefix net network flat place m n a s t hm hn held e =
+    let found = into-lookup net place a n e in
+    let holds = matched_sid_holds net n t place.node found.0 place.family a found.1 hn in
+    one_sid_prefix net m n s t a network flat hm hn held holds.3
 
--- in a flat network a packet to the first address of a SID's prefix comes into SIDs of that prefix alone
-pub into-address : (net : Network) → IsNetwork net → IsFlat net → (place : Place) (m n : ℕ) (s t : SidEntry) → slice_get net.sids m ≡ Some s
-    → slice_get net.sids n ≡ Some t → way_of net place s.prefix.value ≡ Into n → sid_address net n ≡ s.prefix.value
-into-address net network flat place m n s t hm hn e =
-    let found = into-lookup net place s.prefix.value n e in
-    let holds = matched_sid_holds net n t place.node found.0 place.family s.prefix.value found.1 hn in
-    let same = one_sid_prefix net m n s t s.prefix.value network flat hm hn (holds-itself s.prefix) holds.3 in
-    ap first_address hn ∙ ap (λ (p : PrefixValue). p.value) (sym same)
+-- the stage at a place of a list from which a packet comes into a SID of the place's prefix
+module _ (net : Network) (tunnel : Tunnel) (x : lists.Place) (hop : ℕ) (q : Packet) (along : Along tunnel x hop q) (place : Place)
+    (n choice : ℕ) (s : SidEntry) (into : way_of net place q.destination ≡ Into n) (there : slice_get net.sids n ≡ Some s)
+    (on : StandsOn s (active x)) where
+  abbrev pub stage : Gave
+  stage = step_of net place (V6 q) choice
 
-module _ (net : Network) (e : Encapsulation) (bytes : List ℕ) (place : Place) (n i hop choice : ℕ) (s : SidEntry)
-    (into : way_of net place (slice_index e.segments i) ≡ Into n) (there : slice_get net.sids n ≡ Some s) where
-  abbrev stage : Gave
-  stage = step_of net place (V6 (at_segment e bytes i hop)) choice
-
-  abbrev allow : List ℕ
+  abbrev pub allow : List ℕ
   allow = allow_of (slice_get net.nodes place.node)
 
   abbrev given : Endpoint → Gave
-  given x = treated_at_sid net place.node n s.behaviour (at_segment e bytes i hop) x
+  given e = treated_at_sid net place.node n s.behaviour q e
 
-  stage-is : is_listed s ≡ true → stage ≡ given (at_sid s allow (at_segment e bytes i hop))
-  stage-is listed = stage_into net place (at_segment e bytes i hop) n s choice into there
+  pub stage-is : stage ≡ given (at_sid s allow q)
+  stage-is = stage_into net place q n s choice into there
 
-  -- at a segment that is not the last
-  pub mid-onward : takes_step s ≡ true → i + 1 < length e.segments → All (λ a. a < 2 ^ 128) e.segments → 1 < hop
-      → stage ≡ goes (outcomes.Again n (onward_from n s.behaviour)) (V6 (at_segment e bytes (suc i) (hop - 1)))
-  mid-onward middle below all high =
-      let parts = and_parts (is_listed s) (goes_on s) middle in
-      stage-is parts.0
-      ∙ ap given (at_segment-onward s (listed-plain s parts.0) allow e bytes i hop parts.1 (inl (listed-psp s parts.0)) below all high)
-      ∙ listed-onward net place.node n s (at_segment e bytes i hop) (at_segment e bytes (i + 1) (hop - 1)) parts.0
-      ∙ ap (λ (j : ℕ). goes (outcomes.Again n (onward_from n s.behaviour)) (V6 (at_segment e bytes j (hop - 1)))) (add-one i)
+  -- at a SID that is not the last
+  pub mid-onward : takes_step s ≡ true → (y : lists.Place) → next_of x ≡ Some y → 1 < hop
+      → (r : Packet) × (stage ≡ goes (outcomes.Again n (onward_from n s.behaviour)) (V6 r)) × Along tunnel y (hop - 1) r
+  mid-onward takes y to high = (
+    form tunnel y (stays_routed s.psp x y along.routed) (hop - 1),
+    stage-is ∙ ap given (along-onward s allow tunnel x y hop q along on (step-parts s takes).0 to high)
+        ∙ taken-onward net place.node n s q _ takes,
+    along-next tunnel x y hop (hop - 1) q s.psp along to,
+  )
 
-  pub mid-low : takes_step s ≡ true → i + 1 < length e.segments → hop ≤ 1
-      → stage ≡ dropped net place.node reasons.HopLimit 0 (V6 (at_segment e bytes i hop))
-  mid-low middle below low =
-      let parts = and_parts (is_listed s) (goes_on s) middle in
-      stage-is parts.0 ∙ ap given (at_segment-hop_limit s (listed-plain s parts.0) allow e bytes i hop parts.1 below low)
+  pub mid-low : takes_step s ≡ true → (y : lists.Place) → next_of x ≡ Some y → hop ≤ 1
+      → stage ≡ dropped net place.node reasons.HopLimit 0 (V6 q)
+  mid-low takes y to low = stage-is ∙ ap given (along-tired s allow tunnel x y hop q along on (step-parts s takes).0 to low)
 
-  pub mid-stays : is_listed s ≡ true → goes_on s ≡ false → i + 1 < length e.segments
-      → stage ≡ dropped net place.node reasons.BadSegments (header_len + segments_left_at) (V6 (at_segment e bytes i hop))
-  mid-stays listed stays below =
-      stage-is listed ∙ ap given (at_segment-bad_segments s (listed-plain s listed) allow e bytes i hop stays below)
-
-  -- at the last segment
-  pub last-exposes : hands_over s ≡ true → i + 1 ≡ length e.segments
-      → stage ≡ goes (outcomes.Hand n (exposed_from n s.behaviour) families.V6) (content_of bytes)
-  last-exposes shows end =
-      let parts = and_parts (is_listed s) (exposes s ipv6_inside) shows in
-      stage-is parts.0 ∙ ap given (at_segment-exposed s (listed-plain s parts.0) allow e bytes i hop parts.1 end)
-
-  pub last-keeps : is_listed s ≡ true → exposes s ipv6_inside ≡ false → i + 1 ≡ length e.segments
-      → stage ≡ given (upper_layer allow (at_segment e bytes i hop) (inner_place e))
-  last-keeps listed keeps end =
-      stage-is listed
-      ∙ ap given (at_segment-upper_layer s (listed-plain s listed) allow e bytes i hop (listed-usp s listed) keeps end)
+  -- at the last SID
+  pub last-exposes : next_of x ≡ None → hands_over tunnel.inner s ≡ true
+      → stage ≡ goes (outcomes.Hand n (exposed_from n s.behaviour) tunnel.inner) (read_as tunnel.inner tunnel.bytes)
+  last-exposes last shows = stage-is ∙ ap given (along-exposed s allow tunnel x hop q along on last shows)
 
 -- the steps left behind an execution that meets the steps
 module _ (net : Network) (n : ℕ) where

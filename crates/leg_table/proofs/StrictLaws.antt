@@ -25,21 +25,24 @@ use Rattle.leg_table.specs.Sids.{comes_before, sid_goes_on, is_middle, first_add
 use Rattle.leg_table.specs.Table.{shape_by, shape_of, node_of}
 use Rattle.leg_table.specs.Leg.{is_via, is_start, leg_of, finish_of}
 use Rattle.list_pack.specs.Order.{lex_before}
-use Rattle.list_pack.specs.Value.{IsVia, comes_to, ascends, same_block, IsShape, ShareBlock, IsLegOf, IsFinishOf, KeepsLaws}
+use Rattle.list_pack.specs.Value.{IsVia, comes_to, ascends, IsLegOf, IsFinishOf, KeepsLaws}
 use Rattle.leg_table.specs.Value.{legs_value}
+use Rattle.leg_table.proofs.FlatNets.{FlatFacts}
+use Rattle.net_model.specs.declared.parts.Block.{Block}
+use Rattle.leg_table.proofs.Shapes.{shape-is, shapes-share}
 use Rattle.leg_table.proofs.Options.{some-same, if-some}
 use Rattle.leg_table.proofs.RideFacts.{ride-facts, start-facts, intent-stands, stand_after-append}
-use Rattle.leg_table.proofs.LegLemmas.{NextRide, leg-ride, finish-ride}
+use Rattle.leg_table.proofs.NextRides.{NextRide, leg-ride, finish-ride}
 use Rattle.leg_table.proofs.Placing.{step-lands}
 use Rattle.leg_table.proofs.Positions.{are-sids, sids-few}
 
-shape-middle : (o : Option SidEntry) → (shape_by o).middle ≡ sid_goes_on o
-shape-middle None = refl
-shape-middle (Some s) = refl
+shape-middle : (blocks : List Block) (o : Option SidEntry) → (shape_by blocks o).middle ≡ sid_goes_on o
+shape-middle blocks None = refl
+shape-middle blocks (Some s) = refl
 
-shape-address : (o : Option SidEntry) → (shape_by o).prefix.value ≡ first_address o
-shape-address None = refl
-shape-address (Some s) = refl
+shape-address : (blocks : List Block) (o : Option SidEntry) → (shape_by blocks o).prefix.value ≡ first_address o
+shape-address blocks None = refl
+shape-address blocks (Some s) = refl
 
 -- a lower prefix comes before, whatever the nodes are
 before-node : (a b c d : Bool) → (a || (b && c)) ≡ true → (a || (b && (c || d))) ≡ true
@@ -54,24 +57,13 @@ key-before p q m n h =
     before-node (nat_lt p.value q.value) (p.value == q.value) (nat_lt p.len q.len)
     ((p.len == q.len) && (nat_lt m n || ((m == n) && false))) h
 
-before-shapes : (o q : Option SidEntry) (m n : ℕ) → sid_before o q ≡ true
-    → lex_before ((shape_by o).prefix.value ∷ (shape_by o).prefix.len ∷ m ∷ [])
-    ((shape_by q).prefix.value ∷ (shape_by q).prefix.len ∷ n ∷ [])
+before-shapes : (blocks : List Block) (o q : Option SidEntry) (m n : ℕ) → sid_before o q ≡ true
+    → lex_before ((shape_by blocks o).prefix.value ∷ (shape_by blocks o).prefix.len ∷ m ∷ [])
+    ((shape_by blocks q).prefix.value ∷ (shape_by blocks q).prefix.len ∷ n ∷ [])
     ≡ true
-before-shapes None q m n h = absurd (false≢true h)
-before-shapes (Some s) None m n h = absurd (false≢true h)
-before-shapes (Some s) (Some t) m n h = key-before s.prefix t.prefix m n h
-
--- a plain SID lies in no block
-plain-shape : (o : Option SidEntry) → IsShape (shape_by o)
-plain-shape None = record { compressed = λ h. absurd (false≢true h); in_block = λ h. absurd (false≢true h); replace = λ h. absurd (cc) }
-plain-shape (Some s) = record { compressed = λ h. absurd (false≢true h); in_block = λ h. absurd (false≢true h); replace = λ h. absurd (cc) }
-
-plain-blocks : (o q : Option SidEntry) → same_block (shape_by o).block (shape_by q).block ≡ true → ShareBlock (shape_by o) (shape_by q)
-plain-blocks None None h = absurd (false≢true h)
-plain-blocks None (Some t) h = absurd (false≢true h)
-plain-blocks (Some s) None h = absurd (false≢true h)
-plain-blocks (Some s) (Some t) h = absurd (false≢true h)
+before-shapes blocks None q m n h = absurd (false≢true h)
+before-shapes blocks (Some s) None m n h = absurd (false≢true h)
+before-shapes blocks (Some s) (Some t) m n h = key-before s.prefix t.prefix m n h
 
 ascends-from : (net : Network) (intent : Intent) (xs : List ℕ) → in_order net xs ≡ true → ascends (legs_value net intent) xs ≡ true
 ascends-from net intent [] h = refl
@@ -79,7 +71,7 @@ ascends-from net intent (n ∷ []) h = refl
 ascends-from net intent (n ∷ m ∷ ms) h =
     let parts = and_parts (sid_before (slice_get net.sids n) (slice_get net.sids m)) (in_order net (m ∷ ms)) h in
     and_from _ (ascends (legs_value net intent) (m ∷ ms))
-    (before-shapes (slice_get net.sids n) (slice_get net.sids m) (node_of net n) (node_of net m) parts.0)
+    (before-shapes net.blocks (slice_get net.sids n) (slice_get net.sids m) (node_of net n) (node_of net m) parts.0)
     (ascends-from net intent (m ∷ ms) parts.1)
 
 pub drop-drop : {X : Type 0} (n m : ℕ) (xs : List X) → drop m (drop n xs) ≡ drop (n + m) xs
@@ -210,7 +202,7 @@ module _ (net : Network) (keeps : Keeps net) (intent : Intent) (is_intent : IsIn
       let parts = and_parts (nat_le position (length intent.steps)) (is_via net intent position (Some v)) start in
       let at = and_parts (is_sid_at net intent position v) (is_middle net v) parts.1 in (
         leb-true position (length intent.steps) parts.0,
-        (((are-sids net keeps intent position).each v).1 at.0, shape-middle (slice_get net.sids v) ∙ at.1),
+        (((are-sids net keeps intent position).each v).1 at.0, shape-middle net.blocks (slice_get net.sids v) ∙ at.1),
       )
 
   few-lowered : (position : ℕ) (via : Option ℕ) (next : ℕ) → (n : NextRide net intent position via next) → n.ride.lowered ≤ 48
@@ -237,7 +229,7 @@ module _ (net : Network) (keeps : Keeps net) (intent : Intent) (is_intent : IsIn
         within = omega arith;
         is_next =
             subst (λ (to : ℕ). Contains (sids_of net intent to) next) (sym at.1) (((are-sids net keeps intent at.0).each next).1 at.4);
-        middle = shape-middle (slice_get net.sids next) ∙ got.1;
+        middle = shape-middle net.blocks (slice_get net.sids next) ∙ got.1;
         hops = omega arith;
       })
 
@@ -291,8 +283,8 @@ module _ (net : Network) (keeps : Keeps net) (intent : Intent) (is_intent : IsIn
       let n = comes-ride position via next h in
       let m = comes-ride position via other k in
       let address : sid_address net next ≡ sid_address net other
-      = sym (shape-address (slice_get net.sids next)) ∙ ap (λ (p : PrefixValue). p.value) e
-      ∙ shape-address (slice_get net.sids other) in
+      = sym (shape-address net.blocks (slice_get net.sids next)) ∙ ap (λ (p : PrefixValue). p.value) e
+      ∙ shape-address net.blocks (slice_get net.sids other) in
       sym n.sid ∙ ap (λ (r : Ride). r.sid) (same-rides position via next other n m address) ∙ m.sid
 
   -- a leg lowers at the execution too, and a finish on the same ride does not
@@ -306,20 +298,20 @@ module _ (net : Network) (keeps : Keeps net) (intent : Intent) (is_intent : IsIn
       = ap (λ (r : Ride). r.lowered) (same-rides position via next next a.0 b.0 refl) in
       omega (arith, hops, same, b.2)
 
-  laws : KeepsLaws (legs_value net intent)
-  laws =
+  laws : FlatFacts net → KeepsLaws (legs_value net intent)
+  laws facts =
       record {
         steps = (intent-stands net intent is_intent).1;
         sids_count = λ position within. let few = sids-few net keeps intent position in omega arith;
         sids_order = λ position within. ascends-from net intent (sids_of net intent position) (are-sids net keeps intent position).order;
-        shapes = λ n is_sid. plain-shape (slice_get net.sids n);
-        blocks = λ n m is_sid is_other same. plain-blocks (slice_get net.sids n) (slice_get net.sids m) same;
+        shapes = λ n is_sid. shape-is net keeps facts n;
+        blocks = λ n m is_sid is_other same. shapes-share net keeps n m same;
         leg = law-leg;
         finish = law-finish;
         one_of_prefix = law-one;
         above_finish = law-above;
       }
 
--- the legs of an intent that keeps the rules, in a network that keeps the rules
-pub strict-laws : (net : Network) (intent : Intent) → Keeps net → IsIntent net intent → KeepsLaws (legs_value net intent)
-strict-laws net intent keeps is_intent = laws net keeps intent is_intent
+-- the legs of an intent that keeps the rules, in a flat network
+pub strict-laws : (net : Network) (intent : Intent) → Keeps net → FlatFacts net → IsIntent net intent → KeepsLaws (legs_value net intent)
+strict-laws net intent keeps facts is_intent = laws net keeps intent is_intent facts

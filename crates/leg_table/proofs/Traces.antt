@@ -5,7 +5,7 @@ use Rattle.walk_rules.specs.declared.place.Outcome.{Outcome}
 use Rattle.walk_rules.specs.declared.place.Outcome.TheVariants as outcomes
 use Rattle.walk_rules.specs.Treatment.{Gave}
 use Rattle.walk_rules.specs.Walk as walks
-use Rattle.leg_table.specs.Trace.{Event, Crossed, executed, events_of, trace_of, Handed, after_events, handed_first, handed_over, behind_stage, through_hand}
+use Rattle.leg_table.specs.Trace.{Event, Crossed, executed, events_of, trace_of, Handed, after_events, after_execution, handed_first, handed_over, behind_stage, through_hand}
 use Rattle.leg_table.proofs.Options.{map-some, some-same}
 
 first-trace : (net : Network) (gave : Gave) (o : Outcome) (ss : List walks.Step) (later : Option Handed) (h : Handed)
@@ -14,7 +14,7 @@ first-trace : (net : Network) (gave : Gave) (o : Outcome) (ss : List walks.Step)
 first-trace net gave (outcomes.Hand n how family) ss later h f e =
     sym (ap (λ (k : Handed). k.trace) (some-same _ h e)) ∙ sym (append-nil (executed net n))
 first-trace net gave (outcomes.Again n how) ss later h f e =
-    let got = map-some (after_events (executed net n)) later h e in
+    let got = map-some (after_execution net n) later h e in
     sym (ap (λ (k : Handed). k.trace) got.2) ∙ ap (λ (es : List Event). executed net n ++ es) (f got.0 got.1)
 first-trace net gave (outcomes.Send link) ss later h f e =
     let got = map-some (after_events (Crossed link ∷ [])) later h e in

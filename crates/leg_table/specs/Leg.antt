@@ -1,10 +1,12 @@
 -- Legs and finishes: from the execution of one SID to that of the next.
 use Rattle.std.specs.Prelude.{◌≡◌, ℕ, zero, suc, ◌+◌, ◌-◌, ◌<◌, ◌≤◌, Bool, true, false, ◌==◌, ◌&&◌, nat_le, if◌then◌else◌, List, [], drop, length, slice_get, Option, Some, None, IsTrue, ◌↔◌}
 use Rattle.std.specs.Option.{option_map, option_and_then}
+use Rattle.v6_addr.specs.Address.{Holds}
+use Rattle.v6_addr.specs.Kinds.{is_multicast}
 use Rattle.srv6_rules.specs.declared.sid.Family.TheVariants as families
 use Rattle.srv6_rules.specs.declared.sid.SidEntry.{SidEntry}
-use Rattle.srv6_rules.specs.Behaviours.{is_listed}
 use Rattle.srv6_rules.specs.Packet.{Packet, Content, V6, V4, Unreadable}
+use Rattle.srv6_rules.specs.CompressedSteps.{compression_of, shifts}
 use Rattle.srv6_rules.specs.Endpoint.{Endpoint, Onward, Exposed, Delivered, Refused, at_sid}
 use Rattle.net_model.specs.Network.{Network}
 use Rattle.walk_rules.specs.declared.place.How.TheVariants.{Submitted}
@@ -19,7 +21,7 @@ use Rattle.list_pack.specs.declared.types.Leg.{Leg}
 use Rattle.leg_table.specs.Tasks.{left_after}
 use Rattle.leg_table.specs.Choices.{ForAllChoices}
 use Rattle.leg_table.specs.Ride.{Ride, ride_of, with_hop_limit}
-use Rattle.leg_table.specs.Sids.{takes_step, is_sid_at, is_middle, is_last, sid_address}
+use Rattle.leg_table.specs.Sids.{takes_step, is_sid_at, is_middle, is_last, sid_address, prefix_at}
 
 -- from where a packet goes to the next SID: from the headend, which made it, or from the SID that was executed last
 abbrev pub place_behind : ℕ → SidEntry → Place
@@ -71,7 +73,7 @@ finish_behind net next (Some r) = option_and_then (if_none_left r.lowered) (left
 -- how often the hop limit is lowered on the way to the last SID, by look-ups alone
 abbrev pub finish_of : Network → Intent → ℕ → Option ℕ → ℕ → Option ℕ
 finish_of net intent position via next =
-    if is_start net intent position via && is_last net next
+    if is_start net intent position via && is_last net intent.inner next
     then finish_behind net next (ride_to net intent position via next)
     else None
 
@@ -87,15 +89,15 @@ is_exposed (Exposed family bytes) = true
 is_exposed (Delivered q) = false
 is_exposed (Refused reason at) = false
 
--- packets that a SID, which lists take, takes on to a next segment where the hop limit allows it, and packets from which it
+-- packets that a SID takes on to a next segment where the hop limit allows it, behind no further header, and packets from which it
 -- exposes one
 abbrev pub takes_on : Option SidEntry → Packet → Bool
 takes_on None p = false
-takes_on (Some s) p = is_listed s && is_onward (at_sid s [] (with_hop_limit 2 p))
+takes_on (Some s) p = takes_step s && is_onward (at_sid s [] (with_hop_limit 2 p))
 
 abbrev pub takes_out : Option SidEntry → Packet → Bool
 takes_out None p = false
-takes_out (Some s) p = is_listed s && is_exposed (at_sid s [] p)
+takes_out (Some s) p = is_exposed (at_sid s [] p)
 
 abbrev pub has_next_segment : Network → ℕ → Packet → Bool
 has_next_segment net n p = takes_on (slice_get net.sids n) p
@@ -136,35 +138,50 @@ stage_executes net n left limit ts s = is_again n s.gave.outcome && (is_left lef
 abbrev pub stage_exposes : Network → ℕ → ℕ → ℕ → List Step → walks.Step → Bool
 stage_exposes net n left limit ts s = is_hand n s.gave.outcome && (is_left left (left_after net n ts) && has_limit limit s.before)
 
--- a packet to the SID's address that has a next segment there is taken from a place along the first steps to SID n and executed
--- there, for all choices, with so many steps left; that is so exactly above so many hops, by which its hop limit falls
-abbrev pub IsTaken : Network → List Step → ℕ → ℕ → ℕ → Place → Type 0
-IsTaken net ts n left hops place =
-    (p : Packet) → p.destination ≡ sid_address net n → IsTrue (has_next_segment net n p) → 0 < p.hop_limit →
+-- a packet to an address that has a next segment at SID n is taken from a place along the first steps to SID n and executed there, for
+-- all choices, with so many steps left; that is so exactly above so many hops, by which its hop limit falls
+abbrev pub IsTaken : Network → ℕ → List Step → ℕ → ℕ → ℕ → Place → Type 0
+IsTaken net address ts n left hops place =
+    (p : Packet) → p.destination ≡ address → IsTrue (has_next_segment net n p) → 0 < p.hop_limit →
     (hops < p.hop_limit) ↔ ForAllChoices net (stage_executes net n left (p.hop_limit - hops)) ts place (V6 p)
 
 -- the same of a packet with a packet inside that SID n exposes
-abbrev pub IsHanded : Network → List Step → ℕ → ℕ → ℕ → Place → Type 0
-IsHanded net ts n left lowered place =
-    (p : Packet) → p.destination ≡ sid_address net n → IsTrue (has_packet_inside net n p) → 0 < p.hop_limit →
+abbrev pub IsHanded : Network → ℕ → List Step → ℕ → ℕ → ℕ → Place → Type 0
+IsHanded net address ts n left lowered place =
+    (p : Packet) → p.destination ≡ address → IsTrue (has_packet_inside net n p) → 0 < p.hop_limit →
     (lowered < p.hop_limit) ↔ ForAllChoices net (stage_exposes net n left (p.hop_limit - lowered)) ts place (V6 p)
 
 abbrev pub FromPlace : Option Place → (Place → Type 0) → Type 0
 FromPlace None P = ⊥
 FromPlace (Some place) P = P place
 
--- a leg: from a position, and the SID that was executed last there if one was, to a next SID that is middle
-pub record IsLeg (net : Network) (intent : Intent) (position : ℕ) (via : Option ℕ) (next : ℕ) (leg : Leg) : Type 0 where
+-- a leg: from a position, and the SID that was executed last there if one was, to a next SID that is middle, for packets to an address
+pub record IsLeg (net : Network) (intent : Intent) (address position : ℕ) (via : Option ℕ) (next : ℕ) (leg : Leg) : Type 0 where
   pub start : IsTrue (is_start net intent position via)
   pub middle : IsTrue (is_middle net next)
   pub within : leg.to ≤ length intent.steps
-  pub taken : FromPlace (place_from net intent via) (IsTaken net (drop position intent.steps) next (length intent.steps - leg.to) leg.hops)
+  pub taken : FromPlace (place_from net intent via)
+      (IsTaken net address (drop position intent.steps) next (length intent.steps - leg.to) leg.hops)
 
--- a finish: to a last SID, which exposes the packet inside with no step left
-pub record IsFinish (net : Network) (intent : Intent) (position : ℕ) (via : Option ℕ) (next : ℕ) (lowered : ℕ) : Type 0 where
+-- a finish: to a last SID, which exposes the packet inside with no step left, for packets to an address
+pub record IsFinish (net : Network) (intent : Intent) (address position : ℕ) (via : Option ℕ) (next lowered : ℕ) : Type 0 where
   pub start : IsTrue (is_start net intent position via)
-  pub last : IsTrue (is_last net next)
-  pub handed : FromPlace (place_from net intent via) (IsHanded net (drop position intent.steps) next 0 lowered)
+  pub last : IsTrue (is_last net intent.inner next)
+  pub handed : FromPlace (place_from net intent via) (IsHanded net address (drop position intent.steps) next 0 lowered)
+
+-- an address of a SID's prefix that is multicast exactly where the prefix's first address is
+pub record IsAddressOf (net : Network) (n address : ℕ) : Type 0 where
+  pub held : Holds (prefix_at net n) address
+  pub kind : is_multicast address ≡ is_multicast (sid_address net n)
+
+-- and which has no further SID behind it there, so that none is moved up (RFC 9800 section 4.1)
+abbrev pub shifts_by : Option SidEntry → ℕ → Bool
+shifts_by None address = false
+shifts_by (Some s) address = shifts (compression_of s) address
+
+pub record IsLastAddressOf (net : Network) (n address : ℕ) : Type 0 where
+  pub is_address : IsAddressOf net n address
+  pub alone : shifts_by (slice_get net.sids n) address ≡ false
 
 -- the place to start from, where a packet may start so
 abbrev pub start_of : Network → Intent → ℕ → Option ℕ → Option Place

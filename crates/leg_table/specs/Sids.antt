@@ -1,26 +1,34 @@
 -- The SIDs that may be executed at a position of an intent: after so many of its steps.
-use Rattle.std.specs.Prelude.{ℕ, zero, suc, Bool, true, false, ◌==◌, ◌&&◌, ◌||◌, nat_lt, if◌then◌else◌, List, [], ◌∷◌, take, length, slice_get, Option, Some, None, IsTrue, Contains, ◌↔◌}
-use Rattle.std.specs.List.{list_all}
+use Rattle.std.specs.Prelude.{ℕ, zero, suc, Bool, true, false, ◌==◌, ◌&&◌, ◌||◌, not, nat_lt, is_some, if◌then◌else◌, List, [], ◌∷◌, take, length, slice_get, Option, Some, None, IsTrue, Contains, ◌↔◌}
 use Rattle.v6_addr.specs.Address.{PrefixValue}
 use Rattle.srv6_rules.specs.declared.sid.SidEntry.{SidEntry}
-use Rattle.srv6_rules.specs.Behaviours.{goes_on, exposes, is_listed, ipv6_inside}
+use Rattle.srv6_rules.specs.declared.sid.Family.{Family}
+use Rattle.srv6_rules.specs.Behaviours.{behaviour_policy, goes_on, exposes}
+use Rattle.srv6_rules.specs.Policies.{inner_kind}
 use Rattle.net_model.specs.Network.{Network}
 use Rattle.intent_reader.specs.Rules.{stand_after, is_at}
 use Rattle.intent_reader.specs.declared.intent.Step.{Step}
 use Rattle.intent_reader.specs.declared.intent.Step.TheVariants.{Links, Function}
 use Rattle.intent_reader.specs.declared.intent.Intent.{Intent}
 
--- every SID of the network is one that lists take so far
-abbrev pub AllListed : Network → Type 0
-AllListed net = IsTrue (list_all is_listed net.sids)
+-- a SID that binds a policy puts another header in front; lists take none (own rule)
+abbrev pub binds : SidEntry → Bool
+binds s = is_some (behaviour_policy s.behaviour)
 
--- lists take the SID, and the packet goes on from it to a next segment
+-- the packet goes on from the SID to a next segment, behind no further header
 abbrev pub takes_step : SidEntry → Bool
-takes_step s = is_listed s && goes_on s
+takes_step s = goes_on s && not (binds s)
 
--- lists take the SID, and it exposes an IPv6 packet inside
-abbrev pub hands_over : SidEntry → Bool
-hands_over s = is_listed s && exposes s ipv6_inside
+-- the SID exposes a packet of a family inside
+abbrev pub hands_over : Family → SidEntry → Bool
+hands_over family s = exposes s (inner_kind family)
+
+abbrev pub sid_binds : Option SidEntry → Bool
+sid_binds None = false
+sid_binds (Some s) = binds s
+
+abbrev pub is_binding : Network → ℕ → Bool
+is_binding net n = sid_binds (slice_get net.sids n)
 
 -- from a SID that is middle the packet goes on to a next segment
 abbrev pub sid_goes_on : Option SidEntry → Bool
@@ -30,13 +38,21 @@ sid_goes_on (Some s) = takes_step s
 abbrev pub is_middle : Network → ℕ → Bool
 is_middle net n = sid_goes_on (slice_get net.sids n)
 
--- a SID that exposes an IPv6 packet inside
-abbrev pub sid_exposes : Option SidEntry → Bool
-sid_exposes None = false
-sid_exposes (Some s) = hands_over s
+-- a SID that exposes a packet of a family inside
+abbrev pub sid_exposes : Family → Option SidEntry → Bool
+sid_exposes family None = false
+sid_exposes family (Some s) = hands_over family s
 
-abbrev pub is_last : Network → ℕ → Bool
-is_last net n = sid_exposes (slice_get net.sids n)
+abbrev pub is_last : Network → Family → ℕ → Bool
+is_last net family n = sid_exposes family (slice_get net.sids n)
+
+-- the prefix of a SID; a number that no SID has has none, and ::/0 stands for it
+abbrev pub prefix_by : Option SidEntry → PrefixValue
+prefix_by None = record { value = 0; len = 0 }
+prefix_by (Some s) = s.prefix
+
+abbrev pub prefix_at : Network → ℕ → PrefixValue
+prefix_at net n = prefix_by (slice_get net.sids n)
 
 -- the address that a SID's prefix begins with
 abbrev pub first_address : Option SidEntry → ℕ

@@ -1,15 +1,17 @@
 -- The table of an intent's legs.
-use Rattle.std.specs.Prelude.{◌≡◌, ℕ, ◌+◌, ◌≤◌, Bool, false, List, length, slice_get, Option, Some, None}
-use Rattle.v6_addr.specs.Address.{PrefixValue}
+use Rattle.std.specs.Prelude.{◌≡◌, ℕ, ◌+◌, ◌≤◌, false, List, length, slice_get, position, Option, Some, None}
+use Rattle.v6_addr.specs.Address.{PrefixValue, is_inside}
 use Rattle.srv6_rules.specs.declared.sid.Csid.TheVariants.{Plain}
 use Rattle.srv6_rules.specs.declared.sid.SidEntry.{SidEntry}
 use Rattle.net_model.specs.Network.{Network}
+use Rattle.net_model.specs.declared.parts.Block.{Block}
 use Rattle.net_model.specs.Rules.{IsNetwork}
+use Rattle.net_model.specs.Flat.{IsFlat}
 use Rattle.intent_reader.specs.Rules.{IsIntent}
 use Rattle.intent_reader.specs.declared.intent.Intent.{Intent}
 use Rattle.list_pack.specs.declared.types.Shape.{Shape}
 use Rattle.leg_table.specs.declared.reach.Reach.{Reach}
-use Rattle.leg_table.specs.Sids.{AllListed, sids_of, takes_step}
+use Rattle.leg_table.specs.Sids.{sids_of, takes_step}
 use Rattle.leg_table.specs.Reach.{AreReaches}
 
 -- a table is that of an intent in a network
@@ -22,25 +24,26 @@ abbrev pub AreRows : Network → Intent → ℕ → List (List ℕ) → Type 0
 AreRows net intent last rows =
     (length rows ≡ last + 1) × ((position : ℕ) → position ≤ last → slice_get rows position ≡ Some (sids_of net intent position))
 
--- the intent keeps the rules in the network, whose SIDs lists take, the rows are the SIDs of its positions, and the ways are those
+-- the intent keeps the rules in the network, which is flat, the rows are the SIDs of its positions, and the ways are those
 -- from their nodes
 pub record IsTable (net : Network) (intent : Intent) (rows : List (List ℕ)) (reaches : List Reach) : Type 0 where
   pub network : IsNetwork net
-  pub listed : AllListed net
+  pub flat : IsFlat net
   pub is_intent : IsIntent net intent
   pub are_rows : AreRows net intent (length intent.steps) rows
   pub are_reaches : AreReaches net intent.headend intent.steps reaches
 
--- what a plain SID is to the search: it lies in no block
-abbrev pub plain_shape : PrefixValue → Bool → Shape
-plain_shape prefix middle = record { prefix = prefix; block = None; lbl = 0; csid = Plain; middle = middle }
+-- what a SID is to the search: the block that it lies strictly inside by its number, its compression, and whether it is middle
+abbrev pub block_at : List Block → PrefixValue → Option ℕ
+block_at blocks p = position (λ b. is_inside p b.prefix) blocks
 
-abbrev pub shape_by : Option SidEntry → Shape
-shape_by None = plain_shape (record { value = 0; len = 0 }) false
-shape_by (Some s) = plain_shape s.prefix (takes_step s)
+abbrev pub shape_by : List Block → Option SidEntry → Shape
+shape_by blocks None = record { prefix = record { value = 0; len = 0 }; block = None; lbl = 0; csid = Plain; middle = false }
+shape_by blocks (Some s) =
+    record { prefix = s.prefix; block = block_at blocks s.prefix; lbl = s.block_len; csid = s.csid; middle = takes_step s }
 
 abbrev pub shape_of : Network → ℕ → Shape
-shape_of net n = shape_by (slice_get net.sids n)
+shape_of net n = shape_by net.blocks (slice_get net.sids n)
 
 -- the node of a SID
 abbrev pub node_by : Option SidEntry → ℕ

@@ -39,18 +39,23 @@ abbrev pub trace_of : Network → List walks.Step → List Event
 trace_of net [] = []
 trace_of net (s ∷ ss) = events_of net s.gave.outcome ++ trace_of net ss
 
--- the trace up to and with the first hand-over, and what was handed over
+-- up to and with the first hand-over: the trace, the SIDs that were executed, and what was handed over
 pub record Handed : Type 0 where
   pub trace : List Event
+  pub sids : List ℕ
   pub content : Content
 
 abbrev pub after_events : List Event → Handed → Handed
-after_events events h = record { trace = events ++ h.trace; content = h.content }
+after_events events h = record { trace = events ++ h.trace; sids = h.sids; content = h.content }
+
+abbrev pub after_execution : Network → ℕ → Handed → Handed
+after_execution net n h = record { trace = executed net n ++ h.trace; sids = n ∷ h.sids; content = h.content }
 
 -- the first hand-over of a walk by its first stage and what its other stages hand over
 abbrev pub handed_first : Network → Gave → Outcome → Option Handed → Option Handed
-handed_first net gave (outcomes.Hand n how family) later = Some (record { trace = executed net n; content = gave.after })
-handed_first net gave (outcomes.Again n how) later = option_map (after_events (executed net n)) later
+handed_first net gave (outcomes.Hand n how family) later =
+    Some (record { trace = executed net n; sids = n ∷ []; content = gave.after })
+handed_first net gave (outcomes.Again n how) later = option_map (after_execution net n) later
 handed_first net gave (outcomes.Send link) later = option_map (after_events (Crossed link ∷ [])) later
 handed_first net gave outcomes.Local later = None
 handed_first net gave (outcomes.Drop reason error) later = None

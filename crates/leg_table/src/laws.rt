@@ -15,10 +15,12 @@ ghost use Rattle.leg_table.specs.Ride.{ride_of, RideEnds};
 ghost use Rattle.intent_reader.specs.Rules.{IsIntent};
 ghost use Rattle.intent_reader.specs.declared.intent.Intent.{Intent};
 ghost use Rattle.list_pack.specs.declared.types.Leg.{Leg};
-ghost use Rattle.leg_table.specs.Leg.{leg_of, IsLeg, finish_of, IsFinish};
-ghost use Rattle.leg_table.specs.Sids.{sid_address, sids_of, AllListed, AreSidsAt};
+ghost use Rattle.list_pack.specs.declared.types.Container.{Container};
+ghost use Rattle.list_pack.specs.SidLists.{IsLegalList, prefixes_in, list_values};
+ghost use Rattle.leg_table.specs.Leg.{leg_of, IsLeg, finish_of, IsFinish, IsAddressOf, IsLastAddressOf};
+ghost use Rattle.leg_table.specs.Sids.{sid_address, prefix_at, sids_of, AreSidsAt};
 ghost use Rattle.leg_table.specs.Trace.{Handed, handed_over, trace_of, through_hand};
-ghost use Rattle.leg_table.specs.Realizes.{path_need, Realizes, AlwaysHandsOver, AreSidAddresses, IsPathOf};
+ghost use Rattle.leg_table.specs.Realizes.{path_need, Realizes, Executes, ListRealizes, AlwaysHandsOver, IsPathAlong};
 ghost use Rattle.net_model.specs.Flat.{IsFlat};
 
 /// A way to an execution is there for all lists of choices exactly where it is there whatever is
@@ -41,20 +43,35 @@ pub fn every_way_is_a_ride()
 {}
 
 /// The leg by look-ups alone is there exactly where for all choices a packet to the next SID is
-/// taken to that SID along exactly the steps up to the leg's end, and executed there.
+/// taken to that SID along exactly the steps up to the leg's end, and executed there: a packet to
+/// the first address of its prefix, and in a flat network one to any address of the prefix that is
+/// multicast exactly where the first one is.
 pub fn a_leg_is_for_all_choices()
-    ensures { (net : Network) (intent : Intent) (position : ℕ) (via : Option ℕ) (next : ℕ) →
+    ensures first { (net : Network) (intent : Intent) (position : ℕ) (via : Option ℕ) (next : ℕ) →
         (leg : Leg) → Keeps net → IsIntent net intent →
-        (leg_of net intent position via next ≡ Some leg) ↔ IsLeg net intent position via next leg }
+        (leg_of net intent position via next ≡ Some leg)
+        ↔ IsLeg net intent (sid_address net next) position via next leg }
+    ensures each { (net : Network) (intent : Intent) (position : ℕ) (via : Option ℕ) (next : ℕ) →
+        (address : ℕ) (leg : Leg) → IsNetwork net → IsFlat net → IsIntent net intent →
+        IsAddressOf net next address →
+        (leg_of net intent position via next ≡ Some leg)
+        ↔ IsLeg net intent address position via next leg }
 {}
 
 /// The finish by look-ups alone is there exactly where for all choices a packet to the last SID is
-/// taken to that SID along exactly the steps that are left, and the packet inside exposed there.
+/// taken to that SID along exactly the steps that are left, and the packet inside exposed there: a
+/// packet to the first address of its prefix, and in a flat network one to any address of the
+/// prefix that is multicast exactly where the first one is and has no further SID behind it.
 pub fn a_finish_is_for_all_choices()
-    ensures { (net : Network) (intent : Intent) (position : ℕ) (via : Option ℕ) (next : ℕ) →
+    ensures first { (net : Network) (intent : Intent) (position : ℕ) (via : Option ℕ) (next : ℕ) →
         (lowered : ℕ) → Keeps net → IsIntent net intent →
         (finish_of net intent position via next ≡ Some lowered)
-        ↔ IsFinish net intent position via next lowered }
+        ↔ IsFinish net intent (sid_address net next) position via next lowered }
+    ensures each { (net : Network) (intent : Intent) (position : ℕ) (via : Option ℕ) (next : ℕ) →
+        (address lowered : ℕ) → IsNetwork net → IsFlat net → IsIntent net intent →
+        IsLastAddressOf net next address →
+        (finish_of net intent position via next ≡ Some lowered)
+        ↔ IsFinish net intent address position via next lowered }
 {}
 
 /// The SIDs of a position stand in order, each once: those at the node where the walk stands there
@@ -64,27 +81,45 @@ pub fn sids_of_a_position_are_in_order()
         AreSidsAt net intent position (sids_of net intent position) }
 {}
 
-/// In a network all of whose SIDs lists take, a path of legs and a finish through SIDs, whose first
-/// addresses are the segments of a list, realizes the intent in both forms of the header, and the
-/// sum of its lowerings is the need: above that outer hop limit, for all inner packets and all
-/// choices, the packet crosses exactly the steps and the inner packet is handed over with its hop
-/// limit lowered by one; above no lower one is it so.
+/// In a flat network a path of legs and a finish through the SIDs of a legal list realizes the
+/// intent in both forms of the header, and the sum of its lowerings is the need: above that outer
+/// hop limit, for all inner packets of the intent's family and all choices, the packet crosses
+/// exactly the steps and the inner packet is handed over lowered by one; above no lower one is it
+/// so. Wherever it is handed over, all SIDs of the list were executed. (RFC 8986 sections 4 and 5,
+/// RFC 9800 section 4)
 pub fn a_path_realizes_the_intent()
-    ensures { (net : Network) (intent : Intent) (sids : List ℕ) (need : ℕ) →
-        IsNetwork net → IsFlat net → AllListed net → IsIntent net intent →
+    ensures realizes { (net : Network) (intent : Intent) (list : List Container) (sids : List ℕ)
+        (need : ℕ) → IsNetwork net → IsFlat net → IsIntent net intent → IsLegalList net list →
+        map (prefix_at net) sids ≡ prefixes_in list →
         path_need net intent 0 None sids ≡ Some need →
-        Realizes net intent (map (sid_address net) sids) need }
+        Realizes net intent (list_values net list) need }
+    ensures executes { (net : Network) (intent : Intent) (list : List Container) (sids : List ℕ)
+        (need : ℕ) → IsNetwork net → IsFlat net → IsIntent net intent → IsLegalList net list →
+        map (prefix_at net) sids ≡ prefixes_in list →
+        path_need net intent 0 None sids ≡ Some need →
+        Executes net intent (list_values net list) (length (prefixes_in list)) }
 {}
 
-/// In a network all of whose SIDs lists take, segments that are first addresses of SIDs, and by
-/// which an inner packet is handed over along exactly the steps for all choices at one outer hop
-/// limit, are a path of legs and a finish, whose need is below that hop limit.
+/// In a flat network a legal list by which an inner packet is handed over along exactly the steps
+/// for all choices at one outer hop limit has a path of legs and a finish along it, whose need is
+/// below that hop limit; for each choice the path's SIDs are those that are executed.
 pub fn a_list_that_always_hands_over_is_a_path()
-    ensures { (net : Network) (intent : Intent) (segments : List ℕ) (inner : Packet) (hop : ℕ) →
-        IsNetwork net → IsFlat net → AllListed net → IsIntent net intent →
-        AreSidAddresses net segments → 0 < length segments → 0 < hop →
-        AlwaysHandsOver net intent segments inner hop →
-        (sids : List ℕ) × (need : ℕ) × IsPathOf net intent segments sids need × (need < hop) }
+    ensures { (net : Network) (intent : Intent) (list : List Container) (inner : Content)
+        (hop : ℕ) → IsNetwork net → IsFlat net → IsIntent net intent → IsLegalList net list →
+        0 < hop → (always : AlwaysHandsOver net intent (list_values net list) inner hop) →
+        (sids : List ℕ) × (need : ℕ) × IsPathAlong net intent list sids need × (need < hop)
+        × ((choices : List ℕ) (some : 0 < length choices) →
+        (always choices some).handed.sids ≡ sids) }
+{}
+
+/// In a flat network, where a legal list hands over even one inner packet along exactly the steps
+/// for all choices at one outer hop limit, there is a legal list that realizes the intent.
+pub fn a_list_that_hands_over_has_one_that_realizes()
+    ensures { (net : Network) (intent : Intent) (list : List Container) (inner : Content)
+        (hop : ℕ) → IsNetwork net → IsFlat net → IsIntent net intent → IsLegalList net list →
+        0 < hop → AlwaysHandsOver net intent (list_values net list) inner hop →
+        (other : List Container) × (need : ℕ) × IsLegalList net other
+        × ListRealizes net intent other need }
 {}
 
 /// The trace that comes with what stages hand over is that of the stages up to and with the first

@@ -8,18 +8,21 @@ ghost use Rattle.leg_table.specs.Course.{finish_from_behind, way_behind};
 ghost use Rattle.leg_table.specs.Reach.{IsReach, IsStart, AreLater, way_at};
 ghost use Rattle.leg_table.specs.Leg as legs;
 ghost use Rattle.leg_table.specs.Sids as sids;
+ghost use Rattle.leg_table.specs.Table.{block_at};
+ghost use Rattle.net_model.specs.Flat.{IsFlat};
 
 use crate::reach::{Reach, reaches_of, way_at, way_from};
 use crate::ride::Behind;
 use crate::rows::{Row, rows_of};
 use base::NoMemory;
 use intent_reader::{Intent, Step};
-use list_pack::{Leg, Legs, Shape};
+use list_pack::{Leg, Legs, ListLegs, Shape};
 use net_model::Net;
-use srv6_rules::numbers::IPV6_INSIDE;
-use srv6_rules::{Csid, Family, SidEntry};
+use srv6_rules::numbers::{IPV4_INSIDE, IPV6_INSIDE};
+use srv6_rules::{Family, SidEntry};
 use std::alloc::Global;
 use std::marker::Model;
+use v6_addr::Prefix;
 use walk_rules::{How, Place, onward_from};
 
 /// The legs of an intent in a network, with the SIDs of each position and the ways from its node to
@@ -44,15 +47,14 @@ impl<'a> Model for StrictLegs<'a> {
 }
 
 impl<'a> StrictLegs<'a> {
-    /// The legs of an intent that keeps the rules in a network, all of whose SIDs lists take (own
-    /// rule, until lists take the others).
+    /// The legs of an intent that keeps the rules in a flat network.
     pub fn build(
         alloc: Global,
         net: &'a Net,
         intent: &'a Intent,
     ) -> Result<StrictLegs<'a>, NoMemory>
         requires intent { IsIntent net.now intent.now }
-        requires listed { sids.AllListed net.now }
+        requires flat { IsFlat net.now }
         ensures { IfOk result (λ t. t ≡ record { net = net.now; intent = intent.now }) }
     {
         net.keeps_rules();
@@ -66,12 +68,12 @@ impl<'a> StrictLegs<'a> {
         })
     }
 
-    /// That the network and the intent keep their rules, and that lists take the network's SIDs: a
-    /// call for the callers' proofs alone.
+    /// That the network and the intent keep their rules, and that the network is flat: a call for
+    /// the callers' proofs alone.
     pub fn keeps_rules(&self)
         ensures network { IsNetwork self.now.net }
         ensures facts { Keeps self.now.net }
-        ensures listed { sids.AllListed self.now.net }
+        ensures flat { IsFlat self.now.net }
         ensures intent { IsIntent self.now.net self.now.intent }
     {
         self.net.keeps_rules();
@@ -217,9 +219,9 @@ impl<'a> Legs for StrictLegs<'a> {
         let sid = self.net.sid(sid);
         Shape {
             prefix: sid.prefix,
-            block: None,
-            lbl: 0,
-            csid: Csid::Plain,
+            block: block_at(self.net, &sid.prefix),
+            lbl: sid.block_len,
+            csid: sid.csid,
             middle: takes_step(sid),
         }
     }
@@ -238,13 +240,27 @@ impl<'a> Legs for StrictLegs<'a> {
     }
 
     fn finish(&self, position: u32, via: Option<u32>, next: u32) -> Option<u32> {
-        if !is_last(self.net, next) {
+        if !is_last(self.net, self.intent.inner, next) {
             return None;
         }
         match self.way_behind(position, via, next) {
             Some(behind) => lowered_at_the_end(&behind),
             None => None,
         }
+    }
+}
+
+impl<'a> ListLegs for StrictLegs<'a> {
+    ghost use Rattle.leg_table.specs.Realizes.{ListRealizes, ListExecutes};
+
+    ghost network = { λ t. t.net };
+
+    ghost realizes = { λ t. ListRealizes t.net t.intent };
+
+    ghost executes = { λ t. ListExecutes t.net t.intent };
+
+    fn keeps_meaning(&self) {
+        self.keeps_rules();
     }
 }
 
@@ -259,18 +275,34 @@ fn lowered_at_the_end(behind: &Behind) -> Option<u32>
     }
 }
 
-// lists take the SID, and the packet goes on from it to a next segment
+// the number of the block that a prefix lies strictly inside
+#[tactic(auto, using(crate::proofs::Searches::searching))]
+fn block_at(net: &Net, prefix: &Prefix) -> Option<u32>
+    ensures { result ≡ block_at net.now.blocks prefix.now }
+{
+    for n in 0..net.blocks() {
+        if prefix.inside(&net.block(n).prefix) {
+            return Some(n);
+        }
+    }
+    None
+}
+
+// the packet goes on from the SID to a next segment, behind no further header
 fn takes_step(sid: &SidEntry) -> bool
     ensures { result ≡ sids.takes_step sid.now }
 {
-    sid.is_listed() && sid.goes_on()
+    sid.goes_on() && sid.behaviour.policy().is_none()
 }
 
-// lists take the SID, and it exposes an IPv6 packet inside
-fn hands_over(sid: &SidEntry) -> bool
-    ensures { result ≡ sids.hands_over sid.now }
+// the SID exposes a packet of a family inside
+fn hands_over(sid: &SidEntry, family: Family) -> bool
+    ensures { result ≡ sids.hands_over family sid.now }
 {
-    sid.is_listed() && sid.exposes(IPV6_INSIDE)
+    sid.exposes(match family {
+        Family::V6 => IPV6_INSIDE,
+        Family::V4 => IPV4_INSIDE,
+    })
 }
 
 // from a SID the packet goes on to a next segment
@@ -280,11 +312,11 @@ fn is_middle(net: &Net, n: u32) -> bool
     n < net.sids() && takes_step(net.sid(n))
 }
 
-// a SID exposes an IPv6 packet inside
-fn is_last(net: &Net, n: u32) -> bool
-    ensures { result ≡ sids.is_last net.now n }
+// a SID exposes a packet of a family inside
+fn is_last(net: &Net, family: Family, n: u32) -> bool
+    ensures { result ≡ sids.is_last net.now family n }
 {
-    n < net.sids() && hands_over(net.sid(n))
+    n < net.sids() && hands_over(net.sid(n), family)
 }
 
 // where the packet stands behind the execution of a middle SID

@@ -1,0 +1,92 @@
+-- Walks that hand over under every row of choices, without a SID that binds a policy, and the path that is to be shown of them.
+use Rattle.std.proofs.Common.{◌≡◌, ℕ, ◌+◌, ◌-◌, ◌<◌, ◌≤◌, ◌⊎◌, inl, inr, true, false, List, [], ◌∷◌, length, take, map, Option, Some, refl, sym, ◌∙◌, ap, subst, arith}
+use Rattle.std.specs.List.{All}
+use Rattle.std.proofs.lemmas.Bool.{false≢true, and_parts}
+use Rattle.v6_addr.specs.Address.{PrefixValue}
+use Rattle.srv6_rules.specs.declared.sid.Csid.{Csid}
+use Rattle.srv6_rules.specs.declared.sid.Csid.TheVariants as csids
+use Rattle.srv6_rules.specs.declared.sid.SidEntry.{SidEntry}
+use Rattle.srv6_rules.specs.Behaviours.{goes_on}
+use Rattle.srv6_rules.specs.CompressedSteps.{is_next}
+use Rattle.srv6_rules.specs.Packet.{Packet, Content, V6}
+use Rattle.srv6_rules.specs.Endpoint.{shifts_at}
+use Rattle.net_model.specs.Network.{Network}
+use Rattle.walk_rules.specs.declared.place.Place.{Place}
+use Rattle.walk_rules.specs.Treatment.{goes}
+use Rattle.intent_reader.specs.declared.intent.Step.{Step}
+use Rattle.intent_reader.specs.declared.intent.Intent.{Intent}
+use Rattle.list_places.specs.Places as lists
+use Rattle.list_places.specs.Places.{Tunnel, active, behind_of, sids_from, next_of, StandsOn, Along}
+use Rattle.leg_table.specs.Trace.{Handed, handed_over}
+use Rattle.leg_table.specs.Tasks.{matches}
+use Rattle.leg_table.specs.Ride.{Ride, with_hop_limit}
+use Rattle.leg_table.specs.Sids.{is_binding, prefix_at}
+use Rattle.leg_table.specs.Realizes.{path_need}
+use Rattle.leg_table.proofs.AllWays as ways
+use Rattle.leg_table.proofs.AllWays.{yes, hands-every}
+use Rattle.leg_table.proofs.ListPlaces.{before_from}
+use Rattle.leg_table.proofs.Handing.{walk-same, RideWalk}
+use Rattle.leg_table.proofs.Single.{Hands-over, ride-over}
+
+module _ (net : Network) where
+  -- no SID of these binds a policy
+  abbrev pub Unbound : List ℕ → Type 0
+  Unbound ns = All (λ n. is_binding net n ≡ false) ns
+
+  -- under every row of choices a walk hands over, its trace meets the steps, and no SID that binds a policy is executed
+  abbrev pub Hands : Place → Content → List Step → Type 0
+  Hands place content ts =
+      (pick : ℕ → ℕ) → (h : Handed) × Hands-over net place content pick 0 h × (matches ts h.trace ≡ true) × Unbound h.sids
+
+  pub hands-ways : (ts : List Step) (place : Place) (content : Content) → Hands place content ts → ways.Hands net place content ts
+  hands-ways ts place content hands = λ pick. let got = hands pick in (got.1.0, got.0, got.1.1, got.2)
+
+  -- and goes on so where a ride ends
+  pub hands-along : (ts : List Step) (place : Place) (p : Packet) (r : Ride) → RideWalk net ts place p r → Hands place (V6 p) ts
+      → Hands r.place (V6 (with_hop_limit (p.hop_limit - r.lowered) p)) r.left
+  hands-along ts place p r w hands =
+      λ pick.
+      let back : ℕ → ℕ = λ d. pick (d - w.count) in
+      let got = hands back in
+      let q = with_hop_limit (p.hop_limit - r.lowered) p in
+      let over = ride-over net ts place p r back 0 got.0 w got.1 in (
+        over.0,
+        (
+          over.1.0,
+          ap (handed_over net) (sym (walk-same net over.1.0 (Some r.place) (V6 q) back pick (0 + w.count) 0 (λ d. shift pick w.count d)))
+              ∙ over.1.1,
+        ),
+        sym (w.meets_them back 0 over.0.trace) ∙ ap (λ (h : Handed). matches ts h.trace) over.2 ∙ got.2,
+        subst Unbound (sym (ap (λ (h : Handed). h.sids) over.2)) got.3,
+      )
+    where
+      shift : (pick : ℕ → ℕ) (c d : ℕ) → pick (0 + c + d - c) ≡ pick (0 + d)
+      shift pick c d = ap pick (omega arith)
+
+-- SIDs in a row, those of the first prefixes of a place's list, up to one in the last container, with what the path through them needs
+pub record PathFrom (net : Network) (intent : Intent) (position : ℕ) (via : Option ℕ) (place : Place) (x : lists.Place)
+    (ps : List PrefixValue) (hop : ℕ) (p : Packet) : Type 0 where
+  pub first : ℕ
+  pub more : List ℕ
+  pub need : ℕ
+  pub names : map (prefix_at net) (first ∷ more) ≡ take (length (first ∷ more)) ps
+  pub few : length (first ∷ more) ≤ length ps
+  pub last : before_from x < length (first ∷ more)
+  pub is_path : path_need net intent position via (first ∷ more) ≡ Some need
+  pub below : need < hop
+  pub executes : (pick : ℕ → ℕ) (taken : ℕ) (h : Handed) → Hands-over net place (V6 p) pick taken h → h.sids ≡ first ∷ more
+
+-- a SID of NEXT-CSID goes on
+pub moved-goes : (s : SidEntry) (t : lists.Place) → StandsOn s (active t) → (p : Packet)
+    → (goes_on s ≡ true) ⊎ (shifts_at s p ≡ true) → goes_on s ≡ true
+moved-goes s t on p (inl goes) = goes
+moved-goes s t on p (inr shifts) = on.next (next-is s.csid (and_parts (is_next s.csid) _ shifts).0)
+  where
+    next-is : (k : Csid) → is_next k ≡ true → k ≡ csids.Next
+    next-is csids.Plain e = absurd (false≢true e)
+    next-is csids.Next e = refl
+    next-is csids.Replace e = absurd (false≢true e)
+
+pub no-steps : (us : List Step) → matches us [] ≡ true → length us ≡ 0
+no-steps [] h = refl
+no-steps (u ∷ us) h = absurd (false≢true h)

@@ -1,0 +1,32 @@
+-- What a flat network gives to legs and lists.
+use Rattle.std.proofs.Common.{◌≡◌, ℕ, ◌+◌, ◌*◌, ◌≤◌, slice_get, Some}
+use Rattle.v6_addr.specs.Address.{Holds}
+use Rattle.srv6_rules.specs.declared.sid.Family.TheVariants as families
+use Rattle.srv6_rules.specs.declared.sid.SidEntry.{SidEntry}
+use Rattle.net_model.specs.Network.{Network}
+use Rattle.net_model.specs.Best.{lookup_of}
+use Rattle.net_model.specs.Rules.{IsNetwork, block_of}
+use Rattle.net_model.specs.Flat.{IsFlat}
+use Rattle.net_model.proofs.PublicLaws.{lookups_alike, sid-units}
+use Rattle.net_model.specs.declared.parts.Block.{Block}
+use Rattle.list_pack.specs.SidLists.{AreListSids}
+use Rattle.list_pack.proofs.PublicLaws.{flat-lists}
+
+-- addresses of one SID's prefix are looked up alike, each SID suits its prefix as lists know it, and a SID in a block is longer than the
+-- block by whole units of 16 bits
+pub record FlatFacts (net : Network) : Type 0 where
+  pub alike : (n node table a b : ℕ) (s : SidEntry) → slice_get net.sids n ≡ Some s → Holds s.prefix a → Holds s.prefix b
+      → lookup_of net node table families.V6 a ≡ lookup_of net node table families.V6 b
+  pub suits : AreListSids net
+  pub units : (n : ℕ) (s : SidEntry) (b : Block) → slice_get net.sids n ≡ Some s → block_of net.blocks s.prefix ≡ Some b
+      → (k : ℕ) × (1 ≤ k) × (s.prefix.len ≡ b.prefix.len + 16 * k)
+
+pub flat-facts : (net : Network) → IsNetwork net → IsFlat net → FlatFacts net
+flat-facts net network flat =
+    record {
+      alike = λ n node table a b s there held also. lookups_alike net n s node table a b flat there held also;
+      suits = flat-lists net network flat;
+      units = λ n s b there is.
+          let of = sid-units net n s b network flat there is in
+          (of.units, of.some, of.len);
+    }

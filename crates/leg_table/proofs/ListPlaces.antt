@@ -1,0 +1,241 @@
+-- Places in lists of a network's SIDs: what is active there, what follows, and the destination there.
+use Rattle.std.proofs.Common.{◌≡◌, ◌⊎◌, inl, inr, ℕ, suc, ◌+◌, ◌-◌, ◌≤◌, ◌==◌, List, [], ◌∷◌, ◌++◌, length, map, Option, Some, None, slice_get, Contains, refl, sym, ◌∙◌, ap, subst, arith}
+use Rattle.std.specs.List.{All}
+use Rattle.std.specs.Option.{option_map}
+use Rattle.std.proofs.lemmas.Option.{slice_get_read}
+use Rattle.std.proofs.lemmas.List.Elements.{All-nil, All-cons, All-head, All-tail}
+use Rattle.v6_addr.specs.Address.{PrefixValue, Holds}
+use Rattle.v6_addr.specs.Kinds.{is_multicast}
+use Rattle.v6_addr.proofs.PublicLaws.{same_above}
+use Rattle.srv6_rules.specs.declared.sid.Csid.TheVariants as csids
+use Rattle.srv6_rules.specs.declared.sid.SidEntry.{SidEntry}
+use Rattle.srv6_rules.specs.Packet.{Packet}
+use Rattle.srv6_rules.proofs.PublicLaws.{container-one}
+use Rattle.net_model.specs.declared.parts.Block.{Block}
+use Rattle.net_model.specs.Network.{Network}
+use Rattle.net_model.specs.Rules.{block_of}
+use Rattle.net_model.specs.Keeps.{Keeps, IsBlockOf}
+use Rattle.net_model.proofs.PublicLaws.{block_of-is}
+use Rattle.list_places.specs.Lists as lists
+use Rattle.list_places.specs.Lists.{ListSid, SidBlock, IsFlatSid, SuitsBlock, IsFlatList, IsFlatContainer, block_len, sids_in}
+use Rattle.list_places.specs.Places.{Place, InFull, InPacked, Tunnel, active, behind_of, destination_of, sids_from, entered, next_of, first_of, IsPlace, Along}
+use Rattle.list_places.proofs.PublicLaws.{along-holds, destination-holds, sids-next, sids-last}
+use Rattle.list_pack.specs.declared.types.Container.{Container}
+use Rattle.list_pack.specs.declared.types.Container.TheVariants as containers
+use Rattle.list_pack.specs.SidLists.{sid_block, list_sid, container_in, list_in, prefixes_of, prefixes_in, IsSidPrefix}
+use Rattle.leg_table.proofs.FlatNets.{FlatFacts}
+use Rattle.list_pack.specs.PathLists.{before_last}
+use Rattle.leg_table.proofs.Options.{some-same}
+use Rattle.leg_table.specs.Leg.{IsAddressOf}
+use Rattle.leg_table.specs.Sids.{prefix_by, first_address}
+
+heads : {X : Type 0} (a b : X) (xs ys : List X) → Path (List X) (a ∷ xs) (b ∷ ys) → (a ≡ b) × (xs ≡ ys)
+heads a b xs ys e = (cc, cc)
+
+-- ---- what is active, and what follows
+
+pub active-first : (x : Place) → (ss : List ListSid) × (sids_from x ≡ active x ∷ ss)
+active-first (InFull s ss cs) = (ss ++ sids_in cs, refl)
+active-first (InPacked bs s ss cs) = (ss ++ sids_in cs, refl)
+
+pub active-is : (x : Place) (s : ListSid) (ss : List ListSid) → sids_from x ≡ s ∷ ss → active x ≡ s
+active-is x s ss e = let first = active-first x in (heads (active x) s first.0 ss (sym first.1 ∙ e)).0
+
+pub next-none : (x : Place) (s : ListSid) → sids_from x ≡ s ∷ [] → next_of x ≡ None
+next-none x s e = by_next (next_of x) refl
+  where
+    by_next : (o : Option Place) → next_of x ≡ o → next_of x ≡ None
+    by_next None f = f
+    by_next (Some y) f =
+        let first = active-first y in
+        let rest = (heads (active x) s (sids_from y) [] (sym (sids-next x y f) ∙ e)).1 in
+        absurd (cc (first.1, rest))
+
+pub next-some : (x : Place) (s t : ListSid) (ts : List ListSid) → sids_from x ≡ s ∷ t ∷ ts
+    → (y : Place) × (next_of x ≡ Some y) × (sids_from y ≡ t ∷ ts)
+next-some x s t ts e = by_next (next_of x) refl
+  where
+    by_next : (o : Option Place) → next_of x ≡ o → (y : Place) × (next_of x ≡ Some y) × (sids_from y ≡ t ∷ ts)
+    by_next None f = let rest = (heads (active x) s [] (t ∷ ts) (sym (sids-last x f) ∙ e)).1 in absurd (cc)
+    by_next (Some y) f = (y, f, (heads (active x) s (sids_from y) (t ∷ ts) (sym (sids-next x y f) ∙ e)).1)
+
+-- ---- how many SIDs stand before the last container
+
+to-place : (P : Place → Type 0) (x y : Place) → Some x ≡ Some y → P x → P y
+to-place P x y e h = subst P (some-same x y e) h
+
+abbrev pub before_in : List lists.Container → ℕ
+before_in [] = 0
+before_in (c ∷ []) = 0
+before_in (c ∷ d ∷ more) = length (lists.sids_of c) + before_in (d ∷ more)
+
+abbrev pub before_by : ℕ → List lists.Container → ℕ
+before_by n [] = 0
+before_by n (c ∷ cs) = n + before_in (c ∷ cs)
+
+abbrev pub before_from : Place → ℕ
+before_from (InFull s ss cs) = before_by (length (s ∷ ss)) cs
+before_from (InPacked bs s ss cs) = before_by (length (s ∷ ss)) cs
+
+pub before-last : (x : Place) → behind_of x ≡ [] → before_from x ≡ 0
+before-last (InFull s ss []) e = refl
+before-last (InFull s ss (c ∷ cs)) e = absurd (cc)
+before-last (InPacked bs s ss []) e = refl
+before-last (InPacked bs s ss (c ∷ cs)) e = absurd (cc)
+
+before-entered : (c : lists.Container) (cs : List lists.Container) → before_from (entered c cs) ≡ before_in (c ∷ cs)
+before-entered (lists.Full s ss) [] = refl
+before-entered (lists.Full s ss) (d ∷ cs) = refl
+before-entered (lists.Packed s ss) [] = refl
+before-entered (lists.Packed s ss) (d ∷ cs) = refl
+
+step-less : (n : ℕ) (cs : List lists.Container) → before_by (suc (suc n)) cs ≤ suc (before_by (suc n) cs)
+step-less n [] = omega arith
+step-less n (c ∷ cs) = omega arith
+
+-- a step lowers it by at most one
+pub before-next : (x y : Place) → next_of x ≡ Some y → before_from x ≤ suc (before_from y)
+before-next (InFull s [] []) y e = absurd (cc)
+before-next (InFull s [] (c ∷ cs)) y e =
+    to-place (λ z. before_by 1 (c ∷ cs) ≤ suc (before_from z)) (entered c cs) y e (let f = before-entered c cs in omega arith)
+before-next (InFull s (t ∷ ts) cs) y e =
+    to-place (λ z. before_by (suc (suc (length ts))) cs ≤ suc (before_from z)) (InFull t ts cs) y e (step-less (length ts) cs)
+before-next (InPacked bs s [] []) y e = absurd (cc)
+before-next (InPacked bs s [] (c ∷ cs)) y e =
+    to-place (λ z. before_by 1 (c ∷ cs) ≤ suc (before_from z)) (entered c cs) y e (let f = before-entered c cs in omega arith)
+before-next (InPacked bs s (t ∷ ts) cs) y e =
+    to-place (λ z. before_by (suc (suc (length ts))) cs ≤ suc (before_from z)) (InPacked (bs ++ s ∷ []) t ts cs) y e
+    (step-less (length ts) cs)
+
+-- ---- the destination
+
+-- an address of a prefix of at least 8 bits is multicast exactly where the prefix's first one is
+multicast-same : (q : PrefixValue) (a : ℕ) → 8 ≤ q.len → Holds q a → is_multicast a ≡ is_multicast q.value
+unfolding is_multicast Holds
+multicast-same q a long held = ap (λ (n : ℕ). n == 255) (same_above a q.value (128 - q.len) 120 (omega arith) held)
+
+block-long : (net : Network) → Keeps net → (b : Block) → Contains net.blocks b → 16 ≤ b.prefix.len
+block-long net keeps b there = (keeps.block there.0 b (slice_get_read net.blocks (length net.blocks) there.0 b refl there.1
+    (sym there.2))).at_least
+
+map-none : (o : Option Block) → option_map sid_block o ≡ None → o ≡ None
+map-none None e = refl
+map-none (Some b) e = absurd (cc)
+
+-- a compressed SID of a list is longer than a block of the network, which has at least 16 bits
+compressed-long : (net : Network) → Keeps net → (p : PrefixValue) → IsFlatSid (list_sid net p) → (list_sid net p).csid ≡ csids.Next
+    → 16 ≤ p.len
+compressed-long net keeps p flat next = by_block (block_of net.blocks p) (block_of-is net.blocks p) flat.block
+  where
+    by_block : (o : Option Block) → IsBlockOf net.blocks p o → SuitsBlock (option_map sid_block o) (list_sid net p) → 16 ≤ p.len
+    by_block None none plain = let plain_csid : (list_sid net p).csid ≡ csids.Plain = plain in absurd (cc (plain_csid, next))
+    by_block (Some b) is suits =
+        let long = block-long net keeps b is.0 in
+        let inside = is.1.0 in
+        omega (arith, long, inside)
+
+packed-long : (s : ListSid) (b : SidBlock) → IsFlatSid s → s.block ≡ Some b → b.kind ≡ csids.Replace → 16 ≤ s.prefix.len
+packed-long s b flat own kind =
+    let suits : SuitsBlock (Some b) s = subst (λ (o : Option SidBlock). SuitsBlock o s) own flat.block in
+    let packed = suits.packed kind in
+    by packed.len packed.csid
+  where
+    by : s.prefix.len ≡ b.prefix.len + b.csid_len → (b.csid_len ≡ 16) ⊎ (b.csid_len ≡ 32) → 16 ≤ s.prefix.len
+    by len (inl short) = omega (arith, len, short)
+    by len (inr long) = omega (arith, len, long)
+
+kind-at : (net : Network) → Keeps net → (x : Place) (p : PrefixValue) → IsPlace x → active x ≡ list_sid net p → IsFlatSid (list_sid net p)
+    → is_multicast (destination_of x) ≡ is_multicast p.value
+kind-at net keeps (InFull s [] cs) p is same flat =
+    ap is_multicast (container-one (block_len s.block) s.prefix ∙ ap (λ (t : ListSid). t.prefix.value) same)
+kind-at net keeps (InFull s (t ∷ ts) cs) p is same flat =
+    let next = sym (ap (λ (t : ListSid). t.csid) same) ∙ is.container.next.0 in
+    let long = compressed-long net keeps p flat next in
+    let held = subst (λ (q : PrefixValue). Holds q (destination_of (InFull s (t ∷ ts) cs))) (ap (λ (t : ListSid). t.prefix) same)
+    (destination-holds (InFull s (t ∷ ts) cs) is) in
+    multicast-same p (destination_of (InFull s (t ∷ ts) cs)) (omega (arith, long)) held
+kind-at net keeps (InPacked bs s ss cs) p is same flat =
+    let long = packed-long (list_sid net p) is.block flat (sym (ap (λ (t : ListSid). t.block) same) ∙ is.own_block) is.kind in
+    let held = subst (λ (q : PrefixValue). Holds q (destination_of (InPacked bs s ss cs))) (ap (λ (t : ListSid). t.prefix) same)
+    (destination-holds (InPacked bs s ss cs) is) in
+    multicast-same p (destination_of (InPacked bs s ss cs)) (omega (arith, long)) held
+
+-- a packet at a place of a SID's prefix has an address of the SID as its destination
+pub address-at : (net : Network) → Keeps net → FlatFacts net → (t : Tunnel) (x : Place) (hop : ℕ) (q : Packet) (n : ℕ) (s : SidEntry)
+    → Along t x hop q → slice_get net.sids n ≡ Some s → active x ≡ list_sid net s.prefix → IsAddressOf net n q.destination
+address-at net keeps facts t x hop q n s along there same =
+    let to = ap (λ (r : Packet). r.destination) along.packet in
+    let kind = kind-at net keeps x s.prefix along.place same (facts.suits.flat n s there) in
+    record {
+      held =
+          subst (λ (p : PrefixValue). Holds p q.destination) (ap (λ (t : ListSid). t.prefix) same ∙ ap prefix_by (sym there))
+          (along-holds t x hop q along);
+      kind = ap is_multicast to ∙ kind ∙ ap is_multicast (ap first_address (sym there));
+    }
+
+-- ---- lists
+
+map-both : {X Y : Type 0} (f : X → Y) (xs ys : List X) → map f (xs ++ ys) ≡ map f xs ++ map f ys
+map-both f [] ys = refl
+map-both f (x ∷ xs) ys = ap (λ zs. f x ∷ zs) (map-both f xs ys)
+
+-- the SIDs of a list are its prefixes as lists know them
+pub sids-list : (net : Network) (list : List Container) → sids_in (list_in net list) ≡ map (list_sid net) (prefixes_in list)
+sids-list net [] = refl
+sids-list net (containers.Full first more ∷ list) =
+    ap (λ xs. list_sid net first ∷ map (list_sid net) more ++ xs) (sids-list net list)
+    ∙ sym (map-both (list_sid net) (first ∷ more) (prefixes_in list))
+sids-list net (containers.Packed first more ∷ list) =
+    ap (λ xs. list_sid net first ∷ map (list_sid net) more ++ xs) (sids-list net list)
+    ∙ sym (map-both (list_sid net) (first ∷ more) (prefixes_in list))
+
+map-length : {X Y : Type 0} (f : X → Y) (xs : List X) → length (map f xs) ≡ length xs
+map-length f [] = refl
+map-length f (x ∷ xs) = ap suc (map-length f xs)
+
+container-length : (net : Network) (c : Container) → length (lists.sids_of (container_in net c)) ≡ length (prefixes_of c)
+container-length net (containers.Full first more) = ap suc (map-length (list_sid net) more)
+container-length net (containers.Packed first more) = ap suc (map-length (list_sid net) more)
+
+list-before : (net : Network) (list : List Container) → before_in (list_in net list) ≡ before_last list
+list-before net [] = refl
+list-before net (c ∷ []) = refl
+list-before net (c ∷ d ∷ more) =
+    let a = container-length net c in
+    let b = list-before net (d ∷ more) in
+    omega arith
+
+-- as many stand before a list's last container at its first place
+pub before-first : (net : Network) (list : List Container) (x : Place) → first_of (list_in net list) ≡ Some x
+    → before_from x ≡ before_last list
+before-first net [] x e = absurd (cc)
+before-first net (c ∷ list) x e =
+    to-place (λ z. before_from z ≡ before_last (c ∷ list)) (entered (container_in net c) (list_in net list)) x e
+    (before-entered (container_in net c) (list_in net list) ∙ list-before net (c ∷ list))
+
+module _ (net : Network) (facts : FlatFacts net) where
+  -- SIDs of the network are as a flat network has them
+  flat-sids : (ps : List PrefixValue) → All (IsSidPrefix net) ps → All IsFlatSid (map (list_sid net) ps)
+  flat-sids [] all = All-nil IsFlatSid
+  flat-sids (p ∷ ps) all =
+      let head = All-head (IsSidPrefix net) p ps all in
+      All-cons IsFlatSid (list_sid net p) (map (list_sid net) ps)
+      (subst (λ (q : PrefixValue). IsFlatSid (list_sid net q)) head.3 (facts.suits.flat head.0 head.1 head.2))
+      (flat-sids ps (All-tail (IsSidPrefix net) p ps all))
+
+  flat-front : (ps qs : List PrefixValue) → All (IsSidPrefix net) (ps ++ qs) → All (IsSidPrefix net) ps × All (IsSidPrefix net) qs
+  flat-front [] qs all = (All-nil (IsSidPrefix net), all)
+  flat-front (p ∷ ps) qs all =
+      let rest = flat-front ps qs (All-tail (IsSidPrefix net) p (ps ++ qs) all) in
+      (All-cons (IsSidPrefix net) p ps (All-head (IsSidPrefix net) p (ps ++ qs) all) rest.0, rest.1)
+
+  flat-container : (c : Container) → All (IsSidPrefix net) (prefixes_of c) → IsFlatContainer (container_in net c)
+  flat-container (containers.Full first more) all = flat-sids (first ∷ more) all
+  flat-container (containers.Packed first more) all = flat-sids (first ∷ more) all
+
+  -- and so is a list of them
+  pub flat-list : (list : List Container) → All (IsSidPrefix net) (prefixes_in list) → IsFlatList (list_in net list)
+  flat-list [] all = All-nil IsFlatContainer
+  flat-list (c ∷ list) all =
+      let parts = flat-front (prefixes_of c) (prefixes_in list) all in
+      All-cons IsFlatContainer (container_in net c) (list_in net list) (flat-container c parts.0) (flat-list list parts.1)

@@ -1,0 +1,188 @@
+-- The shapes of SIDs keep the laws of legs: their blocks by number are the blocks that they lie in.
+use Rattle.std.proofs.Common.{◌≡◌, ◌⊎◌, inl, inr, ℕ, ◌+◌, ◌-◌, ◌/◌, ◌≤◌, true, length, Option, Some, None, slice_get, Contains, refl, sym, ◌∙◌, ap, subst, arith, eqb-true}
+use Rattle.std.specs.Prelude.{IsSome, is_some}
+use Rattle.std.proofs.lemmas.Bool.{false≢true}
+use Rattle.std.proofs.lemmas.Option.{slice_get_read, slice_get_within, get_or_from_slice_get}
+use Rattle.v6_addr.specs.Address.{PrefixValue, IsInside, is_inside}
+use Rattle.v6_addr.proofs.PublicLaws.{is_inside_is}
+use Rattle.srv6_rules.specs.declared.sid.Csid.{Csid}
+use Rattle.srv6_rules.specs.declared.sid.Csid.TheVariants as csids
+use Rattle.srv6_rules.specs.declared.sid.SidEntry.{SidEntry}
+use Rattle.net_model.specs.declared.parts.Block.{Block}
+use Rattle.net_model.specs.declared.parts.BlockKind.TheVariants as kinds
+use Rattle.net_model.specs.Network.{Network}
+use Rattle.net_model.specs.Rules.{block_of}
+use Rattle.net_model.specs.Keeps.{Keeps, IsBlockOf, SuitsBlock, block_len_of}
+use Rattle.net_model.proofs.PublicLaws.{block_of-is, position_item, position-None}
+use Rattle.list_pack.specs.declared.types.Shape.{Shape}
+use Rattle.list_pack.specs.Value.{is_compressed, same_block, IsInBlock, IsShape, ShareBlock}
+use Rattle.leg_table.proofs.FlatNets.{FlatFacts}
+use Rattle.leg_table.specs.Table.{block_at, shape_by, shape_of}
+use Rattle.leg_table.proofs.Options.{some-same}
+
+contains-get : (net : Network) (b : Block) → Contains net.blocks b → (i : ℕ) × (slice_get net.blocks i ≡ Some b)
+contains-get net b there = (there.0, slice_get_read net.blocks (length net.blocks) there.0 b refl there.1 (sym there.2))
+
+get-contains : (net : Network) (i : ℕ) (b : Block) → slice_get net.blocks i ≡ Some b → Contains net.blocks b
+get-contains net i b at = (i, slice_get_within net.blocks i b at, get_or_from_slice_get net.blocks i b b at)
+
+module _ (net : Network) (keeps : Keeps net) (p : PrefixValue) where
+  -- the number is that of the block
+  numbered : (i : ℕ) → block_at net.blocks p ≡ Some i → (b : Block) × (slice_get net.blocks i ≡ Some b) × (block_of net.blocks p ≡ Some b)
+  numbered i e =
+      let found = position_item (λ (b : Block). is_inside p b.prefix) net.blocks i e in
+      let inside = (is_inside_is p found.0.prefix).0 found.2 in
+      by_block found.0 found.1 inside (block_of net.blocks p) refl (block_of-is net.blocks p)
+    where
+      by_block : (b : Block) → slice_get net.blocks i ≡ Some b → IsInside p b.prefix → (o : Option Block) → block_of net.blocks p ≡ o
+          → IsBlockOf net.blocks p o → (b : Block) × (slice_get net.blocks i ≡ Some b) × (block_of net.blocks p ≡ Some b)
+      by_block b at inside None f none = absurd (none b (get-contains net i b at) inside)
+      by_block b at inside (Some c) f is =
+          let other = contains-get net c is.0 in
+          let same = keeps.apart i other.0 p.value b c at other.1 inside.1 is.1.1 in
+          let found : slice_get net.blocks i ≡ Some c = ap (slice_get net.blocks) same ∙ other.1 in
+          (b, at, f ∙ sym found ∙ at)
+
+  -- a block has a number
+  has-number : (b : Block) → block_of net.blocks p ≡ Some b → (i : ℕ) × (block_at net.blocks p ≡ Some i)
+  has-number b e =
+      let is = subst (IsBlockOf net.blocks p) e (block_of-is net.blocks p) in
+      let at = contains-get net b is.0 in
+      by_number at.0 at.1 ((is_inside_is p b.prefix).1 is.1) (block_at net.blocks p) refl
+    where
+      by_number : (k : ℕ) → slice_get net.blocks k ≡ Some b → is_inside p b.prefix ≡ true → (o : Option ℕ) → block_at net.blocks p ≡ o
+          → (i : ℕ) × (block_at net.blocks p ≡ Some i)
+      by_number k at inside (Some i) f = (i, f)
+      by_number k at inside None f =
+          absurd (false≢true (sym (position-None (λ (b : Block). is_inside p b.prefix) net.blocks f k b at) ∙ inside))
+
+some-is : (o : Option ℕ) → IsSome o → (i : ℕ) × (o ≡ Some i)
+some-is None h = absurd (false≢true h)
+some-is (Some i) h = (i, refl)
+
+is-some : (o : Option ℕ) (i : ℕ) → o ≡ Some i → IsSome o
+is-some o i e = ap (λ (o : Option ℕ). is_some o) e
+
+module _ (net : Network) (keeps : Keeps net) (facts : FlatFacts net) (n : ℕ) (s : SidEntry) (there : slice_get net.sids n ≡ Some s) where
+  lbl-is : (b : Block) → block_of net.blocks s.prefix ≡ Some b → s.block_len ≡ b.prefix.len
+  lbl-is b e = (keeps.sid n s there).block_len ∙ ap block_len_of e
+
+  abbrev shape : Shape
+  shape = shape_by net.blocks (Some s)
+
+  -- a compressed SID lies in a block of its kind, one of REPLACE-CSID with the length of the block's SIDs
+  in-kind : (k : Csid) → s.csid ≡ k → is_compressed k ≡ true → (b : Block) × (block_of net.blocks s.prefix ≡ Some b)
+  in-kind csids.Plain e h = absurd (false≢true h)
+  in-kind csids.Next e h =
+      let suits = subst (λ (k : Csid). SuitsBlock k s (block_of net.blocks s.prefix)) e (keeps.sid n s there).csid in
+      (suits.0, suits.1)
+  in-kind csids.Replace e h =
+      let suits = subst (λ (k : Csid). SuitsBlock k s (block_of net.blocks s.prefix)) e (keeps.sid n s there).csid in
+      (suits.0, suits.1)
+
+  in-block : (i : ℕ) → block_at net.blocks s.prefix ≡ Some i → IsInBlock shape
+  in-block i e =
+      let b = numbered net keeps s.prefix i e in
+      let lbl = lbl-is b.0 b.2 in
+      let units = facts.units n s b.0 there b.2 in
+      let count : (s.prefix.len - s.block_len) / 16 ≡ units.0 = omega (arith, lbl, units.2) in
+      record { length = omega (arith, lbl, units.2, count); longer = omega (arith, count, units.1) }
+
+  replace-few : s.csid ≡ csids.Replace → (s.prefix.len - s.block_len) / 16 ≤ 2
+  replace-few e =
+      let suits = subst (λ (k : Csid). SuitsBlock k s (block_of net.blocks s.prefix)) e (keeps.sid n s there).csid in
+      let lbl = lbl-is suits.0 suits.1 in
+      let b = contains-get net suits.0 (subst (IsBlockOf net.blocks s.prefix) suits.1 (block_of-is net.blocks s.prefix)).0 in
+      by_csid suits.0 (keeps.block b.0 suits.0 b.1).csid lbl suits.3
+    where
+      by_csid : (b : Block) → (b.csid ≡ 16) ⊎ (b.csid ≡ 32) → s.block_len ≡ b.prefix.len → s.prefix.len ≡ b.prefix.len + b.csid
+          → (s.prefix.len - s.block_len) / 16 ≤ 2
+      by_csid b (inl short) lbl len = omega (arith, short, lbl, len)
+      by_csid b (inr long) lbl len = omega (arith, long, lbl, len)
+
+  is-shape : IsShape shape
+  is-shape =
+      record {
+        compressed = λ h.
+            let b = in-kind s.csid refl h in
+            let i = has-number net keeps s.prefix b.0 b.1 in
+            is-some (block_at net.blocks s.prefix) i.0 i.1;
+        in_block = λ h. let i = some-is (block_at net.blocks s.prefix) h in in-block i.0 i.1;
+        replace = replace-few;
+      }
+
+pub shape-is : (net : Network) → Keeps net → FlatFacts net → (n : ℕ) → IsShape (shape_of net n)
+shape-is net keeps facts n = by_sid (slice_get net.sids n) refl
+  where
+    by_sid : (o : Option SidEntry) → slice_get net.sids n ≡ o → IsShape (shape_by net.blocks o)
+    by_sid None e = record { compressed = λ h. absurd (false≢true h); in_block = λ h. absurd (false≢true h); replace = λ h. absurd (cc) }
+    by_sid (Some s) e = is-shape net keeps facts n s e
+
+-- ---- two SIDs of one block
+
+module _ (net : Network) (keeps : Keeps net) (n m : ℕ) (s t : SidEntry) (is_s : slice_get net.sids n ≡ Some s)
+    (is_t : slice_get net.sids m ≡ Some t) (b : Block) (in_s : block_of net.blocks s.prefix ≡ Some b)
+    (in_t : block_of net.blocks t.prefix ≡ Some b) where
+  suits-of : (i : ℕ) (u : SidEntry) → slice_get net.sids i ≡ Some u → (k : Csid) → u.csid ≡ k
+      → SuitsBlock k u (block_of net.blocks u.prefix)
+  suits-of i u at k e = subst (λ (k : Csid). SuitsBlock k u (block_of net.blocks u.prefix)) e (keeps.sid i u at).csid
+
+  mixed : (i j : ℕ) (u v : SidEntry) → slice_get net.sids i ≡ Some u → slice_get net.sids j ≡ Some v
+      → block_of net.blocks u.prefix ≡ Some b → block_of net.blocks v.prefix ≡ Some b → u.csid ≡ csids.Next → v.csid ≡ csids.Replace → ⊥
+  mixed i j u v at_u at_v in_u in_v next replace =
+      let a = suits-of i u at_u csids.Next next in
+      let c = suits-of j v at_v csids.Replace replace in
+      let kind_a : b.kind ≡ kinds.Next = ap (λ (x : Block). x.kind) (some-same b a.0 (sym in_u ∙ a.1)) ∙ a.2 in
+      let kind_c : b.kind ≡ kinds.Replace = ap (λ (x : Block). x.kind) (some-same b c.0 (sym in_v ∙ c.1)) ∙ c.2 in
+      let no : kinds.Next ≡ kinds.Replace = sym kind_a ∙ kind_c in
+      absurd (cc)
+
+  one-kind : (k l : Csid) → s.csid ≡ k → t.csid ≡ l → is_compressed k ≡ true → is_compressed l ≡ true → k ≡ l
+  one-kind csids.Plain l e f h g = absurd (false≢true h)
+  one-kind csids.Next csids.Plain e f h g = absurd (false≢true g)
+  one-kind csids.Next csids.Next e f h g = refl
+  one-kind csids.Next csids.Replace e f h g = absurd (mixed n m s t is_s is_t in_s in_t e f)
+  one-kind csids.Replace csids.Plain e f h g = absurd (false≢true g)
+  one-kind csids.Replace csids.Next e f h g = absurd (mixed m n t s is_t is_s in_t in_s f e)
+  one-kind csids.Replace csids.Replace e f h g = refl
+
+  packed-len : (i : ℕ) (u : SidEntry) → slice_get net.sids i ≡ Some u → block_of net.blocks u.prefix ≡ Some b → u.csid ≡ csids.Replace
+      → u.prefix.len ≡ b.prefix.len + b.csid
+  packed-len i u at is e =
+      let c = suits-of i u at csids.Replace e in
+      let same : c.0 ≡ b = some-same c.0 b (sym c.1 ∙ is) in
+      subst (λ (x : Block). u.prefix.len ≡ x.prefix.len + x.csid) same c.3
+
+  share : ShareBlock (shape_by net.blocks (Some s)) (shape_by net.blocks (Some t))
+  share =
+      record {
+        lbl = (keeps.sid n s is_s).block_len ∙ ap block_len_of (in_s ∙ sym in_t) ∙ sym (keeps.sid m t is_t).block_len;
+        csid = one-kind s.csid t.csid refl refl;
+        length = λ e f. packed-len n s is_s in_s e ∙ sym (packed-len m t is_t in_t f);
+      }
+
+pub shapes-share : (net : Network) → Keeps net → (n m : ℕ) → same_block (shape_of net n).block (shape_of net m).block ≡ true
+    → ShareBlock (shape_of net n) (shape_of net m)
+shapes-share net keeps n m h = by_sids (slice_get net.sids n) (slice_get net.sids m) refl refl h
+  where
+    by_numbers : (s t : SidEntry) → slice_get net.sids n ≡ Some s → slice_get net.sids m ≡ Some t → (o q : Option ℕ)
+        → block_at net.blocks s.prefix ≡ o → block_at net.blocks t.prefix ≡ q → same_block o q ≡ true
+        → ShareBlock (shape_by net.blocks (Some s)) (shape_by net.blocks (Some t))
+    by_numbers s t is_s is_t None q e f h = absurd (false≢true h)
+    by_numbers s t is_s is_t (Some i) None e f h = absurd (false≢true h)
+    by_numbers s t is_s is_t (Some i) (Some j) e f h =
+        let a = numbered net keeps s.prefix i e in
+        let c = numbered net keeps t.prefix j f in
+        let same : a.0 ≡ c.0 = some-same a.0 c.0 (sym a.1 ∙ ap (slice_get net.blocks) (eqb-true i j h) ∙ c.1) in
+        share net keeps n m s t is_s is_t a.0 a.2 (c.2 ∙ ap Some (sym same))
+
+    by_sids : (o q : Option SidEntry) → slice_get net.sids n ≡ o → slice_get net.sids m ≡ q
+        → same_block (shape_by net.blocks o).block (shape_by net.blocks q).block ≡ true
+        → ShareBlock (shape_by net.blocks o) (shape_by net.blocks q)
+    by_sids None q e f h = absurd (false≢true h)
+    by_sids (Some s) None e f h = by_none (block_at net.blocks s.prefix) h
+      where
+        by_none : (o : Option ℕ) → same_block o None ≡ true → ShareBlock (shape_by net.blocks (Some s)) (shape_by net.blocks None)
+        by_none None h = absurd (false≢true h)
+        by_none (Some i) h = absurd (false≢true h)
+    by_sids (Some s) (Some t) e f h = by_numbers s t e f (block_at net.blocks s.prefix) (block_at net.blocks t.prefix) refl refl h

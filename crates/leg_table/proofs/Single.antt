@@ -1,0 +1,296 @@
+-- A walk that hands over along a path executes the path's SIDs, and its hop limit is above what the path needs.
+use Rattle.std.proofs.Common.{◌≡◌, ℕ, ◌+◌, ◌-◌, ◌<◌, ◌≤◌, ◌⊎◌, inl, inr, Bool, true, false, List, [], ◌∷◌, drop, Option, Some, None, slice_get, refl, sym, ◌∙◌, ap, subst, arith}
+use Rattle.std.specs.Prelude.{is_some, nat_le}
+use Rattle.std.specs.List.{list_all}
+use Rattle.std.specs.Option.{option_map}
+use Rattle.std.proofs.lemmas.Bool.{false≢true, cases_lt}
+use Rattle.std.proofs.lemmas.Bool.Decides.{leb_tells}
+use Rattle.srv6_rules.specs.declared.sid.Family.{Family}
+use Rattle.srv6_rules.specs.declared.sid.Family.TheVariants as families
+use Rattle.srv6_rules.specs.declared.sid.SidEntry.{SidEntry}
+use Rattle.srv6_rules.specs.Packet.{Packet, Content, V6}
+use Rattle.net_model.specs.Network.{Network}
+use Rattle.net_model.specs.Keeps.{Keeps}
+use Rattle.walk_rules.specs.declared.place.How.{How}
+use Rattle.walk_rules.specs.declared.place.Place.{Place}
+use Rattle.walk_rules.specs.declared.place.Outcome.TheVariants as outcomes
+use Rattle.walk_rules.specs.Way.{Way, Away, Over, Own, Into, way_of, IsWayFrom}
+use Rattle.walk_rules.specs.Treatment.{Gave, goes, member_of, lowered, treated, step_of, onward_from}
+use Rattle.walk_rules.specs.Relation.{IsHow}
+use Rattle.walk_rules.specs.Walk.{walk_of, next_place, arrival}
+use Rattle.walk_rules.proofs.PublicLaws.{sent-high, sent-low, way-from, way-into}
+use Rattle.intent_reader.specs.Rules.{IsIntent, stand_after, first_end}
+use Rattle.intent_reader.specs.declared.intent.Step.{Step}
+use Rattle.intent_reader.specs.declared.intent.Step.TheVariants.{Links, Function}
+use Rattle.intent_reader.specs.declared.intent.Intent.{Intent}
+use Rattle.list_places.specs.Places as lists
+use Rattle.list_places.specs.Places.{Tunnel, active, next_of, StandsOn, Along}
+use Rattle.list_pack.specs.declared.types.Leg.{Leg}
+use Rattle.list_pack.specs.SidLists.{list_sid}
+use Rattle.leg_table.proofs.FlatNets.{FlatFacts}
+use Rattle.leg_table.specs.Trace.{Crossed, executed, Handed, after_events, after_execution, handed_first, handed_over}
+use Rattle.leg_table.specs.Tasks.{has_link}
+use Rattle.leg_table.specs.Ride.{Ride, one_if, more_lowered, ride_on, ride_by, ride_end, ride_of, with_hop_limit}
+use Rattle.leg_table.specs.Sids.{prefix_at, takes_step, hands_over}
+use Rattle.leg_table.specs.Leg.{place_behind, place_from, leg_of, finish_of}
+use Rattle.leg_table.specs.Realizes.{path_need}
+use Rattle.leg_table.proofs.Links.{member-of_all, far_end-is, link_ends, first_end-is, step_opens}
+use Rattle.leg_table.proofs.ListPlaces.{active-is, next-none, next-some}
+use Rattle.leg_table.proofs.Options.{map-some, if-some, some-same}
+use Rattle.leg_table.proofs.Rides.{arrived}
+use Rattle.leg_table.proofs.NextRides.{leg-ride, finish-ride, middle-sid, last-sid}
+use Rattle.leg_table.proofs.Handing.{Free, RideWalk, ride-walk, first-stage, handed-more}
+use Rattle.leg_table.proofs.Segments.{behind-again, mid-onward, mid-low, last-exposes}
+use Rattle.leg_table.proofs.PathsUp.{with_leg-some, Names, rides-to}
+
+-- a walk that hands over
+abbrev pub Hands-over : Network → Place → Content → (ℕ → ℕ) → ℕ → Handed → Type 0
+Hands-over net place content pick taken h = (fuel : ℕ) × (handed_over net (walk_of fuel net (Some place) content pick taken) ≡ Some h)
+
+module _ (net : Network) where
+  -- nothing is handed over behind a stage that drops
+  pub none-dropped : (place : Place) (content after : Content) (pick : ℕ → ℕ) (taken : ℕ) (h : Handed) (gave : Gave)
+      → step_of net place content (pick taken) ≡ gave → ((later : Option Handed) → handed_first net gave gave.outcome later ≡ None)
+      → Hands-over net place content pick taken h → ⊥
+  none-dropped place content after pick taken h gave gives none hands =
+      let first = first-stage net hands.0 place content pick taken h gave gives hands.1 in
+      let same : None ≡ Some h = sym (none _) ∙ first.1 in
+      absurd (cc)
+
+  -- behind a stage that sends
+  sent-over : (place : Place) (content after : Content) (pick : ℕ → ℕ) (taken : ℕ) (h : Handed) (link : ℕ) (to : Place)
+      → step_of net place content (pick taken) ≡ goes (outcomes.Send link) after → next_place net place (outcomes.Send link) ≡ Some to
+      → Hands-over net place content pick taken h → (k : Handed) × Hands-over net to after pick (taken + 1) k
+  sent-over place content after pick taken h link to gives leads hands =
+      let first = first-stage net hands.0 place content pick taken h (goes (outcomes.Send link) after) gives hands.1 in
+      let got = map-some (after_events (Crossed link ∷ []))
+      (handed_over net (walk_of first.0 net (next_place net place (outcomes.Send link)) after pick (taken + 1))) h first.1 in
+      (got.0, (first.0, sym (ap (λ (o : Option Place). handed_over net (walk_of first.0 net o after pick (taken + 1))) leads) ∙ got.1))
+
+  -- behind an execution
+  pub again-over : (place next : Place) (content after : Content) (pick : ℕ → ℕ) (taken : ℕ) (h : Handed) (n : ℕ) (how : How)
+      → step_of net place content (pick taken) ≡ goes (outcomes.Again n how) after → next_place net place (outcomes.Again n how) ≡ Some next
+      → Hands-over net place content pick taken h
+      → (k : Handed) × Hands-over net next after pick (taken + 0) k × (after_execution net n k ≡ h)
+  again-over place next content after pick taken h n how gives leads hands =
+      let first = first-stage net hands.0 place content pick taken h (goes (outcomes.Again n how) after) gives hands.1 in
+      let got = map-some (after_execution net n)
+      (handed_over net (walk_of first.0 net (next_place net place (outcomes.Again n how)) after pick (taken + 0))) h first.1 in (
+        got.0,
+        (
+          first.0,
+          sym (ap (λ (o : Option Place). handed_over net (walk_of first.0 net o after pick (taken + 0))) leads)
+              ∙ got.1,
+        ),
+        got.2,
+      )
+
+  -- behind a ride
+  pub ride-over : (ts : List Step) (place : Place) (p : Packet) (r : Ride) (pick : ℕ → ℕ) (taken : ℕ) (h : Handed)
+      → (w : RideWalk net ts place p r) → Hands-over net place (V6 p) pick taken h
+      → (k : Handed) × Hands-over net r.place (V6 (with_hop_limit (p.hop_limit - r.lowered) p)) pick (taken + w.count) k
+      × (after_events (w.events pick taken) k ≡ h)
+  ride-over ts place p r pick taken h w hands =
+      let more = handed-more net hands.0 w.count (Some place) (V6 p) pick taken h hands.1 in
+      let swap : hands.0 + w.count ≡ w.count + hands.0 = omega arith in
+      let whole = sym (ap (λ (k : ℕ). handed_over net (walk_of k net (Some place) (V6 p) pick taken)) swap) ∙ more in
+      let got = map-some (after_events (w.events pick taken)) _ h (sym (w.walk pick taken hands.0) ∙ whole) in
+      (got.0, (hands.0, got.1), got.2)
+
+  -- at an execution that hands over
+  pub hand-over : (place : Place) (content after : Content) (pick : ℕ → ℕ) (taken : ℕ) (h : Handed) (n : ℕ) (how : How) (family : Family)
+      → step_of net place content (pick taken) ≡ goes (outcomes.Hand n how family) after → Hands-over net place content pick taken h
+      → (h.sids ≡ n ∷ []) × (h.trace ≡ executed net n) × (h.content ≡ after)
+  hand-over place content after pick taken h n how family gives hands =
+      let first = first-stage net hands.0 place content pick taken h (goes (outcomes.Hand n how family) after) gives hands.1 in
+      let same = some-same _ h first.1 in
+      (sym (ap (λ (k : Handed). k.sids) same), sym (ap (λ (k : Handed). k.trace) same), sym (ap (λ (k : Handed). k.content) same))
+
+module _ (net : Network) (keeps : Keeps net) where
+  free-on : (lower : Bool) (k : ℕ) (p : Packet) → (lower ≡ true → 1 < p.hop_limit) → Free k (lowered lower p).hop_limit
+      → Free (one_if lower + k) p.hop_limit
+  free-on true k p high (inl none) = let h = high refl in inr (omega arith)
+  free-on true k p high (inr low) = let h = high refl in inr (omega arith)
+  free-on false k p high (inl none) = inl (omega arith)
+  free-on false k p high (inr low) = inr (omega arith)
+
+  same_to : (p : Packet) (lower : Bool) → (lowered lower p).destination ≡ p.destination
+  same_to p true = refl
+  same_to p false = refl
+
+  -- the stage over links: a walk that hands over is sent on
+  over-sends : (place : Place) (p : Packet) (set : List ℕ) (lower : Bool) (pick : ℕ → ℕ) (taken : ℕ) (h : Handed)
+      → way_of net place p.destination ≡ Over set lower → Hands-over net place (V6 p) pick taken h
+      → (lower ≡ true → 1 < p.hop_limit)
+      × (step_of net place (V6 p) (pick taken) ≡ goes (outcomes.Send (member_of set (pick taken))) (V6 (lowered lower p)))
+  over-sends place p set false pick taken h way hands =
+      (λ e. absurd (false≢true e), ap (λ (w : Way). treated net place.node w p (pick taken)) way)
+  over-sends place p set true pick taken h way hands = by_limit (leb_tells p.hop_limit 1)
+    where
+      gives : step_of net place (V6 p) (pick taken) ≡ treated net place.node (Over set true) p (pick taken)
+      gives = ap (λ (w : Way). treated net place.node w p (pick taken)) way
+
+      by_limit : ((nat_le p.hop_limit 1 ≡ true) × (p.hop_limit ≤ 1)) ⊎ ((nat_le p.hop_limit 1 ≡ false) × (1 < p.hop_limit))
+          → (true ≡ true → 1 < p.hop_limit)
+          × (step_of net place (V6 p) (pick taken) ≡ goes (outcomes.Send (member_of set (pick taken))) (V6 (lowered true p)))
+      by_limit (inl low) =
+          absurd (none-dropped net place (V6 p) (V6 p) pick taken h _ (gives ∙ sent-low net place.node set p (pick taken) low.1)
+          (λ later. refl) hands)
+      by_limit (inr high) = (λ e. high.1, gives ∙ sent-high net place.node set p (pick taken) high.1)
+
+  -- a ride of a walk that hands over lets the packet through
+  pub ride-free : (ts : List Step) (place : Place) (p : Packet) (r : Ride) → IsHow net place.node place.how
+      → is_some (stand_after net place.node ts) ≡ true → ride_of net p.destination ts place ≡ Some r
+      → (pick : ℕ → ℕ) (taken : ℕ) (h : Handed) → Hands-over net place (V6 p) pick taken h → Free r.lowered p.hop_limit
+  ride-free [] place p r how stands ride pick taken h hands = by_way (way_of net place p.destination) ride
+    where
+      by_way : (w : Way) → ride_end place w ≡ Some r → Free r.lowered p.hop_limit
+      by_way (Away reason) h = absurd (cc)
+      by_way Own h = absurd (cc)
+      by_way (Over set lower) h = absurd (cc)
+      by_way (Into n) h = inl (sym (ap (λ (x : Ride). x.lowered) (some-same _ r h)))
+  ride-free (t ∷ ts) place p r how stands ride pick taken h hands =
+      by_way t (way_of net place p.destination) refl (way-from net place p.destination keeps how) stands ride
+      (λ to q k stands ride pick taken h hands. ride-free ts (arrived to place) q k tt stands ride pick taken h hands)
+    where
+      by_way : (t : Step) (w : Way) → way_of net place p.destination ≡ w → IsWayFrom net place.node w
+          → is_some (stand_after net place.node (t ∷ ts)) ≡ true
+          → ride_by net place (t ∷ ts) t (ride_of net p.destination ts) w ≡ Some r
+          → ((to : ℕ) (q : Packet) (k : Ride) → is_some (stand_after net to ts) ≡ true
+          → ride_of net q.destination ts (arrived to place) ≡ Some k → (pick : ℕ → ℕ) (taken : ℕ) (h : Handed)
+          → Hands-over net (arrived to place) (V6 q) pick taken h → Free k.lowered q.hop_limit)
+          → Free r.lowered p.hop_limit
+      by_way t (Away reason) e links stands ride ih = absurd (cc)
+      by_way t Own e links stands ride ih = absurd (cc)
+      by_way t (Into n) e links stands ride ih = inl (sym (ap (λ (x : Ride). x.lowered) (some-same _ r ride)))
+      by_way (Function sid) (Over set lower) e links stands ride ih = absurd (cc)
+      by_way (Links step) (Over set lower) e links stands ride ih =
+          let opened = step_opens net place.node step ts stands in
+          let all = if-some (list_all (has_link step) set) _ r ride in
+          let got = map-some (more_lowered lower) _ r all.1 in
+          let at : first_end net set ≡ Some opened.0 = first_end-is net opened.0 step set opened.1 all.0 links.some in
+          let later : ride_of net p.destination ts (arrived opened.0 place) ≡ Some got.0
+          = ap (λ (o : Option ℕ). ride_on (arrival o place) (ride_of net p.destination ts)) (sym at) ∙ got.1 in
+          let sends = over-sends place p set lower pick taken h e hands in
+          let link = member_of set (pick taken) in
+          let here = member-of_all (has_link step) set links.some all.0 (pick taken) in
+          let next : next_place net place (outcomes.Send link) ≡ Some (arrived opened.0 place)
+          = ap (λ (o : Option ℕ). arrival o place) (far_end-is (slice_get net.links link)
+          ∙ link_ends net opened.0 step link opened.1 here) in
+          let rest = sent-over net place (V6 p) (V6 (lowered lower p)) pick taken h link (arrived opened.0 place) sends.1 next hands in
+          let free = ih opened.0 (lowered lower p) got.0 opened.2
+          (ap (λ (d : ℕ). ride_of net d ts (arrived opened.0 place)) (same_to p lower) ∙ later) pick (taken + 1) rest.0 rest.1 in
+          subst (λ (x : Ride). Free x.lowered p.hop_limit) got.2 (free-on lower got.0.lowered p sends.0 free)
+
+-- behind the execution of a middle SID that is not the last
+pub record Behind (net : Network) (tunnel : Tunnel) (next : ℕ) (sid : SidEntry) (y : lists.Place) (limit : ℕ) (pick : ℕ → ℕ) (taken : ℕ)
+    (h : Handed) : Type 0 where
+  pub high : 1 < limit
+  pub packet : Packet
+  pub along : Along tunnel y (limit - 1) packet
+  pub handed : Handed
+  pub hands : Hands-over net (place_behind next sid) (V6 packet) pick (taken + 0) handed
+  pub behind : after_execution net next handed ≡ h
+
+pub mid-over : (net : Network) (tunnel : Tunnel) (at : Place) (next : ℕ) (sid : SidEntry) (x y : lists.Place) (limit : ℕ) (q : Packet)
+    → Along tunnel x limit q → way_of net at q.destination ≡ Into next → slice_get net.sids next ≡ Some sid → StandsOn sid (active x)
+    → takes_step sid ≡ true → next_of x ≡ Some y → at.family ≡ families.V6
+    → (pick : ℕ → ℕ) (taken : ℕ) (h : Handed) → Hands-over net at (V6 q) pick taken h → Behind net tunnel next sid y limit pick taken h
+mid-over net tunnel at next sid x y limit q along into there on takes to v6 pick taken h hands = by_limit (cases_lt 1 limit)
+  where
+    by_limit : (1 < limit) ⊎ (limit ≤ 1) → Behind net tunnel next sid y limit pick taken h
+    by_limit (inl high) =
+        let stands = way-into net at q.destination next into in
+        let same : stands.sid ≡ sid = some-same stands.sid sid (sym stands.is_there ∙ there) in
+        let node : sid.node ≡ at.node = ap (λ (t : SidEntry). t.node) (sym same) ∙ stands.stands in
+        let stage = mid-onward net tunnel x limit q along at next (pick taken) sid into there on takes y to high in
+        let rest = again-over net at (place_behind next sid) (V6 q) (V6 stage.0) pick taken h next (onward_from next sid.behaviour) stage.1
+        (behind-again net at next sid node v6) hands in
+        record { high = high; packet = stage.0; along = stage.2; handed = rest.0; hands = rest.1; behind = rest.2 }
+    by_limit (inr low) =
+        absurd (none-dropped net at (V6 q) (V6 q) pick taken h _
+        (mid-low net tunnel x limit q along at next (pick taken) sid into there on takes y to low) (λ later. refl) hands)
+
+module _ (net : Network) (keeps : Keeps net) (facts : FlatFacts net) (intent : Intent) (is_intent : IsIntent net intent)
+    (tunnel : Tunnel) where
+  -- what is so of a walk that hands over along a path
+  abbrev pub Executes : List ℕ → ℕ → ℕ → Handed → Type 0
+  Executes ns need hop h = (h.sids ≡ ns) × (0 < hop → need < hop)
+
+  above-free : (k hop : ℕ) → Free k hop → 0 < hop → k < hop
+  above-free k hop (inl none) positive = omega arith
+  above-free k hop (inr low) positive = low
+
+  finish-executes : (position : ℕ) (via : Option ℕ) (next : ℕ) (x : lists.Place) (hop : ℕ) (p : Packet) (need : ℕ) (place : Place)
+      (pick : ℕ → ℕ) (taken : ℕ) (h : Handed)
+      → finish_of net intent position via next ≡ Some need → tunnel.inner ≡ intent.inner → Along tunnel x hop p → Names net x (next ∷ [])
+      → place_from net intent via ≡ Some place → Hands-over net place (V6 p) pick taken h → Executes (next ∷ []) need hop h
+  finish-executes position via next x hop p need place pick taken h e family along names from hands =
+      let got = finish-ride net intent position via next need e in
+      let n = got.0 in
+      let ts = drop position intent.steps in
+      let sid = last-sid net intent.inner next got.1 in
+      let a = rides-to net keeps facts intent is_intent tunnel position via next x hop p n sid.0 sid.1 (active-is x _ [] names) along in
+      let here : place ≡ n.place = some-same place n.place (sym from ∙ n.from) in
+      let started = subst (λ (l : Place). Hands-over net l (V6 p) pick taken h) here hands in
+      let free = ride-free net keeps ts n.place p n.ride a.start.how a.start.rest a.ride pick taken h started in
+      let w = ride-walk net keeps ts n.place p n.ride a.start.how a.start.rest a.ride free in
+      let rest = ride-over net ts n.place p n.ride pick taken h w started in
+      let q = with_hop_limit (p.hop_limit - n.ride.lowered) p in
+      let shows = ap (λ f. hands_over f sid.0) family ∙ sid.2 in
+      let stage = last-exposes net tunnel x (hop - n.ride.lowered) q (a.along (hop - n.ride.lowered) refl) n.ride.place next
+      (pick (taken + w.count)) sid.0 a.into sid.1 (a.on sid.0 sid.1) (next-none x _ names) shows in
+      let hand = hand-over net n.ride.place (V6 q) _ pick (taken + w.count) rest.0 next _ _ stage rest.1 in (
+        sym (ap (λ (k : Handed). k.sids) rest.2) ∙ hand.0,
+        λ positive. let low = above-free n.ride.lowered p.hop_limit free (omega (arith, a.hop_limit)) in omega (arith, got.2, a.hop_limit),
+      )
+
+  leg-executes : (position : ℕ) (via : Option ℕ) (next : ℕ) (x y : lists.Place) (hop : ℕ) (p : Packet) (k : ℕ) (leg : Leg) (ns : List ℕ)
+      (place : Place) (pick : ℕ → ℕ) (taken : ℕ) (h : Handed)
+      → leg_of net intent position via next ≡ Some leg → Along tunnel x hop p → active x ≡ list_sid net (prefix_at net next)
+      → next_of x ≡ Some y → place_from net intent via ≡ Some place → Hands-over net place (V6 p) pick taken h
+      → ((q : Packet) (at : Place) (pick : ℕ → ℕ) (taken : ℕ) (h : Handed) → Along tunnel y (hop - leg.hops) q
+      → place_from net intent (Some next) ≡ Some at → Hands-over net at (V6 q) pick taken h → Executes ns k (hop - leg.hops) h)
+      → Executes (next ∷ ns) (leg.hops + k) hop h
+  leg-executes position via next x y hop p k leg ns place pick taken h e along is to from hands later =
+      let got = leg-ride net intent position via next leg e in
+      let n = got.0 in
+      let ts = drop position intent.steps in
+      let sid = middle-sid net next got.1 in
+      let a = rides-to net keeps facts intent is_intent tunnel position via next x hop p n sid.0 sid.1 is along in
+      let hops : n.ride.lowered + 1 ≡ leg.hops = ap (λ (l : Leg). l.hops) got.2 in
+      let here : place ≡ n.place = some-same place n.place (sym from ∙ n.from) in
+      let started = subst (λ (l : Place). Hands-over net l (V6 p) pick taken h) here hands in
+      let free = ride-free net keeps ts n.place p n.ride a.start.how a.start.rest a.ride pick taken h started in
+      let w = ride-walk net keeps ts n.place p n.ride a.start.how a.start.rest a.ride free in
+      let rest = ride-over net ts n.place p n.ride pick taken h w started in
+      let q = with_hop_limit (p.hop_limit - n.ride.lowered) p in
+      let at = a.along (hop - n.ride.lowered) refl in
+      let m = mid-over net tunnel n.ride.place next sid.0 x y (hop - n.ride.lowered) q at a.into sid.1 (a.on sid.0 sid.1) sid.2 to
+      (a.ride_facts.family ∙ a.start.family) pick (taken + w.count) rest.0 rest.1 in
+      let less : hop - n.ride.lowered - 1 ≡ hop - leg.hops = omega arith in
+      let tail = later m.packet (place_behind next sid.0) pick (taken + w.count + 0) m.handed
+      (subst (λ (j : ℕ). Along tunnel y j m.packet) less m.along) (ap (option_map (place_behind next)) sid.1) m.hands in (
+        sym (ap (λ (k : Handed). k.sids) rest.2) ∙ sym (ap (λ (k : Handed). k.sids) m.behind) ∙ ap (λ (ms : List ℕ). next ∷ ms) tail.0,
+        λ positive. let high = m.high in let low = tail.1 (omega (arith, high)) in omega arith,
+      )
+
+  -- a walk that hands over along a path executes its SIDs, above its need where the hop limit is above 0
+  pub path-executes : (more : List ℕ) (next position : ℕ) (via : Option ℕ) (x : lists.Place) (hop : ℕ) (p : Packet) (need : ℕ)
+      (place : Place)
+      (pick : ℕ → ℕ) (taken : ℕ) (h : Handed)
+      → tunnel.inner ≡ intent.inner → Along tunnel x hop p → Names net x (next ∷ more)
+      → path_need net intent position via (next ∷ more) ≡ Some need → place_from net intent via ≡ Some place
+      → Hands-over net place (V6 p) pick taken h → Executes (next ∷ more) need hop h
+  path-executes [] next position via x hop p need place pick taken h family along names e from hands =
+      finish-executes position via next x hop p need place pick taken h e family along names from hands
+  path-executes (m ∷ more) next position via x hop p need place pick taken h family along names e from hands =
+      let got = with_leg-some (leg_of net intent position via next) (λ to. path_need net intent to (Some next) (m ∷ more)) need e in
+      let further = next-some x _ _ _ names in
+      subst (λ (n : ℕ). Executes (next ∷ m ∷ more) n hop h) got.4
+      (leg-executes position via next x further.0 hop p got.2 got.0 (m ∷ more) place pick taken h got.1 along (active-is x _ _ names)
+      further.1
+      from hands
+      (λ q at pick taken h is start over. path-executes more m got.0.to (Some next) further.0 (hop - got.0.hops) q got.2 at pick taken h
+      family
+      is further.2 got.3 start over))
