@@ -12,8 +12,11 @@ use Rattle.list_pack.specs.Order.{lex_before}
 use Rattle.list_pack.specs.Value.{LegsValue}
 use Rattle.list_pack.specs.Costs.{Move, AtMost, cost_of, Under, start}
 use Rattle.list_pack.specs.Least.{IsLeast, IsFirstLeast, state_key, IsBefore, IsListing, IsPath, IsPathOrNone, IsSolution}
-use Rattle.path_compiler.specs.Compiled.{cost_in, list_cost}
-use Rattle.path_compiler.proofs.Plain.{some-same}
+use Rattle.list_pack.specs.Paths.{cost_with}
+use Rattle.path_compiler.specs.Compiled.{cost_in}
+
+pub some-same : {X : Type 0} (x y : X) → Path (Option X) (Some x) (Some y) → x ≡ y
+some-same x y h = cc
 
 -- nothing comes before the start
 none-before : (key : List ℕ) → lex_before key [] ≡ true → ⊥
@@ -60,7 +63,7 @@ costs-same v s moves c d first least =
     let three = down.hops containers in
     let four = up.hops (sym containers) in
     let hops : d.hops ≡ c.hops = omega (arith, three, four) in
-    ap (λ (x : ℕ). list_cost x d.hops) containers ∙ ap (list_cost c.containers) hops
+    ap (λ (x : ℕ). cost_with x d.hops) containers ∙ ap (cost_with c.containers) hops
 
 pub is-path : (v : LegsValue) (path : List PathStep) → 0 < length path → IsPathOrNone v path → IsPath v path
 is-path v [] h p = absurd (omega (arith, h))
@@ -75,19 +78,12 @@ some-listed v s is some =
 
 -- the cost that is read is the least
 pub cost-read : (v : LegsValue) (ps : List Potential) (moves : List Move) (c : Cost) (containers need : ℕ) → IsListing v ps
-    → IsFirstLeast v start c moves → option_map cost_in (slice_get ps 0) ≡ Some (list_cost containers need)
+    → IsFirstLeast v start c moves → option_map cost_in (slice_get ps 0) ≡ Some (cost_with containers need)
     → (containers ≡ c.containers) × (need ≡ c.hops)
 cost-read v ps moves c containers need listing first read =
     let begin = starts-with v ps moves c listing first.cost in
     let least = costs-same v start moves c begin.0 first begin.1.least in
-    let its : begin.0 ≡ list_cost containers need =
-    some-same begin.0 (list_cost containers need) (ap (option_map cost_in) (sym begin.1.is) ∙ read) in
-    let same : list_cost containers need ≡ c = sym its ∙ least in
+    let its : begin.0 ≡ cost_with containers need =
+    some-same begin.0 (cost_with containers need) (ap (option_map cost_in) (sym begin.1.is) ∙ read) in
+    let same : cost_with containers need ≡ c = sym its ∙ least in
     (ap (λ (x : Cost). x.containers) same, ap (λ (x : Cost). x.hops) same)
-
-pub cost-parts : (count : ℕ) (o : Option ℕ) (c : Cost) → option_map (list_cost count) o ≡ Some c
-    → (o ≡ Some c.hops) × (count ≡ c.containers)
-cost-parts count None c h = absurd (none-some c h)
-cost-parts count (Some need) c h =
-    let same : list_cost count need ≡ c = some-same (list_cost count need) c h in
-    (ap (λ (x : Cost). Some x.hops) same, ap (λ (x : Cost). x.containers) same)

@@ -1,3 +1,4 @@
-pub mod Plain
 pub mod Costs
 pub mod Answering
+pub mod Checking
+pub mod NoneHanding

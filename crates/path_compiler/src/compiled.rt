@@ -1,13 +1,12 @@
 //! Compiled lists, and when an intent is refused.
 
-use leg_table::SidList;
-use list_pack::Solution;
+use list_pack::{SidList, Solution};
 use net_model::NotFlat;
 
 /// A list of segments that an intent is compiled to.
 #[derive(Debug, Drop)]
 pub struct Compiled {
-    /// The list, the SID that is executed first in front, one SID to a container.
+    /// The list as containers, the SID that is executed first in front.
     pub list: SidList,
     /// How many containers of 16 bytes the list has.
     pub containers: u32,
@@ -25,9 +24,9 @@ pub struct Compiled {
 /// come in place of any answer.
 #[derive(Debug, Drop)]
 pub enum CompileFault {
-    /// The network is not flat: an entry lies strictly inside the prefix of a SID.
+    /// The network is not flat, for the reason that `compilable` gives.
     NotFlat(NotFlat),
-    /// No list of SIDs, one to a container, takes packets along the steps for all choices.
+    /// No legal list of SIDs takes packets along the steps for all choices.
     NoList {
         /// What the search found: potentials, and an empty path.
         solution: Solution,

@@ -1,7 +1,6 @@
 use crate::{CompileFault, Compiled, compile};
 use intent_reader::read_intent;
-use leg_table::{Container, all_listed};
-use list_pack::Cost;
+use list_pack::{Container, Cost};
 use net_model::NotFlat;
 use net_reader::read_net;
 use std::process::Abort;
@@ -95,11 +94,13 @@ fn assert_row(rt: &impl Abort, compiled: &Compiled, header: u64) {
     let want = [END_B, CROSS_B, END_D, VPN_D];
     assert_eq!(rt; compiled.list.as_slice().len(), want.len());
     for (container, value) in compiled.list.as_slice().iter().zip(want) {
-        let Container::Full(prefixes) = container;
-        assert_eq!(rt; prefixes.as_slice().len(), 1);
-        for prefix in prefixes.as_slice() {
-            assert_eq!(rt; prefix.value(), Addr { value });
-            assert_eq!(rt; prefix.len(), 48);
+        match container {
+            Container::Full(first, more) => {
+                assert!(rt; more.as_slice().is_empty());
+                assert_eq!(rt; first.value(), Addr { value });
+                assert_eq!(rt; first.len(), 48);
+            }
+            Container::Packed(..) => panic!(rt; "a container of CSIDs alone"),
         }
     }
     assert_eq!(rt; compiled.containers, 4);
@@ -130,7 +131,6 @@ fn a_row_compiles(rt: HostRuntime) -> Result<(), Fail> {
     let alloc = rt.alloc();
     let text = format!(in alloc; "{ROW}{SIDS}{CROSS}")?;
     let net = read_net(alloc, text.as_bytes())?;
-    assert!(&rt; all_listed(&net));
     for (more, header) in [
         (REDUCED, 96),
         ("mode = \"full\"\nhop_limit = 5\nmax_containers = 4\n", 112),
@@ -150,7 +150,6 @@ fn a_row_is_refused(rt: HostRuntime) -> Result<(), Fail> {
     let alloc = rt.alloc();
     let text = format!(in alloc; "{ROW}{SIDS}{CROSS}")?;
     let net = read_net(alloc, text.as_bytes())?;
-    assert!(&rt; all_listed(&net));
     let text = format!(in alloc; "{INTENT}{REDUCED}hop_limit = 4\nmax_containers = 3\n")?;
     let long = read_intent(alloc, text.as_bytes(), &net)?;
     match compile(alloc, &net, &long) {
@@ -171,7 +170,6 @@ fn a_row_has_no_list(rt: HostRuntime) -> Result<(), Fail> {
     let alloc = rt.alloc();
     let text = format!(in alloc; "{ROW}{SIDS}")?;
     let net = read_net(alloc, text.as_bytes())?;
-    assert!(&rt; all_listed(&net));
     let text = format!(in alloc; "{INTENT}{REDUCED}")?;
     let intent = read_intent(alloc, text.as_bytes(), &net)?;
     match compile(alloc, &net, &intent) {
@@ -182,7 +180,6 @@ fn a_row_has_no_list(rt: HostRuntime) -> Result<(), Fail> {
     }
     let text = format!(in alloc; "{ROW}{SIDS}{CROSS}{INSIDE}")?;
     let nested = read_net(alloc, text.as_bytes())?;
-    assert!(&rt; all_listed(&nested));
     let text = format!(in alloc; "{INTENT}{REDUCED}")?;
     let intent = read_intent(alloc, text.as_bytes(), &nested)?;
     let outer = Prefix::new(Addr { value: END_B }, 48).expect(&rt, "a prefix");
@@ -237,12 +234,67 @@ step = [{ links = ["bc"] }, { function = "vpn" }]
 fn the_least_list_is_taken(rt: HostRuntime) -> Result<(), Fail> {
     let alloc = rt.alloc();
     let net = read_net(alloc, PAIR.as_bytes())?;
-    assert!(&rt; all_listed(&net));
     let intent = read_intent(alloc, PAIR_INTENT.as_bytes(), &net)?;
     match compile(alloc, &net, &intent) {
         Ok(compiled) => {
             assert_eq!(&rt; compiled.containers, 2);
             assert_eq!(&rt; compiled.list.as_slice().len(), 2);
+        }
+        Err(_) => panic!(&rt; "not compiled"),
+    }
+    Ok(())
+}
+
+// NEXT-CSIDs of 16 bits, and an End.DT6 of the same block that is not compressed
+const COMPRESSED: &str = r#"
+block = [{ prefix = "fcbb:bb00::/32", kind = "next", csid = 16 }]
+
+[[sid]]
+node = "B"
+prefix = "fcbb:bb00:2::/48"
+behaviour = "End"
+csid = "next"
+
+[[sid]]
+node = "B"
+prefix = "fcbb:bb00:e001::/48"
+behaviour = "End.X"
+csid = "next"
+links = ["bc1"]
+
+[[sid]]
+node = "D"
+prefix = "fcbb:bb00:4::/48"
+behaviour = "End"
+csid = "next"
+
+[[sid]]
+node = "D"
+prefix = "fcbb:bb00:f001::/48"
+behaviour = "End.DT6"
+title = "vpn"
+table = 100
+"#;
+
+#[test]
+fn compressed_sids_share_a_container(rt: HostRuntime) -> Result<(), Fail> {
+    let alloc = rt.alloc();
+    let text = format!(in alloc; "{ROW}{COMPRESSED}")?;
+    let net = read_net(alloc, text.as_bytes())?;
+    let text = format!(in alloc; "{INTENT}{REDUCED}")?;
+    let intent = read_intent(alloc, text.as_bytes(), &net)?;
+    match compile(alloc, &net, &intent) {
+        Ok(compiled) => {
+            assert_eq!(&rt; compiled.containers, 1);
+            assert_eq!(&rt; compiled.header, 40);
+            assert_eq!(&rt; compiled.need, 4);
+            match compiled.list.as_slice() {
+                [Container::Full(first, more)] => {
+                    assert_eq!(&rt; first.value(), Addr { value: END_B });
+                    assert_eq!(&rt; more.as_slice().len(), 3);
+                }
+                _ => panic!(&rt; "another list"),
+            }
         }
         Err(_) => panic!(&rt; "not compiled"),
     }

@@ -1,10 +1,8 @@
-use Rattle.std.proofs.Common.{sym, ◌∙◌}
-use Rattle.path_compiler.proofs.Answering.{no-list}
+use Rattle.std.proofs.Common.{refl}
+use Rattle.path_compiler.proofs.NoneHanding.{none-hands}
 use Rattle.path_compiler.proofs.lists.compile.Goals as goal
 
-pub returns-then-is_empty : goal.returns-then-is_empty
-returns-then-is_empty c =
-    no-list c.args.net.now c.args.intent.now c.keeps_rules.ensures.network c.in-Ok.ensures.judged c.requires.listed c.requires.intent
-    c.in-Ok-solution_of.solution
-    c.as_slice.result.now (sym c.in-Ok.ensures.answer) c.in-Ok-solution_of.ensures c.as_slice.ensures
-    (sym c.is_empty.ensures ∙ c.if-is_empty.true)
+pub returns-in-Ok-build-clause-none : goal.returns-in-Ok-build-clause-none
+returns-in-Ok-build-clause-none c =
+    none-hands c.args.net.now c.args.intent.now c.compile_over.result c.keeps_rules.ensures.network (c.in-Ok.ensures.flat.0 refl)
+    c.requires (rw c.in-Ok-build.ensures at c.compile_over.ensures)

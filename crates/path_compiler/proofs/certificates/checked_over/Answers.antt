@@ -1,0 +1,8 @@
+use Rattle.path_compiler.proofs.Checking.{says_lists}
+use Rattle.path_compiler.proofs.certificates.checked_over.Goals as goal
+
+pub returns-clause-says : goal.returns-clause-says
+returns-clause-says g c =
+    says_lists (g.L.Legs.seen c.args.legs.now) (g.L.ListLegs.network c.args.legs.now) (g.L.ListLegs.realizes c.args.legs.now)
+    (g.L.ListLegs.executes c.args.legs.now) c.keeps_meaning.ensures c.args.cert.now c.check.result c.steps.ensures.laws
+    c.check.ensures

@@ -1,0 +1,41 @@
+-- What the verdict on a certificate says of lists.
+use Rattle.std.specs.Prelude.{◌≡◌, ℕ, List, length, Result, Ok, Err}
+use Rattle.net_model.specs.Network.{Network}
+use Rattle.net_model.specs.Flat.{flatness_of}
+use Rattle.intent_reader.specs.declared.intent.Intent.{Intent}
+use Rattle.list_pack.specs.declared.types.Container.{Container}
+use Rattle.list_pack.specs.Costs.{AtMost}
+use Rattle.list_pack.specs.Paths.{cost_with}
+use Rattle.list_pack.specs.SidLists.{IsLegalList}
+use Rattle.list_certificate.specs.declared.types.Cert.{Cert}
+use Rattle.list_certificate.specs.declared.types.Verdict.{Verdict}
+use Rattle.list_certificate.specs.declared.types.Verdict.TheVariants.{Least, NoList, No}
+use Rattle.list_certificate.specs.Verdicts.{IsVerdict}
+use Rattle.leg_table.specs.Realizes.{ListRealizes, ListExecutes}
+use Rattle.leg_table.specs.Value.{legs_value}
+use Rattle.path_compiler.specs.declared.certificates.CheckFault.{CheckFault}
+use Rattle.path_compiler.specs.declared.certificates.CheckFault.TheVariants as faults
+use Rattle.path_compiler.specs.Compiled.{IsWhole}
+
+-- a legal list of so many containers, all of whose SIDs are executed, realizes with this need, and no legal list that realizes has fewer
+-- containers, or as many and a smaller need
+pub record IsLeastPair (net : Network) (Realizes Executes : List Container → ℕ → Type 0) (containers need : ℕ) : Type 0 where
+  pub list : List Container
+  pub whole : IsWhole net Realizes Executes list need
+  pub count : length list ≡ containers
+  pub least : (other : List Container) (n : ℕ) → IsLegalList net other → Realizes other n
+      → AtMost (cost_with containers need) (cost_with (length other) n)
+
+-- what a verdict says of lists: the least pair of containers and need, or that no legal list realizes
+abbrev pub Says : Network → (List Container → ℕ → Type 0) → (List Container → ℕ → Type 0) → Verdict → Type 0
+Says net Realizes Executes (Least containers hops) = IsLeastPair net Realizes Executes containers hops
+Says net Realizes Executes NoList = (list : List Container) (need : ℕ) → IsLegalList net list → ¬ Realizes list need
+Says net Realizes Executes (No line why) = Unit {0}
+
+-- the verdict over the strict steps of an intent; a network that is not flat is refused first
+abbrev pub CheckAnswers : Network → Intent → Cert → Result Verdict CheckFault → Type 0
+CheckAnswers net intent cert (Ok verdict) =
+    (flatness_of net ≡ Ok tt) × IsVerdict (legs_value net intent) cert verdict
+    × Says net (ListRealizes net intent) (ListExecutes net intent) verdict
+CheckAnswers net intent cert (Err (faults.NotFlat why)) = flatness_of net ≡ Err why
+CheckAnswers net intent cert (Err faults.NoMemory) = Unit {0}
