@@ -1,41 +1,91 @@
--- What is written of an intent, by whether the compiler takes it.
-use Rattle.std.proofs.Common.{◌≡◌, Bool, true, false, Result, Ok, Err, refl, sym, subst}
-use Rattle.std.specs.List.{list_all}
-use Rattle.std.proofs.lemmas.Bool.{and_parts}
-use Rattle.srv6_rules.specs.Behaviours.{is_listed}
+-- What is written of an intent, by the compiler's answer.
+use Rattle.std.proofs.Common.{◌≡◌, ℕ, List, [], ◌∷◌, ◌++◌, map, Result, Ok, Err, refl, sym, ap, ap₂, ◌∙◌, subst}
+use Rattle.std.specs.Prelude.{IsOk}
+use Rattle.std.specs.List.{flat_map}
+use Rattle.v6_addr.specs.declared.address.Addr.{Addr}
 use Rattle.net_model.specs.Network.{Network}
+use Rattle.net_model.specs.Keeps.{Keeps}
+use Rattle.net_model.specs.Rules.{IsNetwork}
+use Rattle.net_model.specs.declared.flat.NotFlat.{NotFlat}
+use Rattle.net_model.specs.Flat.{IsFlat, flatness_of}
+use Rattle.net_model.proofs.PublicLaws.{flatness_ok}
 use Rattle.intent_reader.specs.declared.intent.Intent.{Intent}
-use Rattle.leg_table.specs.Sids.{AllListed}
+use Rattle.list_pack.specs.declared.types.Solution.{Solution}
+use Rattle.list_pack.specs.SidLists.{list_values}
+use Rattle.list_pack.proofs.PublicLaws.{flat-lists, legal-flat}
 use Rattle.path_compiler.specs.declared.compiled.Compiled.{Compiled}
 use Rattle.path_compiler.specs.declared.compiled.CompileFault.{CompileFault}
-use Rattle.path_compiler.specs.Compiled.{CompileAnswers}
+use Rattle.path_compiler.specs.declared.compiled.CompileFault.TheVariants as faults
+use Rattle.path_compiler.specs.Compiled.{CompileAnswers, IsFound}
+use Rattle.leg_table.specs.Realizes.{ListRealizes, ListExecutes}
+use Rattle.leg_table.specs.Value.{legs_value}
 use Rattle.srv6_cli.specs.declared.commands.compile.Answer.{Answer}
 use Rattle.srv6_cli.specs.declared.halt.Failure.TheVariants as failures
 use Rattle.srv6_cli.specs.declared.halt.Halt.{Halt}
 use Rattle.srv6_cli.specs.declared.halt.Halt.TheVariants as halts
-use Rattle.srv6_cli.specs.declared.refusal.Refusal.TheVariants as refusals
-use Rattle.srv6_cli.specs.Command.Compile.{is_ipv6, takes, output_of_answer, TakenWants, Gives, GivesOf}
-use Rattle.srv6_cli.specs.Judgements.{refused}
-use Rattle.srv6_cli.specs.Pieces.{Output}
+use Rattle.srv6_cli.proofs.Checking.{knows_states}
+use Rattle.srv6_cli.specs.Command.Compile.{HasValues, KnowsStates, Gives, GivesOf, container_line, numbers_lines, report_of}
 
-wanted : (net : Network) (intent : Intent) (taken : Bool) (output : Output) → takes net intent ≡ taken
-    → TakenWants net intent taken output → TakenWants net intent (takes net intent) output
-wanted net intent taken output is w = subst (λ (b : Bool). TakenWants net intent b output) (sym is) w
+-- the lines of containers are those of their values, and the numbers' lines are behind them
 
-pub not_taken : (net : Network) (intent : Intent) → takes net intent ≡ false → GivesOf net intent (Err (halts.Refused refusals.NotBuilt))
-not_taken net intent is = wanted net intent false (refused refusals.NotBuilt) is refl
+lines-map : (values : List Addr)
+    → flat_map (λ (a : Addr). container_line a.value) values ≡ flat_map container_line (map (λ (a : Addr). a.value) values)
+lines-map [] = refl
+lines-map (a ∷ more) = ap (λ (bytes : List ℕ). container_line a.value ++ bytes) (lines-map more)
+
+pub report-is : (net : Network) (c : Compiled) (values : List Addr) (lines numbers : List ℕ)
+    → map (λ (a : Addr). a.value) values ≡ list_values net c.list
+    → lines ≡ flat_map (λ (a : Addr). container_line a.value) values
+    → numbers ≡ numbers_lines c.containers c.header c.need
+    → lines ++ numbers ≡ report_of net c
+report-is net c values lines numbers are is counts =
+    ap₂ (λ (a b : List ℕ). a ++ b) (is ∙ (lines-map values ∙ ap (flat_map container_line) are)) counts
+
+-- a list that was found in a flat network has values
+values-of : (net : Network) (intent : Intent) (c : Compiled) → IsNetwork net → flatness_of net ≡ Ok tt
+    → IsFound (legs_value net intent) net (ListRealizes net intent) (ListExecutes net intent) intent.reduced c → HasValues net c
+values-of net intent c network is_flat found =
+    let legal = found.chosen.whole.legal in
+    let flat : IsFlat net = (flatness_ok net).0 (subst (λ (r : Result (Unit {0}) NotFlat). IsOk r) (sym is_flat) refl) in
+    (legal, legal-flat net c.list (flat-lists net network flat) legal)
+
+pub values_kept : (net : Network) (intent : Intent) (c : Compiled) → IsNetwork net → CompileAnswers net intent (Ok c) → HasValues net c
+values_kept net intent c network answers = values-of net intent c network answers.flat answers.found
+
+pub values_long : (net : Network) (intent : Intent) (c : Compiled) → IsNetwork net → CompileAnswers net intent (Err (faults.TooLong c))
+    → HasValues net c
+values_long net intent c network answers = values-of net intent c network answers.flat answers.found
+
+pub values_over : (net : Network) (intent : Intent) (c : Compiled) → IsNetwork net → CompileAnswers net intent (Err (faults.HopLimit c))
+    → HasValues net c
+values_over net intent c network answers = values-of net intent c network answers.flat answers.found
+
+-- the SIDs of what was found are SIDs of the network
+
+pub knows_kept : (net : Network) (intent : Intent) (c : Compiled) → Keeps net → CompileAnswers net intent (Ok c)
+    → KnowsStates net c.solution
+knows_kept net intent c keeps answers = knows_states net intent keeps c.solution answers.found.solution
+
+pub knows_long : (net : Network) (intent : Intent) (c : Compiled) → Keeps net → CompileAnswers net intent (Err (faults.TooLong c))
+    → KnowsStates net c.solution
+knows_long net intent c keeps answers = knows_states net intent keeps c.solution answers.found.solution
+
+pub knows_over : (net : Network) (intent : Intent) (c : Compiled) → Keeps net → CompileAnswers net intent (Err (faults.HopLimit c))
+    → KnowsStates net c.solution
+knows_over net intent c keeps answers = knows_states net intent keeps c.solution answers.found.solution
+
+pub knows_none_in : (net : Network) (intent : Intent) (compiled : Result Compiled CompileFault) (s : Solution) → Keeps net
+    → CompileAnswers net intent compiled → compiled ≡ Err (faults.NoList s) → KnowsStates net s
+knows_none_in net intent compiled s keeps answers is =
+    knows_states net intent keeps s (subst (CompileAnswers net intent) is answers).solution
+
+pub ruleset valued = (values_kept, values_long, values_over, knows_kept, knows_long, knows_over)
 
 pub taken_gives : (net : Network) (intent : Intent) (compiled : Result Compiled CompileFault) (answer : Result Answer Halt)
-    → takes net intent ≡ true → CompileAnswers net intent compiled → Gives compiled answer → GivesOf net intent answer
-taken_gives net intent compiled (Ok answer) is answers gives =
-    (wanted net intent true (output_of_answer answer) is (compiled, answers, gives.0), gives.1)
-taken_gives net intent compiled (Err (halts.Refused refusal)) is answers gives =
-    wanted net intent true (refused refusal) is (compiled, answers, gives)
-taken_gives net intent compiled (Err (halts.Failed failures.Fault)) is answers gives = absurd gives
-taken_gives net intent compiled (Err (halts.Failed failures.NoMemory)) is answers gives = tt
+    → CompileAnswers net intent compiled → Gives net intent compiled answer → GivesOf net intent answer
+taken_gives net intent compiled (Ok answer) answers gives = ((compiled, answers, gives.0), gives.1)
+taken_gives net intent compiled (Err (halts.Refused refusal)) answers gives = (compiled, answers, gives)
+taken_gives net intent compiled (Err (halts.Failed failures.Fault)) answers gives = absurd gives
+taken_gives net intent compiled (Err (halts.Failed failures.NoMemory)) answers gives = tt
 
--- the compiler takes networks alone all of whose SIDs lists take
-pub taken_listed : (net : Network) (intent : Intent) → takes net intent ≡ true → AllListed net
-taken_listed net intent is = (and_parts (is_ipv6 intent.inner) (list_all is_listed net.sids) is).1
-
-pub ruleset taken = (not_taken, taken_gives, taken_listed)
+pub ruleset taken = (taken_gives)

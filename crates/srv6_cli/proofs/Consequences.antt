@@ -211,6 +211,7 @@ fault-status statuses.Done e = cc
 fault-status statuses.Refused e = cc
 fault-status statuses.Usage e = cc
 fault-status statuses.NoAnswer e = cc
+fault-status statuses.SaysNo e = cc
 fault-status statuses.OutsideFault e = refl
 fault-status statuses.NoMemory e = cc
 
@@ -219,6 +220,7 @@ memory-status statuses.Done e = cc
 memory-status statuses.Refused e = cc
 memory-status statuses.Usage e = cc
 memory-status statuses.NoAnswer e = cc
+memory-status statuses.SaysNo e = cc
 memory-status statuses.OutsideFault e = cc
 memory-status statuses.NoMemory e = refl
 

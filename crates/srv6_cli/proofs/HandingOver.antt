@@ -1,19 +1,18 @@
 -- A walk that hands over does so within its stages: each stage before that lowers the hop limit, or sends what was submitted.
 use Rattle.std.proofs.Common.{◌≡◌, ℕ, zero, suc, ◌+◌, ◌*◌, ◌<◌, Bool, true, false, List, [], ◌∷◌, Option, None, Some, refl, sym, ap, ◌∙◌, subst, arith, inl, inr}
-use Rattle.std.specs.Prelude.{slice_get, not, if◌then◌else◌}
-use Rattle.std.specs.List.{list_all}
+use Rattle.std.specs.Prelude.{slice_get, is_some, All, if◌then◌else◌}
 use Rattle.std.specs.Option.{option_map}
-use Rattle.std.proofs.lemmas.Bool.{cases_lt, and_parts}
+use Rattle.std.proofs.lemmas.Bool.{cases_lt}
+use Rattle.std.proofs.lemmas.List.Elements.{All-head, All-tail}
 use Rattle.srv6_rules.specs.Packet.{Packet, Content, V6, V4, Unreadable, spelling}
 use Rattle.srv6_rules.specs.declared.sid.Behaviour.{Behaviour}
-use Rattle.srv6_rules.specs.declared.sid.Behaviour.TheVariants as behaviours
 use Rattle.srv6_rules.specs.declared.sid.Family.TheVariants as families
 use Rattle.srv6_rules.specs.declared.sid.Family.{Family}
 use Rattle.srv6_rules.specs.declared.sid.Reason.{Reason}
 use Rattle.srv6_rules.specs.declared.sid.Reason.TheVariants as reasons
 use Rattle.srv6_rules.specs.declared.sid.SidEntry.{SidEntry}
 use Rattle.srv6_rules.specs.Endpoint.{Endpoint, Onward, Exposed, Delivered, Refused, at_sid, at_address}
-use Rattle.srv6_rules.specs.Behaviours.{behaviour_policy, behaviour_reduces, behaviour_is_listed, is_plain, is_listed}
+use Rattle.srv6_rules.specs.Behaviours.{behaviour_policy, behaviour_reduces}
 use Rattle.srv6_rules.specs.Policies.{Encapsulating, Outer, TooBig, InnerHop, pushed_by}
 use Rattle.net_model.specs.Best.{lookup_of}
 use Rattle.net_model.specs.declared.parts.NamedPolicy.{NamedPolicy}
@@ -30,8 +29,8 @@ use Rattle.walk_rules.specs.Way.{Way, Away, Over, Own, Into, way_of, way_by, way
 use Rattle.walk_rules.specs.Walk.{walk_of, far_end, arrival, next_place, decisions}
 use Rattle.walk_rules.specs.Laws.{IsLoweredByOne}
 use Rattle.walk_rules.proofs.PublicLaws.{walk_of-suc, walk_of-zero, walk_of-none, step-again, step-less, sent-low, sent-high}
-use Rattle.leg_table.specs.Sids.{AllListed}
-use Rattle.leg_table.specs.Trace.{Handed, after_events, executed, Crossed, handed_first, handed_over}
+use Rattle.leg_table.specs.Sids.{sid_binds, is_binding}
+use Rattle.leg_table.specs.Trace.{Handed, after_events, after_execution, Crossed, handed_first, handed_over}
 
 -- how often a packet may still be looked up: twice for each lowering that its hop limit has left, and once more where its
 -- next Send lowers nothing
@@ -154,44 +153,21 @@ again-less how on (V6 p) (Unreadable bytes reason) n h under = absurd h
 again-less how on (V4 p) after n h under = absurd h
 again-less how on (Unreadable bytes reason) after n h under = absurd h
 
--- a SID that lists take binds no policy
+-- no SID that binds a policy is among those that were executed
+abbrev pub Unbound : Network → List ℕ → Type 0
+Unbound net sids = All (λ n. is_binding net n ≡ false) sids
 
-behaviour-unbound : (b : Behaviour) → behaviour_is_listed b ≡ true → behaviour_policy b ≡ None
-behaviour-unbound behaviours.End is = refl
-behaviour-unbound behaviours.EndX is = refl
-behaviour-unbound (behaviours.EndT table) is = refl
-behaviour-unbound behaviours.Dx6 is = refl
-behaviour-unbound behaviours.Dx4 is = refl
-behaviour-unbound (behaviours.Dt6 table) is = refl
-behaviour-unbound (behaviours.Dt4 table) is = refl
-behaviour-unbound (behaviours.Dt46 table) is = refl
-behaviour-unbound (behaviours.B6 policy) is = cc
-behaviour-unbound (behaviours.B6Red policy) is = cc
+policy-none : (o : Option ℕ) → is_some o ≡ false → o ≡ None
+policy-none None e = refl
+policy-none (Some number) e = absurd (cc)
 
-listed-unbound : (s : SidEntry) → is_listed s ≡ true → behaviour_policy s.behaviour ≡ None
-listed-unbound s is =
-    let plain = and_parts (is_plain s.csid) _ is in
-    let psp = and_parts (not s.psp) _ plain.1 in
-    let usp = and_parts (not s.usp) _ psp.1 in
-    behaviour-unbound s.behaviour (and_parts (not s.usd) (behaviour_is_listed s.behaviour) usp.1).1
-
-listed-in : (ss : List SidEntry) (n : ℕ) (s : SidEntry) → list_all is_listed ss ≡ true → slice_get ss n ≡ Some s → is_listed s ≡ true
-listed-in [] n s all there = cc
-listed-in (t ∷ ts) zero s all there =
-    let same : t ≡ s = some-same there in
-    ap is_listed (sym same) ∙ (and_parts (is_listed t) (list_all is_listed ts) all).0
-  where
-    some-same : {a b : SidEntry} → Some a ≡ Some b → a ≡ b
-    some-same e = cc
-listed-in (t ∷ ts) (suc n) s all there = listed-in ts n s (and_parts (is_listed t) (list_all is_listed ts) all).1 there
-
-again-lowers : (net : Network) (place : Place) (content : Content) (choice m : ℕ) (how : How) → AllListed net
+again-lowers : (net : Network) (place : Place) (content : Content) (choice m : ℕ) (how : How) → is_binding net m ≡ false
     → (step_of net place content choice).outcome ≡ outcomes.Again m how
     → IsLoweredByOne content (step_of net place content choice).after
-again-lowers net place content choice m how listed is =
+again-lowers net place content choice m how free is =
     let x = step-again net place content choice m how is in
     step-less net place content choice m how x.sid x.is_there
-    (listed-unbound x.sid (listed-in net.sids m x.sid listed x.is_there)) is
+    (policy-none (behaviour_policy x.sid.behaviour) (sym (ap sid_binds x.is_there) ∙ free)) is
 
 -- what is handed over behind a stage
 behind-some : (f : Handed → Handed) (o : Option Handed) (h : Handed) → option_map f o ≡ Some h
@@ -204,26 +180,30 @@ none-under how (V6 p) h = omega (arith, h)
 none-under how (V4 p) h = h
 none-under how (Unreadable bytes reason) h = h
 
-module _ (net : Network) (listed : AllListed net) (pick : ℕ → ℕ) where
+module _ (net : Network) (pick : ℕ → ℕ) where
   -- fewer stages are enough for what a walk hands over, from each place and content that is less
   abbrev Enough : ℕ → ℕ → Type 0
   Enough fuel n = (place : Place) (content : Content) (taken : ℕ) (h : Handed)
-      → handed_over net (walk_of fuel net (Some place) content pick taken) ≡ Some h → IsUnder place.how content n
+      → handed_over net (walk_of fuel net (Some place) content pick taken) ≡ Some h → Unbound net h.sids → IsUnder place.how content n
       → handed_over net (walk_of n net (Some place) content pick taken) ≡ Some h
 
   module _ (fuel n : ℕ) (enough : Enough fuel n) (gave : Gave) (taken : ℕ) (h : Handed) where
-    -- what was handed over behind events
+    -- what was handed over behind a stage
     behind : (f : Handed → Handed) (next : Option Place)
         → option_map f (handed_over net (walk_of fuel net next gave.after pick taken)) ≡ Some h
+        → ((later : Handed) → f later ≡ h → Unbound net later.sids)
         → ((place : Place) → next ≡ Some place → IsUnder place.how gave.after n)
         → option_map f (handed_over net (walk_of n net next gave.after pick taken)) ≡ Some h
-    behind f None e less =
+    behind f None e free less =
         let none : handed_over net (walk_of fuel net None gave.after pick taken) ≡ None =
         ap (handed_over net) (walk_of-none fuel net gave.after pick taken) in
         absurd (cc (sym (ap (option_map f) none) ∙ e))
-    behind f (Some place) e less =
+    behind f (Some place) e free less =
         let got = behind-some f (handed_over net (walk_of fuel net (Some place) gave.after pick taken)) h e in
-        ap (option_map f) (enough place gave.after taken got.0 got.1 (less place refl)) ∙ got.2
+        ap (option_map f) (enough place gave.after taken got.0 got.1 (free got.0 (same-handed got.2)) (less place refl)) ∙ got.2
+      where
+        same-handed : {x y : Handed} → Some x ≡ Some y → x ≡ y
+        same-handed e = cc
 
   some-place : {a b : Place} → Some a ≡ Some b → a ≡ b
   some-place e = cc
@@ -233,7 +213,11 @@ module _ (net : Network) (listed : AllListed net) (pick : ℕ → ℕ) where
   arrived-less content n None from place e less = absurd (cc)
   arrived-less content n (Some node) from place e less = subst (λ (p : Place). IsUnder p.how content n) (some-place e) less
 
-  module _ (fuel n : ℕ) (enough : Enough fuel n) (place : Place) (content : Content) (taken : ℕ) (h : Handed)
+  -- the SIDs of what was handed over behind an execution
+  executed-sids : (m : ℕ) (later h : Handed) → after_execution net m later ≡ h → h.sids ≡ m ∷ later.sids
+  executed-sids m later h e = sym (ap (λ (x : Handed). x.sids) e)
+
+  module _ (fuel n : ℕ) (enough : Enough fuel n) (place : Place) (content : Content) (taken : ℕ) (h : Handed) (free : Unbound net h.sids)
       (within : IsUnder place.how content (suc n)) where
     abbrev gave : Gave
     gave = step_of net place content (pick taken)
@@ -241,28 +225,45 @@ module _ (net : Network) (listed : AllListed net) (pick : ℕ → ℕ) where
     abbrev rest : ℕ → Outcome → Option Handed
     rest k o = handed_over net (walk_of k net (next_place net place o) gave.after pick (taken + decisions o))
 
+    -- the SID that was executed, and those behind it
+    free-both : (m : ℕ) (later : Handed) → after_execution net m later ≡ h
+        → (is_binding net m ≡ false) × Unbound net later.sids
+    free-both m later e =
+        let all : Unbound net (m ∷ later.sids) = subst (Unbound net) (executed-sids m later h e) free in (
+          All-head (λ k. is_binding net k ≡ false) m later.sids all,
+          All-tail (λ k. is_binding net k ≡ false) m later.sids all,
+        )
+
+    free-sent : (link : ℕ) (later : Handed) → after_events (Crossed link ∷ []) later ≡ h → Unbound net later.sids
+    free-sent link later e = subst (Unbound net) (sym (ap (λ (x : Handed). x.sids) e)) free
+
     by-outcome : (o : Outcome) → gave.outcome ≡ o → SendLess n o gave.after
         → handed_first net gave o (rest fuel o) ≡ Some h → handed_first net gave o (rest n o) ≡ Some h
     by-outcome (outcomes.Hand m how family) is less e = e
     by-outcome outcomes.Local is less e = absurd (cc)
     by-outcome (outcomes.Drop reason told) is less e = absurd (cc)
     by-outcome (outcomes.Again m how) is less e =
-        behind fuel n enough gave (taken + 0) h (after_events (executed net m))
-        (next_place net place (outcomes.Again m how)) e
+        let first = behind-some (after_execution net m) (rest fuel (outcomes.Again m how)) h e in
+        let bound = (free-both m first.0 (same-some first.2)).0 in
+        behind fuel n enough gave (taken + 0) h (after_execution net m)
+        (next_place net place (outcomes.Again m how)) e (λ later same. (free-both m later same).1)
         (λ next same. subst (λ (p : Place). IsUnder p.how gave.after n) (some-place same)
-        (again-less place.how how content gave.after n (again-lowers net place content (pick taken) m how listed is) within))
+        (again-less place.how how content gave.after n (again-lowers net place content (pick taken) m how bound is) within))
+      where
+        same-some : {x y : Handed} → Some x ≡ Some y → x ≡ y
+        same-some e = cc
     by-outcome (outcomes.Send link) is less e =
         behind fuel n enough gave (taken + 1) h (after_events (Crossed link ∷ []))
-        (next_place net place (outcomes.Send link)) e
+        (next_place net place (outcomes.Send link)) e (free-sent link)
         (λ next same. arrived-less gave.after n (far_end (slice_get net.links link)) place next same less)
 
   pub hands-within : (fuel n : ℕ) → Enough fuel n
-  hands-within zero n place content taken h e less =
+  hands-within zero n place content taken h e free less =
       absurd (cc (sym (ap (handed_over net) (walk_of-zero net (Some place) content pick taken)) ∙ e))
-  hands-within (suc fuel) zero place content taken h e less = absurd (none-under place.how content less)
-  hands-within (suc fuel) (suc n) place content taken h e less =
+  hands-within (suc fuel) zero place content taken h e free less = absurd (none-under place.how content less)
+  hands-within (suc fuel) (suc n) place content taken h e free less =
       let gave : Gave = step_of net place content (pick taken) in
       ap (handed_over net) (walk_of-suc n net place content pick taken)
-      ∙ by-outcome fuel n (hands-within fuel n) place content taken h less gave.outcome refl
+      ∙ by-outcome fuel n (hands-within fuel n) place content taken h free less gave.outcome refl
       (step-sends-less net place content (pick taken) n less)
       (sym (ap (handed_over net) (walk_of-suc fuel net place content pick taken)) ∙ e)

@@ -33,7 +33,7 @@ use Rattle.srv6_cli.specs.Outside.{AsksForFront}
 use Rattle.srv6_cli.specs.Packets.{packets_in, is_bare}
 
 -- what is told of a text that was read is told of the judgement of it
-judged-text : {A : Type 0} (judge : List ℕ → Result A Refusal) (judged : Result A Refusal) (text name : List ℕ)
+pub judged-text : {A : Type 0} (judge : List ℕ → Result A Refusal) (judged : Result A Refusal) (text name : List ℕ)
     (told : Option (List (List ℕ × List ℕ)))
     → IfSome told (λ files. file_named files name ≡ Some text) → judge text ≡ judged
     → IfSome told (λ held. IsSomeAnd (file_named held name) (λ t. judge t ≡ judged))
@@ -41,7 +41,7 @@ judged-text judge judged text name None reads is = tt
 judged-text judge judged text name (Some held) reads is =
     subst (λ (o : Option (List ℕ)). IsSomeAnd o (λ t. judge t ≡ judged)) (sym reads) is
 
-asks-one : (name : List ℕ) (old new : FilesSeen) → new ≡ asked_for name old → AsksForFront (name ∷ []) old new
+pub asks-one : (name : List ℕ) (old new : FilesSeen) → new ≡ asked_for name old → AsksForFront (name ∷ []) old new
 asks-one name old new seen = record { names = name ∷ []; front = record { rest = []; whole = refl }; seen = seen }
 
 -- a text within the limit that was read as the description of a network, or has a fault

@@ -1,7 +1,9 @@
 pub mod PieceLemmas
 pub mod Asking
+pub mod NodeNames
 pub mod Judging
 pub mod ChoiceLemmas
+pub mod WordLemmas
 pub mod Writing
 pub mod PieceSteps
 pub mod FrameSteps
@@ -9,9 +11,13 @@ pub mod Walking
 pub mod Writable
 pub mod Commanding
 pub mod Compiling
+pub mod Certificates
+pub mod Checking
+pub mod CheckEnds
 pub mod WalkEnds
 pub mod WalkSteps
 pub mod HeadendSteps
+pub mod HeadendSteps4
 pub mod WalkStarts
 pub mod HandingOver
 pub mod WalkKeeping

@@ -8,6 +8,8 @@ use Rattle.srx_edge.specs.Sinks.{SinkSeen}
 use Rattle.srx_edge.specs.Steps.{How}
 use Rattle.srv6_rules.specs.declared.policy.Policy.{Policy}
 use Rattle.net_model.specs.Network.{Network}
+use Rattle.net_model.specs.Rules.{IsNetwork}
+use Rattle.intent_reader.specs.Rules.{IsIntent}
 use Rattle.intent_reader.specs.declared.intent.Intent.{Intent}
 use Rattle.srv6_cli.specs.declared.commands.walk.Start.TheVariants as starts
 use Rattle.srv6_cli.specs.declared.halt.Failure.{Failure}
@@ -21,8 +23,8 @@ use Rattle.srv6_cli.specs.declared.told.Text.{Text}
 use Rattle.srv6_cli.specs.declared.told.Told.{Told}
 use Rattle.srv6_cli.specs.Answers.{ending_of_failure, JudgesFile, JudgesInput, Commands}
 use Rattle.srv6_cli.specs.Words.{Walk}
-use Rattle.srv6_cli.specs.Command.Compile.{takes as is_taken, asks_for_intent}
-use Rattle.srv6_cli.specs.Command.Walk.{TakenWants, IntentWants, NetworkWants, HasList, HasListIn, ReadsInput, StartsAs, no_list, walk_pieces, walk_output, walked, walk_shape}
+use Rattle.srv6_cli.specs.Command.Compile.{CompiledWants, IntentWants, NetworkWants, asks_for_intent}
+use Rattle.srv6_cli.specs.Command.Walk.{WalkWants, HasList, HasListIn, ReadsInput, StartsAs, no_list, walk_pieces, walk_output, walked, walk_shape}
 use Rattle.srv6_cli.specs.Judgements.{network_in, intent_in, refused, ended_by}
 use Rattle.srv6_cli.specs.Lines.{bytes_of_text, refusal_line}
 use Rattle.srv6_cli.specs.Outside.{outside, IsFrontOf, Asks, Reads, asked_for_all, files_left_by}
@@ -77,13 +79,13 @@ module _ (file intent choices : List ℕ) where
   -- an output that is wanted of the description's judgement, and of the input
   wants : (judged : Result Network Refusal) (Q : List ℕ → Type 0) (told : Option Held) (left : Option (List ℕ)) (output : Output)
       → IfSome told (DescriptionIs judged) → IfSome left Q
-      → IfSome told (λ held. (input : List ℕ) → Q input → NetworkWants judged (file_named held intent) choices input output)
+      → IfSome told (λ held. (input : List ℕ) → Q input → NetworkWants (WalkWants choices input) judged (file_named held intent) output)
       → WantedOf (walk_shape file intent choices) told left output
   wants judged Q None left output h q w = tt
   wants judged Q (Some held) None output h q w = tt
   wants judged Q (Some held) (Some input) output h q w = some-map (file_named held file) (λ text. network_in text ≡ judged)
-      (λ text. NetworkWants (network_in text) (file_named held intent) choices input output)
-      (λ text is. subst (λ (j : Result Network Refusal). NetworkWants j (file_named held intent) choices input output) (sym is)
+      (λ text. NetworkWants (WalkWants choices input) (network_in text) (file_named held intent) output)
+      (λ text is. subst (λ (j : Result Network Refusal). NetworkWants (WalkWants choices input) j (file_named held intent) output) (sym is)
       (w input q)) h
 
   -- the input as it was
@@ -124,15 +126,15 @@ module _ (file intent choices : List ℕ) where
 
     wants-intent : (read : Result Intent Refusal) (Q : List ℕ → Type 0) (output : Output)
         → IfSome mid.told (IntentIs net read) → IfSome s.left Q
-        → ((input : List ℕ) → Q input → IntentWants net read choices input output)
+        → ((input : List ℕ) → Q input → IntentWants (WalkWants choices input) net read output)
         → WantedOf (walk_shape file intent choices) f.told s.left output
     wants-intent read Q output h q w = wants (Ok net) Q f.told s.left output judged.0 q
-        (of-first (λ held. (input : List ℕ) → Q input → NetworkWants (Ok net) (file_named held intent) choices input output)
+        (of-first (λ held. (input : List ℕ) → Q input → NetworkWants (WalkWants choices input) (Ok net) (file_named held intent) output)
         (each-map mid.told (IntentIs net read)
-        (λ held. (input : List ℕ) → Q input → NetworkWants (Ok net) (file_named held intent) choices input output)
+        (λ held. (input : List ℕ) → Q input → NetworkWants (WalkWants choices input) (Ok net) (file_named held intent) output)
         (λ held there input q. some-map (file_named held intent) (λ text. intent_in net text ≡ read)
-        (λ text. IntentWants net (intent_in net text) choices input output)
-        (λ text is. subst (λ (r : Result Intent Refusal). IntentWants net r choices input output) (sym is) (w input q)) there) h))
+        (λ text. IntentWants (WalkWants choices input) net (intent_in net text) output)
+        (λ text is. subst (λ (r : Result Intent Refusal). IntentWants (WalkWants choices input) net r output) (sym is) (w input q)) there) h))
 
     -- both files were asked for
     asks-both : (stop : Stop) → g ≡ files_left_by stop (asked_for intent mid) → Asks (walk_shape file intent choices) stop f g
@@ -159,11 +161,11 @@ module _ (file intent choices : List ℕ) where
 
     module _ (value : Intent) (read : JudgesFile (intent_in net) intent (Ok value) mid g) where
       wants-answer : (Q : List ℕ → Type 0) (output : Output) → IfSome s.left Q
-          → ((input : List ℕ) → Q input → TakenWants net value choices input (is_taken net value) output)
+          → ((input : List ℕ) → Q input → CompiledWants (WalkWants choices input) net value output)
           → WantedOf (walk_shape file intent choices) f.told s.left output
       wants-answer Q output q w = wants-intent (Ok value) Q output read.0 q w
 
-      -- the compiler doesn't take the intent, the network isn't flat, or memory was wanting
+      -- the network isn't flat, or memory was wanting
       pub walk_halted_at_start : (halt : Halt) → StartsAs net value (Err halt)
           → Commands (Walk file intent choices) (Err halt) (outside f s o e) (outside g s o e)
       walk_halted_at_start (halts.Refused refusal) h = refused_commands (Walk file intent choices) refusal f g s s o
@@ -183,8 +185,8 @@ module _ (file intent choices : List ℕ) where
           (rw status refl) (inr (inr (inl status))) (takes-unread Never f g s (asks-both Never read.1) refl)
           (λ done. cc (sym status ∙ done))
 
-      module _ (policy : Policy) (begins : StartsAs net value (Ok (starts.List policy))) (byte : value.hop_limit < 2 ^ 8)
-          (some : 0 < length choices) where
+      module _ (policy : Policy) (begins : StartsAs net value (Ok (starts.List policy))) (network : IsNetwork net)
+          (is_intent : IsIntent net value) (byte : value.hop_limit < 2 ^ 8) (some : 0 < length choices) where
         -- so the input is read
         has-list : (told : Option Held) → IfSome told (DescriptionIs (Ok net)) → IfSome told (IntentIs net (Ok value))
             → IfSome told (ReadsInput file intent)
@@ -193,7 +195,7 @@ module _ (file intent choices : List ℕ) where
             (λ text. HasListIn (network_in text) (file_named held intent))
             (λ text is. subst (λ (j : Result Network Refusal). HasListIn j (file_named held intent)) (sym is)
             (some-map (file_named held intent) (λ text. intent_in net text ≡ Ok value) (λ text. HasList net (intent_in net text))
-            (λ text is'. subst (HasList net) (sym is') (begins.0, (begins.1.0, begins.1.1))) r)) h
+            (λ text is'. subst (HasList net) (sym is') (begins.0, begins.1)) r)) h
 
         unread : IfSome f.told (λ held. (¬ ReadsInput file intent held) → t ≡ s)
         unread = each-map f.told (ReadsInput file intent) (λ held. (¬ ReadsInput file intent held) → t ≡ s)
@@ -213,12 +215,12 @@ module _ (file intent choices : List ℕ) where
             → ((input : List ℕ) → Q input → output ≡ walk_output net value policy choices input)
             → WantedOf (walk_shape file intent choices) f.told s.left output
         wants-list Q output q w = wants-answer Q output q
-            (λ input h. subst (λ (b : Bool). TakenWants net value choices input b output) (sym begins.0) (
-              Ok begins.1.0,
-              begins.1.1,
+            (λ input h. (
+              Ok begins.0,
+              begins.1,
               (
-                w input h ∙ ap (λ (p : Policy). walk_output net value p choices input) begins.1.2,
-                λ inner is. walks_keep net value begins.1.0 choices inner begins.0 byte begins.1.1 some is,
+                w input h ∙ ap (λ (p : Policy). walk_output net value p choices input) begins.2,
+                λ inner is. walks_keep net value begins.0 choices inner network is_intent byte begins.1 some is,
               ),
             ))
 

@@ -1,51 +1,64 @@
 -- How a walk starts, by the compiler's answer; and what the headend puts in front of packets is a policy.
-use Rattle.std.proofs.Common.{◌≡◌, ℕ, ◌^◌, ◌<◌, ◌≤◌, Bool, true, false, List, [], ◌∷◌, length, map, None, Some, Result, Ok, Err, refl, sym, ap, ◌∙◌, subst, arith}
+use Rattle.std.proofs.Common.{◌≡◌, ℕ, ◌^◌, ◌<◌, ◌≤◌, Bool, true, false, List, [], ◌∷◌, length, map, Result, Ok, Err, refl, sym, ap, ◌∙◌, subst, arith}
 use Rattle.std.specs.Prelude.{nat_le, nat_lt}
 use Rattle.std.proofs.lemmas.Bool.{and_parts, leb-true, ltb-true}
 use Rattle.std.proofs.lemmas.List.{length-map}
+use Rattle.v6_addr.specs.declared.address.Addr.{Addr}
 use Rattle.srv6_rules.specs.declared.policy.Policy.{Policy}
 use Rattle.srv6_rules.specs.Policies.{IsPolicy}
 use Rattle.net_model.specs.Network.{Network}
+use Rattle.net_model.specs.declared.flat.NotFlat.{NotFlat}
+use Rattle.net_model.specs.Flat.{flatness_of}
 use Rattle.intent_reader.specs.declared.intent.Intent.{Intent}
 use Rattle.intent_reader.specs.Rules.{IsIntent, is_intent}
-use Rattle.leg_table.specs.Realizes.{path_need}
-use Rattle.leg_table.specs.Value.{legs_value}
+use Rattle.list_places.specs.Lists.{IsLegal}
+use Rattle.list_pack.specs.declared.types.Container.{Container}
+use Rattle.list_pack.specs.SidLists.{list_in, list_values}
 use Rattle.path_compiler.specs.declared.compiled.Compiled.{Compiled}
 use Rattle.path_compiler.specs.declared.compiled.CompileFault.{CompileFault}
-use Rattle.path_compiler.specs.Compiled.{CompileAnswers, IsCompiled, container_of}
+use Rattle.path_compiler.specs.declared.compiled.CompileFault.TheVariants as faults
+use Rattle.path_compiler.specs.Compiled.{CompileAnswers, IsCompiled}
 use Rattle.srv6_cli.specs.declared.commands.walk.Start.TheVariants as starts
 use Rattle.srv6_cli.specs.declared.halt.Halt.TheVariants as halts
-use Rattle.srv6_cli.specs.declared.refusal.Refusal.{Refusal}
-use Rattle.srv6_cli.specs.declared.refusal.Refusal.TheVariants as refusals
 use Rattle.srv6_cli.specs.declared.told.Text.{Text}
-use Rattle.srv6_cli.specs.Command.Compile.{takes}
-use Rattle.srv6_cli.specs.Command.Walk.{AnswerWants, TakenWants, StartsAs, policy_of, segment_of, no_list}
+use Rattle.srv6_cli.specs.Command.Compile.{flat_refusal, none_line, too_long_line, hop_limit_line}
+use Rattle.srv6_cli.specs.Command.Walk.{WalkWants, StartsAs, policy_of, segment_of, no_list}
 use Rattle.srv6_cli.specs.Judgements.{refused}
 use Rattle.srv6_cli.specs.Lines.{bytes_of_text}
-use Rattle.srv6_cli.specs.Pieces.{Output}
 
--- the compiler takes the intent, or it doesn't
+-- ---- how it starts
 
-taken-wants : (net : Network) (intent : Intent) (choices input : List ℕ) (taken : Bool) (output : Output) → takes net intent ≡ taken
-    → TakenWants net intent choices input taken output → TakenWants net intent choices input (takes net intent) output
-taken-wants net intent choices input taken output is w =
-    subst (λ (b : Bool). TakenWants net intent choices input b output) (sym is) w
+pub starts_refused : (net : Network) (intent : Intent) (why : NotFlat) → CompileAnswers net intent (Err (faults.NotFlat why))
+    → StartsAs net intent (Err (halts.Refused (flat_refusal net why)))
+starts_refused net intent why answers = λ choices input. (Err (faults.NotFlat why), answers, refl)
 
-pub not_taken : (net : Network) (intent : Intent) → takes net intent ≡ false → StartsAs net intent (Err (halts.Refused refusals.NotBuilt))
-not_taken net intent is = λ choices input. taken-wants net intent choices input false (refused refusals.NotBuilt) is refl
+starts-none : (net : Network) (intent : Intent) (answer : Result Compiled CompileFault) (line : Text) → CompileAnswers net intent answer
+    → ((choices input : List ℕ) → WalkWants choices input net intent answer (no_list (bytes_of_text line)))
+    → StartsAs net intent (Ok (starts.NoList line))
+starts-none net intent answer line answers w = λ choices input. (answer, answers, w choices input)
 
-module _ (net : Network) (intent : Intent) (answer : Result Compiled CompileFault) (taken : takes net intent ≡ true)
-    (answers : CompileAnswers net intent answer) where
-  pub starts_refused : (refusal : Refusal) → ((choices input : List ℕ) → AnswerWants net intent choices input answer (refused refusal))
-      → StartsAs net intent (Err (halts.Refused refusal))
-  starts_refused refusal w =
-      λ choices input. taken-wants net intent choices input true (refused refusal) taken (answer, answers, w choices input)
+-- a line that says what another list of bytes does
+line-is : (line : Text) (bytes : List ℕ) → bytes_of_text line ≡ bytes → no_list (bytes_of_text line) ≡ no_list bytes
+line-is line bytes e = ap no_list e
 
-  pub starts_none : (line : Text)
-      → ((choices input : List ℕ) → AnswerWants net intent choices input answer (no_list (bytes_of_text line)))
-      → StartsAs net intent (Ok (starts.NoList line))
-  starts_none line w =
-      λ choices input. taken-wants net intent choices input true (no_list (bytes_of_text line)) taken (answer, answers, w choices input)
+-- ---- the segments
+
+pub addresses-of : (values : List ℕ) (segments : List Addr) → map (λ (a : Addr). a.value) segments ≡ values
+    → segments ≡ map segment_of values
+addresses-of [] [] e = refl
+addresses-of (v ∷ vs) [] e = absurd (cc)
+addresses-of [] (a ∷ more) e = absurd (cc)
+addresses-of (v ∷ vs) (a ∷ more) e =
+    let first : a.value ≡ v = head-same a.value v (map (λ (x : Addr). x.value) more) vs e in
+    let rest : map (λ (x : Addr). x.value) more ≡ vs = tail-same a.value v (map (λ (x : Addr). x.value) more) vs e in
+    ap (λ (x : ℕ). segment_of x ∷ more) first
+    ∙ ap (λ (xs : List Addr). segment_of v ∷ xs) (addresses-of vs more rest)
+  where
+    head-same : (x y : ℕ) (xs ys : List ℕ) → Path (List ℕ) (x ∷ xs) (y ∷ ys) → x ≡ y
+    head-same x y xs ys h = cc
+
+    tail-same : (x y : ℕ) (xs ys : List ℕ) → Path (List ℕ) (x ∷ xs) (y ∷ ys) → xs ≡ ys
+    tail-same x y xs ys h = cc
 
 -- the rules of an intent that the headend asks for
 pub intent_bounds : (net : Network) (intent : Intent) → IsIntent net intent
@@ -62,22 +75,23 @@ intent_bounds net intent h =
       ltb-true intent.flow_label (2 ^ 20) e.0,
     )
 
--- a path has a SID
-some-sids : (net : Network) (intent : Intent) (sids : List ℕ) (need : ℕ) → path_need net intent 0 None sids ≡ Some need → 0 < length sids
-some-sids net intent [] need h = absurd (cc)
-some-sids net intent (n ∷ ns) need h = omega arith
+-- a legal list has a container
+some-containers : (net : Network) (list : List Container) → IsLegal (list_in net list) → 0 < length list
+some-containers net [] legal = absurd legal
+some-containers net (c ∷ cs) legal = omega arith
+
+pub values-count : (net : Network) (list : List Container) → length (list_values net list) ≡ length list
+values-count net list = length-map (list_in net list) _ ∙ length-map list _
 
 -- a compiled list makes a policy
 pub list_fits : (net : Network) (intent : Intent) (c : Compiled) → IsIntent net intent → IsCompiled net intent c
-    → IsPolicy (policy_of intent c)
+    → IsPolicy (policy_of net intent c)
 list_fits net intent c is compiled =
     let bounds = intent_bounds net intent is in
-    let found = compiled.found in
-    let some = some-sids net intent found.sids c.need found.is_path in
-    let count : length (map segment_of c.list) ≡ length found.sids =
-    length-map c.list segment_of
-    ∙ (ap length found.is_list.list ∙ length-map found.sids (container_of (legs_value net intent).shape)) in
-    let containers = found.is_list.containers in
+    let some = some-containers net c.list compiled.found.chosen.whole.legal.rules in
+    let count : length (map segment_of (list_values net c.list)) ≡ length c.list
+    = length-map (list_values net c.list) segment_of ∙ values-count net c.list in
+    let containers = compiled.found.containers in
     let short = compiled.short in
     let most = bounds.1 in
     record {
@@ -89,4 +103,6 @@ list_fits net intent c is compiled =
 pub policy_fits : (net : Network) (intent : Intent) (policy : Policy) → IsIntent net intent
     → StartsAs net intent (Ok (starts.List policy)) → IsPolicy policy
 policy_fits net intent policy is begins =
-    subst IsPolicy (sym begins.1.2) (list_fits net intent begins.1.0 is begins.1.1)
+    subst IsPolicy (sym begins.2) (list_fits net intent begins.0 is begins.1)
+
+pub ruleset segments = (addresses-of)

@@ -26,10 +26,10 @@ behind_head ending more o p e new went wrote = all_then ending (ForOut written_h
 -- a frame that is the only one
 module _ (net : Network) (intent : Intent) (policy : Policy) (choices : List ℕ) (number : ℕ) (body : Body) where
   abbrev line : List ℕ
-  line = ended_line net intent.headend number (at_headend policy body)
+  line = ended_line net intent.headend number (at_headend policy intent.inner body)
 
   abbrev walks : List Piece
-  walks = walked_by net intent choices number (at_headend policy body)
+  walks = walked_by net intent choices number (at_headend policy intent.inner body)
 
   abbrev pieces : List Piece
   pieces = pieces_behind_head net intent policy choices (record { number = number; body = body } ∷ [])

@@ -1,6 +1,7 @@
 -- The words of the command line, and the shapes of the commands that they name (own rules).
 pub mod Run
 pub mod Compile
+pub mod Check
 pub mod Walk
 pub mod Show
 use Rattle.std.specs.Prelude.{◌≡◌, ℕ, ◌<◌, true, false, if◌then◌else◌, List, [], ◌∷◌, length, map, Option, Some, None, String, string_bytes, ⊤}
@@ -16,6 +17,7 @@ use Rattle.srv6_cli.specs.Words.{Command}
 use Rattle.srv6_cli.specs.Words as commands
 use Rattle.srv6_cli.specs.Command.Run.{is_run, no_choices, run_shape}
 use Rattle.srv6_cli.specs.Command.Compile.{is_compile, compile_shape}
+use Rattle.srv6_cli.specs.Command.Check.{is_check, check_shape}
 use Rattle.srv6_cli.specs.Command.Walk.{is_walk, walk_shape}
 use Rattle.srv6_cli.specs.Command.Show.{is_show, show_shape}
 
@@ -41,6 +43,7 @@ abbrev pub command_of_four : List ℕ → List ℕ → List ℕ → List ℕ →
 command_of_four verb first second third =
     if is_run verb first second then run_with first second (choices_in third)
     else if is_walk verb first second then walk_with first second (choices_in third)
+    else if is_check verb first second third then commands.Check first second third
     else commands.Unknown
 
 abbrev pub command_of : List (List ℕ) → Command
@@ -70,6 +73,7 @@ usage_shape = record {
 abbrev pub shape_of : Command → Shape
 shape_of (commands.Run file node choices) = run_shape file node choices
 shape_of (commands.Compile file intent) = compile_shape file intent
+shape_of (commands.Check file intent cert) = check_shape file intent cert
 shape_of (commands.Walk file intent choices) = walk_shape file intent choices
 shape_of commands.Show = show_shape
 shape_of commands.Unknown = usage_shape
@@ -78,6 +82,7 @@ shape_of commands.Unknown = usage_shape
 abbrev pub command_seen : Words → Command
 command_seen (words.Run file node choices) = commands.Run file.now node.now choices.items
 command_seen (words.Compile file intent) = commands.Compile file.now intent.now
+command_seen (words.Check file intent cert) = commands.Check file.now intent.now cert.now
 command_seen (words.Walk file intent choices) = commands.Walk file.now intent.now choices.items
 command_seen words.Show = commands.Show
 command_seen words.Unknown = commands.Unknown
@@ -86,6 +91,7 @@ command_seen words.Unknown = commands.Unknown
 abbrev pub HasChoices : Words → Type 0
 HasChoices (words.Run file node choices) = 0 < length choices.items
 HasChoices (words.Compile file intent) = ⊤
+HasChoices (words.Check file intent cert) = ⊤
 HasChoices (words.Walk file intent choices) = 0 < length choices.items
 HasChoices words.Show = ⊤
 HasChoices words.Unknown = ⊤

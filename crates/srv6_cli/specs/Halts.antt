@@ -9,6 +9,8 @@ use Rattle.net_model.specs.declared.fault.NetFault.{NetFault}
 use Rattle.net_model.specs.declared.fault.NetFault.TheVariants as nets
 use Rattle.intent_reader.specs.declared.fault.IntentFault.{IntentFault}
 use Rattle.intent_reader.specs.declared.fault.IntentFault.TheVariants as intents
+use Rattle.list_certificate.specs.declared.types.CertFault.{CertFault}
+use Rattle.list_certificate.specs.declared.types.CertFault.TheVariants as certs
 use Rattle.srv6_cli.specs.declared.halt.Failure.{Failure}
 use Rattle.srv6_cli.specs.declared.halt.Failure.TheVariants as failures
 use Rattle.srv6_cli.specs.declared.halt.Halt.{Halt}
@@ -62,3 +64,7 @@ halt_of_intent (intents.NoFunction step) = halts.Refused (refusals.Intent (inten
 halt_of_intent intents.NotFunctionLast = halts.Refused (refusals.Intent intents.NotFunctionLast)
 halt_of_intent (intents.DoubleLink step) = halts.Refused (refusals.Intent (intents.DoubleLink step))
 halt_of_intent intents.NoMemory = halts.Failed failures.NoMemory
+
+abbrev pub halt_of_cert : CertFault → Halt
+halt_of_cert (certs.BadCert line) = halts.Refused (refusals.BadCert line)
+halt_of_cert certs.NoMemory = halts.Failed failures.NoMemory

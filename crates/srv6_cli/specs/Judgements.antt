@@ -7,6 +7,9 @@ use Rattle.net_reader.specs.Reading.{net_in}
 use Rattle.intent_reader.specs.declared.intent.Intent.{Intent}
 use Rattle.intent_reader.specs.declared.fault.IntentFault.{IntentFault}
 use Rattle.intent_reader.specs.Judging.{intent_of_text}
+use Rattle.list_pack.specs.Value.{LegsValue}
+use Rattle.list_certificate.specs.declared.types.Cert.{Cert}
+use Rattle.list_certificate.specs.Reading.{read_of}
 use Rattle.srv6_cli.specs.declared.limits.TheConstants.{FILE_LIMIT}
 use Rattle.srv6_cli.specs.declared.refusal.Refusal.{Refusal}
 use Rattle.srv6_cli.specs.declared.refusal.Refusal.TheVariants as refusals
@@ -44,6 +47,15 @@ intent_by read = refused_as (λ fault. refusals.Intent fault) read
 abbrev pub intent_in : Network → List ℕ → Result Intent Refusal
 intent_in net text =
     if nat_lt FILE_LIMIT (length text) then Err (refusals.TooBig FILE_LIMIT) else intent_by (intent_of_text net text)
+
+-- the certificate that a text spells for legs in a network, or its first bad line
+
+abbrev pub cert_by : Result Cert ℕ → Result Cert Refusal
+cert_by read = refused_as (λ line. refusals.BadCert line) read
+
+abbrev pub cert_in : Network → LegsValue → List ℕ → Result Cert Refusal
+cert_in net legs text =
+    if nat_lt FILE_LIMIT (length text) then Err (refusals.TooBig FILE_LIMIT) else cert_by (read_of net legs text)
 
 -- the output of a refusal: its line
 abbrev pub refused : Refusal → Output

@@ -29,6 +29,7 @@ use Rattle.srv6_cli.specs.declared.told.Text.TheVariants as texts
 abbrev pub bytes_of_text : Text → List ℕ
 bytes_of_text (texts.Fixed bytes) = bytes.now
 bytes_of_text (texts.Made text) = string_bytes text
+bytes_of_text (texts.Bytes bytes) = bytes.items
 
 -- a line is ended by a line feed
 abbrev pub line : List ℕ → List ℕ
@@ -100,7 +101,11 @@ refusal_text (refusals.Capture fault) = capture_text fault
 refusal_text (refusals.CutFrame frame) = codes "refused 16 CutFrame " ++ decimal frame
 refusal_text refusals.BadNode = codes "refused 39 BadNode"
 refusal_text (refusals.Nested outer inner) = codes "refused 41 Nested " ++ (prefix_text outer ++ 32 ∷ prefix_text inner)
-refusal_text refusals.NotBuilt = codes "refused 90 NotBuilt"
+refusal_text (refusals.ZeroCsid prefix) = codes "refused 42 ZeroCsid " ++ prefix_text prefix
+refusal_text (refusals.MixedBlock block prefix) = codes "refused 43 MixedBlock " ++ (prefix_text block ++ 32 ∷ prefix_text prefix)
+refusal_text (refusals.Clash prefix first second) =
+    codes "refused 44 Clash " ++ (prefix_text prefix ++ 32 ∷ (first ++ 32 ∷ second))
+refusal_text (refusals.BadCert line) = codes "refused 45 BadCert " ++ decimal line
 
 abbrev pub refusal_line : Refusal → List ℕ
 refusal_line refusal = line (refusal_text refusal)

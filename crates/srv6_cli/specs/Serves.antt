@@ -17,6 +17,7 @@ ending_of_status statuses.Done = Whole
 ending_of_status statuses.Refused = Whole
 ending_of_status statuses.Usage = Whole
 ending_of_status statuses.NoAnswer = Whole
+ending_of_status statuses.SaysNo = Whole
 ending_of_status statuses.OutsideFault = Fault
 ending_of_status statuses.NoMemory = Memory
 

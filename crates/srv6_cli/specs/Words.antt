@@ -6,6 +6,7 @@ use Rattle.std.specs.Str.{bytes_eq}
 pub data Command : Type 0 where
   Run : List ℕ → List ℕ → List ℕ → Command
   Compile : List ℕ → List ℕ → Command
+  Check : List ℕ → List ℕ → List ℕ → Command
   Walk : List ℕ → List ℕ → List ℕ → Command
   Show : Command
   Unknown : Command
@@ -17,3 +18,7 @@ is_word word = not (length word == 0)
 -- a verb with two such words behind it
 abbrev pub has_two_words : List ℕ → List ℕ → List ℕ → List ℕ → Bool
 has_two_words name verb first second = bytes_eq verb name && (is_word first && is_word second)
+
+-- a verb with three such words behind it
+abbrev pub has_three_words : List ℕ → List ℕ → List ℕ → List ℕ → List ℕ → Bool
+has_three_words name verb first second third = bytes_eq verb name && (is_word first && (is_word second && is_word third))

@@ -6,6 +6,7 @@ ghost use Rattle.srv6_cli.specs.Choices.{choices_in};
 ghost use Rattle.srv6_cli.specs.Command.{HasChoices, command_of, command_of_four, command_of_three, command_seen, run_with, walk_with, words_of};
 ghost use Rattle.srv6_cli.specs.Outside.{outside};
 
+mod check;
 mod compile;
 mod run;
 mod show;
@@ -37,6 +38,15 @@ pub enum Words<'a> {
         file: &'a str,
         /// The intent's name.
         intent: &'a str,
+    },
+    /// The verdict on a certificate for the intent of a file in the network that another describes.
+    Check {
+        /// The description's name.
+        file: &'a str,
+        /// The intent's name.
+        intent: &'a str,
+        /// The certificate's name.
+        cert: &'a str,
     },
     /// A walk of the inner packets of the input along the list for the intent of a file in the
     /// network that another describes.
@@ -130,23 +140,30 @@ fn words_of_three<'a>(
     Ok(Words::Unknown)
 }
 
-/// What a verb with two words and choices behind it spells.
+/// What a verb with three words behind it spells, the last of which are choices or a file.
 fn words_of_four<'a>(
     alloc: Global,
     verb: &str,
     first: &'a str,
     second: &'a str,
-    choices: &str,
+    third: &'a str,
 ) -> Result<Words<'a>, AllocError>
     ensures spelled { IfOk result (λ words. command_seen words
-        ≡ command_of_four verb.now first.now second.now choices.now) }
+        ≡ command_of_four verb.now first.now second.now third.now) }
     ensures some { IfOk result HasChoices }
 {
     if verb == "run" && !first.is_empty() && !second.is_empty() {
-        return run_with(alloc, first, second, choices);
+        return run_with(alloc, first, second, third);
     }
     if verb == "walk" && !first.is_empty() && !second.is_empty() {
-        return walk_with(alloc, first, second, choices);
+        return walk_with(alloc, first, second, third);
+    }
+    if verb == "check" && !first.is_empty() && !second.is_empty() && !third.is_empty() {
+        return Ok(Words::Check {
+            file: first,
+            intent: second,
+            cert: third,
+        });
     }
     Ok(Words::Unknown)
 }
@@ -161,12 +178,12 @@ fn read_words(alloc: Global, words: &[String]) -> Result<Words<'_>, AllocError>
         [verb, first, second] => {
             words_of_three(alloc, verb.as_str(), first.as_str(), second.as_str())
         }
-        [verb, first, second, choices] => words_of_four(
+        [verb, first, second, third] => words_of_four(
             alloc,
             verb.as_str(),
             first.as_str(),
             second.as_str(),
-            choices.as_str(),
+            third.as_str(),
         ),
         _ => Ok(Words::Unknown),
     }
@@ -213,6 +230,7 @@ pub fn command<F: Files, S: Source, O: Sink, E: Sink>(
             err,
         ),
         Words::Compile { file, intent } => compile::compile(alloc, file, intent, files, out),
+        Words::Check { file, intent, cert } => check::check(alloc, file, intent, cert, files, out),
         Words::Walk {
             file,
             intent,

@@ -5,6 +5,7 @@ ghost use Rattle.std.specs.Prelude.{◌≡◌};
 use crate::refusal::Refusal;
 use base::NoMemory;
 use intent_reader::IntentFault;
+use list_certificate::CertFault;
 use net_model::NetFault;
 use srx_edge::{DrawFault, FileFault, PourFault};
 use std::alloc::AllocError;
@@ -19,7 +20,7 @@ pub enum Failure {
 }
 
 /// Why a command ends before its end.
-#[derive(Clone, Copy, Debug)]
+#[derive(Debug, Drop)]
 pub enum Halt {
     /// What was judged is refused.
     Refused(Refusal),
@@ -76,6 +77,16 @@ impl From<AllocError> for Halt {
     ghost from_gives = { λ _ halt. halt ≡ halt_of_failure memory_fails };
 
     fn from(_: AllocError) -> Halt {
+        Halt::Failed(Failure::NoMemory)
+    }
+}
+
+impl From<NoMemory> for Halt {
+    ghost use Rattle.srv6_cli.specs.Halts.{halt_of_failure, memory_fails};
+
+    ghost from_gives = { λ _ halt. halt ≡ halt_of_failure memory_fails };
+
+    fn from(_: NoMemory) -> Halt {
         Halt::Failed(Failure::NoMemory)
     }
 }
@@ -156,6 +167,19 @@ impl From<IntentFault> for Halt {
             | IntentFault::NoFunction { .. }
             | IntentFault::NotFunctionLast
             | IntentFault::DoubleLink { .. } => Halt::Refused(Refusal::Intent(fault)),
+        }
+    }
+}
+
+impl From<CertFault> for Halt {
+    ghost use Rattle.srv6_cli.specs.Halts.{halt_of_cert};
+
+    ghost from_gives = { λ fault halt. halt ≡ halt_of_cert fault };
+
+    fn from(fault: CertFault) -> Halt {
+        match fault {
+            CertFault::NoMemory => Halt::Failed(Failure::NoMemory),
+            CertFault::BadCert { line } => Halt::Refused(Refusal::BadCert { line }),
         }
     }
 }

@@ -2,13 +2,17 @@
 
 ghost use Rattle.std.specs.Prelude.{◌≡◌, ◌<◌, IfOk, length};
 ghost use Rattle.intent_reader.specs.Rules.{IsIntent};
+ghost use Rattle.list_certificate.specs.Certs.{IsCert};
+ghost use Rattle.list_certificate.specs.Reading.{IsNetworkOf};
 ghost use Rattle.srv6_cli.specs.Answers.{JudgesFile};
-ghost use Rattle.srv6_cli.specs.Judgements.{network_in, node_in, intent_in};
+ghost use Rattle.srv6_cli.specs.Judgements.{network_in, node_in, intent_in, cert_in};
 
 use crate::halt::Halt;
 use crate::limits::FILE_LIMIT;
 use crate::refusal::Refusal;
 use intent_reader::{Intent, read_intent};
+use list_certificate::{Cert, read};
+use list_pack::Legs;
 use net_model::Net;
 use net_reader::read_net;
 use srx_edge::Files;
@@ -37,6 +41,24 @@ pub fn intent_of_file<F: Files>(
 {
     let text = files.read(alloc, name, FILE_LIMIT)?;
     Ok(read_intent(alloc, text.as_slice(), net)?)
+}
+
+/// The certificate that the file of this name gives for legs in a network.
+#[tactic(auto, using(crate::proofs::Certificates::certificates))]
+pub fn cert_of_file<F: Files, L: Legs>(
+    alloc: Global,
+    files: &mut F,
+    net: &Net,
+    legs: &L,
+    name: &str,
+) -> Result<Cert, Halt>
+    requires { IsNetworkOf net.now (L.seen legs.now) }
+    ensures judged { JudgesFile (cert_in net.now (L.seen legs.now)) name.now result
+        (F.seen files.old) (F.seen files.new) }
+    ensures cert { IfOk result (IsCert (L.seen legs.now)) }
+{
+    let text = files.read(alloc, name, FILE_LIMIT)?;
+    Ok(read(alloc, net, legs, text.as_slice())?)
 }
 
 /// The number of the node of this name.

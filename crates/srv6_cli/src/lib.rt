@@ -14,6 +14,7 @@ mod judge;
 pub mod laws;
 mod limits;
 mod lines;
+mod node_name;
 mod packets;
 mod refusal;
 mod status;
@@ -22,6 +23,7 @@ mod top;
 mod walk;
 
 pub use limits::{FILE_LIMIT, INPUT_LIMIT, STAGES};
+pub use node_name::NodeName;
 pub use refusal::Refusal;
 pub use status::Status;
 pub use top::serve;

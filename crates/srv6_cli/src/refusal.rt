@@ -1,16 +1,18 @@
 //! Why a command is refused.
 
 ghost use Rattle.std.specs.Prelude.{◌≡◌};
+ghost use Rattle.srv6_cli.specs.Command.Compile.{flat_refusal};
 ghost use Rattle.srv6_cli.specs.Lines.{fault_number};
 
+use crate::node_name::NodeName;
 use intent_reader::IntentFault;
-use net_model::NetFault;
+use net_model::{Net, NetFault, NotFlat};
 use pcap_io::CaptureFault;
 use std::fmt;
 use v6_addr::Prefix;
 
 /// Why a command was refused; each has a number of its own in the line on `err`.
-#[derive(Clone, Copy, Debug, PartialEq, Eq)]
+#[derive(Debug, Drop, PartialEq, Eq)]
 pub enum Refusal {
     /// 2: a file or the input has more than `limit` bytes.
     TooBig {
@@ -38,9 +40,55 @@ pub enum Refusal {
         /// The prefix inside.
         inner: Prefix,
     },
-    /// 90: `compile` doesn't take the network or the intent yet: nodes don't run one of the SIDs,
-    /// or the packets of the intent are IPv4.
-    NotBuilt,
+    /// 42: the bits of a SID behind its block's are all 0.
+    ZeroCsid {
+        /// The SID's prefix.
+        prefix: Prefix,
+    },
+    /// 43: a SID overlaps a block and is no longer than it, or has a length that SIDs of the block
+    /// do not have.
+    MixedBlock {
+        /// The block's prefix.
+        block: Prefix,
+        /// The SID's prefix.
+        prefix: Prefix,
+    },
+    /// 44: SIDs of two nodes on one prefix, both of which make the next segment the destination,
+    /// are compressed in two ways.
+    Clash {
+        /// The SIDs' prefix.
+        prefix: Prefix,
+        /// The name of the node of the SID that comes first in the description.
+        first: NodeName,
+        /// The name of the other's node.
+        second: NodeName,
+    },
+    /// 45: the certificate's text gives none over the legs of the intent.
+    BadCert {
+        /// The first line that is outside the grammar or names no state, counted from 1; where
+        /// there is none and the text ends too early, the line after the last.
+        line: u32,
+    },
+}
+
+/// The refusal of a network that is not flat.
+pub(crate) fn refusal_of_not_flat(net: &Net, why: &NotFlat) -> Refusal
+    ensures { result ≡ flat_refusal net.now why.now }
+{
+    match *why {
+        NotFlat::Nested { outer, inner } => Refusal::Nested { outer, inner },
+        NotFlat::ZeroCsid { prefix } => Refusal::ZeroCsid { prefix },
+        NotFlat::MixedBlock { block, prefix } => Refusal::MixedBlock { block, prefix },
+        NotFlat::Clash {
+            prefix,
+            first,
+            second,
+        } => Refusal::Clash {
+            prefix,
+            first: NodeName::of_node(net, first),
+            second: NodeName::of_node(net, second),
+        },
+    }
 }
 
 /// The number of a fault of a text; want of memory, which is no refusal, has none. (own rule)
@@ -160,7 +208,16 @@ impl fmt::Display for Refusal {
             }
             Refusal::BadNode => write!(f, "refused 39 BadNode"),
             Refusal::Nested { outer, inner } => write!(f, "refused 41 Nested {outer} {inner}"),
-            Refusal::NotBuilt => write!(f, "refused 90 NotBuilt"),
+            Refusal::ZeroCsid { prefix } => write!(f, "refused 42 ZeroCsid {prefix}"),
+            Refusal::MixedBlock { block, prefix } => {
+                write!(f, "refused 43 MixedBlock {block} {prefix}")
+            }
+            Refusal::Clash {
+                prefix,
+                first,
+                second,
+            } => write!(f, "refused 44 Clash {prefix} {first} {second}"),
+            Refusal::BadCert { line } => write!(f, "refused 45 BadCert {line}"),
         }
     }
 }

@@ -6,13 +6,15 @@ pub enum Status {
     /// The command's output was written whole, and what it reads from the input was read to its
     /// end.
     Done = 0,
-    /// A file, the input or a node's name is outside its grammar or limit, or the network isn't
-    /// flat for `compile`.
+    /// A file, the input, a node's name or a certificate is outside its grammar or limit, or the
+    /// network isn't flat for `compile`, `check` or `walk`.
     Refused = 1,
     /// The words are no command.
     Usage = 2,
     /// `compile` has no list, or the list that it found is outside the intent's limits.
     NoAnswer = 3,
+    /// `check` finds a bad line.
+    SaysNo = 4,
     /// A fault of the files, the input or a sink.
     OutsideFault = 5,
     /// Want of memory.

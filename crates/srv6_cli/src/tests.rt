@@ -96,8 +96,12 @@ links = ["bc"]
 function = "vpn"
 "#;
 
-/// One segment, and no routing header: 40 bytes of outer header.
-const REPORT: &str = "# container fcbb:bb00:f001::\n# containers 1\n# header 40\n# need 1\n";
+/// One segment, and no routing header: 40 bytes of outer header. The certificate is the one below.
+const REPORT: &str = "# container fcbb:bb00:f001::\n# containers 1\n# header 40\n# need 1
+srv6 certificate 1\npotential 0 - 0 1 1\npath new fcbb:bb00:f001::/48\nend\n";
+
+/// The certificate of that list: the only path from the start to the end.
+const CERT: &str = "srv6 certificate 1\npotential 0 - 0 1 1\npath new fcbb:bb00:f001::/48\nend\n";
 
 /// The headers of the packet.
 const SHOWN: &str = "packet 1
@@ -157,6 +161,9 @@ fn files_of(alloc: Global, fails: u64) -> Result<MemFiles, Fail> {
     if !files.holds("enough.toml") {
         files.hold("enough.toml", ENOUGH.as_bytes())?;
     }
+    if !files.holds("cert") {
+        files.hold("cert", CERT.as_bytes())?;
+    }
     Ok(files)
 }
 
@@ -203,6 +210,8 @@ fn expect_fronts(
 const RUN: &[&str] = &["run", "net.toml", "A"];
 
 const COMPILE: &[&str] = &["compile", "net.toml", "intent.toml"];
+
+const CHECK: &[&str] = &["check", "net.toml", "intent.toml", "cert"];
 
 const WALK: &[&str] = &["walk", "net.toml", "enough.toml", "0"];
 
@@ -253,6 +262,14 @@ const OF_COMPILE: &[Faults] = &[
     Faults { err: 1, ..NONE },
 ];
 
+/// Each file is read by one call, and the verdict is written by one.
+const OF_CHECK: &[Faults] = &[
+    Faults { files: 1, ..NONE },
+    Faults { files: 2, ..NONE },
+    Faults { files: 3, ..NONE },
+    Faults { out: 1, ..NONE },
+];
+
 #[test]
 fn each_call_of_run_fails(rt: HostRuntime) -> Result<(), Fail> {
     expect_fronts(&rt, rt.alloc(), RUN, OF_RUN)
@@ -271,6 +288,16 @@ fn each_call_of_show_fails(rt: HostRuntime) -> Result<(), Fail> {
 #[test]
 fn each_call_of_compile_fails(rt: HostRuntime) -> Result<(), Fail> {
     expect_fronts(&rt, rt.alloc(), COMPILE, OF_COMPILE)
+}
+
+#[test]
+fn each_call_of_check_fails(rt: HostRuntime) -> Result<(), Fail> {
+    expect_fronts(&rt, rt.alloc(), CHECK, OF_CHECK)?;
+    let whole = serve_words(rt.alloc(), CHECK, &NONE)?;
+    assert_eq!(rt; whole.status, Status::Done);
+    assert_eq!(rt; whole.out.as_slice(), b"least 1 1\n".as_slice());
+    assert_eq!(rt; whole.err.len(), 0);
+    Ok(())
 }
 
 /// The outer packet crosses two links with 40 bytes more, and C hands the inner packet over, which

@@ -11,6 +11,8 @@ pub enum Text {
     Fixed(&'static [u8]),
     /// Text that was made.
     Made(String),
+    /// Text that was made as bytes.
+    Bytes(Vec<u8>),
 }
 
 impl Text {
@@ -23,6 +25,7 @@ impl Text {
         match self {
             Text::Fixed(bytes) => bytes,
             Text::Made(text) => text.as_bytes(),
+            Text::Bytes(bytes) => bytes.as_slice(),
         }
     }
 }

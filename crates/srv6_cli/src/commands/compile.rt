@@ -1,56 +1,48 @@
 //! The command `compile`: a list for the intent of a file in the network that another describes.
 
 ghost use Rattle.std.specs.Prelude.{◌≡◌, IfOk, string_bytes};
-ghost use Rattle.std.specs.List.{flat_map, list_all};
-ghost use Rattle.srv6_rules.specs.Behaviours.{is_listed};
+ghost use Rattle.std.specs.List.{flat_map};
+ghost use Rattle.net_model.specs.Keeps.{Keeps};
+ghost use Rattle.net_model.specs.Rules.{IsNetwork};
+ghost use Rattle.path_compiler.specs.Compiled.{CompileAnswers};
 ghost use Rattle.srv6_cli.specs.Answers.{CommandsUnread};
 ghost use Rattle.srv6_cli.specs.Words.{Compile};
 ghost use Rattle.intent_reader.specs.Rules.{IsIntent};
-ghost use Rattle.srv6_cli.specs.Command.Compile.{container_address, container_line, is_ipv6, numbers_lines, report_of, takes};
+ghost use Rattle.srv6_cli.specs.Command.Compile.{HasValues, KnowsStates, container_line, hop_limit_line, none_line, numbers_lines, printed, report_of, too_long_line};
 ghost use Rattle.srv6_cli.specs.Lines.{bytes_of_text};
 
 use crate::halt::{Failure, Halt};
 use crate::judge::{intent_of_file, network_of_file};
-use crate::refusal::Refusal;
+use crate::refusal::refusal_of_not_flat;
 use crate::status::Status;
 use crate::told::{Text, Told};
 use crate::walk::write_all;
+use base::NoMemory;
 use intent_reader::Intent;
-use leg_table::{Container, all_listed};
-use net_model::{Net, NotFlat};
+use list_certificate::print;
+use list_pack::{Solution, values};
+use net_model::Net;
 use path_compiler::{CompileFault, Compiled};
-use srv6_rules::Family;
 use srx_edge::{Files, Sink};
 use std::alloc::{AllocError, Global};
 use v6_addr::Addr;
 
-/// The address of a container.
-pub fn address_of_container(container: &Container) -> Addr
-    ensures { result.value ≡ container_address container.now }
-{
-    let Container::Full(prefixes) = container;
-    match prefixes.as_slice() {
-        [first, ..] => first.value(),
-        [] => Addr { value: 0 },
-    }
-}
-
-/// A container's line.
+/// The line of a container with its 16 bytes as an address.
 #[tactic(auto, unfolding(crate::specs::Command::Compile::container_line))]
-fn line_of_container(alloc: Global, container: &Container) -> Result<String, AllocError>
-    ensures { IfOk result (λ line. string_bytes line ≡ container_line container.now) }
+fn line_of_container(alloc: Global, value: Addr) -> Result<String, AllocError>
+    ensures { IfOk result (λ line. string_bytes line ≡ container_line value.value) }
 {
-    let address = address_of_container(container);
-    format!(in alloc; "# container {address}\n")
+    format!(in alloc; "# container {value}\n")
 }
 
 /// The lines of containers, in order.
-fn lines_of_containers(alloc: Global, containers: &[Container]) -> Result<String, AllocError>
-    ensures { IfOk result (λ lines. string_bytes lines ≡ flat_map container_line containers.now) }
+fn lines_of_containers(alloc: Global, values: &[Addr]) -> Result<String, AllocError>
+    ensures { IfOk result (λ lines. string_bytes lines
+        ≡ flat_map (λ a. container_line a.value) values.now) }
 {
     let mut lines = String::new(alloc);
-    for container in containers {
-        let line = line_of_container(alloc, container)?;
+    for value in values {
+        let line = line_of_container(alloc, *value)?;
         lines.push_str(&line)?;
     }
     Ok(lines)
@@ -70,31 +62,58 @@ fn lines_of_numbers(
 }
 
 /// The report of a list.
-fn report_of_list(alloc: Global, compiled: &Compiled) -> Result<String, AllocError>
-    ensures { IfOk result (λ report. string_bytes report ≡ report_of compiled.now) }
+fn report_of_list(alloc: Global, net: &Net, compiled: &Compiled) -> Result<String, NoMemory>
+    requires { HasValues net.now compiled.now }
+    ensures { IfOk result (λ report. string_bytes report ≡ report_of net.now compiled.now) }
 {
-    let mut report = lines_of_containers(alloc, compiled.list.as_slice())?;
+    let values = values(alloc, net, &compiled.list)?;
+    let mut report = lines_of_containers(alloc, values.as_slice())?;
     let numbers = lines_of_numbers(alloc, compiled.containers, compiled.header, compiled.need)?;
     report.push_str(&numbers)?;
     Ok(report)
 }
 
-/// Whether a family is IPv6.
-fn is_ipv6(family: Family) -> bool
-    ensures { result ≡ is_ipv6 family }
+/// A report, and the certificate of what the search found behind it.
+fn with_certificate(
+    alloc: Global,
+    net: &Net,
+    report: &[u8],
+    solution: &Solution,
+) -> Result<Text, NoMemory>
+    requires { KnowsStates net.now solution.now }
+    ensures { IfOk result (λ text. bytes_of_text text ≡ printed net.now report.now solution.now) }
 {
-    matches!(family, Family::V6)
+    let mut bytes = Vec::new(alloc);
+    bytes.extend_from_slice(report)?;
+    print(alloc, net, solution, &mut bytes)?;
+    Ok(Text::Bytes(bytes))
 }
 
-/// Whether the compiler takes the network and the intent: lists take all SIDs, and the packets are
-/// IPv6. (own rule)
-pub fn takes(net: &Net, intent: &Intent) -> bool
-    ensures { result ≡ takes net.now intent.now }
+/// The line of an intent without a list.
+#[tactic(auto, unfolding(crate::specs::Command::Compile::none_line))]
+pub fn line_of_none() -> Text
+    ensures { bytes_of_text result ≡ none_line }
 {
-    is_ipv6(intent.inner) && all_listed(net)
+    Text::Fixed(b"no answer NoList\n")
 }
 
-/// What `compile` has to write: its report on `out`, and what it has to say.
+/// The line of a list with too many containers.
+#[tactic(auto, unfolding(crate::specs::Command::Compile::too_long_line))]
+pub fn line_of_too_long(alloc: Global, containers: u32) -> Result<Text, AllocError>
+    ensures { IfOk result (λ line. bytes_of_text line ≡ too_long_line containers) }
+{
+    Ok(Text::Made(format!(in alloc; "no answer TooLong {containers}\n")?))
+}
+
+/// The line of a list that needs a greater hop limit.
+#[tactic(auto, unfolding(crate::specs::Command::Compile::hop_limit_line))]
+pub fn line_of_hop_limit(alloc: Global, need: u32) -> Result<Text, AllocError>
+    ensures { IfOk result (λ line. bytes_of_text line ≡ hop_limit_line need) }
+{
+    Ok(Text::Made(format!(in alloc; "no answer HopLimit {need}\n")?))
+}
+
+/// What `compile` has to write: its report with the certificate on `out`, and what it has to say.
 #[derive(Drop)]
 struct Answer {
     report: Text,
@@ -102,91 +121,86 @@ struct Answer {
 }
 
 impl Answer {
-    ghost use Rattle.srv6_cli.specs.Command.Compile.{reported, no_report, none_line, too_long_line, hop_limit_line, output_of_answer, Gives, GivesOf};
+    ghost use Rattle.srv6_cli.specs.Command.Compile.{reported, no_report, output_of_answer, Gives, GivesOf};
 
     /// The answer of a list that was found.
     fn of_list(
         alloc: Global,
+        net: &Net,
         found: &Compiled,
         line: Text,
         status: Status,
-    ) -> Result<Answer, AllocError>
+    ) -> Result<Answer, NoMemory>
+        requires values { HasValues net.now found.now }
+        requires known { KnowsStates net.now found.now.solution }
         ensures { IfOk result (λ answer. output_of_answer answer
-            ≡ reported (report_of found.now) (bytes_of_text line) status) }
+            ≡ reported (printed net.now (report_of net.now found.now) found.now.solution)
+            (bytes_of_text line) status) }
     {
+        let report = report_of_list(alloc, net, found)?;
         Ok(Answer {
-            report: Text::Made(report_of_list(alloc, found)?),
+            report: with_certificate(alloc, net, report.as_bytes(), &found.solution)?,
             told: Told { line, status },
         })
     }
 
     /// The answer where there is no list.
-    #[tactic(auto, unfolding(crate::specs::Command::Compile::no_report, crate::specs::Command::Compile::none_line))]
-    fn of_none() -> Answer
-        ensures { output_of_answer result ≡ reported no_report none_line Status.NoAnswer }
+    #[tactic(auto, unfolding(crate::specs::Command::Compile::no_report))]
+    fn of_none(alloc: Global, net: &Net, solution: &Solution) -> Result<Answer, NoMemory>
+        requires { KnowsStates net.now solution.now }
+        ensures { IfOk result (λ answer. output_of_answer answer
+            ≡ reported (printed net.now no_report solution.now) none_line Status.NoAnswer) }
     {
-        Answer {
-            report: Text::Fixed(b"# none\n"),
+        Ok(Answer {
+            report: with_certificate(alloc, net, b"# none\n", solution)?,
             told: Told {
-                line: Text::Fixed(b"no answer NoList\n"),
+                line: line_of_none(),
                 status: Status::NoAnswer,
             },
-        }
-    }
-
-    /// The answer of a list with too many containers.
-    #[tactic(auto, unfolding(crate::specs::Command::Compile::too_long_line))]
-    fn of_too_long(alloc: Global, found: &Compiled) -> Result<Answer, AllocError>
-        ensures { IfOk result (λ answer. output_of_answer answer
-            ≡ reported (report_of found.now) (too_long_line found.now.containers) Status.NoAnswer) }
-    {
-        let count = found.containers;
-        let line = format!(in alloc; "no answer TooLong {count}\n")?;
-        Answer::of_list(alloc, found, Text::Made(line), Status::NoAnswer)
-    }
-
-    /// The answer of a list that needs a greater hop limit.
-    #[tactic(auto, unfolding(crate::specs::Command::Compile::hop_limit_line))]
-    fn of_hop_limit(alloc: Global, found: &Compiled) -> Result<Answer, AllocError>
-        ensures { IfOk result (λ answer. output_of_answer answer
-            ≡ reported (report_of found.now) (hop_limit_line found.now.need) Status.NoAnswer) }
-    {
-        let need = found.need;
-        let line = format!(in alloc; "no answer HopLimit {need}\n")?;
-        Answer::of_list(alloc, found, Text::Made(line), Status::NoAnswer)
+        })
     }
 
     /// What is to be written of the compiler's answer.
-    fn of_compiled(alloc: Global, compiled: &Result<Compiled, CompileFault>) -> Result<Answer, Halt>
-        ensures { Gives compiled.now result }
+    #[tactic(auto, using(crate::proofs::Compiling::valued))]
+    fn of_compiled(
+        alloc: Global,
+        net: &Net,
+        intent: &Intent,
+        compiled: &Result<Compiled, CompileFault>,
+    ) -> Result<Answer, Halt>
+        requires network { IsNetwork net.now }
+        requires facts { Keeps net.now }
+        requires answers { CompileAnswers net.now intent.now compiled.now }
+        ensures { Gives net.now intent.now compiled.now result }
     {
         match compiled {
-            Ok(list) => Ok(Answer::of_list(alloc, list, Text::Fixed(b""), Status::Done)?),
-            Err(CompileFault::NotFlat(NotFlat::Nested { outer, inner })) => {
-                Err(Halt::Refused(Refusal::Nested {
-                    outer: *outer,
-                    inner: *inner,
-                }))
+            Ok(list) => {
+                let line = Text::Fixed(b"");
+                Ok(Answer::of_list(alloc, net, list, line, Status::Done)?)
             }
-            Err(CompileFault::NoList { .. }) => Ok(Answer::of_none()),
-            Err(CompileFault::TooLong { found }) => Ok(Answer::of_too_long(alloc, found)?),
-            Err(CompileFault::HopLimit { found }) => Ok(Answer::of_hop_limit(alloc, found)?),
+            Err(CompileFault::NotFlat(why)) => Err(Halt::Refused(refusal_of_not_flat(net, why))),
+            Err(CompileFault::NoList { solution }) => Ok(Answer::of_none(alloc, net, solution)?),
+            Err(CompileFault::TooLong { found }) => {
+                let line = line_of_too_long(alloc, found.containers)?;
+                Ok(Answer::of_list(alloc, net, found, line, Status::NoAnswer)?)
+            }
+            Err(CompileFault::HopLimit { found }) => {
+                let line = line_of_hop_limit(alloc, found.need)?;
+                Ok(Answer::of_list(alloc, net, found, line, Status::NoAnswer)?)
+            }
             Err(CompileFault::NoMemory) => Err(Halt::Failed(Failure::NoMemory)),
         }
     }
 
-    /// What is to be written of an intent in a network: the compiler's answer, or the refusal of
-    /// what it does not take yet.
+    /// What is to be written of an intent in a network: the compiler's answer.
     #[tactic(auto, using(crate::proofs::Compiling::taken))]
     fn of_intent(alloc: Global, net: &Net, intent: &Intent) -> Result<Answer, Halt>
         requires { IsIntent net.now intent.now }
         ensures { GivesOf net.now intent.now result }
     {
-        if !takes(net, intent) {
-            return Err(Halt::Refused(Refusal::NotBuilt));
-        }
+        net.keeps_rules();
         let compiled = path_compiler::compile(alloc, net, intent);
-        Answer::of_compiled(alloc, &compiled)
+        Answer::of_compiled(alloc, net, intent, &compiled)
     }
 }
 

@@ -9,32 +9,30 @@ ghost use Rattle.srv6_rules.specs.Packet.{entered};
 ghost use Rattle.srv6_rules.specs.Policies.{IsPolicy, encapsulated_by};
 ghost use Rattle.policy_encap.specs.Inner.{HoldsInner};
 ghost use Rattle.intent_reader.specs.Rules.{IsIntent};
-ghost use Rattle.path_compiler.specs.Compiled.{CompileAnswers};
 ghost use Rattle.srv6_cli.specs.Answers.{Commands, ending_of_step};
 ghost use Rattle.srv6_cli.specs.Words.{Walk};
-ghost use Rattle.srv6_cli.specs.Command.Compile.{none_line, too_long_line, hop_limit_line, takes as is_taken};
+ghost use Rattle.srv6_cli.specs.Command.Compile.{HasValues};
 ghost use Rattle.srv6_cli.specs.Command.Run.{packet_pieces};
-ghost use Rattle.srv6_cli.specs.Command.Walk.{StartsAs, at_headend, drop_line, ended_line, ended_of_frame, of_content, of_encapsulating, pieces_behind_head, policy_of, segment_of, walk_at_headend, walk_pieces, walked_by, walked_of_frame};
-ghost use Rattle.srv6_cli.specs.Lines.{bytes_of_text};
+ghost use Rattle.srv6_cli.specs.Command.Walk.{StartsAs, at_headend, ended_line, ended_of_frame, of_content, of_encapsulating, pieces_behind_head, policy_of, walk_at_headend, walk_pieces, walked_by, walked_of_frame};
 ghost use Rattle.srv6_cli.specs.Outside.{outside};
 ghost use Rattle.srv6_cli.specs.Packets.{HasHead, fault_of, reading_of};
 ghost use Rattle.srv6_cli.specs.Pieces.{WroteAll, sinks_of};
 
-use super::compile::{address_of_container, takes};
+use super::compile::{line_of_hop_limit, line_of_none, line_of_too_long};
 use super::run::write_head;
 use crate::halt::{Failure, Halt};
 use crate::judge::{intent_of_file, network_of_file};
 use crate::lines::{line_of_packet, line_of_unread};
 use crate::packets::{Next, Packets, Unread, next_of, packets_of_input};
-use crate::refusal::Refusal;
+use crate::refusal::{Refusal, refusal_of_not_flat};
 use crate::status::Status;
 use crate::told::{Text, Told};
 use crate::walk::{Buffers, write_all, write_walk};
 use base::{NoMemory, Seq};
 use intent_reader::Intent;
-use ip6_headers::Ip6View;
-use leg_table::Container;
-use net_model::{Name, Net, NotFlat};
+use ip6_headers::{Ip4View, Ip6View};
+use list_pack::values;
+use net_model::Net;
 use node_stage::Content;
 use path_compiler::{CompileFault, Compiled};
 use pcap_io::{Body, CaptureHead, Frame, FrameReader, HEAD_LEN, MAX_FRAMES};
@@ -43,38 +41,8 @@ use policy_encap::{EncapFault, encap};
 use srv6_rules::numbers::{IPV6_HEADER_LEN, MOST_LEN};
 use srv6_rules::{Family, Policy, Reason};
 use srx_edge::{Files, Sink, Source};
-use std::alloc::{AllocError, Global};
-use std::fmt;
-use v6_addr::Addr;
-use walk_rules::{How, Place};
-
-/// Why the headend drops a packet.
-#[derive(Clone, Copy, Debug)]
-pub enum HeadendDrop {
-    /// Its bytes do not read as one, for this reason.
-    Unreadable(Reason),
-    /// Its hop limit is at most 1.
-    InnerHop,
-    /// The outer packet's payload would be longer than 65,535 bytes.
-    TooBig,
-}
-
-/// The drop's name. (own rule)
-impl fmt::Display for HeadendDrop {
-    ghost use Rattle.std.specs.Prelude.{Some};
-    ghost use Rattle.srv6_cli.specs.Command.Walk.{drop_name};
-
-    ghost output = { λ drop. Some (drop_name drop) };
-
-    #[tactic(auto, unfolding(crate::specs::Command::Walk::drop_name))]
-    fn fmt<W: fmt::Write>(&self, f: &mut fmt::Formatter<W>) -> fmt::Result {
-        match self {
-            HeadendDrop::Unreadable(reason) => reason.fmt(f),
-            HeadendDrop::InnerHop => f.write_str("InnerHop"),
-            HeadendDrop::TooBig => f.write_str("TooBig"),
-        }
-    }
-}
+use std::alloc::Global;
+use walk_rules::{Ended, How, Place};
 
 /// What becomes of a frame's packet at the headend, before the first stage.
 #[derive(Drop)]
@@ -82,7 +50,7 @@ pub enum AtHeadend {
     /// It is not read.
     NotRead(Unread),
     /// It is dropped.
-    Dropped(HeadendDrop),
+    Dropped(Reason),
     /// It is encapsulated, and this is the outer packet.
     Enters(Content),
 }
@@ -96,22 +64,18 @@ pub enum Start {
     NoList(Text),
 }
 
-/// The segments of a list, in order.
-fn segments_of(alloc: Global, list: &[Container]) -> Result<Vec<Addr>, AllocError>
-    ensures { IfOk result (λ segments. segments.items ≡ map segment_of list.now) }
-{
-    let mut segments = Vec::new(alloc);
-    for container in list {
-        segments.push(address_of_container(container))?;
-    }
-    Ok(segments)
-}
-
 /// What the headend puts in front of packets: the compiled list, with the intent's fields.
-fn policy_of(alloc: Global, intent: &Intent, compiled: &Compiled) -> Result<Policy, AllocError>
-    ensures { IfOk result (λ policy. policy ≡ policy_of intent.now compiled.now) }
+#[tactic(auto, using(crate::proofs::WalkStarts::segments))]
+fn policy_of(
+    alloc: Global,
+    net: &Net,
+    intent: &Intent,
+    compiled: &Compiled,
+) -> Result<Policy, NoMemory>
+    requires { HasValues net.now compiled.now }
+    ensures { IfOk result (λ policy. policy ≡ policy_of net.now intent.now compiled.now) }
 {
-    let segments = segments_of(alloc, compiled.list.as_slice())?;
+    let segments = values(alloc, net, &compiled.list)?;
     Ok(Policy {
         source: intent.source,
         segments: Seq::new(segments),
@@ -122,50 +86,16 @@ fn policy_of(alloc: Global, intent: &Intent, compiled: &Compiled) -> Result<Poli
     })
 }
 
-/// The line of an intent without a list.
-#[tactic(auto, unfolding(crate::specs::Command::Compile::none_line))]
-fn line_of_none() -> Text
-    ensures { bytes_of_text result ≡ none_line }
-{
-    Text::Fixed(b"no answer NoList\n")
-}
-
-/// The line of a list with too many containers.
-#[tactic(auto, unfolding(crate::specs::Command::Compile::too_long_line))]
-fn line_of_too_long(alloc: Global, containers: u32) -> Result<Text, AllocError>
-    ensures { IfOk result (λ line. bytes_of_text line ≡ too_long_line containers) }
-{
-    Ok(Text::Made(format!(in alloc; "no answer TooLong {containers}\n")?))
-}
-
-/// The line of a list that needs a greater hop limit.
-#[tactic(auto, unfolding(crate::specs::Command::Compile::hop_limit_line))]
-fn line_of_hop_limit(alloc: Global, need: u32) -> Result<Text, AllocError>
-    ensures { IfOk result (λ line. bytes_of_text line ≡ hop_limit_line need) }
-{
-    Ok(Text::Made(format!(in alloc; "no answer HopLimit {need}\n")?))
-}
-
-/// How a walk starts, by the compiler's answer.
-fn start_of_answer(
-    alloc: Global,
-    net: &Net,
-    intent: &Intent,
-    compiled: &Result<Compiled, CompileFault>,
-) -> Result<Start, Halt>
-    requires taken { is_taken net.now intent.now ≡ true }
-    requires answer { CompileAnswers net.now intent.now compiled.now }
+/// How a walk starts for an intent: with the list that it is compiled to, if there is one.
+#[tactic(auto, using(crate::proofs::Compiling::valued))]
+fn start_of_intent(alloc: Global, net: &Net, intent: &Intent) -> Result<Start, Halt>
+    requires { IsIntent net.now intent.now }
     ensures { StartsAs net.now intent.now result }
 {
-    let _ = net;
-    match compiled {
-        Ok(list) => Ok(Start::List(policy_of(alloc, intent, list)?)),
-        Err(CompileFault::NotFlat(NotFlat::Nested { outer, inner })) => {
-            Err(Halt::Refused(Refusal::Nested {
-                outer: *outer,
-                inner: *inner,
-            }))
-        }
+    net.keeps_rules();
+    match path_compiler::compile(alloc, net, intent) {
+        Ok(list) => Ok(Start::List(policy_of(alloc, net, intent, &list)?)),
+        Err(CompileFault::NotFlat(why)) => Err(Halt::Refused(refusal_of_not_flat(net, &why))),
         Err(CompileFault::NoList { .. }) => Ok(Start::NoList(line_of_none())),
         Err(CompileFault::TooLong { found }) => {
             Ok(Start::NoList(line_of_too_long(alloc, found.containers)?))
@@ -177,20 +107,6 @@ fn start_of_answer(
     }
 }
 
-/// How a walk starts for an intent: with the list that it is compiled to, if there is one, or with
-/// the refusal of what the compiler does not take yet.
-#[tactic(auto, using(crate::proofs::Compiling::taken_listed))]
-fn start_of_intent(alloc: Global, net: &Net, intent: &Intent) -> Result<Start, Halt>
-    requires { IsIntent net.now intent.now }
-    ensures { StartsAs net.now intent.now result }
-{
-    if !takes(net, intent) {
-        return Err(Halt::Refused(Refusal::NotBuilt));
-    }
-    let compiled = path_compiler::compile(alloc, net, intent);
-    start_of_answer(alloc, net, intent, &compiled)
-}
-
 /// What enters with the bytes of a buffer.
 fn content_of(alloc: Global, buf: &PktBuf) -> Result<Content, NoMemory>
     ensures { IfOk result (λ content. content ≡ entered Family.V6 buf.now.bytes) }
@@ -199,26 +115,32 @@ fn content_of(alloc: Global, buf: &PktBuf) -> Result<Content, NoMemory>
     Ok(Content::enter(Family::V6, bytes))
 }
 
-/// A packet that the headend encapsulates, or drops.
-fn encapsulated(alloc: Global, policy: &Policy, inner: PktBuf) -> Result<AtHeadend, NoMemory>
+/// A packet of a family that the headend encapsulates, or drops.
+fn encapsulated(
+    alloc: Global,
+    policy: &Policy,
+    family: Family,
+    inner: PktBuf,
+) -> Result<AtHeadend, NoMemory>
     requires policy { IsPolicy policy.now }
-    requires packet { HoldsInner Family.V6 inner.bytes }
+    requires packet { HoldsInner family inner.bytes }
     ensures { IfOk result (λ at.
-        at ≡ of_encapsulating (encapsulated_by policy.now Family.V6 inner.bytes)) }
+        at ≡ of_encapsulating (encapsulated_by policy.now family inner.bytes)) }
 {
     let mut buf = inner;
-    match encap(policy, Family::V6, &mut buf) {
+    match encap(policy, family, &mut buf) {
         Ok(()) => {
             let outer = content_of(alloc, &buf)?;
             Ok(AtHeadend::Enters(outer))
         }
-        Err(EncapFault::InnerHop) => Ok(AtHeadend::Dropped(HeadendDrop::InnerHop)),
-        Err(EncapFault::TooBig { .. }) => Ok(AtHeadend::Dropped(HeadendDrop::TooBig)),
+        Err(EncapFault::InnerHop) => Ok(AtHeadend::Dropped(Reason::InnerHop)),
+        Err(EncapFault::TooBig { .. }) => Ok(AtHeadend::Dropped(Reason::TooBig)),
         Err(EncapFault::NoMemory) => Err(NoMemory),
     }
 }
 
-/// Bytes that enter the headend, in place: what stands behind the packet's end is cut.
+/// Bytes that enter the headend as an IPv6 packet, in place: what stands behind the packet's end is
+/// cut.
 fn entering(alloc: Global, policy: &Policy, bytes: Vec<u8>) -> Result<AtHeadend, NoMemory>
     requires { IsPolicy policy.now }
     ensures { IfOk result (λ at. at ≡ of_content policy.now (entered Family.V6 bytes.items)) }
@@ -227,38 +149,48 @@ fn entering(alloc: Global, policy: &Policy, bytes: Vec<u8>) -> Result<AtHeadend,
     bytes.truncate(MOST_LEN);
     let len = match Ip6View::read(bytes.as_slice()) {
         Ok(view) => IPV6_HEADER_LEN + usize::from(view.payload_len()),
-        Err(fault) => {
-            return Ok(AtHeadend::Dropped(HeadendDrop::Unreadable(fault.reason())));
-        }
+        Err(fault) => return Ok(AtHeadend::Dropped(fault.reason())),
     };
     bytes.truncate(len);
-    encapsulated(alloc, policy, PktBuf::of(bytes))
+    encapsulated(alloc, policy, Family::V6, PktBuf::of(bytes))
 }
 
-/// What becomes of a frame's packet at the headend.
-fn at_headend(alloc: Global, policy: &Policy, body: Body) -> Result<AtHeadend, NoMemory>
+/// Bytes that enter the headend as an IPv4 packet, in the same way.
+fn entering4(alloc: Global, policy: &Policy, bytes: Vec<u8>) -> Result<AtHeadend, NoMemory>
     requires { IsPolicy policy.now }
-    ensures { IfOk result (λ at. at ≡ at_headend policy.now body) }
+    ensures { IfOk result (λ at. at ≡ of_content policy.now (entered Family.V4 bytes.items)) }
 {
-    match body {
-        Body::V6(bytes) => entering(alloc, policy, bytes.into_vec()),
-        Body::V4(_) => Ok(AtHeadend::NotRead(Unread::WrongVersion)),
-        Body::ShortFrame => Ok(AtHeadend::NotRead(Unread::ShortFrame)),
-        Body::NotIp => Ok(AtHeadend::NotRead(Unread::NotIp)),
-    }
+    let mut bytes = bytes;
+    bytes.truncate(MOST_LEN);
+    let len = match Ip4View::read(bytes.as_slice()) {
+        Ok(view) => usize::from(view.total_len()),
+        Err(fault) => return Ok(AtHeadend::Dropped(fault.reason())),
+    };
+    bytes.truncate(len);
+    encapsulated(alloc, policy, Family::V4, PktBuf::of(bytes))
 }
 
-/// The line of a packet that the headend drops.
-#[tactic(auto, unfolding(crate::specs::Command::Walk::drop_line))]
-fn line_of_drop(
+/// What becomes of a frame's packet at the headend, for inner packets of a family.
+fn at_headend(
     alloc: Global,
-    number: u32,
-    drop: HeadendDrop,
-    node: &Name,
-) -> Result<String, AllocError>
-    ensures { IfOk result (λ line. string_bytes line ≡ drop_line number drop node.now) }
+    policy: &Policy,
+    inner: Family,
+    body: Body,
+) -> Result<AtHeadend, NoMemory>
+    requires { IsPolicy policy.now }
+    ensures { IfOk result (λ at. at ≡ at_headend policy.now inner body) }
 {
-    format!(in alloc; "packet {number}: dropped {drop} at {node}\n")
+    match (body, inner) {
+        (Body::V6(bytes), Family::V6) => entering(alloc, policy, bytes.into_vec()),
+        (Body::V4(bytes), Family::V4) => entering4(alloc, policy, bytes.into_vec()),
+        (Body::V6(_), Family::V4) | (Body::V4(_), Family::V6) => {
+            Ok(AtHeadend::NotRead(Unread::WrongVersion))
+        }
+        (Body::ShortFrame, Family::V6 | Family::V4) => {
+            Ok(AtHeadend::NotRead(Unread::ShortFrame))
+        }
+        (Body::NotIp, Family::V6 | Family::V4) => Ok(AtHeadend::NotRead(Unread::NotIp)),
+    }
 }
 
 /// Writes the line of a packet that ends at the headend.
@@ -280,8 +212,12 @@ fn tell_ended<E: Sink>(
             let line = line_of_unread(alloc, number, *cause)?;
             write_all(err, line.as_bytes())
         }
-        AtHeadend::Dropped(drop) => {
-            let line = line_of_drop(alloc, number, *drop, &net.node(node).name)?;
+        AtHeadend::Dropped(reason) => {
+            let ended = Ended::Dropped {
+                node,
+                reason: *reason,
+            };
+            let line = line_of_packet(alloc, net, number, &ended)?;
             write_all(err, line.as_bytes())
         }
         AtHeadend::Enters(_) => Ok(()),
@@ -358,7 +294,7 @@ fn tell_frame<E: Sink>(
         (E.seen err.old) (E.seen err.new) }
 {
     let Frame { number, body } = frame;
-    let at = at_headend(alloc, policy, body)?;
+    let at = at_headend(alloc, policy, intent.inner, body)?;
     tell_ended(alloc, net, intent.headend, number, &at, err)
 }
 
@@ -382,7 +318,7 @@ fn walk_frame<O: Sink, E: Sink>(
         (sinks_of (O.seen out.old) (E.seen err.old)) (sinks_of (O.seen out.new) (E.seen err.new)) }
 {
     let Frame { number, body } = frame;
-    let at = at_headend(alloc, policy, body)?;
+    let at = at_headend(alloc, policy, intent.inner, body)?;
     walk_entered(alloc, net, intent, choices, number, at, buffers, out, err)
 }
 
@@ -476,7 +412,7 @@ fn walk_bare<O: Sink, E: Sink>(
         (reading_of (Packets.Bare packet)).frames)
         (sinks_of (O.seen out.old) (E.seen err.old)) (sinks_of (O.seen out.new) (E.seen err.new)) }
 {
-    let at = at_headend(alloc, policy, Body::V6(packet))?;
+    let at = at_headend(alloc, policy, intent.inner, Body::V6(packet))?;
     tell_ended(alloc, net, intent.headend, 1, &at, err)?;
     walk_entered(
         alloc,
@@ -580,6 +516,7 @@ pub fn walk<F: Files, S: Source, O: Sink, E: Sink>(
             });
         }
     };
+    net.keeps_rules();
     hop_limit_fits(intent.hop_limit);
     headend_fits(&net, &intent, &policy);
     let packets = packets_of_input(alloc, input)?;

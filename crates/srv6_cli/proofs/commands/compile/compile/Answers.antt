@@ -18,7 +18,7 @@ use Rattle.srv6_cli.specs.declared.status.Status.{Status}
 use Rattle.srv6_cli.specs.declared.status.Status.TheVariants as statuses
 use Rattle.srv6_cli.specs.Answers.{ending_of_failure, JudgesFile, CommandsUnread}
 use Rattle.srv6_cli.specs.Words.{Compile}
-use Rattle.srv6_cli.specs.Command.Compile.{IntentWants, NetworkWants, asks_for_intent, compile_shape, output_of_answer, GivesOf}
+use Rattle.srv6_cli.specs.Command.Compile.{AnswerWants, IntentWants, NetworkWants, asks_for_intent, compile_shape, output_of_answer, GivesOf}
 use Rattle.srv6_cli.specs.Judgements.{network_in, intent_in, refused}
 use Rattle.srv6_cli.specs.Lines.{bytes_of_text}
 use Rattle.srv6_cli.specs.Outside.{IsFrontOf, Asks, Reads, asked_for_all, files_left_by}
@@ -71,11 +71,11 @@ module _ (file intent : List ℕ) where
   -- an output that is wanted of the description's judgement
   wants : (judged : Result Network Refusal) (told : Option Held) (left : Option (List ℕ)) (output : Output)
       → IfSome told (λ held. IsSomeAnd (file_named held file) (λ text. network_in text ≡ judged))
-      → IfSome told (λ held. NetworkWants judged (file_named held intent) output) → WantedOf (compile_shape file intent) told left output
+      → IfSome told (λ held. NetworkWants AnswerWants judged (file_named held intent) output) → WantedOf (compile_shape file intent) told left output
   wants judged None left output h w = tt
   wants judged (Some held) left output h w = some-map (file_named held file) (λ text. network_in text ≡ judged)
-      (λ text. NetworkWants (network_in text) (file_named held intent) output)
-      (λ text is. subst (λ (j : Result Network Refusal). NetworkWants j (file_named held intent) output) (sym is) w) h
+      (λ text. NetworkWants AnswerWants (network_in text) (file_named held intent) output)
+      (λ text is. subst (λ (j : Result Network Refusal). NetworkWants AnswerWants j (file_named held intent) output) (sym is) w) h
 
   takes : (stop : Stop) (f g : FilesSeen) (s : SourceSeen) → Asks (compile_shape file intent) stop f g → Reads stop s s
       → Takes (compile_shape file intent) stop f g s s
@@ -109,15 +109,15 @@ module _ (file intent : List ℕ) where
     of-first P h = subst (λ (files : FilesSeen). IfSome files.told P) judged.1 h
 
     wants-intent : (read : Result Intent Refusal) (left : Option (List ℕ)) (output : Output)
-        → IfSome mid.told (λ held. IsSomeAnd (file_named held intent) (λ text. intent_in net text ≡ read)) → IntentWants net read output
+        → IfSome mid.told (λ held. IsSomeAnd (file_named held intent) (λ text. intent_in net text ≡ read)) → IntentWants AnswerWants net read output
         → WantedOf (compile_shape file intent) f.told left output
     wants-intent read left output h w = wants (Ok net) f.told left output judged.0
-        (of-first (λ held. NetworkWants (Ok net) (file_named held intent) output)
+        (of-first (λ held. NetworkWants AnswerWants (Ok net) (file_named held intent) output)
         (each-map mid.told (λ held. IsSomeAnd (file_named held intent) (λ text. intent_in net text ≡ read))
-        (λ held. NetworkWants (Ok net) (file_named held intent) output)
+        (λ held. NetworkWants AnswerWants (Ok net) (file_named held intent) output)
         (λ held there. some-map (file_named held intent) (λ text. intent_in net text ≡ read)
-        (λ text. IntentWants net (intent_in net text) output)
-        (λ text is. subst (λ (r : Result Intent Refusal). IntentWants net r output) (sym is) w) there) h))
+        (λ text. IntentWants AnswerWants net (intent_in net text) output)
+        (λ text is. subst (λ (r : Result Intent Refusal). IntentWants AnswerWants net r output) (sym is) w) there) h))
 
     -- both files were asked for
     asks-both : (stop : Stop) → g ≡ files_left_by stop (asked_for intent mid) → Asks (compile_shape file intent) stop f g
@@ -141,11 +141,11 @@ module _ (file intent : List ℕ) where
         (h.seen ∙ ap (asked_for_all h.names) judged.1)) refl)
 
     module _ (value : Intent) (read : JudgesFile (intent_in net) intent (Ok value) mid g) where
-      wants-answer : (left : Option (List ℕ)) (output : Output) → IntentWants net (Ok value) output
+      wants-answer : (left : Option (List ℕ)) (output : Output) → IntentWants AnswerWants net (Ok value) output
           → WantedOf (compile_shape file intent) f.told left output
       wants-answer left output w = wants-intent (Ok value) left output read.0 w
 
-      -- the compiler doesn't take the intent, the network isn't flat, or memory was wanting
+      -- the network isn't flat, or memory was wanting
       pub compile_halted_at_answer : (halt : Halt) → GivesOf net value (Err halt) → CommandsUnread (Compile file intent) (Err halt) f g o o
       compile_halted_at_answer (halts.Refused refusal) h = λ s. refused_commands (Compile file intent) refusal f g s s o
           (wants-answer s.left (refused refusal) h) (inr (inl refl)) (takes Never f g s (asks-both Never read.1) refl)

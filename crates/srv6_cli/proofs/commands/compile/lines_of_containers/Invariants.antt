@@ -1,8 +1,10 @@
 use Rattle.std.proofs.Common.{◌≡◌, ◌++◌, drop, string_bytes}
 use Rattle.std.specs.List.{flat_map}
+use Rattle.v6_addr.specs.declared.address.Addr.{Addr}
 use Rattle.srv6_cli.specs.Command.Compile.{container_line}
 use Rattle.srv6_cli.proofs.commands.compile.lines_of_containers.Given as goal
 
-abbrev pub invariant-loop-container : goal.invariant-loop-container
-invariant-loop-container l =
-    string_bytes l.lines ++ flat_map container_line (drop l.container-index l.containers) ≡ flat_map container_line l.containers
+abbrev pub invariant-loop-value : goal.invariant-loop-value
+invariant-loop-value l =
+    string_bytes l.lines ++ flat_map (λ (a : Addr). container_line a.value) (drop l.value-index l.values)
+    ≡ flat_map (λ (a : Addr). container_line a.value) l.values
