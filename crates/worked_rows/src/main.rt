@@ -14,9 +14,9 @@
 //! another line comes. The last two lines count the rows and the packets, and those that differ.
 //! The exit status is 0.
 //!
-//! No contract says what the rows must give, so no edit of this program that the prover refuses
-//! would show anything: what refuses a change of `srv6` is the output that is expected of this
-//! program. One row, `wrong-on-purpose/another-status`, wants another status than comes, and so
+//! No contract says what the rows must give: what refuses a change of `srv6` is the output that is
+//! expected of this program, and its own wrong bodies are those that the prover refuses as unsafe
+//! or endless. One row, `wrong-on-purpose/another-status`, wants another status than comes, and so
 //! differs in the status alone.
 #![tactic(auto)]
 
