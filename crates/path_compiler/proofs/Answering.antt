@@ -1,7 +1,9 @@
 -- From the least path over legs to the chosen list.
 use Rattle.std.proofs.Common.{◌≡◌, ℕ, ◌+◌, ◌<◌, ◌≤◌, arith, Bool, true, false, ◌==◌, eqb-true, List, [], ◌∷◌, length, map, Option, Some, None, Result, Ok, Err, refl, sym, ◌∙◌, ap, subst}
-use Rattle.std.specs.Prelude.{IfOk}
+use Rattle.std.specs.Prelude.{IfOk, ◌*◌, nat_lt, if◌then◌else◌}
+use Rattle.std.proofs.lemmas.Bool.{ltb-true, ltb-false}
 use Rattle.base.specs.declared.no_memory.NoMemory.{NoMemory}
+use Rattle.srv6_rules.specs.Encapsulation.{header_bytes}
 use Rattle.net_model.specs.Network.{Network}
 use Rattle.net_model.specs.Flat.{flatness_of}
 use Rattle.list_pack.specs.declared.types.Container.{Container}
@@ -22,6 +24,24 @@ use Rattle.path_compiler.proofs.Costs.{is-path, cost-read}
 nil-by : (path : List PathStep) → (length path == 0) ≡ true → path ≡ []
 nil-by [] h = refl
 nil-by (x ∷ xs) h = let none = eqb-true (length (x ∷ xs)) 0 h in absurd (omega (arith, none))
+
+-- a list of more containers needs no fewer header bytes
+bytes-by : (reduced : Bool) (few many : ℕ) → few ≤ many → header_bytes reduced few ≤ header_bytes reduced many
+bytes-by false few many most = omega (arith, most)
+bytes-by true few many most = by_sizes (nat_lt 1 few) refl (nat_lt 1 many) refl
+  where
+    by_sizes : (a : Bool) → nat_lt 1 few ≡ a → (b : Bool) → nat_lt 1 many ≡ b
+        → (if a then 32 + 16 * few else 40) ≤ (if b then 32 + 16 * many else 40)
+    by_sizes false is b is' = below b is'
+      where
+        below : (b : Bool) → nat_lt 1 many ≡ b → 40 ≤ (if b then 32 + 16 * many else 40)
+        below false is = omega (arith)
+        below true is = let above = ltb-true 1 many is in omega (arith, above)
+    by_sizes true is true is' = omega (arith, most)
+    by_sizes true is false is' =
+        let above = ltb-true 1 few is in
+        let under = ltb-false 1 many is' in
+        absurd (omega (arith, above, under, most))
 
 module _ (v : LegsValue) (net : Network) (Realizes Executes : List Container → ℕ → Type 0) (means : Means v net Realizes Executes) where
   module _ (moves : List Move) (c : Cost) (first : IsFirstLeast v start c moves) where
@@ -80,6 +100,11 @@ module _ (v : LegsValue) (net : Network) (Realizes Executes : List Container →
               (subst (λ (l : List Container). IsChosen net Realizes Executes l c.hops) (sym its) chosen-list);
           containers = read.0 ∙ sym made.of_path.count ∙ sym (ap length its);
           header = list.header;
+          fewest = λ other n legal real.
+              let containers : d.containers ≡ c.containers = read.0 in
+              let most = (least-list other n legal real).containers in
+              subst (λ (bytes : ℕ). bytes ≤ header_bytes reduced (length other)) (sym list.header)
+              (bytes-by reduced d.containers (length other) (omega (arith, containers, most)));
           path =
               ap (λ (x : Solution). x.path) list.solution ∙ path ∙ sym made.of_path.steps ∙ sym (ap steps_in its);
           solution = subst (λ (x : Solution). IsSolution v x) (sym list.solution) is;

@@ -50,12 +50,15 @@ pub record IsChosen (net : Network) (Realizes Executes : List Container → ℕ 
   pub first : (other : List Container) → IsWhole net Realizes Executes other need → length other ≡ length list
       → path_before (steps_in other) (steps_in list) ≡ false
 
--- the chosen list, with its containers, the header bytes in front of the inner packet, and what the search found, whose path is the list's
+-- the chosen list, with its containers, the header bytes in front of the inner packet, than which no legal list that realizes needs
+-- fewer, and what the search found, whose path is the list's
 pub record IsFound (v : LegsValue) (net : Network) (Realizes Executes : List Container → ℕ → Type 0) (reduced : Bool) (c : Compiled)
     : Type 0 where
   pub chosen : IsChosen net Realizes Executes c.list c.need
   pub containers : c.containers ≡ length c.list
   pub header : c.header ≡ header_bytes reduced c.containers
+  pub fewest : (other : List Container) (n : ℕ) → IsLegalList net other → Realizes other n
+      → c.header ≤ header_bytes reduced (length other)
   pub path : c.solution.path ≡ steps_in c.list
   pub solution : IsSolution v c.solution
 

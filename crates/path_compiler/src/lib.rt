@@ -2,9 +2,10 @@
 //!
 //! `compile` searches the legs of an intent for the least path of SIDs from the start to the end:
 //! of all legal lists of SIDs that take packets along exactly the steps whichever equal next hop is
-//! chosen, one of the fewest containers, then of the smallest need, and of equal ones the first in
-//! the order of paths. It gives that list with the bytes of its header, the hop limit that it
-//! needs, and what the search found. `checked` says what a certificate from anywhere shows.
+//! chosen, one of the fewest containers, then of the smallest need, and of those that are equal in
+//! both and all of whose SIDs are executed the first in the order of paths; so no other needs fewer
+//! header bytes. It gives that list with the bytes of its header, the hop limit that it needs, and
+//! what the search found. `checked` says what a certificate from anywhere shows.
 #![tactic(auto)]
 
 mod certificates;
