@@ -8,8 +8,6 @@ use Rattle.srx_edge.specs.Sinks.{SinkSeen}
 use Rattle.srx_edge.specs.Steps.{How}
 use Rattle.srv6_rules.specs.declared.policy.Policy.{Policy}
 use Rattle.net_model.specs.Network.{Network}
-use Rattle.net_model.specs.Rules.{IsNetwork}
-use Rattle.intent_reader.specs.Rules.{IsIntent}
 use Rattle.intent_reader.specs.declared.intent.Intent.{Intent}
 use Rattle.srv6_cli.specs.declared.commands.walk.Start.TheVariants as starts
 use Rattle.srv6_cli.specs.declared.halt.Failure.{Failure}
@@ -185,8 +183,8 @@ module _ (file intent choices : List ℕ) where
           (rw status refl) (inr (inr (inl status))) (takes-unread Never f g s (asks-both Never read.1) refl)
           (λ done. cc (sym status ∙ done))
 
-      module _ (policy : Policy) (begins : StartsAs net value (Ok (starts.List policy))) (network : IsNetwork net)
-          (is_intent : IsIntent net value) (byte : value.hop_limit < 2 ^ 8) (some : 0 < length choices) where
+      module _ (policy : Policy) (begins : StartsAs net value (Ok (starts.List policy))) (byte : value.hop_limit < 2 ^ 8)
+          (some : 0 < length choices) where
         -- so the input is read
         has-list : (told : Option Held) → IfSome told (DescriptionIs (Ok net)) → IfSome told (IntentIs net (Ok value))
             → IfSome told (ReadsInput file intent)
@@ -218,9 +216,10 @@ module _ (file intent choices : List ℕ) where
             (λ input h. (
               Ok begins.0,
               begins.1,
+              tt,
               (
                 w input h ∙ ap (λ (p : Policy). walk_output net value p choices input) begins.2,
-                λ inner is. walks_keep net value begins.0 choices inner network is_intent byte begins.1 some is,
+                λ inner is. walks_keep net value begins.0 choices inner byte begins.1 some is,
               ),
             ))
 

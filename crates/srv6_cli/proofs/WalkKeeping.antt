@@ -12,7 +12,7 @@ use Rattle.srv6_rules.proofs.PublicLaws.{length-spelling, by-fits, headend-high,
 use Rattle.net_model.specs.Network.{Network}
 use Rattle.walk_rules.specs.Walk.{choice_at}
 use Rattle.intent_reader.specs.declared.intent.Intent.{Intent}
-use Rattle.list_pack.specs.SidLists.{list_in, list_values}
+use Rattle.list_pack.specs.SidLists.{list_values}
 use Rattle.leg_table.specs.Realizes.{IsInner, content_lowered, encapsulation_of, encapsulated_for, HandsOver}
 use Rattle.path_compiler.specs.declared.compiled.Compiled.{Compiled}
 use Rattle.path_compiler.specs.Compiled.{IsCompiled}
@@ -20,6 +20,7 @@ use Rattle.srv6_cli.specs.declared.limits.TheConstants.{STAGES}
 use Rattle.srv6_cli.specs.Command.Walk.{IsEncapsulated, WalksKeepTo, of_content, of_encapsulating, policy_of, segment_of}
 use Rattle.srv6_cli.specs.declared.commands.walk.AtHeadend.TheVariants.{Enters}
 use Rattle.srv6_cli.proofs.HandingOver.{hands-within}
+use Rattle.srv6_cli.proofs.WalkStarts.{values-count}
 
 -- a lowered packet is as long
 lowered4-length : (p : Packet4) → IsSpellable4 p → length (spelling4 (lowered4 p)) ≡ length (spelling4 p)
@@ -45,11 +46,8 @@ module _ (net : Network) (intent : Intent) (c : Compiled) (compiled : IsCompiled
   same-size : header_bytes intent.reduced (length (policy_of net intent c).segments) ≡ c.header
   same-size =
       let count : length (map segment_of (list_values net c.list)) ≡ c.containers =
-      length-map (list_values net c.list) segment_of ∙ values-count ∙ sym compiled.found.containers in
+      length-map (list_values net c.list) segment_of ∙ (values-count net c.list ∙ sym compiled.found.containers) in
       ap (header_bytes intent.reduced) count ∙ sym compiled.found.header
-    where
-      values-count : length (list_values net c.list) ≡ length c.list
-      values-count = length-map (list_in net c.list) _ ∙ length-map c.list _
 
   made : (bytes : List ℕ) (hop : ℕ) → 1 < hop → c.header + length bytes ≤ 65575
       → headend_by (policy_of net intent c) intent.inner hop bytes
@@ -80,7 +78,7 @@ module _ (net : Network) (intent : Intent) (c : Compiled) (compiled : IsCompiled
   enters families.V4 (Unreadable bytes reason) e is small = absurd is
 
 pub walks_keep : WalksKeepTo
-walks_keep net intent c choices inner network is_intent byte compiled some is =
+walks_keep net intent c choices inner byte compiled some is =
     let segments : List ℕ = list_values net c.list in
     let packet : Packet = encapsulated_for intent segments inner intent.hop_limit in
     let got : HandsOver net intent segments inner intent.hop_limit choices

@@ -1,4 +1,4 @@
--- How a walk starts, by the compiler's answer; and what the headend puts in front of packets is a policy.
+-- What the headend puts in front of packets is a policy.
 use Rattle.std.proofs.Common.{◌≡◌, ℕ, ◌^◌, ◌<◌, ◌≤◌, Bool, true, false, List, [], ◌∷◌, length, map, Result, Ok, Err, refl, sym, ap, ◌∙◌, subst, arith}
 use Rattle.std.specs.Prelude.{nat_le, nat_lt}
 use Rattle.std.proofs.lemmas.Bool.{and_parts, leb-true, ltb-true}
@@ -25,21 +25,6 @@ use Rattle.srv6_cli.specs.Command.Compile.{flat_refusal, none_line, too_long_lin
 use Rattle.srv6_cli.specs.Command.Walk.{WalkWants, StartsAs, policy_of, segment_of, no_list}
 use Rattle.srv6_cli.specs.Judgements.{refused}
 use Rattle.srv6_cli.specs.Lines.{bytes_of_text}
-
--- ---- how it starts
-
-pub starts_refused : (net : Network) (intent : Intent) (why : NotFlat) → CompileAnswers net intent (Err (faults.NotFlat why))
-    → StartsAs net intent (Err (halts.Refused (flat_refusal net why)))
-starts_refused net intent why answers = λ choices input. (Err (faults.NotFlat why), answers, refl)
-
-starts-none : (net : Network) (intent : Intent) (answer : Result Compiled CompileFault) (line : Text) → CompileAnswers net intent answer
-    → ((choices input : List ℕ) → WalkWants choices input net intent answer (no_list (bytes_of_text line)))
-    → StartsAs net intent (Ok (starts.NoList line))
-starts-none net intent answer line answers w = λ choices input. (answer, answers, w choices input)
-
--- a line that says what another list of bytes does
-line-is : (line : Text) (bytes : List ℕ) → bytes_of_text line ≡ bytes → no_list (bytes_of_text line) ≡ no_list bytes
-line-is line bytes e = ap no_list e
 
 -- ---- the segments
 

@@ -15,7 +15,7 @@ use Rattle.list_certificate.specs.Spelling.{IsKnown, spelled}
 use Rattle.path_compiler.specs.declared.compiled.Compiled.{Compiled}
 use Rattle.path_compiler.specs.declared.compiled.CompileFault.{CompileFault}
 use Rattle.path_compiler.specs.declared.compiled.CompileFault.TheVariants as faults
-use Rattle.path_compiler.specs.Compiled.{CompileAnswers}
+use Rattle.path_compiler.specs.Compiled.{CompileAnswers, NoneHandsOver}
 use Rattle.srx_edge.specs.Edge.{file_named}
 use Rattle.srv6_cli.specs.declared.commands.compile.Answer.{Answer}
 use Rattle.srv6_cli.specs.declared.halt.Failure.TheVariants as failures
@@ -103,7 +103,8 @@ Wanted = Network → Intent → Result Compiled CompileFault → Output → Type
 
 abbrev pub CompiledWants : Wanted → Network → Intent → Output → Type 0
 CompiledWants Wants net intent output =
-    (answer : Result Compiled CompileFault) × CompileAnswers net intent answer × Wants net intent answer output
+    (answer : Result Compiled CompileFault) × CompileAnswers net intent answer × NoneHandsOver net intent answer
+    × Wants net intent answer output
 
 abbrev pub IntentWants : Wanted → Network → Result Intent Refusal → Output → Type 0
 IntentWants Wants net (Err refusal) output = output ≡ refused refusal

@@ -16,10 +16,9 @@ use Rattle.srv6_rules.specs.Packet.{Content, V6, V4, Unreadable, bytes_of, enter
 use Rattle.srv6_rules.specs.Packet4.{ttl, spelling4, lowered4}
 use Rattle.srv6_rules.specs.Policies.{Encapsulating, Outer, TooBig, InnerHop, headend_by}
 use Rattle.net_model.specs.Network.{Network}
-use Rattle.net_model.specs.Rules.{IsNetwork, same_family}
+use Rattle.net_model.specs.Rules.{same_family}
 use Rattle.walk_rules.specs.declared.place.Ended.TheVariants as ends
 use Rattle.walk_rules.specs.Walk.{Step, walk_of, choice_at}
-use Rattle.intent_reader.specs.Rules.{IsIntent}
 use Rattle.intent_reader.specs.declared.intent.Intent.{Intent}
 use Rattle.list_pack.specs.SidLists.{list_values}
 use Rattle.leg_table.specs.Realizes.{headend_place, IsInner, content_lowered}
@@ -208,5 +207,5 @@ StartsAs net intent (Err (halts.Failed failures.NoMemory)) = ⊤
 abbrev pub WalksKeepTo : Type 0
 WalksKeepTo =
     (net : Network) (intent : Intent) (c : Compiled) (choices : List ℕ) (inner : Content)
-    → IsNetwork net → IsIntent net intent → intent.hop_limit < 2 ^ 8
-    → IsCompiled net intent c → 0 < length choices → IsEncapsulated intent.inner c inner → KeepsTo net intent c choices inner
+    → intent.hop_limit < 2 ^ 8 → IsCompiled net intent c → 0 < length choices → IsEncapsulated intent.inner c inner
+    → KeepsTo net intent c choices inner
