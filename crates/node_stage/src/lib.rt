@@ -2,8 +2,9 @@
 //!
 //! A `Content` is what a node holds: a packet of IPv6 or IPv4 in its bytes, or bytes that do not
 //! read as one. `stage` is what a node does with it at a place under a choice among equal next hops;
-//! it takes memory only at a SID that binds a policy. About an IPv6 packet that is dropped it gives
-//! the ICMPv6 error that the node sends. `next_hops` are the links over which it may be sent.
+//! by its code, and by no clause, it takes memory only at a SID that binds a policy. About an IPv6
+//! packet that is dropped it gives the ICMPv6 error that the node sends. `next_hops` are the links
+//! over which it may be sent.
 #![tactic(auto)]
 
 mod content;

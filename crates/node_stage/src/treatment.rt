@@ -117,8 +117,9 @@ fn told(
 /// 8754 section 4.3, RFC 8986 section 4). A Send takes the member of its set at `choice` modulo the
 /// number of members. The slot holds the ICMPv6 error that the node sends about what it drops, from
 /// its own address, exactly where the outcome says so, and else nothing; what it held is gone. The
-/// error's pointer counts in bytes from the first of the packet as it was (RFC 4443 section 3). It
-/// takes memory only at a SID that binds a policy. `NoMemory` leaves what stands there as it was.
+/// error's pointer counts in bytes from the first of the packet as it was (RFC 4443 section 3). By
+/// its code, and by no clause, it takes memory only at a SID that binds a policy. `NoMemory` leaves
+/// what stands there as it was.
 pub fn stage(
     alloc: Global,
     net: &Net,

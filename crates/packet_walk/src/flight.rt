@@ -125,8 +125,9 @@ impl<'a> Flight<'a> {
     }
 
     /// The next stage of a packet, unless it has ended: then there is none, and nothing changes (own
-    /// rule). A stage changes this packet and the last error alone. `NoMemory`, which comes only at a
-    /// SID that binds a policy, leaves all packets as they were, and no last error.
+    /// rule). A stage changes this packet and the last error alone. `NoMemory`, which by the code
+    /// of stages, and by no clause, comes only at a SID that binds a policy, leaves all packets as they
+    /// were, and no last error.
     pub fn turn(&mut self, number: u32) -> Result<Option<Event>, NoMemory>
         requires { IsGiven self.old number }
         ensures { IfSome (packet_of self.old number) (λ p.
