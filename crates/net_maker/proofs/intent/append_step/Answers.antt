@@ -1,4 +1,4 @@
-use Rattle.std.proofs.Common.{◌≡◌, ℕ, ◌%◌, ◌==◌, true, false, arith}
+use Rattle.std.proofs.Common.{◌≡◌, ◌%◌, ◌==◌, true, false, arith}
 use Rattle.std.proofs.lemmas.Grind.{common_steps}
 use Rattle.net_maker.specs.Intents.{links_table}
 use Rattle.net_maker.proofs.intent.append_step.Goals as goal

@@ -1,4 +1,4 @@
-use Rattle.std.proofs.Common.{string_bytes, ◌-◌, arith}
+use Rattle.std.proofs.Common.{string_bytes, arith}
 use Rattle.net_maker.specs.Intents.{step_table}
 use Rattle.net_maker.proofs.Growing.{written, ended, finished}
 use Rattle.net_maker.proofs.intent.append_steps.Goals as goal

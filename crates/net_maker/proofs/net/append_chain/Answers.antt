@@ -1,4 +1,4 @@
-use Rattle.std.proofs.Common.{string_bytes, ◌-◌, arith}
+use Rattle.std.proofs.Common.{string_bytes, arith}
 use Rattle.net_maker.specs.Networks.{link_tables}
 use Rattle.net_maker.proofs.Growing.{written, ended, finished}
 use Rattle.net_maker.proofs.net.append_chain.Goals as goal

@@ -1,4 +1,4 @@
-use Rattle.std.proofs.Common.{◌≡◌, ◌+◌, ◌-◌, ◌++◌, flat_map}
+use Rattle.std.proofs.Common.{◌≡◌, ◌-◌, ◌++◌, flat_map}
 use Rattle.std.specs.Prelude.{string_bytes}
 use Rattle.net_maker.specs.Words.{from_to}
 use Rattle.net_maker.specs.Networks.{routes_of}

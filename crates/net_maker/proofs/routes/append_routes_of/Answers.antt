@@ -1,4 +1,4 @@
-use Rattle.std.proofs.Common.{string_bytes, ◌-◌, arith}
+use Rattle.std.proofs.Common.{string_bytes, arith}
 use Rattle.net_maker.specs.Networks.{route_table}
 use Rattle.net_maker.proofs.Growing.{written, ended, finished}
 use Rattle.net_maker.proofs.routes.append_routes_of.Goals as goal

@@ -1,6 +1,6 @@
 use Rattle.std.proofs.Common.{string_bytes, ◌-◌, arith}
 use Rattle.net_maker.specs.Networks.{end_x_table}
-use Rattle.net_maker.proofs.Growing.{written, ended, finished}
+use Rattle.net_maker.proofs.Growing.{written, ended}
 use Rattle.net_maker.proofs.sids.append_end_xs.Goals as goal
 
 pub loop-i-preserved : goal.loop-i-preserved
