@@ -1,0 +1,4 @@
+pub mod Words
+pub mod Networks
+pub mod Intents
+pub mod Packets

@@ -1,0 +1,52 @@
+//! How large a generated network is.
+
+ghost use Rattle.std.specs.Prelude.{◌≡◌, ◌↔◌, ℕ, IsSome, IfSome, is_some};
+ghost use Rattle.net_maker.specs.Words.{IsSize, is_size};
+
+use std::marker::Model;
+
+/// The least size: 2. (own rule)
+pub const LEAST: u32 = 2;
+
+/// The greatest size: 47. (own rule)
+pub const MOST: u32 = 47;
+
+/// The size of a generated network, from 2 to 47: the number of its last node, of which the first
+/// has number 0. (own rule)
+#[derive(Clone, Copy, Debug, PartialEq, Eq)]
+pub struct Size {
+    last: u32,
+}
+
+impl Model for Size {
+    ghost Value = { ℕ };
+
+    ghost view = { λ s. s.last };
+
+    ghost invariant = { λ s. IsSize s.last };
+
+    ghost inverse = { λ n. record { last = n } };
+}
+
+impl Size {
+    /// The size that a number is. `None` exactly where the number isn't from 2 to 47.
+    #[tactic(auto, unfolding(crate::specs::Words::is_size))]
+    pub fn new(last: u32) -> Option<Size>
+        ensures test { is_some result ≡ is_size last }
+        ensures fact { IsSome result ↔ IsSize last }
+        ensures value { IfSome result (λ s. s ≡ last) }
+    {
+        if last < LEAST || MOST < last {
+            return None;
+        }
+        Some(Size { last })
+    }
+
+    /// The number, from 2 to 47.
+    pub fn get(self) -> u32
+        ensures value { result ≡ self }
+        ensures is_size { IsSize self }
+    {
+        self.last
+    }
+}
