@@ -117,7 +117,7 @@ module _ (net : Network) (keeps : Keeps net) where
                 let block : one.block ≡ two.block
                 = some-same one.block two.block (sym one.is_there ∙ ap (slice_get net.blocks) same ∙ two.is_there) in
                 some-block one.block p one.is_block ∙ ap (λ (b : Block). Some (sid_block b)) block
-                    ∙ sym (some-block two.block q two.is_block),
+                ∙ sym (some-block two.block q two.is_block),
             λ h.
                 let block : sid_block one.block ≡ sid_block two.block
                 = some-same (sid_block one.block) (sid_block two.block)
