@@ -248,7 +248,7 @@ pub cut-line : (text : List ℕ) (c : Cut) → cut_at 10 text ≡ Some c → sli
 unfolding cut_at
 cut-line text c h = cut-line-by text (position is_feed text) c refl h
 
-reads-go : (net : Network) (v : LegsValue) (bytes : List ℕ) (parts : List (List ℕ)) (line : ℕ) (r : Read) → 0 < length parts
+pub reads-go : (net : Network) (v : LegsValue) (bytes : List ℕ) (parts : List (List ℕ)) (line : ℕ) (r : Read) → 0 < length parts
     → reads net v (bytes ∷ parts) line r ≡ go_on (with_line v r line (item_in net v bytes)) line (reads net v parts (line + 1))
 reads-go net v bytes [] line r h = absurd (omega (arith, h))
 reads-go net v bytes (more ∷ parts) line r h = refl
