@@ -1,5 +1,5 @@
 -- A line that is printed is read back.
-use Rattle.std.proofs.Common.{◌≡◌, ℕ, zero, suc, ◌+◌, ◌-◌, ◌/◌, ◌^◌, ◌<◌, ◌≤◌, Bool, true, false, cond, ◌==◌, ◌&&◌, not, nat_lt, nat_le, List, [], ◌∷◌, ◌++◌, length, All, Option, Some, None, codes, bytes_eq, slice_index, option_and_then, refl, sym, ◌∙◌, ap, subst, arith, append_assoc, div-le_self}
+use Rattle.std.proofs.Common.{◌≡◌, ℕ, ◌-◌, ◌^◌, ◌<◌, ◌≤◌, Bool, true, false, cond, ◌==◌, not, List, [], ◌∷◌, ◌++◌, Option, Some, None, codes, bytes_eq, option_and_then, refl, sym, ◌∙◌, ap, arith, append_assoc, div-le_self}
 use Rattle.std.specs.Fmt.{decimal}
 use Rattle.std.specs.List.{list_all}
 use Rattle.std.proofs.lemmas.Bool.{and_from, eq-eqb, le-ltb, le-leb, cond-true, cond-false, false_from_ne_true, not-true}
@@ -7,7 +7,7 @@ use Rattle.std.proofs.lemmas.Fmt.{decimal_digit}
 use Rattle.std.proofs.lemmas.List.Sums.{AllPass-from_list_all}
 use Rattle.std.proofs.lemmas.Slice.Eq.{bytes_eq-Decides}
 use Rattle.v6_addr.specs.Address.{PrefixValue, IsPrefix}
-use Rattle.v6_addr.specs.Text.{prefix_of_text, prefix_text}
+use Rattle.v6_addr.specs.Text.{prefix_text}
 use Rattle.srv6_rules.specs.declared.sid.Csid.{Csid}
 use Rattle.srv6_rules.specs.declared.sid.Csid.TheVariants.{Plain, Next, Replace}
 use Rattle.net_model.specs.Network.{Network}
@@ -20,10 +20,9 @@ use Rattle.list_pack.specs.declared.types.Potential.{Potential}
 use Rattle.list_pack.specs.Value.{LegsValue, KeepsLaws}
 use Rattle.list_pack.specs.Rooms.{top_room_by, top_room}
 use Rattle.list_pack.specs.Costs.{IsState, IsStateBy}
-use Rattle.list_certificate.specs.declared.item.Item.{Item}
 use Rattle.list_certificate.specs.declared.item.Item.TheVariants as items
-use Rattle.list_certificate.specs.Spelling.{sid_text, start_text, placed_text, state_text_by, state_text, potential_of_text, potential_text, stay_text, new_text, step_text}
-use Rattle.list_certificate.specs.Reading.{IsNetworkOf, Cut, cut_at, number_in, RowValue, row_in, sid_in, start_in, placed_in, placed_state, state_in, potential_in, step_by, step_in, listed_item, step_item, item_by, item_in}
+use Rattle.list_certificate.specs.Spelling.{sid_text, start_text, placed_text, state_text_by, potential_of_text, potential_text, stay_text, new_text, step_text}
+use Rattle.list_certificate.specs.Reading.{IsNetworkOf, RowValue, row_in, placed_in, state_in, potential_in, step_by, step_in, listed_item, step_item, item_by, item_in}
 use Rattle.list_certificate.specs.Laws.{HasNumbers}
 use Rattle.list_certificate.proofs.Marks.{Lacks, IsWord, word-feed, word-space, decimal-word, number-read, cut-first, lacks-joined, lacks-mark}
 use Rattle.list_certificate.proofs.PrefixWords.{prefix-word, prefix-read}

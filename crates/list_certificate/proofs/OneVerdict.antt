@@ -1,6 +1,6 @@
 -- A certificate has one verdict: each line that a test names is the first, and a path of steps is one path.
-use Rattle.std.proofs.Common.{◌≡◌, ℕ, ◌+◌, ◌<◌, ◌≤◌, inl, inr, Bool, true, false, ◌||◌, List, [], ◌∷◌, ◌++◌, map, Option, Some, None, slice_get, refl, sym, ◌∙◌, ap, subst, arith}
-use Rattle.std.specs.Prelude.{All, IsSome, is_some}
+use Rattle.std.proofs.Common.{◌≡◌, ℕ, inl, inr, Bool, true, List, [], ◌∷◌, ◌++◌, map, Option, Some, None, slice_get, refl, sym, ◌∙◌, ap, subst}
+use Rattle.std.specs.Prelude.{IsSome, is_some}
 use Rattle.std.specs.Option.{option_map}
 use Rattle.std.proofs.lemmas.Bool.{false≢true, cases_order, cases_Bool, or_left, or_right}
 use Rattle.std.proofs.lemmas.Option.{none-some, same_Some, slice_get_within, get_or_from_slice_get}
@@ -19,7 +19,7 @@ use Rattle.list_certificate.specs.declared.types.Verdict.{Verdict}
 use Rattle.list_certificate.specs.declared.types.Verdict.TheVariants.{Least, NoList, No}
 use Rattle.list_certificate.specs.declared.types.Why.TheVariants.{Edge as BadEdge, Unlisted, Path, Tight}
 use Rattle.list_certificate.specs.Certs.{potential_at, IsCert}
-use Rattle.list_certificate.specs.Verdicts.{Passes, ListedPass, IsBadLine, IsBadState, AllPass, GoesAlong, Leads, IsAstray, steps_of, BreaksAt, PathCosts, IsBadWay, IsNotTight, IsTight, IsVerdict}
+use Rattle.list_certificate.specs.Verdicts.{ListedPass, IsBadLine, IsBadState, AllPass, GoesAlong, Leads, IsAstray, steps_of, BreaksAt, PathCosts, IsBadWay, IsNotTight, IsTight, IsVerdict}
 use Rattle.list_certificate.proofs.States.{states-same}
 
 -- ---- the first bad line and the first bad state

@@ -1,7 +1,7 @@
 -- The order of lists of numbers is one.
 use Rattle.std.proofs.Common.{◌≡◌, ℕ, ◌<◌, ◌≤◌, ◌⊎◌, inl, inr, Bool, true, false, ◌&&◌, ◌==◌, List, [], ◌∷◌, ◌++◌, length, refl, sym, ◌∙◌, arith, eqb-true}
 use Rattle.std.specs.Prelude.{nat_lt}
-use Rattle.std.proofs.lemmas.Bool.{false≢true, true≢false, or_cases, or_parts, or_left, or_right, and_parts, and_from, and_cases, ltb-true, ltb-false, lt-ltb, le-ltb, eq-eqb, eqb-false, cases_order, false_from_ne_true}
+use Rattle.std.proofs.lemmas.Bool.{false≢true, true≢false, or_cases, or_parts, or_left, or_right, and_parts, and_from, and_cases, ltb-true, ltb-false, lt-ltb, eq-eqb, eqb-false, cases_order, false_from_ne_true}
 use Rattle.list_pack.specs.Order.{lex_before}
 
 -- the first numbers decide, or the rest does

@@ -1,24 +1,21 @@
 -- The text of a solution's certificate, behind comments, is read as that certificate.
-use Rattle.std.proofs.Common.{◌≡◌, ℕ, zero, suc, ◌+◌, ◌-◌, ◌^◌, ◌<◌, ◌≤◌, Bool, true, false, cond, ◌==◌, List, [], ◌∷◌, ◌++◌, length, map, All, AllPairs, Contains, Option, Some, None, Result, Ok, Err, codes, get_or, slice_get, slice_index, flat_map, refl, sym, ◌∙◌, ap, subst, arith, append_assoc, append-nil, length-append}
+use Rattle.std.proofs.Common.{◌≡◌, ℕ, zero, suc, ◌+◌, ◌-◌, ◌<◌, Bool, true, ◌==◌, List, [], ◌∷◌, ◌++◌, length, All, AllPairs, Contains, Option, Some, None, Ok, codes, get_or, slice_get, slice_index, flat_map, refl, sym, ◌∙◌, ap, subst, arith, append_assoc, append-nil, length-append}
 use Rattle.std.specs.List.{slice_split}
 use Rattle.std.proofs.lemmas.Bool.{eq-eqb, ne_eqb, cond-true}
 use Rattle.std.proofs.lemmas.List.Elements.{All-nil, All-cons, All-head, All-tail, All-map}
 use Rattle.std.proofs.lemmas.List.Splits.{length-slice_split}
-use Rattle.std.proofs.lemmas.Option.{none-some, slice_get_within, slice_get-get_or}
-use Rattle.v6_addr.specs.Address.{PrefixValue, IsPrefix}
+use Rattle.v6_addr.specs.Address.{IsPrefix}
 use Rattle.v6_addr.specs.Text.{prefix_text}
 use Rattle.net_model.specs.Network.{Network}
 use Rattle.net_model.specs.Rules.{IsNetwork}
-use Rattle.net_model.proofs.PublicLaws.{keeps_from_network}
 use Rattle.list_pack.specs.declared.types.Cost.{Cost}
 use Rattle.list_pack.specs.declared.types.State.{State}
 use Rattle.list_pack.specs.declared.types.PathStep.{PathStep}
 use Rattle.list_pack.specs.declared.types.Potential.{Potential}
 use Rattle.list_pack.specs.declared.types.Solution.{Solution}
-use Rattle.list_pack.specs.Order.{lex_before}
 use Rattle.list_pack.specs.Value.{LegsValue, KeepsLaws, IsSid}
 use Rattle.list_pack.specs.Costs.{Move, cost_of, start, IsState}
-use Rattle.list_pack.specs.Least.{step_of, state_key, IsBefore, IsListing, IsPathOrNone, IsSolution}
+use Rattle.list_pack.specs.Least.{step_of, IsBefore, IsListing, IsPathOrNone, IsSolution}
 use Rattle.list_pack.proofs.PublicLaws.{edge-parts, last-parts}
 use Rattle.list_certificate.specs.declared.types.PotentialLine.{PotentialLine}
 use Rattle.list_certificate.specs.declared.types.PathLine.{PathLine}
@@ -32,9 +29,9 @@ use Rattle.list_certificate.specs.Spelling.{potential_text, step_text, none_text
 use Rattle.list_certificate.specs.Reading.{IsNetworkOf, Read, nothing_read, is_behind, is_next, with_line, item_in, go_on, reads, read_of, cert_of, ended_by}
 use Rattle.list_certificate.specs.Laws.{IsComment, lines_text, HasNumbers}
 use Rattle.list_certificate.proofs.Marks.{Lacks, split-line}
-use Rattle.list_certificate.proofs.SidWords.{Entry, entry}
-use Rattle.list_certificate.proofs.LineWords.{plain-lacks, via_text, row_text, words_of, potential-read, words-feed, item-potential, turn_text, step-read, item-step, potential-line, step-line, step-feed, potential-feed}
-use Rattle.list_certificate.proofs.OneVerdict.{Onward, onward}
+use Rattle.list_certificate.proofs.SidWords.{entry}
+use Rattle.list_certificate.proofs.LineWords.{plain-lacks, words_of, potential-read, words-feed, item-potential, turn_text, step-read, item-step, potential-line, step-line, step-feed, potential-feed}
+use Rattle.list_certificate.proofs.OneVerdict.{onward}
 use Rattle.list_certificate.proofs.Readings.{reads-go}
 
 -- ---- one line more

@@ -1,26 +1,25 @@
 -- A SID is read back from its text: the prefix alone where no other SID of the network has it, and else with its node's name.
-use Rattle.std.proofs.Common.{◌≡◌, ℕ, zero, suc, ◌+◌, ◌<◌, ◌≤◌, ◌⊎◌, inl, inr, Bool, true, false, cond, ◌==◌, ◌&&◌, nat_lt, nat_le, List, [], ◌∷◌, ◌++◌, length, All, Option, Some, None, slice_get, get_or, Contains, find, count_by, bytes_eq, option_and_then, refl, sym, ◌∙◌, ap, subst, arith, append_assoc, append-nil}
+use Rattle.std.proofs.Common.{◌≡◌, ℕ, zero, suc, ◌+◌, ◌<◌, ◌≤◌, inl, inr, Bool, true, false, cond, ◌==◌, nat_le, List, [], ◌∷◌, ◌++◌, length, Option, Some, None, slice_get, get_or, Contains, find, count_by, option_and_then, refl, sym, ◌∙◌, ap, subst, arith, append-nil}
 use Rattle.std.specs.Prelude.{IsTrue}
 use Rattle.std.specs.List.{list_all}
-use Rattle.std.proofs.lemmas.Bool.{false≢true, true≢false, and_parts, and_from, eq-eqb, eqb-true, lt-ltb, le-ltb, ltb-false, leb-true, cond-true, cond-false, cases_order, cases_Bool, or_cases, false_from_ne_true}
-use Rattle.std.proofs.lemmas.List.Elements.{All-append, All-cons}
+use Rattle.std.proofs.lemmas.Bool.{false≢true, and_parts, and_from, eq-eqb, eqb-true, ltb-false, cond-true, cond-false, cases_order}
 use Rattle.std.proofs.lemmas.List.Sums.{sum_by-cons, AllPass-from_list_all}
-use Rattle.std.proofs.lemmas.Option.{none-some, same_Some, slice_get-get_or}
+use Rattle.std.proofs.lemmas.Option.{none-some, same_Some}
 use Rattle.std.proofs.lemmas.Slice.Eq.{bytes_eq-Decides}
 use Rattle.v6_addr.specs.Address.{PrefixValue, IsPrefix}
-use Rattle.v6_addr.specs.Text.{prefix_of_text, prefix_text}
+use Rattle.v6_addr.specs.Text.{prefix_text}
 use Rattle.srv6_rules.specs.declared.sid.SidEntry.{SidEntry}
 use Rattle.net_model.specs.declared.parts.Node.{Node}
 use Rattle.net_model.specs.Network.{Network}
-use Rattle.net_model.specs.Rules.{is_between, is_name_byte, is_name, same_prefix, IsNetwork}
+use Rattle.net_model.specs.Rules.{is_name_byte, is_name, same_prefix, IsNetwork}
 use Rattle.net_model.specs.Keeps.{Keeps}
 use Rattle.net_model.proofs.PublicLaws.{keeps_from_network}
 use Rattle.list_pack.specs.Value.{LegsValue, KeepsLaws, IsSid, sid_key}
 use Rattle.list_certificate.specs.Spelling.{is_shared, name_by, sid_text_by, sid_text}
-use Rattle.list_certificate.specs.Reading.{IsSidOf, IsNetworkOf, Cut, cut_at, node_of, has_name, is_unnamed, is_named, sid_by, sid_in}
+use Rattle.list_certificate.specs.Reading.{IsSidOf, IsNetworkOf, cut_at, node_of, has_name, is_unnamed, is_named, sid_by, sid_in}
 use Rattle.list_certificate.proofs.Passing.{place-in, item-in}
 use Rattle.list_certificate.proofs.States.{sid-same}
-use Rattle.list_certificate.proofs.Marks.{is_mark, IsWord, no-mark, Lacks, word-feed, word-space, word-at, lacks-joined, lacks-mark, cut-first, cut-none}
+use Rattle.list_certificate.proofs.Marks.{IsWord, no-mark, Lacks, word-at, lacks-joined, lacks-mark, cut-first, cut-none}
 use Rattle.list_certificate.proofs.PrefixWords.{prefix-word, prefix-read, prefix-no-dash}
 
 -- ---- lists

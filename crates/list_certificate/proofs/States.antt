@@ -1,12 +1,12 @@
 -- The order of states tells any two of them apart.
-use Rattle.std.proofs.Common.{◌≡◌, ℕ, zero, suc, ◌+◌, ◌<◌, ◌≤◌, inl, inr, Bool, true, false, ◌&&◌, List, [], ◌∷◌, Option, Some, None, slice_get, Contains, refl, sym, ◌∙◌, ap, subst, arith}
+use Rattle.std.proofs.Common.{◌≡◌, ℕ, zero, suc, ◌<◌, ◌≤◌, inl, inr, true, false, List, [], ◌∷◌, Option, Some, None, slice_get, Contains, refl, sym, ◌∙◌, ap, subst, arith}
 use Rattle.std.proofs.lemmas.Bool.{false≢true, and_parts, cases_order}
 use Rattle.std.proofs.lemmas.Option.{none-some, same_Some}
 use Rattle.list_pack.specs.declared.types.State.{State}
 use Rattle.list_pack.specs.Order.{lex_before}
 use Rattle.list_pack.specs.Value.{LegsValue, KeepsLaws, sid_before, sid_key, ascends}
 use Rattle.list_pack.specs.Costs.{IsState, IsStateBy}
-use Rattle.list_pack.specs.Least.{state_key, state_key_by, IsBefore}
+use Rattle.list_pack.specs.Least.{state_key, state_key_by}
 use Rattle.list_certificate.proofs.Orders.{lex-itself, lex-trans, lex-same}
 use Rattle.list_certificate.proofs.Passing.{place-in}
 

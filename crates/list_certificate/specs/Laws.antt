@@ -1,5 +1,5 @@
 -- What a verdict shows, what the certificate of a solution shows, and what may stand in front of its text.
-use Rattle.std.specs.Prelude.{◌≡◌, ℕ, ◌^◌, ◌<◌, List, [], ◌∷◌, ◌++◌, flat_map, slice_index, Contains, Option, Some, None}
+use Rattle.std.specs.Prelude.{◌≡◌, ℕ, ◌^◌, ◌<◌, List, [], ◌∷◌, ◌++◌, flat_map, slice_index, Contains, Some, None}
 use Rattle.list_pack.specs.declared.types.Cost.{Cost}
 use Rattle.list_pack.specs.declared.types.PathStep.{PathStep}
 use Rattle.list_pack.specs.declared.types.Potential.{Potential}
@@ -9,7 +9,7 @@ use Rattle.list_pack.specs.Costs.{start}
 use Rattle.list_pack.specs.Least.{IsLeast}
 use Rattle.list_certificate.specs.declared.types.Verdict.{Verdict}
 use Rattle.list_certificate.specs.declared.types.Verdict.TheVariants.{Least, NoList, No}
-use Rattle.list_certificate.specs.Certs.{IsCert, certificate_of}
+use Rattle.list_certificate.specs.Certs.{certificate_of}
 use Rattle.list_certificate.specs.Verdicts.{IsVerdict}
 
 -- what a verdict shows of the start: its least cost, or that there is no path
