@@ -13,6 +13,7 @@ pub mod PrefixWords
 pub mod SidWords
 pub mod LineWords
 pub mod Readings
+pub mod Bounds
 pub mod PrintedRead
 pub mod GridLaws
 pub mod GridNets

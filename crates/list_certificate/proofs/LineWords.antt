@@ -23,10 +23,14 @@ use Rattle.list_pack.specs.Costs.{IsState, IsStateBy}
 use Rattle.list_certificate.specs.declared.item.Item.TheVariants as items
 use Rattle.list_certificate.specs.Spelling.{sid_text, start_text, placed_text, state_text_by, potential_of_text, potential_text, stay_text, new_text, step_text}
 use Rattle.list_certificate.specs.Reading.{IsNetworkOf, RowValue, row_in, placed_in, state_in, potential_in, step_by, step_in, listed_item, step_item, item_by, item_in}
-use Rattle.list_certificate.specs.Laws.{HasNumbers}
 use Rattle.list_certificate.proofs.Marks.{Lacks, IsWord, word-feed, word-space, decimal-word, number-read, cut-first, lacks-joined, lacks-mark}
 use Rattle.list_certificate.proofs.PrefixWords.{prefix-word, prefix-read}
 use Rattle.list_certificate.proofs.SidWords.{sid-lacks, sid-no-dash, sid-read}
+
+-- the numbers of a potential's cost have 32 bits
+pub record HasNumbers (q : Potential) : Type 0 where
+  pub containers : q.cost.containers < 2 ^ 32
+  pub hops : q.cost.hops < 2 ^ 32
 
 -- a text that computes has no mark where a test says so
 pub plain-lacks : (mark : ℕ) (text : List ℕ) → list_all (λ b. not (b == mark)) text ≡ true → Lacks mark text

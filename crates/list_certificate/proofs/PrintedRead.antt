@@ -27,11 +27,12 @@ use Rattle.list_certificate.specs.declared.draft.Stage.TheVariants as stages
 use Rattle.list_certificate.specs.Certs.{potential_lines, path_lines, none_line, way_count, certificate_of}
 use Rattle.list_certificate.specs.Spelling.{potential_text, step_text, none_text, way_text, head_text, end_text, spelled}
 use Rattle.list_certificate.specs.Reading.{IsNetworkOf, Read, nothing_read, is_behind, is_next, with_line, item_in, go_on, reads, read_of, cert_of, ended_by}
-use Rattle.list_certificate.specs.Laws.{IsComment, lines_text, HasNumbers}
+use Rattle.list_certificate.specs.Laws.{IsComment, lines_text}
 use Rattle.list_certificate.proofs.Marks.{Lacks, split-line}
 use Rattle.list_certificate.proofs.SidWords.{entry}
-use Rattle.list_certificate.proofs.LineWords.{plain-lacks, words_of, potential-read, words-feed, item-potential, turn_text, step-read, item-step, potential-line, step-line, step-feed, potential-feed}
+use Rattle.list_certificate.proofs.LineWords.{HasNumbers, plain-lacks, words_of, potential-read, words-feed, item-potential, turn_text, step-read, item-step, potential-line, step-line, step-feed, potential-feed}
 use Rattle.list_certificate.proofs.OneVerdict.{onward}
+use Rattle.list_certificate.proofs.Bounds.{containers-few, hops-few}
 use Rattle.list_certificate.proofs.Readings.{reads-go}
 
 -- ---- one line more
@@ -318,20 +319,24 @@ module _ (net : Network) (v : LegsValue) (rules : IsNetwork net) (laws : KeepsLa
   four-parts : (a b c d : List ℕ) → ((a ++ b) ++ c) ++ d ≡ a ++ (b ++ (c ++ d))
   four-parts a b c d = simp append_assoc
 
-  readable : (qs : List Potential) → IsListing v qs → All HasNumbers qs → All (IsReadable v) qs
-  readable qs is few k d h =
-      let among : Contains qs (get_or qs k d) = (k, h, same-default qs k (get_or qs k d) d h) in
-      record { is_state = (is.exact (get_or qs k d) among).0; few = few k d h }
+  readable : (qs : List Potential) → IsListing v qs → All (IsReadable v) qs
+  readable qs is k d h =
+      let q : Potential = get_or qs k d in
+      let among : Contains qs q = (k, h, same-default qs k q d h) in
+      record {
+        is_state = (is.exact q among).0;
+        few = record { containers = containers-few v laws qs is q among; hops = hops-few v laws qs is q among };
+      }
     where
       same-default : (xs : List Potential) (i : ℕ) (a b : Potential) → i < length xs → get_or xs i a ≡ get_or xs i b
       same-default [] i a b h = absurd (omega (arith, h))
       same-default (x ∷ xs) zero a b h = refl
       same-default (x ∷ xs) (suc i) a b h = same-default xs i a b (omega (arith, h))
 
-  pub printed-read : (comments : List (List ℕ)) (s : Solution) → IsSolution v s → All IsComment comments → All HasNumbers s.potentials
+  pub printed-read : (comments : List (List ℕ)) (s : Solution) → IsSolution v s → All IsComment comments
       → read_of net v (lines_text comments ++ spelled net s) ≡ Ok (certificate_of (1 + length comments) s)
   unfolding read_of
-  printed-read comments s is all few =
+  printed-read comments s is all =
       let head : ℕ = 1 + length comments in
       let first : ℕ = head + 1 in
       let way = way_text s.path ++ end_text in
@@ -339,12 +344,12 @@ module _ (net : Network) (v : LegsValue) (rules : IsNetwork net) (laws : KeepsLa
       ∙ ap (λ (text : List ℕ). reads net v (slice_split is_feed text) head nothing_read)
       (four-parts head_text (flat_map (potential_text net) s.potentials) (way_text s.path) end_text)
       ∙ head-read net v (flat_map (potential_text net) s.potentials ++ way) head
-      ∙ potentials-read s.potentials way head first [] (readable s.potentials is.potentials few)
+      ∙ potentials-read s.potentials way head first [] (readable s.potentials is.potentials)
       (follow-from v s.potentials is.potentials.order)
       ∙ way-read net v s.path head (first + length s.potentials) (potential_lines first s.potentials) (path-prefixes s.path is.path)
 
 pub what-is-read : (net : Network) (v : LegsValue) (comments : List (List ℕ)) (s : Solution) → IsNetwork net → KeepsLaws v → IsNetworkOf net v
     → IsSolution v s
-    → All IsComment comments → All HasNumbers s.potentials
+    → All IsComment comments
     → read_of net v (lines_text comments ++ spelled net s) ≡ Ok (certificate_of (1 + length comments) s)
-what-is-read net v comments s rules laws is_net is all few = printed-read net v rules laws is_net comments s is all few
+what-is-read net v comments s rules laws is_net is all = printed-read net v rules laws is_net comments s is all

@@ -53,7 +53,7 @@ sid-same v laws position n m within is_n is_m e =
           ]
     ]
 
-state-made : (s t : State) → s.position ≡ t.position → s.via ≡ t.via → s.room ≡ t.room → s ≡ t
+pub state-made : (s t : State) → s.position ≡ t.position → s.via ≡ t.via → s.room ≡ t.room → s ≡ t
 state-made s t positions vias rooms =
     let one : (x : ℕ) → State = λ x. record { position = x; via = s.via; room = s.room } in
     let two : (x : Option ℕ) → State = λ x. record { position = t.position; via = x; room = s.room } in

@@ -1,8 +1,7 @@
 -- What a verdict shows, what the certificate of a solution shows, and what may stand in front of its text.
-use Rattle.std.specs.Prelude.{◌≡◌, ℕ, ◌^◌, ◌<◌, List, [], ◌∷◌, ◌++◌, flat_map, slice_index, Contains, Some, None}
+use Rattle.std.specs.Prelude.{◌≡◌, ℕ, List, [], ◌∷◌, ◌++◌, flat_map, slice_index, Contains, Some, None}
 use Rattle.list_pack.specs.declared.types.Cost.{Cost}
 use Rattle.list_pack.specs.declared.types.PathStep.{PathStep}
-use Rattle.list_pack.specs.declared.types.Potential.{Potential}
 use Rattle.list_pack.specs.declared.types.Solution.{Solution}
 use Rattle.list_pack.specs.Value.{LegsValue}
 use Rattle.list_pack.specs.Costs.{start}
@@ -35,8 +34,3 @@ pub record IsComment (line : List ℕ) : Type 0 where
 -- lines, each with the line feed that ends it
 abbrev pub lines_text : List (List ℕ) → List ℕ
 lines_text lines = flat_map (λ line. line ++ 10 ∷ []) lines
-
--- the numbers of a potential's cost have 32 bits
-pub record HasNumbers (q : Potential) : Type 0 where
-  pub containers : q.cost.containers < 2 ^ 32
-  pub hops : q.cost.hops < 2 ^ 32

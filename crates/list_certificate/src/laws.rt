@@ -12,7 +12,7 @@ ghost use Rattle.list_certificate.specs.Certs.{IsCert, certificate_of};
 ghost use Rattle.list_certificate.specs.Verdicts.{IsVerdict};
 ghost use Rattle.list_certificate.specs.Spelling.{spelled};
 ghost use Rattle.list_certificate.specs.Reading.{IsNetworkOf, read_of};
-ghost use Rattle.list_certificate.specs.Laws.{Shows, IsAcceptedBy, IsComment, HasNumbers, lines_text};
+ghost use Rattle.list_certificate.specs.Laws.{Shows, IsAcceptedBy, IsComment, lines_text};
 
 /// What a certificate from anywhere shows holds: with `Least` the two numbers are the least cost of
 /// a path from the start to the end, with `NoList` no path leads there. (own rule)
@@ -39,12 +39,11 @@ pub fn a_solution_is_good()
 {}
 
 /// What `print` spells of a solution is read back as its certificate, behind any lines that begin
-/// with `#`: for a network that keeps its rules, whose SIDs those of the legs are, and for costs
-/// whose numbers have 32 bits. The head stands in the line behind the comments. (own rule)
+/// with `#`, where the SIDs of the legs are those of the network. The head stands in the line behind
+/// the comments. (own rule)
 pub fn what_is_printed_is_read_back()
     ensures { (net : Network) (v : LegsValue) (comments : List (List ℕ)) (s : Solution)
         → IsNetwork net → KeepsLaws v → IsNetworkOf net v → IsSolution v s → All IsComment comments
-        → All HasNumbers s.potentials
         → read_of net v (lines_text comments ++ spelled net s)
         ≡ Ok (certificate_of (1 + length comments) s) }
 {}
