@@ -1,12 +1,11 @@
 -- A network whose SIDs are those of the legs for tests.
-use Rattle.std.proofs.Common.{◌≡◌, ℕ, zero, suc, ◌+◌, ◌*◌, ◌^◌, ◌<◌, ◌≤◌, inl, inr, Bool, true, ◌&&◌, ◌==◌, List, [], ◌∷◌, length, get_or, Some, slice_get, Contains, sym, ◌∙◌, ap, subst, arith, eqb-true}
+use Rattle.std.proofs.Common.{◌≡◌, ℕ, zero, suc, ◌+◌, ◌*◌, ◌^◌, ◌<◌, ◌≤◌, inl, inr, Bool, true, ◌==◌, get_or, Some, slice_get, sym, ◌∙◌, ap, subst, arith, eqb-true}
 use Rattle.std.proofs.lemmas.Bool.{cases_lt, and_parts}
 use Rattle.v6_addr.specs.Address.{PrefixValue}
 use Rattle.srv6_rules.specs.declared.sid.Csid.{Csid}
 use Rattle.srv6_rules.specs.declared.sid.SidEntry.{SidEntry}
 use Rattle.net_model.specs.Network.{Network}
 use Rattle.net_model.specs.Rules.{same_prefix}
-use Rattle.list_pack.specs.Value.{IsSid}
 use Rattle.list_certificate.specs.Grid.{grid_len, grid_sids, grid_value}
 use Rattle.list_certificate.specs.Reading.{IsSidOf, IsNetworkOf}
 

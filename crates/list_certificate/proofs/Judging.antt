@@ -9,10 +9,9 @@ use Rattle.list_pack.specs.Costs.{start, IsState}
 use Rattle.list_pack.specs.Least.{IsGoodAt}
 use Rattle.list_certificate.specs.declared.types.PotentialLine.{PotentialLine}
 use Rattle.list_certificate.specs.declared.types.Cert.{Cert}
-use Rattle.list_certificate.specs.declared.path.Spent.{Spent}
 use Rattle.list_certificate.specs.Certs.{potential_at}
-use Rattle.list_certificate.specs.Verdicts.{ListedPass, AllPass, IsBadWay, IsBadState, IsBadLine, IsNotTight, IsTight, PathCosts}
-use Rattle.list_certificate.specs.Tests.{BadLine, FirstFailure, OfAll, LinesPass, spent_value}
+use Rattle.list_certificate.specs.Verdicts.{ListedPass, AllPass, IsBadWay}
+use Rattle.list_certificate.specs.Tests.{BadLine, FirstFailure, OfAll}
 use Rattle.list_certificate.proofs.Listed.{found}
 
 pub listed-pass : (v : LegsValue) (c : Cert) (lines : List PotentialLine) (o : Option ℕ) → lines ≡ c.potentials → BadLine v lines o

@@ -4,9 +4,17 @@ pub mod Passing
 pub mod Ranges
 pub mod Pathing
 pub mod Judging
+pub mod States
+pub mod OneVerdict
 pub mod Showing
 pub mod Networks
+pub mod Marks
+pub mod PrefixWords
+pub mod SidWords
+pub mod LineWords
 pub mod Readings
+pub mod Bounds
+pub mod PrintedRead
 pub mod GridLaws
 pub mod GridNets
 pub mod PublicLaws

@@ -1,19 +1,17 @@
 -- The potential of a state by the lines, and the order of lines.
-use Rattle.std.proofs.Common.{◌≡◌, ℕ, zero, suc, ◌+◌, ◌<◌, ◌≤◌, inl, inr, Bool, true, false, cond, ◌&&◌, ◌==◌, List, [], ◌∷◌, length, Option, Some, None, slice_get, Contains, get_or, drop, refl, sym, ◌∙◌, ap, subst, arith, eqb-true}
-use Rattle.std.specs.Prelude.{All, AllPairs}
+use Rattle.std.proofs.Common.{◌≡◌, ℕ, zero, suc, ◌+◌, ◌<◌, ◌≤◌, inl, inr, Bool, true, false, cond, ◌&&◌, ◌==◌, List, [], ◌∷◌, length, Option, Some, None, slice_get, get_or, drop, refl, sym, ◌∙◌, ap, subst, arith, eqb-true}
 use Rattle.std.proofs.lemmas.Bool.{cases_lt, false≢true, and_parts, and_from, eq-eqb, false_from_ne_true}
 use Rattle.std.proofs.lemmas.Option.{none-some, same_Some, slice_get_within, slice_get-get_or, get_or_from_slice_get}
-use Rattle.std.proofs.lemmas.List.Elements.{All-get_or}
 use Rattle.list_pack.specs.declared.types.Cost.{Cost}
 use Rattle.list_pack.specs.declared.types.State.{State}
 use Rattle.list_pack.specs.Order.{lex_before}
 use Rattle.list_pack.specs.Value.{LegsValue}
 use Rattle.list_pack.specs.Costs.{IsState}
-use Rattle.list_pack.specs.Least.{IsBefore, state_key, state_key_by}
+use Rattle.list_pack.specs.Least.{IsBefore, state_key_by}
 use Rattle.list_certificate.specs.declared.types.PotentialLine.{PotentialLine}
 use Rattle.list_certificate.specs.Certs.{same_via, same_state, potential_at}
 use Rattle.list_certificate.specs.Tests.{AreSorted, place_key, place_key_by, IsBehind, Splits}
-use Rattle.list_certificate.proofs.Orders.{lex-itself, lex-not-both, lex-longer, lex-lower, lex-higher, lex-weak}
+use Rattle.list_certificate.proofs.Orders.{lex-itself, lex-not-both, lex-longer, lex-lower, lex-higher}
 
 -- what an index past the lines would give
 abbrev pub no_line : PotentialLine

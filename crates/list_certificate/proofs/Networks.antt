@@ -1,9 +1,9 @@
 -- The SIDs of legs in their network, and those that texts name.
-use Rattle.std.proofs.Common.{◌≡◌, ℕ, suc, ◌+◌, ◌<◌, ◌≤◌, Bool, true, false, cond, ◌&&◌, List, [], ◌∷◌, length, get_or, Option, Some, None, slice_get, Contains, find, refl, sym, ◌∙◌, ap, subst, arith}
-use Rattle.std.specs.Prelude.{IsTrue, bytes_eq}
+use Rattle.std.proofs.Common.{◌≡◌, ℕ, suc, ◌<◌, ◌≤◌, Bool, true, false, cond, List, [], ◌∷◌, length, get_or, Option, Some, None, slice_get, Contains, find, refl, sym, ◌∙◌, ap, subst, arith}
+use Rattle.std.specs.Prelude.{IsTrue}
 use Rattle.std.specs.Option.{option_and_then}
 use Rattle.std.proofs.lemmas.Bool.{and_parts}
-use Rattle.std.proofs.lemmas.Option.{none-some, same_Some, slice_get_within, slice_get-get_or, get_or_from_slice_get}
+use Rattle.std.proofs.lemmas.Option.{none-some, same_Some, slice_get_within, slice_get-get_or}
 use Rattle.v6_addr.specs.Address.{PrefixValue}
 use Rattle.v6_addr.specs.Text.{prefix_of_text}
 use Rattle.srv6_rules.specs.declared.sid.SidEntry.{SidEntry}
@@ -12,9 +12,9 @@ use Rattle.net_model.specs.Rules.{same_prefix}
 use Rattle.list_pack.specs.declared.types.State.{State}
 use Rattle.list_pack.specs.Value.{LegsValue, IsSid}
 use Rattle.list_pack.specs.Costs.{IsState, IsStateBy}
-use Rattle.list_pack.specs.Least.{state_key, state_key_by}
+use Rattle.list_pack.specs.Least.{state_key_by}
 use Rattle.list_certificate.specs.Spelling.{is_shared}
-use Rattle.list_certificate.specs.Reading.{IsSidOf, IsNetworkOf, Cut, cut_at, has_name, is_unnamed, is_named, sid_by, sid_in}
+use Rattle.list_certificate.specs.Reading.{IsSidOf, Cut, cut_at, has_name, is_unnamed, is_named, sid_by, sid_in}
 use Rattle.list_certificate.proofs.Passing.{item-in}
 
 pub known : (net : Network) (v : LegsValue) (n : ℕ) → IsSidOf net v n → n < length net.sids

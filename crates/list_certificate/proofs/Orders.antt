@@ -1,7 +1,7 @@
 -- The order of lists of numbers is one.
 use Rattle.std.proofs.Common.{◌≡◌, ℕ, ◌<◌, ◌≤◌, ◌⊎◌, inl, inr, Bool, true, false, ◌&&◌, ◌==◌, List, [], ◌∷◌, ◌++◌, length, refl, sym, ◌∙◌, arith, eqb-true}
 use Rattle.std.specs.Prelude.{nat_lt}
-use Rattle.std.proofs.lemmas.Bool.{false≢true, true≢false, or_cases, or_parts, or_left, or_right, and_parts, and_from, and_cases, ltb-true, ltb-false, lt-ltb, le-ltb, eq-eqb, eqb-false, cases_order, false_from_ne_true}
+use Rattle.std.proofs.lemmas.Bool.{false≢true, true≢false, or_cases, or_parts, or_left, or_right, and_parts, and_from, and_cases, ltb-true, ltb-false, lt-ltb, eq-eqb, eqb-false, cases_order, false_from_ne_true}
 use Rattle.list_pack.specs.Order.{lex_before}
 
 -- the first numbers decide, or the rest does
@@ -136,3 +136,22 @@ lex-higher xs ys zs h k = by (lex_before ys zs) refl
     by : (b : Bool) → lex_before ys zs ≡ b → lex_before ys zs ≡ false
     by false e = e
     by true e = absurd (false≢true (sym k ∙ lex-lower xs ys zs h e))
+
+-- of two lists that differ one is before the other
+pub lex-same : (xs ys : List ℕ) → lex_before xs ys ≡ false → lex_before ys xs ≡ false → xs ≡ ys
+lex-same [] [] h k = refl
+lex-same [] (y ∷ ys) h k = absurd (true≢false h)
+lex-same (x ∷ xs) [] h k = absurd (true≢false k)
+lex-same (x ∷ xs) (y ∷ ys) h k =
+    elim (head-not x y xs ys h) as (λ w. x ∷ xs ≡ y ∷ ys) [
+      | inl over ↦
+          elim (head-not y x ys xs k) as (λ w. x ∷ xs ≡ y ∷ ys) [
+            | inl also ↦ absurd (omega (arith, over, also))
+            | inr same ↦ absurd (omega (arith, over, same.0))
+          ]
+      | inr same ↦
+          elim (head-not y x ys xs k) as (λ w. x ∷ xs ≡ y ∷ ys) [
+            | inl also ↦ absurd (omega (arith, also, same.0))
+            | inr also ↦ let rest = lex-same xs ys same.1 also.1 in let e = same.0 in cc
+          ]
+    ]

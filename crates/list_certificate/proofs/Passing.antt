@@ -1,5 +1,5 @@
 -- Which moves pass, and what it says of a state that all of them do.
-use Rattle.std.proofs.Common.{◌≡◌, ℕ, ◌+◌, ◌<◌, ◌≤◌, inl, inr, Bool, true, false, List, [], ◌∷◌, length, Option, Some, None, slice_get, Contains, get_or, refl, sym, ◌∙◌, ap, subst, arith}
+use Rattle.std.proofs.Common.{◌≡◌, ℕ, ◌+◌, ◌<◌, ◌≤◌, inl, inr, Bool, true, false, List, length, Option, Some, None, slice_get, Contains, get_or, sym, ◌∙◌, ap, subst, arith}
 use Rattle.std.specs.Option.{option_map, option_and_then}
 use Rattle.std.proofs.lemmas.Bool.{cases_lt}
 use Rattle.std.proofs.lemmas.Option.{none-some, same_Some, slice_get_within, slice_get-get_or}
@@ -7,9 +7,9 @@ use Rattle.list_pack.specs.declared.types.Cost.{Cost}
 use Rattle.list_pack.specs.declared.types.State.{State}
 use Rattle.list_pack.specs.declared.types.Shape.{Shape}
 use Rattle.list_pack.specs.declared.types.Leg.{Leg}
-use Rattle.list_pack.specs.Value.{LegsValue, KeepsLaws, IsSid}
+use Rattle.list_pack.specs.Value.{LegsValue, KeepsLaws}
 use Rattle.list_pack.specs.Rooms.{room_behind}
-use Rattle.list_pack.specs.Costs.{Move, Edge, plus, move_cost, room_of, edge_by, edge_of, last_of, behind, Under, IsState, IsStateBy}
+use Rattle.list_pack.specs.Costs.{Move, Edge, plus, move_cost, room_of, edge_by, edge_of, last_of, behind, Under}
 use Rattle.list_pack.specs.Least.{IsGoodAt}
 use Rattle.list_pack.proofs.PublicLaws.{under-none, under-behind, under-last, edge-parts, edge-made, last-parts}
 use Rattle.list_certificate.specs.declared.types.PotentialLine.{PotentialLine}

@@ -1,8 +1,8 @@
 -- Where the lines of a path lead, and what they cost.
-use Rattle.std.proofs.Common.{◌≡◌, ℕ, zero, suc, ◌+◌, ◌*◌, ◌<◌, ◌≤◌, inl, inr, Bool, true, false, List, [], ◌∷◌, ◌++◌, map, length, take, drop, get_or, Option, Some, None, slice_get, Contains, append_assoc, refl, sym, ◌∙◌, ap, subst, arith}
+use Rattle.std.proofs.Common.{◌≡◌, ℕ, zero, suc, ◌+◌, ◌*◌, ◌<◌, ◌≤◌, inl, inr, Bool, true, false, List, [], ◌∷◌, ◌++◌, map, length, take, drop, Option, Some, None, slice_get, Contains, append_assoc, refl, sym, ◌∙◌, ap, subst, arith}
 use Rattle.std.specs.Option.{option_map}
 use Rattle.std.proofs.lemmas.Bool.{cases_lt}
-use Rattle.std.proofs.lemmas.Option.{none-some, same_Some, slice_get_within, slice_get-get_or}
+use Rattle.std.proofs.lemmas.Option.{none-some, same_Some}
 use Rattle.list_pack.specs.declared.types.Cost.{Cost}
 use Rattle.list_pack.specs.declared.types.State.{State}
 use Rattle.list_pack.specs.declared.types.PathStep.{PathStep}
@@ -16,7 +16,7 @@ use Rattle.list_certificate.specs.declared.types.PathLine.{PathLine}
 use Rattle.list_certificate.specs.declared.path.Reached.{Reached}
 use Rattle.list_certificate.specs.declared.path.Spent.{Spent}
 use Rattle.list_certificate.specs.Verdicts.{GoesAlong, Leads, IsAstray, steps_of, BreaksAt, PathCosts}
-use Rattle.list_certificate.specs.Tests.{Tells, edge_value, IsEdgeOf, IsEdgeTo, IsEdgeBy, IsLastBy, IsLastOf, Finishes, Run, spent_value, IsWalked, Adds, move_of}
+use Rattle.list_certificate.specs.Tests.{edge_value, IsEdgeOf, IsEdgeTo, IsEdgeBy, IsLastBy, IsLastOf, Run, spent_value, Adds, move_of}
 use Rattle.list_certificate.proofs.Passing.{place-in}
 
 cost-one : (stays : Bool) (hops : ℕ) → (move_cost stays hops).containers ≤ 1

@@ -1,16 +1,15 @@
 -- The states in order: by positions, the SIDs of a position, and the rooms of a SID.
-use Rattle.std.proofs.Common.{◌≡◌, ℕ, zero, suc, ◌+◌, ◌<◌, ◌≤◌, inl, inr, Bool, true, false, ◌&&◌, List, [], ◌∷◌, length, Option, Some, None, slice_get, Contains, refl, sym, ◌∙◌, ap, subst, arith}
+use Rattle.std.proofs.Common.{◌≡◌, ℕ, zero, suc, ◌+◌, ◌<◌, ◌≤◌, inl, inr, Bool, true, false, List, [], ◌∷◌, length, Option, Some, None, slice_get, Contains, refl, sym, ◌∙◌, ap, subst, arith}
 use Rattle.std.specs.Prelude.{IsSome, is_some}
 use Rattle.std.proofs.lemmas.Bool.{cases_lt, false≢true, and_parts}
-use Rattle.std.proofs.lemmas.Option.{none-some, same_Some, slice_get_within}
+use Rattle.std.proofs.lemmas.Option.{none-some, same_Some}
 use Rattle.list_pack.specs.declared.types.State.{State}
 use Rattle.list_pack.specs.Order.{lex_before}
 use Rattle.list_pack.specs.Value.{LegsValue, KeepsLaws, sid_key, sid_before, ascends}
 use Rattle.list_pack.specs.Rooms.{top_room}
 use Rattle.list_pack.specs.Costs.{start, IsState, IsStateBy}
-use Rattle.list_pack.specs.Least.{IsBefore, IsGoodAt, state_key, state_key_by}
+use Rattle.list_pack.specs.Least.{IsBefore, state_key, state_key_by}
 use Rattle.list_certificate.specs.declared.types.PotentialLine.{PotentialLine}
-use Rattle.list_certificate.specs.Certs.{potential_at}
 use Rattle.list_certificate.specs.Tests.{Fails, PassesUnlisted, FirstFailing, FirstFailure, OfSid, OfPosition, OfAll}
 use Rattle.list_certificate.proofs.Orders.{head-cases, head-less, head-same, lex-behind, lex-longer, lex-not-both, lex-trans}
 use Rattle.list_certificate.proofs.Listed.{nothing-before}

@@ -1,5 +1,5 @@
 -- What is read of a certificate is one: its states are in order, and its lines are cut at line feeds.
-use Rattle.std.proofs.Common.{◌≡◌, ℕ, zero, suc, ◌+◌, ◌-◌, ◌<◌, ◌≤◌, ◌⊎◌, inl, inr, Bool, true, false, cond, ◌==◌, List, [], ◌∷◌, ◌++◌, length, take, drop, get_or, Option, Some, None, Result, Ok, Err, slice_get, position, refl, sym, ◌∙◌, ap, subst, arith, nat_lt}
+use Rattle.std.proofs.Common.{◌≡◌, ℕ, zero, suc, ◌+◌, ◌-◌, ◌<◌, ◌⊎◌, inl, inr, Bool, true, ◌==◌, List, [], ◌∷◌, ◌++◌, length, take, drop, get_or, Option, Some, None, Result, Ok, Err, slice_get, position, refl, sym, ◌∙◌, ap, subst, arith, nat_lt}
 use Rattle.std.specs.Prelude.{IsSome, IfOk}
 use Rattle.std.specs.List.{slice_split, position_or_len}
 use Rattle.std.proofs.lemmas.Bool.{cases_lt, false≢true, ltb-true}
@@ -9,7 +9,6 @@ use Rattle.net_model.specs.Network.{Network}
 use Rattle.net_model.proofs.NamedLemmas.{position-None}
 use Rattle.list_pack.specs.declared.types.State.{State}
 use Rattle.list_pack.specs.declared.types.Potential.{Potential}
-use Rattle.list_pack.specs.Order.{lex_before}
 use Rattle.list_pack.specs.Value.{LegsValue}
 use Rattle.list_pack.specs.Costs.{IsState}
 use Rattle.list_pack.specs.Least.{IsBefore, state_key}
@@ -22,7 +21,7 @@ use Rattle.list_certificate.specs.declared.item.Item.TheVariants as items
 use Rattle.list_certificate.specs.declared.draft.Stage.{Stage}
 use Rattle.list_certificate.specs.declared.draft.Stage.TheVariants as stages
 use Rattle.list_certificate.specs.Certs.{IsWritten, IsCert}
-use Rattle.list_certificate.specs.Reading.{Cut, cut_by, cut_at, Read, nothing_read, is_behind, is_next, with_potential, with_step, before_head, after_head, in_path, before_end, with_line_at, with_line, item_in, cert_of, ended_by, ended, go_on, reads, read_of, IsItem, AreStates, Gives}
+use Rattle.list_certificate.specs.Reading.{Cut, cut_by, cut_at, Read, nothing_read, is_behind, is_next, with_potential, with_step, before_head, after_head, in_path, before_end, with_line_at, with_line, item_in, cert_of, ended_by, ended, go_on, reads, IsItem, AreStates, Gives}
 use Rattle.list_certificate.proofs.Orders.{lex-trans}
 
 -- ---- what was read so far
@@ -248,7 +247,7 @@ pub cut-line : (text : List ℕ) (c : Cut) → cut_at 10 text ≡ Some c → sli
 unfolding cut_at
 cut-line text c h = cut-line-by text (position is_feed text) c refl h
 
-reads-go : (net : Network) (v : LegsValue) (bytes : List ℕ) (parts : List (List ℕ)) (line : ℕ) (r : Read) → 0 < length parts
+pub reads-go : (net : Network) (v : LegsValue) (bytes : List ℕ) (parts : List (List ℕ)) (line : ℕ) (r : Read) → 0 < length parts
     → reads net v (bytes ∷ parts) line r ≡ go_on (with_line v r line (item_in net v bytes)) line (reads net v parts (line + 1))
 reads-go net v bytes [] line r h = absurd (omega (arith, h))
 reads-go net v bytes (more ∷ parts) line r h = refl

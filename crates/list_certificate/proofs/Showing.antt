@@ -1,5 +1,5 @@
 -- What a verdict shows, and the verdict on the certificate of a solution.
-use Rattle.std.proofs.Common.{◌≡◌, ℕ, zero, suc, ◌+◌, ◌<◌, ◌≤◌, List, [], ◌∷◌, map, length, Option, Some, None, slice_get, Contains, get_or, refl, sym, ◌∙◌, ap, subst, arith}
+use Rattle.std.proofs.Common.{◌≡◌, ℕ, zero, suc, ◌+◌, ◌<◌, List, [], ◌∷◌, length, Option, Some, None, slice_get, Contains, get_or, refl, sym, ◌∙◌, ap, subst, arith}
 use Rattle.std.specs.Prelude.{All, AllPairs, is_some}
 use Rattle.std.proofs.lemmas.Option.{none-some, same_Some, slice_get_within, slice_get-get_or, get_or_from_slice_get}
 use Rattle.list_pack.specs.declared.types.Cost.{Cost}
@@ -9,7 +9,7 @@ use Rattle.list_pack.specs.declared.types.Potential.{Potential}
 use Rattle.list_pack.specs.declared.types.Solution.{Solution}
 use Rattle.list_pack.specs.Value.{LegsValue, KeepsLaws}
 use Rattle.list_pack.specs.Costs.{Move, AtMost, cost_of, Under, start, IsState}
-use Rattle.list_pack.specs.Least.{IsLeast, IsGoodAt, step_of, IsBefore, IsListing, IsPath, IsPathOrNone, IsSolution}
+use Rattle.list_pack.specs.Least.{IsLeast, IsBefore, IsListing, IsPath, IsPathOrNone, IsSolution}
 use Rattle.list_pack.proofs.PublicLaws.{at_most-both}
 use Rattle.list_pack.proofs.Leasts.{tight-least, unlisted-none, least-good}
 use Rattle.list_certificate.specs.declared.types.PotentialLine.{PotentialLine}
@@ -17,8 +17,8 @@ use Rattle.list_certificate.specs.declared.types.Cert.{Cert}
 use Rattle.list_certificate.specs.declared.types.Verdict.{Verdict}
 use Rattle.list_certificate.specs.declared.types.Verdict.TheVariants.{Least, NoList, No}
 use Rattle.list_certificate.specs.Certs.{potential_at, IsWritten, IsCert, potential_lines, path_lines, none_line, certificate_of}
-use Rattle.list_certificate.specs.Verdicts.{AllPass, steps_of, PathCosts, IsTight, IsVerdict}
-use Rattle.list_certificate.specs.Laws.{Shows, IsAccepted, IsAcceptedBy}
+use Rattle.list_certificate.specs.Verdicts.{AllPass, steps_of, IsTight, IsVerdict}
+use Rattle.list_certificate.specs.Laws.{Shows, IsAcceptedBy}
 use Rattle.list_certificate.proofs.Listed.{found, not-listed}
 
 -- the start is a state

@@ -17,7 +17,7 @@ use Rattle.list_certificate.specs.declared.path.Reached.{Reached}
 use Rattle.list_certificate.specs.declared.path.Spent.{Spent}
 use Rattle.list_certificate.specs.declared.types.PathLine.{PathLine}
 use Rattle.list_certificate.specs.Certs.{potential_at}
-use Rattle.list_certificate.specs.Verdicts.{GoesAlong, Leads, steps_of, BreaksAt, PathCosts}
+use Rattle.list_certificate.specs.Verdicts.{GoesAlong, Leads, BreaksAt, PathCosts}
 
 -- the lines list states of the legs in order
 pub record AreSorted (v : LegsValue) (lines : List PotentialLine) : Type 0 where

@@ -10,7 +10,7 @@
 //! `specs/Certs.antt` has what lines say of states, `specs/Verdicts.antt` the tests and verdicts in
 //! their order, `specs/Laws.antt` what a verdict shows, `specs/Spelling.antt` the text of a
 //! solution, and `specs/Reading.antt` what a text says, line by line. The functions of `laws` do
-//! nothing: their contracts are the laws of verdicts.
+//! nothing: their contracts are the laws of verdicts, and that what is printed is read back.
 #![tactic(auto)]
 
 mod draft;
@@ -27,7 +27,10 @@ mod types;
 mod words;
 
 pub use judge::check;
-pub use laws::{a_certificate_that_is_least_is_least, a_solution_is_good};
+pub use laws::{
+    a_certificate_has_one_verdict, a_certificate_that_is_least_is_least, a_solution_is_good,
+    what_is_printed_is_read_back,
+};
 pub use reader::{MAX_BYTES, read};
 pub use spelling::{append_state, print};
 pub use types::{Cert, CertFault, PathLine, PotentialLine, Verdict, Why};

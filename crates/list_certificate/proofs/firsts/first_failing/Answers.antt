@@ -1,7 +1,7 @@
-use Rattle.std.proofs.Common.{subst, arith}
+use Rattle.std.proofs.Common.{subst}
 use Rattle.list_pack.specs.Costs.{start}
 use Rattle.list_certificate.specs.Tests.{ShowsFailure, FirstFailure, OfPosition}
-use Rattle.list_certificate.proofs.Ranges.{position-found, positions-all}
+use Rattle.list_certificate.proofs.Ranges.{position-found}
 use Rattle.list_certificate.proofs.firsts.first_failing.Goals as goal
 
 pub returns-in-Some : goal.returns-in-Some

@@ -1,4 +1,4 @@
-use Rattle.std.proofs.Common.{get_or, subst, None}
+use Rattle.std.proofs.Common.{get_or, subst}
 use Rattle.std.proofs.lemmas.Option.{slice_get-get_or}
 use Rattle.list_certificate.specs.Tests.{FirstFailure, OfSid}
 use Rattle.list_certificate.proofs.Ranges.{sids-more, sid-found, sids-all}

@@ -1,5 +1,4 @@
-use Rattle.std.proofs.Common.{◌≡◌, ◌≤◌, sym, ◌∙◌, ap, subst, arith}
-use Rattle.list_pack.specs.declared.types.Shape.{Shape}
+use Rattle.std.proofs.Common.{◌≡◌, sym, ◌∙◌, ap, subst, arith}
 use Rattle.list_pack.specs.Value.{IsShape}
 use Rattle.list_pack.specs.Rooms.{top_room}
 use Rattle.list_certificate.proofs.Networks.{sid-middle}

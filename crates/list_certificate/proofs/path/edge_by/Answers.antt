@@ -1,5 +1,4 @@
-use Rattle.std.proofs.Common.{◌≡◌, true, [], refl, sym, ◌∙◌, ap, subst, Some, arith}
-use Rattle.v6_addr.specs.Address.{PrefixValue}
+use Rattle.std.proofs.Common.{◌≡◌, true, [], sym, ◌∙◌, ap, subst, Some, arith}
 use Rattle.list_pack.specs.declared.types.Shape.{Shape}
 use Rattle.list_certificate.specs.Tests.{Tells}
 use Rattle.list_certificate.proofs.Passing.{room-is}

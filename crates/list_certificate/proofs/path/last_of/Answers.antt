@@ -1,4 +1,4 @@
-use Rattle.std.proofs.Common.{get_or, subst, None}
+use Rattle.std.proofs.Common.{get_or, subst}
 use Rattle.std.proofs.lemmas.Option.{slice_get-get_or}
 use Rattle.list_certificate.specs.Tests.{IsLastBy}
 use Rattle.list_certificate.proofs.Pathing.{no-last-more, no-last-all}

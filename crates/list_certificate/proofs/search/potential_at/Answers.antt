@@ -1,11 +1,10 @@
-use Rattle.std.proofs.Common.{◌≡◌, ℕ, ◌+◌, ◌-◌, ◌<◌, ◌≤◌, true, false, List, Some, None, length, slice_get, get_or, drop, length-drop, sym, ◌∙◌, ap, subst, arith}
+use Rattle.std.proofs.Common.{◌≡◌, ℕ, ◌+◌, ◌-◌, ◌<◌, ◌≤◌, true, List, Some, length, slice_get, get_or, drop, length-drop, sym, ◌∙◌, ap, arith}
 use Rattle.std.proofs.lemmas.Bool.{false≢true}
 use Rattle.std.proofs.lemmas.Option.{slice_get_within}
 use Rattle.list_pack.specs.Order.{lex_before}
 use Rattle.list_certificate.specs.declared.types.PotentialLine.{PotentialLine}
-use Rattle.list_certificate.specs.Certs.{same_state}
 use Rattle.list_certificate.specs.Tests.{place_key, key_of}
-use Rattle.list_certificate.proofs.Listed.{no_line, rest-at, rest-get, state-same, same-state, first-listed, none-listed, scanned-more, scanned-up, before-place}
+use Rattle.list_certificate.proofs.Listed.{no_line, rest-at, state-same, same-state, first-listed, none-listed, scanned-more, scanned-up, before-place}
 use Rattle.list_certificate.proofs.search.potential_at.Goals as goal
 
 pub loop-line-init : goal.loop-line-init

@@ -1,6 +1,6 @@
 use Rattle.std.proofs.Common.{◌≡◌, ◌++◌, take, flat_map}
 use Rattle.std.specs.Prelude.{string_bytes}
-use Rattle.list_certificate.specs.Spelling.{potential_text, step_text}
+use Rattle.list_certificate.specs.Spelling.{potential_text}
 use Rattle.list_certificate.proofs.spelling.append_potentials.Given as goal
 
 abbrev pub invariant-loop-potential : goal.invariant-loop-potential

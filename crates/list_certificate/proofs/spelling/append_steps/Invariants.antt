@@ -1,6 +1,6 @@
 use Rattle.std.proofs.Common.{◌≡◌, ◌++◌, take, flat_map}
 use Rattle.std.specs.Prelude.{string_bytes}
-use Rattle.list_certificate.specs.Spelling.{potential_text, step_text}
+use Rattle.list_certificate.specs.Spelling.{step_text}
 use Rattle.list_certificate.proofs.spelling.append_steps.Given as goal
 
 abbrev pub invariant-loop-step : goal.invariant-loop-step
