@@ -1,12 +1,16 @@
 //! Laws about the definitions, each the contract of a function that does nothing.
 
-ghost use Rattle.std.specs.Prelude.{◌≡◌, ◌↔◌, ◌+◌, ℕ, ◌∷◌, ◌++◌, IsSome, List, Option, Some, None, length};
+ghost use Rattle.std.specs.Prelude.{◌≡◌, ◌↔◌, ◌≤◌, ◌+◌, ℕ, ◌∷◌, ◌++◌, All, IsSome, List, Option, Some, None, Ok, length};
 ghost use Rattle.net_model.specs.Keeps.{Keeps};
 ghost use Rattle.net_model.specs.Network.{Network};
 ghost use Rattle.srv6_rules.specs.Packet.{Content, Packet};
+ghost use Rattle.trace_replay.specs.Judging.{Replays};
 ghost use Rattle.trace_replay.specs.Laws.{IsChoiceLine, IsOutcomeLine, state_behind, walk_lines};
 ghost use Rattle.trace_replay.specs.Numbered.{IsNumbered};
+ghost use Rattle.trace_replay.specs.Reading.{Reads, bad_line, lines_of};
 ghost use Rattle.trace_replay.specs.Replays.{choice_given, wrong_from};
+ghost use Rattle.trace_replay.specs.Written.{IsTraced, Traced, counts_written, trace_lines, trace_text};
+ghost use Rattle.trace_replay.specs.declared.limits.TheConstants.{TEXT_LIMIT};
 ghost use Rattle.trace_replay.specs.declared.state.State.{State};
 ghost use Rattle.trace_replay.specs.declared.state.State.TheVariants as states;
 ghost use Rattle.walk_rules.specs.Relation.{IsPlace};
@@ -41,6 +45,22 @@ pub fn right_lines_are_passed()
     ensures { (net : Network) (state next : State) (n : ℕ) (lines more : List (List ℕ)) →
         state_behind net state lines ≡ Some next →
         wrong_from net state n (lines ++ more) ≡ wrong_from net next (n + length lines) more }
+{}
+
+/// What is written of packets that entered is a trace, whose lines are those of the packets between
+/// its head and its end, and each of these is right; its counts are those of what was written.
+pub fn what_is_written_is_accepted()
+    ensures lines { (net : Network) (packets : List Traced) →
+        Keeps net → All (IsTraced net) packets →
+        (bad_line net (trace_text net packets) ≡ None)
+        × (lines_of (trace_text net packets) ≡ trace_lines net packets) }
+    ensures read { (net : Network) (packets : List Traced) →
+        Keeps net → All (IsTraced net) packets →
+        length (trace_text net packets) ≤ TEXT_LIMIT →
+        Reads net (trace_text net packets) (Ok (trace_lines net packets)) }
+    ensures replayed { (net : Network) (packets : List Traced) →
+        Keeps net → All (IsTraced net) packets →
+        Replays net (trace_lines net packets) (Ok (counts_written net packets)) }
 {}
 
 /// What a stage's outcome names is one of the network's parts.
