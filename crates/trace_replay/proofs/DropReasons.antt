@@ -1,8 +1,7 @@
 -- The reasons for which a stage drops what stands at a place are those that a trace has.
 use Rattle.std.proofs.Common.{◌≡◌, ℕ, zero, suc, ◌+◌, ◌-◌, ◌*◌, ◌/◌, Bool, true, false, cond, List, [], ◌∷◌, length, drop, Option, Some, None, Result, Ok, Err, refl, nat_lt}
-use Rattle.std.specs.Prelude.{nat_le, ◌==◌, ◌&&◌, not, if◌then◌else◌, slice_index, slice_get}
+use Rattle.std.specs.Prelude.{nat_le, ◌==◌, ◌&&◌, not, if◌then◌else◌, slice_index}
 use Rattle.srv6_rules.specs.declared.numbers.TheConstants.{HMAC, IPV4_HEADER_LEN, IPV4_VERSION, IPV6_VERSION, OPTIONS_AT, PAD1, PADN, SEGMENT_LEN, SEGMENT_LIST_AT}
-use Rattle.srv6_rules.specs.declared.sid.Behaviour.{Behaviour}
 use Rattle.srv6_rules.specs.declared.sid.Family.{Family}
 use Rattle.srv6_rules.specs.declared.sid.Family.TheVariants as families
 use Rattle.srv6_rules.specs.declared.sid.Reason.{Reason}
@@ -11,9 +10,9 @@ use Rattle.srv6_rules.specs.declared.sid.SidEntry.{SidEntry}
 use Rattle.srv6_rules.specs.declared.compression.Compression.{Compression}
 use Rattle.srv6_rules.specs.Areas.{Fault, area_fault, first_of, item_bytes, option_fault, options_fault, passes_end, tlv_fault, tlvs_fault, unknown_option}
 use Rattle.srv6_rules.specs.Behaviours.{exposes, family_inside, goes_on}
-use Rattle.srv6_rules.specs.Chain.{ChainEnd, ChainPlace, Cut, Header, Upper, chain_of, destination_options, fragment, from_place, hop_by_hop, is_first, is_segment_routing, segments_left}
+use Rattle.srv6_rules.specs.Chain.{ChainEnd, Cut, Header, Upper, chain_of, destination_options, fragment, from_place, hop_by_hop, is_first, is_segment_routing, segments_left}
 use Rattle.srv6_rules.specs.CompressedSteps.{AtEnd, Dropped, Moved, ReplaceStep, has_bad_list, hop_limit_fault, is_at_end, is_ended, is_replace, lacks_entry, move_of, moved, replace_step, segments_fault, shifted, compression_of, unless_dropped}
-use Rattle.srv6_rules.specs.Endpoint.{Delivered, Endpoint, Exposed, Onward, Refused, advanced, after_last, after_step, at_address, at_address_end, at_address_header, at_end, at_header, at_header_by, at_hop_by_hop, at_last_upper, at_packed_segments, at_segment_routing, at_sid, at_sid_routing, at_upper, at_whole_segments, by_replace_step, has_bad_segments, is_allowed, is_options, leaves_none, next_csid, next_segment, outcome_without, over_headers, shifts_at, unknown_routing, unless_fault, upper_layer}
+use Rattle.srv6_rules.specs.Endpoint.{Delivered, Endpoint, Exposed, Onward, Refused, advanced, after_last, after_step, at_address, at_address_end, at_address_header, at_end, at_header, at_header_by, at_hop_by_hop, at_last_upper, at_packed_segments, at_segment_routing, at_sid, at_sid_routing, at_whole_segments, by_replace_step, has_bad_segments, is_allowed, is_options, leaves_none, next_csid, next_segment, outcome_without, over_headers, shifts_at, unknown_routing, unless_fault, upper_layer}
 use Rattle.srv6_rules.specs.Packet.{Content, Packet, Unreadable, V4, V6, content4_by, content_of, header_len, packet_at, read_as, stated_len}
 use Rattle.srv6_rules.specs.Packet4.{Packet4, is_cut4, packet4_at, read4}
 use Rattle.srv6_rules.specs.Srh.{Srh, routing_type_at, segments_left_at, srh_of, tlv_bytes}

@@ -1,15 +1,14 @@
 -- The lines of a packet that entered: its first line is read as the packet, and those of its walk stand behind it.
-use Rattle.std.proofs.Common.{◌≡◌, ℕ, zero, suc, ◌+◌, ◌-◌, ◌^◌, ◌<◌, ◌≤◌, Bool, true, false, List, [], ◌∷◌, ◌++◌, All, length, drop, take, Option, Some, None, map, slice_get, refl, sym, ap, ◌∙◌, subst, arith, length-append}
-use Rattle.std.specs.Prelude.{bytes_eq, codes, position}
+use Rattle.std.proofs.Common.{◌≡◌, ℕ, zero, suc, ◌+◌, ◌-◌, ◌^◌, ◌<◌, ◌≤◌, true, false, List, [], ◌∷◌, All, length, drop, take, Option, Some, None, slice_get, refl, sym, ap, ◌∙◌, subst, arith, length-append}
+use Rattle.std.specs.Prelude.{bytes_eq, codes}
 use Rattle.std.specs.Fmt.{decimal}
 use Rattle.std.proofs.lemmas.Bool.{both_ways}
 use Rattle.std.proofs.lemmas.List.{length-take, take_all}
 use Rattle.std.proofs.lemmas.List.Elements.{All-cons, All-nil, All-take}
 use Rattle.std.proofs.lemmas.Slice.Eq.{bytes_eq-Decides}
 use Rattle.srv6_rules.specs.declared.sid.Family.{Family}
-use Rattle.srv6_rules.specs.declared.sid.Reason.{Reason}
-use Rattle.srv6_rules.specs.Packet.{Content, IsContent, Packet, Unreadable, V4, V6, bytes_of, entered, most_len, read_as, spelling}
-use Rattle.srv6_rules.specs.Packet4.{Packet4, spelling4}
+use Rattle.srv6_rules.specs.Packet.{Content, IsContent, Unreadable, V4, V6, bytes_of, entered, most_len, read_as, spelling}
+use Rattle.srv6_rules.specs.Packet4.{spelling4}
 use Rattle.srv6_rules.proofs.PublicLaws.{entered-back, entered-is_content, read_as-spelled, read_as-spelled4, read_as-unreadable}
 use Rattle.net_model.specs.declared.parts.Node.{Node}
 use Rattle.net_model.specs.Keeps.{Keeps}
@@ -17,12 +16,10 @@ use Rattle.net_model.specs.Named.{node_numbered}
 use Rattle.net_model.specs.Network.{Network}
 use Rattle.net_model.proofs.PublicLaws.{position-None, position_item}
 use Rattle.walk_rules.specs.declared.place.Place.{Place}
-use Rattle.walk_rules.specs.Laws.{family_after}
 use Rattle.walk_rules.specs.Relation.{IsPlace}
 use Rattle.walk_rules.specs.Treatment.{step_of}
 use Rattle.walk_rules.specs.Walk.{Step, decisions, next_place, walk_of}
 use Rattle.walk_rules.proofs.PublicLaws.{next_place-family, step-back, step-content, step-place, walk_of-none, walk_of-suc, walk_of-zero}
-use Rattle.trace_replay.specs.declared.line.Line.{Line}
 use Rattle.trace_replay.specs.declared.line.Line.TheVariants as lines
 use Rattle.trace_replay.specs.declared.reading.Phase.TheVariants as phases
 use Rattle.trace_replay.specs.Grammar.{family_read, hex_read, is_number, line_read, packet_by, words_read}
@@ -30,11 +27,11 @@ use Rattle.trace_replay.specs.Laws.{walk_lines}
 use Rattle.trace_replay.specs.Lines.{family_number, hex_text, name_of_node, packet_text, stage_text, stages_text}
 use Rattle.trace_replay.specs.Reading.{behind_packet}
 use Rattle.trace_replay.specs.Replays.{begins_packet}
-use Rattle.trace_replay.specs.Written.{IsTraced, Traced, entry_place, packet_line, traced_walk}
+use Rattle.trace_replay.specs.Written.{IsTraced, Traced, entry_place, packet_line}
 use Rattle.trace_replay.proofs.DropReasons.{ContentComes, read-comes}
 use Rattle.trace_replay.proofs.Entering.{enters-whole}
-use Rattle.trace_replay.proofs.Splitting.{AreWords, IsTextLine, joined, words-line, words-read}
-use Rattle.trace_replay.proofs.StageLines.{IsLineOf, content-bytes, stage-line-is, stages-line}
+use Rattle.trace_replay.proofs.Splitting.{AreWords, IsTextLine, words-line, words-read}
+use Rattle.trace_replay.proofs.StageLines.{content-bytes, stage-line-is, stages-line}
 use Rattle.trace_replay.proofs.WordTexts.{decimal-number, decimal-word, family-back, family-word, hex-back, hex-word, name-word}
 
 -- ---- the lines of a walk

@@ -1,6 +1,6 @@
 -- The lines of walks and of packets are text of one line, and are read as what they are.
-use Rattle.std.proofs.Common.{◌≡◌, ℕ, zero, suc, ◌+◌, ◌^◌, ◌<◌, ◌≤◌, Bool, true, false, List, [], ◌∷◌, ◌++◌, All, Option, Some, None, slice_get, refl, sym, ap, ◌∙◌, subst, arith, length}
-use Rattle.std.specs.Prelude.{bytes_eq, codes, if◌then◌else◌, is_some, slice_index, nat_le, ◌-◌}
+use Rattle.std.proofs.Common.{◌≡◌, ℕ, zero, suc, ◌^◌, ◌<◌, ◌≤◌, true, false, List, [], ◌∷◌, All, Option, Some, None, slice_get, refl, sym, ap, ◌∙◌, subst, arith, length}
+use Rattle.std.specs.Prelude.{codes, is_some}
 use Rattle.std.specs.Fmt.{decimal}
 use Rattle.std.proofs.lemmas.List.Elements.{All-append}
 use Rattle.v6_addr.specs.Address.{PrefixValue, IsPrefix}
@@ -9,8 +9,7 @@ use Rattle.srv6_rules.specs.declared.sid.Family.{Family}
 use Rattle.srv6_rules.specs.declared.sid.Reason.{Reason}
 use Rattle.srv6_rules.specs.declared.sid.Reason.TheVariants as reasons
 use Rattle.srv6_rules.specs.declared.sid.SidEntry.{SidEntry}
-use Rattle.srv6_rules.specs.Packet.{Content, IsContent, Packet, Unreadable, V4, V6, bytes_of, spelling}
-use Rattle.srv6_rules.specs.Packet4.{IsSpellable4, Packet4, spelling4}
+use Rattle.srv6_rules.specs.Packet.{Content, IsContent, Unreadable, V4, V6, bytes_of}
 use Rattle.srv6_rules.specs.Reasons.{reason_name}
 use Rattle.srv6_rules.proofs.PublicLaws.{all-spelling}
 use Rattle.icmp6_errors.specs.Answer.{error_bytes}
@@ -35,8 +34,8 @@ use Rattle.trace_replay.specs.Numbered.{IsNumbered}
 use Rattle.trace_replay.specs.Replays.{begins_packet}
 use Rattle.trace_replay.proofs.Choosing.{numbered}
 use Rattle.trace_replay.proofs.DropReasons.{ContentComes, comes}
-use Rattle.trace_replay.proofs.Splitting.{AreWords, IsTextLine, IsWord, both, joined, words-line, words-read}
-use Rattle.trace_replay.proofs.StageOutcomes.{ErrorIsBytes, HasTable, OutcomeComes, exposed-table, onward-table, step-bytes, step-comes}
+use Rattle.trace_replay.proofs.Splitting.{AreWords, IsTextLine, IsWord, joined, words-line, words-read}
+use Rattle.trace_replay.proofs.StageOutcomes.{HasTable, OutcomeComes, exposed-table, onward-table, step-bytes, step-comes}
 use Rattle.trace_replay.proofs.WordTexts.{decimal-number, decimal-word, family-back, family-word, hex-hex, hex-word, name-word, prefix-back, prefix-word}
 
 -- a line that is no packet's first one: it is text of one line, and is read as this

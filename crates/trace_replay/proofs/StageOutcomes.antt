@@ -1,5 +1,5 @@
 -- What a stage's line tells of its outcome: the reason of a drop, the bytes of an error, and the table that a packet goes by.
-use Rattle.std.proofs.Common.{◌≡◌, ℕ, ◌^◌, ◌<◌, ◌≤◌, Bool, true, false, cond, List, [], ◌∷◌, ◌++◌, All, IfSome, Option, Some, None, slice_get, refl, sym, subst, arith, lit<}
+use Rattle.std.proofs.Common.{◌≡◌, ℕ, ◌^◌, ◌<◌, ◌≤◌, Bool, true, false, List, ◌∷◌, ◌++◌, All, IfSome, Option, Some, None, slice_get, refl, subst, arith, lit<}
 use Rattle.std.specs.Prelude.{nat_le, ◌&&◌}
 use Rattle.std.proofs.lemmas.List.Elements.{All-append, All-cons, All-nil, All-take}
 use Rattle.std.proofs.lemmas.Option.{same_Some}
@@ -11,12 +11,12 @@ use Rattle.srv6_rules.specs.declared.sid.Family.{Family}
 use Rattle.srv6_rules.specs.declared.sid.Reason.{Reason}
 use Rattle.srv6_rules.specs.declared.sid.Reason.TheVariants as reasons
 use Rattle.srv6_rules.specs.declared.sid.SidEntry.{SidEntry}
-use Rattle.srv6_rules.specs.Behaviours.{behaviour_policy, behaviour_reduces, behaviour_table, behaviour_takes_links}
+use Rattle.srv6_rules.specs.Behaviours.{behaviour_policy, behaviour_table, behaviour_takes_links}
 use Rattle.srv6_rules.specs.Endpoint.{Delivered, Endpoint, Exposed, Onward, Refused, at_address, at_sid}
 use Rattle.srv6_rules.specs.Errors.{code_of, error_about, error_checksum, error_packet, is_unanswered, kind_of, message_head, pointer_of, quote_of, type_of}
 use Rattle.srv6_rules.specs.Packet.{Content, IsContent, IsSpellable, Packet, Unreadable, V4, V6, address_bytes, first_word, four_bytes, header_spelling, spelling, two_bytes}
 use Rattle.srv6_rules.specs.Packet4.{Packet4, destination4, ttl}
-use Rattle.srv6_rules.specs.Policies.{Encapsulating, InnerHop, Outer, TooBig, pushed_by}
+use Rattle.srv6_rules.specs.Policies.{Encapsulating, InnerHop, Outer, TooBig}
 use Rattle.srv6_rules.proofs.PublicLaws.{all-address_bytes, all-four_bytes, all-spelling, all-two_bytes}
 use Rattle.icmp6_errors.specs.Answer.{error_bytes}
 use Rattle.net_model.specs.declared.limits.TheConstants.{LAST_TABLE}

@@ -1,6 +1,6 @@
 -- What is written of numbers, bytes, families, reasons, names and prefixes are words, and these read as it.
-use Rattle.std.proofs.Common.{◌≡◌, ℕ, zero, suc, ◌+◌, ◌*◌, ◌/◌, ◌%◌, ◌^◌, ◌<◌, ◌≤◌, inl, inr, Bool, true, false, List, [], ◌∷◌, ◌++◌, length, All, Option, Some, None, Ok, refl, sym, ap, ◌∙◌, subst, arith, lit<, nat_lt}
-use Rattle.std.specs.Prelude.{nat_le, ◌==◌, ◌&&◌, ◌||◌, not, if◌then◌else◌, bytes_eq, codes, is_some, slice_index, slice_get, get_or}
+use Rattle.std.proofs.Common.{◌≡◌, ℕ, zero, suc, ◌*◌, ◌/◌, ◌%◌, ◌^◌, ◌<◌, ◌≤◌, inl, inr, Bool, true, false, List, [], ◌∷◌, ◌++◌, length, All, Some, None, refl, sym, ap, ◌∙◌, subst, arith, lit<, nat_lt}
+use Rattle.std.specs.Prelude.{nat_le, ◌==◌, ◌&&◌, ◌||◌, not, if◌then◌else◌, bytes_eq, is_some, slice_index}
 use Rattle.std.specs.Char.{digit_char, digit_value, is_ascii_digit}
 use Rattle.std.specs.Fmt.{decimal}
 use Rattle.std.specs.List.{AllZip, join_with_byte, list_all}
@@ -15,7 +15,7 @@ use Rattle.hex.specs.Hex.{decode_of, encode_lower, encode_with, lower_digits}
 use Rattle.hex.proofs.HexLemmas.{decode_of-encode_lower, length-encode_with}
 use Rattle.v6_addr.specs.Address.{PrefixValue, IsPrefix}
 use Rattle.v6_addr.specs.Grammar.{IsAddressText, IsGroupText, IsGroupsText}
-use Rattle.v6_addr.specs.Text.{length_text, prefix_of_text, prefix_text}
+use Rattle.v6_addr.specs.Text.{length_text, prefix_text}
 use Rattle.v6_addr.proofs.PrefixGrammar.{length_text-1, length_text-2, length_text-3, prefix_text_is}
 use Rattle.v6_addr.proofs.RoundTrip.{prefix_read_back}
 use Rattle.srv6_rules.specs.declared.sid.Family.{Family}

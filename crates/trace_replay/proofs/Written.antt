@@ -1,29 +1,24 @@
 -- What is written of packets is a trace, is read as its lines, and these are right.
-use Rattle.std.proofs.Common.{◌≡◌, ℕ, zero, suc, ◌+◌, ◌-◌, ◌<◌, ◌≤◌, Bool, true, false, List, [], ◌∷◌, ◌++◌, All, length, Option, Some, None, Result, Ok, Err, refl, sym, ap, ◌∙◌, subst, arith, append_assoc, length-append, zero-add}
-use Rattle.std.specs.Prelude.{bytes_eq, cond, if◌then◌else◌, sum_by}
-use Rattle.std.specs.List.{count_by, flat_map}
+use Rattle.std.proofs.Common.{◌≡◌, ℕ, ◌+◌, ◌-◌, ◌≤◌, Bool, true, false, List, [], ◌∷◌, ◌++◌, All, length, Option, Some, None, Ok, refl, sym, ap, ◌∙◌, arith, append_assoc, length-append, zero-add}
+use Rattle.std.specs.Prelude.{bytes_eq, cond, if◌then◌else◌}
+use Rattle.std.specs.List.{count_by}
 use Rattle.std.proofs.lemmas.List.Elements.{All-append, All-cons, All-head, All-nil, All-tail}
 use Rattle.std.proofs.lemmas.List.Sums.{sum_by-append, sum_by-cons}
 use Rattle.std.proofs.lemmas.Slice.Eq.{bytes_eq-Decides}
-use Rattle.srv6_rules.specs.Packet.{Content, bytes_of, entered}
+use Rattle.srv6_rules.specs.Packet.{Content}
 use Rattle.net_model.specs.Keeps.{Keeps}
 use Rattle.net_model.specs.Network.{Network}
-use Rattle.walk_rules.specs.declared.place.Place.{Place}
 use Rattle.trace_replay.specs.declared.limits.TheConstants.{STAGES, TEXT_LIMIT}
 use Rattle.trace_replay.specs.declared.line.Line.{Line}
-use Rattle.trace_replay.specs.declared.line.Line.TheVariants as lines
-use Rattle.trace_replay.specs.declared.reading.Phase.{Phase}
 use Rattle.trace_replay.specs.declared.reading.Phase.TheVariants as phases
-use Rattle.trace_replay.specs.declared.state.State.{State}
 use Rattle.trace_replay.specs.declared.state.State.TheVariants as states
-use Rattle.trace_replay.specs.declared.verdict.Replayed.{Replayed}
 use Rattle.trace_replay.specs.Grammar.{line_read}
 use Rattle.trace_replay.specs.Laws.{state_behind, state_by, walk_lines}
 use Rattle.trace_replay.specs.Lines.{end_text, head_text}
-use Rattle.trace_replay.specs.Reading.{IsTrace, Reads, bad_by, bad_from, bad_line, behind_head, behind_packet, but_last, last_of, lines_of, phase_behind, pieces_of, rest_of}
-use Rattle.trace_replay.specs.Replays.{Wrong, begins_packet, by_line, counts_of, first_wrong, wrong_by, wrong_from}
+use Rattle.trace_replay.specs.Reading.{Reads, bad_by, bad_from, bad_line, behind_head, behind_packet, but_last, last_of, lines_of, pieces_of, rest_of}
+use Rattle.trace_replay.specs.Replays.{begins_packet, by_line, counts_of, first_wrong, wrong_by, wrong_from}
 use Rattle.trace_replay.specs.Written.{IsTraced, Traced, counts_written, entry_place, fed, packet_line, packet_lines, packets_lines, packets_trace, trace_end_bytes, trace_head_bytes, trace_lines, trace_text, traced_walk}
-use Rattle.trace_replay.proofs.PacketLines.{IsFirst, IsInner, enters-again, entry-stands, first-line, walk-inner}
+use Rattle.trace_replay.proofs.PacketLines.{IsInner, enters-again, entry-stands, first-line, walk-inner}
 use Rattle.trace_replay.proofs.Pieces.{but-last-append, last-append}
 use Rattle.trace_replay.proofs.Printing.{lines-passed, walk-replays}
 use Rattle.trace_replay.proofs.Splitting.{IsTextLine, fed-append, fed-flat, fed-parts}
