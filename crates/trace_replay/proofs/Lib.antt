@@ -10,6 +10,7 @@ pub mod Printing
 pub mod Splitting
 pub mod StageLines
 pub mod StageOutcomes
+pub mod Unended
 pub mod WordLemmas
 pub mod WordTexts
 pub mod Written

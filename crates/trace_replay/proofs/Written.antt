@@ -34,7 +34,7 @@ text-fed net packets =
     ∙ (append_assoc head_text (10 ∷ []) (fed (packets_lines net packets) ++ trace_end_bytes)
     ∙ ap (λ (t : List ℕ). head_text ++ 10 ∷ t) (sym (fed-append (packets_lines net packets) (end_text ∷ [])))))
 
-head-line : IsTextLine head_text
+pub head-line : IsTextLine head_text
 unfolding head_text
 head-line = refl
 
@@ -42,7 +42,7 @@ module _ (net : Network) (keeps : Keeps net) where
   abbrev Inner : List ℕ → Type 0
   Inner = IsInner net
 
-  walk-lines-inner : (p : Traced) → IsTraced net p → All (IsInner net) (walk_lines net (Some (entry_place p)) (traced_walk net p))
+  pub walk-lines-inner : (p : Traced) → IsTraced net p → All (IsInner net) (walk_lines net (Some (entry_place p)) (traced_walk net p))
   walk-lines-inner p is = walk-inner STAGES net (entry_place p) p.content p.pick 0 keeps (entry-stands net p keeps is)
 
   inner-texts : (ls : List (List ℕ)) → All (IsInner net) ls → All IsTextLine ls
@@ -54,7 +54,7 @@ module _ (net : Network) (keeps : Keeps net) where
   packet-texts p is =
       All-cons IsTextLine (packet_line net p) _ (first-line net p keeps is).text (inner-texts _ (walk-lines-inner p is))
 
-  packets-texts : (packets : List Traced) → All (IsTraced net) packets → All IsTextLine (packets_lines net packets)
+  pub packets-texts : (packets : List Traced) → All (IsTraced net) packets → All IsTextLine (packets_lines net packets)
   packets-texts [] h = All-nil IsTextLine
   packets-texts (p ∷ ps) h =
       All-append IsTextLine (packet_lines net p) (packets_lines net ps) (packet-texts p (All-head (IsTraced net) p ps h))

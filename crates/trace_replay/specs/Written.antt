@@ -1,5 +1,5 @@
 -- A trace of packets as it is written (own rule): the text, and the lines that it has.
-use Rattle.std.specs.Prelude.{◌≡◌, ℕ, ◌^◌, ◌<◌, List, [], ◌∷◌, ◌++◌, length, slice_get, Some, All}
+use Rattle.std.specs.Prelude.{◌≡◌, ℕ, ◌^◌, ◌<◌, List, [], ◌∷◌, ◌++◌, length, slice_get, Option, Some, All}
 use Rattle.std.specs.List.{flat_map}
 use Rattle.srv6_rules.specs.declared.sid.Family.{Family}
 use Rattle.srv6_rules.specs.Packet.{Content, bytes_of, entered}
@@ -51,6 +51,10 @@ packets_lines net packets = flat_map (packet_lines net) packets
 abbrev pub fed : List (List ℕ) → List ℕ
 fed [] = []
 fed (line ∷ more) = line ++ 10 ∷ fed more
+
+-- the bytes of a walk of at most so many stages from a place, if there is one
+abbrev pub walk_trace : ℕ → Network → Option Place → Content → (ℕ → ℕ) → ℕ → List ℕ
+walk_trace left net place content pick taken = fed (walk_lines net place (walk_of left net place content pick taken))
 
 -- the bytes of a trace's head, of a packet, of packets one behind the other, and of the end
 
