@@ -1,8 +1,16 @@
 pub mod Choosing
+pub mod DropReasons
 pub mod Entering
 pub mod Going
 pub mod NumberLemmas
+pub mod PacketLines
 pub mod Pieces
 pub mod Printed
 pub mod Printing
+pub mod Splitting
+pub mod StageLines
+pub mod StageOutcomes
+pub mod Unended
 pub mod WordLemmas
+pub mod WordTexts
+pub mod Written

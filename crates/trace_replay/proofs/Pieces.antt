@@ -1,7 +1,6 @@
 -- A text parted at its line feeds: its lines, and what stands behind them.
-use Rattle.std.proofs.Common.{◌≡◌, ℕ, ◌+◌, ◌<◌, ◌≤◌, Bool, true, false, List, [], ◌∷◌, ◌++◌, length, Bor, Option, Some, None, refl, sym, ap, ◌∙◌, arith, map}
+use Rattle.std.proofs.Common.{◌≡◌, ℕ, ◌+◌, ◌≤◌, Bool, true, false, List, [], ◌∷◌, ◌++◌, length, Bor, Option, Some, None, refl, sym, ap, ◌∙◌, arith}
 use Rattle.std.specs.Prelude.{if◌then◌else◌, ◌&&◌, ◌==◌}
-use Rattle.std.specs.List.{count_by}
 use Rattle.std.proofs.lemmas.List.{length-append, length-map}
 use Rattle.std.proofs.lemmas.List.Splits.{length-slice_split}
 use Rattle.std.proofs.lemmas.List.Sums.{count_by-le-length}
@@ -12,12 +11,12 @@ use Rattle.trace_replay.specs.declared.reading.Phase.TheVariants as phases
 use Rattle.trace_replay.specs.Reading.{IsTrace, bad_by, bad_from, bad_line, but_last, is_over, last_of, lines_of, phase_behind, pieces_of, rest_of}
 use Rattle.trace_replay.proofs.WordLemmas.{texts_of}
 
-but-last-append : (lines : List (List ℕ)) (rest : List ℕ) → but_last (lines ++ rest ∷ []) ≡ lines
+pub but-last-append : (lines : List (List ℕ)) (rest : List ℕ) → but_last (lines ++ rest ∷ []) ≡ lines
 but-last-append [] rest = refl
 but-last-append (line ∷ []) rest = refl
 but-last-append (line ∷ next ∷ more) rest = ap (λ (xs : List (List ℕ)). line ∷ xs) (but-last-append (next ∷ more) rest)
 
-last-append : (lines : List (List ℕ)) (rest : List ℕ) → last_of (lines ++ rest ∷ []) ≡ rest
+pub last-append : (lines : List (List ℕ)) (rest : List ℕ) → last_of (lines ++ rest ∷ []) ≡ rest
 last-append [] rest = refl
 last-append (line ∷ []) rest = refl
 last-append (line ∷ next ∷ more) rest = last-append (next ∷ more) rest

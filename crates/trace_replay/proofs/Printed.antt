@@ -1,27 +1,24 @@
 -- The lines of walks are right.
-use Rattle.std.proofs.Common.{◌≡◌, ℕ, zero, suc, ◌+◌, ◌%◌, ◌<◌, ◌≤◌, ◌↔◌, max, Bool, true, false, cond, List, [], ◌∷◌, ◌++◌, length, map, Option, Some, None, IsSome, Result, Ok, Err, refl, sym, ap, ◌∙◌, subst, arith, mod-lt, add-one}
-use Rattle.std.specs.Prelude.{bytes_eq, codes, slice_get, slice_index, if◌then◌else◌}
+use Rattle.std.proofs.Common.{◌≡◌, ℕ, zero, suc, ◌+◌, ◌%◌, ◌<◌, ◌≤◌, ◌↔◌, Bool, true, false, cond, List, ◌∷◌, ◌++◌, length, Option, Some, None, IsSome, Ok, refl, sym, ap, ◌∙◌, subst, arith, mod-lt}
+use Rattle.std.specs.Prelude.{codes, slice_get, slice_index}
 use Rattle.std.specs.List.{find, range_with_len}
 use Rattle.std.proofs.lemmas.List.{append_cancel_left, append_cancel_right}
 use Rattle.std.proofs.lemmas.Slice.Eq.{bytes_eq-Decides}
-use Rattle.srv6_rules.specs.Packet.{Packet, Content, bytes_of}
+use Rattle.srv6_rules.specs.Packet.{Content, bytes_of}
 use Rattle.icmp6_errors.specs.Answer.{error_bytes}
-use Rattle.net_model.specs.declared.parts.Link.{Link}
 use Rattle.net_model.specs.Network.{Network}
 use Rattle.net_model.specs.Keeps.{Keeps, StartsAt}
 use Rattle.walk_rules.specs.declared.place.Place.{Place}
 use Rattle.walk_rules.specs.declared.place.Outcome.{Outcome}
 use Rattle.walk_rules.specs.declared.place.Outcome.TheVariants as outcomes
-use Rattle.walk_rules.specs.Laws.{DifferAtMostInLink, hops_at}
+use Rattle.walk_rules.specs.Laws.{hops_at}
 use Rattle.walk_rules.specs.Relation.{IsPlace, Stage}
-use Rattle.walk_rules.specs.Treatment.{Gave, member_of, step_of}
-use Rattle.walk_rules.specs.Walk.{Step, decisions, next_place, place_after, stage_of, walk_of, walk_on}
-use Rattle.walk_rules.proofs.PublicLaws.{decisions-one, hops-start, stage-choice, stage-member, stage-step, step-member, step-place, step-same, walk_of-none, walk_of-suc, walk_of-zero}
-use Rattle.trace_replay.specs.declared.state.State.{State}
-use Rattle.trace_replay.specs.declared.state.State.TheVariants as states
-use Rattle.trace_replay.specs.Laws.{IsChoiceLine, IsOutcomeLine, stages_lines, state_behind, state_by, walk_lines}
-use Rattle.trace_replay.specs.Lines.{name_of_link, outcome_text, send_text, stage_text, stages_text, hex_text}
-use Rattle.trace_replay.specs.Replays.{after_stage, by_choice, choice_given, choices_at, going, is_given, line_judged, wrong_by, wrong_from}
+use Rattle.walk_rules.specs.Treatment.{Gave, step_of}
+use Rattle.walk_rules.specs.Walk.{decisions, next_place}
+use Rattle.walk_rules.proofs.PublicLaws.{decisions-one, hops-start, stage-choice, stage-member, stage-step, step-member, step-same}
+use Rattle.trace_replay.specs.Laws.{IsChoiceLine, IsOutcomeLine}
+use Rattle.trace_replay.specs.Lines.{name_of_link, outcome_text, send_text, stage_text, hex_text}
+use Rattle.trace_replay.specs.Replays.{by_choice, choice_given, choices_at, going, is_given}
 use Rattle.trace_replay.specs.Under.{MayTake, under}
 use Rattle.trace_replay.proofs.Choosing.{gave-parts, step-under, takes-first}
 

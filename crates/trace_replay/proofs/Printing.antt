@@ -1,5 +1,5 @@
 -- The lines of a walk are right, and behind them the packet has ended.
-use Rattle.std.proofs.Common.{◌≡◌, ℕ, zero, suc, ◌+◌, Bool, true, cond, List, [], ◌∷◌, ◌++◌, length, map, Option, Some, None, Result, Ok, Err, refl, sym, ap, ◌∙◌, subst, arith}
+use Rattle.std.proofs.Common.{◌≡◌, ℕ, zero, suc, ◌+◌, Bool, true, List, [], ◌∷◌, ◌++◌, length, Option, Some, None, Result, Ok, Err, refl, ap, ◌∙◌, arith}
 use Rattle.std.specs.Prelude.{bytes_eq, if◌then◌else◌}
 use Rattle.std.proofs.lemmas.Slice.Eq.{bytes_eq-Decides}
 use Rattle.srv6_rules.specs.Packet.{Content}
@@ -7,13 +7,13 @@ use Rattle.net_model.specs.Network.{Network}
 use Rattle.net_model.specs.Keeps.{Keeps}
 use Rattle.walk_rules.specs.declared.place.Place.{Place}
 use Rattle.walk_rules.specs.Relation.{IsPlace}
-use Rattle.walk_rules.specs.Treatment.{Gave, step_of}
-use Rattle.walk_rules.specs.Walk.{Step, decisions, next_place, place_after, stage_of, walk_of, walk_on}
+use Rattle.walk_rules.specs.Treatment.{step_of}
+use Rattle.walk_rules.specs.Walk.{Step, decisions, next_place, walk_of}
 use Rattle.walk_rules.proofs.PublicLaws.{step-place, walk_of-none, walk_of-suc, walk_of-zero}
 use Rattle.trace_replay.specs.declared.state.State.{State}
 use Rattle.trace_replay.specs.declared.state.State.TheVariants as states
-use Rattle.trace_replay.specs.Laws.{stages_lines, state_behind, state_by, walk_lines}
-use Rattle.trace_replay.specs.Lines.{stage_text, stages_text}
+use Rattle.trace_replay.specs.Laws.{state_behind, state_by, walk_lines}
+use Rattle.trace_replay.specs.Lines.{stages_text}
 use Rattle.trace_replay.specs.Replays.{Wrong, going, line_judged, wrong_by, wrong_from}
 use Rattle.trace_replay.proofs.Printed.{line-leads}
 

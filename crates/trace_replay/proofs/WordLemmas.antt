@@ -1,12 +1,11 @@
 -- Words of lines, by how many they are.
-use Rattle.std.proofs.Common.{◌≡◌, ℕ, zero, suc, ◌<◌, ◌≤◌, Bool, true, false, List, [], ◌∷◌, length, Bor, Some, None, refl, sym, ap, ◌∙◌, arith, map, slice_index_or, bytes_eq}
+use Rattle.std.proofs.Common.{◌≡◌, ℕ, zero, suc, ◌<◌, ◌≤◌, Bool, true, false, List, [], ◌∷◌, length, Bor, Some, None, refl, sym, ap, arith, map, slice_index_or, bytes_eq}
 use Rattle.std.specs.Prelude.{if◌then◌else◌, slice_get}
 use Rattle.std.specs.Str.{IsUtf8, is_utf8}
 use Rattle.std.proofs.lemmas.Str.{IsUtf8-from_is_utf8, is_utf8-from_IsUtf8}
 use Rattle.net_model.specs.declared.parts.Node.{Node}
 use Rattle.net_model.specs.Named.{IsNodeNumbered}
 use Rattle.net_model.specs.Network.{Network}
-use Rattle.trace_replay.specs.declared.line.Line.TheVariants as lines
 use Rattle.trace_replay.specs.Grammar.{is_stage, line_read, words_of, words_read}
 use Rattle.trace_replay.specs.Lines.{local_text}
 

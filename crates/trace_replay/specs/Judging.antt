@@ -1,5 +1,5 @@
 -- What the code's judgements say.
-use Rattle.std.specs.Prelude.{◌≡◌, List, ℕ, Option, Some, None, Result, Ok, Err}
+use Rattle.std.specs.Prelude.{◌≡◌, List, ℕ, Some, None, Result, Ok, Err}
 use Rattle.net_model.specs.Network.{Network}
 use Rattle.walk_rules.specs.Relation.{IsPlace}
 use Rattle.trace_replay.specs.declared.flight.LineFault.{LineFault}

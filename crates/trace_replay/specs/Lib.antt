@@ -6,3 +6,4 @@ pub mod Numbered
 pub mod Reading
 pub mod Replays
 pub mod Under
+pub mod Written

@@ -1,11 +1,11 @@
 -- What a stage gives under a choice, by what it gives under another.
-use Rattle.std.specs.Prelude.{◌≡◌, ℕ, ◌<◌, Bool, bytes_eq, List, length, slice_index, Option, Some, None, string_bytes}
+use Rattle.std.specs.Prelude.{◌≡◌, ℕ, ◌<◌, Bool, bytes_eq, List, length, slice_index, Some, None, string_bytes}
 use Rattle.srv6_rules.specs.Packet.{Content}
 use Rattle.net_model.specs.Network.{Network}
 use Rattle.walk_rules.specs.declared.place.Outcome.{Outcome}
 use Rattle.walk_rules.specs.declared.place.Outcome.TheVariants as outcomes
 use Rattle.walk_rules.specs.declared.place.Place.{Place}
-use Rattle.walk_rules.specs.Treatment.{Gave, step_of}
+use Rattle.walk_rules.specs.Treatment.{step_of}
 use Rattle.trace_replay.specs.declared.judge.Judged.{Judged}
 use Rattle.trace_replay.specs.declared.judge.Judged.TheVariants as judges
 use Rattle.trace_replay.specs.Lines.{outcome_text, stage_text}

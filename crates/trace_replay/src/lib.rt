@@ -20,8 +20,9 @@ mod verdict;
 mod words;
 
 pub use laws::{
-    a_line_is_right_where_an_outcome_has_it, an_outcome_names_what_is_there, printed_traces_replay,
-    right_lines_are_passed,
+    a_line_is_right_where_an_outcome_has_it, a_packet_is_written_stage_by_stage,
+    an_outcome_names_what_is_there, printed_traces_replay, right_lines_are_passed,
+    what_is_not_finished_is_refused, what_is_written_is_accepted,
 };
 pub use limits::{STAGES, TEXT_LIMIT};
 pub use print::{is_numbered, print_end, print_event, print_head, print_packet, print_stages};

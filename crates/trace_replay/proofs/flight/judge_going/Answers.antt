@@ -1,4 +1,4 @@
-use Rattle.std.proofs.Common.{◌≡◌, subst}
+use Rattle.std.proofs.Common.{subst}
 use Rattle.trace_replay.specs.declared.judge.Judged.{Judged}
 use Rattle.trace_replay.specs.Under.{IsRight, JudgesStage}
 use Rattle.trace_replay.proofs.Going.{going-right}

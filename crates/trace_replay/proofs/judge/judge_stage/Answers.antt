@@ -1,4 +1,4 @@
-use Rattle.std.proofs.Common.{◌≡◌, sym, ◌∙◌, subst}
+use Rattle.std.proofs.Common.{sym, ◌∙◌, subst}
 use Rattle.walk_rules.specs.declared.place.Outcome.{Outcome}
 use Rattle.trace_replay.specs.Under.{IsRight}
 use Rattle.trace_replay.proofs.Choosing.{found-member, found-right, found-wrong, gave-links, gave-numbered}

@@ -1,4 +1,4 @@
-use Rattle.std.proofs.Common.{◌≡◌, ℕ, suc, ◌+◌, Some, add-one}
+use Rattle.std.proofs.Common.{add-one}
 use Rattle.trace_replay.proofs.Printing.{walk-replays}
 use Rattle.trace_replay.proofs.laws.printed_traces_replay.Goals as goal
 

@@ -1,4 +1,4 @@
-use Rattle.std.proofs.Common.{◌≡◌, ℕ, List, Option, sym, ◌∙◌, ap}
+use Rattle.std.proofs.Common.{◌≡◌, Option, ◌∙◌, ap}
 use Rattle.std.proofs.lemmas.Result.{IfOk-weaker}
 use Rattle.trace_replay.specs.declared.line.Line.{Line}
 use Rattle.trace_replay.specs.Grammar.{line_read, words_of, words_read}

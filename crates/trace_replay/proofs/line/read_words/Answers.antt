@@ -1,4 +1,4 @@
-use Rattle.std.proofs.Common.{◌≡◌, sym, ◌∙◌, arith}
+use Rattle.std.proofs.Common.{sym, ◌∙◌, arith}
 use Rattle.trace_replay.proofs.WordLemmas.{other-words}
 use Rattle.trace_replay.proofs.line.read_words.Goals as goal
 use Rattle.trace_replay.proofs.line.read_words.Goals.{in_default-via-then-words-lt1, in_default-via-else-words-lt1+else-words-lt2+then-words-lt5, in_default-via-else-words-lt1+else-words-lt2+else-words-lt5+else-words-lt6}

@@ -1,4 +1,4 @@
-use Rattle.std.proofs.Common.{◌≡◌, ◌++◌, [], ◌∷◌, sym, ◌∙◌, arith}
+use Rattle.std.proofs.Common.{sym, ◌∙◌, arith}
 use Rattle.trace_replay.proofs.Pieces.{few-lines, read-bad, read-good}
 use Rattle.trace_replay.proofs.reading.read_trace.Goals as goal
 

@@ -1,4 +1,4 @@
-use Rattle.std.proofs.Common.{◌≡◌, [], sym, ◌∙◌, arith}
+use Rattle.std.proofs.Common.{[], sym, ◌∙◌}
 use Rattle.trace_replay.specs.Lines.{local_text}
 use Rattle.trace_replay.proofs.WordLemmas.{many-words, one-word, six-words, two-words}
 use Rattle.trace_replay.proofs.stage_words.is_stage.Goals as goal

@@ -1,0 +1,268 @@
+-- What a stage's line tells of its outcome: the reason of a drop, the bytes of an error, and the table that a packet goes by.
+use Rattle.std.proofs.Common.{◌≡◌, ℕ, ◌^◌, ◌<◌, ◌≤◌, Bool, true, false, List, ◌∷◌, ◌++◌, All, IfSome, Option, Some, None, slice_get, refl, subst, arith, lit<}
+use Rattle.std.specs.Prelude.{nat_le, ◌&&◌}
+use Rattle.std.proofs.lemmas.List.Elements.{All-append, All-cons, All-nil, All-take}
+use Rattle.std.proofs.lemmas.Option.{same_Some}
+use Rattle.srv6_rules.specs.declared.icmp.IcmpKind.{IcmpKind}
+use Rattle.srv6_rules.specs.declared.icmp.IcmpKind.TheVariants.{Unreachable, TimeExceeded, Parameter}
+use Rattle.srv6_rules.specs.declared.numbers.TheConstants.{MOST_QUOTE_LEN}
+use Rattle.srv6_rules.specs.declared.sid.Behaviour.{Behaviour}
+use Rattle.srv6_rules.specs.declared.sid.Family.{Family}
+use Rattle.srv6_rules.specs.declared.sid.Reason.{Reason}
+use Rattle.srv6_rules.specs.declared.sid.Reason.TheVariants as reasons
+use Rattle.srv6_rules.specs.declared.sid.SidEntry.{SidEntry}
+use Rattle.srv6_rules.specs.Behaviours.{behaviour_policy, behaviour_table, behaviour_takes_links}
+use Rattle.srv6_rules.specs.Endpoint.{Delivered, Endpoint, Exposed, Onward, Refused, at_address, at_sid}
+use Rattle.srv6_rules.specs.Errors.{code_of, error_about, error_checksum, error_packet, is_unanswered, kind_of, message_head, pointer_of, quote_of, type_of}
+use Rattle.srv6_rules.specs.Packet.{Content, IsContent, IsSpellable, Packet, Unreadable, V4, V6, address_bytes, first_word, four_bytes, header_spelling, spelling, two_bytes}
+use Rattle.srv6_rules.specs.Packet4.{Packet4, destination4, ttl}
+use Rattle.srv6_rules.specs.Policies.{Encapsulating, InnerHop, Outer, TooBig}
+use Rattle.srv6_rules.proofs.PublicLaws.{all-address_bytes, all-four_bytes, all-spelling, all-two_bytes}
+use Rattle.icmp6_errors.specs.Answer.{error_bytes}
+use Rattle.net_model.specs.declared.limits.TheConstants.{LAST_TABLE}
+use Rattle.net_model.specs.declared.net.Hit.{Hit}
+use Rattle.net_model.specs.declared.net.Hit.TheVariants as hits
+use Rattle.net_model.specs.declared.parts.NamedPolicy.{NamedPolicy}
+use Rattle.net_model.specs.Best.{lookup_of}
+use Rattle.net_model.specs.Network.{Network}
+use Rattle.walk_rules.specs.declared.place.How.{How}
+use Rattle.walk_rules.specs.declared.place.How.TheVariants.{Arrived, Submitted, Through}
+use Rattle.walk_rules.specs.declared.place.Outcome.{Outcome}
+use Rattle.walk_rules.specs.declared.place.Outcome.TheVariants as outcomes
+use Rattle.walk_rules.specs.declared.place.Place.{Place}
+use Rattle.walk_rules.specs.Treatment.{Gave, allow_of, bound_at_sid, dropped, error_by, error_from, error_of, exposed_from, onward_at_sid, onward_from, pushed_at_sid, step_of, treated, treated4, treated_at_address, treated_at_sid, treated_in, way_on}
+use Rattle.walk_rules.specs.Way.{Away, Into, Over, Own, Way, is_multicast_of, way_by, way_by_hit, way_by_table, way_of}
+use Rattle.walk_rules.proofs.Outcomes.{treated-each, treated4-each}
+use Rattle.walk_rules.proofs.PublicLaws.{onward-each}
+use Rattle.trace_replay.proofs.DropReasons.{ContentComes, EndComes, at_address-comes, at_sid-comes, comes, either}
+
+-- ---- the reason of a drop
+
+abbrev pub OutcomeComes : Outcome → Type 0
+OutcomeComes (outcomes.Again sid how) = Unit {0}
+OutcomeComes (outcomes.Hand sid how family) = Unit {0}
+OutcomeComes (outcomes.Send link) = Unit {0}
+OutcomeComes outcomes.Local = Unit {0}
+OutcomeComes (outcomes.Drop reason told) = comes reason ≡ true
+
+abbrev pub GaveComes : Gave → Type 0
+GaveComes gave = OutcomeComes gave.outcome
+
+abbrev WayComes : Way → Type 0
+WayComes (Away reason) = comes reason ≡ true
+WayComes (Over set lower) = Unit {0}
+WayComes Own = Unit {0}
+WayComes (Into n) = Unit {0}
+
+address-comes : (net : Network) (node : ℕ) (p : Packet) (e : Endpoint) → EndComes e → GaveComes (treated_at_address net node p e)
+address-comes net node p (Onward q) h = refl
+address-comes net node p (Exposed family bytes) h = refl
+address-comes net node p (Delivered q) h = tt
+address-comes net node p (Refused reason at) h = h
+
+module _ (net : Network) (node n : ℕ) (b : Behaviour) (p : Packet) where
+  pushed-comes : (x : Encapsulating) → GaveComes (pushed_at_sid net node n b p x)
+  pushed-comes (Outer outer) = tt
+  pushed-comes (TooBig length) = refl
+  pushed-comes InnerHop = refl
+
+  bound-comes : (q : Packet) (o : Option NamedPolicy) → GaveComes (bound_at_sid net node n b p q o)
+  bound-comes q None = refl
+  bound-comes q (Some named) = pushed-comes _
+
+  onward-comes : (q : Packet) (o : Option ℕ) → GaveComes (onward_at_sid net node n b p q o)
+  onward-comes q None = tt
+  onward-comes q (Some number) = bound-comes q (slice_get net.policies number)
+
+  endpoint-comes : (e : Endpoint) → EndComes e → GaveComes (treated_at_sid net node n b p e)
+  endpoint-comes (Onward q) h = onward-comes q (behaviour_policy b)
+  endpoint-comes (Exposed family bytes) h = tt
+  endpoint-comes (Delivered q) h = tt
+  endpoint-comes (Refused reason at) h = h
+
+in-comes : (net : Network) (node n : ℕ) (o : Option SidEntry) (p : Packet) → GaveComes (treated_in net node n o p)
+in-comes net node n None p = refl
+in-comes net node n (Some s) p =
+    let allow = allow_of (slice_get net.nodes node) in
+    endpoint-comes net node n s.behaviour p (at_sid s allow p) (at_sid-comes s allow p)
+
+hit-comes : (net : Network) (lower : Bool) (hit : Hit) → WayComes (way_by_hit net lower hit)
+hit-comes net lower (hits.Sid n) = tt
+hit-comes net lower hits.Address = tt
+hit-comes net lower (hits.Route n) = tt
+hit-comes net lower hits.Nothing = refl
+
+table-comes : (net : Network) (node table : ℕ) (family : Family) (lower : Bool) (destination : ℕ)
+    → WayComes (way_by_table net node table family lower destination)
+table-comes net node table family lower destination =
+    either WayComes (is_multicast_of family destination) _ _ refl (hit-comes net lower (lookup_of net node table family destination))
+
+how-comes : (net : Network) (node : ℕ) (how : How) (family : Family) (destination : ℕ) → WayComes (way_by net node how family destination)
+how-comes net node (Arrived table) family destination = table-comes net node table family true destination
+how-comes net node (Submitted table) family destination = table-comes net node table family false destination
+how-comes net node (Through sid lower) family destination = tt
+
+way-comes : (net : Network) (place : Place) (destination : ℕ) → WayComes (way_of net place destination)
+unfolding way_of
+way-comes net place destination = how-comes net place.node place.how place.family destination
+
+treated-comes : (net : Network) (node : ℕ) (w : Way) (p : Packet) (choice : ℕ) → WayComes w → GaveComes (treated net node w p choice)
+treated-comes net node (Away reason) p choice h = h
+treated-comes net node (Over set lower) p choice h = either GaveComes (lower && nat_le p.hop_limit 1) _ _ refl tt
+treated-comes net node Own p choice h = address-comes net node p (at_address p) (at_address-comes p)
+treated-comes net node (Into n) p choice h = in-comes net node n (slice_get net.sids n) p
+
+treated4-comes : (net : Network) (node : ℕ) (w : Way) (p : Packet4) (choice : ℕ) → WayComes w → GaveComes (treated4 net node w p choice)
+treated4-comes net node (Away reason) p choice h = h
+treated4-comes net node (Over set lower) p choice h = either GaveComes (lower && nat_le (ttl p) 1) _ _ refl tt
+treated4-comes net node Own p choice h = refl
+treated4-comes net node (Into n) p choice h = refl
+
+pub step-comes : (net : Network) (place : Place) (content : Content) (choice : ℕ) → ContentComes content
+    → GaveComes (step_of net place content choice)
+step-comes net place (Unreadable bytes reason) choice h = h
+step-comes net place (V6 p) choice h =
+    treated-comes net place.node (way_of net place p.destination) p choice (way-comes net place p.destination)
+step-comes net place (V4 p) choice h =
+    treated4-comes net place.node (way_of net place (destination4 p)) p choice (way-comes net place (destination4 p))
+
+-- ---- the bytes of an error
+
+abbrev Byte : ℕ → Type 0
+Byte b = b < 2 ^ 8
+
+abbrev pub ErrorIsBytes : Option Packet → Type 0
+ErrorIsBytes error = All (λ b. b < 2 ^ 8) (error_bytes error)
+
+abbrev GaveBytes : Gave → Type 0
+GaveBytes gave = ErrorIsBytes gave.error
+
+code-along : (one kind : IcmpKind) → code_of one < 2 ^ 8 → Some one ≡ Some kind → code_of kind < 2 ^ 8
+code-along one kind h e = subst (λ (k : IcmpKind). code_of k < 2 ^ 8) (same_Some one kind e) h
+
+code-fits : (reason : Reason) (at : ℕ) (kind : IcmpKind) → kind_of reason at ≡ Some kind → code_of kind < 2 ^ 8
+code-fits reasons.Truncated at kind e = cc
+code-fits reasons.BadVersion at kind e = cc
+code-fits reasons.Multicast at kind e = cc
+code-fits reasons.NoRoute at kind e = code-along Unreachable kind (lit< tt) e
+code-fits reasons.HopLimit at kind e = code-along TimeExceeded kind (lit< tt) e
+code-fits reasons.BadChain at kind e = cc
+code-fits reasons.LateHopByHop at kind e = code-along (Parameter 1 at) kind (lit< tt) e
+code-fits reasons.OptionDiscard at kind e = cc
+code-fits reasons.OptionUnknown at kind e = code-along (Parameter 2 at) kind (lit< tt) e
+code-fits reasons.Fragment at kind e = cc
+code-fits reasons.BadSegments at kind e = code-along (Parameter 0 at) kind (lit< tt) e
+code-fits reasons.HmacTlv at kind e = cc
+code-fits reasons.BadTlv at kind e = cc
+code-fits reasons.UnknownRouting at kind e = code-along (Parameter 0 at) kind (lit< tt) e
+code-fits reasons.UpperLayer at kind e = code-along (Parameter 4 at) kind (lit< tt) e
+code-fits reasons.NotBuilt at kind e = cc
+code-fits reasons.Ttl at kind e = cc
+code-fits reasons.TooBig at kind e = cc
+code-fits reasons.InnerHop at kind e = cc
+
+type-below : (kind : IcmpKind) → type_of kind < 2 ^ 8
+type-below Unreachable = lit< tt
+type-below TimeExceeded = lit< tt
+type-below (Parameter code at) = lit< tt
+
+message-bytes : (p : Packet) (kind : IcmpKind) (checksum : ℕ) → IsSpellable p → code_of kind < 2 ^ 8
+    → All (λ b. b < 2 ^ 8) (message_head kind checksum ++ quote_of p)
+message-bytes p kind checksum h fits =
+    let numbers = All-append Byte (two_bytes checksum) (four_bytes (pointer_of kind)) (all-two_bytes checksum)
+    (all-four_bytes (pointer_of kind)) in
+    let tail : List ℕ = two_bytes checksum ++ four_bytes (pointer_of kind) in
+    let head = All-cons Byte (type_of kind) (code_of kind ∷ tail) (type-below kind) (All-cons Byte (code_of kind) tail fits numbers) in
+    All-append Byte (message_head kind checksum) (quote_of p) head (All-take Byte MOST_QUOTE_LEN (spelling p) (all-spelling p h))
+
+spelled-bytes : (q : Packet) → q.next_header < 2 ^ 8 → q.hop_limit < 2 ^ 8 → All (λ b. b < 2 ^ 8) q.payload
+    → All (λ b. b < 2 ^ 8) (spelling q)
+unfolding header_spelling
+spelled-bytes q next hop h =
+    let ends = All-append Byte (address_bytes q.source) (address_bytes q.destination) (all-address_bytes q.source)
+    (all-address_bytes q.destination) in
+    let both_ends : List ℕ = address_bytes q.source ++ address_bytes q.destination in
+    let one = All-cons Byte q.next_header (q.hop_limit ∷ both_ends) next (All-cons Byte q.hop_limit both_ends hop ends) in
+    let rest = All-append Byte (two_bytes _) _ (all-two_bytes _) one in
+    All-append Byte (header_spelling q) q.payload
+    (All-append Byte (four_bytes (first_word q.traffic_class q.flow_label)) _ (all-four_bytes (first_word q.traffic_class q.flow_label)) rest)
+    h
+
+about-bytes : (p : Packet) (kind : IcmpKind) (from : ℕ) → IsSpellable p → code_of kind < 2 ^ 8
+    → All (λ b. b < 2 ^ 8) (spelling (error_about p kind from))
+unfolding error_about
+about-bytes p kind from h fits =
+    spelled-bytes (error_about p kind from) (lit< tt) (lit< tt) (message-bytes p kind (error_checksum p kind from) h fits)
+
+packet-bytes : (p : Packet) (kind : IcmpKind) (from : ℕ) → IsSpellable p → code_of kind < 2 ^ 8
+    → ErrorIsBytes (error_packet p kind from)
+unfolding error_packet
+packet-bytes p kind from h fits =
+    either ErrorIsBytes (is_unanswered p kind) None (Some (error_about p kind from)) (All-nil Byte) (about-bytes p kind from h fits)
+
+by-bytes : (p : Packet) (from : ℕ) (reason : Reason) (at : ℕ) (o : Option IcmpKind) → IsSpellable p → kind_of reason at ≡ o
+    → ErrorIsBytes (error_by o p from)
+by-bytes p from reason at None h e = All-nil Byte
+by-bytes p from reason at (Some kind) h e = packet-bytes p kind from h (code-fits reason at kind e)
+
+from-bytes : (from : ℕ) (reason : Reason) (at : ℕ) (c : Content) → IsContent c → ErrorIsBytes (error_from from reason at c)
+from-bytes from reason at (V6 p) h = by-bytes p from reason at (kind_of reason at) h refl
+from-bytes from reason at (V4 p) h = All-nil Byte
+from-bytes from reason at (Unreadable bytes why) h = All-nil Byte
+
+dropped-bytes : (net : Network) (node : ℕ) (reason : Reason) (at : ℕ) (c : Content) → IsContent c
+    → GaveBytes (dropped net node reason at c)
+unfolding error_of
+dropped-bytes net node reason at c h = from-bytes _ reason at c h
+
+address-bytes : (net : Network) (node : ℕ) (p : Packet) (e : Endpoint) → IsSpellable p → GaveBytes (treated_at_address net node p e)
+address-bytes net node p (Onward q) h = dropped-bytes net node reasons.NoRoute 0 (V6 p) h
+address-bytes net node p (Exposed family bytes) h = dropped-bytes net node reasons.NoRoute 0 (V6 p) h
+address-bytes net node p (Delivered q) h = All-nil Byte
+address-bytes net node p (Refused reason at) h = dropped-bytes net node reason at (V6 p) h
+
+endpoint-bytes : (net : Network) (node n : ℕ) (b : Behaviour) (p : Packet) (e : Endpoint) → IsSpellable p
+    → GaveBytes (treated_at_sid net node n b p e)
+endpoint-bytes net node n b p (Onward q) h =
+    onward-each net node n b p q GaveBytes (λ plain. All-nil Byte) (λ number named binds is fits. All-nil Byte)
+    (λ reason. dropped-bytes net node reason 0 (V6 p) h)
+endpoint-bytes net node n b p (Exposed family bytes) h = All-nil Byte
+endpoint-bytes net node n b p (Delivered q) h = All-nil Byte
+endpoint-bytes net node n b p (Refused reason at) h = dropped-bytes net node reason at (V6 p) h
+
+pub step-bytes : (net : Network) (place : Place) (content : Content) (choice : ℕ) → IsContent content
+    → ErrorIsBytes (step_of net place content choice).error
+step-bytes net place (Unreadable bytes reason) choice h = dropped-bytes net place.node reason 0 (Unreadable bytes reason) h
+step-bytes net place (V6 p) choice h =
+    treated-each GaveBytes net place.node (way_of net place p.destination) p choice
+    (record {
+      drop = λ reason at. dropped-bytes net place.node reason at (V6 p) h;
+      send = λ set lower e. All-nil Byte;
+      own = address-bytes net place.node p (at_address p) h;
+      sid = λ n s e there.
+          endpoint-bytes net place.node n s.behaviour p (at_sid s (allow_of (slice_get net.nodes place.node)) p) h;
+    })
+step-bytes net place (V4 p) choice h =
+    treated4-each GaveBytes net place.node (way_of net place (destination4 p)) p choice
+    (record { drop = λ reason. dropped-bytes net place.node reason 0 (V4 p) h; send = λ set lower e. All-nil Byte })
+
+-- ---- the table that a packet goes by
+
+abbrev pub HasTable : How → Type 0
+HasTable (Arrived table) = table ≤ LAST_TABLE
+HasTable (Submitted table) = table ≤ LAST_TABLE
+HasTable (Through n lower) = Unit {0}
+
+way_on-table : (n : ℕ) (takes goes_on : Bool) (table : Option ℕ) → IfSome table (λ number. number ≤ LAST_TABLE)
+    → HasTable (way_on n takes goes_on table)
+way_on-table n true goes_on table h = tt
+way_on-table n false true None h = omega arith
+way_on-table n false true (Some table) h = h
+way_on-table n false false None h = omega arith
+way_on-table n false false (Some table) h = h
+
+pub onward-table : (n : ℕ) (b : Behaviour) → IfSome (behaviour_table b) (λ number. number ≤ LAST_TABLE) → HasTable (onward_from n b)
+onward-table n b h = way_on-table n (behaviour_takes_links b) true (behaviour_table b) h
+
+pub exposed-table : (n : ℕ) (b : Behaviour) → IfSome (behaviour_table b) (λ number. number ≤ LAST_TABLE) → HasTable (exposed_from n b)
+exposed-table n b h = way_on-table n (behaviour_takes_links b) false (behaviour_table b) h
