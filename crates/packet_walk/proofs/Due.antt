@@ -1,13 +1,17 @@
 -- How far a schedule has come in a flight: what an entry gives, what is due behind the last, and what a turn leaves.
-use Rattle.std.proofs.Common.{◌≡◌, ◌≢◌, ℕ, zero, suc, ◌+◌, ◌<◌, ◌≤◌, eqb, true, false, List, [], ◌∷◌, ◌++◌, length, drop, get_or, slice_get, Option, Some, None, IfSome, IsSome, refl, sym, ap, ap₂, ◌∙◌, ◌⊎◌, inl, inr, arith, subst}
-use Rattle.std.specs.List.Sorted.{IsStrictlyIncreasing}
+use Rattle.std.proofs.Common.{◌≡◌, ◌≢◌, ℕ, zero, suc, ◌+◌, ◌-◌, ◌<◌, ◌≤◌, eqb, true, false, List, [], ◌∷◌, ◌++◌, length, take, drop, get_or, slice_get, Option, Some, None, IfSome, IsSome, is_some, Result, Ok, Err, nat_cmp, refl, sym, ap, ap₂, ◌∙◌, ◌⊎◌, inl, inr, arith, subst}
+use Rattle.std.specs.List.Sorted.{IsStrictlyIncreasing, IsBinarySearchResult}
+use Rattle.std.proofs.lemmas.List.Sorted.{searched}
+use Rattle.std.proofs.lemmas.Bool.{cases_lt}
 use Rattle.std.proofs.lemmas.Bool.Decides.{eqb_tells}
+use Rattle.std.proofs.lemmas.List.{take_all}
 use Rattle.std.proofs.lemmas.Option.{slice_get_within}
 use Rattle.std.proofs.lemmas.List.Kept.{AllPairs-from_increasing}
+use Rattle.walk_rules.specs.declared.place.Ended.{Ended}
 use Rattle.walk_rules.specs.Walk.{Step}
-use Rattle.packet_walk.specs.Flight.{InFlight, Flight, IsCounted, IsGiven, stage_in, staged, packet_of, turned}
+use Rattle.packet_walk.specs.Flight.{InFlight, Flight, IsCounted, IsGiven, IsInFlight, stage_in, staged, packet_of, turned}
 use Rattle.packet_walk.specs.Rest.{rest_of}
-use Rattle.packet_walk.specs.Schedule.{Coming, Taken, steps_of, without_first, first_of, one_by_one, scheduled, comings_of, frame_of, next_of, Progress, IsOf, due, IsTurnOf, IsNoTurn, GivesTo, EntryGives, IsLeft}
+use Rattle.packet_walk.specs.Schedule.{Coming, Taken, steps_of, without_first, first_of, one_by_one, scheduled, comings_of, frame_of, next_of, Progress, progress, IsOf, due, IsTurnOf, IsNoTurn, GivesTo, EntryGives, IsLeft}
 use Rattle.packet_walk.proofs.Packets.{length-with, given-packet, turned-going, turned-other}
 use Rattle.packet_walk.proofs.Rests.{rest-going}
 use Rattle.packet_walk.proofs.Schedules.{entry-none}
@@ -85,6 +89,60 @@ module _ (f : Flight) (numbers : List ℕ) (entry : ℕ) where
             (sym there) (first-due schedule);
       }
 
+-- what the search for its number gives
+
+rising-up : (numbers : List ℕ) → IsStrictlyIncreasing numbers → (i j : ℕ) → i ≤ j → j < length numbers → get_or numbers i 0 ≤ get_or numbers j 0
+rising-up numbers rising i j few within =
+    elim (eqb_tells i j) [
+      inl same ↦ let e : get_or numbers i 0 ≡ get_or numbers j 0 = ap (λ (k : ℕ). get_or numbers k 0) same.1 in omega (arith, e)
+      | inr apart ↦
+          let l : get_or numbers i 0 < get_or numbers j 0 =
+          AllPairs-from_increasing numbers rising i j 0 (omega (arith, few, apart.1)) within in
+          omega (arith, l)
+    ]
+
+pub search-found : (numbers : List ℕ) (entry place : ℕ) → IsStrictlyIncreasing numbers
+    → IsBinarySearchResult (λ y. nat_cmp y entry) numbers (Ok place) → (place < length numbers) × (get_or numbers place 0 ≡ entry)
+search-found numbers entry place rising found = searched numbers entry (Ok place) found (rising-up numbers rising)
+
+search-lost : (numbers : List ℕ) (entry place : ℕ) → IsStrictlyIncreasing numbers
+    → IsBinarySearchResult (λ y. nat_cmp y entry) numbers (Err place) → (i : ℕ) → i < length numbers → get_or numbers i 0 ≢ entry
+search-lost numbers entry place rising lost i within same =
+    let parts = searched numbers entry (Err place) lost (rising-up numbers rising) in
+    elim (cases_lt i place) [
+      inl below ↦ let l : get_or numbers i 0 < entry = parts.1 i below in omega (arith, l, same)
+      | inr above ↦ let l : entry < get_or numbers i 0 = parts.2 i above within in omega (arith, l, same)
+    ]
+
+pub named-lost : (f : Flight) (numbers : List ℕ) (entry place : ℕ) → IsStrictlyIncreasing numbers
+    → IsBinarySearchResult (λ y. nat_cmp y entry) numbers (Err place) → EntryGives numbers f entry None
+named-lost f numbers entry place rising lost = gives-absent f numbers entry (search-lost numbers entry place rising lost)
+
+module _ (f : Flight) (numbers : List ℕ) (entry place number : ℕ) (next : number ≡ suc place) (rising : IsStrictlyIncreasing numbers)
+    (each : length numbers ≡ length f.packets) (found : IsBinarySearchResult (λ y. nat_cmp y entry) numbers (Ok place)) where
+  found-packet : (p : InFlight) × (packet_of f (suc place) ≡ Some p)
+  found-packet =
+      let within : place < length numbers = (search-found numbers entry place rising found).0 in
+      given-packet f (suc place) (record { first = omega arith; last = omega (arith, within, each) })
+
+  pub named-ended : (end : Ended) → IfSome (packet_of f number) (λ p. Some end ≡ p.ended) → EntryGives numbers f entry None
+  named-ended end is =
+      let p = found-packet in
+      let ended : Some end ≡ p.0.ended =
+      subst (λ (o : Option InFlight). IfSome o (λ q. Some end ≡ q.ended)) (ap (packet_of f) next ∙ p.1) is in
+      gives-ended f numbers entry place p.0 rising each p.1 (sym (search-found numbers entry place rising found).1)
+      (ap is_some (sym ended))
+
+  pub named-going : IfSome (packet_of f number) (λ p. None ≡ p.ended) → IfSome (packet_of f number) (IsInFlight f.net)
+      → GivesTo numbers f entry number
+  named-going is in_flight =
+      let p = found-packet in
+      let there : packet_of f number ≡ Some p.0 = ap (packet_of f) next ∙ p.1 in
+      let going : None ≡ p.0.ended = subst (λ (o : Option InFlight). IfSome o (λ q. None ≡ q.ended)) there is in
+      let fits : IsInFlight f.net p.0 = subst (λ (o : Option InFlight). IfSome o (IsInFlight f.net)) there in_flight in
+      subst (GivesTo numbers f entry) (sym next)
+      (gives-to f numbers entry place p.0 rising each p.1 (sym (search-found numbers entry place rising found).1) (sym going) fits.counted)
+
 -- behind the last entry
 
 one-more : (f : Flight) (at : Progress) (q : InFlight) → IsOf f at → packet_of f (suc at.passed) ≡ Some q → IsSome q.ended
@@ -142,7 +200,7 @@ module _ (f : Flight) (old new : Progress) (of : IsOf f new) (behind : old.sched
         ∙ ap (λ ns. comings_of ns (turned (suc new.passed) f)) (sym numbers))
         ∙ sym (due-behind new (turned (suc new.passed) f) left)))
 
-    pub going-turn : IsTurnOf old f (suc new.passed) new
+    going-turn : IsTurnOf old f (suc new.passed) new
     going-turn = record {
       given = record { first = omega arith; last = slice_get_within f.packets new.passed p there };
       going = subst (λ (o : Option InFlight). IfSome o (λ q. q.ended ≡ None)) (sym there) going;
@@ -152,11 +210,24 @@ module _ (f : Flight) (old new : Progress) (of : IsOf f new) (behind : old.sched
       later = of-turned f new (suc new.passed) p of there going;
     }
 
+  pub going-next : new.schedule ≡ [] → (number : ℕ) → number ≡ suc new.passed → new.passed < length f.packets
+      → IfSome (packet_of f number) (λ p. None ≡ p.ended) → IfSome (packet_of f number) (IsInFlight f.net) → IsTurnOf old f number new
+  going-next left number next within is in_flight =
+      let p = given-packet f (suc new.passed) (record { first = omega arith; last = omega (arith, within) }) in
+      let there : packet_of f number ≡ Some p.0 = ap (packet_of f) next ∙ p.1 in
+      let going : None ≡ p.0.ended = subst (λ (o : Option InFlight). IfSome o (λ q. None ≡ q.ended)) there is in
+      let fits : IsInFlight f.net p.0 = subst (λ (o : Option InFlight). IfSome o (IsInFlight f.net)) there in_flight in
+      subst (λ (m : ℕ). IsTurnOf old f m new) (sym next) (going-turn p.0 p.1 (sym going) fits.counted left)
+
 -- entries that were left behind
+
+pub split-first : (xs : List ℕ) → 1 ≤ length xs → xs ≡ get_or xs 0 0 ∷ take (length xs - 1) (drop 1 xs)
+split-first [] some = absurd (omega (arith, some))
+split-first (x ∷ xs) some = ap (λ (ys : List ℕ). x ∷ ys) (sym (take_all (length (x ∷ xs) - 1) xs (omega arith)))
 
 module _ (old now : Progress) (f : Flight) (entry : ℕ) (left : List ℕ) (l : IsLeft old f now) (is : now.schedule ≡ entry ∷ left) where
   abbrev next_at : Progress
-  next_at = record { schedule = left; numbers = now.numbers; passed = now.passed }
+  next_at = progress left now.numbers now.passed
 
   due-now : due old f ≡ scheduled (entry ∷ left) (comings_of now.numbers f)
   due-now = sym l.due ∙ ap (λ (schedule : List ℕ). scheduled schedule (comings_of now.numbers f)) is

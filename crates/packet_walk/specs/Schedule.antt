@@ -84,6 +84,9 @@ pub record Progress : Type 0 where
   pub numbers : List ℕ
   pub passed : ℕ
 
+abbrev pub progress : List ℕ → List ℕ → ℕ → Progress
+progress schedule numbers passed = record { schedule = schedule; numbers = numbers; passed = passed }
+
 -- a flight has come as far: each packet has a frame's number, and those passed have ended
 pub record IsOf (f : Flight) (at : Progress) : Type 0 where
   pub each : length at.numbers ≡ length f.packets
