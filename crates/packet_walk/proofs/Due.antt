@@ -1,8 +1,10 @@
 -- How far a schedule has come in a flight: what an entry gives, what is due behind the last, and what a turn leaves.
-use Rattle.std.proofs.Common.{◌≡◌, ◌≢◌, ℕ, zero, suc, ◌+◌, ◌-◌, ◌<◌, ◌≤◌, eqb, true, false, List, [], ◌∷◌, ◌++◌, length, take, drop, get_or, slice_get, Option, Some, None, IfSome, IsSome, is_some, Result, Ok, Err, nat_cmp, refl, sym, ap, ap₂, ◌∙◌, ◌⊎◌, inl, inr, arith, subst}
+use Rattle.std.proofs.Common.{◌≡◌, ◌≢◌, ℕ, zero, suc, ◌+◌, ◌-◌, ◌<◌, ◌≤◌, eqb, nat_lt, Bool, true, false, List, [], ◌∷◌, ◌++◌, length, take, drop, get_or, slice_get, Option, Some, None, IfSome, IsSome, is_some, Result, Ok, Err, nat_cmp, refl, sym, ap, ap₂, ◌∙◌, ◌⊎◌, inl, inr, arith, subst}
 use Rattle.std.specs.List.Sorted.{IsStrictlyIncreasing, IsBinarySearchResult}
 use Rattle.std.proofs.lemmas.List.Sorted.{searched}
-use Rattle.std.proofs.lemmas.Bool.{cases_lt}
+use Rattle.std.specs.Bool.{Decides}
+use Rattle.std.specs.List.{IsAllAdjacentAnswer}
+use Rattle.std.proofs.lemmas.Bool.{cases_lt, ltb-true, ltb-false, false≢true}
 use Rattle.std.proofs.lemmas.Bool.Decides.{eqb_tells}
 use Rattle.std.proofs.lemmas.List.{take_all}
 use Rattle.std.proofs.lemmas.Option.{slice_get_within}
@@ -94,7 +96,7 @@ module _ (f : Flight) (numbers : List ℕ) (entry : ℕ) where
 rising-up : (numbers : List ℕ) → IsStrictlyIncreasing numbers → (i j : ℕ) → i ≤ j → j < length numbers → get_or numbers i 0 ≤ get_or numbers j 0
 rising-up numbers rising i j few within =
     elim (eqb_tells i j) [
-      inl same ↦ let e : get_or numbers i 0 ≡ get_or numbers j 0 = ap (λ (k : ℕ). get_or numbers k 0) same.1 in omega (arith, e)
+      | inl same ↦ let e : get_or numbers i 0 ≡ get_or numbers j 0 = ap (λ (k : ℕ). get_or numbers k 0) same.1 in omega (arith, e)
       | inr apart ↦
           let l : get_or numbers i 0 < get_or numbers j 0 =
           AllPairs-from_increasing numbers rising i j 0 (omega (arith, few, apart.1)) within in
@@ -110,7 +112,7 @@ search-lost : (numbers : List ℕ) (entry place : ℕ) → IsStrictlyIncreasing 
 search-lost numbers entry place rising lost i within same =
     let parts = searched numbers entry (Err place) lost (rising-up numbers rising) in
     elim (cases_lt i place) [
-      inl below ↦ let l : get_or numbers i 0 < entry = parts.1 i below in omega (arith, l, same)
+      | inl below ↦ let l : get_or numbers i 0 < entry = parts.1 i below in omega (arith, l, same)
       | inr above ↦ let l : entry < get_or numbers i 0 = parts.2 i above within in omega (arith, l, same)
     ]
 
@@ -264,3 +266,16 @@ module _ (old now : Progress) (f : Flight) (entry : ℕ) (left : List ℕ) (l : 
 
     pub left-turn : IsTurnOf old f number next_at
     left-turn = let p = given-packet f number gives.given in turn-of p.0 p.1
+
+-- whether numbers rise
+pub rising-told : (xs : List ℕ) (r : Bool) → IsAllAdjacentAnswer (λ x y b. b ≡ nat_lt x y) xs r → Decides r (IsStrictlyIncreasing xs)
+rising-told xs true told = (
+  λ is k within. ltb-true (get_or xs k 0) (get_or xs (k + 1) 0) (sym (told k 0 within)),
+  λ rising. refl,
+)
+rising-told xs false told = (
+  λ is. absurd (false≢true is),
+  λ rising. let falls : get_or xs (told.0 + 1) 0 ≤ get_or xs told.0 0 =
+      ltb-false (get_or xs told.0 0) (get_or xs (told.0 + 1) 0) (sym (told.2 0)) in
+      absurd (let rises : get_or xs told.0 0 < get_or xs (told.0 + 1) 0 = rising told.0 told.1 in omega (arith, falls, rises)),
+)

@@ -16,4 +16,4 @@ pub use laws::{
     a_turn_changes_one_packet, a_turn_takes_the_next_stage, no_schedule_takes_packets_one_by_one,
     the_last_stage_ends_a_packet,
 };
-pub use schedule::Turns;
+pub use schedule::{Turns, are_rising};

@@ -1,6 +1,7 @@
 //! Whose turn is next, by a schedule.
 
 ghost use Rattle.std.specs.Prelude.{◌≡◌, ◌≤◌, ℕ, [], length};
+ghost use Rattle.std.specs.Bool.{Decides};
 ghost use Rattle.std.specs.List.Sorted.{IsStrictlyIncreasing};
 ghost use Rattle.packet_walk.specs.Flight.{Flight as FlightValue};
 ghost use Rattle.packet_walk.specs.Schedule.{EntriesGive, EntryGives, IsNext, IsOf, progress};
@@ -30,9 +31,16 @@ impl<'a> Model for Turns<'a> {
     ghost invariant = { λ t. IsStrictlyIncreasing t.numbers.now };
 }
 
+/// Whether numbers rise, each above the one before it.
+pub fn are_rising(numbers: &[u32]) -> bool
+    ensures { Decides result (IsStrictlyIncreasing numbers.now) }
+{
+    numbers.is_sorted_by(|one, next| one < next)
+}
+
 impl<'a> Turns<'a> {
     /// A schedule's entries, and the frames' numbers of a flight's packets in the order of entering,
-    /// in which they rise. It takes no memory.
+    /// in which they rise, as `are_rising` tells. It takes no memory.
     pub fn new(schedule: &'a [u32], numbers: &'a [u32]) -> Turns<'a>
         requires { IsStrictlyIncreasing numbers.now }
         ensures is { result ≡ progress schedule.now numbers.now 0 }

@@ -10,7 +10,7 @@ invariant-packets l =
       rising : IsStrictlyIncreasing l.self-inside.numbers.now;
       later : IsOf l.flight (progress l.self-inside.schedule.now l.self-inside.numbers.now l.self-inside.passed);
       behind : l.self-inside.schedule.now ≡ [];
-      numbers : l.self-inside.numbers.now ≡ l.fn.self.numbers
+      numbers : l.self-inside.numbers.now ≡ l.fn.self.numbers;
     }
 
 abbrev pub decreases-packets : goal.decreases-packets
