@@ -1,5 +1,5 @@
 -- The packets of a flight under a schedule: what an entry gives, what is due behind the last, and what a turn leaves.
-use Rattle.std.proofs.Common.{◌≡◌, ◌≢◌, ℕ, zero, suc, ◌+◌, ◌<◌, ◌≤◌, nat_eq, List, [], ◌∷◌, ◌++◌, length, map, drop, get_or, slice_get, slice_set, Option, Some, None, IfSome, IsSome, is_some, refl, sym, ap, ◌∙◌, arith, subst}
+use Rattle.std.proofs.Common.{◌≡◌, ◌≢◌, ℕ, zero, suc, ◌<◌, nat_eq, List, [], ◌∷◌, ◌++◌, length, map, drop, get_or, slice_get, slice_set, Option, Some, None, IsSome, is_some, refl, sym, ap, ◌∙◌, arith, subst}
 use Rattle.std.specs.List.{IsDistinct}
 use Rattle.std.specs.List.Sorted.{IsStrictlyIncreasing}
 use Rattle.std.proofs.lemmas.Bool.{eq-eqb, ne_eqb, false≢true}
@@ -10,11 +10,11 @@ use Rattle.std.proofs.lemmas.Map.Made.{IsDistinct-from_AllPairs}
 use Rattle.net_model.specs.Network.{Network}
 use Rattle.walk_rules.specs.declared.place.Ended.{Ended}
 use Rattle.walk_rules.specs.Walk.{Step}
-use Rattle.packet_walk.specs.Flight.{InFlight, Flight, IsCounted, IsGiven, stage_in, staged, packet_in, packet_of, with_packet, after_stage, turned}
+use Rattle.packet_walk.specs.Flight.{InFlight, Flight, IsCounted, stage_in, staged, packet_of}
 use Rattle.packet_walk.specs.Rest.{rest_of}
-use Rattle.packet_walk.specs.Schedule.{Coming, Taken, steps_of, without_first, first_of, all_of, one_by_one, scheduled, stages_of, comings, comings_of, frame_of}
+use Rattle.packet_walk.specs.Schedule.{Coming, Taken, steps_of, without_first, all_of, one_by_one, scheduled, stages_of, comings, comings_of, frame_of}
 use Rattle.packet_walk.proofs.Rests.{rest-going, rest-ended}
-use Rattle.packet_walk.proofs.Schedules.{steps-head, steps-tail, without-head, without-tail, without-none, entry-none, stages-scheduled}
+use Rattle.packet_walk.proofs.Schedules.{steps-head, steps-tail, without-head, without-tail, stages-scheduled}
 
 some-is : {X : Type 0} (x y : X) → Some x ≡ Some y → x ≡ y
 some-is x y e = cc

@@ -1,19 +1,18 @@
 -- How far a schedule has come in a flight: what an entry gives, what is due behind the last, and what a turn leaves.
-use Rattle.std.proofs.Common.{◌≡◌, ◌≢◌, ℕ, zero, suc, ◌+◌, ◌-◌, ◌<◌, ◌≤◌, eqb, nat_lt, Bool, true, false, List, [], ◌∷◌, ◌++◌, length, take, drop, get_or, slice_get, Option, Some, None, IfSome, IsSome, is_some, Result, Ok, Err, nat_cmp, refl, sym, ap, ap₂, ◌∙◌, ◌⊎◌, inl, inr, arith, subst}
+use Rattle.std.proofs.Common.{◌≡◌, ◌≢◌, ℕ, zero, suc, ◌+◌, ◌-◌, ◌<◌, ◌≤◌, eqb, nat_lt, Bool, true, false, List, [], ◌∷◌, ◌++◌, length, take, drop, get_or, Option, Some, None, IfSome, IsSome, is_some, Ok, Err, nat_cmp, refl, sym, ap, ap₂, ◌∙◌, ◌⊎◌, inl, inr, arith, subst, length-append}
 use Rattle.std.specs.List.Sorted.{IsStrictlyIncreasing, IsBinarySearchResult}
 use Rattle.std.proofs.lemmas.List.Sorted.{searched}
 use Rattle.std.specs.Bool.{Decides}
 use Rattle.std.specs.List.{IsAllAdjacentAnswer}
 use Rattle.std.proofs.lemmas.Bool.{cases_lt, ltb-true, ltb-false, false≢true}
 use Rattle.std.proofs.lemmas.Bool.Decides.{eqb_tells}
-use Rattle.std.proofs.lemmas.List.{take_all}
+use Rattle.std.proofs.lemmas.List.{get_or_append_left, get_or_push, take_all}
 use Rattle.std.proofs.lemmas.Option.{slice_get_within}
 use Rattle.std.proofs.lemmas.List.Kept.{AllPairs-from_increasing}
 use Rattle.walk_rules.specs.declared.place.Ended.{Ended}
-use Rattle.walk_rules.specs.Walk.{Step}
-use Rattle.packet_walk.specs.Flight.{InFlight, Flight, IsCounted, IsGiven, IsInFlight, stage_in, staged, packet_of, turned}
+use Rattle.packet_walk.specs.Flight.{InFlight, Flight, IsCounted, IsInFlight, stage_in, staged, packet_of, turned}
 use Rattle.packet_walk.specs.Rest.{rest_of}
-use Rattle.packet_walk.specs.Schedule.{Coming, Taken, steps_of, without_first, first_of, one_by_one, scheduled, comings_of, frame_of, next_of, Progress, progress, IsOf, due, IsTurnOf, IsNoTurn, GivesTo, EntryGives, IsLeft}
+use Rattle.packet_walk.specs.Schedule.{steps_of, without_first, first_of, one_by_one, scheduled, comings_of, frame_of, next_of, Progress, progress, IsOf, due, IsTurnOf, IsNoTurn, GivesTo, EntryGives, IsLeft}
 use Rattle.packet_walk.proofs.Packets.{length-with, given-packet, turned-going, turned-other}
 use Rattle.packet_walk.proofs.Rests.{rest-going}
 use Rattle.packet_walk.proofs.Schedules.{entry-none}
@@ -279,3 +278,21 @@ rising-told xs false told = (
       ltb-false (get_or xs told.0 0) (get_or xs (told.0 + 1) 0) (sym (told.2 0)) in
       absurd (let rises : get_or xs told.0 0 < get_or xs (told.0 + 1) 0 = rising told.0 told.1 in omega (arith, falls, rises)),
 )
+
+-- a number above all that rise rises behind them
+pub rising-push : (xs : List ℕ) (x : ℕ) → IsStrictlyIncreasing xs → ((k : ℕ) → k < length xs → get_or xs k 0 < x)
+    → IsStrictlyIncreasing (xs ++ x ∷ [])
+rising-push xs x rising above k within =
+    let n : length (xs ++ x ∷ []) ≡ length xs + 1 = length-append xs (x ∷ []) in
+    let first : get_or (xs ++ x ∷ []) k 0 ≡ get_or xs k 0 = get_or_append_left xs (x ∷ []) 0 k (omega (arith, n, within)) in
+    elim (cases_lt (k + 1) (length xs)) [
+      | inl inside ↦
+          let next : get_or (xs ++ x ∷ []) (k + 1) 0 ≡ get_or xs (k + 1) 0 = get_or_append_left xs (x ∷ []) 0 (k + 1) inside in
+          let rises : get_or xs k 0 < get_or xs (k + 1) 0 = rising k inside in
+          omega (arith, first, next, rises)
+      | inr behind ↦
+          let last : k + 1 ≡ length xs = omega (arith, n, within, behind) in
+          let next : get_or (xs ++ x ∷ []) (k + 1) 0 ≡ x = get_or_push xs x 0 (k + 1) (sym last) in
+          let rises : get_or xs k 0 < x = above k (omega (arith, last)) in
+          omega (arith, first, next, rises)
+    ]

@@ -1,6 +1,6 @@
 -- What a schedule gives each packet, whatever its entries are.
 use Rattle.std.proofs.Common.{◌≡◌, ℕ, suc, ◌+◌, Bool, true, false, if◌then◌else◌, nat_eq, List, [], ◌∷◌, ◌++◌, length, map, drop, refl, sym, ap, ap₂, ◌∙◌, arith, subst, length-append}
-use Rattle.std.specs.List.{filter, flat_map, sum_by, IsDistinct, AllByRecursion}
+use Rattle.std.specs.List.{flat_map, sum_by, IsDistinct, AllByRecursion}
 use Rattle.std.proofs.lemmas.Bool.{eqb-true, eq-eqb}
 use Rattle.std.proofs.lemmas.List.{map-append}
 use Rattle.std.proofs.lemmas.List.Elements.{filter-append}

@@ -288,11 +288,7 @@ fn a_schedule_names_the_packets(rt: HostRuntime) -> Result<(), Fail> {
 fn an_entry_of_no_packet_in_flight_takes_no_turn(rt: HostRuntime) -> Result<(), Fail> {
     let net = net_of(&rt, rt.alloc())?;
     assert_eq!(rt; net.nodes(), 2);
-    let mut flight = two_packets(&rt, rt.alloc(), &net, 64, &[0], &[1])?;
-    assert_eq!(rt;
-        flight.enter(packet(rt.alloc(), 64)?, arrival(0, Family::V6), &[0])?,
-        3
-    );
+    let mut flight = three_packets(&rt, rt.alloc(), &net, &[0])?;
     let schedule = [3, 2, 9, 3, 3, 6];
     let turns = turns_of(&rt, rt.alloc(), &mut flight, &schedule, &[1, 3, 6])?;
     assert_eq!(rt; turns.as_slice(), [2, 2, 3, 1, 1, 3].as_slice());

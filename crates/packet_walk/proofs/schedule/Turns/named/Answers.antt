@@ -1,5 +1,4 @@
-use Rattle.std.proofs.Common.{◌≡◌, ◌+◌, ℕ, suc, None, length, arith, ap, sym, ◌∙◌, subst}
-use Rattle.packet_walk.specs.Flight.{Flight}
+use Rattle.std.proofs.Common.{◌≡◌, ◌+◌, ℕ, suc, None, length, arith, ap, ◌∙◌, subst}
 use Rattle.packet_walk.specs.Schedule.{Progress, EntryGives, GivesTo}
 use Rattle.packet_walk.proofs.Due.{named-lost, named-ended, named-going}
 use Rattle.packet_walk.proofs.schedule.Turns.named.Goals as goal

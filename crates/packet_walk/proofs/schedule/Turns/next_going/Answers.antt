@@ -1,4 +1,4 @@
-use Rattle.std.proofs.Common.{◌≡◌, ◌+◌, ◌≤◌, ℕ, suc, length, arith, sym, subst}
+use Rattle.std.proofs.Common.{◌+◌, arith}
 use Rattle.packet_walk.specs.Schedule.{Progress, progress}
 use Rattle.packet_walk.proofs.Due.{no-turn, going-next}
 use Rattle.packet_walk.proofs.schedule.Turns.next_going.Goals as goal
