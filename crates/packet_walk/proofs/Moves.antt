@@ -1,13 +1,13 @@
 -- What moves give a packet, whatever lies between its turns.
-use Rattle.std.proofs.Common.{◌≡◌, ◌≢◌, ℕ, zero, suc, ◌<◌, ◌≤◌, Bool, true, false, if◌then◌else◌, nat_eq, List, [], ◌∷◌, ◌++◌, take, replicate, Option, Some, None, refl, sym, ap, ap₂, ◌∙◌, arith, subst}
-use Rattle.std.proofs.lemmas.Bool.{eqb-true, eqb-false, eq-eqb}
+use Rattle.std.proofs.Common.{◌≡◌, ℕ, zero, suc, ◌<◌, Bool, true, false, if◌then◌else◌, nat_eq, List, [], ◌∷◌, ◌++◌, take, Option, Some, None, refl, sym, ap, ◌∙◌, subst}
+use Rattle.std.proofs.lemmas.Bool.{eqb-true, eqb-false}
 use Rattle.net_model.specs.Network.{Network}
 use Rattle.walk_rules.specs.declared.place.Ended.{Ended}
 use Rattle.walk_rules.specs.Walk.{Step}
 use Rattle.packet_walk.specs.declared.event.TheConstants.{STAGES}
 use Rattle.packet_walk.specs.Flight.{InFlight, Flight, IsCounted, stage_in, staged, packet_of, turned, entered}
-use Rattle.packet_walk.specs.Rest.{rest_of, Move, Enter, Turn, moved, moved_all, given_where, given_by, given_in, given_to, is_turn_of, turns_of, turned_times}
-use Rattle.packet_walk.proofs.Packets.{packet-behind, turned-net, turned-other, turned-ended, turned-staged, turned-going}
+use Rattle.packet_walk.specs.Rest.{rest_of, Move, Enter, Turn, given_where, given_by, given_to, turns_of, turned_times}
+use Rattle.packet_walk.proofs.Packets.{packet-behind, turned-net, turned-other, turned-ended, turned-staged}
 use Rattle.packet_walk.proofs.Rests.{rest-going, rest-ended, staged-counted}
 
 -- what moves are to give a packet
@@ -83,15 +83,3 @@ given-to number (Turn other ∷ more) f p there counted =
 pub turned_times-suc : (number n : ℕ) (f : Flight) → turned_times number (suc n) f ≡ turned number (turned_times number n f)
 turned_times-suc number zero f = refl
 turned_times-suc number (suc n) f = turned_times-suc number n (turned number f)
-
--- so many turns of one packet
-
-turns-test : (b : Bool) (m n : ℕ) → b ≡ true → m ≡ n → (if b then suc m else m) ≡ suc n
-turns-test true m n is same = ap suc same
-turns-test false m n is same = cc
-
-pub turns_of-replicate : (number n : ℕ) → turns_of number (replicate n (Turn number)) ≡ n
-turns_of-replicate number zero = refl
-turns_of-replicate number (suc n) =
-    turns-test (nat_eq number number) (turns_of number (replicate n (Turn number))) n (eq-eqb number number refl)
-    (turns_of-replicate number n)

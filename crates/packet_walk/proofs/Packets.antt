@@ -98,11 +98,6 @@ turned-staged number f p there going =
     ap (λ (g : Flight). packet_of g number) (turned-going number f p there going)
     ∙ packet-same f.packets number p (staged f.net p) there
 
-pub turned-kept : (number : ℕ) (f : Flight) (p : InFlight) (end : Ended) → packet_of f number ≡ Some p → p.ended ≡ Some end
-    → packet_of (turned number f) number ≡ Some p
-turned-kept number f p end there is =
-    ap (λ (g : Flight). packet_of g number) (turned-ended number f p end there is) ∙ there
-
 -- a number that was given has a packet
 
 get-within : {X : Type 0} (xs : List X) (i : ℕ) → i < length xs → (x : X) × (slice_get xs i ≡ Some x)

@@ -8,7 +8,7 @@ use Rattle.walk_rules.specs.declared.place.Ended.TheVariants as ends
 use Rattle.walk_rules.specs.declared.place.Outcome.{Outcome}
 use Rattle.walk_rules.specs.declared.place.Outcome.TheVariants as outcomes
 use Rattle.walk_rules.specs.declared.place.Place.{Place}
-use Rattle.walk_rules.specs.Walk.{Step, walk_of, walk_on, choice_at, far_end, arrival, next_place, decisions, left_or_stages, end_by, end_of}
+use Rattle.walk_rules.specs.Walk.{Step, walk_of, choice_at, far_end, arrival, next_place, decisions, left_or_stages, end_by, end_of}
 use Rattle.walk_rules.proofs.PublicLaws.{walk_of-suc, walk_of-zero, walk_of-none}
 use Rattle.packet_walk.specs.declared.event.TheConstants.{STAGES}
 use Rattle.packet_walk.specs.Flight.{InFlight, IsCounted, entering, stage_in, place_from, ended_after, advanced, staged}

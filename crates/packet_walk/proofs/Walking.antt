@@ -1,11 +1,11 @@
 -- A packet on its way to its end: all is as after some turns of it.
-use Rattle.std.proofs.Common.{◌≡◌, ◌≢◌, ℕ, zero, suc, ◌+◌, ◌-◌, ◌<◌, ◌≤◌, List, length, Option, Some, None, IfSome, IsSome, Result, Ok, refl, sym, ap, ◌∙◌, arith, subst}
+use Rattle.std.proofs.Common.{◌≡◌, ℕ, suc, ◌+◌, ◌-◌, ◌<◌, ◌≤◌, length, Option, Some, None, IfSome, IsSome, Ok, refl, sym, ap, ◌∙◌, arith, subst}
 use Rattle.std.proofs.lemmas.Bool.{false≢true}
 use Rattle.net_model.specs.Network.{Network}
 use Rattle.walk_rules.specs.declared.place.Ended.{Ended}
 use Rattle.packet_walk.specs.declared.event.TheConstants.{STAGES}
 use Rattle.packet_walk.specs.declared.event.Event.{Event}
-use Rattle.packet_walk.specs.Flight.{InFlight, Flight, IsCounted, IsGiven, IsInFlight, Turns, packet_of, packet_in, with_packet, after_stage, staged, turned, without_error}
+use Rattle.packet_walk.specs.Flight.{InFlight, Flight, IsCounted, IsGiven, IsInFlight, Turns, packet_of, after_stage, staged, turned, without_error}
 use Rattle.packet_walk.specs.Rest.{end_from, turned_times, HasTurned, HasWanted}
 use Rattle.packet_walk.proofs.Packets.{turned-going, packet-same, length-with, given-packet}
 use Rattle.packet_walk.proofs.Rests.{staged-counted, end-going, end-ended}

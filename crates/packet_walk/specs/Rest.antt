@@ -1,12 +1,12 @@
 -- A packet's own walk from where it stands, and what turns of all packets give each.
-use Rattle.std.specs.Prelude.{◌≡◌, ℕ, suc, ◌+◌, ◌-◌, ◌≤◌, Bool, true, false, if◌then◌else◌, nat_eq, List, [], ◌∷◌, ◌++◌, replicate, Option, Some, None, Result, Ok, Err, IfSome}
+use Rattle.std.specs.Prelude.{◌≡◌, ℕ, suc, ◌-◌, ◌≤◌, Bool, false, if◌then◌else◌, nat_eq, List, [], ◌∷◌, ◌++◌, replicate, Option, Some, None, Result, Ok, Err, IfSome}
 use Rattle.base.specs.declared.no_memory.NoMemory.{NoMemory}
 use Rattle.net_model.specs.Network.{Network}
 use Rattle.walk_rules.specs.declared.place.Ended.{Ended}
 use Rattle.walk_rules.specs.declared.place.Place.{Place}
 use Rattle.walk_rules.specs.Walk.{Step, walk_of, choice_at, end_of}
 use Rattle.packet_walk.specs.declared.event.TheConstants.{STAGES}
-use Rattle.packet_walk.specs.Flight.{InFlight, Flight, stage_in, staged, packet_of, turned, entered, without_error}
+use Rattle.packet_walk.specs.Flight.{InFlight, Flight, stage_in, packet_of, turned, entered, without_error}
 
 -- where a packet goes on, if it has not ended
 abbrev pub place_where : Place → Option Ended → Option Place

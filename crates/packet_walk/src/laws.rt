@@ -1,6 +1,8 @@
 //! Laws about the definitions, each the contract of a function that does nothing.
 
-ghost use Rattle.std.specs.Prelude.{◌≡◌, ◌≢◌, ℕ, ◌<◌, ◌++◌, ◌∷◌, [], List, None, Option, Some, length, take};
+ghost use Rattle.std.specs.Prelude.{◌≡◌, ◌≢◌, ℕ, ◌<◌, ◌++◌, ◌∷◌, [], IsSome, List, None, Option, Some, flat_map, length, map, nat_eq, sum_by, take};
+ghost use Rattle.std.specs.List.{IsDistinct};
+ghost use Rattle.std.specs.List.Sorted.{IsStrictlyIncreasing};
 ghost use Rattle.net_model.specs.Network.{Network};
 ghost use Rattle.srv6_rules.specs.Packet.{Content};
 ghost use Rattle.walk_rules.specs.Walk.{choice_at, end_of, walk_of};
@@ -8,6 +10,7 @@ ghost use Rattle.walk_rules.specs.declared.place.Ended.{Ended};
 ghost use Rattle.walk_rules.specs.declared.place.Place.{Place};
 ghost use Rattle.packet_walk.specs.Flight.{Flight, InFlight, IsCounted, entered, entering, packet_of, stage_in, staged, turned};
 ghost use Rattle.packet_walk.specs.Rest.{Move, end_from, given_to, rest_of, turns_of};
+ghost use Rattle.packet_walk.specs.Schedule.{Coming, all_of, comings_of, frame_of, scheduled, stages_of, steps_in, steps_of};
 
 use crate::event::STAGES;
 
@@ -51,4 +54,45 @@ pub fn a_packet_takes_its_own_walk()
         given_to number f moves
         ≡ take (turns_of number moves)
         (walk_of STAGES f.net (Some place) content (choice_at choices) 0) }
+{}
+
+/// Whatever the schedule, a packet takes all the steps of its walk that were still to come, in their
+/// order, and no other; so two schedules give it the same stages in the same order. The packets'
+/// numbers differ; those of a flight's packets rise.
+pub fn a_schedule_gives_each_packet_its_walk()
+    ensures steps { (number : ℕ) (schedule : List ℕ) (comings : List Coming) →
+        IsDistinct nat_eq (map (λ c. c.number) comings) →
+        steps_in number (scheduled schedule comings) ≡ steps_of number comings }
+    ensures stages { (number : ℕ) (schedule : List ℕ) (comings : List Coming) →
+        IsDistinct nat_eq (map (λ c. c.number) comings) →
+        stages_of number (scheduled schedule comings) ≡ all_of number (steps_of number comings) }
+    ensures same { (number : ℕ) (one other : List ℕ) (comings : List Coming) →
+        IsDistinct nat_eq (map (λ c. c.number) comings) →
+        stages_of number (scheduled one comings) ≡ stages_of number (scheduled other comings) }
+    ensures flight { (f : Flight) (numbers schedule : List ℕ) (number : ℕ) (p : InFlight) →
+        IsStrictlyIncreasing numbers → length numbers ≡ length f.packets → packet_of f number ≡ Some p →
+        let frame = frame_of numbers number in
+        stages_of frame (scheduled schedule (comings_of numbers f)) ≡ all_of frame (rest_of f.net p) }
+{}
+
+/// With the empty schedule the stages are all of the first packet, then all of the second, and so on.
+pub fn no_schedule_takes_packets_one_by_one()
+    ensures stages { (comings : List Coming) →
+        scheduled [] comings ≡ flat_map (λ c. all_of c.number c.steps) comings }
+    ensures steps { (comings : List Coming) →
+        map (λ t. t.step) (scheduled [] comings) ≡ flat_map (λ c. c.steps) comings }
+{}
+
+/// Whatever the schedule, there are as many stages as steps to come.
+pub fn a_schedule_takes_all_steps()
+    ensures { (schedule : List ℕ) (comings : List Coming) →
+        length (scheduled schedule comings) ≡ sum_by (λ c. length c.steps) comings }
+{}
+
+/// A packet's stage is its last, with no step behind it, exactly where it has ended after it.
+pub fn the_last_stage_ends_a_packet()
+    ensures last { (net : Network) (p : InFlight) → IsCounted p → p.ended ≡ None →
+        rest_of net (staged net p) ≡ [] → IsSome (staged net p).ended }
+    ensures ended { (net : Network) (p : InFlight) →
+        IsSome (staged net p).ended → rest_of net (staged net p) ≡ [] }
 {}

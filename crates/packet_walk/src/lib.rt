@@ -5,11 +5,15 @@ mod event;
 mod flight;
 mod in_flight;
 mod laws;
+mod schedule;
 #[cfg(test)]
 mod tests;
 
 pub use event::{Event, STAGES};
 pub use flight::Flight;
 pub use laws::{
-    a_packet_takes_its_own_walk, a_turn_changes_one_packet, a_turn_takes_the_next_stage,
+    a_packet_takes_its_own_walk, a_schedule_gives_each_packet_its_walk, a_schedule_takes_all_steps,
+    a_turn_changes_one_packet, a_turn_takes_the_next_stage, no_schedule_takes_packets_one_by_one,
+    the_last_stage_ends_a_packet,
 };
+pub use schedule::{Turns, are_rising};

@@ -2,7 +2,7 @@
 
 ghost use Rattle.std.specs.Prelude.{◌≡◌, ◌<◌, length};
 
-use crate::Flight;
+use crate::{Flight, Turns, are_rising};
 use base::NoMemory;
 use net_model::{Link, Name, Net, NetParts, Node, Route, TypeList, are_in_range};
 use pkt_buf::PktBuf;
@@ -104,6 +104,26 @@ fn two_packets<'a>(
     let two = flight.enter(packet(alloc, 64)?, arrival(0, Family::V6), second)?;
     assert_eq!(rt; one, 1);
     assert_eq!(rt; two, 2);
+    Ok(flight)
+}
+
+/// Three packets that arrived at A, each with the choices.
+fn three_packets<'a>(
+    rt: &impl Abort,
+    alloc: Global,
+    net: &'a Net,
+    choices: &'a [u32],
+) -> Result<Flight<'a>, NoMemory>
+    requires nodes { length net.now.nodes ≡ 2 }
+    requires choices { 0 < length choices.now }
+{
+    let mut flight = Flight::new(alloc, net);
+    let one = flight.enter(packet(alloc, 64)?, arrival(0, Family::V6), choices)?;
+    let two = flight.enter(packet(alloc, 64)?, arrival(0, Family::V6), choices)?;
+    let three = flight.enter(packet(alloc, 64)?, arrival(0, Family::V6), choices)?;
+    assert_eq!(rt; one, 1);
+    assert_eq!(rt; two, 2);
+    assert_eq!(rt; three, 3);
     Ok(flight)
 }
 
@@ -210,5 +230,67 @@ fn a_drop_leaves_its_error(rt: HostRuntime) -> Result<(), Fail> {
     assert_eq!(rt; flight.error().len(), 88);
     assert_eq!(rt; outcome_of(&rt, &mut flight, 2)?, sent(1));
     assert_eq!(rt; flight.error().len(), 0);
+    Ok(())
+}
+
+/// The packets that take a turn, by a schedule and the numbers of their frames, each by its number in
+/// the flight; all end.
+fn turns_of(
+    rt: &impl Abort,
+    alloc: Global,
+    flight: &mut Flight<'_>,
+    schedule: &[u32],
+    numbers: &[u32],
+) -> Result<Vec<u32>, NoMemory> {
+    assert!(rt; are_rising(numbers));
+    assert!(rt; numbers.len() == flight.count() as usize);
+    let mut turns = Turns::new(schedule, numbers);
+    let mut taken = Vec::new(alloc);
+    'turns: while let Some(number) = turns.next(flight) {
+        flight.turn(number)?;
+        taken.push(number)?;
+    }
+    Ok(taken)
+}
+
+/// The turns of two packets, of frames 1 and 2, by a schedule.
+fn turns_of_two(
+    rt: &impl Abort,
+    alloc: Global,
+    net: &Net,
+    schedule: &[u32],
+) -> Result<Vec<u32>, NoMemory>
+    requires { length net.now.nodes ≡ 2 }
+{
+    let mut flight = two_packets(rt, alloc, net, 64, &[0], &[1])?;
+    turns_of(rt, alloc, &mut flight, schedule, &[1, 2])
+}
+
+/// Packets take turns as the schedule names them; behind it they are run to their ends one by one.
+#[test]
+fn a_schedule_names_the_packets(rt: HostRuntime) -> Result<(), Fail> {
+    let net = net_of(&rt, rt.alloc())?;
+    assert_eq!(rt; net.nodes(), 2);
+    let turns = turns_of_two(&rt, rt.alloc(), &net, &[2, 1, 2, 1])?;
+    assert_eq!(rt; turns.as_slice(), [2, 1, 2, 1].as_slice());
+    let turns = turns_of_two(&rt, rt.alloc(), &net, &[1, 1, 2, 2])?;
+    assert_eq!(rt; turns.as_slice(), [1, 1, 2, 2].as_slice());
+    let turns = turns_of_two(&rt, rt.alloc(), &net, &[2])?;
+    assert_eq!(rt; turns.as_slice(), [2, 1, 1, 2].as_slice());
+    let turns = turns_of_two(&rt, rt.alloc(), &net, &[])?;
+    assert_eq!(rt; turns.as_slice(), [1, 1, 2, 2].as_slice());
+    Ok(())
+}
+
+/// An entry of no frame, one of a frame that was not read, and one of a packet that has ended give no
+/// packet a turn.
+#[test]
+fn an_entry_of_no_packet_in_flight_takes_no_turn(rt: HostRuntime) -> Result<(), Fail> {
+    let net = net_of(&rt, rt.alloc())?;
+    assert_eq!(rt; net.nodes(), 2);
+    let mut flight = three_packets(&rt, rt.alloc(), &net, &[0])?;
+    let schedule = [3, 2, 9, 3, 3, 6];
+    let turns = turns_of(&rt, rt.alloc(), &mut flight, &schedule, &[1, 3, 6])?;
+    assert_eq!(rt; turns.as_slice(), [2, 2, 3, 1, 1, 3].as_slice());
     Ok(())
 }

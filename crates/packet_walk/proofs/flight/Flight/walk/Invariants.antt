@@ -1,6 +1,6 @@
-use Rattle.std.proofs.Common.{◌≡◌, ℕ, ◌-◌, ◌≤◌, Option, Some, None}
+use Rattle.std.proofs.Common.{◌-◌}
 use Rattle.packet_walk.specs.declared.event.TheConstants.{STAGES}
-use Rattle.packet_walk.specs.Flight.{InFlight, packet_of}
+use Rattle.packet_walk.specs.Flight.{packet_of}
 use Rattle.packet_walk.proofs.Walking.{Walking, stages_of}
 use Rattle.packet_walk.proofs.flight.Flight.walk.Given as goal
 
