@@ -13,7 +13,7 @@ use Rattle.intent_reader.specs.declared.intent.Intent.{Intent}
 use Rattle.list_certificate.specs.declared.types.Cert.{Cert}
 use Rattle.leg_table.specs.Table.{LegTable}
 use Rattle.leg_table.specs.Value.{legs_value}
-use Rattle.srv6_cli.specs.declared.commands.check.Judgement.{Judgement}
+use Rattle.srv6_cli.specs.declared.told.Judgement.{Judgement}
 use Rattle.srv6_cli.specs.declared.halt.Failure.{Failure}
 use Rattle.srv6_cli.specs.declared.halt.Failure.TheVariants as failures
 use Rattle.srv6_cli.specs.declared.halt.Halt.{Halt}
@@ -42,7 +42,7 @@ both None P Q R f p q = tt
 both (Some held) P Q R f p q = f held p q
 
 -- a judgement's status is one of a whole call, and one of the command's
-judgement-status : (status : Status) → IsOneOf (statuses.Done ∷ statuses.SaysNo ∷ []) status
+pub judgement-status : (status : Status) → IsOneOf (statuses.Done ∷ statuses.SaysNo ∷ []) status
     → (ending_of_status status ≡ Whole) × IsOneOf (statuses.Done ∷ statuses.Refused ∷ statuses.SaysNo ∷ []) status
 judgement-status status (inl e) = (ap ending_of_status e, inl e)
 judgement-status status (inr (inl e)) = (ap ending_of_status e, inr (inr (inl e)))

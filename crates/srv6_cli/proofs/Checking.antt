@@ -24,7 +24,7 @@ use Rattle.leg_table.specs.Table.{shape_by, node_by}
 use Rattle.leg_table.specs.Value.{legs_value}
 use Rattle.leg_table.proofs.PublicLaws.{are-sids}
 use Rattle.path_compiler.specs.Checked.{Says}
-use Rattle.srv6_cli.specs.declared.commands.check.Judgement.{Judgement}
+use Rattle.srv6_cli.specs.declared.told.Judgement.{Judgement}
 use Rattle.srv6_cli.specs.declared.status.Status.{Status}
 use Rattle.srv6_cli.specs.declared.status.Status.TheVariants as statuses
 use Rattle.srv6_cli.specs.Command.Check.{KnowsState, verdict_line, verdict_status, JudgesAs}

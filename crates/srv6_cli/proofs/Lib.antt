@@ -8,10 +8,12 @@ pub mod Writing
 pub mod PieceSteps
 pub mod FrameSteps
 pub mod Walking
+pub mod TraceSteps
 pub mod Writable
 pub mod Commanding
 pub mod Compiling
 pub mod Certificates
+pub mod Tracing
 pub mod Checking
 pub mod CheckEnds
 pub mod WalkEnds

@@ -16,7 +16,7 @@ use Rattle.list_pack.specs.SidLists.{list_values}
 use Rattle.leg_table.specs.Realizes.{IsInner, content_lowered, encapsulation_of, encapsulated_for, HandsOver}
 use Rattle.path_compiler.specs.declared.compiled.Compiled.{Compiled}
 use Rattle.path_compiler.specs.Compiled.{IsCompiled}
-use Rattle.srv6_cli.specs.declared.limits.TheConstants.{STAGES}
+use Rattle.trace_replay.specs.declared.limits.TheConstants.{STAGES}
 use Rattle.srv6_cli.specs.Command.Walk.{IsEncapsulated, WalksKeepTo, of_content, of_encapsulating, policy_of, segment_of}
 use Rattle.srv6_cli.specs.declared.commands.walk.AtHeadend.TheVariants.{Enters}
 use Rattle.srv6_cli.proofs.HandingOver.{hands-within}

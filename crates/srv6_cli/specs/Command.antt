@@ -3,6 +3,8 @@ pub mod Run
 pub mod Compile
 pub mod Check
 pub mod Walk
+pub mod Trace
+pub mod Replay
 pub mod Show
 use Rattle.std.specs.Prelude.{◌≡◌, ℕ, ◌<◌, true, false, if◌then◌else◌, List, [], ◌∷◌, length, map, Option, Some, None, String, string_bytes, ⊤}
 use Rattle.std.specs.declared.alloc.Global.{Global}
@@ -19,6 +21,8 @@ use Rattle.srv6_cli.specs.Command.Run.{is_run, no_choices, run_shape}
 use Rattle.srv6_cli.specs.Command.Compile.{is_compile, compile_shape}
 use Rattle.srv6_cli.specs.Command.Check.{is_check, check_shape}
 use Rattle.srv6_cli.specs.Command.Walk.{is_walk, walk_shape}
+use Rattle.srv6_cli.specs.Command.Trace.{is_trace, trace_shape}
+use Rattle.srv6_cli.specs.Command.Replay.{is_replay, replay_shape}
 use Rattle.srv6_cli.specs.Command.Show.{is_show, show_shape}
 
 abbrev pub command_of_one : List ℕ → Command
@@ -32,17 +36,24 @@ abbrev pub walk_with : List ℕ → List ℕ → Option (List ℕ) → Command
 walk_with file intent None = commands.Unknown
 walk_with file intent (Some choices) = commands.Walk file intent choices
 
+abbrev pub trace_with : List ℕ → List ℕ → Option (List ℕ) → Command
+trace_with file node None = commands.Unknown
+trace_with file node (Some choices) = commands.Trace file node choices
+
 abbrev pub command_of_three : List ℕ → List ℕ → List ℕ → Command
 command_of_three verb first second =
     if is_run verb first second then commands.Run first second no_choices
     else if is_compile verb first second then commands.Compile first second
     else if is_walk verb first second then commands.Walk first second no_choices
+    else if is_trace verb first second then commands.Trace first second no_choices
+    else if is_replay verb first second then commands.Replay first second
     else commands.Unknown
 
 abbrev pub command_of_four : List ℕ → List ℕ → List ℕ → List ℕ → Command
 command_of_four verb first second third =
     if is_run verb first second then run_with first second (choices_in third)
     else if is_walk verb first second then walk_with first second (choices_in third)
+    else if is_trace verb first second then trace_with first second (choices_in third)
     else if is_check verb first second third then commands.Check first second third
     else commands.Unknown
 
@@ -75,6 +86,8 @@ shape_of (commands.Run file node choices) = run_shape file node choices
 shape_of (commands.Compile file intent) = compile_shape file intent
 shape_of (commands.Check file intent cert) = check_shape file intent cert
 shape_of (commands.Walk file intent choices) = walk_shape file intent choices
+shape_of (commands.Trace file node choices) = trace_shape file node choices
+shape_of (commands.Replay file trace) = replay_shape file trace
 shape_of commands.Show = show_shape
 shape_of commands.Unknown = usage_shape
 
@@ -84,14 +97,18 @@ command_seen (words.Run file node choices) = commands.Run file.now node.now choi
 command_seen (words.Compile file intent) = commands.Compile file.now intent.now
 command_seen (words.Check file intent cert) = commands.Check file.now intent.now cert.now
 command_seen (words.Walk file intent choices) = commands.Walk file.now intent.now choices.items
+command_seen (words.Trace file node choices) = commands.Trace file.now node.now choices.items
+command_seen (words.Replay file trace) = commands.Replay file.now trace.now
 command_seen words.Show = commands.Show
 command_seen words.Unknown = commands.Unknown
 
--- a run and a walk have at least one choice
+-- a run, a walk and a trace have at least one choice
 abbrev pub HasChoices : Words → Type 0
 HasChoices (words.Run file node choices) = 0 < length choices.items
 HasChoices (words.Compile file intent) = ⊤
 HasChoices (words.Check file intent cert) = ⊤
 HasChoices (words.Walk file intent choices) = 0 < length choices.items
+HasChoices (words.Trace file node choices) = 0 < length choices.items
+HasChoices (words.Replay file trace) = ⊤
 HasChoices words.Show = ⊤
 HasChoices words.Unknown = ⊤

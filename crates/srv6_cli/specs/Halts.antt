@@ -11,6 +11,8 @@ use Rattle.intent_reader.specs.declared.fault.IntentFault.{IntentFault}
 use Rattle.intent_reader.specs.declared.fault.IntentFault.TheVariants as intents
 use Rattle.list_certificate.specs.declared.types.CertFault.{CertFault}
 use Rattle.list_certificate.specs.declared.types.CertFault.TheVariants as certs
+use Rattle.trace_replay.specs.declared.reading.TraceFault.{TraceFault}
+use Rattle.trace_replay.specs.declared.reading.TraceFault.TheVariants as traces
 use Rattle.srv6_cli.specs.declared.halt.Failure.{Failure}
 use Rattle.srv6_cli.specs.declared.halt.Failure.TheVariants as failures
 use Rattle.srv6_cli.specs.declared.halt.Halt.{Halt}
@@ -68,3 +70,7 @@ halt_of_intent intents.NoMemory = halts.Failed failures.NoMemory
 abbrev pub halt_of_cert : CertFault → Halt
 halt_of_cert (certs.BadCert line) = halts.Refused (refusals.BadCert line)
 halt_of_cert certs.NoMemory = halts.Failed failures.NoMemory
+
+abbrev pub halt_of_trace : TraceFault → Halt
+halt_of_trace (traces.BadTrace line) = halts.Refused (refusals.BadTrace line)
+halt_of_trace traces.NoMemory = halts.Failed failures.NoMemory

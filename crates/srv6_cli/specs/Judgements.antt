@@ -10,6 +10,7 @@ use Rattle.intent_reader.specs.Judging.{intent_of_text}
 use Rattle.list_pack.specs.Value.{LegsValue}
 use Rattle.list_certificate.specs.declared.types.Cert.{Cert}
 use Rattle.list_certificate.specs.Reading.{read_of}
+use Rattle.trace_replay.specs.Reading.{bad_line, lines_of}
 use Rattle.srv6_cli.specs.declared.limits.TheConstants.{FILE_LIMIT}
 use Rattle.srv6_cli.specs.declared.refusal.Refusal.{Refusal}
 use Rattle.srv6_cli.specs.declared.refusal.Refusal.TheVariants as refusals
@@ -56,6 +57,16 @@ cert_by read = refused_as (λ line. refusals.BadCert line) read
 abbrev pub cert_in : Network → LegsValue → List ℕ → Result Cert Refusal
 cert_in net legs text =
     if nat_lt FILE_LIMIT (length text) then Err (refusals.TooBig FILE_LIMIT) else cert_by (read_of net legs text)
+
+-- the lines of the trace that a text is for a network, or its first bad line
+
+abbrev pub trace_by : List ℕ → Option ℕ → Result (List (List ℕ)) Refusal
+trace_by text None = Ok (lines_of text)
+trace_by text (Some line) = Err (refusals.BadTrace line)
+
+abbrev pub trace_in : Network → List ℕ → Result (List (List ℕ)) Refusal
+trace_in net text =
+    if nat_lt FILE_LIMIT (length text) then Err (refusals.TooBig FILE_LIMIT) else trace_by text (bad_line net text)
 
 -- the output of a refusal: its line
 abbrev pub refused : Refusal → Output

@@ -17,7 +17,7 @@ use Rattle.intent_reader.specs.declared.fault.IntentFault.{IntentFault}
 use Rattle.intent_reader.specs.declared.fault.IntentFault.TheVariants as intents
 use Rattle.walk_rules.specs.declared.place.Ended.{Ended}
 use Rattle.walk_rules.specs.declared.place.Ended.TheVariants as ends
-use Rattle.srv6_cli.specs.declared.limits.TheConstants.{STAGES}
+use Rattle.trace_replay.specs.declared.limits.TheConstants.{STAGES}
 use Rattle.srv6_cli.specs.declared.packets.Unread.{Unread}
 use Rattle.srv6_cli.specs.declared.packets.Unread.TheVariants as unreads
 use Rattle.srv6_cli.specs.declared.refusal.Refusal.{Refusal}
@@ -100,6 +100,7 @@ refusal_text (refusals.Intent fault) = intent_fault_text fault
 refusal_text (refusals.Capture fault) = capture_text fault
 refusal_text (refusals.CutFrame frame) = codes "refused 16 CutFrame " ++ decimal frame
 refusal_text refusals.BadNode = codes "refused 39 BadNode"
+refusal_text (refusals.BadTrace line) = codes "refused 40 BadTrace " ++ decimal line
 refusal_text (refusals.Nested outer inner) = codes "refused 41 Nested " ++ (prefix_text outer ++ 32 ∷ prefix_text inner)
 refusal_text (refusals.ZeroCsid prefix) = codes "refused 42 ZeroCsid " ++ prefix_text prefix
 refusal_text (refusals.MixedBlock block prefix) = codes "refused 43 MixedBlock " ++ (prefix_text block ++ 32 ∷ prefix_text prefix)

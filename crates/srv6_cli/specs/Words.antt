@@ -8,6 +8,8 @@ pub data Command : Type 0 where
   Compile : List ℕ → List ℕ → Command
   Check : List ℕ → List ℕ → List ℕ → Command
   Walk : List ℕ → List ℕ → List ℕ → Command
+  Trace : List ℕ → List ℕ → List ℕ → Command
+  Replay : List ℕ → List ℕ → Command
   Show : Command
   Unknown : Command
 

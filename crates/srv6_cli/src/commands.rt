@@ -3,13 +3,15 @@
 ghost use Rattle.std.specs.Prelude.{◌≡◌, IfOk};
 ghost use Rattle.srv6_cli.specs.Answers.{Commands, UsageTold};
 ghost use Rattle.srv6_cli.specs.Choices.{choices_in};
-ghost use Rattle.srv6_cli.specs.Command.{HasChoices, command_of, command_of_four, command_of_three, command_seen, run_with, walk_with, words_of};
+ghost use Rattle.srv6_cli.specs.Command.{HasChoices, command_of, command_of_four, command_of_three, command_seen, run_with, trace_with, walk_with, words_of};
 ghost use Rattle.srv6_cli.specs.Outside.{outside};
 
 mod check;
 mod compile;
+mod replay;
 mod run;
 mod show;
+mod trace;
 mod walk;
 
 use crate::choices::choices_of;
@@ -57,6 +59,23 @@ pub enum Words<'a> {
         intent: &'a str,
         /// The choices that each packet takes, at least one.
         choices: Vec<u32>,
+    },
+    /// The walks of the packets of the input from a node of the network that a file describes, as
+    /// text.
+    Trace {
+        /// The file's name.
+        file: &'a str,
+        /// The node's name.
+        node: &'a str,
+        /// The choices that each packet takes, at least one.
+        choices: Vec<u32>,
+    },
+    /// The verdict on the trace of a file in the network that another describes.
+    Replay {
+        /// The description's name.
+        file: &'a str,
+        /// The trace's name.
+        trace: &'a str,
     },
     /// The headers of the packets of the input as lines.
     Show,
@@ -106,6 +125,27 @@ fn walk_with<'a>(
     }
 }
 
+/// What the words of a trace with choices spell.
+fn trace_with<'a>(
+    alloc: Global,
+    file: &'a str,
+    node: &'a str,
+    choices: &str,
+) -> Result<Words<'a>, AllocError>
+    ensures spelled { IfOk result (λ words. command_seen words
+        ≡ trace_with file.now node.now (choices_in choices.now)) }
+    ensures some { IfOk result HasChoices }
+{
+    match choices_of(alloc, choices)? {
+        Some(choices) => Ok(Words::Trace {
+            file,
+            node,
+            choices,
+        }),
+        None => Ok(Words::Unknown),
+    }
+}
+
 /// What a verb with two words behind it spells.
 fn words_of_three<'a>(
     alloc: Global,
@@ -137,6 +177,19 @@ fn words_of_three<'a>(
             choices: vec![in alloc; 0]?,
         });
     }
+    if verb == "trace" && !first.is_empty() && !second.is_empty() {
+        return Ok(Words::Trace {
+            file: first,
+            node: second,
+            choices: vec![in alloc; 0]?,
+        });
+    }
+    if verb == "replay" && !first.is_empty() && !second.is_empty() {
+        return Ok(Words::Replay {
+            file: first,
+            trace: second,
+        });
+    }
     Ok(Words::Unknown)
 }
 
@@ -157,6 +210,9 @@ fn words_of_four<'a>(
     }
     if verb == "walk" && !first.is_empty() && !second.is_empty() {
         return walk_with(alloc, first, second, third);
+    }
+    if verb == "trace" && !first.is_empty() && !second.is_empty() {
+        return trace_with(alloc, first, second, third);
     }
     if verb == "check" && !first.is_empty() && !second.is_empty() && !third.is_empty() {
         return Ok(Words::Check {
@@ -245,6 +301,12 @@ pub fn command<F: Files, S: Source, O: Sink, E: Sink>(
             out,
             err,
         ),
+        Words::Trace {
+            file,
+            node,
+            choices,
+        } => trace::trace(alloc, file, node, choices.as_slice(), files, input, out),
+        Words::Replay { file, trace } => replay::replay(alloc, file, trace, files, out),
         Words::Show => show::show(alloc, input, out),
         Words::Unknown => usage(),
     }

@@ -9,6 +9,7 @@ use list_certificate::CertFault;
 use net_model::NetFault;
 use srx_edge::{DrawFault, FileFault, PourFault};
 use std::alloc::AllocError;
+use trace_replay::TraceFault;
 
 /// Why a step was not done, whatever it is given.
 #[derive(Clone, Copy, Debug)]
@@ -180,6 +181,19 @@ impl From<CertFault> for Halt {
         match fault {
             CertFault::NoMemory => Halt::Failed(Failure::NoMemory),
             CertFault::BadCert { line } => Halt::Refused(Refusal::BadCert { line }),
+        }
+    }
+}
+
+impl From<TraceFault> for Halt {
+    ghost use Rattle.srv6_cli.specs.Halts.{halt_of_trace};
+
+    ghost from_gives = { λ fault halt. halt ≡ halt_of_trace fault };
+
+    fn from(fault: TraceFault) -> Halt {
+        match fault {
+            TraceFault::NoMemory => Halt::Failed(Failure::NoMemory),
+            TraceFault::BadTrace { line } => Halt::Refused(Refusal::BadTrace { line }),
         }
     }
 }

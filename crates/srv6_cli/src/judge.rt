@@ -5,7 +5,8 @@ ghost use Rattle.intent_reader.specs.Rules.{IsIntent};
 ghost use Rattle.list_certificate.specs.Certs.{IsCert};
 ghost use Rattle.list_certificate.specs.Reading.{IsNetworkOf};
 ghost use Rattle.srv6_cli.specs.Answers.{JudgesFile};
-ghost use Rattle.srv6_cli.specs.Judgements.{network_in, node_in, intent_in, cert_in};
+ghost use Rattle.srv6_cli.specs.Judgements.{network_in, node_in, intent_in, cert_in, trace_in};
+ghost use Rattle.trace_replay.specs.Reading.{IsTrace};
 
 use crate::halt::Halt;
 use crate::limits::FILE_LIMIT;
@@ -17,6 +18,7 @@ use net_model::Net;
 use net_reader::read_net;
 use srx_edge::Files;
 use std::alloc::Global;
+use trace_replay::{Trace, read_trace};
 
 /// The network that the file of this name describes.
 #[tactic(auto, using(crate::proofs::Judging::files))]
@@ -59,6 +61,22 @@ pub fn cert_of_file<F: Files, L: Legs>(
 {
     let text = files.read(alloc, name, FILE_LIMIT)?;
     Ok(read(alloc, net, legs, text.as_slice())?)
+}
+
+/// The trace that the file of this name gives for a network.
+#[tactic(auto, using(crate::proofs::Tracing::traces))]
+pub fn trace_of_file<F: Files>(
+    alloc: Global,
+    files: &mut F,
+    net: &Net,
+    name: &str,
+) -> Result<Trace, Halt>
+    ensures judged { JudgesFile (trace_in net.now) name.now result
+        (F.seen files.old) (F.seen files.new) }
+    ensures trace { IfOk result (IsTrace net.now) }
+{
+    let text = files.read(alloc, name, FILE_LIMIT)?;
+    Ok(read_trace(alloc, net, text.as_slice())?)
 }
 
 /// The number of the node of this name.

@@ -22,11 +22,12 @@ mod told;
 mod top;
 mod walk;
 
-pub use limits::{FILE_LIMIT, INPUT_LIMIT, STAGES};
+pub use limits::{FILE_LIMIT, INPUT_LIMIT};
 pub use node_name::NodeName;
 pub use refusal::Refusal;
 pub use status::Status;
 pub use top::serve;
+pub use trace_replay::STAGES;
 
 #[cfg(test)]
 mod tests;

@@ -6,8 +6,5 @@ pub const FILE_LIMIT: usize = 4_194_304;
 /// The most bytes of the input. (own rule)
 pub const INPUT_LIMIT: usize = 67_108_864;
 
-/// The most stages of a packet. (own rule)
-pub const STAGES: usize = 10_000;
-
 /// The most choices that the words give. (own rule)
 pub const MAX_CHOICES: usize = 4_096;

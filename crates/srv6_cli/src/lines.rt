@@ -4,12 +4,12 @@ ghost use Rattle.std.specs.Prelude.{◌≡◌, IfOk, string_bytes};
 ghost use Rattle.srv6_cli.specs.Sent.{IsEnd};
 ghost use Rattle.srv6_cli.specs.Lines.{refusal_line, left_line, delivered_line, dropped_line, stages_line, packet_line, unread_line};
 
-use crate::limits::STAGES;
 use crate::packets::Unread;
 use crate::refusal::Refusal;
 use net_model::{Name, Net};
 use srv6_rules::Reason;
 use std::alloc::{AllocError, Global};
+use trace_replay::STAGES;
 use walk_rules::Ended;
 
 /// The line that says how the program is called.

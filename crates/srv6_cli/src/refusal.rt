@@ -33,6 +33,12 @@ pub enum Refusal {
     Intent(IntentFault),
     /// 39: no node has the name.
     BadNode,
+    /// 40: the text is no trace of the network.
+    BadTrace {
+        /// The first bad line, counted from 1; where `end` or a line feed is missing, the line that
+        /// lacks it.
+        line: u32,
+    },
     /// 41: an entry's prefix lies strictly inside a SID's.
     Nested {
         /// The SID's prefix.
@@ -207,6 +213,7 @@ impl fmt::Display for Refusal {
                 write!(f, "{text}")
             }
             Refusal::BadNode => write!(f, "refused 39 BadNode"),
+            Refusal::BadTrace { line } => write!(f, "refused 40 BadTrace {line}"),
             Refusal::Nested { outer, inner } => write!(f, "refused 41 Nested {outer} {inner}"),
             Refusal::ZeroCsid { prefix } => write!(f, "refused 42 ZeroCsid {prefix}"),
             Refusal::MixedBlock { block, prefix } => {

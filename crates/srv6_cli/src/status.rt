@@ -6,14 +6,14 @@ pub enum Status {
     /// The command's output was written whole, and what it reads from the input was read to its
     /// end.
     Done = 0,
-    /// A file, the input, a node's name or a certificate is outside its grammar or limit, or the
-    /// network isn't flat for `compile`, `check` or `walk`.
+    /// A file, the input, a node's name, a certificate or a trace is outside its grammar or limit,
+    /// or the network isn't flat for `compile`, `check` or `walk`.
     Refused = 1,
     /// The words are no command.
     Usage = 2,
     /// `compile` has no list, or the list that it found is outside the intent's limits.
     NoAnswer = 3,
-    /// `check` finds a bad line.
+    /// `check` finds a bad line, or `replay` a wrong one.
     SaysNo = 4,
     /// A fault of the files, the input or a sink.
     OutsideFault = 5,

@@ -115,6 +115,54 @@ const PACKET: [u8; 40] = [
     0xbb, 0xbb, 0x00, 0xf0, 0x01, 0, 0, 0, 0, 0, 0, 0, 0, 0, 0,
 ];
 
+/// Four nodes in a row, two links between the second and the third.
+const ROW: &str = r#"
+block = [{ prefix = "fcbb:bb00::/32", kind = "next", csid = 16 }]
+node = [
+    { name = "A", address = "2001:db8::a" },
+    { name = "B", address = "2001:db8::b" },
+    { name = "C", address = "2001:db8::c" },
+    { name = "D", address = "2001:db8::d" },
+]
+link = [
+    { name = "ab", from = "A", to = "B" },
+    { name = "bc1", from = "B", to = "C" },
+    { name = "bc2", from = "B", to = "C" },
+    { name = "cd", from = "C", to = "D" },
+]
+route = [
+    { node = "B", prefix = "fcbb:bb00:4::/48", via = ["bc1", "bc2"] },
+    { node = "C", prefix = "fcbb:bb00:4::/48", via = ["cd"] },
+]
+sid = [
+    { node = "B", prefix = "fcbb:bb00:2::/48", behaviour = "End", csid = "next" },
+    { node = "D", prefix = "fcbb:bb00:4::/48", behaviour = "End", csid = "next" },
+]
+"#;
+
+/// A packet as it enters at B: hop limit 64, Segments Left 1.
+const ENTERS: &str = "\
+    6000000000282b4020010db8000100000000000000000001fcbbbb00000200000000000000000000\
+    3b04040101000000fcbbbb00000400000000000000000000fcbbbb00000200000000000000000000";
+
+/// Behind End at B: hop limit 63, Segments Left 0, to the other segment.
+const STEPPED: &str = "\
+    6000000000282b3f20010db8000100000000000000000001fcbbbb00000400000000000000000000\
+    3b04040001000000fcbbbb00000400000000000000000000fcbbbb00000200000000000000000000";
+
+/// Behind C: hop limit 62.
+const LOWERED: &str = "\
+    6000000000282b3e20010db8000100000000000000000001fcbbbb00000400000000000000000000\
+    3b04040001000000fcbbbb00000400000000000000000000fcbbbb00000200000000000000000000";
+
+/// What D sends about the drop, since its SID takes no upper layer: Parameter Problem, code 4,
+/// pointer 80.
+const ERROR: &str = "\
+    6000000000583a4020010db800000000000000000000000d20010db8000100000000000000000001\
+    04047f32000000506000000000282b3e20010db8000100000000000000000001fcbbbb0000040000\
+    00000000000000003b04040001000000fcbbbb00000400000000000000000000fcbbbb0000020000\
+    0000000000000000";
+
 /// The call that fails of the files, the input, `out` and `err`, counted from 1; 0: none.
 #[derive(Drop)]
 struct Faults {
@@ -161,6 +209,9 @@ fn files_of(alloc: Global, fails: u64) -> Result<MemFiles, Fail> {
     if !files.holds("enough.toml") {
         files.hold("enough.toml", ENOUGH.as_bytes())?;
     }
+    if !files.holds("none") {
+        files.hold("none", b"srv6 trace 1\nend\n")?;
+    }
     if !files.holds("cert") {
         files.hold("cert", CERT.as_bytes())?;
     }
@@ -187,6 +238,42 @@ fn serve_words(alloc: Global, words: &[&str], faults: &Faults) -> Result<Ran, Fa
         out: out.held().to_vec(alloc)?,
         err: err.held().to_vec(alloc)?,
     })
+}
+
+/// Runs a command in the network of the row over a text as the file `trace`, and an input.
+fn serve_row(alloc: Global, words: &[&str], trace: &str, input: &[u8]) -> Result<Ran, Fail> {
+    let words = words_of(alloc, words)?;
+    let mut files = MemFiles::new(alloc, &[])?;
+    if !files.holds("row.toml") {
+        files.hold("row.toml", ROW.as_bytes())?;
+    }
+    if !files.holds("trace") {
+        files.hold("trace", trace.as_bytes())?;
+    }
+    let mut input = MemSource::new(alloc, input, &[])?;
+    let mut out = MemSink::new(alloc, &[])?;
+    let mut err = MemSink::new(alloc, &[])?;
+    let status = serve(
+        alloc,
+        words.as_slice(),
+        &mut files,
+        &mut input,
+        &mut out,
+        &mut err,
+    );
+    Ok(Ran {
+        status,
+        out: out.held().to_vec(alloc)?,
+        err: err.held().to_vec(alloc)?,
+    })
+}
+
+/// The trace of the packet up to its last stage, where the line of B's Send begins so.
+fn trace_to(alloc: Global, send: &str) -> Result<String, AllocError> {
+    format!(in alloc;
+        "srv6 trace 1\npacket 1 6 B {ENTERS}\nagain fcbb:bb00:2::/48 table 0 {STEPPED}\n\
+        {send} {STEPPED}\nsend cd {LOWERED}\ndrop UpperLayer {ERROR}\n"
+    )
 }
 
 /// Runs a command with each of these faults: it ends with one, and what it wrote is a front of what
@@ -218,6 +305,14 @@ const WALK: &[&str] = &["walk", "net.toml", "enough.toml", "0"];
 const WALK_WITHOUT_LIST: &[&str] = &["walk", "net.toml", "intent.toml"];
 
 const SHOW: &[&str] = &["show"];
+
+const TRACE: &[&str] = &["trace", "net.toml", "A"];
+
+const REPLAY: &[&str] = &["replay", "net.toml", "none"];
+
+const TRACE_ROW: &[&str] = &["trace", "row.toml", "B", "0"];
+
+const REPLAY_ROW: &[&str] = &["replay", "row.toml", "trace"];
 
 /// The description is read by one call; the input by one, and a second one finds its end; the head
 /// and each of three frames are written by one, and so is the line.
@@ -251,6 +346,27 @@ const OF_WALK: &[Faults] = &[
 const OF_SHOW: &[Faults] = &[
     Faults { input: 1, ..NONE },
     Faults { input: 2, ..NONE },
+    Faults { out: 1, ..NONE },
+];
+
+/// The description is read by one call; the input by one, and a second one finds its end; the first
+/// line, the packet's, each of three stages' and the last are written by one.
+const OF_TRACE: &[Faults] = &[
+    Faults { files: 1, ..NONE },
+    Faults { input: 1, ..NONE },
+    Faults { input: 2, ..NONE },
+    Faults { out: 1, ..NONE },
+    Faults { out: 2, ..NONE },
+    Faults { out: 3, ..NONE },
+    Faults { out: 4, ..NONE },
+    Faults { out: 5, ..NONE },
+    Faults { out: 6, ..NONE },
+];
+
+/// Each file is read by one call, and the verdict is written by one.
+const OF_REPLAY: &[Faults] = &[
+    Faults { files: 1, ..NONE },
+    Faults { files: 2, ..NONE },
     Faults { out: 1, ..NONE },
 ];
 
@@ -297,6 +413,69 @@ fn each_call_of_check_fails(rt: HostRuntime) -> Result<(), Fail> {
     assert_eq!(rt; whole.status, Status::Done);
     assert_eq!(rt; whole.out.as_slice(), b"least 1 1\n".as_slice());
     assert_eq!(rt; whole.err.len(), 0);
+    Ok(())
+}
+
+#[test]
+fn each_call_of_replay_fails(rt: HostRuntime) -> Result<(), Fail> {
+    expect_fronts(&rt, rt.alloc(), REPLAY, OF_REPLAY)?;
+    let whole = serve_words(rt.alloc(), REPLAY, &NONE)?;
+    assert_eq!(rt; whole.status, Status::Done);
+    assert_eq!(rt; whole.out.as_slice(), b"ok 0 0\n".as_slice());
+    assert_eq!(rt; whole.err.len(), 0);
+    Ok(())
+}
+
+#[test]
+fn each_call_of_trace_fails(rt: HostRuntime) -> Result<(), Fail> {
+    expect_fronts(&rt, rt.alloc(), TRACE, OF_TRACE)
+}
+
+/// B executes its SID and sends, C sends, and D drops with an error.
+#[test]
+fn a_walk_is_traced(rt: HostRuntime) -> Result<(), Fail> {
+    let alloc = rt.alloc();
+    let packet = hex::decode(alloc, ENTERS)?;
+    let text = format!(in alloc; "{}end\n", trace_to(alloc, "send bc1")?)?;
+    let one = serve_row(alloc, TRACE_ROW, "", packet.as_slice())?;
+    assert_eq!(rt; one.status, Status::Done);
+    assert_eq!(rt; one.out.as_slice(), text.as_bytes());
+    assert_eq!(rt; one.err.len(), 0);
+    Ok(())
+}
+
+/// A trace with a line in the place of B's Send and one in that of the last, what is written of it
+/// and with which status.
+#[test]
+fn traces_are_replayed(rt: HostRuntime) -> Result<(), Fail> {
+    let alloc = rt.alloc();
+    let wrong = format!(in alloc; "no 4 send bc1 {STEPPED}\n")?;
+    let cases = [
+        ("send bc1", "end\n", "ok 1 5\n", "", Status::Done),
+        ("send bc2", "end\n", "ok 1 5\n", "", Status::Done),
+        ("send ab", "end\n", wrong.as_str(), "", Status::SaysNo),
+        (
+            "send bc1",
+            "",
+            "",
+            "refused 40 BadTrace 7\n",
+            Status::Refused,
+        ),
+        (
+            "sent",
+            "end\n",
+            "",
+            "refused 40 BadTrace 4\n",
+            Status::Refused,
+        ),
+    ];
+    for (send, last, out, err, status) in &cases {
+        let text = format!(in alloc; "{}{last}", trace_to(alloc, *send)?)?;
+        let one = serve_row(alloc, REPLAY_ROW, text.as_str(), b"")?;
+        assert_eq!(rt; one.status, *status);
+        assert_eq!(rt; one.out.as_slice(), (*out).as_bytes());
+        assert_eq!(rt; one.err.as_slice(), (*err).as_bytes());
+    }
     Ok(())
 }
 

@@ -30,6 +30,16 @@ impl Text {
     }
 }
 
+/// What a command has to write of what it judged: a line for `out`, with its line feed, and its
+/// status.
+#[derive(Drop)]
+pub struct Judgement {
+    /// The line.
+    pub line: Text,
+    /// The status.
+    pub status: Status,
+}
+
 /// What a command has to say at its end: a line for `err`, with its line feed, or nothing, and its
 /// status.
 #[derive(Drop)]

@@ -8,13 +8,13 @@ ghost use Rattle.srv6_rules.specs.Packet.{Packet as PacketValue, bytes_of, most_
 ghost use Rattle.srv6_cli.specs.Answers.{ending_of_step};
 ghost use Rattle.srv6_cli.specs.Capture.{frame_by, frames_of};
 ghost use Rattle.srv6_cli.specs.Sent.{IsEnd, IsWritable};
+ghost use Rattle.trace_replay.specs.Numbered.{IsNumbered};
 ghost use Rattle.walk_rules.specs.Laws.{TellsOfError};
 ghost use Rattle.walk_rules.specs.Relation.{IsPlace};
 ghost use Rattle.walk_rules.specs.Treatment.{step_of};
 ghost use Rattle.walk_rules.specs.Walk.{next_place as place_after, decisions, walk_of, choice_at, end_by, end_of};
 
 use crate::halt::Failure;
-use crate::limits::STAGES;
 use base::NoMemory;
 use icmp6_errors::IcmpSlot;
 use net_model::Net;
@@ -22,6 +22,7 @@ use node_stage::{Content, stage};
 use pcap_io::MAX_PACKET_LEN;
 use srx_edge::{Sink, pour};
 use std::alloc::Global;
+use trace_replay::{STAGES, an_outcome_names_what_is_there};
 use walk_rules::{Ended, Outcome, Place, ended_by, next_place};
 
 /// Pours bytes into a sink.
@@ -118,7 +119,7 @@ fn write_outcome<O: Sink>(
 }
 
 /// The decisions that an outcome takes.
-fn decisions_of(outcome: &Outcome) -> usize
+pub fn decisions_of(outcome: &Outcome) -> usize
     ensures taken { result ≡ decisions outcome.now }
     ensures few { result ≤ 1 }
 {
@@ -129,7 +130,7 @@ fn decisions_of(outcome: &Outcome) -> usize
 }
 
 /// One stage, of which what it sends can be written; the slot has the error about what it drops.
-fn staged(
+pub fn staged(
     alloc: Global,
     net: &Net,
     place: &Place,
@@ -149,8 +150,10 @@ fn staged(
     ensures next { IfOk result (λ outcome.
         IfSome (place_after net.now place.now outcome) (IsPlace net.now)) }
     ensures ends { IfOk result (λ outcome. IsEnd net.now (end_by net.now place.now outcome)) }
+    ensures numbered { IfOk result (IsNumbered net.now) }
 {
     net.keeps_rules();
+    an_outcome_names_what_is_there();
     content.keeps_rules();
     stage(alloc, net, place, content, choice, error)
 }

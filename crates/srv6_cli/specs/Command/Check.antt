@@ -17,7 +17,7 @@ use Rattle.leg_table.specs.Table.{LegTable}
 use Rattle.leg_table.specs.Value.{legs_value}
 use Rattle.path_compiler.specs.Checked.{Says}
 use Rattle.srx_edge.specs.Edge.{file_named}
-use Rattle.srv6_cli.specs.declared.commands.check.Judgement.{Judgement}
+use Rattle.srv6_cli.specs.declared.told.Judgement.{Judgement}
 use Rattle.srv6_cli.specs.declared.halt.Failure.TheVariants as failures
 use Rattle.srv6_cli.specs.declared.halt.Halt.{Halt}
 use Rattle.srv6_cli.specs.declared.halt.Halt.TheVariants as halts

@@ -12,7 +12,7 @@ use Rattle.net_model.specs.Network.{Network}
 use Rattle.walk_rules.specs.declared.place.How.TheVariants.{Arrived}
 use Rattle.walk_rules.specs.Walk.{Step, walk_of, choice_at, end_of}
 use Rattle.srx_edge.specs.Edge.{file_named}
-use Rattle.srv6_cli.specs.declared.limits.TheConstants.{STAGES}
+use Rattle.trace_replay.specs.declared.limits.TheConstants.{STAGES}
 use Rattle.srv6_cli.specs.declared.packets.Packets.{Packets}
 use Rattle.srv6_cli.specs.declared.packets.Unread.{Unread}
 use Rattle.srv6_cli.specs.declared.refusal.Refusal.{Refusal}

@@ -36,7 +36,7 @@ use Rattle.srv6_cli.specs.declared.commands.walk.Start.TheVariants as starts
 use Rattle.srv6_cli.specs.declared.halt.Failure.TheVariants as failures
 use Rattle.srv6_cli.specs.declared.halt.Halt.{Halt}
 use Rattle.srv6_cli.specs.declared.halt.Halt.TheVariants as halts
-use Rattle.srv6_cli.specs.declared.limits.TheConstants.{STAGES}
+use Rattle.trace_replay.specs.declared.limits.TheConstants.{STAGES}
 use Rattle.srv6_cli.specs.declared.packets.Packets.{Packets}
 use Rattle.srv6_cli.specs.declared.packets.Unread.TheVariants as unreads
 use Rattle.srv6_cli.specs.declared.refusal.Refusal.{Refusal}

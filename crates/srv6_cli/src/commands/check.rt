@@ -16,7 +16,7 @@ use crate::halt::Halt;
 use crate::judge::{cert_of_file, intent_of_file, network_of_file};
 use crate::refusal::refusal_of_not_flat;
 use crate::status::Status;
-use crate::told::{Text, Told};
+use crate::told::{Judgement, Text, Told};
 use crate::walk::write_all;
 use intent_reader::Intent;
 use leg_table::StrictLegs;
@@ -129,13 +129,6 @@ fn legs_of_flat<'a>(alloc: Global, net: &'a Net, intent: &'a Intent) -> Result<S
         return Err(Halt::Refused(refusal_of_not_flat(net, &why)));
     }
     Ok(StrictLegs::build(alloc, net, intent)?)
-}
-
-/// What `check` has to write of a certificate: its line on `out`, and its status.
-#[derive(Drop)]
-struct Judgement {
-    line: Text,
-    status: Status,
 }
 
 impl Judgement {

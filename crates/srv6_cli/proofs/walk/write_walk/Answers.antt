@@ -4,7 +4,7 @@ use Rattle.walk_rules.specs.declared.place.Place.{Place}
 use Rattle.walk_rules.specs.Relation.{IsPlace}
 use Rattle.walk_rules.specs.Treatment.{Gave, step_of}
 use Rattle.walk_rules.specs.Walk.{walk_of, choice_at}
-use Rattle.srv6_cli.specs.declared.limits.TheConstants.{STAGES}
+use Rattle.trace_replay.specs.declared.limits.TheConstants.{STAGES}
 use Rattle.srv6_cli.proofs.Walking.{Progress, progress_stops, progress_wants, walk_is_over, staged_on, staged_end, staged_cut}
 use Rattle.srv6_cli.proofs.walk.write_walk.Goals as goal
 
