@@ -3,7 +3,7 @@ use Rattle.std.proofs.Common.{◌≡◌, ℕ, suc, ◌+◌, List, [], ◌∷◌,
 use Rattle.srx_edge.specs.Sinks.{SinkSeen, sent}
 use Rattle.srx_edge.specs.Steps.{Ending, Whole, Fault, Memory, Wrote}
 use Rattle.srx_edge.proofs.PublicLaws.{sent_both, cut_after, cut_whole, cut_none}
-use Rattle.srv6_rules.specs.Packet.{Content, bytes_of}
+use Rattle.srv6_rules.specs.Packet.{Content}
 use Rattle.net_model.specs.Network.{Network}
 use Rattle.walk_rules.specs.declared.place.Place.{Place}
 use Rattle.walk_rules.specs.Treatment.{Gave, step_of}

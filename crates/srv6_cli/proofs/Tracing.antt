@@ -1,12 +1,12 @@
 -- What the file of a trace gives, as it was judged.
-use Rattle.std.proofs.Common.{◌≡◌, ℕ, ◌≤◌, false, List, length, nat_lt, Option, None, Some, IfSome, Result, Ok, Err, refl, sym, ap, ap₂, ◌∙◌}
+use Rattle.std.proofs.Common.{◌≡◌, ℕ, ◌≤◌, false, List, length, nat_lt, Option, None, Some, IfSome, Result, Ok, Err, refl, sym, ap, ◌∙◌}
 use Rattle.std.proofs.lemmas.Bool.{le-ltb}
 use Rattle.srx_edge.specs.Edge.{file_named}
 use Rattle.srx_edge.specs.FilesRead.{FilesSeen, asked_for}
 use Rattle.net_model.specs.Network.{Network}
 use Rattle.trace_replay.specs.declared.reading.TraceFault.{TraceFault}
 use Rattle.trace_replay.specs.declared.reading.TraceFault.TheVariants as faults
-use Rattle.trace_replay.specs.Reading.{Reads, bad_line, lines_of}
+use Rattle.trace_replay.specs.Reading.{Reads, bad_line}
 use Rattle.srv6_cli.specs.declared.limits.TheConstants.{FILE_LIMIT}
 use Rattle.srv6_cli.specs.declared.refusal.Refusal.{Refusal}
 use Rattle.srv6_cli.specs.declared.refusal.Refusal.TheVariants as refusals

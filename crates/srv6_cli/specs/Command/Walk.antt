@@ -1,6 +1,6 @@
 -- The command `walk`: the inner packets of the input, encapsulated at the headend of the intent of a file with the list that
 -- the intent is compiled to, in the network that another file describes (RFC 8986 sections 5.1 and 5.2).
-use Rattle.std.specs.Prelude.{◌≡◌, ℕ, ◌+◌, ◌^◌, ◌<◌, ◌≤◌, Bool, true, false, IsTrue, if◌then◌else◌, List, [], ◌∷◌, ◌++◌, codes, length, map, Option, Some, Result, Ok, Err, IsSomeAnd, ⊤}
+use Rattle.std.specs.Prelude.{◌≡◌, ℕ, ◌+◌, ◌^◌, ◌<◌, ◌≤◌, Bool, true, false, IsTrue, if◌then◌else◌, List, [], ◌∷◌, codes, length, map, Option, Some, Result, Ok, Err, IsSomeAnd, ⊤}
 use Rattle.std.specs.List.{flat_map}
 use Rattle.v6_addr.specs.declared.address.Addr.{Addr}
 use Rattle.pcap_io.specs.declared.frame.Body.{Body}
@@ -40,7 +40,6 @@ use Rattle.trace_replay.specs.declared.limits.TheConstants.{STAGES}
 use Rattle.srv6_cli.specs.declared.packets.Packets.{Packets}
 use Rattle.srv6_cli.specs.declared.packets.Unread.TheVariants as unreads
 use Rattle.srv6_cli.specs.declared.refusal.Refusal.{Refusal}
-use Rattle.srv6_cli.specs.declared.refusal.Refusal.TheVariants as refusals
 use Rattle.srv6_cli.specs.declared.status.Status.TheVariants as statuses
 use Rattle.srv6_cli.specs.Command.Compile.{CompiledWants, NetworkWants, flat_refusal, none_line, too_long_line, hop_limit_line, asks_for_intent}
 use Rattle.srv6_cli.specs.Command.Run.{packet_pieces}

@@ -1,4 +1,4 @@
-use Rattle.std.proofs.Common.{◌≡◌, ◌≢◌, List, ℕ, Result, Ok, Err, rules, subst}
+use Rattle.std.proofs.Common.{List, ℕ, Err, rules, subst}
 use Rattle.std.proofs.lemmas.Result.{err_from_is_err_and}
 use Rattle.net_model.specs.Network.{Network}
 use Rattle.toml_words.specs.Reading.{Gives as ReadsAs}

@@ -5,7 +5,7 @@ use Rattle.srx_edge.specs.Edge.{file_named}
 use Rattle.srx_edge.specs.FilesRead.{FilesSeen, asked_for}
 use Rattle.srx_edge.specs.Sources.{SourceSeen}
 use Rattle.srx_edge.specs.Sinks.{SinkSeen, sent}
-use Rattle.srx_edge.specs.Steps.{Whole, How, Wrote}
+use Rattle.srx_edge.specs.Steps.{How, Wrote}
 use Rattle.net_model.specs.Network.{Network}
 use Rattle.trace_replay.specs.Replays.{Wrong, first_wrong, counts_of}
 use Rattle.trace_replay.specs.declared.verdict.Replayed.{Replayed}
@@ -27,7 +27,7 @@ use Rattle.srv6_cli.specs.Judgements.{network_in, trace_in, refused, after}
 use Rattle.srv6_cli.specs.Lines.{bytes_of_text}
 use Rattle.srv6_cli.specs.Outside.{IsFrontOf, Asks, Reads, asked_for_all, files_left_by}
 use Rattle.srv6_cli.specs.Pieces.{Output, Stop, Never, AtFiles, At, Elsewhere, ToOut, stop_at}
-use Rattle.srv6_cli.specs.Serves.{ending_of_status, Takes}
+use Rattle.srv6_cli.specs.Serves.{Takes}
 use Rattle.srv6_cli.specs.Shape.{Held, goes_on_with, names_of, WantedOf, IsOneOf}
 use Rattle.srv6_cli.proofs.CheckEnds.{judgement-status}
 use Rattle.srv6_cli.proofs.Asking.{each, each-map, some-map, front_whole, front_longer, front_after, asks_all, asks_fault, asks_front}
