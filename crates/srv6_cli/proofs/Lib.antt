@@ -8,6 +8,7 @@ pub mod Writing
 pub mod PieceSteps
 pub mod FrameSteps
 pub mod Walking
+pub mod Counting
 pub mod Writable
 pub mod Commanding
 pub mod Compiling

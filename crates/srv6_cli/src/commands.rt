@@ -10,7 +10,7 @@ mod check;
 mod compile;
 mod run;
 mod show;
-mod walk;
+pub(crate) mod walk;
 
 use crate::choices::choices_of;
 use crate::halt::Halt;

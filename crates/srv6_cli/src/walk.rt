@@ -118,7 +118,7 @@ fn write_outcome<O: Sink>(
 }
 
 /// The decisions that an outcome takes.
-fn decisions_of(outcome: &Outcome) -> usize
+pub fn decisions_of(outcome: &Outcome) -> usize
     ensures taken { result ≡ decisions outcome.now }
     ensures few { result ≤ 1 }
 {
@@ -129,7 +129,7 @@ fn decisions_of(outcome: &Outcome) -> usize
 }
 
 /// One stage, of which what it sends can be written; the slot has the error about what it drops.
-fn staged(
+pub fn staged(
     alloc: Global,
     net: &Net,
     place: &Place,
