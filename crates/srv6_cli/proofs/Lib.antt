@@ -12,6 +12,7 @@ pub mod Counting
 pub mod Writable
 pub mod Commanding
 pub mod Compiling
+pub mod Generating
 pub mod Certificates
 pub mod Checking
 pub mod CheckEnds

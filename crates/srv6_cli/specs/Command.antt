@@ -4,9 +4,11 @@ pub mod Compile
 pub mod Check
 pub mod Walk
 pub mod Show
+pub mod Gen
 use Rattle.std.specs.Prelude.{◌≡◌, ℕ, ◌<◌, true, false, if◌then◌else◌, List, [], ◌∷◌, length, map, Option, Some, None, String, string_bytes, ⊤}
 use Rattle.std.specs.declared.alloc.Global.{Global}
 use Rattle.srv6_cli.specs.declared.status.Status.TheVariants as statuses
+use Rattle.srv6_cli.specs.declared.commands.gen_.Made.{Made}
 use Rattle.srv6_cli.specs.declared.commands.Words.{Words}
 use Rattle.srv6_cli.specs.declared.commands.Words.TheVariants as words
 use Rattle.srv6_cli.specs.Choices.{choices_in}
@@ -20,6 +22,7 @@ use Rattle.srv6_cli.specs.Command.Compile.{is_compile, compile_shape}
 use Rattle.srv6_cli.specs.Command.Check.{is_check, check_shape}
 use Rattle.srv6_cli.specs.Command.Walk.{is_walk, walk_shape}
 use Rattle.srv6_cli.specs.Command.Show.{is_show, show_shape}
+use Rattle.srv6_cli.specs.Command.Gen.{gen_shape, is_gen, made_in, size_in}
 
 abbrev pub command_of_one : List ℕ → Command
 command_of_one verb = if is_show verb then commands.Show else commands.Unknown
@@ -32,11 +35,17 @@ abbrev pub walk_with : List ℕ → List ℕ → Option (List ℕ) → Command
 walk_with file intent None = commands.Unknown
 walk_with file intent (Some choices) = commands.Walk file intent choices
 
+abbrev pub gen_with : Option ℕ → Option Made → Command
+gen_with None made = commands.Unknown
+gen_with (Some n) None = commands.Unknown
+gen_with (Some n) (Some made) = commands.Gen n made
+
 abbrev pub command_of_three : List ℕ → List ℕ → List ℕ → Command
 command_of_three verb first second =
     if is_run verb first second then commands.Run first second no_choices
     else if is_compile verb first second then commands.Compile first second
     else if is_walk verb first second then commands.Walk first second no_choices
+    else if is_gen verb then gen_with (size_in first) (made_in second)
     else commands.Unknown
 
 abbrev pub command_of_four : List ℕ → List ℕ → List ℕ → List ℕ → Command
@@ -76,6 +85,7 @@ shape_of (commands.Compile file intent) = compile_shape file intent
 shape_of (commands.Check file intent cert) = check_shape file intent cert
 shape_of (commands.Walk file intent choices) = walk_shape file intent choices
 shape_of commands.Show = show_shape
+shape_of (commands.Gen n made) = gen_shape n made
 shape_of commands.Unknown = usage_shape
 
 -- the command as the code names it
@@ -85,6 +95,7 @@ command_seen (words.Compile file intent) = commands.Compile file.now intent.now
 command_seen (words.Check file intent cert) = commands.Check file.now intent.now cert.now
 command_seen (words.Walk file intent choices) = commands.Walk file.now intent.now choices.items
 command_seen words.Show = commands.Show
+command_seen (words.Gen size made) = commands.Gen size made
 command_seen words.Unknown = commands.Unknown
 
 -- a run and a walk have at least one choice
@@ -94,4 +105,5 @@ HasChoices (words.Compile file intent) = ⊤
 HasChoices (words.Check file intent cert) = ⊤
 HasChoices (words.Walk file intent choices) = 0 < length choices.items
 HasChoices words.Show = ⊤
+HasChoices (words.Gen size made) = ⊤
 HasChoices words.Unknown = ⊤

@@ -33,4 +33,6 @@ pub use summing::{MOST_PACKETS, summary};
 pub use top::serve;
 
 #[cfg(test)]
+mod gen_tests;
+#[cfg(test)]
 mod tests;
