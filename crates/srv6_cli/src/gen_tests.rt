@@ -143,7 +143,11 @@ fn packets_of_another_family_have_no_walk(rt: HostRuntime) -> Result<(), Fail> {
     let alloc = rt.alloc();
     let text = serve_gen(alloc, "2", "net")?;
     let mut bytes = String::new(alloc);
-    for line in str::from_utf8(text.out.as_slice()).ok().expect(&rt, "text").lines() {
+    for line in str::from_utf8(text.out.as_slice())
+        .ok()
+        .expect(&rt, "text")
+        .lines()
+    {
         let line = match line {
             "behaviour = \"End.DT6\"" => "behaviour = \"End.DT4\"",
             "prefix = \"::/0\"" => "prefix = \"0.0.0.0/0\"",

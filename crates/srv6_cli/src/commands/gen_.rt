@@ -103,12 +103,7 @@ fn lines_of_list(
 
 /// The lines of the walks' numbers.
 #[tactic(auto, unfolding(crate::specs::Command::Gen::walks_lines))]
-fn lines_of_walks(
-    alloc: Global,
-    packets: u32,
-    frames: u32,
-    left: u32,
-) -> Result<String, AllocError>
+fn lines_of_walks(alloc: Global, packets: u32, frames: u32, left: u32) -> Result<String, AllocError>
     ensures { IfOk result (λ lines. string_bytes lines ≡ walks_lines packets frames left) }
 {
     format!(in alloc; "packets {packets}\nframes {frames}\nleft {left}\n")
@@ -206,12 +201,7 @@ fn made_for(alloc: Global, size: Size, made: Made) -> Result<Generated, Halt>
 /// generated packets come to that are walked through it from the intent's headend with the list
 /// that the intent is compiled to. No file is read, and no input. What is written is made before
 /// any of it goes out.
-pub fn generate<O: Sink>(
-    alloc: Global,
-    size: Size,
-    made: Made,
-    out: &mut O,
-) -> Result<Told, Halt>
+pub fn generate<O: Sink>(alloc: Global, size: Size, made: Made, out: &mut O) -> Result<Told, Halt>
     ensures { CommandsAlone (Gen size made) result (O.seen out.old) (O.seen out.new) }
 {
     match made_for(alloc, size, made)? {
