@@ -23,10 +23,12 @@ use Rattle.intent_reader.specs.Judging.{intent_of_text}
 use Rattle.srv6_cli.specs.declared.limits.TheConstants.{FILE_LIMIT, INPUT_LIMIT}
 use Rattle.srv6_cli.specs.declared.packets.Packets.{Packets}
 use Rattle.srv6_cli.specs.declared.packets.Packets.TheVariants.{Bare, Capture}
+use Rattle.srv6_cli.specs.declared.halt.Failure.TheVariants as failures
+use Rattle.srv6_cli.specs.declared.halt.Halt.{Halt}
 use Rattle.srv6_cli.specs.declared.halt.Halt.TheVariants as halts
 use Rattle.srv6_cli.specs.declared.refusal.Refusal.{Refusal}
 use Rattle.srv6_cli.specs.declared.refusal.Refusal.TheVariants as refusals
-use Rattle.srv6_cli.specs.Answers.{JudgesFile, JudgesInput}
+use Rattle.srv6_cli.specs.Answers.{JudgesFile, JudgesText, JudgesInput}
 use Rattle.srv6_cli.specs.Halts.{halt_of_net, halt_of_intent, halt_of_draw, halt_of_refusal}
 use Rattle.srv6_cli.specs.Judgements.{network_by, network_in, intent_by, intent_in}
 use Rattle.srv6_cli.specs.Outside.{AsksForFront}
@@ -52,47 +54,29 @@ net-small text read fits is =
     let small : nat_lt FILE_LIMIT (length text) ≡ false = le-ltb FILE_LIMIT (length text) fits in
     rw small (ap network_by is)
 
-pub network_judged : (net : Network) (text name : List ℕ) (old new : FilesSeen) → length text ≤ FILE_LIMIT
-    → IfSome old.told (λ files. file_named files name ≡ Some text) → new ≡ asked_for name old → ReadsAs (λ n. n) (Ok net) (net_in text)
-    → JudgesFile network_in name (Ok net) old new
-network_judged net text name old new fits reads seen h =
-    (judged-text network_in (Ok net) text name old.told reads (net-small text (Ok net) fits h), seen)
+pub network_judged : (net : Network) (text : List ℕ) → length text ≤ FILE_LIMIT → ReadsAs (λ n. n) (Ok net) (net_in text)
+    → JudgesText network_in text (Ok net)
+network_judged net text fits h = net-small text (Ok net) fits h
 
-net-fault : (fault : NetFault) (text name : List ℕ) (old new : FilesSeen) → length text ≤ FILE_LIMIT
-    → IfSome old.told (λ files. file_named files name ≡ Some text) → new ≡ asked_for name old → net_in text ≡ Err fault
-    → JudgesFile network_in name (Err (halts.Refused (refusals.Net fault))) old new
-net-fault fault text name old new fits reads seen is =
-    (judged-text network_in (Err (refusals.Net fault)) text name old.told reads (net-small text (Err fault) fits is), seen)
+pub network_refused : (fault : NetFault) (text : List ℕ) → length text ≤ FILE_LIMIT → ReadsAs (λ (n : Network). n) (Err fault) (net_in text)
+    → JudgesText network_in text (Err (halt_of_net fault))
+network_refused nets.NotToml text fits h = net-small text (Err nets.NotToml) fits (h (λ e. cc))
+network_refused (nets.MissingKey table item key) text fits h = net-small text (Err (nets.MissingKey table item key)) fits (h (λ e. cc))
+network_refused (nets.WrongKind table item) text fits h = net-small text (Err (nets.WrongKind table item)) fits (h (λ e. cc))
+network_refused (nets.UnknownKey table item) text fits h = net-small text (Err (nets.UnknownKey table item)) fits (h (λ e. cc))
+network_refused (nets.BadName table item) text fits h = net-small text (Err (nets.BadName table item)) fits (h (λ e. cc))
+network_refused (nets.UnknownName table item) text fits h = net-small text (Err (nets.UnknownName table item)) fits (h (λ e. cc))
+network_refused (nets.DoubleName table item) text fits h = net-small text (Err (nets.DoubleName table item)) fits (h (λ e. cc))
+network_refused (nets.BadAddress table item) text fits h = net-small text (Err (nets.BadAddress table item)) fits (h (λ e. cc))
+network_refused (nets.BadFlavour table item) text fits h = net-small text (Err (nets.BadFlavour table item)) fits (h (λ e. cc))
+network_refused (nets.BadStructure table item) text fits h = net-small text (Err (nets.BadStructure table item)) fits (h (λ e. cc))
+network_refused (nets.DoublePrefix table item) text fits h = net-small text (Err (nets.DoublePrefix table item)) fits (h (λ e. cc))
+network_refused (nets.Limit table item what value) text fits h = net-small text (Err (nets.Limit table item what value)) fits (h (λ e. cc))
+network_refused nets.NoMemory text fits h = tt
 
-pub network_refused : (fault : NetFault) (text name : List ℕ) (old new : FilesSeen) → length text ≤ FILE_LIMIT
-    → IfSome old.told (λ files. file_named files name ≡ Some text) → new ≡ asked_for name old
-    → ReadsAs (λ (n : Network). n) (Err fault) (net_in text)
-    → JudgesFile network_in name (Err (halt_of_net fault)) old new
-network_refused nets.NotToml text name old new fits reads seen h =
-    net-fault nets.NotToml text name old new fits reads seen (h (λ e. cc))
-network_refused (nets.MissingKey table item key) text name old new fits reads seen h =
-    net-fault (nets.MissingKey table item key) text name old new fits reads seen (h (λ e. cc))
-network_refused (nets.WrongKind table item) text name old new fits reads seen h =
-    net-fault (nets.WrongKind table item) text name old new fits reads seen (h (λ e. cc))
-network_refused (nets.UnknownKey table item) text name old new fits reads seen h =
-    net-fault (nets.UnknownKey table item) text name old new fits reads seen (h (λ e. cc))
-network_refused (nets.BadName table item) text name old new fits reads seen h =
-    net-fault (nets.BadName table item) text name old new fits reads seen (h (λ e. cc))
-network_refused (nets.UnknownName table item) text name old new fits reads seen h =
-    net-fault (nets.UnknownName table item) text name old new fits reads seen (h (λ e. cc))
-network_refused (nets.DoubleName table item) text name old new fits reads seen h =
-    net-fault (nets.DoubleName table item) text name old new fits reads seen (h (λ e. cc))
-network_refused (nets.BadAddress table item) text name old new fits reads seen h =
-    net-fault (nets.BadAddress table item) text name old new fits reads seen (h (λ e. cc))
-network_refused (nets.BadFlavour table item) text name old new fits reads seen h =
-    net-fault (nets.BadFlavour table item) text name old new fits reads seen (h (λ e. cc))
-network_refused (nets.BadStructure table item) text name old new fits reads seen h =
-    net-fault (nets.BadStructure table item) text name old new fits reads seen (h (λ e. cc))
-network_refused (nets.DoublePrefix table item) text name old new fits reads seen h =
-    net-fault (nets.DoublePrefix table item) text name old new fits reads seen (h (λ e. cc))
-network_refused (nets.Limit table item what value) text name old new fits reads seen h =
-    net-fault (nets.Limit table item what value) text name old new fits reads seen (h (λ e. cc))
-network_refused nets.NoMemory text name old new fits reads seen h = asks-one name old new seen
+pub network_too_big : (text : List ℕ) → FILE_LIMIT < length text
+    → JudgesText network_in text (Err (halts.Refused (refusals.TooBig FILE_LIMIT)))
+network_too_big text more = let many : nat_lt FILE_LIMIT (length text) ≡ true = search rules in rw many refl
 
 -- the same of an intent
 
@@ -103,38 +87,38 @@ intent-small net text read fits is =
     let small : nat_lt FILE_LIMIT (length text) ≡ false = le-ltb FILE_LIMIT (length text) fits in
     rw small (ap intent_by is)
 
-pub intent_judged : (net : Network) (intent : Intent) (text name : List ℕ) (old new : FilesSeen) → length text ≤ FILE_LIMIT
-    → IfSome old.told (λ files. file_named files name ≡ Some text) → new ≡ asked_for name old
-    → ReadsIntentAs (λ i. i) (Ok intent) (intent_of_text net text)
-    → JudgesFile (intent_in net) name (Ok intent) old new
-intent_judged net intent text name old new fits reads seen h =
-    (judged-text (intent_in net) (Ok intent) text name old.told reads (intent-small net text (Ok intent) fits h), seen)
+pub intent_judged : (net : Network) (intent : Intent) (text : List ℕ) → length text ≤ FILE_LIMIT
+    → ReadsIntentAs (λ i. i) (Ok intent) (intent_of_text net text) → JudgesText (intent_in net) text (Ok intent)
+intent_judged net intent text fits h = intent-small net text (Ok intent) fits h
 
-intent-fault : (net : Network) (fault : IntentFault) (text name : List ℕ) (old new : FilesSeen) → length text ≤ FILE_LIMIT
-    → IfSome old.told (λ files. file_named files name ≡ Some text) → new ≡ asked_for name old → intent_of_text net text ≡ Err fault
-    → JudgesFile (intent_in net) name (Err (halts.Refused (refusals.Intent fault))) old new
-intent-fault net fault text name old new fits reads seen is =
-    (judged-text (intent_in net) (Err (refusals.Intent fault)) text name old.told reads (intent-small net text (Err fault) fits is), seen)
-
-pub intent_refused : (net : Network) (fault : IntentFault) (text name : List ℕ) (old new : FilesSeen) → length text ≤ FILE_LIMIT
-    → IfSome old.told (λ files. file_named files name ≡ Some text) → new ≡ asked_for name old
+pub intent_refused : (net : Network) (fault : IntentFault) (text : List ℕ) → length text ≤ FILE_LIMIT
     → ReadsIntentAs (λ (i : Intent). i) (Err fault) (intent_of_text net text)
-    → JudgesFile (intent_in net) name (Err (halt_of_intent fault)) old new
-intent_refused net (intents.Text fault) text name old new fits reads seen h =
-    intent-fault net (intents.Text fault) text name old new fits reads seen (h (λ e. cc))
-intent_refused net (intents.UnknownName step) text name old new fits reads seen h =
-    intent-fault net (intents.UnknownName step) text name old new fits reads seen (h (λ e. cc))
-intent_refused net (intents.Broken step) text name old new fits reads seen h =
-    intent-fault net (intents.Broken step) text name old new fits reads seen (h (λ e. cc))
-intent_refused net (intents.NoFunction step) text name old new fits reads seen h =
-    intent-fault net (intents.NoFunction step) text name old new fits reads seen (h (λ e. cc))
-intent_refused net intents.NotFunctionLast text name old new fits reads seen h =
-    intent-fault net intents.NotFunctionLast text name old new fits reads seen (h (λ e. cc))
-intent_refused net (intents.DoubleLink step) text name old new fits reads seen h =
-    intent-fault net (intents.DoubleLink step) text name old new fits reads seen (h (λ e. cc))
-intent_refused net intents.NoMemory text name old new fits reads seen h = asks-one name old new seen
+    → JudgesText (intent_in net) text (Err (halt_of_intent fault))
+intent_refused net (intents.Text fault) text fits h = intent-small net text (Err (intents.Text fault)) fits (h (λ e. cc))
+intent_refused net (intents.UnknownName step) text fits h = intent-small net text (Err (intents.UnknownName step)) fits (h (λ e. cc))
+intent_refused net (intents.Broken step) text fits h = intent-small net text (Err (intents.Broken step)) fits (h (λ e. cc))
+intent_refused net (intents.NoFunction step) text fits h = intent-small net text (Err (intents.NoFunction step)) fits (h (λ e. cc))
+intent_refused net intents.NotFunctionLast text fits h = intent-small net text (Err intents.NotFunctionLast) fits (h (λ e. cc))
+intent_refused net (intents.DoubleLink step) text fits h = intent-small net text (Err (intents.DoubleLink step)) fits (h (λ e. cc))
+intent_refused net intents.NoMemory text fits h = tt
 
-pub ruleset files = (network_judged, network_refused, intent_judged, intent_refused)
+pub intent_too_big : (net : Network) (text : List ℕ) → FILE_LIMIT < length text
+    → JudgesText (intent_in net) text (Err (halts.Refused (refusals.TooBig FILE_LIMIT)))
+intent_too_big net text more = let many : nat_lt FILE_LIMIT (length text) ≡ true = search rules in rw many refl
+
+pub ruleset texts = (network_judged, network_refused, network_too_big, intent_judged, intent_refused, intent_too_big)
+
+-- a text that was read from a file, as it was judged
+pub judged_file : {A : Type 0} (judge : List ℕ → Result A Refusal) (judged : Result A Halt) (text name : List ℕ) (old new : FilesSeen)
+    → IfSome old.told (λ files. file_named files name ≡ Some text) → new ≡ asked_for name old → JudgesText judge text judged
+    → JudgesFile judge name judged old new
+judged_file judge (Ok a) text name old new reads seen is = (judged-text judge (Ok a) text name old.told reads is, seen)
+judged_file judge (Err (halts.Refused refusal)) text name old new reads seen is =
+    (judged-text judge (Err refusal) text name old.told reads is, seen)
+judged_file judge (Err (halts.Failed failures.Fault)) text name old new reads seen none = absurd none
+judged_file judge (Err (halts.Failed failures.NoMemory)) text name old new reads seen is = asks-one name old new seen
+
+pub ruleset files = (judged_file)
 
 -- what the input is
 

@@ -9,9 +9,11 @@ pub mod PieceSteps
 pub mod FrameSteps
 pub mod Walking
 pub mod TraceSteps
+pub mod Counting
 pub mod Writable
 pub mod Commanding
 pub mod Compiling
+pub mod Generating
 pub mod Certificates
 pub mod Tracing
 pub mod Checking

@@ -38,7 +38,7 @@ arrives None place next link h = cc
 arrives (Some node) place next link h = refl
 
 -- a packet that goes on hasn't ended
-goes_on : (net : Network) (place next : Place) (outcome : Outcome) → next_place net place outcome ≡ Some next
+pub goes_on : (net : Network) (place next : Place) (outcome : Outcome) → next_place net place outcome ≡ Some next
     → end_by net place outcome ≡ ends.Stages
 goes_on net place next (outcomes.Again sid how) h = refl
 goes_on net place next (outcomes.Hand sid how family) h = refl
@@ -47,7 +47,7 @@ goes_on net place next outcomes.Local h = cc
 goes_on net place next (outcomes.Drop reason told) h = cc
 
 -- the end of a walk that goes on after its first stage is that of the rest
-end_of-cons : (net : Network) (s : Step) (rest : List Step) → end_by net s.place s.gave.outcome ≡ ends.Stages
+pub end_of-cons : (net : Network) (s : Step) (rest : List Step) → end_by net s.place s.gave.outcome ≡ ends.Stages
     → end_of net (s ∷ rest) ≡ end_of net rest
 end_of-cons net s [] h = h
 end_of-cons net s (t ∷ rest) h = refl

@@ -47,6 +47,13 @@ JudgesFile judge name (Err (halts.Refused refusal)) old new = FileGives judge na
 JudgesFile judge name (Err (halts.Failed failures.Fault)) old new = new ≡ failed (asked_for name old)
 JudgesFile judge name (Err (halts.Failed failures.NoMemory)) old new = AsksForFront (name ∷ []) old new
 
+-- what a judgement of a text gives; with want of memory it says nothing
+abbrev pub JudgesText : {A : Type 0} → (List ℕ → Result A Refusal) → List ℕ → Result A Halt → Type 0
+JudgesText judge text (Ok a) = judge text ≡ Ok a
+JudgesText judge text (Err (halts.Refused refusal)) = judge text ≡ Err refusal
+JudgesText judge text (Err (halts.Failed failures.Fault)) = ⊥
+JudgesText judge text (Err (halts.Failed failures.NoMemory)) = ⊤
+
 -- what a read of the input to its end and a judgement of it give
 abbrev pub JudgesInput : {A : Type 0} → (List ℕ → Result A Refusal) → Result A Halt → SourceSeen → SourceSeen → Type 0
 JudgesInput judge (Ok a) old new = IfSome old.left (λ input. judge input ≡ Ok a) × (new ≡ drained old)
@@ -99,6 +106,11 @@ CommandsUnread command answer files_old files_new out_old out_new =
 abbrev pub CommandsOfInput : Command → Result Told Halt → SourceSeen → SourceSeen → SinkSeen → SinkSeen → Type 0
 CommandsOfInput command answer input_old input_new out_old out_new =
     (files : FilesSeen) → CommandsOut command answer files files input_old input_new out_old out_new
+
+-- the same of one that reads neither files nor input
+abbrev pub CommandsAlone : Command → Result Told Halt → SinkSeen → SinkSeen → Type 0
+CommandsAlone command answer out_old out_new =
+    (files : FilesSeen) (input : SourceSeen) → CommandsOut command answer files files input input out_old out_new
 
 -- what a line on `err` leaves: it went out whole, with its own status, or in part
 pub record Tells (last : List ℕ) (own status : Status) (old new : SinkSeen) : Type 0 where

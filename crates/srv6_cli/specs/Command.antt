@@ -6,9 +6,11 @@ pub mod Walk
 pub mod Trace
 pub mod Replay
 pub mod Show
+pub mod Gen
 use Rattle.std.specs.Prelude.{◌≡◌, ℕ, ◌<◌, true, false, if◌then◌else◌, List, [], ◌∷◌, length, map, Option, Some, None, String, string_bytes, ⊤}
 use Rattle.std.specs.declared.alloc.Global.{Global}
 use Rattle.srv6_cli.specs.declared.status.Status.TheVariants as statuses
+use Rattle.srv6_cli.specs.declared.commands.gen_.Made.{Made}
 use Rattle.srv6_cli.specs.declared.commands.Words.{Words}
 use Rattle.srv6_cli.specs.declared.commands.Words.TheVariants as words
 use Rattle.srv6_cli.specs.Choices.{choices_in}
@@ -24,6 +26,7 @@ use Rattle.srv6_cli.specs.Command.Walk.{is_walk, walk_shape}
 use Rattle.srv6_cli.specs.Command.Trace.{is_trace, trace_shape}
 use Rattle.srv6_cli.specs.Command.Replay.{is_replay, replay_shape}
 use Rattle.srv6_cli.specs.Command.Show.{is_show, show_shape}
+use Rattle.srv6_cli.specs.Command.Gen.{gen_shape, is_gen, made_in, size_in}
 
 abbrev pub command_of_one : List ℕ → Command
 command_of_one verb = if is_show verb then commands.Show else commands.Unknown
@@ -40,6 +43,11 @@ abbrev pub trace_with : List ℕ → List ℕ → Option (List ℕ) → Command
 trace_with file node None = commands.Unknown
 trace_with file node (Some choices) = commands.Trace file node choices
 
+abbrev pub gen_with : Option ℕ → Option Made → Command
+gen_with None made = commands.Unknown
+gen_with (Some n) None = commands.Unknown
+gen_with (Some n) (Some made) = commands.Gen n made
+
 abbrev pub command_of_three : List ℕ → List ℕ → List ℕ → Command
 command_of_three verb first second =
     if is_run verb first second then commands.Run first second no_choices
@@ -47,6 +55,7 @@ command_of_three verb first second =
     else if is_walk verb first second then commands.Walk first second no_choices
     else if is_trace verb first second then commands.Trace first second no_choices
     else if is_replay verb first second then commands.Replay first second
+    else if is_gen verb then gen_with (size_in first) (made_in second)
     else commands.Unknown
 
 abbrev pub command_of_four : List ℕ → List ℕ → List ℕ → List ℕ → Command
@@ -89,6 +98,7 @@ shape_of (commands.Walk file intent choices) = walk_shape file intent choices
 shape_of (commands.Trace file node choices) = trace_shape file node choices
 shape_of (commands.Replay file trace) = replay_shape file trace
 shape_of commands.Show = show_shape
+shape_of (commands.Gen n made) = gen_shape n made
 shape_of commands.Unknown = usage_shape
 
 -- the command as the code names it
@@ -100,6 +110,7 @@ command_seen (words.Walk file intent choices) = commands.Walk file.now intent.no
 command_seen (words.Trace file node choices) = commands.Trace file.now node.now choices.items
 command_seen (words.Replay file trace) = commands.Replay file.now trace.now
 command_seen words.Show = commands.Show
+command_seen (words.Gen size made) = commands.Gen size made
 command_seen words.Unknown = commands.Unknown
 
 -- a run, a walk and a trace have at least one choice
@@ -111,4 +122,5 @@ HasChoices (words.Walk file intent choices) = 0 < length choices.items
 HasChoices (words.Trace file node choices) = 0 < length choices.items
 HasChoices (words.Replay file trace) = ⊤
 HasChoices words.Show = ⊤
+HasChoices (words.Gen size made) = ⊤
 HasChoices words.Unknown = ⊤

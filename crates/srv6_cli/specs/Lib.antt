@@ -13,3 +13,4 @@ pub mod Serves
 pub mod Laws
 pub mod Halts
 pub mod Answers
+pub mod Summary

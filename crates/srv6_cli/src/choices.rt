@@ -26,7 +26,7 @@ fn is_numeral(bytes: &[u8]) -> bool
 }
 
 /// The number that a word is.
-fn number_of(word: &str) -> Option<u32>
+pub fn number_of(word: &str) -> Option<u32>
     ensures { result ≡ number_in word.now }
 {
     if !is_numeral(word.as_bytes()) {

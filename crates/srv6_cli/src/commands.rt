@@ -3,22 +3,26 @@
 ghost use Rattle.std.specs.Prelude.{◌≡◌, IfOk};
 ghost use Rattle.srv6_cli.specs.Answers.{Commands, UsageTold};
 ghost use Rattle.srv6_cli.specs.Choices.{choices_in};
-ghost use Rattle.srv6_cli.specs.Command.{HasChoices, command_of, command_of_four, command_of_three, command_seen, run_with, trace_with, walk_with, words_of};
+ghost use Rattle.srv6_cli.specs.Command.{HasChoices, command_of, command_of_four, command_of_three, command_seen, gen_with, run_with, trace_with, walk_with, words_of};
+ghost use Rattle.srv6_cli.specs.Command.Gen.{made_in, size_in};
 ghost use Rattle.srv6_cli.specs.Outside.{outside};
 
 mod check;
 mod compile;
+mod gen_;
 mod replay;
 mod run;
 mod show;
 mod trace;
-mod walk;
+pub(crate) mod walk;
 
 use crate::choices::choices_of;
 use crate::halt::Halt;
 use crate::lines::USAGE;
 use crate::status::Status;
 use crate::told::{Text, Told};
+use gen_::{Made, made_of_word, size_of_word};
+use net_maker::Size;
 use srx_edge::{Files, Sink, Source};
 use std::alloc::{AllocError, Global};
 
@@ -79,6 +83,13 @@ pub enum Words<'a> {
     },
     /// The headers of the packets of the input as lines.
     Show,
+    /// A text of a generated network, or what walks through it come to.
+    Gen {
+        /// The network's size.
+        size: Size,
+        /// What is generated.
+        made: Made,
+    },
     /// Nothing that there is.
     Unknown,
 }
@@ -146,6 +157,20 @@ fn trace_with<'a>(
     }
 }
 
+/// What the words of what is generated spell.
+fn gen_with<'a>(size: &str, made: &str) -> Words<'a>
+    ensures spelled { command_seen result ≡ gen_with (size_in size.now) (made_in made.now) }
+    ensures some { HasChoices result }
+{
+    let Some(size) = size_of_word(size) else {
+        return Words::Unknown;
+    };
+    let Some(made) = made_of_word(made) else {
+        return Words::Unknown;
+    };
+    Words::Gen { size, made }
+}
+
 /// What a verb with two words behind it spells.
 fn words_of_three<'a>(
     alloc: Global,
@@ -189,6 +214,9 @@ fn words_of_three<'a>(
             file: first,
             trace: second,
         });
+    }
+    if verb == "gen" {
+        return Ok(gen_with(first, second));
     }
     Ok(Words::Unknown)
 }
@@ -308,6 +336,7 @@ pub fn command<F: Files, S: Source, O: Sink, E: Sink>(
         } => trace::trace(alloc, file, node, choices.as_slice(), files, input, out),
         Words::Replay { file, trace } => replay::replay(alloc, file, trace, files, out),
         Words::Show => show::show(alloc, input, out),
+        Words::Gen { size, made } => gen_::generate(alloc, size, made, out),
         Words::Unknown => usage(),
     }
 }

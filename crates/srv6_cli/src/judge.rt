@@ -1,10 +1,10 @@
 //! The judgements of a command: its files and its node's name.
 
-ghost use Rattle.std.specs.Prelude.{◌≡◌, ◌<◌, IfOk, length};
+ghost use Rattle.std.specs.Prelude.{◌≡◌, ◌<◌, ◌≤◌, IfOk, length};
 ghost use Rattle.intent_reader.specs.Rules.{IsIntent};
 ghost use Rattle.list_certificate.specs.Certs.{IsCert};
 ghost use Rattle.list_certificate.specs.Reading.{IsNetworkOf};
-ghost use Rattle.srv6_cli.specs.Answers.{JudgesFile};
+ghost use Rattle.srv6_cli.specs.Answers.{JudgesFile, JudgesText};
 ghost use Rattle.srv6_cli.specs.Judgements.{network_in, node_in, intent_in, cert_in, trace_in};
 ghost use Rattle.trace_replay.specs.Reading.{IsTrace};
 
@@ -20,13 +20,55 @@ use srx_edge::Files;
 use std::alloc::Global;
 use trace_replay::{Trace, read_trace};
 
+/// The network that a text within the limit describes.
+#[tactic(auto, using(crate::proofs::Judging::texts))]
+fn network_of(alloc: Global, text: &[u8]) -> Result<Net, Halt>
+    requires { length text.now ≤ FILE_LIMIT }
+    ensures { JudgesText network_in text.now result }
+{
+    Ok(read_net(alloc, text)?)
+}
+
+/// The network that a text describes, as that of a file.
+#[tactic(auto, using(crate::proofs::Judging::texts))]
+pub fn network_of_text(alloc: Global, text: &[u8]) -> Result<Net, Halt>
+    ensures { JudgesText network_in text.now result }
+{
+    if text.len() > FILE_LIMIT {
+        return Err(Halt::Refused(Refusal::TooBig { limit: FILE_LIMIT }));
+    }
+    network_of(alloc, text)
+}
+
 /// The network that the file of this name describes.
 #[tactic(auto, using(crate::proofs::Judging::files))]
 pub fn network_of_file<F: Files>(alloc: Global, files: &mut F, name: &str) -> Result<Net, Halt>
     ensures { JudgesFile network_in name.now result (F.seen files.old) (F.seen files.new) }
 {
     let text = files.read(alloc, name, FILE_LIMIT)?;
-    Ok(read_net(alloc, text.as_slice())?)
+    network_of(alloc, text.as_slice())
+}
+
+/// The intent that a text within the limit gives in a network.
+#[tactic(auto, using(crate::proofs::Judging::texts))]
+fn intent_of(alloc: Global, net: &Net, text: &[u8]) -> Result<Intent, Halt>
+    requires { length text.now ≤ FILE_LIMIT }
+    ensures judged { JudgesText (intent_in net.now) text.now result }
+    ensures keeps { IfOk result (IsIntent net.now) }
+{
+    Ok(read_intent(alloc, text, net)?)
+}
+
+/// The intent that a text gives in a network, as that of a file.
+#[tactic(auto, using(crate::proofs::Judging::texts))]
+pub fn intent_of_text(alloc: Global, net: &Net, text: &[u8]) -> Result<Intent, Halt>
+    ensures judged { JudgesText (intent_in net.now) text.now result }
+    ensures keeps { IfOk result (IsIntent net.now) }
+{
+    if text.len() > FILE_LIMIT {
+        return Err(Halt::Refused(Refusal::TooBig { limit: FILE_LIMIT }));
+    }
+    intent_of(alloc, net, text)
 }
 
 /// The intent that the file of this name gives in a network.
@@ -42,7 +84,7 @@ pub fn intent_of_file<F: Files>(
     ensures keeps { IfOk result (IsIntent net.now) }
 {
     let text = files.read(alloc, name, FILE_LIMIT)?;
-    Ok(read_intent(alloc, text.as_slice(), net)?)
+    intent_of(alloc, net, text.as_slice())
 }
 
 /// The certificate that the file of this name gives for legs in a network.

@@ -18,6 +18,8 @@ mod node_name;
 mod packets;
 mod refusal;
 mod status;
+mod summed;
+mod summing;
 mod told;
 mod top;
 mod walk;
@@ -26,8 +28,12 @@ pub use limits::{FILE_LIMIT, INPUT_LIMIT};
 pub use node_name::NodeName;
 pub use refusal::Refusal;
 pub use status::Status;
+pub use summed::Summary;
+pub use summing::{MOST_PACKETS, summary};
 pub use top::serve;
 pub use trace_replay::STAGES;
 
+#[cfg(test)]
+mod gen_tests;
 #[cfg(test)]
 mod tests;

@@ -66,7 +66,7 @@ pub enum Start {
 
 /// What the headend puts in front of packets: the compiled list, with the intent's fields.
 #[tactic(auto, using(crate::proofs::WalkStarts::segments))]
-fn policy_of(
+pub fn policy_of(
     alloc: Global,
     net: &Net,
     intent: &Intent,
@@ -171,7 +171,7 @@ fn entering4(alloc: Global, policy: &Policy, bytes: Vec<u8>) -> Result<AtHeadend
 }
 
 /// What becomes of a frame's packet at the headend, for inner packets of a family.
-fn at_headend(
+pub fn at_headend(
     alloc: Global,
     policy: &Policy,
     inner: Family,
