@@ -10,7 +10,6 @@ ghost use Rattle.srv6_cli.specs.Command.Walk.{policy_of as policy_for, walk_at_h
 ghost use Rattle.srv6_cli.specs.Summary.{SummaryAnswers, frames_in, has_left, left_in, summary_choices, summary_of, walks_of, walks_of_packet};
 
 use crate::commands::walk::{AtHeadend, at_headend, policy_of};
-use crate::limits::STAGES;
 use crate::summed::Summary;
 use crate::walk::{decisions_of, staged};
 use base::{NoMemory, Seq};
@@ -23,6 +22,7 @@ use path_compiler::{CompileFault, Compiled};
 use pcap_io::Body;
 use srv6_rules::{Family, Policy};
 use std::alloc::Global;
+use trace_replay::STAGES;
 use walk_rules::{Ended, How, Place, ended_by, next_place};
 
 /// The most packets of a summary. (own rule)

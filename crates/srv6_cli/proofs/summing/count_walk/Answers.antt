@@ -3,7 +3,7 @@ use Rattle.walk_rules.specs.declared.place.Place.{Place}
 use Rattle.walk_rules.specs.Relation.{IsPlace}
 use Rattle.walk_rules.specs.Treatment.{Gave, step_of}
 use Rattle.walk_rules.specs.Walk.{walk_of, choice_at}
-use Rattle.srv6_cli.specs.declared.limits.TheConstants.{STAGES}
+use Rattle.trace_replay.specs.declared.limits.TheConstants.{STAGES}
 use Rattle.srv6_cli.proofs.Counting.{Counted, counted_on, counted_end, counted_over, frames_of_one, left_of_one}
 use Rattle.srv6_cli.proofs.Walking.{walk_is_over}
 use Rattle.srv6_cli.proofs.summing.count_walk.Goals as goal
