@@ -1,5 +1,5 @@
 -- What `gen` leaves, and what it has to write of a summary.
-use Rattle.std.proofs.Common.{◌≡◌, inl, inr, ℕ, true, List, [], ◌∷◌, Option, None, Some, Result, Ok, Err, refl, sym, ap, subst, ◌∙◌}
+use Rattle.std.proofs.Common.{◌≡◌, inl, inr, ℕ, List, [], Option, None, Some, Result, Ok, Err, refl, sym, ap, subst, ◌∙◌}
 use Rattle.srx_edge.specs.FilesRead.{FilesSeen}
 use Rattle.srx_edge.specs.Sources.{SourceSeen}
 use Rattle.srx_edge.specs.Sinks.{SinkSeen, sent}
@@ -11,7 +11,6 @@ use Rattle.net_maker.specs.Intents.{intent_text}
 use Rattle.intent_reader.specs.declared.intent.Intent.{Intent}
 use Rattle.list_pack.specs.declared.types.Solution.{Solution}
 use Rattle.path_compiler.specs.declared.compiled.Compiled.{Compiled}
-use Rattle.path_compiler.specs.declared.compiled.CompileFault.{CompileFault}
 use Rattle.path_compiler.specs.declared.compiled.CompileFault.TheVariants as faults
 use Rattle.srv6_cli.specs.declared.commands.gen_.Generated.{Generated}
 use Rattle.srv6_cli.specs.declared.commands.gen_.Generated.TheVariants as generates
@@ -27,14 +26,14 @@ use Rattle.srv6_cli.specs.declared.status.Status.TheVariants as statuses
 use Rattle.srv6_cli.specs.declared.summed.Summary.{Summary}
 use Rattle.srv6_cli.specs.declared.told.Text.{Text}
 use Rattle.srv6_cli.specs.declared.told.Told.{Told}
-use Rattle.srv6_cli.specs.Answers.{CommandsAlone, CommandsOut, JudgesText, ending_of_failure}
+use Rattle.srv6_cli.specs.Answers.{CommandsOut, JudgesText, ending_of_failure}
 use Rattle.srv6_cli.specs.Command.Compile.{CompiledWants, IntentWants, NetworkWants, flat_refusal, hop_limit_line, none_line, too_long_line}
-use Rattle.srv6_cli.specs.Command.Gen.{GenWants, Generates, SumWants, gen_shape, output_of_generated, summary_lines}
+use Rattle.srv6_cli.specs.Command.Gen.{GenWants, Generates, SumWants, gen_shape, summary_lines}
 use Rattle.srv6_cli.specs.Command.Walk.{no_list}
 use Rattle.srv6_cli.specs.Judgements.{network_in, intent_in, refused}
 use Rattle.srv6_cli.specs.Lines.{bytes_of_text}
 use Rattle.srv6_cli.specs.Outside.{AsksAs, Reads, files_left_by, outside}
-use Rattle.srv6_cli.specs.Pieces.{Output, Stop, Never, At, Elsewhere, ToOut, stop_at}
+use Rattle.srv6_cli.specs.Pieces.{Stop, Never, At, Elsewhere, ToOut, stop_at}
 use Rattle.srv6_cli.specs.Serves.{Takes}
 use Rattle.srv6_cli.specs.Shape.{names_of}
 use Rattle.srv6_cli.specs.Summary.{SummaryAnswers}

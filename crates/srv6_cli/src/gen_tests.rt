@@ -168,12 +168,11 @@ fn packets_of_another_family_have_no_walk(rt: HostRuntime) -> Result<(), Fail> {
     Ok(())
 }
 
-/// The greatest size, twice.
 #[test]
 fn a_sum_is_always_the_same(rt: HostRuntime) -> Result<(), Fail> {
-    let one = serve_gen(rt.alloc(), "47", "sum")?;
+    let one = serve_gen(rt.alloc(), "7", "sum")?;
     assert_eq!(rt; one.status, Status::Done);
-    let other = serve_gen(rt.alloc(), "47", "sum")?;
+    let other = serve_gen(rt.alloc(), "7", "sum")?;
     assert_eq!(rt; one.out.as_slice(), other.out.as_slice());
     Ok(())
 }
