@@ -52,7 +52,7 @@ _srv6() {
         return
     fi
     if ((${#words[@]} == 1)); then
-        mapfile -t COMPREPLY < <(compgen -W 'run trace replay compile check walk show' -- "$current")
+        mapfile -t COMPREPLY < <(compgen -W 'run trace replay compile check walk show gen' -- "$current")
         return
     fi
     case ${words[1]}:${#words[@]} in
@@ -61,6 +61,12 @@ _srv6() {
         ;;
     replay:3 | check:4)
         _srv6_files '*' "$current"
+        ;;
+    gen:2)
+        mapfile -t COMPREPLY < <(compgen -W "$(echo {2..47})" -- "$current")
+        ;;
+    gen:3)
+        mapfile -t COMPREPLY < <(compgen -W 'net intent sum' -- "$current")
         ;;
     run:3 | trace:3)
         # the file's name as the shell would read it, but for variables and commands
