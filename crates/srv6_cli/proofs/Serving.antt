@@ -4,21 +4,22 @@ use Rattle.srx_edge.specs.FilesRead.{FilesSeen}
 use Rattle.srx_edge.specs.Sources.{SourceSeen, drained}
 use Rattle.srx_edge.specs.Sinks.{SinkSeen, sent}
 use Rattle.srx_edge.specs.Steps.{Ending, Whole, Fault, Memory, How, Failing, Wanting, Cut as CutBytes, Wrote}
-use Rattle.srv6_cli.specs.declared.halt.Failure.TheVariants as failures
-use Rattle.srv6_cli.specs.declared.halt.Halt.{Halt}
-use Rattle.srv6_cli.specs.declared.halt.Halt.TheVariants as halts
-use Rattle.srv6_cli.specs.declared.status.Status.{Status}
-use Rattle.srv6_cli.specs.declared.status.Status.TheVariants as statuses
-use Rattle.srv6_cli.specs.declared.told.Told.{Told}
-use Rattle.srv6_cli.specs.Answers.{EndsWith, Commands, Tells, Concludes}
+use Rattle.command_output.specs.declared.halt.Failure.TheVariants as failures
+use Rattle.command_output.specs.declared.halt.Halt.{Halt}
+use Rattle.command_output.specs.declared.halt.Halt.TheVariants as halts
+use Rattle.command_output.specs.declared.status.Status.{Status}
+use Rattle.command_output.specs.declared.status.Status.TheVariants as statuses
+use Rattle.command_output.specs.declared.told.Told.{Told}
+use Rattle.command_output.specs.Answers.{EndsWith, Commands, Tells, Concludes}
 use Rattle.srv6_cli.specs.Command.{shape_of}
 use Rattle.srv6_cli.specs.Words.{Command}
-use Rattle.srv6_cli.specs.Lines.{bytes_of_text, refusal_line}
-use Rattle.srv6_cli.specs.Outside.{Outside, AsksAs, Reads, asked_for_all, files_left_by}
-use Rattle.srv6_cli.specs.Pieces.{ForErr, ToErr, Output, Sinks, Stop, Never, AtFiles, AtInput, At, Elsewhere, ending_by, gone, Went, stop_at}
-use Rattle.srv6_cli.specs.Serves.{ending_of_status, OnWhole, OrNothing, LinesLast, Takes, Serves}
-use Rattle.srv6_cli.specs.Shape.{Shape, names_of, WantedOf, IsOneOf}
-use Rattle.srv6_cli.proofs.PieceLemmas.{gone-append, ending_by-stop_at, went_cut}
+use Rattle.command_output.specs.Lines.{bytes_of_text, refusal_line}
+use Rattle.command_output.specs.Outside.{Outside, AsksAs, Reads, asked_for_all, files_left_by}
+use Rattle.command_output.specs.Pieces.{ForErr, ToErr, Output, Sinks, Stop, Never, AtFiles, AtInput, At, Elsewhere, ending_by, gone, Went, stop_at}
+use Rattle.command_output.specs.Endings.{ending_of_status, OnWhole, OrNothing, LinesLast, Takes}
+use Rattle.srv6_cli.specs.Serves.{Serves}
+use Rattle.command_output.specs.Shape.{Shape, names_of, WantedOf, IsOneOf}
+use Rattle.command_output.proofs.PublicLaws.{gone-append, ending_by-stop_at, went_cut}
 
 -- the sinks, and what is outside, with another `err`
 abbrev pub with_err : SinkSeen → Outside → Outside

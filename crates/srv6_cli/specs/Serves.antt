@@ -3,13 +3,13 @@ use Rattle.std.specs.Prelude.{◌≡◌, ◌⊎◌, true, false, [], IfSome, ⊤
 use Rattle.srx_edge.specs.FilesRead.{FilesSeen}
 use Rattle.srx_edge.specs.Sources.{SourceSeen, drained}
 use Rattle.srx_edge.specs.Steps.{Ending, Whole, Fault, Memory}
-use Rattle.srv6_cli.specs.declared.status.Status.{Status}
-use Rattle.srv6_cli.specs.declared.status.Status.TheVariants as statuses
+use Rattle.command_output.specs.declared.status.Status.{Status}
+use Rattle.command_output.specs.declared.status.Status.TheVariants as statuses
 use Rattle.srv6_cli.specs.Command.{shape_of}
 use Rattle.srv6_cli.specs.Words.{Command}
-use Rattle.srv6_cli.specs.Outside.{Outside, Asks, Reads}
-use Rattle.srv6_cli.specs.Pieces.{Output, Sinks, ToOut, ToErr, Stop, Never, AtFiles, AtInput, At, Elsewhere, ending_by, Went}
-use Rattle.srv6_cli.specs.Shape.{Shape, WantedOf, IsOneOf}
+use Rattle.command_output.specs.Outside.{Outside, Asks, Reads}
+use Rattle.command_output.specs.Pieces.{Output, Sinks, ToOut, ToErr, Stop, Never, AtFiles, AtInput, At, Elsewhere, ending_by, Went}
+use Rattle.command_output.specs.Shape.{Shape, WantedOf, IsOneOf}
 
 -- how a call ended, by its status
 abbrev pub ending_of_status : Status → Ending

@@ -1,7 +1,7 @@
 -- What the words of the command line ask for (own rules).
 use Rattle.std.specs.Prelude.{ℕ, Bool, ◌&&◌, ◌==◌, not, List, length}
 use Rattle.std.specs.Str.{bytes_eq}
-use Rattle.srv6_cli.specs.declared.commands.gen_.Made.{Made}
+use Rattle.generate_command.specs.declared.gen_.Made.{Made}
 
 -- what the words ask for; words outside the grammar ask for nothing that there is
 pub data Command : Type 0 where

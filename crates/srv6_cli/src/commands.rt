@@ -1,11 +1,12 @@
 //! The words of the command line, and the call of the command that they name.
 
 ghost use Rattle.std.specs.Prelude.{◌≡◌, IfOk};
-ghost use Rattle.srv6_cli.specs.Answers.{Commands, UsageTold};
-ghost use Rattle.srv6_cli.specs.Choices.{choices_in};
+ghost use Rattle.command_output.specs.Answers.{Commands};
+ghost use Rattle.srv6_cli.specs.Command.{UsageTold};
+ghost use Rattle.command_inputs.specs.Choices.{choices_in};
 ghost use Rattle.srv6_cli.specs.Command.{HasChoices, command_of, command_of_four, command_of_three, command_seen, gen_with, run_with, trace_with, walk_with, words_of};
-ghost use Rattle.srv6_cli.specs.Command.Gen.{made_in, size_in};
-ghost use Rattle.srv6_cli.specs.Outside.{outside};
+ghost use Rattle.generate_command.specs.Gen.{made_in, size_in};
+ghost use Rattle.command_output.specs.Outside.{outside};
 
 mod check;
 mod compile;
@@ -16,11 +17,9 @@ mod show;
 mod trace;
 pub(crate) mod walk;
 
-use crate::choices::choices_of;
-use crate::halt::Halt;
-use crate::lines::USAGE;
-use crate::status::Status;
-use crate::told::{Text, Told};
+use crate::commands::USAGE;
+use command_inputs::choices_of;
+use command_output::{Halt, Status, Text, Told};
 use gen_::{Made, made_of_word, size_of_word};
 use net_maker::Size;
 use srx_edge::{Files, Sink, Source};
@@ -274,7 +273,7 @@ fn read_words(alloc: Global, words: &[String]) -> Result<Words<'_>, AllocError>
 }
 
 /// Words that are no command.
-#[tactic(auto, unfolding(crate::specs::Lines::usage_line))]
+#[tactic(auto, unfolding(crate::specs::Command::usage_line))]
 fn usage() -> Result<Told, Halt>
     ensures { UsageTold result }
 {

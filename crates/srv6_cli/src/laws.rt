@@ -2,10 +2,10 @@
 //! Each law is of every call, also over files, an input and sinks that tell nothing.
 
 ghost use Rattle.std.specs.Prelude.{◌≡◌, ◌≢◌};
-ghost use Rattle.srv6_cli.specs.Command.Walk.{WalksKeepTo};
+ghost use Rattle.walk_command.specs.Walk.{WalksKeepTo};
 ghost use Rattle.srv6_cli.specs.Laws.{OfServe, HadFault, HadWant, AfterFilesFault, AfterInputFault, AfterOutFault, AfterOutWant, NoFault, NoWant, OneFault};
 
-use crate::status::Status;
+use command_output::Status;
 
 /// Where a count of faults changed, it went on by one, what failed was not called again, and what
 /// follows it in the order files, input, pieces was neither read nor written. (own rule)

@@ -1,7 +1,8 @@
 use Rattle.std.proofs.Common.{sym, ap, ◌∙◌}
 use Rattle.std.proofs.lemmas.Result.{err_from_is_err_and}
 use Rattle.srv6_cli.specs.Command.{command_of, command_seen, words_of}
-use Rattle.srv6_cli.proofs.Commanding.{memory_first, usage_commands}
+use Rattle.command_output.proofs.PublicLaws.{memory_first}
+use Rattle.srv6_cli.proofs.Usage.{usage_commands}
 use Rattle.srv6_cli.proofs.commands.command.Goals as goal
 
 pub returns-in_err-file : goal.returns-in_err-file
