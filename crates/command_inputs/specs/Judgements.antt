@@ -1,5 +1,5 @@
 -- The judgements of files and words: what each gives, or its refusal.
-use Rattle.std.specs.Prelude.{ℕ, nat_lt, if◌then◌else◌, List, [], ◌∷◌, ◌++◌, length, Option, Some, None, Result, Ok, Err}
+use Rattle.std.specs.Prelude.{ℕ, nat_lt, if◌then◌else◌, List, length, Option, Some, None, Result, Ok, Err}
 use Rattle.net_model.specs.declared.fault.NetFault.{NetFault}
 use Rattle.net_model.specs.Network.{Network}
 use Rattle.net_model.specs.Named.{node_numbered}
@@ -14,9 +14,6 @@ use Rattle.trace_replay.specs.Reading.{bad_line, lines_of}
 use Rattle.command_inputs.specs.declared.limits.TheConstants.{FILE_LIMIT}
 use Rattle.command_output.specs.declared.refusal.Refusal.{Refusal}
 use Rattle.command_output.specs.declared.refusal.Refusal.TheVariants as refusals
-use Rattle.command_output.specs.declared.status.Status.TheVariants as statuses
-use Rattle.command_output.specs.Lines.{refusal_line}
-use Rattle.command_output.specs.Pieces.{Piece, ForErr, Output}
 
 -- a fault as the refusal that tells it
 abbrev pub refused_as : {A F : Type 0} → (F → Refusal) → Result A F → Result A Refusal
@@ -67,17 +64,3 @@ trace_by text (Some line) = Err (refusals.BadTrace line)
 abbrev pub trace_in : Network → List ℕ → Result (List (List ℕ)) Refusal
 trace_in net text =
     if nat_lt FILE_LIMIT (length text) then Err (refusals.TooBig FILE_LIMIT) else trace_by text (bad_line net text)
-
--- the output of a refusal: its line
-abbrev pub refused : Refusal → Output
-refused refusal = record { pieces = ForErr (refusal_line refusal) ∷ []; status = statuses.Refused }
-
--- the output by a judgement: what follows it, or the refusal's line
-abbrev pub after : {A : Type 0} → Result A Refusal → (A → Output) → Output
-after (Ok a) follow = follow a
-after (Err refusal) follow = refused refusal
-
--- the output of a command that writes pieces for packets: at the end what is behind their frames is refused, if anything is
-abbrev pub ended_by : List Piece → Option Refusal → Output
-ended_by pieces None = record { pieces = pieces ++ ForErr [] ∷ []; status = statuses.Done }
-ended_by pieces (Some refusal) = record { pieces = pieces ++ ForErr (refusal_line refusal) ∷ []; status = statuses.Refused }

@@ -6,12 +6,11 @@ ghost use Rattle.command_output.specs.Answers.{JudgesInput};
 ghost use Rattle.command_inputs.specs.Packets.{HasHead, Nexts, fault_behind, is_bare, packets_in, unread_in};
 
 use crate::limits::INPUT_LIMIT;
-use command_output::{Failure, Halt, Refusal};
 use base::Seq;
+use command_output::{Failure, Halt, Refusal, Unread};
 use pcap_io::{Body, CaptureFault, CaptureHead, Frame, FrameReader, TakeFault, read_head};
 use srx_edge::{Source, draw};
 use std::alloc::Global;
-use std::fmt;
 
 /// What the input is.
 #[derive(Debug, Drop)]
@@ -29,34 +28,6 @@ pub enum Next {
     Frame(Frame),
     /// There is none: the refusal of what is behind the last one, if there is anything.
     End(Option<Refusal>),
-}
-
-/// Why the packet of a frame is not read.
-#[derive(Clone, Copy, Debug)]
-pub enum Unread {
-    /// Bytes of the frame were left out of the capture.
-    ShortFrame,
-    /// It holds no IP packet.
-    NotIp,
-    /// It holds a packet of another family than the intent's.
-    WrongVersion,
-}
-
-/// The cause's name. (own rule)
-impl fmt::Display for Unread {
-    ghost use Rattle.std.specs.Prelude.{Some};
-    ghost use Rattle.command_output.specs.Lines.{unread_name};
-
-    ghost output = { λ unread. Some (unread_name unread) };
-
-    #[tactic(auto, unfolding(command_output::specs::Lines::unread_name))]
-    fn fmt<W: fmt::Write>(&self, f: &mut fmt::Formatter<W>) -> fmt::Result {
-        f.write_str(match self {
-            Unread::ShortFrame => "ShortFrame",
-            Unread::NotIp => "NotIp",
-            Unread::WrongVersion => "WrongVersion",
-        })
-    }
 }
 
 /// Whether the input begins as a bare IPv6 packet does.

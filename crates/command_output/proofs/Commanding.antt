@@ -13,16 +13,12 @@ use Rattle.command_output.specs.declared.status.Status.{Status}
 use Rattle.command_output.specs.declared.status.Status.TheVariants as statuses
 use Rattle.command_output.specs.declared.told.Told.{Told}
 use Rattle.command_output.specs.Answers.{ending_of_failure, Commands, CommandsOut}
-use Rattle.srv6_cli.specs.Command.{UsageTold}
-use Rattle.srv6_cli.specs.Command.{shape_of, usage_shape}
-use Rattle.srv6_cli.specs.Words.{Command, Unknown}
 use Rattle.command_output.specs.Outputs.{refused}
 use Rattle.command_output.specs.Lines.{bytes_of_text, refusal_line}
-use Rattle.srv6_cli.specs.Command.{usage_line}
 use Rattle.command_output.specs.Outside.{Outside, IsFrontOf, Asks}
 use Rattle.command_output.specs.Pieces.{Piece, ForOut, ForErr, Which, ToOut, Output, Never, AtFiles, AtInput, Elsewhere, gone, stop_at, StopsIn, WroteAll}
 use Rattle.command_output.specs.Endings.{ending_of_status, OrNothing, LinesLast, Takes}
-use Rattle.command_output.specs.Shape.{names_of, WantedOf, IsOneOf}
+use Rattle.command_output.specs.Shape.{Shape, names_of, WantedOf, IsOneOf}
 use Rattle.command_output.proofs.Asking.{each}
 use Rattle.command_output.proofs.PieceLemmas.{ending_by-stop_at, went_cut}
 use Rattle.command_output.proofs.PieceSteps.{all_longer}
@@ -33,10 +29,10 @@ abbrev pub nothing : Output
 nothing = record { pieces = []; status = statuses.OutsideFault }
 
 -- the command is refused before anything is written
-pub refused_commands : (command : Command) (refusal : Refusal) (f g : FilesSeen) (s t : SourceSeen) (o : SinkSeen)
-    → WantedOf (shape_of command) f.told s.left (refused refusal) → IsOneOf (shape_of command).statuses statuses.Refused
-    → Takes (shape_of command) Never f g s t → CommandsOut command (Err (halts.Refused refusal)) f g s t o o
-refused_commands command refusal f g s t o wanted own takes = λ err. record {
+pub refused_commands : (shape : Shape) (refusal : Refusal) (f g : FilesSeen) (s t : SourceSeen) (o : SinkSeen)
+    → WantedOf shape f.told s.left (refused refusal) → IsOneOf shape.statuses statuses.Refused
+    → Takes shape Never f g s t → CommandsOut shape (Err (halts.Refused refusal)) f g s t o o
+refused_commands shape refusal f g s t o wanted own takes = λ err. record {
   stop = Never;
   ending = refl;
   output = refused refusal;
@@ -50,9 +46,9 @@ refused_commands command refusal f g s t o wanted own takes = λ err. record {
 
 -- a step wasn't done before anything is written: a fault of the files, one of the input, or a want of memory
 
-pub files_fault : (command : Command) (f g : FilesSeen) (s : SourceSeen) (o : SinkSeen) → Takes (shape_of command) AtFiles f g s s
-    → CommandsOut command (Err (halts.Failed failures.Fault)) f g s s o o
-files_fault command f g s o takes = λ err. record {
+pub files_fault : (shape : Shape) (f g : FilesSeen) (s : SourceSeen) (o : SinkSeen) → Takes shape AtFiles f g s s
+    → CommandsOut shape (Err (halts.Failed failures.Fault)) f g s s o o
+files_fault shape f g s o takes = λ err. record {
   stop = AtFiles;
   ending = refl;
   output = nothing;
@@ -64,9 +60,9 @@ files_fault command f g s o takes = λ err. record {
   read_to_end = tt;
 }
 
-pub input_fault : (command : Command) (f g : FilesSeen) (s t : SourceSeen) (o : SinkSeen) → Takes (shape_of command) AtInput f g s t
-    → CommandsOut command (Err (halts.Failed failures.Fault)) f g s t o o
-input_fault command f g s t o takes = λ err. record {
+pub input_fault : (shape : Shape) (f g : FilesSeen) (s t : SourceSeen) (o : SinkSeen) → Takes shape AtInput f g s t
+    → CommandsOut shape (Err (halts.Failed failures.Fault)) f g s t o o
+input_fault shape f g s t o takes = λ err. record {
   stop = AtInput;
   ending = refl;
   output = nothing;
@@ -78,9 +74,9 @@ input_fault command f g s t o takes = λ err. record {
   read_to_end = tt;
 }
 
-pub memory_wants : (command : Command) (f g : FilesSeen) (s t : SourceSeen) (o : SinkSeen) → Takes (shape_of command) Elsewhere f g s t
-    → CommandsOut command (Err (halts.Failed failures.NoMemory)) f g s t o o
-memory_wants command f g s t o takes = λ err. record {
+pub memory_wants : (shape : Shape) (f g : FilesSeen) (s t : SourceSeen) (o : SinkSeen) → Takes shape Elsewhere f g s t
+    → CommandsOut shape (Err (halts.Failed failures.NoMemory)) f g s t o o
+memory_wants shape f g s t o takes = λ err. record {
   stop = Elsewhere;
   ending = refl;
   output = nothing;
@@ -93,18 +89,18 @@ memory_wants command f g s t o takes = λ err. record {
 }
 
 -- memory was wanting before anything was read
-pub memory_first : (command : Command) (f : FilesSeen) (s : SourceSeen) (o : SinkSeen)
-    → CommandsOut command (Err (halts.Failed failures.NoMemory)) f f s s o o
-memory_first command f s o = memory_wants command f f s s o (record {
+pub memory_first : (shape : Shape) (f : FilesSeen) (s : SourceSeen) (o : SinkSeen)
+    → CommandsOut shape (Err (halts.Failed failures.NoMemory)) f f s s o o
+memory_first shape f s o = memory_wants shape f f s s o (record {
   asks = record {
     names = [];
-    in_order = record { rest = (shape_of command).files; whole = refl };
-    those = each f.told (λ held. IsFrontOf (names_of (shape_of command) held) [])
-        (λ held. record { rest = names_of (shape_of command) held; whole = refl });
+    in_order = record { rest = shape.files; whole = refl };
+    those = each f.told (λ held. IsFrontOf (names_of shape held) [])
+        (λ held. record { rest = names_of shape held; whole = refl });
     seen = refl;
   };
   reads = refl;
-  unread = each f.told (λ held. (shape_of command).leaves_input held → s ≡ s) (λ held _. refl);
+  unread = each f.told (λ held. shape.leaves_input held → s ≡ s) (λ held _. refl);
   reads_none = λ _. refl;
 })
 
@@ -114,12 +110,12 @@ abbrev pub written : List ℕ → List ℕ → Status → Output
 written bytes last status = record { pieces = ForOut bytes ∷ ForErr last ∷ []; status = status }
 
 -- all of the bytes went out
-pub written_whole : (command : Command) (told : Told) (bytes : List ℕ) (f g : FilesSeen) (s t : SourceSeen) (o p : SinkSeen)
+pub written_whole : (shape : Shape) (told : Told) (bytes : List ℕ) (f g : FilesSeen) (s t : SourceSeen) (o p : SinkSeen)
     → p ≡ sent bytes o
-    → WantedOf (shape_of command) f.told s.left (written bytes (bytes_of_text told.line) told.status)
-    → ending_of_status told.status ≡ Whole → IsOneOf (shape_of command).statuses told.status → Takes (shape_of command) Never f g s t
-    → (told.status ≡ statuses.Done → (shape_of command).reads ≡ true → t ≡ drained s) → CommandsOut command (Ok told) f g s t o p
-written_whole command told bytes f g s t o p went wanted whole own takes read = λ err. record {
+    → WantedOf shape f.told s.left (written bytes (bytes_of_text told.line) told.status)
+    → ending_of_status told.status ≡ Whole → IsOneOf shape.statuses told.status → Takes shape Never f g s t
+    → (told.status ≡ statuses.Done → shape.reads ≡ true → t ≡ drained s) → CommandsOut shape (Ok told) f g s t o p
+written_whole shape told bytes f g s t o p went wanted whole own takes read = λ err. record {
   stop = Never;
   ending = refl;
   output = written bytes (bytes_of_text told.line) told.status;
@@ -143,16 +139,16 @@ out-wanted None output P p = inr p
 out-wanted (Some how) output P p = p
 
 -- only a front of the bytes went out, or none
-written-cut : (command : Command) (failure : Failure) (bytes last : List ℕ) (status : Status)
+written-cut : (shape : Shape) (failure : Failure) (bytes last : List ℕ) (status : Status)
     (f g : FilesSeen) (s t : SourceSeen) (o p : SinkSeen)
-    → CutBytes (ending_of_failure failure) bytes o p → WantedOf (shape_of command) f.told s.left (written bytes last status)
-    → ((how : Option How) → Takes (shape_of command) (stop_at ToOut how) f g s t)
-    → CommandsOut command (Err (halts.Failed failure)) f g s t o p
-written-cut command failure bytes last status f g s t o p cut wanted takes = λ err. record {
+    → CutBytes (ending_of_failure failure) bytes o p → WantedOf shape f.told s.left (written bytes last status)
+    → ((how : Option How) → Takes shape (stop_at ToOut how) f g s t)
+    → CommandsOut shape (Err (halts.Failed failure)) f g s t o p
+written-cut shape failure bytes last status f g s t o p cut wanted takes = λ err. record {
   stop = stop_at ToOut cut.how;
   ending = ending_by-stop_at ToOut cut.how ∙ cut.ends;
   output = written bytes last status;
-  wanted = out-wanted cut.how (written bytes last status) (WantedOf (shape_of command) f.told s.left (written bytes last status)) wanted;
+  wanted = out-wanted cut.how (written bytes last status) (WantedOf shape f.told s.left (written bytes last status)) wanted;
   went = went_cut ToOut (ending_of_failure failure) [] (ForErr last ∷ []) bytes
       (record { out = o; err = err }) (record { out = o; err = err }) p refl cut;
   lines_last = λ _. out-last cut.how err o p;
@@ -161,29 +157,29 @@ written-cut command failure bytes last status f g s t o p cut wanted takes = λ 
   read_to_end = tt;
 }
 
-pub written_cut : (command : Command) (failure : Failure) (bytes last : List ℕ) (status : Status)
+pub written_cut : (shape : Shape) (failure : Failure) (bytes last : List ℕ) (status : Status)
     (f g : FilesSeen) (s t : SourceSeen) (o p : SinkSeen)
-    → Wrote (ending_of_failure failure) bytes o p → WantedOf (shape_of command) f.told s.left (written bytes last status)
-    → ((how : Option How) → Takes (shape_of command) (stop_at ToOut how) f g s t)
-    → CommandsOut command (Err (halts.Failed failure)) f g s t o p
-written_cut command failures.Fault bytes last status f g s t o p wrote =
-    written-cut command failures.Fault bytes last status f g s t o p wrote
-written_cut command failures.NoMemory bytes last status f g s t o p wrote =
-    written-cut command failures.NoMemory bytes last status f g s t o p wrote
+    → Wrote (ending_of_failure failure) bytes o p → WantedOf shape f.told s.left (written bytes last status)
+    → ((how : Option How) → Takes shape (stop_at ToOut how) f g s t)
+    → CommandsOut shape (Err (halts.Failed failure)) f g s t o p
+written_cut shape failures.Fault bytes last status f g s t o p wrote =
+    written-cut shape failures.Fault bytes last status f g s t o p wrote
+written_cut shape failures.NoMemory bytes last status f g s t o p wrote =
+    written-cut shape failures.NoMemory bytes last status f g s t o p wrote
 
 -- a command that writes pieces for both sinks, and then a line
 
-module _ (command : Command) (before : List Piece) (old new : Outside) where
+module _ (shape : Shape) (before : List Piece) (old new : Outside) where
   abbrev with_last : List ℕ → Status → Output
   with_last last status = record { pieces = before ++ ForErr last ∷ []; status = status }
 
   -- all of them went out
   pub pieces_whole : (told : Told) → new.sinks ≡ gone before old.sinks
-      → WantedOf (shape_of command) old.files.told old.input.left (with_last (bytes_of_text told.line) told.status)
-      → ending_of_status told.status ≡ Whole → IsOneOf (shape_of command).statuses told.status
-      → Takes (shape_of command) Never old.files new.files old.input new.input
-      → (told.status ≡ statuses.Done → (shape_of command).reads ≡ true → new.input ≡ drained old.input)
-      → Commands command (Ok told) old new
+      → WantedOf shape old.files.told old.input.left (with_last (bytes_of_text told.line) told.status)
+      → ending_of_status told.status ≡ Whole → IsOneOf shape.statuses told.status
+      → Takes shape Never old.files new.files old.input new.input
+      → (told.status ≡ statuses.Done → shape.reads ≡ true → new.input ≡ drained old.input)
+      → Commands shape (Ok told) old new
   pieces_whole told went wanted whole own takes read = record {
     stop = Never;
     ending = refl;
@@ -198,10 +194,10 @@ module _ (command : Command) (before : List Piece) (old new : Outside) where
 
   -- and then the command is refused
   pub pieces_refused : (refusal : Refusal) → new.sinks ≡ gone before old.sinks
-      → WantedOf (shape_of command) old.files.told old.input.left (with_last (refusal_line refusal) statuses.Refused)
-      → IsOneOf (shape_of command).statuses statuses.Refused
-      → Takes (shape_of command) Never old.files new.files old.input new.input
-      → Commands command (Err (halts.Refused refusal)) old new
+      → WantedOf shape old.files.told old.input.left (with_last (refusal_line refusal) statuses.Refused)
+      → IsOneOf shape.statuses statuses.Refused
+      → Takes shape Never old.files new.files old.input new.input
+      → Commands shape (Err (halts.Refused refusal)) old new
   pieces_refused refusal went wanted own takes = record {
     stop = Never;
     ending = refl;
@@ -219,17 +215,17 @@ module _ (command : Command) (before : List Piece) (old new : Outside) where
   stop-wanted sink (Some how) output P p = p
 
   -- only a front of them went out
-  pieces-cut : (failure : Failure) (last : List ℕ) (status : Status) → (shape_of command).lines_last ≡ false
+  pieces-cut : (failure : Failure) (last : List ℕ) (status : Status) → shape.lines_last ≡ false
       → StopsIn (ending_of_failure failure) (before ++ ForErr last ∷ []) old.sinks new.sinks
-      → WantedOf (shape_of command) old.files.told old.input.left (with_last last status)
-      → ((sink : Which) (how : Option How) → Takes (shape_of command) (stop_at sink how) old.files new.files old.input new.input)
-      → Commands command (Err (halts.Failed failure)) old new
+      → WantedOf shape old.files.told old.input.left (with_last last status)
+      → ((sink : Which) (how : Option How) → Takes shape (stop_at sink how) old.files new.files old.input new.input)
+      → Commands shape (Err (halts.Failed failure)) old new
   pieces-cut failure last status between s wanted takes = record {
     stop = stop_at s.sink s.how;
     ending = ending_by-stop_at s.sink s.how ∙ s.ends;
     output = with_last last status;
     wanted = stop-wanted s.sink s.how (with_last last status)
-        (WantedOf (shape_of command) old.files.told old.input.left (with_last last status)) wanted;
+        (WantedOf shape old.files.told old.input.left (with_last last status)) wanted;
     went = s.went;
     lines_last = λ last. cc;
     status_own = tt;
@@ -237,55 +233,12 @@ module _ (command : Command) (before : List Piece) (old new : Outside) where
     read_to_end = tt;
   }
 
-  pub pieces_cut : (failure : Failure) (last : List ℕ) (status : Status) → (shape_of command).lines_last ≡ false
+  pub pieces_cut : (failure : Failure) (last : List ℕ) (status : Status) → shape.lines_last ≡ false
       → WroteAll (ending_of_failure failure) before old.sinks new.sinks
-      → WantedOf (shape_of command) old.files.told old.input.left (with_last last status)
-      → ((sink : Which) (how : Option How) → Takes (shape_of command) (stop_at sink how) old.files new.files old.input new.input)
-      → Commands command (Err (halts.Failed failure)) old new
+      → WantedOf shape old.files.told old.input.left (with_last last status)
+      → ((sink : Which) (how : Option How) → Takes shape (stop_at sink how) old.files new.files old.input new.input)
+      → Commands shape (Err (halts.Failed failure)) old new
   pieces_cut failures.Fault last status between wrote wanted takes = pieces-cut failures.Fault last status between
       (all_longer failures.Fault before (ForErr last ∷ []) old.sinks new.sinks wrote) wanted takes
   pieces_cut failures.NoMemory last status between wrote wanted takes = pieces-cut failures.NoMemory last status between
       (all_longer failures.NoMemory before (ForErr last ∷ []) old.sinks new.sinks wrote) wanted takes
-
--- words that are no command
-
-usage-asks : (f : FilesSeen) → Asks usage_shape Never f f
-usage-asks f = record {
-  names = [];
-  in_order = record { rest = []; whole = refl };
-  those = each f.told (λ held. [] ≡ []) (λ held. refl);
-  seen = refl;
-}
-
-usage-takes : (f : FilesSeen) (s : SourceSeen) → Takes usage_shape Never f f s s
-usage-takes f s = record {
-  asks = usage-asks f;
-  reads = refl;
-  unread = each f.told (λ held. Unit {0} → s ≡ s) (λ held _. refl);
-  reads_none = λ _. refl;
-}
-
-usage-told : (told : Told) (f : FilesSeen) (s : SourceSeen) (o : SinkSeen) → bytes_of_text told.line ≡ usage_line
-    → told.status ≡ statuses.Usage
-    → CommandsOut Unknown (Ok told) f f s s o o
-usage-told told f s o line status = λ err. record {
-  stop = Never;
-  ending = refl;
-  output = record { pieces = ForErr (bytes_of_text told.line) ∷ []; status = told.status };
-  wanted = ap₂ (λ (l : List ℕ) (t : Status). record { pieces = ForErr l ∷ []; status = t }) line status;
-  went = record { before = []; is = refl; went = refl; whole = ap ending_of_status status };
-  lines_last = λ _. tt;
-  status_own = inl status;
-  takes = usage-takes f s;
-  read_to_end = λ _ none. cc;
-}
-
-usage-answer : (answer : Result Told Halt) (f : FilesSeen) (s : SourceSeen) (o : SinkSeen) → UsageTold answer
-    → CommandsOut Unknown answer f f s s o o
-usage-answer (Ok told) f s o h = usage-told told f s o h.0 h.1
-usage-answer (Err halt) f s o h = absurd h
-
-pub usage_commands : (command : Command) (answer : Result Told Halt) (f : FilesSeen) (s : SourceSeen) (o : SinkSeen) → Unknown ≡ command
-    → UsageTold answer
-    → CommandsOut command answer f f s s o o
-usage_commands command answer f s o is h = subst (λ (k : Command). CommandsOut k answer f f s s o o) is (usage-answer answer f s o h)

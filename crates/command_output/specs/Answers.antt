@@ -13,14 +13,11 @@ use Rattle.command_output.specs.declared.refusal.Refusal.{Refusal}
 use Rattle.command_output.specs.declared.status.Status.{Status}
 use Rattle.command_output.specs.declared.status.Status.TheVariants as statuses
 use Rattle.command_output.specs.declared.told.Told.{Told}
-use Rattle.srv6_cli.specs.Command.{shape_of}
-use Rattle.srv6_cli.specs.Words.{Command}
 use Rattle.command_output.specs.Lines.{bytes_of_text, refusal_line}
-use Rattle.srv6_cli.specs.Command.{usage_line}
 use Rattle.command_output.specs.Outside.{Outside, outside, AsksForFront}
 use Rattle.command_output.specs.Pieces.{ForErr, Piece, Output, Sinks, Stop, ending_by, gone, Went}
 use Rattle.command_output.specs.Endings.{ending_of_status, OnWhole, OrNothing, LinesLast, Takes}
-use Rattle.command_output.specs.Shape.{WantedOf, IsOneOf}
+use Rattle.command_output.specs.Shape.{Shape, WantedOf, IsOneOf}
 
 -- how a step ended
 
@@ -81,37 +78,38 @@ IfEnds (Ok told) P = P told.status
 IfEnds (Err (halts.Refused refusal)) P = P statuses.Refused
 IfEnds (Err (halts.Failed failure)) P = ⊤
 
--- what a command leaves before its last line is written; see `Serves` for what each means
-pub record Commands (command : Command) (answer : Result Told Halt) (old new : Outside) : Type 0 where
+-- what a command of a shape leaves before its last line is written: where it stopped, which output is wanted of what the files
+-- and the input tell and how far it went out, its status, and what it took of the files and of the input
+pub record Commands (shape : Shape) (answer : Result Told Halt) (old new : Outside) : Type 0 where
   pub stop : Stop
   pub ending : ending_by stop ≡ ending_of_answer answer
   pub output : Output
-  pub wanted : OrNothing stop output (WantedOf (shape_of command) old.files.told old.input.left output)
+  pub wanted : OrNothing stop output (WantedOf shape old.files.told old.input.left output)
   pub went : CommandWent answer stop output old.sinks new.sinks
-  pub lines_last : (shape_of command).lines_last ≡ true → LinesLast stop old.sinks new.sinks
-  pub status_own : IfEnds answer (IsOneOf (shape_of command).statuses)
-  pub takes : Takes (shape_of command) stop old.files new.files old.input new.input
-  pub read_to_end : IfEnds answer (λ status. status ≡ statuses.Done → (shape_of command).reads ≡ true → new.input ≡ drained old.input)
+  pub lines_last : shape.lines_last ≡ true → LinesLast stop old.sinks new.sinks
+  pub status_own : IfEnds answer (IsOneOf shape.statuses)
+  pub takes : Takes shape stop old.files new.files old.input new.input
+  pub read_to_end : IfEnds answer (λ status. status ≡ statuses.Done → shape.reads ≡ true → new.input ≡ drained old.input)
 
 -- the same of a command that writes `out` alone, whatever `err` is
-abbrev pub CommandsOut : Command → Result Told Halt → FilesSeen → FilesSeen → SourceSeen → SourceSeen → SinkSeen → SinkSeen → Type 0
-CommandsOut command answer files_old files_new input_old input_new out_old out_new =
-    (err : SinkSeen) → Commands command answer (outside files_old input_old out_old err) (outside files_new input_new out_new err)
+abbrev pub CommandsOut : Shape → Result Told Halt → FilesSeen → FilesSeen → SourceSeen → SourceSeen → SinkSeen → SinkSeen → Type 0
+CommandsOut shape answer files_old files_new input_old input_new out_old out_new =
+    (err : SinkSeen) → Commands shape answer (outside files_old input_old out_old err) (outside files_new input_new out_new err)
 
 -- the same of one that reads no input, whatever that is
-abbrev pub CommandsUnread : Command → Result Told Halt → FilesSeen → FilesSeen → SinkSeen → SinkSeen → Type 0
-CommandsUnread command answer files_old files_new out_old out_new =
-    (input : SourceSeen) → CommandsOut command answer files_old files_new input input out_old out_new
+abbrev pub CommandsUnread : Shape → Result Told Halt → FilesSeen → FilesSeen → SinkSeen → SinkSeen → Type 0
+CommandsUnread shape answer files_old files_new out_old out_new =
+    (input : SourceSeen) → CommandsOut shape answer files_old files_new input input out_old out_new
 
 -- the same of one that reads no files, whatever they are
-abbrev pub CommandsOfInput : Command → Result Told Halt → SourceSeen → SourceSeen → SinkSeen → SinkSeen → Type 0
-CommandsOfInput command answer input_old input_new out_old out_new =
-    (files : FilesSeen) → CommandsOut command answer files files input_old input_new out_old out_new
+abbrev pub CommandsOfInput : Shape → Result Told Halt → SourceSeen → SourceSeen → SinkSeen → SinkSeen → Type 0
+CommandsOfInput shape answer input_old input_new out_old out_new =
+    (files : FilesSeen) → CommandsOut shape answer files files input_old input_new out_old out_new
 
 -- the same of one that reads neither files nor input
-abbrev pub CommandsAlone : Command → Result Told Halt → SinkSeen → SinkSeen → Type 0
-CommandsAlone command answer out_old out_new =
-    (files : FilesSeen) (input : SourceSeen) → CommandsOut command answer files files input input out_old out_new
+abbrev pub CommandsAlone : Shape → Result Told Halt → SinkSeen → SinkSeen → Type 0
+CommandsAlone shape answer out_old out_new =
+    (files : FilesSeen) (input : SourceSeen) → CommandsOut shape answer files files input input out_old out_new
 
 -- what a line on `err` leaves: it went out whole, with its own status, or in part
 pub record Tells (last : List ℕ) (own status : Status) (old new : SinkSeen) : Type 0 where
@@ -124,8 +122,3 @@ Concludes (Ok told) status old new = Tells (bytes_of_text told.line) told.status
 Concludes (Err (halts.Refused refusal)) status old new = Tells (refusal_line refusal) statuses.Refused status old new
 Concludes (Err (halts.Failed failures.Fault)) status old new = (status ≡ statuses.OutsideFault) × (new ≡ old)
 Concludes (Err (halts.Failed failures.NoMemory)) status old new = (status ≡ statuses.NoMemory) × (new ≡ old)
-
--- words that are no command have the line that says how the program is called
-abbrev pub UsageTold : Result Told Halt → Type 0
-UsageTold (Ok told) = (bytes_of_text told.line ≡ usage_line) × (told.status ≡ statuses.Usage)
-UsageTold (Err halt) = ⊥

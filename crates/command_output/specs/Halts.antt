@@ -1,4 +1,5 @@
 -- What the faults of the crates below become where a command passes them on.
+use Rattle.std.specs.Prelude.{slice_get}
 use Rattle.srx_edge.specs.declared.file_access.FileFault.{FileFault}
 use Rattle.srx_edge.specs.declared.file_access.FileFault.TheVariants as files
 use Rattle.srx_edge.specs.declared.input.DrawFault.{DrawFault}
@@ -7,6 +8,9 @@ use Rattle.srx_edge.specs.declared.output.PourFault.{PourFault}
 use Rattle.srx_edge.specs.declared.output.PourFault.TheVariants as pours
 use Rattle.net_model.specs.declared.fault.NetFault.{NetFault}
 use Rattle.net_model.specs.declared.fault.NetFault.TheVariants as nets
+use Rattle.net_model.specs.declared.flat.NotFlat.{NotFlat}
+use Rattle.net_model.specs.declared.flat.NotFlat.TheVariants as flats
+use Rattle.net_model.specs.Network.{Network}
 use Rattle.intent_reader.specs.declared.fault.IntentFault.{IntentFault}
 use Rattle.intent_reader.specs.declared.fault.IntentFault.TheVariants as intents
 use Rattle.list_certificate.specs.declared.types.CertFault.{CertFault}
@@ -19,6 +23,7 @@ use Rattle.command_output.specs.declared.halt.Halt.{Halt}
 use Rattle.command_output.specs.declared.halt.Halt.TheVariants as halts
 use Rattle.command_output.specs.declared.refusal.Refusal.{Refusal}
 use Rattle.command_output.specs.declared.refusal.Refusal.TheVariants as refusals
+use Rattle.command_output.specs.Lines.{name_of_node}
 
 abbrev pub memory_fails : Failure
 memory_fails = failures.NoMemory
@@ -74,3 +79,11 @@ halt_of_cert certs.NoMemory = halts.Failed failures.NoMemory
 abbrev pub halt_of_trace : TraceFault → Halt
 halt_of_trace (traces.BadTrace line) = halts.Refused (refusals.BadTrace line)
 halt_of_trace traces.NoMemory = halts.Failed failures.NoMemory
+
+-- why a network is not flat, with the names of nodes in place of their numbers
+abbrev pub flat_refusal : Network → NotFlat → Refusal
+flat_refusal net (flats.Nested outer inner) = refusals.Nested outer inner
+flat_refusal net (flats.ZeroCsid prefix) = refusals.ZeroCsid prefix
+flat_refusal net (flats.MixedBlock block prefix) = refusals.MixedBlock block prefix
+flat_refusal net (flats.Clash prefix first second) =
+    refusals.Clash prefix (name_of_node (slice_get net.nodes first)) (name_of_node (slice_get net.nodes second))

@@ -35,9 +35,6 @@ bytes_of_text (texts.Bytes bytes) = bytes.items
 abbrev pub line : List ℕ → List ℕ
 line text = text ++ 10 ∷ []
 
-unfoldable pub usage_line : List ℕ
-usage_line = line (codes "usage: srv6 compile|check|walk|run|trace|replay|show|gen")
-
 -- the refusal of a capture
 unfoldable pub capture_text : CaptureFault → List ℕ
 capture_text captures.BadMagic = codes "refused 11 BadMagic"

@@ -12,9 +12,6 @@ use std::alloc::{AllocError, Global};
 use trace_replay::STAGES;
 use walk_rules::Ended;
 
-/// The line that says how the program is called.
-pub const USAGE: &[u8] = b"usage: srv6 compile|check|walk|run|trace|replay|show|gen\n";
-
 /// A refusal's line.
 pub fn line_of_refusal(alloc: Global, refusal: &Refusal) -> Result<String, AllocError>
     ensures { IfOk result (λ line. string_bytes line ≡ refusal_line refusal.now) }

@@ -78,7 +78,7 @@ pub enum Refusal {
 }
 
 /// The refusal of a network that is not flat.
-pub(crate) fn refusal_of_not_flat(net: &Net, why: &NotFlat) -> Refusal
+pub fn refusal_of_not_flat(net: &Net, why: &NotFlat) -> Refusal
     ensures { result ≡ flat_refusal net.now why.now }
 {
     match *why {

@@ -23,7 +23,6 @@ use Rattle.command_output.specs.declared.status.Status.{Status}
 use Rattle.command_output.specs.declared.status.Status.TheVariants as statuses
 use Rattle.command_output.specs.declared.told.Told.{Told}
 use Rattle.command_output.specs.Answers.{ending_of_failure, JudgesFile, CommandsUnread}
-use Rattle.srv6_cli.specs.Words.{Check}
 use Rattle.compile_commands.specs.Check.{CertWants, FlatWants, IntentWants, NetworkWants, RefusesFlat, LegsOf, JudgesAs, asks_for_next, check_shape}
 use Rattle.command_output.specs.Outputs.{output_of_judgement}
 use Rattle.command_output.specs.Outputs.{reported}
@@ -34,7 +33,7 @@ use Rattle.command_output.specs.Outside.{IsFrontOf, Asks, Reads, asked_for_all, 
 use Rattle.command_output.specs.Pieces.{Output, Stop, Never, AtFiles, At, Elsewhere, ToOut, stop_at}
 use Rattle.command_output.specs.Endings.{ending_of_status, Takes}
 use Rattle.command_output.specs.Shape.{Held, goes_on_with, texts_with, WantedOf, IsOneOf}
-use Rattle.command_output.proofs.PublicLaws.{each, each-map, some-map, front_whole, front_longer, front_after, asks_all, asks_fault, asks_front}
+use Rattle.command_output.proofs.PublicLaws.{judgement-status, each, each-map, some-map, front_whole, front_longer, front_after, asks_all, asks_fault, asks_front}
 use Rattle.command_output.proofs.PublicLaws.{refused_commands, files_fault, memory_wants, written_whole, written_cut}
 
 -- what holds of what is told, of two facts of it
@@ -42,13 +41,6 @@ both : (told : Option Held) (P Q R : Held → Type 0) → ((held : Held) → P h
     → IfSome told R
 both None P Q R f p q = tt
 both (Some held) P Q R f p q = f held p q
-
--- a judgement's status is one of a whole call, and one of the command's
-pub judgement-status : (status : Status) → IsOneOf (statuses.Done ∷ statuses.SaysNo ∷ []) status
-    → (ending_of_status status ≡ Whole) × IsOneOf (statuses.Done ∷ statuses.Refused ∷ statuses.SaysNo ∷ []) status
-judgement-status status (inl e) = (ap ending_of_status e, inl e)
-judgement-status status (inr (inl e)) = (ap ending_of_status e, inr (inr (inl e)))
-judgement-status status (inr (inr none)) = absurd none
 
 -- a text that is there is judged so
 abbrev Gives : {A : Type 0} → (List ℕ → Result A Refusal) → Result A Refusal → Option (List ℕ) → Type 0
@@ -154,20 +146,20 @@ module _ (file intent cert : List ℕ) where
 
   -- the description was refused, wasn't read, or memory was wanting
   pub check_halted_at_file : (f g : FilesSeen) (o : SinkSeen) (halt : Halt) → JudgesFile network_in file (Err halt) f g
-      → CommandsUnread (Check file intent cert) (Err halt) f g o o
-  check_halted_at_file f g o (halts.Refused refusal) h = λ s. refused_commands (Check file intent cert) refusal f g s s o
+      → CommandsUnread (check_shape file intent cert) (Err halt) f g o o
+  check_halted_at_file f g o (halts.Refused refusal) h = λ s. refused_commands (check_shape file intent cert) refusal f g s s o
       (wanted f.told s.left (refused refusal) (each-map f.told (GivesNet (Err refusal)) (λ held. Wants held (refused refusal))
       (λ held is. wants-net (Err refusal) held (refused refusal) is refl) h.0)) (inr (inl refl))
       (takes Never f g s (asks_all (check_shape file intent cert) Never (file ∷ []) f g
       (record { rest = intent ∷ cert ∷ []; whole = refl }) tt
       (each-map f.told (GivesNet (Err refusal)) (λ held. names_in held ≡ file ∷ [])
       (λ held is. names-refused refusal (file_named held file) (file_named held intent) is) h.0) h.1) refl)
-  check_halted_at_file f g o (halts.Failed failures.Fault) h = λ s. files_fault (Check file intent cert) f g s o
+  check_halted_at_file f g o (halts.Failed failures.Fault) h = λ s. files_fault (check_shape file intent cert) f g s o
       (takes AtFiles f g s (asks_fault (check_shape file intent cert) (file ∷ []) f g
       (record { rest = intent ∷ cert ∷ []; whole = refl }) tt
       (each f.told (λ held. IsFrontOf (names_in held) (file ∷ []))
       (λ held. record { rest = after_file (file_named held file) (file_named held intent); whole = refl })) h) refl)
-  check_halted_at_file f g o (halts.Failed failures.NoMemory) h = λ s. memory_wants (Check file intent cert) f g s s o
+  check_halted_at_file f g o (halts.Failed failures.NoMemory) h = λ s. memory_wants (check_shape file intent cert) f g s s o
       (takes Elsewhere f g s (asks_front (check_shape file intent cert) h.names f g
       (front_longer (file ∷ []) h.names (intent ∷ cert ∷ []) h.front)
       (each f.told (λ held. IsFrontOf (names_in held) h.names)
@@ -188,8 +180,8 @@ module _ (file intent cert : List ℕ) where
 
     -- the intent was refused, wasn't read, or memory was wanting
     pub check_halted_at_intent : (halt : Halt) → JudgesFile (intent_in net) intent (Err halt) mid g
-        → CommandsUnread (Check file intent cert) (Err halt) f g o o
-    check_halted_at_intent (halts.Refused refusal) h = λ s. refused_commands (Check file intent cert) refusal f g s s o
+        → CommandsUnread (check_shape file intent cert) (Err halt) f g o o
+    check_halted_at_intent (halts.Refused refusal) h = λ s. refused_commands (check_shape file intent cert) refusal f g s s o
         (wanted f.told s.left (refused refusal)
         (both f.told (GivesNet (Ok net)) (GivesIntent net (Err refusal)) (λ held. Wants held (refused refusal))
         (λ held is i. wants-intent net (Err refusal) held (refused refusal) is i refl) judged.0
@@ -203,12 +195,12 @@ module _ (file intent cert : List ℕ) where
         (behind-refused net refusal (file_named held file) (file_named held intent) is i))
         judged.0 (of-first (GivesIntent net (Err refusal)) h.0))
         (h.1 ∙ ap (λ (files : FilesSeen). asked_for intent files) judged.1)) refl)
-    check_halted_at_intent (halts.Failed failures.Fault) h = λ s. files_fault (Check file intent cert) f g s o
+    check_halted_at_intent (halts.Failed failures.Fault) h = λ s. files_fault (check_shape file intent cert) f g s o
         (takes AtFiles f g s (asks_fault (check_shape file intent cert) (file ∷ intent ∷ []) f g
         (record { rest = cert ∷ []; whole = refl }) tt
         (front-of (intent ∷ []) (front_whole (intent ∷ [])))
         (h ∙ ap (λ (files : FilesSeen). files_left_by AtFiles (asked_for intent files)) judged.1)) refl)
-    check_halted_at_intent (halts.Failed failures.NoMemory) h = λ s. memory_wants (Check file intent cert) f g s s o
+    check_halted_at_intent (halts.Failed failures.NoMemory) h = λ s. memory_wants (check_shape file intent cert) f g s s o
         (takes Elsewhere f g s (asks_front (check_shape file intent cert) (file ∷ h.names) f g
         (front_after file (intent ∷ cert ∷ []) h.names (front_longer (intent ∷ []) h.names (cert ∷ []) h.front))
         (front-of h.names h.front) (h.seen ∙ ap (asked_for_all h.names) judged.1)) refl)
@@ -230,8 +222,8 @@ module _ (file intent cert : List ℕ) where
 
     -- the network is not flat
     halted-not-flat : (refusal : Refusal) → RefusesFlat net refusal (flatness_of net)
-        → CommandsUnread (Check file intent cert) (Err (halts.Refused refusal)) f last o o
-    halted-not-flat refusal h = λ s. refused_commands (Check file intent cert) refusal f last s s o
+        → CommandsUnread (check_shape file intent cert) (Err (halts.Refused refusal)) f last o o
+    halted-not-flat refusal h = λ s. refused_commands (check_shape file intent cert) refusal f last s s o
         (wanted f.told s.left (refused refusal)
         (both f.told (GivesNet (Ok net)) (GivesIntent net (Ok value)) (λ held. Wants held (refused refusal))
         (λ held is i. wants-intent net (Ok value) held (refused refusal) is i
@@ -241,10 +233,10 @@ module _ (file intent cert : List ℕ) where
         (record { rest = cert ∷ []; whole = refl }) tt (names-two (flat-not-ok net refusal (flatness_of net) h)) last-is) refl)
 
     -- or memory was wanting
-    pub check_halted_at_legs : (halt : Halt) → LegsOf net value (Err halt) → CommandsUnread (Check file intent cert) (Err halt) f last o o
+    pub check_halted_at_legs : (halt : Halt) → LegsOf net value (Err halt) → CommandsUnread (check_shape file intent cert) (Err halt) f last o o
     check_halted_at_legs (halts.Refused refusal) h = halted-not-flat refusal h
     check_halted_at_legs (halts.Failed failures.Fault) h = absurd h
-    check_halted_at_legs (halts.Failed failures.NoMemory) h = λ s. memory_wants (Check file intent cert) f last s s o
+    check_halted_at_legs (halts.Failed failures.NoMemory) h = λ s. memory_wants (check_shape file intent cert) f last s s o
         (takes Elsewhere f last s (asks_front (check_shape file intent cert) (file ∷ intent ∷ []) f last
         (record { rest = cert ∷ []; whole = refl })
         (front-of f mid last o p net judged (intent ∷ []) (front_whole (intent ∷ []))) last-is) refl)
@@ -278,12 +270,12 @@ module _ (file intent cert : List ℕ) where
 
       -- the certificate was refused, wasn't read, or memory was wanting
       halted-at-cert : (halt : Halt) → JudgesFile (cert_in net (legs_value net value)) cert (Err halt) last g
-          → CommandsUnread (Check file intent cert) (Err halt) f g o o
-      halted-at-cert (halts.Refused refusal) h = λ s. refused_commands (Check file intent cert) refusal f g s s o
+          → CommandsUnread (check_shape file intent cert) (Err halt) f g o o
+      halted-at-cert (halts.Refused refusal) h = λ s. refused_commands (check_shape file intent cert) refusal f g s s o
           (wants-all (Err refusal) s.left (refused refusal) h.0 refl) (inr (inl refl)) (takes Never f g s (asks-three Never h.1) refl)
-      halted-at-cert (halts.Failed failures.Fault) h = λ s. files_fault (Check file intent cert) f g s o
+      halted-at-cert (halts.Failed failures.Fault) h = λ s. files_fault (check_shape file intent cert) f g s o
           (takes AtFiles f g s (asks-three AtFiles h) refl)
-      halted-at-cert (halts.Failed failures.NoMemory) h = λ s. memory_wants (Check file intent cert) f g s s o
+      halted-at-cert (halts.Failed failures.NoMemory) h = λ s. memory_wants (check_shape file intent cert) f g s s o
           (takes Elsewhere f g s (asks_front (check_shape file intent cert) (file ∷ intent ∷ h.names) f g
           (front_after file (intent ∷ cert ∷ []) (intent ∷ h.names) (front_after intent (cert ∷ []) h.names h.front))
           (each-map f.told (λ held. names_in held ≡ file ∷ intent ∷ cert ∷ []) (λ held. IsFrontOf (names_in held) (file ∷ intent ∷ h.names))
@@ -293,14 +285,14 @@ module _ (file intent cert : List ℕ) where
 
       pub check_halted_at_cert : (legs : LegTable) (halt : Halt) → legs ≡ record { net = net; intent = value }
           → JudgesFile (cert_in net (legs_value legs.net legs.intent)) cert (Err halt) last g
-          → CommandsUnread (Check file intent cert) (Err halt) f g o o
+          → CommandsUnread (check_shape file intent cert) (Err halt) f g o o
       check_halted_at_cert legs halt is h = halted-at-cert halt
           (subst (λ (t : LegTable). JudgesFile (cert_in net (legs_value t.net t.intent)) cert (Err halt) last g) is h)
 
       module _ (spelt : Cert) (given : JudgesFile (cert_in net (legs_value net value)) cert (Ok spelt) last g) where
         -- memory was wanting for the line
-        pub check_halted_at_judgement : CommandsUnread (Check file intent cert) (Err (halts.Failed failures.NoMemory)) f g o o
-        check_halted_at_judgement = λ s. memory_wants (Check file intent cert) f g s s o
+        pub check_halted_at_judgement : CommandsUnread (check_shape file intent cert) (Err (halts.Failed failures.NoMemory)) f g o o
+        check_halted_at_judgement = λ s. memory_wants (check_shape file intent cert) f g s s o
             (takes Elsewhere f g s (asks-three Elsewhere given.1) refl)
 
         module _ (judgement : Judgement) (judges : JudgesAs net value spelt judgement) where
@@ -313,14 +305,14 @@ module _ (file intent cert : List ℕ) where
 
           -- the line didn't go out whole
           pub check_halted_at_out : (failure : Failure) → Wrote (ending_of_failure failure) (bytes_of_text judgement.line) o p
-              → CommandsUnread (Check file intent cert) (Err (halts.Failed failure)) f g o p
-          check_halted_at_out failure wrote = λ s. written_cut (Check file intent cert) failure (bytes_of_text judgement.line) []
+              → CommandsUnread (check_shape file intent cert) (Err (halts.Failed failure)) f g o p
+          check_halted_at_out failure wrote = λ s. written_cut (check_shape file intent cert) failure (bytes_of_text judgement.line) []
               judgement.status f g s s o p wrote (wants-judgement s.left) (takes-how s)
 
           -- it did
           pub check_done : (told : Told) → bytes_of_text told.line ≡ [] → told.status ≡ judgement.status
-              → p ≡ sent (bytes_of_text judgement.line) o → CommandsUnread (Check file intent cert) (Ok told) f g o p
-          check_done told line status went = λ s. written_whole (Check file intent cert) told (bytes_of_text judgement.line)
+              → p ≡ sent (bytes_of_text judgement.line) o → CommandsUnread (check_shape file intent cert) (Ok told) f g o p
+          check_done told line status went = λ s. written_whole (check_shape file intent cert) told (bytes_of_text judgement.line)
               f g s s o p went
               (subst (λ (output : Output). WantedOf (check_shape file intent cert) f.told s.left output)
               (ap₂ (λ (l : List ℕ) (t : Status). reported (bytes_of_text judgement.line) l t) (sym line) (sym status))

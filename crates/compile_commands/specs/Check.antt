@@ -157,9 +157,6 @@ KnowsState net (Least containers need) = ⊤
 KnowsState net NoList = ⊤
 KnowsState net (No number why) = KnowsWhy net why
 
-abbrev pub output_of_judgement : Judgement → Output
-output_of_judgement judgement = reported (bytes_of_text judgement.line) [] judgement.status
-
 abbrev pub JudgesAs : Network → Intent → Cert → Judgement → Type 0
 JudgesAs net intent cert judgement =
     VerdictWants net intent cert (output_of_judgement judgement) × IsOneOf (statuses.Done ∷ statuses.SaysNo ∷ []) judgement.status

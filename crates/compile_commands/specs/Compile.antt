@@ -1,11 +1,9 @@
 -- The command `compile`: a list for the intent of a file in the network that another describes.
-use Rattle.std.specs.Prelude.{◌≡◌, ℕ, Bool, true, false, List, [], ◌∷◌, ◌++◌, slice_get, codes, Option, Result, Ok, Err, IsSomeAnd, is_ok, ⊤}
+use Rattle.std.specs.Prelude.{◌≡◌, ℕ, Bool, true, false, List, [], ◌∷◌, ◌++◌, codes, Option, Result, Ok, Err, IsSomeAnd, is_ok, ⊤}
 use Rattle.std.specs.List.{All, flat_map}
 use Rattle.std.specs.Fmt.{decimal}
 use Rattle.v6_addr.specs.Text.{address_text}
 use Rattle.net_model.specs.Network.{Network}
-use Rattle.net_model.specs.declared.flat.NotFlat.{NotFlat}
-use Rattle.net_model.specs.declared.flat.NotFlat.TheVariants as flats
 use Rattle.intent_reader.specs.declared.intent.Intent.{Intent}
 use Rattle.list_places.specs.Lists.{IsFlatList}
 use Rattle.list_pack.specs.declared.types.Potential.{Potential}
@@ -22,13 +20,13 @@ use Rattle.command_output.specs.declared.halt.Failure.TheVariants as failures
 use Rattle.command_output.specs.declared.halt.Halt.{Halt}
 use Rattle.command_output.specs.declared.halt.Halt.TheVariants as halts
 use Rattle.command_output.specs.declared.refusal.Refusal.{Refusal}
-use Rattle.command_output.specs.declared.refusal.Refusal.TheVariants as refusals
 use Rattle.command_output.specs.declared.status.Status.{Status}
 use Rattle.command_output.specs.declared.status.Status.TheVariants as statuses
 use Rattle.command_inputs.specs.Judgements.{network_in, intent_in}
-use Rattle.command_output.specs.Outputs.{refused}
-use Rattle.command_output.specs.Lines.{line, bytes_of_text, name_of_node}
-use Rattle.command_output.specs.Pieces.{ForOut, ForErr, Output}
+use Rattle.command_output.specs.Halts.{flat_refusal}
+use Rattle.command_output.specs.Outputs.{refused, reported}
+use Rattle.command_output.specs.Lines.{line, bytes_of_text}
+use Rattle.command_output.specs.Pieces.{Output}
 use Rattle.command_output.specs.Shape.{Shape, IsOneOf}
 use Rattle.command_output.specs.Verbs.{has_two_words}
 
@@ -72,18 +70,6 @@ HasValues net c = IsLegalList net c.list × IsFlatList (list_in net c.list)
 -- the SIDs of the states that the certificate lists are SIDs of the network
 abbrev pub KnowsStates : Network → Solution → Type 0
 KnowsStates net solution = All (λ (q : Potential). IsKnown net q.state) solution.potentials
-
--- a report, and then a line
-abbrev pub reported : List ℕ → List ℕ → Status → Output
-reported report told status = record { pieces = ForOut report ∷ ForErr told ∷ []; status = status }
-
--- why a network is not flat, with the names of nodes in place of their numbers
-abbrev pub flat_refusal : Network → NotFlat → Refusal
-flat_refusal net (flats.Nested outer inner) = refusals.Nested outer inner
-flat_refusal net (flats.ZeroCsid prefix) = refusals.ZeroCsid prefix
-flat_refusal net (flats.MixedBlock block prefix) = refusals.MixedBlock block prefix
-flat_refusal net (flats.Clash prefix first second) =
-    refusals.Clash prefix (name_of_node (slice_get net.nodes first)) (name_of_node (slice_get net.nodes second))
 
 -- the output of an answer of the compiler; want of memory has none
 abbrev pub AnswerWants : Network → Intent → Result Compiled CompileFault → Output → Type 0

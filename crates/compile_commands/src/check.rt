@@ -8,9 +8,8 @@ ghost use Rattle.list_certificate.specs.Certs.{IsCert};
 ghost use Rattle.list_certificate.specs.Reading.{IsNetworkOf};
 ghost use Rattle.list_certificate.specs.Spelling.{IsKnown, state_text};
 ghost use Rattle.command_output.specs.Answers.{CommandsUnread};
-ghost use Rattle.compile_commands.specs.Check.{LegsOf, KnowsState, bad_line, edge_line, least_line, no_list_line, path_line, tight_line, unlisted_line, verdict_line, verdict_status};
+ghost use Rattle.compile_commands.specs.Check.{JudgesAs, KnowsState, LegsOf, bad_line, check_shape, edge_line, least_line, no_list_line, path_line, tight_line, unlisted_line, verdict_line, verdict_status};
 ghost use Rattle.command_output.specs.Lines.{bytes_of_text};
-ghost use Rattle.srv6_cli.specs.Words.{Check};
 
 use command_inputs::{cert_of_file, intent_of_file, network_of_file};
 use command_output::{Halt, Judgement, Status, Text, Told, refusal_of_not_flat, write_all};
@@ -127,28 +126,24 @@ fn legs_of_flat<'a>(alloc: Global, net: &'a Net, intent: &'a Intent) -> Result<S
     Ok(StrictLegs::build(alloc, net, intent)?)
 }
 
-impl Judgement {
-    ghost use Rattle.compile_commands.specs.Check.{JudgesAs};
-
-    /// The judgement of a certificate over the legs of an intent's strict steps.
-    #[tactic(auto, using(crate::proofs::Checking::judgements))]
-    fn of_cert(
-        alloc: Global,
-        net: &Net,
-        legs: &StrictLegs<'_>,
-        cert: &Cert,
-    ) -> Result<Judgement, AllocError>
-        requires net { legs.now.net ≡ net.now }
-        requires cert { IsCert (legs_value legs.now.net legs.now.intent) cert.now }
-        ensures { IfOk result (JudgesAs net.now legs.now.intent cert.now) }
-    {
-        legs.keeps_rules();
-        let verdict = checked_over(legs, cert);
-        Ok(Judgement {
-            line: line_of_verdict(alloc, net, verdict)?,
-            status: status_of_verdict(verdict),
-        })
-    }
+/// The judgement of a certificate over the legs of an intent's strict steps.
+#[tactic(auto, using(crate::proofs::Checking::judgements))]
+fn judgement_of_cert(
+    alloc: Global,
+    net: &Net,
+    legs: &StrictLegs<'_>,
+    cert: &Cert,
+) -> Result<Judgement, AllocError>
+    requires net { legs.now.net ≡ net.now }
+    requires cert { IsCert (legs_value legs.now.net legs.now.intent) cert.now }
+    ensures { IfOk result (JudgesAs net.now legs.now.intent cert.now) }
+{
+    legs.keeps_rules();
+    let verdict = checked_over(legs, cert);
+    Ok(Judgement {
+        line: line_of_verdict(alloc, net, verdict)?,
+        status: status_of_verdict(verdict),
+    })
 }
 
 /// Checks the certificate of a file for the intent of another in the network that a third
@@ -163,14 +158,14 @@ pub fn check<F: Files, O: Sink>(
     files: &mut F,
     out: &mut O,
 ) -> Result<Told, Halt>
-    ensures { CommandsUnread (Check file.now intent.now cert.now) result
+    ensures { CommandsUnread (check_shape file.now intent.now cert.now) result
         (F.seen files.old) (F.seen files.new) (O.seen out.old) (O.seen out.new) }
 {
     let net = network_of_file(alloc, files, file)?;
     let intent = intent_of_file(alloc, files, &net, intent)?;
     let legs = legs_of_flat(alloc, &net, &intent)?;
     let cert = cert_of_file(alloc, files, &net, &legs, cert)?;
-    let judgement = Judgement::of_cert(alloc, &net, &legs, &cert)?;
+    let judgement = judgement_of_cert(alloc, &net, &legs, &cert)?;
     write_all(out, judgement.line.as_bytes())?;
     Ok(Told {
         line: Text::Fixed(b""),

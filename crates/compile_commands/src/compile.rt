@@ -6,14 +6,13 @@ ghost use Rattle.net_model.specs.Keeps.{Keeps};
 ghost use Rattle.net_model.specs.Rules.{IsNetwork};
 ghost use Rattle.path_compiler.specs.Compiled.{CompileAnswers};
 ghost use Rattle.command_output.specs.Answers.{CommandsUnread};
-ghost use Rattle.srv6_cli.specs.Words.{Compile};
 ghost use Rattle.intent_reader.specs.Rules.{IsIntent};
-ghost use Rattle.compile_commands.specs.Compile.{HasValues, KnowsStates, container_line, hop_limit_line, none_line, numbers_lines, printed, report_of, too_long_line};
+ghost use Rattle.compile_commands.specs.Compile.{HasValues, KnowsStates, compile_shape, container_line, hop_limit_line, none_line, numbers_lines, printed, report_of, too_long_line};
 ghost use Rattle.command_output.specs.Lines.{bytes_of_text};
 
+use base::NoMemory;
 use command_inputs::{intent_of_file, network_of_file};
 use command_output::{Failure, Halt, Status, Text, Told, refusal_of_not_flat, write_all};
-use base::NoMemory;
 use intent_reader::Intent;
 use list_certificate::print;
 use list_pack::{Solution, values};
@@ -211,7 +210,7 @@ pub fn compile<F: Files, O: Sink>(
     files: &mut F,
     out: &mut O,
 ) -> Result<Told, Halt>
-    ensures { CommandsUnread (Compile file.now intent.now) result
+    ensures { CommandsUnread (compile_shape file.now intent.now) result
         (F.seen files.old) (F.seen files.new) (O.seen out.old) (O.seen out.new) }
 {
     let net = network_of_file(alloc, files, file)?;

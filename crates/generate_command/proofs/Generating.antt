@@ -39,7 +39,6 @@ use Rattle.command_output.specs.Pieces.{Stop, Never, At, Elsewhere, ToOut, stop_
 use Rattle.command_output.specs.Endings.{Takes}
 use Rattle.command_output.specs.Shape.{names_of}
 use Rattle.generate_command.specs.Summary.{SummaryAnswers}
-use Rattle.srv6_cli.specs.Words.{Gen}
 use Rattle.command_output.proofs.PublicLaws.{each}
 use Rattle.command_output.proofs.PublicLaws.{memory_first, pieces_whole, refused_commands, written_cut, written_whole}
 
@@ -114,26 +113,26 @@ module _ (n : ℕ) (made : Made) (f : FilesSeen) (s : SourceSeen) where
   takes-how (Some how) = takes (At ToOut how) refl refl refl
 
   -- nothing was made
-  pub gen_halted : (halt : Halt) (o : SinkSeen) → Generates (GenWants n made) (Err halt) → CommandsOut (Gen n made) (Err halt) f f s s o o
+  pub gen_halted : (halt : Halt) (o : SinkSeen) → Generates (GenWants n made) (Err halt) → CommandsOut (gen_shape n made) (Err halt) f f s s o o
   gen_halted (halts.Refused refusal) o h =
-      refused_commands (Gen n made) refusal f f s s o h (inr (inl refl)) (takes Never refl refl refl)
+      refused_commands (gen_shape n made) refusal f f s s o h (inr (inl refl)) (takes Never refl refl refl)
   gen_halted (halts.Failed failures.Fault) o none = absurd none
-  gen_halted (halts.Failed failures.NoMemory) o h = memory_first (Gen n made) f s o
+  gen_halted (halts.Failed failures.NoMemory) o h = memory_first (gen_shape n made) f s o
 
   module _ (text : Text) (h : Generates (GenWants n made) (Ok (generates.Report text))) (o p : SinkSeen) where
     -- the text didn't go out whole
     pub gen_cut : (failure : Failure) → Wrote (ending_of_failure failure) (bytes_of_text text) o p
-        → CommandsOut (Gen n made) (Err (halts.Failed failure)) f f s s o p
-    gen_cut failure wrote = written_cut (Gen n made) failure (bytes_of_text text) [] statuses.Done f f s s o p wrote h takes-how
+        → CommandsOut (gen_shape n made) (Err (halts.Failed failure)) f f s s o p
+    gen_cut failure wrote = written_cut (gen_shape n made) failure (bytes_of_text text) [] statuses.Done f f s s o p wrote h takes-how
 
     -- it did
     pub gen_done : (told : Told) → bytes_of_text told.line ≡ [] → told.status ≡ statuses.Done → p ≡ sent (bytes_of_text text) o
-        → CommandsOut (Gen n made) (Ok told) f f s s o p
-    gen_done told line status went = written_whole (Gen n made) told (bytes_of_text text) f f s s o p went
+        → CommandsOut (gen_shape n made) (Ok told) f f s s o p
+    gen_done told line status went = written_whole (gen_shape n made) told (bytes_of_text text) f f s s o p went
         (rw (line, status) h) (rw status refl) (inl status) (takes Never refl refl refl) (λ _ no. cc)
 
   -- there is no list, and nothing is written but its line
   pub gen_without_list : (line : Text) (told : Told) (o : SinkSeen) → Generates (GenWants n made) (Ok (generates.NoList line))
-      → told.line ≡ line → told.status ≡ statuses.NoAnswer → CommandsOut (Gen n made) (Ok told) f f s s o o
-  gen_without_list line told o h is status = λ err. pieces_whole (Gen n made) [] (outside f s o err) (outside f s o err) told refl
+      → told.line ≡ line → told.status ≡ statuses.NoAnswer → CommandsOut (gen_shape n made) (Ok told) f f s s o o
+  gen_without_list line told o h is status = λ err. pieces_whole (gen_shape n made) [] (outside f s o err) (outside f s o err) told refl
       (rw (is, status) h) (rw status refl) (inr (inr (inl status))) (takes Never refl refl refl) (λ done. cc (sym status ∙ done))

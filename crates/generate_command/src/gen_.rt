@@ -7,16 +7,15 @@ ghost use Rattle.net_maker.specs.Networks.{net_text};
 ghost use Rattle.intent_reader.specs.Rules.{IsIntent};
 ghost use Rattle.command_output.specs.Answers.{CommandsAlone};
 ghost use Rattle.compile_commands.specs.Compile.{CompiledWants, IntentWants};
-ghost use Rattle.generate_command.specs.Gen.{GenWants, Generates, SumWants, list_lines, made_in, network_lines, size_in, summary_lines, walks_lines};
+ghost use Rattle.generate_command.specs.Gen.{Generates, GenWants, SumWants, gen_shape, list_lines, made_in, network_lines, size_in, summary_lines, walks_lines};
 ghost use Rattle.command_inputs.specs.Judgements.{intent_in};
-ghost use Rattle.srv6_cli.specs.Words.{Gen};
 
 use crate::summed::Summary;
 use crate::summing::summary;
+use base::NoMemory;
 use command_inputs::{intent_of_text, network_of_text, number_of};
 use command_output::{Failure, Halt, Status, Text, Told, refusal_of_not_flat, write_all};
 use compile_commands::{line_of_hop_limit, line_of_none, line_of_too_long};
-use base::NoMemory;
 use intent_reader::Intent;
 use net_maker::{Size, write_intent, write_net};
 use net_model::Net;
@@ -197,7 +196,7 @@ fn made_for(alloc: Global, size: Size, made: Made) -> Result<Generated, Halt>
 /// that the intent is compiled to. No file is read, and no input. What is written is made before
 /// any of it goes out.
 pub fn generate<O: Sink>(alloc: Global, size: Size, made: Made, out: &mut O) -> Result<Told, Halt>
-    ensures { CommandsAlone (Gen size made) result (O.seen out.old) (O.seen out.new) }
+    ensures { CommandsAlone (gen_shape size made) result (O.seen out.old) (O.seen out.new) }
 {
     match made_for(alloc, size, made)? {
         Generated::Report(text) => {

@@ -10,8 +10,6 @@ ghost use Rattle.walk_command.specs.Walk.{policy_of as policy_for, walk_at_heade
 ghost use Rattle.generate_command.specs.Summary.{SummaryAnswers, frames_in, has_left, left_in, summary_choices, summary_of, walks_of, walks_of_packet};
 
 use crate::summed::Summary;
-use run_commands::{decisions_of, staged};
-use walk_command::{AtHeadend, at_headend, policy_of};
 use base::{NoMemory, Seq};
 use icmp6_errors::IcmpSlot;
 use intent_reader::Intent;
@@ -20,9 +18,11 @@ use net_model::Net;
 use node_stage::Content;
 use path_compiler::{CompileFault, Compiled};
 use pcap_io::Body;
+use run_commands::{decisions_of, staged};
 use srv6_rules::{Family, Policy};
 use std::alloc::Global;
 use trace_replay::STAGES;
+use walk_command::{AtHeadend, at_headend, policy_of};
 use walk_rules::{Ended, How, Place, ended_by, next_place};
 
 /// The most packets of a summary. (own rule)

@@ -7,15 +7,18 @@ ghost use Rattle.pcap_io.specs.Capture.{written_head_bytes};
 ghost use Rattle.pcap_io.specs.Frames.{frames_of as frames_in};
 ghost use Rattle.srx_edge.specs.Steps.{Wrote};
 ghost use Rattle.command_output.specs.Answers.{Commands, ending_of_step};
-ghost use Rattle.srv6_cli.specs.Words.{Run};
-ghost use Rattle.run_commands.specs.Run.{packet_pieces, packets_pieces, unread_lines, unread_of_frame, walk_from, walked_of_frame};
+ghost use Rattle.run_commands.specs.Run.{packet_pieces, packets_pieces, run_shape, unread_lines, unread_of_frame, walk_from, walked_of_frame};
 ghost use Rattle.command_output.specs.Outside.{outside};
 ghost use Rattle.command_inputs.specs.Packets.{HasHead, fault_of, reading_of};
 ghost use Rattle.command_output.specs.Pieces.{WroteAll, sinks_of};
 
 use crate::walk::{Buffers, write_walk};
-use command_inputs::{Next, Packets, network_of_file, next_of, node_of_name, packets_of_input, unread_of};
-use command_output::{Failure, Halt, Refusal, Status, Text, Told, line_of_packet, line_of_unread, write_all};
+use command_inputs::{
+    Next, Packets, network_of_file, next_of, node_of_name, packets_of_input, unread_of,
+};
+use command_output::{
+    Failure, Halt, Refusal, Status, Text, Told, line_of_packet, line_of_unread, write_all,
+};
 use net_model::Net;
 use node_stage::Content;
 use pcap_io::{Body, CaptureHead, Frame, FrameReader, HEAD_LEN, MAX_FRAMES};
@@ -223,7 +226,7 @@ pub fn run<F: Files, S: Source, O: Sink, E: Sink>(
     err: &mut E,
 ) -> Result<Told, Halt>
     requires { 0 < length choices.now }
-    ensures { Commands (Run file.now node.now choices.now) result
+    ensures { Commands (run_shape file.now node.now choices.now) result
         (outside (F.seen files.old) (S.seen input.old) (O.seen out.old) (E.seen err.old))
         (outside (F.seen files.new) (S.seen input.new) (O.seen out.new) (E.seen err.new)) }
 {

@@ -4,8 +4,7 @@ ghost use Rattle.std.specs.Prelude.{◌≡◌, IfOk, string_bytes};
 ghost use Rattle.pcap_io.specs.Frames.{frames_of as frames_in};
 ghost use Rattle.srx_edge.specs.Steps.{Wrote};
 ghost use Rattle.command_output.specs.Answers.{CommandsOfInput, ending_of_step};
-ghost use Rattle.srv6_cli.specs.Words.{Show};
-ghost use Rattle.run_commands.specs.Show.{frame_lines, frames_lines, not_read_lines};
+ghost use Rattle.run_commands.specs.Show.{frame_lines, frames_lines, not_read_lines, show_shape};
 ghost use Rattle.command_inputs.specs.Packets.{HasHead, fault_of, reading_of};
 
 use command_inputs::{Next, Packets, next_of, packets_of_input};
@@ -103,7 +102,7 @@ fn show_packets<O: Sink>(
 /// Shows the headers of the packets of the input, one packet after the other. What is behind the
 /// last frame of a capture is refused once all packets were shown.
 pub fn show<S: Source, O: Sink>(alloc: Global, input: &mut S, out: &mut O) -> Result<Told, Halt>
-    ensures { CommandsOfInput Show result
+    ensures { CommandsOfInput show_shape result
         (S.seen input.old) (S.seen input.new) (O.seen out.old) (O.seen out.new) }
 {
     let packets = packets_of_input(alloc, input)?;

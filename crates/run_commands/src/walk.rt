@@ -14,24 +14,16 @@ ghost use Rattle.walk_rules.specs.Relation.{IsPlace};
 ghost use Rattle.walk_rules.specs.Treatment.{step_of};
 ghost use Rattle.walk_rules.specs.Walk.{next_place as place_after, decisions, walk_of, choice_at, end_by, end_of};
 
-use command_output::Failure;
 use base::NoMemory;
+use command_output::{Failure, write_all};
 use icmp6_errors::IcmpSlot;
 use net_model::Net;
 use node_stage::{Content, stage};
 use pcap_io::MAX_PACKET_LEN;
-use srx_edge::{Sink, pour};
+use srx_edge::Sink;
 use std::alloc::Global;
 use trace_replay::{STAGES, an_outcome_names_what_is_there};
 use walk_rules::{Ended, Outcome, Place, ended_by, next_place};
-
-/// Pours bytes into a sink.
-#[tactic(auto, using(command_output::proofs::PublicLaws::writing))]
-pub fn write_all<O: Sink>(sink: &mut O, bytes: &[u8]) -> Result<(), Failure>
-    ensures { Wrote (ending_of_step result) bytes.now (O.seen sink.old) (O.seen sink.new) }
-{
-    Ok(pour(sink, bytes)?)
-}
 
 /// Room for a packet and for its frame, used again for each packet.
 #[derive(Debug, Drop)]

@@ -176,7 +176,7 @@ line-serves command last own status old mid err Elsewhere output is wanted ends 
 
 -- what a command leaves, and then its end, is what `serve` leaves
 pub serves : (command : Command) (answer : Result Told Halt) (status : Status) (old mid : Outside) (err : SinkSeen)
-    → Commands command answer old mid → Concludes answer status mid.sinks.err err → Serves command status old (with_err err mid)
+    → Commands (shape_of command) answer old mid → Concludes answer status mid.sinks.err err → Serves command status old (with_err err mid)
 serves command (Ok told) status old mid err c tells =
     line-serves command (bytes_of_text told.line) told.status status old mid err
     c.stop c.output c.ending c.wanted c.went c.status_own c.takes c.read_to_end tells
@@ -193,7 +193,7 @@ serves command (Err (halts.Failed failures.NoMemory)) status old mid err c is =
     (failed-serves command statuses.NoMemory old mid c.stop c.output c.ending (λ no. cc) c.wanted c.went c.lines_last c.takes))
 
 -- the status of a command's line is one of a whole call
-pub told_whole : (command : Command) (answer : Result Told Halt) (old mid : Outside) → Commands command answer old mid
+pub told_whole : (command : Command) (answer : Result Told Halt) (old mid : Outside) → Commands (shape_of command) answer old mid
     → IfOk answer (λ told. ending_of_status told.status ≡ Whole)
 told_whole command (Ok told) old mid c = c.went.whole
 told_whole command (Err halt) old mid c = tt

@@ -14,7 +14,6 @@ use Rattle.generate_command.specs.declared.gen_.Made.{Made}
 use Rattle.srv6_cli.specs.declared.commands.Words.{Words}
 use Rattle.srv6_cli.specs.declared.commands.Words.TheVariants as words
 use Rattle.command_inputs.specs.Choices.{choices_in}
-use Rattle.srv6_cli.specs.Command.{usage_line}
 use Rattle.command_output.specs.Pieces.{ForErr}
 use Rattle.command_output.specs.Shape.{Shape}
 use Rattle.srv6_cli.specs.Words.{Command}
@@ -78,6 +77,10 @@ command_of (verb ∷ first ∷ second ∷ third ∷ fourth ∷ more) = commands.
 abbrev pub words_of : List (String Global) → List (List ℕ)
 words_of words = map string_bytes words
 
+-- the line that says how the program is called
+unfoldable pub usage_line : List ℕ
+usage_line = line (codes "usage: srv6 compile|check|walk|run|trace|replay|show|gen")
+
 -- words that are no command have the line that says how the program is called
 abbrev pub usage_shape : Shape
 usage_shape = record {
@@ -124,3 +127,8 @@ HasChoices (words.Replay file trace) = ⊤
 HasChoices words.Show = ⊤
 HasChoices (words.Gen size made) = ⊤
 HasChoices words.Unknown = ⊤
+
+-- words that are no command have that line
+abbrev pub UsageTold : Result Told Halt → Type 0
+UsageTold (Ok told) = (bytes_of_text told.line ≡ usage_line) × (told.status ≡ statuses.Usage)
+UsageTold (Err halt) = ⊥

@@ -2,7 +2,6 @@
 //! Each law is of every call, also over files, an input and sinks that tell nothing.
 
 ghost use Rattle.std.specs.Prelude.{◌≡◌, ◌≢◌};
-ghost use Rattle.walk_command.specs.Walk.{WalksKeepTo};
 ghost use Rattle.srv6_cli.specs.Laws.{OfServe, HadFault, HadWant, AfterFilesFault, AfterInputFault, AfterOutFault, AfterOutWant, NoFault, NoWant, OneFault};
 
 use command_output::Status;
@@ -38,12 +37,4 @@ pub fn counts_go_with_their_status()
         status ≢ Status.OutsideFault → NoFault old new) }
     ensures no_want { OfServe (λ command status old new.
         status ≢ Status.NoMemory → NoWant old new) }
-{}
-
-/// An inner packet whose hop limit is at least 2, and whose outer packet is not too big, enters at
-/// the headend. Its walk, which `walk` writes, crosses and executes exactly the intent's steps, in
-/// order, up to where it first hands a packet over, whatever is chosen; and that is the inner packet
-/// with its hop limit lowered by one, and nothing else changed. (RFC 8986 sections 5.1 and 5.2)
-pub fn a_walk_keeps_to_the_intent()
-    ensures { WalksKeepTo }
 {}

@@ -3,9 +3,8 @@
 ghost use Rattle.std.specs.Prelude.{◌≡◌, IfOk};
 ghost use Rattle.command_output.specs.Answers.{CommandsUnread};
 ghost use Rattle.command_output.specs.Outputs.{output_of_judgement};
-ghost use Rattle.trace_commands.specs.Replay.{replayed, right_line, wrong_line};
+ghost use Rattle.trace_commands.specs.Replay.{replay_shape, replayed, right_line, wrong_line};
 ghost use Rattle.command_output.specs.Lines.{bytes_of_text};
-ghost use Rattle.srv6_cli.specs.Words.{Replay};
 ghost use Rattle.trace_replay.specs.Reading.{IsTrace};
 
 use command_inputs::{network_of_file, trace_of_file};
@@ -63,7 +62,7 @@ pub fn replay<F: Files, O: Sink>(
     files: &mut F,
     out: &mut O,
 ) -> Result<Told, Halt>
-    ensures { CommandsUnread (Replay file.now trace.now) result
+    ensures { CommandsUnread (replay_shape file.now trace.now) result
         (F.seen files.old) (F.seen files.new) (O.seen out.old) (O.seen out.new) }
 {
     let net = network_of_file(alloc, files, file)?;

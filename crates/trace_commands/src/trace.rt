@@ -7,10 +7,9 @@ ghost use Rattle.pcap_io.specs.Frames.{frames_of as frames_in};
 ghost use Rattle.srv6_rules.specs.Packet.{bytes_of};
 ghost use Rattle.srx_edge.specs.Steps.{Wrote};
 ghost use Rattle.command_output.specs.Answers.{CommandsOut, ending_of_step};
-ghost use Rattle.trace_commands.specs.Trace.{frame_text, last_text, packet_lines, text_of, trace_text};
+ghost use Rattle.trace_commands.specs.Trace.{frame_text, last_text, packet_lines, text_of, trace_shape, trace_text};
 ghost use Rattle.command_output.specs.Lines.{line};
 ghost use Rattle.command_inputs.specs.Packets.{HasHead, fault_of, reading_of};
-ghost use Rattle.srv6_cli.specs.Words.{Trace};
 ghost use Rattle.trace_replay.specs.Laws.{walk_lines};
 ghost use Rattle.trace_replay.specs.Lines.{end_text, head_text, outcome_text, stages_text};
 ghost use Rattle.trace_replay.specs.Numbered.{IsNumbered};
@@ -19,11 +18,11 @@ ghost use Rattle.walk_rules.specs.Walk.{choice_at, walk_of};
 
 use command_inputs::{Next, Packets, network_of_file, next_of, node_of_name, packets_of_input};
 use command_output::{Failure, Halt, Refusal, Status, Text, Told, write_all};
-use run_commands::{decisions_of, staged};
 use icmp6_errors::IcmpSlot;
 use net_model::Net;
 use node_stage::Content;
 use pcap_io::{Body, CaptureHead, Frame, FrameReader, HEAD_LEN, MAX_FRAMES};
+use run_commands::{decisions_of, staged};
 use srv6_rules::Family;
 use srx_edge::{Files, Sink, Source};
 use std::alloc::Global;
@@ -284,7 +283,7 @@ pub fn trace<F: Files, S: Source, O: Sink>(
     out: &mut O,
 ) -> Result<Told, Halt>
     requires { 0 < length choices.now }
-    ensures { CommandsOut (Trace file.now node.now choices.now) result
+    ensures { CommandsOut (trace_shape file.now node.now choices.now) result
         (F.seen files.old) (F.seen files.new) (S.seen input.old) (S.seen input.new)
         (O.seen out.old) (O.seen out.new) }
 {

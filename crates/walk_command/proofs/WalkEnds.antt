@@ -20,7 +20,6 @@ use Rattle.command_output.specs.declared.status.Status.TheVariants as statuses
 use Rattle.command_output.specs.declared.told.Text.{Text}
 use Rattle.command_output.specs.declared.told.Told.{Told}
 use Rattle.command_output.specs.Answers.{ending_of_failure, JudgesFile, JudgesInput, Commands}
-use Rattle.srv6_cli.specs.Words.{Walk}
 use Rattle.compile_commands.specs.Compile.{CompiledWants, IntentWants, NetworkWants, asks_for_intent}
 use Rattle.walk_command.specs.Walk.{WalkWants, HasList, HasListIn, ReadsInput, StartsAs, no_list, walk_pieces, walk_output, walked, walk_shape}
 use Rattle.command_inputs.specs.Judgements.{network_in, intent_in}
@@ -99,19 +98,19 @@ module _ (file intent choices : List ℕ) where
 
   -- the description was refused, wasn't read, or memory was wanting
   pub walk_halted_at_file : (f g : FilesSeen) (s : SourceSeen) (o e : SinkSeen) (halt : Halt) → JudgesFile network_in file (Err halt) f g
-      → Commands (Walk file intent choices) (Err halt) (outside f s o e) (outside g s o e)
-  walk_halted_at_file f g s o e (halts.Refused refusal) h = refused_commands (Walk file intent choices) refusal f g s s o
+      → Commands (walk_shape file intent choices) (Err halt) (outside f s o e) (outside g s o e)
+  walk_halted_at_file f g s o e (halts.Refused refusal) h = refused_commands (walk_shape file intent choices) refusal f g s s o
       (wants (Err refusal) (λ input. Unit {0}) f.told s.left (refused refusal) h.0 (any-input s.left)
       (each f.told (λ held. (input : List ℕ) → Unit {0} → refused refusal ≡ refused refusal) (λ held input _. refl)))
       (inr (inl refl))
       (takes-unread Never f g s (asks_all (walk_shape file intent choices) Never (file ∷ []) f g
       (record { rest = intent ∷ []; whole = refl }) tt (names-refused refusal f.told h.0) h.1) refl) e
-  walk_halted_at_file f g s o e (halts.Failed failures.Fault) h = files_fault (Walk file intent choices) f g s o
+  walk_halted_at_file f g s o e (halts.Failed failures.Fault) h = files_fault (walk_shape file intent choices) f g s o
       (takes-unread AtFiles f g s (asks_fault (walk_shape file intent choices) (file ∷ []) f g
       (record { rest = intent ∷ []; whole = refl }) tt
       (each f.told (λ held. IsFrontOf (names_of (walk_shape file intent choices) held) (file ∷ []))
       (λ held. record { rest = behind held; whole = refl })) h) refl) e
-  walk_halted_at_file f g s o e (halts.Failed failures.NoMemory) h = memory_wants (Walk file intent choices) f g s s o
+  walk_halted_at_file f g s o e (halts.Failed failures.NoMemory) h = memory_wants (walk_shape file intent choices) f g s s o
       (takes-unread Elsewhere f g s (asks_front (walk_shape file intent choices) h.names f g
       (front_longer (file ∷ []) h.names (intent ∷ []) h.front)
       (each f.told (λ held. IsFrontOf (names_of (walk_shape file intent choices) held) h.names)
@@ -142,13 +141,13 @@ module _ (file intent choices : List ℕ) where
 
     -- the intent was refused, wasn't read, or memory was wanting
     pub walk_halted_at_intent : (halt : Halt) → JudgesFile (intent_in net) intent (Err halt) mid g
-        → Commands (Walk file intent choices) (Err halt) (outside f s o e) (outside g s o e)
-    walk_halted_at_intent (halts.Refused refusal) h = refused_commands (Walk file intent choices) refusal f g s s o
+        → Commands (walk_shape file intent choices) (Err halt) (outside f s o e) (outside g s o e)
+    walk_halted_at_intent (halts.Refused refusal) h = refused_commands (walk_shape file intent choices) refusal f g s s o
         (wants-intent (Err refusal) (λ input. Unit {0}) (refused refusal) h.0 (any-input s.left) (λ input _. refl))
         (inr (inl refl)) (takes-unread Never f g s (asks-both Never h.1) refl) e
-    walk_halted_at_intent (halts.Failed failures.Fault) h = files_fault (Walk file intent choices) f g s o
+    walk_halted_at_intent (halts.Failed failures.Fault) h = files_fault (walk_shape file intent choices) f g s o
         (takes-unread AtFiles f g s (asks-both AtFiles h) refl) e
-    walk_halted_at_intent (halts.Failed failures.NoMemory) h = memory_wants (Walk file intent choices) f g s s o
+    walk_halted_at_intent (halts.Failed failures.NoMemory) h = memory_wants (walk_shape file intent choices) f g s s o
         (takes-unread Elsewhere f g s (asks_front (walk_shape file intent choices) (file ∷ h.names) f g
         (front_after file (intent ∷ []) h.names h.front)
         (each-map f.told (λ held. names_of (walk_shape file intent choices) held ≡ file ∷ intent ∷ [])
@@ -166,19 +165,19 @@ module _ (file intent choices : List ℕ) where
 
       -- the network isn't flat, or memory was wanting
       pub walk_halted_at_start : (halt : Halt) → StartsAs net value (Err halt)
-          → Commands (Walk file intent choices) (Err halt) (outside f s o e) (outside g s o e)
-      walk_halted_at_start (halts.Refused refusal) h = refused_commands (Walk file intent choices) refusal f g s s o
+          → Commands (walk_shape file intent choices) (Err halt) (outside f s o e) (outside g s o e)
+      walk_halted_at_start (halts.Refused refusal) h = refused_commands (walk_shape file intent choices) refusal f g s s o
           (wants-answer (λ input. Unit {0}) (refused refusal) (any-input s.left) (λ input _. h choices input))
           (inr (inl refl)) (takes-unread Never f g s (asks-both Never read.1) refl) e
       walk_halted_at_start (halts.Failed failures.Fault) h = absurd h
-      walk_halted_at_start (halts.Failed failures.NoMemory) h = memory_wants (Walk file intent choices) f g s s o
+      walk_halted_at_start (halts.Failed failures.NoMemory) h = memory_wants (walk_shape file intent choices) f g s s o
           (takes-unread Elsewhere f g s (asks-both Elsewhere read.1) refl) e
 
       -- there is no list
       pub walk_without_list : (line : Text) (told : Told) → StartsAs net value (Ok (starts.NoList line))
           → told.line ≡ line → told.status ≡ statuses.NoAnswer
-          → Commands (Walk file intent choices) (Ok told) (outside f s o e) (outside g s o e)
-      walk_without_list line told h is status = pieces_whole (Walk file intent choices) [] (outside f s o e) (outside g s o e) told refl
+          → Commands (walk_shape file intent choices) (Ok told) (outside f s o e) (outside g s o e)
+      walk_without_list line told h is status = pieces_whole (walk_shape file intent choices) [] (outside f s o e) (outside g s o e) told refl
           (rw (is, status) (wants-answer (λ input. Unit {0}) (no_list (bytes_of_text line)) (any-input s.left)
           (λ input _. h choices input)))
           (rw status refl) (inr (inr (inl status))) (takes-unread Never f g s (asks-both Never read.1) refl)
@@ -226,13 +225,13 @@ module _ (file intent choices : List ℕ) where
 
         -- the input was refused, wasn't read, or memory was wanting
         pub walk_halted_at_input : (halt : Halt) → JudgesInput packets_in (Err halt) s t
-            → Commands (Walk file intent choices) (Err halt) (outside f s o e) (outside g t o e)
-        walk_halted_at_input (halts.Refused refusal) h = refused_commands (Walk file intent choices) refusal f g s t o
+            → Commands (walk_shape file intent choices) (Err halt) (outside f s o e) (outside g t o e)
+        walk_halted_at_input (halts.Refused refusal) h = refused_commands (walk_shape file intent choices) refusal f g s t o
             (wants-list (λ input. packets_in input ≡ Err refusal) (refused refusal) h.0 (λ input bad. rw bad refl))
             (inr (inl refl)) (takes Never read.1 h.1) e
-        walk_halted_at_input (halts.Failed failures.Fault) h = input_fault (Walk file intent choices) f g s t o
+        walk_halted_at_input (halts.Failed failures.Fault) h = input_fault (walk_shape file intent choices) f g s t o
             (takes AtInput read.1 h) e
-        walk_halted_at_input (halts.Failed failures.NoMemory) h = memory_wants (Walk file intent choices) f g s t o
+        walk_halted_at_input (halts.Failed failures.NoMemory) h = memory_wants (walk_shape file intent choices) f g s t o
             (takes Elsewhere read.1 h) e
 
         module _ (packets : Packets) (drawn : JudgesInput packets_in (Ok packets) s t) (p q : SinkSeen) where
@@ -254,32 +253,32 @@ module _ (file intent choices : List ℕ) where
           cut-by : (fault : Option Refusal) (failure : Failure)
               → WantedOf (walk_shape file intent choices) f.told s.left (ended_by before fault)
               → WroteAll (ending_of_failure failure) before (sinks_of o e) (sinks_of p q)
-              → Commands (Walk file intent choices) (Err (halts.Failed failure)) (outside f s o e) (outside g t p q)
-          cut-by None failure w wrote = pieces_cut (Walk file intent choices) before (outside f s o e) (outside g t p q)
+              → Commands (walk_shape file intent choices) (Err (halts.Failed failure)) (outside f s o e) (outside g t p q)
+          cut-by None failure w wrote = pieces_cut (walk_shape file intent choices) before (outside f s o e) (outside g t p q)
               failure [] statuses.Done refl wrote w takes-how
-          cut-by (Some refusal) failure w wrote = pieces_cut (Walk file intent choices) before (outside f s o e) (outside g t p q)
+          cut-by (Some refusal) failure w wrote = pieces_cut (walk_shape file intent choices) before (outside f s o e) (outside g t p q)
               failure (refusal_line refusal) statuses.Refused refl wrote w takes-how
 
           pub walk_halted_at_pieces : (failure : Failure) → WroteAll (ending_of_failure failure) before (sinks_of o e) (sinks_of p q)
-              → Commands (Walk file intent choices) (Err (halts.Failed failure)) (outside f s o e) (outside g t p q)
+              → Commands (walk_shape file intent choices) (Err (halts.Failed failure)) (outside f s o e) (outside g t p q)
           walk_halted_at_pieces failure wrote = cut-by (fault_of (reading_of packets)) failure wanted wrote
 
           -- they did, and nothing is behind the frames
           pub walk_done : (told : Told) → None ≡ fault_of (reading_of packets) → bytes_of_text told.line ≡ []
               → told.status ≡ statuses.Done → sinks_of p q ≡ gone before (sinks_of o e)
-              → Commands (Walk file intent choices) (Ok told) (outside f s o e) (outside g t p q)
+              → Commands (walk_shape file intent choices) (Ok told) (outside f s o e) (outside g t p q)
           walk_done told whole line status went =
               let none : WantedOf (walk_shape file intent choices) f.told s.left (ended_by before None) =
               subst (λ (fault : Option Refusal). WantedOf (walk_shape file intent choices) f.told s.left (ended_by before fault))
               (sym whole) wanted in
-              pieces_whole (Walk file intent choices) before (outside f s o e) (outside g t p q) told went
+              pieces_whole (walk_shape file intent choices) before (outside f s o e) (outside g t p q) told went
               (rw (line, status) none) (rw status refl) (inl status) (takes Never read.1 reads) (λ _ _. drawn.1)
 
           -- something is, which is refused
           pub walk_refused : (refusal : Refusal) → Some refusal ≡ fault_of (reading_of packets)
               → sinks_of p q ≡ gone before (sinks_of o e)
-              → Commands (Walk file intent choices) (Err (halts.Refused refusal)) (outside f s o e) (outside g t p q)
-          walk_refused refusal more went = pieces_refused (Walk file intent choices) before (outside f s o e) (outside g t p q) refusal went
+              → Commands (walk_shape file intent choices) (Err (halts.Refused refusal)) (outside f s o e) (outside g t p q)
+          walk_refused refusal more went = pieces_refused (walk_shape file intent choices) before (outside f s o e) (outside g t p q) refusal went
               (subst (λ (fault : Option Refusal). WantedOf (walk_shape file intent choices) f.told s.left (ended_by before fault))
               (sym more) wanted)
               (inr (inl refl)) (takes Never read.1 reads)

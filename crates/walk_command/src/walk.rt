@@ -10,19 +10,20 @@ ghost use Rattle.srv6_rules.specs.Policies.{IsPolicy, encapsulated_by};
 ghost use Rattle.policy_encap.specs.Inner.{HoldsInner};
 ghost use Rattle.intent_reader.specs.Rules.{IsIntent};
 ghost use Rattle.command_output.specs.Answers.{Commands, ending_of_step};
-ghost use Rattle.srv6_cli.specs.Words.{Walk};
 ghost use Rattle.compile_commands.specs.Compile.{HasValues};
 ghost use Rattle.run_commands.specs.Run.{packet_pieces};
-ghost use Rattle.walk_command.specs.Walk.{StartsAs, at_headend, ended_line, ended_of_frame, of_content, of_encapsulating, pieces_behind_head, policy_of, walk_at_headend, walk_pieces, walked_by, walked_of_frame};
+ghost use Rattle.walk_command.specs.Walk.{StartsAs, at_headend, ended_line, ended_of_frame, of_content, of_encapsulating, pieces_behind_head, policy_of, walk_at_headend, walk_pieces, walk_shape, walked_by, walked_of_frame};
 ghost use Rattle.command_output.specs.Outside.{outside};
 ghost use Rattle.command_inputs.specs.Packets.{HasHead, fault_of, reading_of};
 ghost use Rattle.command_output.specs.Pieces.{WroteAll, sinks_of};
 
-use command_inputs::{Next, Packets, intent_of_file, network_of_file, next_of, packets_of_input};
-use command_output::{Failure, Halt, Refusal, Status, Text, Told, Unread, line_of_packet, line_of_unread, refusal_of_not_flat, write_all};
-use compile_commands::{line_of_hop_limit, line_of_none, line_of_too_long};
-use run_commands::{Buffers, write_head, write_walk};
 use base::{NoMemory, Seq};
+use command_inputs::{Next, Packets, intent_of_file, network_of_file, next_of, packets_of_input};
+use command_output::{
+    Failure, Halt, Refusal, Status, Text, Told, Unread, line_of_packet, line_of_unread,
+    refusal_of_not_flat, write_all,
+};
+use compile_commands::{line_of_hop_limit, line_of_none, line_of_too_long};
 use intent_reader::Intent;
 use ip6_headers::{Ip4View, Ip6View};
 use list_pack::values;
@@ -32,6 +33,7 @@ use path_compiler::{CompileFault, Compiled};
 use pcap_io::{Body, CaptureHead, Frame, FrameReader, HEAD_LEN, MAX_FRAMES};
 use pkt_buf::PktBuf;
 use policy_encap::{EncapFault, encap};
+use run_commands::{Buffers, write_head, write_walk};
 use srv6_rules::numbers::{IPV6_HEADER_LEN, MOST_LEN};
 use srv6_rules::{Family, Policy, Reason};
 use srx_edge::{Files, Sink, Source};
@@ -494,7 +496,7 @@ pub fn walk<F: Files, S: Source, O: Sink, E: Sink>(
     err: &mut E,
 ) -> Result<Told, Halt>
     requires { 0 < length choices.now }
-    ensures { Commands (Walk file.now intent.now choices.now) result
+    ensures { Commands (walk_shape file.now intent.now choices.now) result
         (outside (F.seen files.old) (S.seen input.old) (O.seen out.old) (E.seen err.old))
         (outside (F.seen files.new) (S.seen input.new) (O.seen out.new) (E.seen err.new)) }
 {

@@ -17,7 +17,6 @@ use Rattle.command_output.specs.declared.refusal.Refusal.{Refusal}
 use Rattle.command_output.specs.declared.status.Status.{Status}
 use Rattle.command_output.specs.declared.status.Status.TheVariants as statuses
 use Rattle.command_output.specs.Answers.{ending_of_failure, JudgesFile, CommandsUnread}
-use Rattle.srv6_cli.specs.Words.{Compile}
 use Rattle.compile_commands.specs.Compile.{AnswerWants, IntentWants, NetworkWants, asks_for_intent, compile_shape, output_of_answer, GivesOf}
 use Rattle.command_inputs.specs.Judgements.{network_in, intent_in}
 use Rattle.command_output.specs.Outputs.{refused}
@@ -89,17 +88,17 @@ module _ (file intent : List ℕ) where
 
   -- the description was refused, wasn't read, or memory was wanting
   pub compile_halted_at_file : (f g : FilesSeen) (o : SinkSeen) (halt : Halt) → JudgesFile network_in file (Err halt) f g
-      → CommandsUnread (Compile file intent) (Err halt) f g o o
-  compile_halted_at_file f g o (halts.Refused refusal) h = λ s. refused_commands (Compile file intent) refusal f g s s o
+      → CommandsUnread (compile_shape file intent) (Err halt) f g o o
+  compile_halted_at_file f g o (halts.Refused refusal) h = λ s. refused_commands (compile_shape file intent) refusal f g s s o
       (wants (Err refusal) f.told s.left (refused refusal) h.0 (each f.told (λ held. refused refusal ≡ refused refusal) (λ held. refl)))
       (inr (inl refl))
       (takes Never f g s (asks_all (compile_shape file intent) Never (file ∷ []) f g (record { rest = intent ∷ []; whole = refl }) tt
       (names-refused refusal f.told h.0) h.1) refl)
-  compile_halted_at_file f g o (halts.Failed failures.Fault) h = λ s. files_fault (Compile file intent) f g s o
+  compile_halted_at_file f g o (halts.Failed failures.Fault) h = λ s. files_fault (compile_shape file intent) f g s o
       (takes AtFiles f g s (asks_fault (compile_shape file intent) (file ∷ []) f g (record { rest = intent ∷ []; whole = refl }) tt
       (each f.told (λ held. IsFrontOf (names_of (compile_shape file intent) held) (file ∷ []))
       (λ held. record { rest = behind held; whole = refl })) h) refl)
-  compile_halted_at_file f g o (halts.Failed failures.NoMemory) h = λ s. memory_wants (Compile file intent) f g s s o
+  compile_halted_at_file f g o (halts.Failed failures.NoMemory) h = λ s. memory_wants (compile_shape file intent) f g s s o
       (takes Elsewhere f g s (asks_front (compile_shape file intent) h.names f g (front_longer (file ∷ []) h.names (intent ∷ []) h.front)
       (each f.told (λ held. IsFrontOf (names_of (compile_shape file intent) held) h.names)
       (λ held. front_longer (file ∷ []) h.names (behind held) h.front)) h.seen) refl)
@@ -127,12 +126,12 @@ module _ (file intent : List ℕ) where
 
     -- the intent was refused, wasn't read, or memory was wanting
     pub compile_halted_at_intent : (halt : Halt) → JudgesFile (intent_in net) intent (Err halt) mid g
-        → CommandsUnread (Compile file intent) (Err halt) f g o o
-    compile_halted_at_intent (halts.Refused refusal) h = λ s. refused_commands (Compile file intent) refusal f g s s o
+        → CommandsUnread (compile_shape file intent) (Err halt) f g o o
+    compile_halted_at_intent (halts.Refused refusal) h = λ s. refused_commands (compile_shape file intent) refusal f g s s o
         (wants-intent (Err refusal) s.left (refused refusal) h.0 refl) (inr (inl refl)) (takes Never f g s (asks-both Never h.1) refl)
-    compile_halted_at_intent (halts.Failed failures.Fault) h = λ s. files_fault (Compile file intent) f g s o
+    compile_halted_at_intent (halts.Failed failures.Fault) h = λ s. files_fault (compile_shape file intent) f g s o
         (takes AtFiles f g s (asks-both AtFiles h) refl)
-    compile_halted_at_intent (halts.Failed failures.NoMemory) h = λ s. memory_wants (Compile file intent) f g s s o
+    compile_halted_at_intent (halts.Failed failures.NoMemory) h = λ s. memory_wants (compile_shape file intent) f g s s o
         (takes Elsewhere f g s (asks_front (compile_shape file intent) (file ∷ h.names) f g (front_after file (intent ∷ []) h.names h.front)
         (each-map f.told (λ held. names_of (compile_shape file intent) held ≡ file ∷ intent ∷ [])
         (λ held. IsFrontOf (names_of (compile_shape file intent) held) (file ∷ h.names))
@@ -147,11 +146,11 @@ module _ (file intent : List ℕ) where
       wants-answer left output w = wants-intent (Ok value) left output read.0 w
 
       -- the network isn't flat, or memory was wanting
-      pub compile_halted_at_answer : (halt : Halt) → GivesOf net value (Err halt) → CommandsUnread (Compile file intent) (Err halt) f g o o
-      compile_halted_at_answer (halts.Refused refusal) h = λ s. refused_commands (Compile file intent) refusal f g s s o
+      pub compile_halted_at_answer : (halt : Halt) → GivesOf net value (Err halt) → CommandsUnread (compile_shape file intent) (Err halt) f g o o
+      compile_halted_at_answer (halts.Refused refusal) h = λ s. refused_commands (compile_shape file intent) refusal f g s s o
           (wants-answer s.left (refused refusal) h) (inr (inl refl)) (takes Never f g s (asks-both Never read.1) refl)
       compile_halted_at_answer (halts.Failed failures.Fault) h = absurd h
-      compile_halted_at_answer (halts.Failed failures.NoMemory) h = λ s. memory_wants (Compile file intent) f g s s o
+      compile_halted_at_answer (halts.Failed failures.NoMemory) h = λ s. memory_wants (compile_shape file intent) f g s s o
           (takes Elsewhere f g s (asks-both Elsewhere read.1) refl)
 
       module _ (answer : Answer) (gives : GivesOf net value (Ok answer)) where
@@ -161,14 +160,14 @@ module _ (file intent : List ℕ) where
 
         -- the report didn't go out whole
         pub compile_halted_at_out : (failure : Failure) → Wrote (ending_of_failure failure) (bytes_of_text answer.report) o p
-            → CommandsUnread (Compile file intent) (Err (halts.Failed failure)) f g o p
-        compile_halted_at_out failure wrote = λ s. written_cut (Compile file intent) failure
+            → CommandsUnread (compile_shape file intent) (Err (halts.Failed failure)) f g o p
+        compile_halted_at_out failure wrote = λ s. written_cut (compile_shape file intent) failure
             (bytes_of_text answer.report) (bytes_of_text answer.told.line)
             answer.told.status f g s s o p wrote (wants-answer s.left (output_of_answer answer) gives.0) (takes-how s)
 
         -- it did
-        pub compile_done : p ≡ sent (bytes_of_text answer.report) o → CommandsUnread (Compile file intent) (Ok answer.told) f g o p
-        compile_done went = λ s. written_whole (Compile file intent) answer.told (bytes_of_text answer.report) f g s s o p went
+        pub compile_done : p ≡ sent (bytes_of_text answer.report) o → CommandsUnread (compile_shape file intent) (Ok answer.told) f g o p
+        compile_done went = λ s. written_whole (compile_shape file intent) answer.told (bytes_of_text answer.report) f g s s o p went
             (wants-answer s.left (output_of_answer answer) gives.0)
             (answer-status answer.told.status gives.1).0 (answer-status answer.told.status gives.1).1
             (takes Never f g s (asks-both Never read.1) refl) (λ _ no. cc)

@@ -16,7 +16,6 @@ use Rattle.command_output.specs.declared.status.Status.TheVariants as statuses
 use Rattle.command_inputs.specs.declared.packets.Packets.{Packets}
 use Rattle.command_output.specs.declared.told.Told.{Told}
 use Rattle.command_output.specs.Answers.{ending_of_failure, JudgesFile, JudgesInput, Commands}
-use Rattle.srv6_cli.specs.Words.{Run}
 use Rattle.command_inputs.specs.Judgements.{network_in, node_in}
 use Rattle.command_output.specs.Outputs.{refused, ended_by}
 use Rattle.command_output.specs.Lines.{bytes_of_text, refusal_line}
@@ -65,24 +64,24 @@ takes-unread file name choices stop f g s asks reads = record {
 module _ (file name choices : List ℕ) (f g : FilesSeen) (s t : SourceSeen) (o e : SinkSeen) where
   -- the file was refused, wasn't read, or memory was wanting
   run_halted_at_file : (halt : Halt) → JudgesFile network_in file (Err halt) f g
-      → Commands (Run file name choices) (Err halt) (outside f s o e) (outside g s o e)
-  run_halted_at_file (halts.Refused refusal) h = refused_commands (Run file name choices) refusal f g s s o
+      → Commands (run_shape file name choices) (Err halt) (outside f s o e) (outside g s o e)
+  run_halted_at_file (halts.Refused refusal) h = refused_commands (run_shape file name choices) refusal f g s s o
       (run-wants f.told s.left file name choices (λ text. network_in text ≡ Err refusal) (λ input. Unit {0}) (refused refusal)
       h.0 (any-input s.left)
       (λ text input is _. rw is refl))
       (inr (inl refl)) (takes-unread file name choices Never f g s (asks-file file name choices Never f g h.1) refl) e
   run_halted_at_file (halts.Failed failures.Fault) h =
-      files_fault (Run file name choices) f g s o (takes-unread file name choices AtFiles f g s
+      files_fault (run_shape file name choices) f g s o (takes-unread file name choices AtFiles f g s
       (asks-file file name choices AtFiles f g h) refl) e
-  run_halted_at_file (halts.Failed failures.NoMemory) h = memory_wants (Run file name choices) f g s s o
+  run_halted_at_file (halts.Failed failures.NoMemory) h = memory_wants (run_shape file name choices) f g s s o
       (takes-unread file name choices Elsewhere f g s (asks_front (run_shape file name choices) h.names f g h.front
       (each f.told (λ held. IsFrontOf (names_of (run_shape file name choices) held) h.names) (λ held. h.front)) h.seen) refl) e
 
   module _ (net : Network) (judged : JudgesFile network_in file (Ok net) f g) where
     -- the node's name was refused
     run_halted_at_node : (refusal : Refusal) → node_in net name ≡ Err refusal
-        → Commands (Run file name choices) (Err (halts.Refused refusal)) (outside f s o e) (outside g s o e)
-    run_halted_at_node refusal node = refused_commands (Run file name choices) refusal f g s s o
+        → Commands (run_shape file name choices) (Err (halts.Refused refusal)) (outside f s o e) (outside g s o e)
+    run_halted_at_node refusal node = refused_commands (run_shape file name choices) refusal f g s s o
         (run-wants f.told s.left file name choices (λ text. network_in text ≡ Ok net) (λ input. Unit {0}) (refused refusal)
         judged.0 (any-input s.left)
         (λ text input is _. rw (is, node) refl))
@@ -108,14 +107,14 @@ module _ (file name choices : List ℕ) (f g : FilesSeen) (s t : SourceSeen) (o 
 
       -- the input was refused, wasn't read, or memory was wanting
       run_halted_at_input : (halt : Halt) → JudgesInput packets_in (Err halt) s t
-          → Commands (Run file name choices) (Err halt) (outside f s o e) (outside g t o e)
-      run_halted_at_input (halts.Refused refusal) h = refused_commands (Run file name choices) refusal f g s t o
+          → Commands (run_shape file name choices) (Err halt) (outside f s o e) (outside g t o e)
+      run_halted_at_input (halts.Refused refusal) h = refused_commands (run_shape file name choices) refusal f g s t o
           (run-wants f.told s.left file name choices (λ text. network_in text ≡ Ok net) (λ input. packets_in input ≡ Err refusal)
           (refused refusal)
           judged.0 h.0 (λ text input is bad. rw (is, found, bad) refl))
           (inr (inl refl)) (takes Never judged.1 h.1) e
-      run_halted_at_input (halts.Failed failures.Fault) h = input_fault (Run file name choices) f g s t o (takes AtInput judged.1 h) e
-      run_halted_at_input (halts.Failed failures.NoMemory) h = memory_wants (Run file name choices) f g s t o (takes Elsewhere judged.1 h) e
+      run_halted_at_input (halts.Failed failures.Fault) h = input_fault (run_shape file name choices) f g s t o (takes AtInput judged.1 h) e
+      run_halted_at_input (halts.Failed failures.NoMemory) h = memory_wants (run_shape file name choices) f g s t o (takes Elsewhere judged.1 h) e
 
       module _ (packets : Packets) (drawn : JudgesInput packets_in (Ok packets) s t) (p q : SinkSeen) where
         abbrev before : List Piece
@@ -135,31 +134,31 @@ module _ (file name choices : List ℕ) (f g : FilesSeen) (s t : SourceSeen) (o 
         -- the packets' pieces didn't go out whole
         cut-by : (fault : Option Refusal) (failure : Failure) → WantedOf (run_shape file name choices) f.told s.left (ended_by before fault)
             → WroteAll (ending_of_failure failure) before (sinks_of o e) (sinks_of p q)
-            → Commands (Run file name choices) (Err (halts.Failed failure)) (outside f s o e) (outside g t p q)
-        cut-by None failure w wrote = pieces_cut (Run file name choices) before (outside f s o e) (outside g t p q) failure [] statuses.Done
+            → Commands (run_shape file name choices) (Err (halts.Failed failure)) (outside f s o e) (outside g t p q)
+        cut-by None failure w wrote = pieces_cut (run_shape file name choices) before (outside f s o e) (outside g t p q) failure [] statuses.Done
             refl wrote w takes-how
-        cut-by (Some refusal) failure w wrote = pieces_cut (Run file name choices) before (outside f s o e) (outside g t p q) failure
+        cut-by (Some refusal) failure w wrote = pieces_cut (run_shape file name choices) before (outside f s o e) (outside g t p q) failure
             (refusal_line refusal) statuses.Refused refl wrote w takes-how
 
         run_halted_at_pieces : (failure : Failure) → WroteAll (ending_of_failure failure) before (sinks_of o e) (sinks_of p q)
-            → Commands (Run file name choices) (Err (halts.Failed failure)) (outside f s o e) (outside g t p q)
+            → Commands (run_shape file name choices) (Err (halts.Failed failure)) (outside f s o e) (outside g t p q)
         run_halted_at_pieces failure wrote = cut-by (fault_of (reading_of packets)) failure wanted wrote
 
         -- they did, and nothing is behind the frames
         run_done : (told : Told) → None ≡ fault_of (reading_of packets) → bytes_of_text told.line ≡ [] → told.status ≡ statuses.Done
             → sinks_of p q ≡ gone before (sinks_of o e)
-            → Commands (Run file name choices) (Ok told) (outside f s o e) (outside g t p q)
+            → Commands (run_shape file name choices) (Ok told) (outside f s o e) (outside g t p q)
         run_done told whole line status went =
             let none : WantedOf (run_shape file name choices) f.told s.left (ended_by before None) =
             subst (λ (fault : Option Refusal). WantedOf (run_shape file name choices) f.told s.left (ended_by before fault))
             (sym whole) wanted in
-            pieces_whole (Run file name choices) before (outside f s o e) (outside g t p q) told went
+            pieces_whole (run_shape file name choices) before (outside f s o e) (outside g t p q) told went
             (rw (line, status) none) (rw status refl) (inl status) (takes Never judged.1 reads) (λ _ _. drawn.1)
 
         -- something is, which is refused
         run_refused : (refusal : Refusal) → Some refusal ≡ fault_of (reading_of packets) → sinks_of p q ≡ gone before (sinks_of o e)
-            → Commands (Run file name choices) (Err (halts.Refused refusal)) (outside f s o e) (outside g t p q)
-        run_refused refusal more went = pieces_refused (Run file name choices) before (outside f s o e) (outside g t p q) refusal went
+            → Commands (run_shape file name choices) (Err (halts.Refused refusal)) (outside f s o e) (outside g t p q)
+        run_refused refusal more went = pieces_refused (run_shape file name choices) before (outside f s o e) (outside g t p q) refusal went
             (subst (λ (fault : Option Refusal). WantedOf (run_shape file name choices) f.told s.left (ended_by before fault))
             (sym more) wanted)
             (inr (inl refl)) (takes Never judged.1 reads)

@@ -13,7 +13,6 @@ use Rattle.command_output.specs.declared.status.Status.TheVariants as statuses
 use Rattle.command_inputs.specs.declared.packets.Packets.{Packets}
 use Rattle.command_output.specs.declared.told.Told.{Told}
 use Rattle.command_output.specs.Answers.{ending_of_failure, JudgesInput, CommandsOut}
-use Rattle.srv6_cli.specs.Words.{Show}
 use Rattle.command_output.specs.Outputs.{refused, ended_by}
 use Rattle.command_output.specs.Lines.{bytes_of_text, refusal_line}
 use Rattle.command_output.specs.Outside.{outside, AsksAs, Reads, files_left_by}
@@ -50,13 +49,13 @@ takes stop f s t those seen reads = record {
 
 module _ (f : FilesSeen) (s t : SourceSeen) (o : SinkSeen) where
   -- the input was refused, wasn't read, or memory was wanting
-  show_halted_at_input : (halt : Halt) → JudgesInput packets_in (Err halt) s t → CommandsOut Show (Err halt) f f s t o o
-  show_halted_at_input (halts.Refused refusal) h = refused_commands Show refusal f f s t o
+  show_halted_at_input : (halt : Halt) → JudgesInput packets_in (Err halt) s t → CommandsOut show_shape (Err halt) f f s t o o
+  show_halted_at_input (halts.Refused refusal) h = refused_commands show_shape refusal f f s t o
       (show-wants f.told s.left (λ input. packets_in input ≡ Err refusal) (refused refusal) h.0 (λ input bad. rw bad refl))
       (inr (inl refl)) (takes Never f s t refl refl h.1)
-  show_halted_at_input (halts.Failed failures.Fault) h = input_fault Show f f s t o (takes AtInput f s t refl refl h)
+  show_halted_at_input (halts.Failed failures.Fault) h = input_fault show_shape f f s t o (takes AtInput f s t refl refl h)
   show_halted_at_input (halts.Failed failures.NoMemory) h =
-      memory_wants Show f f s t o (takes Elsewhere f s t (record { rest = []; whole = refl }) refl h)
+      memory_wants show_shape f f s t o (takes Elsewhere f s t (record { rest = []; whole = refl }) refl h)
 
   module _ (packets : Packets) (drawn : JudgesInput packets_in (Ok packets) s t) (p : SinkSeen) where
     abbrev bytes : List ℕ
@@ -78,25 +77,25 @@ module _ (f : FilesSeen) (s t : SourceSeen) (o : SinkSeen) where
 
     -- the lines didn't go out whole
     cut-by : (fault : Option Refusal) (failure : Failure) → WantedOf show_shape f.told s.left (ended_by (ForOut bytes ∷ []) fault)
-        → Wrote (ending_of_failure failure) bytes o p → CommandsOut Show (Err (halts.Failed failure)) f f s t o p
-    cut-by None failure w wrote = written_cut Show failure bytes [] statuses.Done f f s t o p wrote w takes-how
+        → Wrote (ending_of_failure failure) bytes o p → CommandsOut show_shape (Err (halts.Failed failure)) f f s t o p
+    cut-by None failure w wrote = written_cut show_shape failure bytes [] statuses.Done f f s t o p wrote w takes-how
     cut-by (Some refusal) failure w wrote =
-        written_cut Show failure bytes (refusal_line refusal) statuses.Refused f f s t o p wrote w takes-how
+        written_cut show_shape failure bytes (refusal_line refusal) statuses.Refused f f s t o p wrote w takes-how
 
     show_halted_at_out : (failure : Failure) → Wrote (ending_of_failure failure) bytes o p
-        → CommandsOut Show (Err (halts.Failed failure)) f f s t o p
+        → CommandsOut show_shape (Err (halts.Failed failure)) f f s t o p
     show_halted_at_out failure wrote = cut-by (fault_of (reading_of packets)) failure wanted wrote
 
     -- they did, and nothing is behind the frames
     show_done : (told : Told) → None ≡ fault_of (reading_of packets) → bytes_of_text told.line ≡ [] → told.status ≡ statuses.Done
-        → p ≡ sent bytes o → CommandsOut Show (Ok told) f f s t o p
-    show_done told whole line status went = written_whole Show told bytes f f s t o p went
+        → p ≡ sent bytes o → CommandsOut show_shape (Ok told) f f s t o p
+    show_done told whole line status went = written_whole show_shape told bytes f f s t o p went
         (rw (line, status) (wanted-by None whole)) (rw status refl) (inl status) (takes Never f s t refl refl reads) (λ _ _. drawn.1)
 
     -- something is, which is refused
     show_refused : (refusal : Refusal) → Some refusal ≡ fault_of (reading_of packets) → p ≡ sent bytes o
-        → CommandsOut Show (Err (halts.Refused refusal)) f f s t o p
-    show_refused refusal more went = λ err. pieces_refused Show (ForOut bytes ∷ []) (outside f s o err) (outside f t p err) refusal
+        → CommandsOut show_shape (Err (halts.Refused refusal)) f f s t o p
+    show_refused refusal more went = λ err. pieces_refused show_shape (ForOut bytes ∷ []) (outside f s o err) (outside f t p err) refusal
         (ap (λ (q : SinkSeen). (outside f t q err).sinks) went) (wanted-by (Some refusal) more) (inr (inl refl))
         (takes Never f s t refl refl reads)
 

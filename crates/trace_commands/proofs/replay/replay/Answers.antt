@@ -19,7 +19,6 @@ use Rattle.command_output.specs.declared.status.Status.TheVariants as statuses
 use Rattle.command_output.specs.declared.told.Judgement.{Judgement}
 use Rattle.command_output.specs.declared.told.Told.{Told}
 use Rattle.command_output.specs.Answers.{ending_of_failure, JudgesFile, CommandsUnread}
-use Rattle.srv6_cli.specs.Words.{Replay}
 use Rattle.command_output.specs.Outputs.{output_of_judgement}
 use Rattle.command_output.specs.Outputs.{reported}
 use Rattle.trace_commands.specs.Replay.{NetworkWants, asks_for_trace, replay_shape, replayed, replayed_by}
@@ -93,17 +92,17 @@ module _ (file trace : List ℕ) where
 
   -- the description was refused, wasn't read, or memory was wanting
   pub replay_halted_at_file : (f g : FilesSeen) (o : SinkSeen) (halt : Halt) → JudgesFile network_in file (Err halt) f g
-      → CommandsUnread (Replay file trace) (Err halt) f g o o
-  replay_halted_at_file f g o (halts.Refused refusal) h = λ s. refused_commands (Replay file trace) refusal f g s s o
+      → CommandsUnread (replay_shape file trace) (Err halt) f g o o
+  replay_halted_at_file f g o (halts.Refused refusal) h = λ s. refused_commands (replay_shape file trace) refusal f g s s o
       (wants (Err refusal) f.told s.left (refused refusal) h.0 (each f.told (λ held. refused refusal ≡ refused refusal) (λ held. refl)))
       (inr (inl refl))
       (takes Never f g s (asks_all (replay_shape file trace) Never (file ∷ []) f g (record { rest = trace ∷ []; whole = refl }) tt
       (names-refused refusal f.told h.0) h.1) refl)
-  replay_halted_at_file f g o (halts.Failed failures.Fault) h = λ s. files_fault (Replay file trace) f g s o
+  replay_halted_at_file f g o (halts.Failed failures.Fault) h = λ s. files_fault (replay_shape file trace) f g s o
       (takes AtFiles f g s (asks_fault (replay_shape file trace) (file ∷ []) f g (record { rest = trace ∷ []; whole = refl }) tt
       (each f.told (λ held. IsFrontOf (names_of (replay_shape file trace) held) (file ∷ []))
       (λ held. record { rest = behind held; whole = refl })) h) refl)
-  replay_halted_at_file f g o (halts.Failed failures.NoMemory) h = λ s. memory_wants (Replay file trace) f g s s o
+  replay_halted_at_file f g o (halts.Failed failures.NoMemory) h = λ s. memory_wants (replay_shape file trace) f g s s o
       (takes Elsewhere f g s (asks_front (replay_shape file trace) h.names f g (front_longer (file ∷ []) h.names (trace ∷ []) h.front)
       (each f.told (λ held. IsFrontOf (names_of (replay_shape file trace) held) h.names)
       (λ held. front_longer (file ∷ []) h.names (behind held) h.front)) h.seen) refl)
@@ -131,12 +130,12 @@ module _ (file trace : List ℕ) where
 
     -- the trace was refused, wasn't read, or memory was wanting
     pub replay_halted_at_trace : (halt : Halt) → JudgesFile (trace_in net) trace (Err halt) mid g
-        → CommandsUnread (Replay file trace) (Err halt) f g o o
-    replay_halted_at_trace (halts.Refused refusal) h = λ s. refused_commands (Replay file trace) refusal f g s s o
+        → CommandsUnread (replay_shape file trace) (Err halt) f g o o
+    replay_halted_at_trace (halts.Refused refusal) h = λ s. refused_commands (replay_shape file trace) refusal f g s s o
         (wants-trace (Err refusal) s.left (refused refusal) h.0 refl) (inr (inl refl)) (takes Never f g s (asks-both Never h.1) refl)
-    replay_halted_at_trace (halts.Failed failures.Fault) h = λ s. files_fault (Replay file trace) f g s o
+    replay_halted_at_trace (halts.Failed failures.Fault) h = λ s. files_fault (replay_shape file trace) f g s o
         (takes AtFiles f g s (asks-both AtFiles h) refl)
-    replay_halted_at_trace (halts.Failed failures.NoMemory) h = λ s. memory_wants (Replay file trace) f g s s o
+    replay_halted_at_trace (halts.Failed failures.NoMemory) h = λ s. memory_wants (replay_shape file trace) f g s s o
         (takes Elsewhere f g s (asks_front (replay_shape file trace) (file ∷ h.names) f g (front_after file (trace ∷ []) h.names h.front)
         (each-map f.told (λ held. names_of (replay_shape file trace) held ≡ file ∷ trace ∷ [])
         (λ held. IsFrontOf (names_of (replay_shape file trace) held) (file ∷ h.names))
@@ -147,8 +146,8 @@ module _ (file trace : List ℕ) where
 
     module _ (lines : List (List ℕ)) (read : JudgesFile (trace_in net) trace (Ok lines) mid g) where
       -- memory was wanting for the line
-      pub replay_halted_at_judgement : CommandsUnread (Replay file trace) (Err (halts.Failed failures.NoMemory)) f g o o
-      replay_halted_at_judgement = λ s. memory_wants (Replay file trace) f g s s o
+      pub replay_halted_at_judgement : CommandsUnread (replay_shape file trace) (Err (halts.Failed failures.NoMemory)) f g o o
+      replay_halted_at_judgement = λ s. memory_wants (replay_shape file trace) f g s s o
           (takes Elsewhere f g s (asks-both Elsewhere read.1) refl)
 
       module _ (judgement : Judgement) (says : output_of_judgement judgement ≡ replayed net lines) where
@@ -161,14 +160,14 @@ module _ (file trace : List ℕ) where
 
         -- the line didn't go out whole
         pub replay_halted_at_out : (failure : Failure) → Wrote (ending_of_failure failure) (bytes_of_text judgement.line) o p
-            → CommandsUnread (Replay file trace) (Err (halts.Failed failure)) f g o p
-        replay_halted_at_out failure wrote = λ s. written_cut (Replay file trace) failure (bytes_of_text judgement.line) []
+            → CommandsUnread (replay_shape file trace) (Err (halts.Failed failure)) f g o p
+        replay_halted_at_out failure wrote = λ s. written_cut (replay_shape file trace) failure (bytes_of_text judgement.line) []
             judgement.status f g s s o p wrote (wants-judgement s.left) (takes-how s)
 
         -- it did
         pub replay_done : (told : Told) → bytes_of_text told.line ≡ [] → told.status ≡ judgement.status
-            → p ≡ sent (bytes_of_text judgement.line) o → CommandsUnread (Replay file trace) (Ok told) f g o p
-        replay_done told line status went = λ s. written_whole (Replay file trace) told (bytes_of_text judgement.line)
+            → p ≡ sent (bytes_of_text judgement.line) o → CommandsUnread (replay_shape file trace) (Ok told) f g o p
+        replay_done told line status went = λ s. written_whole (replay_shape file trace) told (bytes_of_text judgement.line)
             f g s s o p went
             (subst (λ (output : Output). WantedOf (replay_shape file trace) f.told s.left output)
             (ap₂ (λ (l : List ℕ) (t : Status). reported (bytes_of_text judgement.line) l t) (sym line) (sym status))

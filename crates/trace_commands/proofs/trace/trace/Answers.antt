@@ -16,7 +16,6 @@ use Rattle.command_output.specs.declared.status.Status.TheVariants as statuses
 use Rattle.command_inputs.specs.declared.packets.Packets.{Packets}
 use Rattle.command_output.specs.declared.told.Told.{Told}
 use Rattle.command_output.specs.Answers.{ending_of_failure, JudgesFile, JudgesInput, CommandsOut}
-use Rattle.srv6_cli.specs.Words.{Trace}
 use Rattle.command_inputs.specs.Judgements.{network_in, node_in}
 use Rattle.command_output.specs.Outputs.{refused, ended_by}
 use Rattle.command_output.specs.Lines.{bytes_of_text, refusal_line}
@@ -66,24 +65,24 @@ takes-unread file name choices stop f g s asks reads = record {
 module _ (file name choices : List ℕ) (f g : FilesSeen) (s t : SourceSeen) (o : SinkSeen) where
   -- the file was refused, wasn't read, or memory was wanting
   trace_halted_at_file : (halt : Halt) → JudgesFile network_in file (Err halt) f g
-      → CommandsOut (Trace file name choices) (Err halt) f g s s o o
-  trace_halted_at_file (halts.Refused refusal) h = refused_commands (Trace file name choices) refusal f g s s o
+      → CommandsOut (trace_shape file name choices) (Err halt) f g s s o o
+  trace_halted_at_file (halts.Refused refusal) h = refused_commands (trace_shape file name choices) refusal f g s s o
       (trace-wants f.told s.left file name choices (λ text. network_in text ≡ Err refusal) (λ input. Unit {0}) (refused refusal)
       h.0 (any-input s.left)
       (λ text input is _. rw is refl))
       (inr (inl refl)) (takes-unread file name choices Never f g s (asks-file file name choices Never f g h.1) refl)
   trace_halted_at_file (halts.Failed failures.Fault) h =
-      files_fault (Trace file name choices) f g s o (takes-unread file name choices AtFiles f g s
+      files_fault (trace_shape file name choices) f g s o (takes-unread file name choices AtFiles f g s
       (asks-file file name choices AtFiles f g h) refl)
-  trace_halted_at_file (halts.Failed failures.NoMemory) h = memory_wants (Trace file name choices) f g s s o
+  trace_halted_at_file (halts.Failed failures.NoMemory) h = memory_wants (trace_shape file name choices) f g s s o
       (takes-unread file name choices Elsewhere f g s (asks_front (trace_shape file name choices) h.names f g h.front
       (each f.told (λ held. IsFrontOf (names_of (trace_shape file name choices) held) h.names) (λ held. h.front)) h.seen) refl)
 
   module _ (net : Network) (judged : JudgesFile network_in file (Ok net) f g) where
     -- the node's name was refused
     trace_halted_at_node : (refusal : Refusal) → node_in net name ≡ Err refusal
-        → CommandsOut (Trace file name choices) (Err (halts.Refused refusal)) f g s s o o
-    trace_halted_at_node refusal node = refused_commands (Trace file name choices) refusal f g s s o
+        → CommandsOut (trace_shape file name choices) (Err (halts.Refused refusal)) f g s s o o
+    trace_halted_at_node refusal node = refused_commands (trace_shape file name choices) refusal f g s s o
         (trace-wants f.told s.left file name choices (λ text. network_in text ≡ Ok net) (λ input. Unit {0}) (refused refusal)
         judged.0 (any-input s.left)
         (λ text input is _. rw (is, node) refl))
@@ -109,14 +108,14 @@ module _ (file name choices : List ℕ) (f g : FilesSeen) (s t : SourceSeen) (o 
 
       -- the input was refused, wasn't read, or memory was wanting
       trace_halted_at_input : (halt : Halt) → JudgesInput packets_in (Err halt) s t
-          → CommandsOut (Trace file name choices) (Err halt) f g s t o o
-      trace_halted_at_input (halts.Refused refusal) h = refused_commands (Trace file name choices) refusal f g s t o
+          → CommandsOut (trace_shape file name choices) (Err halt) f g s t o o
+      trace_halted_at_input (halts.Refused refusal) h = refused_commands (trace_shape file name choices) refusal f g s t o
           (trace-wants f.told s.left file name choices (λ text. network_in text ≡ Ok net) (λ input. packets_in input ≡ Err refusal)
           (refused refusal)
           judged.0 h.0 (λ text input is bad. rw (is, found, bad) refl))
           (inr (inl refl)) (takes Never judged.1 h.1)
-      trace_halted_at_input (halts.Failed failures.Fault) h = input_fault (Trace file name choices) f g s t o (takes AtInput judged.1 h)
-      trace_halted_at_input (halts.Failed failures.NoMemory) h = memory_wants (Trace file name choices) f g s t o (takes Elsewhere judged.1 h)
+      trace_halted_at_input (halts.Failed failures.Fault) h = input_fault (trace_shape file name choices) f g s t o (takes AtInput judged.1 h)
+      trace_halted_at_input (halts.Failed failures.NoMemory) h = memory_wants (trace_shape file name choices) f g s t o (takes Elsewhere judged.1 h)
 
       module _ (packets : Packets) (drawn : JudgesInput packets_in (Ok packets) s t) (p : SinkSeen) where
         abbrev bytes : List ℕ
@@ -142,26 +141,26 @@ module _ (file name choices : List ℕ) (f g : FilesSeen) (s t : SourceSeen) (o 
         cut-by : (fault : Option Refusal) (failure : Failure)
             → WantedOf (trace_shape file name choices) f.told s.left (ended_by (ForOut bytes ∷ []) fault)
             → Wrote (ending_of_failure failure) bytes o p
-            → CommandsOut (Trace file name choices) (Err (halts.Failed failure)) f g s t o p
+            → CommandsOut (trace_shape file name choices) (Err (halts.Failed failure)) f g s t o p
         cut-by None failure w wrote =
-            written_cut (Trace file name choices) failure bytes [] statuses.Done f g s t o p wrote w takes-how
+            written_cut (trace_shape file name choices) failure bytes [] statuses.Done f g s t o p wrote w takes-how
         cut-by (Some refusal) failure w wrote =
-            written_cut (Trace file name choices) failure bytes (refusal_line refusal) statuses.Refused f g s t o p wrote w takes-how
+            written_cut (trace_shape file name choices) failure bytes (refusal_line refusal) statuses.Refused f g s t o p wrote w takes-how
 
         trace_halted_at_out : (failure : Failure) → Wrote (ending_of_failure failure) bytes o p
-            → CommandsOut (Trace file name choices) (Err (halts.Failed failure)) f g s t o p
+            → CommandsOut (trace_shape file name choices) (Err (halts.Failed failure)) f g s t o p
         trace_halted_at_out failure wrote = cut-by (fault_of (reading_of packets)) failure wanted wrote
 
         -- it did, and nothing is behind the frames
         trace_done : (told : Told) → None ≡ fault_of (reading_of packets) → bytes_of_text told.line ≡ [] → told.status ≡ statuses.Done
-            → p ≡ sent bytes o → CommandsOut (Trace file name choices) (Ok told) f g s t o p
-        trace_done told whole line status went = written_whole (Trace file name choices) told bytes f g s t o p went
+            → p ≡ sent bytes o → CommandsOut (trace_shape file name choices) (Ok told) f g s t o p
+        trace_done told whole line status went = written_whole (trace_shape file name choices) told bytes f g s t o p went
             (rw (line, status) (wanted-by None whole)) (rw status refl) (inl status) (takes Never judged.1 reads) (λ _ _. drawn.1)
 
         -- something is, which is refused
         trace_refused : (refusal : Refusal) → Some refusal ≡ fault_of (reading_of packets) → p ≡ sent bytes o
-            → CommandsOut (Trace file name choices) (Err (halts.Refused refusal)) f g s t o p
-        trace_refused refusal more went = λ err. pieces_refused (Trace file name choices) (ForOut bytes ∷ []) (outside f s o err)
+            → CommandsOut (trace_shape file name choices) (Err (halts.Refused refusal)) f g s t o p
+        trace_refused refusal more went = λ err. pieces_refused (trace_shape file name choices) (ForOut bytes ∷ []) (outside f s o err)
             (outside g t p err) refusal
             (ap (λ (q : SinkSeen). (outside g t q err).sinks) went) (wanted-by (Some refusal) more) (inr (inl refl))
             (takes Never judged.1 reads)
