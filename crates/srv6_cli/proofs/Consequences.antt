@@ -1,14 +1,14 @@
 -- What `Serves` says of each fault and want.
 use Rattle.std.proofs.Common.{◌≡◌, ◌≢◌, inl, inr, ℕ, true, List, refl, sym, ap, ◌∙◌}
 use Rattle.srx_edge.specs.Steps.{Fault, Memory, Failing, Wanting}
-use Rattle.srv6_cli.specs.declared.status.Status.{Status}
-use Rattle.srv6_cli.specs.declared.status.Status.TheVariants as statuses
+use Rattle.command_output.specs.declared.status.Status.{Status}
+use Rattle.command_output.specs.declared.status.Status.TheVariants as statuses
 use Rattle.srv6_cli.specs.Command.{shape_of}
 use Rattle.srv6_cli.specs.Words.{Command}
 use Rattle.srv6_cli.specs.Laws.{HadFault, HadWant, AfterFilesFault, AfterInputFault, AfterOut, AfterOutFault, AfterOutWant, NoFault, NoWant, OneFault, OfServe}
-use Rattle.srv6_cli.specs.Outside.{Outside, Reads, asked_for_all, files_left_by}
-use Rattle.srv6_cli.specs.Pieces.{Piece, ToOut, ToErr, Sinks, Stop, Never, AtFiles, AtInput, At, Elsewhere, ending_by, Went}
-use Rattle.srv6_cli.specs.Serves.{ending_of_status, LinesLast}
+use Rattle.command_output.specs.Outside.{Outside, Reads, asked_for_all, files_left_by}
+use Rattle.command_output.specs.Pieces.{Piece, ToOut, ToErr, Sinks, Stop, Never, AtFiles, AtInput, At, Elsewhere, ending_by, Went}
+use Rattle.command_output.specs.Endings.{ending_of_status, LinesLast}
 use Rattle.srv6_cli.proofs.Stops.{count-stop, files-stop, input-stop}
 
 -- a count that changed is that of the stop

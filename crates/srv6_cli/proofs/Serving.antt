@@ -4,21 +4,22 @@ use Rattle.srx_edge.specs.FilesRead.{FilesSeen}
 use Rattle.srx_edge.specs.Sources.{SourceSeen, drained}
 use Rattle.srx_edge.specs.Sinks.{SinkSeen, sent}
 use Rattle.srx_edge.specs.Steps.{Ending, Whole, Fault, Memory, How, Failing, Wanting, Cut as CutBytes, Wrote}
-use Rattle.srv6_cli.specs.declared.halt.Failure.TheVariants as failures
-use Rattle.srv6_cli.specs.declared.halt.Halt.{Halt}
-use Rattle.srv6_cli.specs.declared.halt.Halt.TheVariants as halts
-use Rattle.srv6_cli.specs.declared.status.Status.{Status}
-use Rattle.srv6_cli.specs.declared.status.Status.TheVariants as statuses
-use Rattle.srv6_cli.specs.declared.told.Told.{Told}
-use Rattle.srv6_cli.specs.Answers.{EndsWith, Commands, Tells, Concludes}
+use Rattle.command_output.specs.declared.halt.Failure.TheVariants as failures
+use Rattle.command_output.specs.declared.halt.Halt.{Halt}
+use Rattle.command_output.specs.declared.halt.Halt.TheVariants as halts
+use Rattle.command_output.specs.declared.status.Status.{Status}
+use Rattle.command_output.specs.declared.status.Status.TheVariants as statuses
+use Rattle.command_output.specs.declared.told.Told.{Told}
+use Rattle.command_output.specs.Answers.{EndsWith, Commands, Tells, Concludes}
 use Rattle.srv6_cli.specs.Command.{shape_of}
 use Rattle.srv6_cli.specs.Words.{Command}
-use Rattle.srv6_cli.specs.Lines.{bytes_of_text, refusal_line}
-use Rattle.srv6_cli.specs.Outside.{Outside, AsksAs, Reads, asked_for_all, files_left_by}
-use Rattle.srv6_cli.specs.Pieces.{ForErr, ToErr, Output, Sinks, Stop, Never, AtFiles, AtInput, At, Elsewhere, ending_by, gone, Went, stop_at}
-use Rattle.srv6_cli.specs.Serves.{ending_of_status, OnWhole, OrNothing, LinesLast, Takes, Serves}
-use Rattle.srv6_cli.specs.Shape.{Shape, names_of, WantedOf, IsOneOf}
-use Rattle.srv6_cli.proofs.PieceLemmas.{gone-append, ending_by-stop_at, went_cut}
+use Rattle.command_output.specs.Lines.{bytes_of_text, refusal_line}
+use Rattle.command_output.specs.Outside.{Outside, AsksAs, Reads, asked_for_all, files_left_by}
+use Rattle.command_output.specs.Pieces.{ForErr, ToErr, Output, Sinks, Stop, Never, AtFiles, AtInput, At, Elsewhere, ending_by, gone, Went, stop_at}
+use Rattle.command_output.specs.Endings.{ending_of_status, OnWhole, OrNothing, LinesLast, Takes}
+use Rattle.srv6_cli.specs.Serves.{Serves}
+use Rattle.command_output.specs.Shape.{Shape, names_of, WantedOf, IsOneOf}
+use Rattle.command_output.proofs.PublicLaws.{gone-append, ending_by-stop_at, went_cut}
 
 -- the sinks, and what is outside, with another `err`
 abbrev pub with_err : SinkSeen → Outside → Outside
@@ -175,7 +176,7 @@ line-serves command last own status old mid err Elsewhere output is wanted ends 
 
 -- what a command leaves, and then its end, is what `serve` leaves
 pub serves : (command : Command) (answer : Result Told Halt) (status : Status) (old mid : Outside) (err : SinkSeen)
-    → Commands command answer old mid → Concludes answer status mid.sinks.err err → Serves command status old (with_err err mid)
+    → Commands (shape_of command) answer old mid → Concludes answer status mid.sinks.err err → Serves command status old (with_err err mid)
 serves command (Ok told) status old mid err c tells =
     line-serves command (bytes_of_text told.line) told.status status old mid err
     c.stop c.output c.ending c.wanted c.went c.status_own c.takes c.read_to_end tells
@@ -192,7 +193,7 @@ serves command (Err (halts.Failed failures.NoMemory)) status old mid err c is =
     (failed-serves command statuses.NoMemory old mid c.stop c.output c.ending (λ no. cc) c.wanted c.went c.lines_last c.takes))
 
 -- the status of a command's line is one of a whole call
-pub told_whole : (command : Command) (answer : Result Told Halt) (old mid : Outside) → Commands command answer old mid
+pub told_whole : (command : Command) (answer : Result Told Halt) (old mid : Outside) → Commands (shape_of command) answer old mid
     → IfOk answer (λ told. ending_of_status told.status ≡ Whole)
 told_whole command (Ok told) old mid c = c.went.whole
 told_whole command (Err halt) old mid c = tt

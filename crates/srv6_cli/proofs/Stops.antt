@@ -5,9 +5,9 @@ use Rattle.srx_edge.specs.FilesRead.{FilesSeen, asked_for}
 use Rattle.srx_edge.specs.Sources.{SourceSeen}
 use Rattle.srx_edge.specs.Sinks.{SinkSeen, sent}
 use Rattle.srx_edge.specs.Steps.{How, Failing, Wanting}
-use Rattle.srv6_cli.specs.Outside.{Reads, asked_for_all, files_left_by}
-use Rattle.srv6_cli.specs.Pieces.{Piece, ForOut, ForErr, Which, ToOut, ToErr, Sinks, gone, left_by, Stop, Never, AtFiles, AtInput, At, Elsewhere, Went}
-use Rattle.srv6_cli.proofs.PieceLemmas.{seen_of}
+use Rattle.command_output.specs.Outside.{Reads, asked_for_all, files_left_by}
+use Rattle.command_output.specs.Pieces.{Piece, ForOut, ForErr, Which, ToOut, ToErr, Sinks, gone, left_by, Stop, Never, AtFiles, AtInput, At, Elsewhere, Went}
+use Rattle.command_output.proofs.PublicLaws.{seen_of}
 
 -- a count of a sink
 

@@ -3,7 +3,7 @@ use Rattle.std.proofs.Common.{◌≡◌, ℕ, ◌<◌, arith, Bool, false, if◌
 use Rattle.std.specs.Prelude.{string_bytes}
 use Rattle.std.specs.declared.alloc.Global.{Global}
 use Rattle.srv6_cli.specs.Command.{command_of, words_of}
-use Rattle.srv6_cli.specs.Command.Show.{is_show}
+use Rattle.run_commands.specs.Show.{is_show}
 use Rattle.srv6_cli.specs.Words.{Show, Unknown}
 
 pub unknown_none : (words : List (String Global)) → length words < 1 → Unknown ≡ command_of (words_of words)

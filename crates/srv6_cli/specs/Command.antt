@@ -9,24 +9,23 @@ pub mod Show
 pub mod Gen
 use Rattle.std.specs.Prelude.{◌≡◌, ℕ, ◌<◌, true, false, if◌then◌else◌, List, [], ◌∷◌, length, map, Option, Some, None, String, string_bytes, ⊤}
 use Rattle.std.specs.declared.alloc.Global.{Global}
-use Rattle.srv6_cli.specs.declared.status.Status.TheVariants as statuses
-use Rattle.srv6_cli.specs.declared.commands.gen_.Made.{Made}
+use Rattle.command_output.specs.declared.status.Status.TheVariants as statuses
+use Rattle.generate_command.specs.declared.gen_.Made.{Made}
 use Rattle.srv6_cli.specs.declared.commands.Words.{Words}
 use Rattle.srv6_cli.specs.declared.commands.Words.TheVariants as words
-use Rattle.srv6_cli.specs.Choices.{choices_in}
-use Rattle.srv6_cli.specs.Lines.{usage_line}
-use Rattle.srv6_cli.specs.Pieces.{ForErr}
-use Rattle.srv6_cli.specs.Shape.{Shape}
+use Rattle.command_inputs.specs.Choices.{choices_in}
+use Rattle.command_output.specs.Pieces.{ForErr}
+use Rattle.command_output.specs.Shape.{Shape}
 use Rattle.srv6_cli.specs.Words.{Command}
 use Rattle.srv6_cli.specs.Words as commands
-use Rattle.srv6_cli.specs.Command.Run.{is_run, no_choices, run_shape}
-use Rattle.srv6_cli.specs.Command.Compile.{is_compile, compile_shape}
-use Rattle.srv6_cli.specs.Command.Check.{is_check, check_shape}
-use Rattle.srv6_cli.specs.Command.Walk.{is_walk, walk_shape}
-use Rattle.srv6_cli.specs.Command.Trace.{is_trace, trace_shape}
-use Rattle.srv6_cli.specs.Command.Replay.{is_replay, replay_shape}
-use Rattle.srv6_cli.specs.Command.Show.{is_show, show_shape}
-use Rattle.srv6_cli.specs.Command.Gen.{gen_shape, is_gen, made_in, size_in}
+use Rattle.run_commands.specs.Run.{is_run, no_choices, run_shape}
+use Rattle.compile_commands.specs.Compile.{is_compile, compile_shape}
+use Rattle.compile_commands.specs.Check.{is_check, check_shape}
+use Rattle.walk_command.specs.Walk.{is_walk, walk_shape}
+use Rattle.trace_commands.specs.Trace.{is_trace, trace_shape}
+use Rattle.trace_commands.specs.Replay.{is_replay, replay_shape}
+use Rattle.run_commands.specs.Show.{is_show, show_shape}
+use Rattle.generate_command.specs.Gen.{gen_shape, is_gen, made_in, size_in}
 
 abbrev pub command_of_one : List ℕ → Command
 command_of_one verb = if is_show verb then commands.Show else commands.Unknown
@@ -78,6 +77,10 @@ command_of (verb ∷ first ∷ second ∷ third ∷ fourth ∷ more) = commands.
 abbrev pub words_of : List (String Global) → List (List ℕ)
 words_of words = map string_bytes words
 
+-- the line that says how the program is called
+unfoldable pub usage_line : List ℕ
+usage_line = line (codes "usage: srv6 compile|check|walk|run|trace|replay|show|gen")
+
 -- words that are no command have the line that says how the program is called
 abbrev pub usage_shape : Shape
 usage_shape = record {
@@ -124,3 +127,8 @@ HasChoices (words.Replay file trace) = ⊤
 HasChoices words.Show = ⊤
 HasChoices (words.Gen size made) = ⊤
 HasChoices words.Unknown = ⊤
+
+-- words that are no command have that line
+abbrev pub UsageTold : Result Told Halt → Type 0
+UsageTold (Ok told) = (bytes_of_text told.line ≡ usage_line) × (told.status ≡ statuses.Usage)
+UsageTold (Err halt) = ⊥

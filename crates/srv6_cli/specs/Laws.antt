@@ -2,10 +2,10 @@
 use Rattle.std.specs.Prelude.{◌≡◌, ◌⊎◌, true, IsTrue}
 use Rattle.srx_edge.specs.Edge.{next_count}
 use Rattle.srx_edge.specs.Sinks.{SinkSeen}
-use Rattle.srv6_cli.specs.declared.status.Status.{Status}
+use Rattle.command_output.specs.declared.status.Status.{Status}
 use Rattle.srv6_cli.specs.Command.{shape_of}
 use Rattle.srv6_cli.specs.Words.{Command}
-use Rattle.srv6_cli.specs.Outside.{Outside}
+use Rattle.command_output.specs.Outside.{Outside}
 use Rattle.srv6_cli.specs.Serves.{Serves}
 
 -- a sink had one fault, or one want, and no call that did anything came after it

@@ -1,30 +1,26 @@
 //! The words of the command line, and the call of the command that they name.
 
 ghost use Rattle.std.specs.Prelude.{◌≡◌, IfOk};
-ghost use Rattle.srv6_cli.specs.Answers.{Commands, UsageTold};
-ghost use Rattle.srv6_cli.specs.Choices.{choices_in};
-ghost use Rattle.srv6_cli.specs.Command.{HasChoices, command_of, command_of_four, command_of_three, command_seen, gen_with, run_with, trace_with, walk_with, words_of};
-ghost use Rattle.srv6_cli.specs.Command.Gen.{made_in, size_in};
-ghost use Rattle.srv6_cli.specs.Outside.{outside};
+ghost use Rattle.command_output.specs.Answers.{Commands};
+ghost use Rattle.srv6_cli.specs.Command.{UsageTold};
+ghost use Rattle.command_inputs.specs.Choices.{choices_in};
+ghost use Rattle.srv6_cli.specs.Command.{HasChoices, command_of, command_of_four, command_of_three, command_seen, gen_with, run_with, shape_of, trace_with, walk_with, words_of};
+ghost use Rattle.generate_command.specs.Gen.{made_in, size_in};
+ghost use Rattle.command_output.specs.Outside.{outside};
 
-mod check;
-mod compile;
-mod gen_;
-mod replay;
-mod run;
-mod show;
-mod trace;
-pub(crate) mod walk;
-
-use crate::choices::choices_of;
-use crate::halt::Halt;
-use crate::lines::USAGE;
-use crate::status::Status;
-use crate::told::{Text, Told};
-use gen_::{Made, made_of_word, size_of_word};
+use command_inputs::choices_of;
+use command_output::{Halt, Status, Text, Told};
+use compile_commands::{check, compile};
+use generate_command::{Made, generate, made_of_word, size_of_word};
 use net_maker::Size;
+use run_commands::{run, show};
 use srx_edge::{Files, Sink, Source};
 use std::alloc::{AllocError, Global};
+use trace_commands::{replay, trace};
+use walk_command::walk;
+
+/// The line that says how the program is called.
+pub const USAGE: &[u8] = b"usage: srv6 compile|check|walk|run|trace|replay|show|gen\n";
 
 /// What the words ask for.
 #[derive(Debug, Drop)]
@@ -274,7 +270,7 @@ fn read_words(alloc: Global, words: &[String]) -> Result<Words<'_>, AllocError>
 }
 
 /// Words that are no command.
-#[tactic(auto, unfolding(crate::specs::Lines::usage_line))]
+#[tactic(auto, unfolding(crate::specs::Command::usage_line))]
 fn usage() -> Result<Told, Halt>
     ensures { UsageTold result }
 {
@@ -294,7 +290,7 @@ pub fn command<F: Files, S: Source, O: Sink, E: Sink>(
     out: &mut O,
     err: &mut E,
 ) -> Result<Told, Halt>
-    ensures { Commands (command_of (words_of words.now)) result
+    ensures { Commands (shape_of (command_of (words_of words.now))) result
         (outside (F.seen files.old) (S.seen input.old) (O.seen out.old) (E.seen err.old))
         (outside (F.seen files.new) (S.seen input.new) (O.seen out.new) (E.seen err.new)) }
 {
@@ -336,7 +332,7 @@ pub fn command<F: Files, S: Source, O: Sink, E: Sink>(
         } => trace::trace(alloc, file, node, choices.as_slice(), files, input, out),
         Words::Replay { file, trace } => replay::replay(alloc, file, trace, files, out),
         Words::Show => show::show(alloc, input, out),
-        Words::Gen { size, made } => gen_::generate(alloc, size, made, out),
+        Words::Gen { size, made } => generate(alloc, size, made, out),
         Words::Unknown => usage(),
     }
 }

@@ -2,10 +2,9 @@
 //! Each law is of every call, also over files, an input and sinks that tell nothing.
 
 ghost use Rattle.std.specs.Prelude.{◌≡◌, ◌≢◌};
-ghost use Rattle.srv6_cli.specs.Command.Walk.{WalksKeepTo};
 ghost use Rattle.srv6_cli.specs.Laws.{OfServe, HadFault, HadWant, AfterFilesFault, AfterInputFault, AfterOutFault, AfterOutWant, NoFault, NoWant, OneFault};
 
-use crate::status::Status;
+use command_output::Status;
 
 /// Where a count of faults changed, it went on by one, what failed was not called again, and what
 /// follows it in the order files, input, pieces was neither read nor written. (own rule)
@@ -38,12 +37,4 @@ pub fn counts_go_with_their_status()
         status ≢ Status.OutsideFault → NoFault old new) }
     ensures no_want { OfServe (λ command status old new.
         status ≢ Status.NoMemory → NoWant old new) }
-{}
-
-/// An inner packet whose hop limit is at least 2, and whose outer packet is not too big, enters at
-/// the headend. Its walk, which `walk` writes, crosses and executes exactly the intent's steps, in
-/// order, up to where it first hands a packet over, whatever is chosen; and that is the inner packet
-/// with its hop limit lowered by one, and nothing else changed. (RFC 8986 sections 5.1 and 5.2)
-pub fn a_walk_keeps_to_the_intent()
-    ensures { WalksKeepTo }
 {}

@@ -2,17 +2,14 @@
 
 ghost use Rattle.std.specs.Prelude.{◌≡◌, IfOk};
 ghost use Rattle.srx_edge.specs.Steps.{Whole};
-ghost use Rattle.srv6_cli.specs.Answers.{Tells, Concludes, ending_of_failure};
+ghost use Rattle.command_output.specs.Answers.{Tells, Concludes, ending_of_failure};
 ghost use Rattle.srv6_cli.specs.Command.{command_of, words_of};
-ghost use Rattle.srv6_cli.specs.Outside.{outside};
-ghost use Rattle.srv6_cli.specs.Serves.{Serves, ending_of_status};
+ghost use Rattle.command_output.specs.Outside.{outside};
+ghost use Rattle.srv6_cli.specs.Serves.{Serves};
+ghost use Rattle.command_output.specs.Endings.{ending_of_status};
 
 use crate::commands::command;
-use crate::halt::{Failure, Halt};
-use crate::lines::line_of_refusal;
-use crate::status::Status;
-use crate::told::Told;
-use crate::walk::write_all;
+use command_output::{Failure, Halt, Status, Told, line_of_refusal, write_all};
 use srx_edge::{Files, Sink, Source};
 use std::alloc::Global;
 

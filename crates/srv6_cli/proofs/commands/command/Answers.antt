@@ -1,13 +1,14 @@
 use Rattle.std.proofs.Common.{sym, ap, ◌∙◌}
 use Rattle.std.proofs.lemmas.Result.{err_from_is_err_and}
-use Rattle.srv6_cli.specs.Command.{command_of, command_seen, words_of}
-use Rattle.srv6_cli.proofs.Commanding.{memory_first, usage_commands}
+use Rattle.srv6_cli.specs.Command.{command_of, command_seen, shape_of, words_of}
+use Rattle.command_output.proofs.PublicLaws.{memory_first}
+use Rattle.srv6_cli.proofs.Usage.{usage_commands}
 use Rattle.srv6_cli.proofs.commands.command.Goals as goal
 
 pub returns-in_err-file : goal.returns-in_err-file
 returns-in_err-file g c =
     let p = err_from_is_err_and c.from_residual.result c.from_residual.ensures.1 in
-    rw (p.1, p.2) (memory_first (command_of (words_of c.args.words.now))
+    rw (p.1, p.2) (memory_first (shape_of (command_of (words_of c.args.words.now)))
     (g.F.Files.seen c.args.files.now) (g.S.Source.seen c.args.input.now) (g.O.Sink.seen c.args.out.now) (g.E.Sink.seen c.args.err.now))
 
 pub returns-in-Unknown : goal.returns-in-Unknown

@@ -1,6 +1,6 @@
 use Rattle.std.proofs.Common.{sym, ap, ◌∙◌}
-use Rattle.srv6_cli.specs.Choices.{items_of}
-use Rattle.srv6_cli.proofs.ChoiceLemmas.{choices_in-some}
+use Rattle.command_inputs.specs.Choices.{items_of}
+use Rattle.command_inputs.proofs.PublicLaws.{choices_in-some}
 use Rattle.srv6_cli.proofs.commands.walk_with.Goals as goal
 
 pub returns-in-Some-clause-some : goal.returns-in-Some-clause-some

@@ -1,0 +1,176 @@
+-- What files and the input give, as they were judged.
+use Rattle.std.proofs.Common.{◌≡◌, ℕ, ◌<◌, ◌≤◌, true, false, List, [], ◌∷◌, length, nat_lt, Option, None, Some, IfSome, Result, Ok, Err, refl, sym, ap, subst, rules}
+use Rattle.std.proofs.lemmas.Bool.{le-ltb}
+use Rattle.std.specs.Prelude.{IsSomeAnd}
+use Rattle.srx_edge.specs.Edge.{file_named}
+use Rattle.srx_edge.specs.FilesRead.{FilesSeen, asked_for}
+use Rattle.srx_edge.specs.Sources.{SourceSeen, drained, Draws}
+use Rattle.srx_edge.specs.declared.input.DrawFault.{DrawFault}
+use Rattle.srx_edge.specs.declared.input.DrawFault.TheVariants as draws
+use Rattle.pcap_io.specs.declared.fault.CaptureFault.{CaptureFault}
+use Rattle.pcap_io.specs.declared.head.CaptureHead.{CaptureHead}
+use Rattle.pcap_io.specs.Head.{head_of}
+use Rattle.net_model.specs.Network.{Network}
+use Rattle.net_model.specs.declared.fault.NetFault.{NetFault}
+use Rattle.net_model.specs.declared.fault.NetFault.TheVariants as nets
+use Rattle.toml_words.specs.Reading.{Gives as ReadsAs}
+use Rattle.net_reader.specs.Reading.{net_in}
+use Rattle.intent_reader.specs.declared.intent.Intent.{Intent}
+use Rattle.intent_reader.specs.declared.fault.IntentFault.{IntentFault}
+use Rattle.intent_reader.specs.declared.fault.IntentFault.TheVariants as intents
+use Rattle.intent_reader.specs.Reading.{Gives as ReadsIntentAs}
+use Rattle.intent_reader.specs.Judging.{intent_of_text}
+use Rattle.command_inputs.specs.declared.limits.TheConstants.{FILE_LIMIT, INPUT_LIMIT}
+use Rattle.command_inputs.specs.declared.packets.Packets.{Packets}
+use Rattle.command_inputs.specs.declared.packets.Packets.TheVariants.{Bare, Capture}
+use Rattle.command_output.specs.declared.halt.Failure.TheVariants as failures
+use Rattle.command_output.specs.declared.halt.Halt.{Halt}
+use Rattle.command_output.specs.declared.halt.Halt.TheVariants as halts
+use Rattle.command_output.specs.declared.refusal.Refusal.{Refusal}
+use Rattle.command_output.specs.declared.refusal.Refusal.TheVariants as refusals
+use Rattle.command_output.specs.Answers.{JudgesFile, JudgesText, JudgesInput}
+use Rattle.command_output.specs.Halts.{halt_of_net, halt_of_intent, halt_of_draw, halt_of_refusal}
+use Rattle.command_inputs.specs.Judgements.{network_by, network_in, intent_by, intent_in}
+use Rattle.command_output.specs.Outside.{AsksForFront}
+use Rattle.command_inputs.specs.Packets.{packets_in, is_bare}
+
+-- what is told of a text that was read is told of the judgement of it
+pub judged-text : {A : Type 0} (judge : List ℕ → Result A Refusal) (judged : Result A Refusal) (text name : List ℕ)
+    (told : Option (List (List ℕ × List ℕ)))
+    → IfSome told (λ files. file_named files name ≡ Some text) → judge text ≡ judged
+    → IfSome told (λ held. IsSomeAnd (file_named held name) (λ t. judge t ≡ judged))
+judged-text judge judged text name None reads is = tt
+judged-text judge judged text name (Some held) reads is =
+    subst (λ (o : Option (List ℕ)). IsSomeAnd o (λ t. judge t ≡ judged)) (sym reads) is
+
+pub asks-one : (name : List ℕ) (old new : FilesSeen) → new ≡ asked_for name old → AsksForFront (name ∷ []) old new
+asks-one name old new seen = record { names = name ∷ []; front = record { rest = []; whole = refl }; seen = seen }
+
+-- a text within the limit that was read as the description of a network, or has a fault
+
+net-small : (text : List ℕ) (read : Result Network NetFault) → length text ≤ FILE_LIMIT → net_in text ≡ read
+    → network_in text ≡ network_by read
+net-small text read fits is =
+    let small : nat_lt FILE_LIMIT (length text) ≡ false = le-ltb FILE_LIMIT (length text) fits in
+    rw small (ap network_by is)
+
+pub network_judged : (net : Network) (text : List ℕ) → length text ≤ FILE_LIMIT → ReadsAs (λ n. n) (Ok net) (net_in text)
+    → JudgesText network_in text (Ok net)
+network_judged net text fits h = net-small text (Ok net) fits h
+
+pub network_refused : (fault : NetFault) (text : List ℕ) → length text ≤ FILE_LIMIT → ReadsAs (λ (n : Network). n) (Err fault) (net_in text)
+    → JudgesText network_in text (Err (halt_of_net fault))
+network_refused nets.NotToml text fits h = net-small text (Err nets.NotToml) fits (h (λ e. cc))
+network_refused (nets.MissingKey table item key) text fits h = net-small text (Err (nets.MissingKey table item key)) fits (h (λ e. cc))
+network_refused (nets.WrongKind table item) text fits h = net-small text (Err (nets.WrongKind table item)) fits (h (λ e. cc))
+network_refused (nets.UnknownKey table item) text fits h = net-small text (Err (nets.UnknownKey table item)) fits (h (λ e. cc))
+network_refused (nets.BadName table item) text fits h = net-small text (Err (nets.BadName table item)) fits (h (λ e. cc))
+network_refused (nets.UnknownName table item) text fits h = net-small text (Err (nets.UnknownName table item)) fits (h (λ e. cc))
+network_refused (nets.DoubleName table item) text fits h = net-small text (Err (nets.DoubleName table item)) fits (h (λ e. cc))
+network_refused (nets.BadAddress table item) text fits h = net-small text (Err (nets.BadAddress table item)) fits (h (λ e. cc))
+network_refused (nets.BadFlavour table item) text fits h = net-small text (Err (nets.BadFlavour table item)) fits (h (λ e. cc))
+network_refused (nets.BadStructure table item) text fits h = net-small text (Err (nets.BadStructure table item)) fits (h (λ e. cc))
+network_refused (nets.DoublePrefix table item) text fits h = net-small text (Err (nets.DoublePrefix table item)) fits (h (λ e. cc))
+network_refused (nets.Limit table item what value) text fits h = net-small text (Err (nets.Limit table item what value)) fits (h (λ e. cc))
+network_refused nets.NoMemory text fits h = tt
+
+pub network_too_big : (text : List ℕ) → FILE_LIMIT < length text
+    → JudgesText network_in text (Err (halts.Refused (refusals.TooBig FILE_LIMIT)))
+network_too_big text more = let many : nat_lt FILE_LIMIT (length text) ≡ true = search rules in rw many refl
+
+-- the same of an intent
+
+intent-small : (net : Network) (text : List ℕ) (read : Result Intent IntentFault) → length text ≤ FILE_LIMIT
+    → intent_of_text net text ≡ read
+    → intent_in net text ≡ intent_by read
+intent-small net text read fits is =
+    let small : nat_lt FILE_LIMIT (length text) ≡ false = le-ltb FILE_LIMIT (length text) fits in
+    rw small (ap intent_by is)
+
+pub intent_judged : (net : Network) (intent : Intent) (text : List ℕ) → length text ≤ FILE_LIMIT
+    → ReadsIntentAs (λ i. i) (Ok intent) (intent_of_text net text) → JudgesText (intent_in net) text (Ok intent)
+intent_judged net intent text fits h = intent-small net text (Ok intent) fits h
+
+pub intent_refused : (net : Network) (fault : IntentFault) (text : List ℕ) → length text ≤ FILE_LIMIT
+    → ReadsIntentAs (λ (i : Intent). i) (Err fault) (intent_of_text net text)
+    → JudgesText (intent_in net) text (Err (halt_of_intent fault))
+intent_refused net (intents.Text fault) text fits h = intent-small net text (Err (intents.Text fault)) fits (h (λ e. cc))
+intent_refused net (intents.UnknownName step) text fits h = intent-small net text (Err (intents.UnknownName step)) fits (h (λ e. cc))
+intent_refused net (intents.Broken step) text fits h = intent-small net text (Err (intents.Broken step)) fits (h (λ e. cc))
+intent_refused net (intents.NoFunction step) text fits h = intent-small net text (Err (intents.NoFunction step)) fits (h (λ e. cc))
+intent_refused net intents.NotFunctionLast text fits h = intent-small net text (Err intents.NotFunctionLast) fits (h (λ e. cc))
+intent_refused net (intents.DoubleLink step) text fits h = intent-small net text (Err (intents.DoubleLink step)) fits (h (λ e. cc))
+intent_refused net intents.NoMemory text fits h = tt
+
+pub intent_too_big : (net : Network) (text : List ℕ) → FILE_LIMIT < length text
+    → JudgesText (intent_in net) text (Err (halts.Refused (refusals.TooBig FILE_LIMIT)))
+intent_too_big net text more = let many : nat_lt FILE_LIMIT (length text) ≡ true = search rules in rw many refl
+
+pub ruleset texts = (network_judged, network_refused, network_too_big, intent_judged, intent_refused, intent_too_big)
+
+-- a text that was read from a file, as it was judged
+pub judged_file : {A : Type 0} (judge : List ℕ → Result A Refusal) (judged : Result A Halt) (text name : List ℕ) (old new : FilesSeen)
+    → IfSome old.told (λ files. file_named files name ≡ Some text) → new ≡ asked_for name old → JudgesText judge text judged
+    → JudgesFile judge name judged old new
+judged_file judge (Ok a) text name old new reads seen is = (judged-text judge (Ok a) text name old.told reads is, seen)
+judged_file judge (Err (halts.Refused refusal)) text name old new reads seen is =
+    (judged-text judge (Err refusal) text name old.told reads is, seen)
+judged_file judge (Err (halts.Failed failures.Fault)) text name old new reads seen none = absurd none
+judged_file judge (Err (halts.Failed failures.NoMemory)) text name old new reads seen is = asks-one name old new seen
+
+pub ruleset files = (judged_file)
+
+-- what the input is
+
+pub packets_in-bare : (input : List ℕ) → length input ≤ INPUT_LIMIT → is_bare input ≡ true → packets_in input ≡ Ok (Bare input)
+packets_in-bare input h bare =
+    let small : nat_lt INPUT_LIMIT (length input) ≡ false = le-ltb INPUT_LIMIT (length input) h in
+    rw (small, bare) refl
+
+pub packets_in-capture : (input : List ℕ) (head : CaptureHead) → length input ≤ INPUT_LIMIT → is_bare input ≡ false
+    → Ok head ≡ head_of input
+    → packets_in input ≡ Ok (Capture head input)
+packets_in-capture input head h bare is =
+    let small : nat_lt INPUT_LIMIT (length input) ≡ false = le-ltb INPUT_LIMIT (length input) h in
+    rw (small, bare, ← is) refl
+
+pub packets_in-fault : (input : List ℕ) (fault : CaptureFault) → length input ≤ INPUT_LIMIT → is_bare input ≡ false
+    → Err fault ≡ head_of input
+    → packets_in input ≡ Err (refusals.Capture fault)
+packets_in-fault input fault h bare is =
+    let small : nat_lt INPUT_LIMIT (length input) ≡ false = le-ltb INPUT_LIMIT (length input) h in
+    rw (small, bare, ← is) refl
+
+pub ruleset contents = (packets_in-bare, packets_in-capture, packets_in-fault)
+
+-- what was drawn is what was left
+drawn : (judged : Result Packets Refusal) (bytes : List ℕ) (left : Option (List ℕ)) → IfSome left (λ input. bytes ≡ input)
+    → packets_in bytes ≡ judged
+    → IfSome left (λ input. packets_in input ≡ judged)
+drawn judged bytes None all is = tt
+drawn judged bytes (Some input) all is = subst (λ (b : List ℕ). packets_in b ≡ judged) all is
+
+pub packets_judged : (packets : Packets) (bytes : List ℕ) (old new : SourceSeen) → IfSome old.left (λ input. bytes ≡ input)
+    → new ≡ drained old
+    → packets_in bytes ≡ Ok packets → JudgesInput packets_in (Ok packets) old new
+packets_judged packets bytes old new all seen is = (drawn (Ok packets) bytes old.left all is, seen)
+
+pub packets_refused : (refusal : Refusal) (bytes : List ℕ) (old new : SourceSeen) → IfSome old.left (λ input. bytes ≡ input)
+    → new ≡ drained old
+    → packets_in bytes ≡ Err refusal → JudgesInput packets_in (Err (halt_of_refusal refusal)) old new
+packets_refused refusal bytes old new all seen is = (drawn (Err refusal) bytes old.left all is, ap (λ (s : SourceSeen). s.faults) seen)
+
+too-much : (left : Option (List ℕ)) → IfSome left (λ input. INPUT_LIMIT < length input)
+    → IfSome left (λ input. packets_in input ≡ Err (refusals.TooBig INPUT_LIMIT))
+too-much None more = tt
+too-much (Some input) more = let many : nat_lt INPUT_LIMIT (length input) ≡ true = search rules in rw many refl
+
+pub input_not_drawn : (fault : DrawFault) (old new : SourceSeen) → Draws INPUT_LIMIT (Err fault) old new
+    → JudgesInput packets_in (Err (halt_of_draw fault)) old new
+input_not_drawn draws.Failed old new h = (ap (λ (s : SourceSeen). s.faults) h.seen, ap (λ (s : SourceSeen). s.stopped) h.seen)
+input_not_drawn (draws.TooBig most) old new h =
+    subst (λ (n : ℕ). JudgesInput packets_in (Err (halt_of_draw (draws.TooBig n))) old new) (sym h.0)
+    (too-much old.left h.1, ap (λ (s : SourceSeen). s.faults) h.2)
+input_not_drawn draws.NoMemory old new h = ap (λ (s : SourceSeen). s.faults) h.seen
+
+pub ruleset inputs = (packets_judged, packets_refused, input_not_drawn)

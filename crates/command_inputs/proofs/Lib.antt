@@ -1,0 +1,6 @@
+pub mod Certificates
+pub mod ChoiceLemmas
+pub mod FrameSteps
+pub mod Judging
+pub mod PublicLaws
+pub mod Tracing

@@ -1,0 +1,47 @@
+-- What the file of a trace gives, as it was judged.
+use Rattle.std.proofs.Common.{◌≡◌, ℕ, ◌≤◌, false, List, length, nat_lt, Option, None, Some, IfSome, Result, Ok, Err, refl, sym, ap, ◌∙◌}
+use Rattle.std.proofs.lemmas.Bool.{le-ltb}
+use Rattle.srx_edge.specs.Edge.{file_named}
+use Rattle.srx_edge.specs.FilesRead.{FilesSeen, asked_for}
+use Rattle.net_model.specs.Network.{Network}
+use Rattle.trace_replay.specs.declared.reading.TraceFault.{TraceFault}
+use Rattle.trace_replay.specs.declared.reading.TraceFault.TheVariants as faults
+use Rattle.trace_replay.specs.Reading.{Reads, bad_line}
+use Rattle.command_inputs.specs.declared.limits.TheConstants.{FILE_LIMIT}
+use Rattle.command_output.specs.declared.refusal.Refusal.{Refusal}
+use Rattle.command_output.specs.declared.refusal.Refusal.TheVariants as refusals
+use Rattle.command_output.specs.Answers.{JudgesFile}
+use Rattle.command_output.specs.Halts.{halt_of_trace}
+use Rattle.command_inputs.specs.Judgements.{trace_by, trace_in}
+use Rattle.command_inputs.proofs.Judging.{judged-text, asks-one}
+
+-- a text within the limit that is a trace, or has a bad line
+
+trace-small : (net : Network) (text : List ℕ) (bad : Option ℕ) (read : Result (List (List ℕ)) Refusal) → length text ≤ FILE_LIMIT
+    → bad_line net text ≡ bad → trace_by text bad ≡ read → trace_in net text ≡ read
+trace-small net text bad read fits is by =
+    let small : nat_lt FILE_LIMIT (length text) ≡ false = le-ltb FILE_LIMIT (length text) fits in
+    rw small (ap (trace_by text) is ∙ by)
+
+pub trace_judged : (net : Network) (lines : List (List ℕ)) (text name : List ℕ) (old new : FilesSeen) → length text ≤ FILE_LIMIT
+    → IfSome old.told (λ files. file_named files name ≡ Some text) → new ≡ asked_for name old
+    → Reads net text (Ok lines)
+    → JudgesFile (trace_in net) name (Ok lines) old new
+trace_judged net lines text name old new fits reads seen h = (
+  judged-text (trace_in net) (Ok lines) text name old.told reads
+      (trace-small net text None (Ok lines) fits h.0 (ap Ok (sym h.1))),
+  seen,
+)
+
+pub trace_refused : (net : Network) (fault : TraceFault) (text name : List ℕ) (old new : FilesSeen) → length text ≤ FILE_LIMIT
+    → IfSome old.told (λ files. file_named files name ≡ Some text) → new ≡ asked_for name old
+    → Reads net text (Err fault)
+    → JudgesFile (trace_in net) name (Err (halt_of_trace fault)) old new
+trace_refused net (faults.BadTrace line) text name old new fits reads seen h = (
+  judged-text (trace_in net) (Err (refusals.BadTrace line)) text name old.told reads
+      (trace-small net text (Some line) (Err (refusals.BadTrace line)) fits h refl),
+  seen,
+)
+trace_refused net faults.NoMemory text name old new fits reads seen h = asks-one name old new seen
+
+pub ruleset traces = (trace_judged, trace_refused)

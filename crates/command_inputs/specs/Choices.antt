@@ -1,0 +1,38 @@
+-- The choices that the words give (own rules).
+use Rattle.std.specs.Prelude.{ℕ, ◌^◌, Bool, ◌&&◌, ◌||◌, ◌==◌, not, nat_lt, if◌then◌else◌, List, [], ◌∷◌, length, slice_index, Option, Some, None}
+use Rattle.std.specs.Global.{Vec}
+use Rattle.std.specs.Char.{is_ascii_digit}
+use Rattle.std.specs.List.{list_all, slice_split}
+use Rattle.std.specs.Str.Parse.{digits_value}
+use Rattle.command_inputs.specs.declared.limits.TheConstants.{MAX_CHOICES}
+
+-- decimal digits, of which the first is 0 only where it is the only one
+abbrev pub is_numeral : List ℕ → Bool
+is_numeral word =
+    not (length word == 0) && (((length word == 1) || not (slice_index word 0 == 48)) && list_all is_ascii_digit word)
+
+-- a number of at most 32 bits
+abbrev pub number_in : List ℕ → Option ℕ
+number_in word = if is_numeral word && nat_lt (digits_value 10 word) (2 ^ 32) then Some (digits_value 10 word) else None
+
+-- each part's number, if each has one
+
+abbrev pub number_before : Option ℕ → Option (List ℕ) → Option (List ℕ)
+number_before None numbers = None
+number_before (Some number) None = None
+number_before (Some number) (Some numbers) = Some (number ∷ numbers)
+
+abbrev pub numbers_in : List (List ℕ) → Option (List ℕ)
+numbers_in [] = Some []
+numbers_in (part ∷ parts) = number_before (number_in part) (numbers_in parts)
+
+abbrev pub parts_at_commas : List ℕ → List (List ℕ)
+parts_at_commas text = slice_split (λ byte. byte == 44) text
+
+-- 1 to 4,096 numbers joined by commas
+abbrev pub choices_in : List ℕ → Option (List ℕ)
+choices_in text = if nat_lt MAX_CHOICES (length (parts_at_commas text)) then None else numbers_in (parts_at_commas text)
+
+abbrev pub items_of : Option (Vec ℕ) → Option (List ℕ)
+items_of None = None
+items_of (Some choices) = Some choices.items

@@ -1,0 +1,65 @@
+//! The choices that the words give: numbers joined by commas.
+
+ghost use Rattle.std.specs.Prelude.{◌≡◌, ◌==◌, IfOk, map};
+ghost use Rattle.std.specs.Char.{is_ascii_digit};
+ghost use Rattle.std.specs.List.{list_all, slice_split};
+ghost use Rattle.command_inputs.specs.Choices.{choices_in, items_of, is_numeral, number_in};
+
+use crate::limits::MAX_CHOICES;
+use std::alloc::{AllocError, Global};
+
+/// Whether all bytes are decimal digits.
+fn are_digits(bytes: &[u8]) -> bool
+    ensures { result ≡ list_all is_ascii_digit bytes.now }
+{
+    bytes.iter().all(|byte| byte.is_ascii_digit())
+}
+
+/// Whether bytes are decimal digits without a leading zero.
+fn is_numeral(bytes: &[u8]) -> bool
+    ensures { result ≡ is_numeral bytes.now }
+{
+    match bytes {
+        [] => false,
+        [first, ..] => (bytes.len() == 1 || *first != b'0') && are_digits(bytes),
+    }
+}
+
+/// The number that a word is.
+pub fn number_of(word: &str) -> Option<u32>
+    ensures { result ≡ number_in word.now }
+{
+    if !is_numeral(word.as_bytes()) {
+        return None;
+    }
+    match word.parse::<u32>() {
+        Ok(number) => Some(number),
+        Err(_) => None,
+    }
+}
+
+/// The parts of a text between its commas.
+fn parts_of(alloc: Global, text: &str) -> Result<Vec<&str>, AllocError>
+    ensures { IfOk result (λ parts. map (λ part. part.now) parts.items
+        ≡ slice_split (λ byte. byte == 44) text.now) }
+{
+    text.split(',').collect(alloc)
+}
+
+/// The choices that a text gives, if it is 1 to 4,096 numbers joined by commas. (own rule)
+pub fn choices_of(alloc: Global, text: &str) -> Result<Option<Vec<u32>>, AllocError>
+    ensures { IfOk result (λ choices. items_of choices ≡ choices_in text.now) }
+{
+    let parts = parts_of(alloc, text)?;
+    if parts.len() > MAX_CHOICES {
+        return Ok(None);
+    }
+    let mut choices = Vec::new(alloc);
+    for part in &parts {
+        match number_of(*part) {
+            Some(number) => choices.push(number)?,
+            None => return Ok(None),
+        }
+    }
+    Ok(Some(choices))
+}

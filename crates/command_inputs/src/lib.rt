@@ -1,0 +1,18 @@
+//! What commands read: files and words that are judged, choices, and the packets of the input.
+//!
+//! `specs/Judgements.antt` says what each file and word gives, or its refusal, and
+//! `specs/Packets.antt` which packets an input has.
+#![tactic(auto)]
+
+mod choices;
+mod judge;
+mod limits;
+mod packets;
+
+pub use choices::{choices_of, number_of};
+pub use judge::{
+    cert_of_file, intent_of_file, intent_of_text, network_of_file, network_of_text, node_of_name,
+    trace_of_file,
+};
+pub use limits::{FILE_LIMIT, INPUT_LIMIT, MAX_CHOICES};
+pub use packets::{Next, Packets, next_of, packets_of_input, unread_of};

@@ -1,0 +1,105 @@
+//! The packets of the input, each with its number.
+
+ghost use Rattle.std.specs.Prelude.{◌≡◌, ◌≤◌, IfOk, length};
+ghost use Rattle.pcap_io.specs.Capture.{IsDone};
+ghost use Rattle.command_output.specs.Answers.{JudgesInput};
+ghost use Rattle.command_inputs.specs.Packets.{HasHead, Nexts, fault_behind, is_bare, packets_in, unread_in};
+
+use crate::limits::INPUT_LIMIT;
+use base::Seq;
+use command_output::{Failure, Halt, Refusal, Unread};
+use pcap_io::{Body, CaptureFault, CaptureHead, Frame, FrameReader, TakeFault, read_head};
+use srx_edge::{Source, draw};
+use std::alloc::Global;
+
+/// What the input is.
+#[derive(Debug, Drop)]
+pub enum Packets {
+    /// One bare packet, which is packet 1, and what stands behind its end.
+    Bare(Seq<u8>),
+    /// A capture: what its head says, and all its bytes, the head's among them.
+    Capture(CaptureHead, Seq<u8>),
+}
+
+/// What a reader of frames gives next.
+#[derive(Debug, Drop)]
+pub enum Next {
+    /// A frame.
+    Frame(Frame),
+    /// There is none: the refusal of what is behind the last one, if there is anything.
+    End(Option<Refusal>),
+}
+
+/// Whether the input begins as a bare IPv6 packet does.
+fn begins_as_ipv6(input: &[u8]) -> bool
+    ensures { result ≡ is_bare input.now }
+{
+    match input {
+        [first, ..] => *first / 16 == 6,
+        [] => false,
+    }
+}
+
+/// What these bytes are.
+#[tactic(auto, using(crate::proofs::Judging::contents))]
+fn packets_of_bytes(bytes: Vec<u8>) -> Result<Packets, Refusal>
+    requires { length bytes.items ≤ INPUT_LIMIT }
+    ensures judged { packets_in bytes.items ≡ result }
+    ensures head { IfOk result HasHead }
+{
+    if begins_as_ipv6(bytes.as_slice()) {
+        return Ok(Packets::Bare(Seq::new(bytes)));
+    }
+    match read_head(bytes.as_slice()) {
+        Ok(head) => Ok(Packets::Capture(head, Seq::new(bytes))),
+        Err(fault) => Err(Refusal::Capture(fault)),
+    }
+}
+
+/// What the input is, which is read to its end.
+#[tactic(auto, using(crate::proofs::Judging::inputs))]
+pub fn packets_of_input<S: Source>(alloc: Global, input: &mut S) -> Result<Packets, Halt>
+    ensures judged { JudgesInput packets_in result (S.seen input.old) (S.seen input.new) }
+    ensures head { IfOk result HasHead }
+{
+    let bytes = draw(alloc, input, INPUT_LIMIT)?;
+    Ok(packets_of_bytes(bytes)?)
+}
+
+/// Why a frame's packet is not read, if it isn't.
+pub fn unread_of(body: &Body) -> Option<Unread>
+    ensures { result ≡ unread_in body.now }
+{
+    match body {
+        Body::V6(_) | Body::V4(_) => None,
+        Body::ShortFrame => Some(Unread::ShortFrame),
+        Body::NotIp => Some(Unread::NotIp),
+    }
+}
+
+/// The refusal of what is behind the last whole frame, if anything is.
+#[tactic(auto, using(crate::proofs::FrameSteps::ends))]
+fn fault_at_end(reader: &FrameReader) -> Option<Refusal>
+    requires { IsDone reader.now }
+    ensures { result ≡ fault_behind reader.now.taken reader.now.rest }
+{
+    match reader.finish() {
+        Ok(()) => None,
+        Err(cut) => Some(Refusal::CutFrame { frame: cut.number }),
+    }
+}
+
+/// The next frame that a reader gives.
+#[tactic(auto, using(crate::proofs::FrameSteps::steps))]
+pub fn next_of(reader: &mut FrameReader) -> Result<Next, Failure>
+    ensures { Nexts reader.old result reader.new }
+{
+    match reader.take() {
+        Ok(Some(frame)) => Ok(Next::Frame(frame)),
+        Ok(None) => Ok(Next::End(fault_at_end(reader))),
+        Err(TakeFault::FrameLimit) => Ok(Next::End(Some(Refusal::Capture(
+            CaptureFault::FrameLimit,
+        )))),
+        Err(TakeFault::NoMemory) => Err(Failure::NoMemory),
+    }
+}

@@ -1,0 +1,244 @@
+-- What a command leaves where it ends before anything is written, by how it ends.
+use Rattle.std.proofs.Common.{◌≡◌, inl, inr, ℕ, true, false, List, [], ◌∷◌, ◌++◌, Option, None, Some, Result, Ok, Err, refl, ap, ap₂, ◌∙◌, subst}
+use Rattle.srx_edge.specs.FilesRead.{FilesSeen}
+use Rattle.srx_edge.specs.Sources.{SourceSeen, drained}
+use Rattle.srx_edge.specs.Sinks.{SinkSeen, sent}
+use Rattle.srx_edge.specs.Steps.{Whole, How, Cut as CutBytes, Wrote}
+use Rattle.command_output.specs.declared.halt.Failure.{Failure}
+use Rattle.command_output.specs.declared.halt.Failure.TheVariants as failures
+use Rattle.command_output.specs.declared.halt.Halt.{Halt}
+use Rattle.command_output.specs.declared.halt.Halt.TheVariants as halts
+use Rattle.command_output.specs.declared.refusal.Refusal.{Refusal}
+use Rattle.command_output.specs.declared.status.Status.{Status}
+use Rattle.command_output.specs.declared.status.Status.TheVariants as statuses
+use Rattle.command_output.specs.declared.told.Told.{Told}
+use Rattle.command_output.specs.Answers.{ending_of_failure, Commands, CommandsOut}
+use Rattle.command_output.specs.Outputs.{refused}
+use Rattle.command_output.specs.Lines.{bytes_of_text, refusal_line}
+use Rattle.command_output.specs.Outside.{Outside, IsFrontOf, Asks}
+use Rattle.command_output.specs.Pieces.{Piece, ForOut, ForErr, Which, ToOut, Output, Never, AtFiles, AtInput, Elsewhere, gone, stop_at, StopsIn, WroteAll}
+use Rattle.command_output.specs.Endings.{ending_of_status, OrNothing, LinesLast, Takes}
+use Rattle.command_output.specs.Shape.{Shape, names_of, WantedOf, IsOneOf}
+use Rattle.command_output.proofs.Asking.{each}
+use Rattle.command_output.proofs.PieceLemmas.{ending_by-stop_at, went_cut}
+use Rattle.command_output.proofs.PieceSteps.{all_longer}
+
+-- nothing is written
+
+abbrev pub nothing : Output
+nothing = record { pieces = []; status = statuses.OutsideFault }
+
+-- the command is refused before anything is written
+pub refused_commands : (shape : Shape) (refusal : Refusal) (f g : FilesSeen) (s t : SourceSeen) (o : SinkSeen)
+    → WantedOf shape f.told s.left (refused refusal) → IsOneOf shape.statuses statuses.Refused
+    → Takes shape Never f g s t → CommandsOut shape (Err (halts.Refused refusal)) f g s t o o
+refused_commands shape refusal f g s t o wanted own takes = λ err. record {
+  stop = Never;
+  ending = refl;
+  output = refused refusal;
+  wanted = wanted;
+  went = record { before = []; is = refl; went = refl; whole = refl };
+  lines_last = λ _. tt;
+  status_own = own;
+  takes = takes;
+  read_to_end = λ done. cc;
+}
+
+-- a step wasn't done before anything is written: a fault of the files, one of the input, or a want of memory
+
+pub files_fault : (shape : Shape) (f g : FilesSeen) (s : SourceSeen) (o : SinkSeen) → Takes shape AtFiles f g s s
+    → CommandsOut shape (Err (halts.Failed failures.Fault)) f g s s o o
+files_fault shape f g s o takes = λ err. record {
+  stop = AtFiles;
+  ending = refl;
+  output = nothing;
+  wanted = inl refl;
+  went = refl;
+  lines_last = λ _. tt;
+  status_own = tt;
+  takes = takes;
+  read_to_end = tt;
+}
+
+pub input_fault : (shape : Shape) (f g : FilesSeen) (s t : SourceSeen) (o : SinkSeen) → Takes shape AtInput f g s t
+    → CommandsOut shape (Err (halts.Failed failures.Fault)) f g s t o o
+input_fault shape f g s t o takes = λ err. record {
+  stop = AtInput;
+  ending = refl;
+  output = nothing;
+  wanted = inl refl;
+  went = refl;
+  lines_last = λ _. tt;
+  status_own = tt;
+  takes = takes;
+  read_to_end = tt;
+}
+
+pub memory_wants : (shape : Shape) (f g : FilesSeen) (s t : SourceSeen) (o : SinkSeen) → Takes shape Elsewhere f g s t
+    → CommandsOut shape (Err (halts.Failed failures.NoMemory)) f g s t o o
+memory_wants shape f g s t o takes = λ err. record {
+  stop = Elsewhere;
+  ending = refl;
+  output = nothing;
+  wanted = inl refl;
+  went = record { first = []; rest = []; whole = refl; sinks = refl };
+  lines_last = λ _. tt;
+  status_own = tt;
+  takes = takes;
+  read_to_end = tt;
+}
+
+-- memory was wanting before anything was read
+pub memory_first : (shape : Shape) (f : FilesSeen) (s : SourceSeen) (o : SinkSeen)
+    → CommandsOut shape (Err (halts.Failed failures.NoMemory)) f f s s o o
+memory_first shape f s o = memory_wants shape f f s s o (record {
+  asks = record {
+    names = [];
+    in_order = record { rest = shape.files; whole = refl };
+    those = each f.told (λ held. IsFrontOf (names_of shape held) [])
+        (λ held. record { rest = names_of shape held; whole = refl });
+    seen = refl;
+  };
+  reads = refl;
+  unread = each f.told (λ held. shape.leaves_input held → s ≡ s) (λ held _. refl);
+  reads_none = λ _. refl;
+})
+
+-- a command that writes bytes on `out`, and then a line
+
+abbrev pub written : List ℕ → List ℕ → Status → Output
+written bytes last status = record { pieces = ForOut bytes ∷ ForErr last ∷ []; status = status }
+
+-- all of the bytes went out
+pub written_whole : (shape : Shape) (told : Told) (bytes : List ℕ) (f g : FilesSeen) (s t : SourceSeen) (o p : SinkSeen)
+    → p ≡ sent bytes o
+    → WantedOf shape f.told s.left (written bytes (bytes_of_text told.line) told.status)
+    → ending_of_status told.status ≡ Whole → IsOneOf shape.statuses told.status → Takes shape Never f g s t
+    → (told.status ≡ statuses.Done → shape.reads ≡ true → t ≡ drained s) → CommandsOut shape (Ok told) f g s t o p
+written_whole shape told bytes f g s t o p went wanted whole own takes read = λ err. record {
+  stop = Never;
+  ending = refl;
+  output = written bytes (bytes_of_text told.line) told.status;
+  wanted = wanted;
+  went = record { before = ForOut bytes ∷ []; is = refl; went = ap (λ (q : SinkSeen). record { out = q; err = err }) went; whole = whole };
+  lines_last = λ _. tt;
+  status_own = own;
+  takes = takes;
+  read_to_end = read;
+}
+
+-- a stop at `out` is one behind the files and the input
+
+out-last : (how : Option How) (err : SinkSeen) (o p : SinkSeen)
+    → LinesLast (stop_at ToOut how) (record { out = o; err = err }) (record { out = p; err = err })
+out-last None err o p = tt
+out-last (Some how) err o p = refl
+
+out-wanted : (how : Option How) (output : Output) (P : Type 0) → P → OrNothing (stop_at ToOut how) output P
+out-wanted None output P p = inr p
+out-wanted (Some how) output P p = p
+
+-- only a front of the bytes went out, or none
+written-cut : (shape : Shape) (failure : Failure) (bytes last : List ℕ) (status : Status)
+    (f g : FilesSeen) (s t : SourceSeen) (o p : SinkSeen)
+    → CutBytes (ending_of_failure failure) bytes o p → WantedOf shape f.told s.left (written bytes last status)
+    → ((how : Option How) → Takes shape (stop_at ToOut how) f g s t)
+    → CommandsOut shape (Err (halts.Failed failure)) f g s t o p
+written-cut shape failure bytes last status f g s t o p cut wanted takes = λ err. record {
+  stop = stop_at ToOut cut.how;
+  ending = ending_by-stop_at ToOut cut.how ∙ cut.ends;
+  output = written bytes last status;
+  wanted = out-wanted cut.how (written bytes last status) (WantedOf shape f.told s.left (written bytes last status)) wanted;
+  went = went_cut ToOut (ending_of_failure failure) [] (ForErr last ∷ []) bytes
+      (record { out = o; err = err }) (record { out = o; err = err }) p refl cut;
+  lines_last = λ _. out-last cut.how err o p;
+  status_own = tt;
+  takes = takes cut.how;
+  read_to_end = tt;
+}
+
+pub written_cut : (shape : Shape) (failure : Failure) (bytes last : List ℕ) (status : Status)
+    (f g : FilesSeen) (s t : SourceSeen) (o p : SinkSeen)
+    → Wrote (ending_of_failure failure) bytes o p → WantedOf shape f.told s.left (written bytes last status)
+    → ((how : Option How) → Takes shape (stop_at ToOut how) f g s t)
+    → CommandsOut shape (Err (halts.Failed failure)) f g s t o p
+written_cut shape failures.Fault bytes last status f g s t o p wrote =
+    written-cut shape failures.Fault bytes last status f g s t o p wrote
+written_cut shape failures.NoMemory bytes last status f g s t o p wrote =
+    written-cut shape failures.NoMemory bytes last status f g s t o p wrote
+
+-- a command that writes pieces for both sinks, and then a line
+
+module _ (shape : Shape) (before : List Piece) (old new : Outside) where
+  abbrev with_last : List ℕ → Status → Output
+  with_last last status = record { pieces = before ++ ForErr last ∷ []; status = status }
+
+  -- all of them went out
+  pub pieces_whole : (told : Told) → new.sinks ≡ gone before old.sinks
+      → WantedOf shape old.files.told old.input.left (with_last (bytes_of_text told.line) told.status)
+      → ending_of_status told.status ≡ Whole → IsOneOf shape.statuses told.status
+      → Takes shape Never old.files new.files old.input new.input
+      → (told.status ≡ statuses.Done → shape.reads ≡ true → new.input ≡ drained old.input)
+      → Commands shape (Ok told) old new
+  pieces_whole told went wanted whole own takes read = record {
+    stop = Never;
+    ending = refl;
+    output = with_last (bytes_of_text told.line) told.status;
+    wanted = wanted;
+    went = record { before = before; is = refl; went = went; whole = whole };
+    lines_last = λ _. tt;
+    status_own = own;
+    takes = takes;
+    read_to_end = read;
+  }
+
+  -- and then the command is refused
+  pub pieces_refused : (refusal : Refusal) → new.sinks ≡ gone before old.sinks
+      → WantedOf shape old.files.told old.input.left (with_last (refusal_line refusal) statuses.Refused)
+      → IsOneOf shape.statuses statuses.Refused
+      → Takes shape Never old.files new.files old.input new.input
+      → Commands shape (Err (halts.Refused refusal)) old new
+  pieces_refused refusal went wanted own takes = record {
+    stop = Never;
+    ending = refl;
+    output = with_last (refusal_line refusal) statuses.Refused;
+    wanted = wanted;
+    went = record { before = before; is = refl; went = went; whole = refl };
+    lines_last = λ _. tt;
+    status_own = own;
+    takes = takes;
+    read_to_end = λ done. cc;
+  }
+
+  stop-wanted : (sink : Which) (how : Option How) (output : Output) (P : Type 0) → P → OrNothing (stop_at sink how) output P
+  stop-wanted sink None output P p = inr p
+  stop-wanted sink (Some how) output P p = p
+
+  -- only a front of them went out
+  pieces-cut : (failure : Failure) (last : List ℕ) (status : Status) → shape.lines_last ≡ false
+      → StopsIn (ending_of_failure failure) (before ++ ForErr last ∷ []) old.sinks new.sinks
+      → WantedOf shape old.files.told old.input.left (with_last last status)
+      → ((sink : Which) (how : Option How) → Takes shape (stop_at sink how) old.files new.files old.input new.input)
+      → Commands shape (Err (halts.Failed failure)) old new
+  pieces-cut failure last status between s wanted takes = record {
+    stop = stop_at s.sink s.how;
+    ending = ending_by-stop_at s.sink s.how ∙ s.ends;
+    output = with_last last status;
+    wanted = stop-wanted s.sink s.how (with_last last status)
+        (WantedOf shape old.files.told old.input.left (with_last last status)) wanted;
+    went = s.went;
+    lines_last = λ last. cc;
+    status_own = tt;
+    takes = takes s.sink s.how;
+    read_to_end = tt;
+  }
+
+  pub pieces_cut : (failure : Failure) (last : List ℕ) (status : Status) → shape.lines_last ≡ false
+      → WroteAll (ending_of_failure failure) before old.sinks new.sinks
+      → WantedOf shape old.files.told old.input.left (with_last last status)
+      → ((sink : Which) (how : Option How) → Takes shape (stop_at sink how) old.files new.files old.input new.input)
+      → Commands shape (Err (halts.Failed failure)) old new
+  pieces_cut failures.Fault last status between wrote wanted takes = pieces-cut failures.Fault last status between
+      (all_longer failures.Fault before (ForErr last ∷ []) old.sinks new.sinks wrote) wanted takes
+  pieces_cut failures.NoMemory last status between wrote wanted takes = pieces-cut failures.NoMemory last status between
+      (all_longer failures.NoMemory before (ForErr last ∷ []) old.sinks new.sinks wrote) wanted takes

@@ -1,0 +1,10 @@
+pub mod Answers
+pub mod Endings
+pub mod Halts
+pub mod Lines
+pub mod Outputs
+pub mod Outside
+pub mod Pieces
+pub mod Sent
+pub mod Shape
+pub mod Verbs

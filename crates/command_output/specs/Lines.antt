@@ -1,0 +1,148 @@
+-- The lines on `err`.
+use Rattle.std.specs.Prelude.{ℕ, List, [], ◌∷◌, ◌++◌, codes, slice_get, Option, Some, None, string_bytes}
+use Rattle.std.specs.Fmt.{decimal}
+use Rattle.v6_addr.specs.Text.{prefix_text}
+use Rattle.pcap_io.specs.declared.fault.CaptureFault.{CaptureFault}
+use Rattle.pcap_io.specs.declared.fault.CaptureFault.TheVariants as captures
+use Rattle.srv6_rules.specs.declared.sid.Reason.{Reason}
+use Rattle.srv6_rules.specs.Reasons.{reason_name}
+use Rattle.net_model.specs.declared.fault.TableKind.{TableKind}
+use Rattle.net_model.specs.declared.fault.NetFault.{NetFault}
+use Rattle.net_model.specs.declared.fault.NetFault.TheVariants as nets
+use Rattle.net_model.specs.Keys.{table_text, key_text}
+use Rattle.net_model.specs.declared.parts.Node.{Node}
+use Rattle.net_model.specs.declared.parts.Link.{Link}
+use Rattle.net_model.specs.Network.{Network}
+use Rattle.intent_reader.specs.declared.fault.IntentFault.{IntentFault}
+use Rattle.intent_reader.specs.declared.fault.IntentFault.TheVariants as intents
+use Rattle.walk_rules.specs.declared.place.Ended.{Ended}
+use Rattle.walk_rules.specs.declared.place.Ended.TheVariants as ends
+use Rattle.trace_replay.specs.declared.limits.TheConstants.{STAGES}
+use Rattle.command_output.specs.declared.unread.Unread.{Unread}
+use Rattle.command_output.specs.declared.unread.Unread.TheVariants as unreads
+use Rattle.command_output.specs.declared.refusal.Refusal.{Refusal}
+use Rattle.command_output.specs.declared.refusal.Refusal.TheVariants as refusals
+use Rattle.command_output.specs.declared.told.Text.{Text}
+use Rattle.command_output.specs.declared.told.Text.TheVariants as texts
+
+-- the bytes of a text
+abbrev pub bytes_of_text : Text → List ℕ
+bytes_of_text (texts.Fixed bytes) = bytes.now
+bytes_of_text (texts.Made text) = string_bytes text
+bytes_of_text (texts.Bytes bytes) = bytes.items
+
+-- a line is ended by a line feed
+abbrev pub line : List ℕ → List ℕ
+line text = text ++ 10 ∷ []
+
+-- the refusal of a capture
+unfoldable pub capture_text : CaptureFault → List ℕ
+capture_text captures.BadMagic = codes "refused 11 BadMagic"
+capture_text captures.PcapNg = codes "refused 12 PcapNg"
+capture_text captures.BadVersion = codes "refused 13 BadVersion"
+capture_text (captures.BadLink link) = codes "refused 14 BadLink " ++ decimal link
+capture_text captures.CutHead = codes "refused 15 CutHead"
+capture_text captures.FrameLimit = codes "refused 17 FrameLimit"
+
+-- a fault's place: the table and the item's number
+abbrev pub place_text : TableKind → ℕ → List ℕ
+place_text table item = table_text table ++ 32 ∷ decimal item
+
+-- the name and the fields of a text's fault; want of memory is no refusal, and has no number
+unfoldable pub fault_text : NetFault → List ℕ
+fault_text nets.NotToml = codes "NotToml"
+fault_text (nets.MissingKey table item key) = codes "MissingKey " ++ (table_text table ++ 32 ∷ (decimal item ++ 32 ∷ key_text key))
+fault_text (nets.WrongKind table item) = codes "WrongKind " ++ place_text table item
+fault_text (nets.UnknownKey table item) = codes "UnknownKey " ++ place_text table item
+fault_text (nets.BadName table item) = codes "BadName " ++ place_text table item
+fault_text (nets.UnknownName table item) = codes "UnknownName " ++ place_text table item
+fault_text (nets.DoubleName table item) = codes "DoubleName " ++ place_text table item
+fault_text (nets.BadAddress table item) = codes "BadAddress " ++ place_text table item
+fault_text (nets.BadFlavour table item) = codes "BadFlavour " ++ place_text table item
+fault_text (nets.BadStructure table item) = codes "BadStructure " ++ place_text table item
+fault_text (nets.DoublePrefix table item) = codes "DoublePrefix " ++ place_text table item
+fault_text (nets.Limit table item what value) = codes "Limit " ++ place_text table item
+fault_text nets.NoMemory = codes "NoMemory"
+
+abbrev pub fault_number : NetFault → ℕ
+fault_number nets.NotToml = 21
+fault_number (nets.MissingKey table item key) = 22
+fault_number (nets.WrongKind table item) = 23
+fault_number (nets.UnknownKey table item) = 24
+fault_number (nets.BadName table item) = 25
+fault_number (nets.UnknownName table item) = 26
+fault_number (nets.DoubleName table item) = 27
+fault_number (nets.BadAddress table item) = 28
+fault_number (nets.BadFlavour table item) = 29
+fault_number (nets.BadStructure table item) = 30
+fault_number (nets.DoublePrefix table item) = 31
+fault_number (nets.Limit table item what value) = 32
+fault_number nets.NoMemory = 0
+
+-- the same of an intent
+unfoldable pub intent_fault_text : IntentFault → List ℕ
+intent_fault_text (intents.Text fault) = codes "refused 33 Text " ++ fault_text fault
+intent_fault_text (intents.UnknownName step) = codes "refused 34 UnknownName " ++ decimal step
+intent_fault_text (intents.Broken step) = codes "refused 35 Broken " ++ decimal step
+intent_fault_text (intents.NoFunction step) = codes "refused 36 NoFunction " ++ decimal step
+intent_fault_text intents.NotFunctionLast = codes "refused 37 NotFunctionLast"
+intent_fault_text (intents.DoubleLink step) = codes "refused 38 DoubleLink " ++ decimal step
+intent_fault_text intents.NoMemory = codes "refused 0 NoMemory"
+
+-- a refusal: its number, its name, and its fields
+unfoldable pub refusal_text : Refusal → List ℕ
+refusal_text (refusals.TooBig limit) = codes "refused 2 TooBig " ++ decimal limit
+refusal_text (refusals.Net fault) = codes "refused " ++ (decimal (fault_number fault) ++ 32 ∷ fault_text fault)
+refusal_text (refusals.Intent fault) = intent_fault_text fault
+refusal_text (refusals.Capture fault) = capture_text fault
+refusal_text (refusals.CutFrame frame) = codes "refused 16 CutFrame " ++ decimal frame
+refusal_text refusals.BadNode = codes "refused 39 BadNode"
+refusal_text (refusals.BadTrace line) = codes "refused 40 BadTrace " ++ decimal line
+refusal_text (refusals.Nested outer inner) = codes "refused 41 Nested " ++ (prefix_text outer ++ 32 ∷ prefix_text inner)
+refusal_text (refusals.ZeroCsid prefix) = codes "refused 42 ZeroCsid " ++ prefix_text prefix
+refusal_text (refusals.MixedBlock block prefix) = codes "refused 43 MixedBlock " ++ (prefix_text block ++ 32 ∷ prefix_text prefix)
+refusal_text (refusals.Clash prefix first second) =
+    codes "refused 44 Clash " ++ (prefix_text prefix ++ 32 ∷ (first ++ 32 ∷ second))
+refusal_text (refusals.BadCert line) = codes "refused 45 BadCert " ++ decimal line
+
+abbrev pub refusal_line : Refusal → List ℕ
+refusal_line refusal = line (refusal_text refusal)
+
+abbrev pub name_of_node : Option Node → List ℕ
+name_of_node None = []
+name_of_node (Some n) = n.name
+
+abbrev pub name_of_link : Option Link → List ℕ
+name_of_link None = []
+name_of_link (Some l) = l.name
+
+-- the lines of a packet of a number when it ends: how it ended, with names of links and nodes
+
+unfoldable pub left_line : ℕ → List ℕ → List ℕ
+left_line number name = codes "packet " ++ (decimal number ++ (codes ": left " ++ (name ++ 10 ∷ [])))
+
+unfoldable pub delivered_line : ℕ → List ℕ → List ℕ
+delivered_line number name = codes "packet " ++ (decimal number ++ (codes ": delivered at " ++ (name ++ 10 ∷ [])))
+
+unfoldable pub dropped_line : ℕ → Reason → List ℕ → List ℕ
+dropped_line number reason name =
+    codes "packet " ++ (decimal number ++ (codes ": dropped " ++ (reason_name reason ++ (codes " at " ++ (name ++ 10 ∷ [])))))
+
+unfoldable pub stages_line : ℕ → List ℕ
+stages_line number = codes "packet " ++ (decimal number ++ (codes ": stopped after " ++ (decimal STAGES ++ (codes " stages" ++ 10 ∷ []))))
+
+abbrev pub packet_line : Network → ℕ → Ended → List ℕ
+packet_line net number (ends.Left link) = left_line number (name_of_link (slice_get net.links link))
+packet_line net number (ends.Delivered node) = delivered_line number (name_of_node (slice_get net.nodes node))
+packet_line net number (ends.Dropped node reason) = dropped_line number reason (name_of_node (slice_get net.nodes node))
+packet_line net number ends.Stages = stages_line number
+
+-- the line of a packet that isn't read, with the cause
+
+unfoldable pub unread_name : Unread → List ℕ
+unread_name unreads.ShortFrame = codes "ShortFrame"
+unread_name unreads.NotIp = codes "NotIp"
+unread_name unreads.WrongVersion = codes "WrongVersion"
+
+unfoldable pub unread_line : ℕ → Unread → List ℕ
+unread_line number cause = codes "packet " ++ (decimal number ++ (codes ": not read, " ++ (unread_name cause ++ 10 ∷ [])))

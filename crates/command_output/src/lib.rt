@@ -1,0 +1,27 @@
+//! What commands have to say, and what they leave.
+//!
+//! What is written is a list of pieces, each for `out` or for `err`, in order, and a status
+//! (`specs/Pieces.antt`). A command's shape (`specs/Shape.antt`) says which files it asks for,
+//! whether it reads the input, and which outputs are wanted of them; `Commands` of
+//! `specs/Answers.antt` says what a command of a shape leaves before its last line is written.
+//! Here are also the refusals with their lines, the lines of packets, the statuses, and the step
+//! that writes bytes to a sink.
+#![tactic(auto)]
+
+mod halt;
+mod lines;
+mod node_name;
+mod refusal;
+mod sinks;
+mod status;
+mod told;
+mod unread;
+
+pub use halt::{Failure, Halt};
+pub use lines::{line_of_packet, line_of_refusal, line_of_unread};
+pub use node_name::NodeName;
+pub use refusal::{Refusal, refusal_of_not_flat};
+pub use sinks::write_all;
+pub use status::Status;
+pub use told::{Judgement, Text, Told};
+pub use unread::Unread;

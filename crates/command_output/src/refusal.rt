@@ -1,0 +1,230 @@
+//! Why a command is refused.
+
+ghost use Rattle.std.specs.Prelude.{◌≡◌};
+ghost use Rattle.command_output.specs.Halts.{flat_refusal};
+ghost use Rattle.command_output.specs.Lines.{fault_number};
+
+use crate::node_name::NodeName;
+use intent_reader::IntentFault;
+use net_model::{Net, NetFault, NotFlat};
+use pcap_io::CaptureFault;
+use std::fmt;
+use v6_addr::Prefix;
+
+/// Why a command was refused; each has a number of its own in the line on `err`.
+#[derive(Debug, Drop, PartialEq, Eq)]
+pub enum Refusal {
+    /// 2: a file or the input has more than `limit` bytes.
+    TooBig {
+        /// The limit, in bytes.
+        limit: usize,
+    },
+    /// 11 to 15 and 17: the input is no capture.
+    Capture(CaptureFault),
+    /// 16: the capture ends within a frame.
+    CutFrame {
+        /// The frame's number, from 1.
+        frame: u32,
+    },
+    /// 21 to 32: the description gives no network; the first fault, which is never `NoMemory`.
+    Net(NetFault),
+    /// 33 to 38: the intent's text gives no intent in the network; the first fault, which is never
+    /// `NoMemory`.
+    Intent(IntentFault),
+    /// 39: no node has the name.
+    BadNode,
+    /// 40: the text is no trace of the network.
+    BadTrace {
+        /// The first bad line, counted from 1; where `end` or a line feed is missing, the line that
+        /// lacks it.
+        line: u32,
+    },
+    /// 41: an entry's prefix lies strictly inside a SID's.
+    Nested {
+        /// The SID's prefix.
+        outer: Prefix,
+        /// The prefix inside.
+        inner: Prefix,
+    },
+    /// 42: the bits of a SID behind its block's are all 0.
+    ZeroCsid {
+        /// The SID's prefix.
+        prefix: Prefix,
+    },
+    /// 43: a SID overlaps a block and is no longer than it, or has a length that SIDs of the block
+    /// do not have.
+    MixedBlock {
+        /// The block's prefix.
+        block: Prefix,
+        /// The SID's prefix.
+        prefix: Prefix,
+    },
+    /// 44: SIDs of two nodes on one prefix, both of which make the next segment the destination,
+    /// are compressed in two ways.
+    Clash {
+        /// The SIDs' prefix.
+        prefix: Prefix,
+        /// The name of the node of the SID that comes first in the description.
+        first: NodeName,
+        /// The name of the other's node.
+        second: NodeName,
+    },
+    /// 45: the certificate's text gives none over the legs of the intent.
+    BadCert {
+        /// The first line that is outside the grammar or names no state, counted from 1; where
+        /// there is none and the text ends too early, the line after the last.
+        line: u32,
+    },
+}
+
+/// The refusal of a network that is not flat.
+pub fn refusal_of_not_flat(net: &Net, why: &NotFlat) -> Refusal
+    ensures { result ≡ flat_refusal net.now why.now }
+{
+    match *why {
+        NotFlat::Nested { outer, inner } => Refusal::Nested { outer, inner },
+        NotFlat::ZeroCsid { prefix } => Refusal::ZeroCsid { prefix },
+        NotFlat::MixedBlock { block, prefix } => Refusal::MixedBlock { block, prefix },
+        NotFlat::Clash {
+            prefix,
+            first,
+            second,
+        } => Refusal::Clash {
+            prefix,
+            first: NodeName::of_node(net, first),
+            second: NodeName::of_node(net, second),
+        },
+    }
+}
+
+/// The number of a fault of a text; want of memory, which is no refusal, has none. (own rule)
+fn number_of(fault: NetFault) -> u8
+    ensures { result ≡ fault_number fault }
+{
+    match fault {
+        NetFault::NotToml => 21,
+        NetFault::MissingKey { .. } => 22,
+        NetFault::WrongKind { .. } => 23,
+        NetFault::UnknownKey { .. } => 24,
+        NetFault::BadName { .. } => 25,
+        NetFault::UnknownName { .. } => 26,
+        NetFault::DoubleName { .. } => 27,
+        NetFault::BadAddress { .. } => 28,
+        NetFault::BadFlavour { .. } => 29,
+        NetFault::BadStructure { .. } => 30,
+        NetFault::DoublePrefix { .. } => 31,
+        NetFault::Limit { .. } => 32,
+        NetFault::NoMemory => 0,
+    }
+}
+
+/// A fault of a text as a refusal tells it.
+#[derive(Clone, Copy)]
+struct FaultText {
+    fault: NetFault,
+}
+
+/// The fault's name and its fields; the key and the number of a limit aren't told. (own rule)
+impl fmt::Display for FaultText {
+    ghost use Rattle.std.specs.Prelude.{Some};
+    ghost use Rattle.command_output.specs.Lines.{fault_text};
+
+    ghost output = { λ text. Some (fault_text text.fault) };
+
+    #[tactic(auto, unfolding(crate::specs::Lines::fault_text))]
+    fn fmt<W: fmt::Write>(&self, f: &mut fmt::Formatter<W>) -> fmt::Result {
+        match &self.fault {
+            NetFault::NotToml => write!(f, "NotToml"),
+            NetFault::MissingKey { table, item, key } => {
+                write!(f, "MissingKey {table} {item} {key}")
+            }
+            NetFault::WrongKind { table, item } => write!(f, "WrongKind {table} {item}"),
+            NetFault::UnknownKey { table, item } => write!(f, "UnknownKey {table} {item}"),
+            NetFault::BadName { table, item } => write!(f, "BadName {table} {item}"),
+            NetFault::UnknownName { table, item } => write!(f, "UnknownName {table} {item}"),
+            NetFault::DoubleName { table, item } => write!(f, "DoubleName {table} {item}"),
+            NetFault::BadAddress { table, item } => write!(f, "BadAddress {table} {item}"),
+            NetFault::BadFlavour { table, item } => write!(f, "BadFlavour {table} {item}"),
+            NetFault::BadStructure { table, item } => write!(f, "BadStructure {table} {item}"),
+            NetFault::DoublePrefix { table, item } => write!(f, "DoublePrefix {table} {item}"),
+            NetFault::Limit { table, item, .. } => write!(f, "Limit {table} {item}"),
+            NetFault::NoMemory => write!(f, "NoMemory"),
+        }
+    }
+}
+
+/// A fault of an intent as a refusal tells it.
+#[derive(Clone, Copy)]
+struct IntentFaultText {
+    fault: IntentFault,
+}
+
+/// The fault's number, its name and its fields. (own rule)
+impl fmt::Display for IntentFaultText {
+    ghost use Rattle.std.specs.Prelude.{Some};
+    ghost use Rattle.command_output.specs.Lines.{intent_fault_text};
+
+    ghost output = { λ text. Some (intent_fault_text text.fault) };
+
+    #[tactic(auto, unfolding(crate::specs::Lines::intent_fault_text))]
+    fn fmt<W: fmt::Write>(&self, f: &mut fmt::Formatter<W>) -> fmt::Result {
+        match &self.fault {
+            IntentFault::Text(fault) => {
+                let text = FaultText { fault: *fault };
+                write!(f, "refused 33 Text {text}")
+            }
+            IntentFault::UnknownName { step } => write!(f, "refused 34 UnknownName {step}"),
+            IntentFault::Broken { step } => write!(f, "refused 35 Broken {step}"),
+            IntentFault::NoFunction { step } => write!(f, "refused 36 NoFunction {step}"),
+            IntentFault::NotFunctionLast => write!(f, "refused 37 NotFunctionLast"),
+            IntentFault::DoubleLink { step } => write!(f, "refused 38 DoubleLink {step}"),
+            IntentFault::NoMemory => write!(f, "refused 0 NoMemory"),
+        }
+    }
+}
+
+/// The refusal's number, its name, and its fields. (own rule)
+impl fmt::Display for Refusal {
+    ghost use Rattle.std.specs.Prelude.{Some};
+    ghost use Rattle.command_output.specs.Lines.{refusal_text};
+
+    ghost output = { λ refusal. Some (refusal_text refusal) };
+
+    #[tactic(auto, unfolding(crate::specs::Lines::refusal_text, crate::specs::Lines::capture_text))]
+    fn fmt<W: fmt::Write>(&self, f: &mut fmt::Formatter<W>) -> fmt::Result {
+        match self {
+            Refusal::TooBig { limit } => write!(f, "refused 2 TooBig {limit}"),
+            Refusal::Capture(CaptureFault::BadMagic) => write!(f, "refused 11 BadMagic"),
+            Refusal::Capture(CaptureFault::PcapNg) => write!(f, "refused 12 PcapNg"),
+            Refusal::Capture(CaptureFault::BadVersion) => write!(f, "refused 13 BadVersion"),
+            Refusal::Capture(CaptureFault::BadLink { link }) => {
+                write!(f, "refused 14 BadLink {link}")
+            }
+            Refusal::Capture(CaptureFault::CutHead) => write!(f, "refused 15 CutHead"),
+            Refusal::Capture(CaptureFault::FrameLimit) => write!(f, "refused 17 FrameLimit"),
+            Refusal::CutFrame { frame } => write!(f, "refused 16 CutFrame {frame}"),
+            Refusal::Net(fault) => {
+                let number = number_of(*fault);
+                let text = FaultText { fault: *fault };
+                write!(f, "refused {number} {text}")
+            }
+            Refusal::Intent(fault) => {
+                let text = IntentFaultText { fault: *fault };
+                write!(f, "{text}")
+            }
+            Refusal::BadNode => write!(f, "refused 39 BadNode"),
+            Refusal::BadTrace { line } => write!(f, "refused 40 BadTrace {line}"),
+            Refusal::Nested { outer, inner } => write!(f, "refused 41 Nested {outer} {inner}"),
+            Refusal::ZeroCsid { prefix } => write!(f, "refused 42 ZeroCsid {prefix}"),
+            Refusal::MixedBlock { block, prefix } => {
+                write!(f, "refused 43 MixedBlock {block} {prefix}")
+            }
+            Refusal::Clash {
+                prefix,
+                first,
+                second,
+            } => write!(f, "refused 44 Clash {prefix} {first} {second}"),
+            Refusal::BadCert { line } => write!(f, "refused 45 BadCert {line}"),
+        }
+    }
+}

@@ -1,0 +1,16 @@
+//! Bytes written to a sink.
+
+ghost use Rattle.std.specs.Prelude.{◌≡◌};
+ghost use Rattle.srx_edge.specs.Steps.{Wrote};
+ghost use Rattle.command_output.specs.Answers.{ending_of_step};
+
+use crate::halt::Failure;
+use srx_edge::{Sink, pour};
+
+/// Pours bytes into a sink.
+#[tactic(auto, using(crate::proofs::Writing::writing))]
+pub fn write_all<O: Sink>(sink: &mut O, bytes: &[u8]) -> Result<(), Failure>
+    ensures { Wrote (ending_of_step result) bytes.now (O.seen sink.old) (O.seen sink.new) }
+{
+    Ok(pour(sink, bytes)?)
+}

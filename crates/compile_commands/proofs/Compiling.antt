@@ -1,0 +1,92 @@
+-- What is written of an intent, by the compiler's answer.
+use Rattle.std.proofs.Common.{◌≡◌, ℕ, List, [], ◌∷◌, ◌++◌, map, Result, Ok, Err, refl, sym, ap, ap₂, ◌∙◌, subst}
+use Rattle.std.specs.Prelude.{IsOk}
+use Rattle.std.specs.List.{flat_map}
+use Rattle.v6_addr.specs.declared.address.Addr.{Addr}
+use Rattle.net_model.specs.Network.{Network}
+use Rattle.net_model.specs.Keeps.{Keeps}
+use Rattle.net_model.specs.Rules.{IsNetwork}
+use Rattle.net_model.specs.declared.flat.NotFlat.{NotFlat}
+use Rattle.net_model.specs.Flat.{IsFlat, flatness_of}
+use Rattle.net_model.proofs.PublicLaws.{flatness_ok}
+use Rattle.intent_reader.specs.declared.intent.Intent.{Intent}
+use Rattle.list_pack.specs.declared.types.Solution.{Solution}
+use Rattle.list_pack.specs.SidLists.{list_values}
+use Rattle.list_pack.proofs.PublicLaws.{flat-lists, legal-flat}
+use Rattle.path_compiler.specs.declared.compiled.Compiled.{Compiled}
+use Rattle.path_compiler.specs.declared.compiled.CompileFault.{CompileFault}
+use Rattle.path_compiler.specs.declared.compiled.CompileFault.TheVariants as faults
+use Rattle.path_compiler.specs.Compiled.{CompileAnswers, IsFound, NoneHandsOver}
+use Rattle.leg_table.specs.Realizes.{ListRealizes, ListExecutes}
+use Rattle.leg_table.specs.Value.{legs_value}
+use Rattle.compile_commands.specs.declared.compile.Answer.{Answer}
+use Rattle.command_output.specs.declared.halt.Failure.TheVariants as failures
+use Rattle.command_output.specs.declared.halt.Halt.{Halt}
+use Rattle.command_output.specs.declared.halt.Halt.TheVariants as halts
+use Rattle.compile_commands.proofs.Checking.{knows_states}
+use Rattle.compile_commands.specs.Compile.{HasValues, KnowsStates, Gives, GivesOf, container_line, numbers_lines, report_of}
+
+-- the lines of containers are those of their values, and the numbers' lines are behind them
+
+lines-map : (values : List Addr)
+    → flat_map (λ (a : Addr). container_line a.value) values ≡ flat_map container_line (map (λ (a : Addr). a.value) values)
+lines-map [] = refl
+lines-map (a ∷ more) = ap (λ (bytes : List ℕ). container_line a.value ++ bytes) (lines-map more)
+
+pub report-is : (net : Network) (c : Compiled) (values : List Addr) (lines numbers : List ℕ)
+    → map (λ (a : Addr). a.value) values ≡ list_values net c.list
+    → lines ≡ flat_map (λ (a : Addr). container_line a.value) values
+    → numbers ≡ numbers_lines c.containers c.header c.need
+    → lines ++ numbers ≡ report_of net c
+report-is net c values lines numbers are is counts =
+    ap₂ (λ (a b : List ℕ). a ++ b) (is ∙ (lines-map values ∙ ap (flat_map container_line) are)) counts
+
+-- a list that was found in a flat network has values
+values-of : (net : Network) (intent : Intent) (c : Compiled) → IsNetwork net → flatness_of net ≡ Ok tt
+    → IsFound (legs_value net intent) net (ListRealizes net intent) (ListExecutes net intent) intent.reduced c → HasValues net c
+values-of net intent c network is_flat found =
+    let legal = found.chosen.whole.legal in
+    let flat : IsFlat net = (flatness_ok net).0 (subst (λ (r : Result (Unit {0}) NotFlat). IsOk r) (sym is_flat) refl) in
+    (legal, legal-flat net c.list (flat-lists net network flat) legal)
+
+pub values_kept : (net : Network) (intent : Intent) (c : Compiled) → IsNetwork net → CompileAnswers net intent (Ok c) → HasValues net c
+values_kept net intent c network answers = values-of net intent c network answers.flat answers.found
+
+pub values_long : (net : Network) (intent : Intent) (c : Compiled) → IsNetwork net → CompileAnswers net intent (Err (faults.TooLong c))
+    → HasValues net c
+values_long net intent c network answers = values-of net intent c network answers.flat answers.found
+
+pub values_over : (net : Network) (intent : Intent) (c : Compiled) → IsNetwork net → CompileAnswers net intent (Err (faults.HopLimit c))
+    → HasValues net c
+values_over net intent c network answers = values-of net intent c network answers.flat answers.found
+
+-- the SIDs of what was found are SIDs of the network
+
+pub knows_kept : (net : Network) (intent : Intent) (c : Compiled) → Keeps net → CompileAnswers net intent (Ok c)
+    → KnowsStates net c.solution
+knows_kept net intent c keeps answers = knows_states net intent keeps c.solution answers.found.solution
+
+pub knows_long : (net : Network) (intent : Intent) (c : Compiled) → Keeps net → CompileAnswers net intent (Err (faults.TooLong c))
+    → KnowsStates net c.solution
+knows_long net intent c keeps answers = knows_states net intent keeps c.solution answers.found.solution
+
+pub knows_over : (net : Network) (intent : Intent) (c : Compiled) → Keeps net → CompileAnswers net intent (Err (faults.HopLimit c))
+    → KnowsStates net c.solution
+knows_over net intent c keeps answers = knows_states net intent keeps c.solution answers.found.solution
+
+pub knows_none_in : (net : Network) (intent : Intent) (compiled : Result Compiled CompileFault) (s : Solution) → Keeps net
+    → CompileAnswers net intent compiled → compiled ≡ Err (faults.NoList s) → KnowsStates net s
+knows_none_in net intent compiled s keeps answers is =
+    knows_states net intent keeps s (subst (CompileAnswers net intent) is answers).solution
+
+pub ruleset valued = (values_kept, values_long, values_over, knows_kept, knows_long, knows_over)
+
+pub taken_gives : (net : Network) (intent : Intent) (compiled : Result Compiled CompileFault) (answer : Result Answer Halt)
+    → CompileAnswers net intent compiled → NoneHandsOver net intent compiled → Gives net intent compiled answer
+    → GivesOf net intent answer
+taken_gives net intent compiled (Ok answer) answers none gives = ((compiled, answers, none, gives.0), gives.1)
+taken_gives net intent compiled (Err (halts.Refused refusal)) answers none gives = (compiled, answers, none, gives)
+taken_gives net intent compiled (Err (halts.Failed failures.Fault)) answers none gives = absurd gives
+taken_gives net intent compiled (Err (halts.Failed failures.NoMemory)) answers none gives = tt
+
+pub ruleset taken = (taken_gives)

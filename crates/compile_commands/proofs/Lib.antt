@@ -1,0 +1,4 @@
+pub mod CheckEnds
+pub mod Checking
+pub mod Compiling
+pub mod PublicLaws

@@ -1,0 +1,2 @@
+-- The lemmas that crates above may cite.
+pub use Rattle.compile_commands.proofs.Compiling.{valued}

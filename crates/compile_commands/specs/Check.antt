@@ -1,0 +1,162 @@
+-- The command `check`: the verdict on a certificate for the intent of a file in the network that another describes.
+use Rattle.std.specs.Prelude.{◌≡◌, ℕ, Bool, true, false, List, [], ◌∷◌, ◌++◌, codes, Option, Result, Ok, Err, IsSomeAnd, is_ok, ⊤}
+use Rattle.std.specs.Fmt.{decimal}
+use Rattle.net_model.specs.Network.{Network}
+use Rattle.net_model.specs.Flat.{flatness_of}
+use Rattle.net_model.specs.declared.flat.NotFlat.{NotFlat}
+use Rattle.intent_reader.specs.declared.intent.Intent.{Intent}
+use Rattle.list_certificate.specs.declared.types.Cert.{Cert}
+use Rattle.list_certificate.specs.declared.types.Verdict.{Verdict}
+use Rattle.list_certificate.specs.declared.types.Verdict.TheVariants.{Least, NoList, No}
+use Rattle.list_certificate.specs.declared.types.Why.{Why}
+use Rattle.list_certificate.specs.declared.types.Why.TheVariants as whys
+use Rattle.list_certificate.specs.Spelling.{state_text, IsKnown}
+use Rattle.list_certificate.specs.Verdicts.{IsVerdict}
+use Rattle.leg_table.specs.Realizes.{ListRealizes, ListExecutes}
+use Rattle.leg_table.specs.Table.{LegTable}
+use Rattle.leg_table.specs.Value.{legs_value}
+use Rattle.path_compiler.specs.Checked.{Says}
+use Rattle.srx_edge.specs.Edge.{file_named}
+use Rattle.command_output.specs.declared.told.Judgement.{Judgement}
+use Rattle.command_output.specs.declared.halt.Failure.TheVariants as failures
+use Rattle.command_output.specs.declared.halt.Halt.{Halt}
+use Rattle.command_output.specs.declared.halt.Halt.TheVariants as halts
+use Rattle.command_output.specs.declared.refusal.Refusal.{Refusal}
+use Rattle.command_output.specs.declared.status.Status.{Status}
+use Rattle.command_output.specs.declared.status.Status.TheVariants as statuses
+use Rattle.command_output.specs.Halts.{flat_refusal}
+use Rattle.command_output.specs.Outputs.{reported}
+use Rattle.command_inputs.specs.Judgements.{network_in, intent_in, cert_in}
+use Rattle.command_output.specs.Outputs.{refused}
+use Rattle.command_output.specs.Lines.{line, bytes_of_text}
+use Rattle.command_output.specs.Pieces.{Output}
+use Rattle.command_output.specs.Shape.{Shape, IsOneOf}
+use Rattle.command_output.specs.Verbs.{has_three_words}
+
+-- its words: the description, the intent and the certificate
+abbrev pub is_check : List ℕ → List ℕ → List ℕ → List ℕ → Bool
+is_check verb file intent cert = has_three_words (codes "check") verb file intent cert
+
+-- the line of a verdict, and its status
+
+unfoldable pub least_line : ℕ → ℕ → List ℕ
+least_line containers need = codes "least " ++ (decimal containers ++ 32 ∷ (decimal need ++ 10 ∷ []))
+
+unfoldable pub no_list_line : List ℕ
+no_list_line = line (codes "none")
+
+unfoldable pub edge_line : ℕ → List ℕ
+edge_line number = codes "no " ++ (decimal number ++ (codes " edge" ++ 10 ∷ []))
+
+unfoldable pub unlisted_line : ℕ → List ℕ → List ℕ
+unlisted_line number state = codes "no " ++ (decimal number ++ (codes " unlisted " ++ (state ++ 10 ∷ [])))
+
+unfoldable pub path_line : ℕ → List ℕ
+path_line number = codes "no " ++ (decimal number ++ (codes " path" ++ 10 ∷ []))
+
+unfoldable pub tight_line : ℕ → List ℕ
+tight_line number = codes "no " ++ (decimal number ++ (codes " tight" ++ 10 ∷ []))
+
+abbrev pub bad_line : Network → ℕ → Why → List ℕ
+bad_line net number whys.Edge = edge_line number
+bad_line net number (whys.Unlisted state) = unlisted_line number (state_text net state)
+bad_line net number whys.Path = path_line number
+bad_line net number whys.Tight = tight_line number
+
+abbrev pub verdict_line : Network → Verdict → List ℕ
+verdict_line net (Least containers need) = least_line containers need
+verdict_line net NoList = no_list_line
+verdict_line net (No number why) = bad_line net number why
+
+abbrev pub verdict_status : Verdict → Status
+verdict_status (Least containers need) = statuses.Done
+verdict_status NoList = statuses.Done
+verdict_status (No number why) = statuses.SaysNo
+
+-- the verdict on a certificate over the legs of the intent, and what it says of lists: with `Least` a legal list of so many containers
+-- realizes the intent with this need, and no legal list that does so has fewer, or as many and a smaller need; with `NoList` none does
+pub record IsChecked (net : Network) (intent : Intent) (cert : Cert) (verdict : Verdict) : Type 0 where
+  pub is : IsVerdict (legs_value net intent) cert verdict
+  pub says : Says net (ListRealizes net intent) (ListExecutes net intent) verdict
+
+abbrev pub told_of : Network → Verdict → Output
+told_of net verdict = reported (verdict_line net verdict) [] (verdict_status verdict)
+
+-- the description is judged, then the intent, then whether the network is flat, and then the certificate
+
+abbrev pub VerdictWants : Network → Intent → Cert → Output → Type 0
+VerdictWants net intent cert output = (verdict : Verdict) × IsChecked net intent cert verdict × (output ≡ told_of net verdict)
+
+abbrev pub CertWants : Network → Intent → Result Cert Refusal → Output → Type 0
+CertWants net intent (Err refusal) output = output ≡ refused refusal
+CertWants net intent (Ok cert) output = VerdictWants net intent cert output
+
+abbrev pub FlatWants : Network → Intent → Result (Unit {0}) NotFlat → Option (List ℕ) → Output → Type 0
+FlatWants net intent (Err why) cert output = output ≡ refused (flat_refusal net why)
+FlatWants net intent (Ok flat) cert output =
+    IsSomeAnd cert (λ text. CertWants net intent (cert_in net (legs_value net intent) text) output)
+
+abbrev pub IntentWants : Network → Result Intent Refusal → Option (List ℕ) → Output → Type 0
+IntentWants net (Err refusal) cert output = output ≡ refused refusal
+IntentWants net (Ok intent) cert output = FlatWants net intent (flatness_of net) cert output
+
+abbrev pub NetworkWants : Result Network Refusal → Option (List ℕ) → Option (List ℕ) → Output → Type 0
+NetworkWants (Err refusal) intent cert output = output ≡ refused refusal
+NetworkWants (Ok net) intent cert output = IsSomeAnd intent (λ text. IntentWants net (intent_in net text) cert output)
+
+-- the intent is asked for where the description gives a network, and the certificate where the intent is one in it and it is flat
+
+abbrev pub goes_on_behind : Network → Result Intent Refusal → Bool
+goes_on_behind net (Err refusal) = false
+goes_on_behind net (Ok intent) = is_ok (flatness_of net)
+
+abbrev pub asks_for_cert : Result Network Refusal → List ℕ → Bool
+asks_for_cert (Err refusal) text = false
+asks_for_cert (Ok net) text = goes_on_behind net (intent_in net text)
+
+abbrev pub asks_for_next : List (List ℕ) → Bool
+asks_for_next [] = false
+asks_for_next (file ∷ []) = is_ok (network_in file)
+asks_for_next (file ∷ intent ∷ more) = asks_for_cert (network_in file) intent
+
+abbrev pub check_shape : List ℕ → List ℕ → List ℕ → Shape
+check_shape file intent cert = record {
+  files = file ∷ intent ∷ cert ∷ [];
+  goes_on = asks_for_next;
+  reads = false;
+  leaves_input = λ held. ⊤;
+  lines_last = true;
+  statuses = statuses.Done ∷ statuses.Refused ∷ statuses.SaysNo ∷ [];
+  wants = λ held input output.
+      IsSomeAnd (file_named held file) (λ text. NetworkWants (network_in text) (file_named held intent) (file_named held cert) output);
+}
+
+-- What `check` has to write, as its steps answer it.
+
+-- the refusal of a network that is not flat
+abbrev pub RefusesFlat : Network → Refusal → Result (Unit {0}) NotFlat → Type 0
+RefusesFlat net refusal (Ok flat) = ⊥
+RefusesFlat net refusal (Err why) = refusal ≡ flat_refusal net why
+
+-- the legs of an intent in a flat network
+abbrev pub LegsOf : Network → Intent → Result LegTable Halt → Type 0
+LegsOf net intent (Ok legs) = (legs ≡ record { net = net; intent = intent }) × (flatness_of net ≡ Ok tt)
+LegsOf net intent (Err (halts.Refused refusal)) = RefusesFlat net refusal (flatness_of net)
+LegsOf net intent (Err (halts.Failed failures.Fault)) = ⊥
+LegsOf net intent (Err (halts.Failed failures.NoMemory)) = ⊤
+
+-- the SID of a state that a verdict tells is one of the network
+abbrev pub KnowsWhy : Network → Why → Type 0
+KnowsWhy net whys.Edge = ⊤
+KnowsWhy net (whys.Unlisted state) = IsKnown net state
+KnowsWhy net whys.Path = ⊤
+KnowsWhy net whys.Tight = ⊤
+
+abbrev pub KnowsState : Network → Verdict → Type 0
+KnowsState net (Least containers need) = ⊤
+KnowsState net NoList = ⊤
+KnowsState net (No number why) = KnowsWhy net why
+
+abbrev pub JudgesAs : Network → Intent → Cert → Judgement → Type 0
+JudgesAs net intent cert judgement =
+    VerdictWants net intent cert (output_of_judgement judgement) × IsOneOf (statuses.Done ∷ statuses.SaysNo ∷ []) judgement.status

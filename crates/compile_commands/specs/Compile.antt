@@ -1,0 +1,139 @@
+-- The command `compile`: a list for the intent of a file in the network that another describes.
+use Rattle.std.specs.Prelude.{◌≡◌, ℕ, Bool, true, false, List, [], ◌∷◌, ◌++◌, codes, Option, Result, Ok, Err, IsSomeAnd, is_ok, ⊤}
+use Rattle.std.specs.List.{All, flat_map}
+use Rattle.std.specs.Fmt.{decimal}
+use Rattle.v6_addr.specs.Text.{address_text}
+use Rattle.net_model.specs.Network.{Network}
+use Rattle.intent_reader.specs.declared.intent.Intent.{Intent}
+use Rattle.list_places.specs.Lists.{IsFlatList}
+use Rattle.list_pack.specs.declared.types.Potential.{Potential}
+use Rattle.list_pack.specs.declared.types.Solution.{Solution}
+use Rattle.list_pack.specs.SidLists.{IsLegalList, list_in, list_values}
+use Rattle.list_certificate.specs.Spelling.{IsKnown, spelled}
+use Rattle.path_compiler.specs.declared.compiled.Compiled.{Compiled}
+use Rattle.path_compiler.specs.declared.compiled.CompileFault.{CompileFault}
+use Rattle.path_compiler.specs.declared.compiled.CompileFault.TheVariants as faults
+use Rattle.path_compiler.specs.Compiled.{CompileAnswers, NoneHandsOver}
+use Rattle.srx_edge.specs.Edge.{file_named}
+use Rattle.compile_commands.specs.declared.compile.Answer.{Answer}
+use Rattle.command_output.specs.declared.halt.Failure.TheVariants as failures
+use Rattle.command_output.specs.declared.halt.Halt.{Halt}
+use Rattle.command_output.specs.declared.halt.Halt.TheVariants as halts
+use Rattle.command_output.specs.declared.refusal.Refusal.{Refusal}
+use Rattle.command_output.specs.declared.status.Status.{Status}
+use Rattle.command_output.specs.declared.status.Status.TheVariants as statuses
+use Rattle.command_inputs.specs.Judgements.{network_in, intent_in}
+use Rattle.command_output.specs.Halts.{flat_refusal}
+use Rattle.command_output.specs.Outputs.{refused, reported}
+use Rattle.command_output.specs.Lines.{line, bytes_of_text}
+use Rattle.command_output.specs.Pieces.{Output}
+use Rattle.command_output.specs.Shape.{Shape, IsOneOf}
+use Rattle.command_output.specs.Verbs.{has_two_words}
+
+-- its words: the description and the intent
+abbrev pub is_compile : List ℕ → List ℕ → List ℕ → Bool
+is_compile verb file intent = has_two_words (codes "compile") verb file intent
+
+unfoldable pub container_line : ℕ → List ℕ
+container_line value = line (codes "# container " ++ address_text value)
+
+-- the report's numbers: containers, header bytes, need
+unfoldable pub numbers_lines : ℕ → ℕ → ℕ → List ℕ
+numbers_lines count header need =
+    codes "# containers " ++ (decimal count ++ 10 ∷ (codes "# header " ++ (decimal header ++ 10 ∷ (codes "# need "
+    ++ (decimal need ++ 10 ∷ [])))))
+
+-- a container's line has its 16 bytes as an address
+abbrev pub report_of : Network → Compiled → List ℕ
+report_of net c = flat_map container_line (list_values net c.list) ++ numbers_lines c.containers c.header c.need
+
+unfoldable pub no_report : List ℕ
+no_report = line (codes "# none")
+
+-- the report, and the certificate of what the search found behind it
+abbrev pub printed : Network → List ℕ → Solution → List ℕ
+printed net report solution = report ++ spelled net solution
+
+unfoldable pub none_line : List ℕ
+none_line = line (codes "no answer NoList")
+
+unfoldable pub too_long_line : ℕ → List ℕ
+too_long_line count = line (codes "no answer TooLong " ++ decimal count)
+
+unfoldable pub hop_limit_line : ℕ → List ℕ
+hop_limit_line need = line (codes "no answer HopLimit " ++ decimal need)
+
+-- the list of what was compiled is legal, over SIDs as a flat network has them, so its values are addresses
+abbrev pub HasValues : Network → Compiled → Type 0
+HasValues net c = IsLegalList net c.list × IsFlatList (list_in net c.list)
+
+-- the SIDs of the states that the certificate lists are SIDs of the network
+abbrev pub KnowsStates : Network → Solution → Type 0
+KnowsStates net solution = All (λ (q : Potential). IsKnown net q.state) solution.potentials
+
+-- the output of an answer of the compiler; want of memory has none
+abbrev pub AnswerWants : Network → Intent → Result Compiled CompileFault → Output → Type 0
+AnswerWants net intent (Ok c) output = output ≡ reported (printed net (report_of net c) c.solution) [] statuses.Done
+AnswerWants net intent (Err (faults.NotFlat why)) output = output ≡ refused (flat_refusal net why)
+AnswerWants net intent (Err (faults.NoList solution)) output =
+    output ≡ reported (printed net no_report solution) none_line statuses.NoAnswer
+AnswerWants net intent (Err (faults.TooLong found)) output =
+    output ≡ reported (printed net (report_of net found) found.solution) (too_long_line found.containers) statuses.NoAnswer
+AnswerWants net intent (Err (faults.HopLimit found)) output =
+    output ≡ reported (printed net (report_of net found) found.solution) (hop_limit_line found.need) statuses.NoAnswer
+AnswerWants net intent (Err faults.NoMemory) output = ⊥
+
+-- the description is judged, then the intent, and then any answer of the compiler will do; what is wanted of each answer is the command's
+
+abbrev pub Wanted : Type 1
+Wanted = Network → Intent → Result Compiled CompileFault → Output → Type 0
+
+abbrev pub CompiledWants : Wanted → Network → Intent → Output → Type 0
+CompiledWants Wants net intent output =
+    (answer : Result Compiled CompileFault) × CompileAnswers net intent answer × NoneHandsOver net intent answer
+    × Wants net intent answer output
+
+abbrev pub IntentWants : Wanted → Network → Result Intent Refusal → Output → Type 0
+IntentWants Wants net (Err refusal) output = output ≡ refused refusal
+IntentWants Wants net (Ok intent) output = CompiledWants Wants net intent output
+
+abbrev pub NetworkWants : Wanted → Result Network Refusal → Option (List ℕ) → Output → Type 0
+NetworkWants Wants (Err refusal) intent output = output ≡ refused refusal
+NetworkWants Wants (Ok net) intent output = IsSomeAnd intent (λ text. IntentWants Wants net (intent_in net text) output)
+
+-- the intent is asked for where the description gives a network
+abbrev pub asks_for_intent : List (List ℕ) → Bool
+asks_for_intent [] = false
+asks_for_intent (text ∷ more) = is_ok (network_in text)
+
+abbrev pub compile_shape : List ℕ → List ℕ → Shape
+compile_shape file intent = record {
+  files = file ∷ intent ∷ [];
+  goes_on = asks_for_intent;
+  reads = false;
+  leaves_input = λ held. ⊤;
+  lines_last = true;
+  statuses = statuses.Done ∷ statuses.Refused ∷ statuses.NoAnswer ∷ [];
+  wants = λ held input output. IsSomeAnd (file_named held file) (λ text. NetworkWants AnswerWants (network_in text) (file_named held intent) output);
+}
+
+-- What `compile` has to write, as its steps answer it.
+
+abbrev pub output_of_answer : Answer → Output
+output_of_answer answer = reported (bytes_of_text answer.report) (bytes_of_text answer.told.line) answer.told.status
+
+-- what is to be written is what is wanted
+abbrev pub GivesWanted : (Output → Type 0) → Result Answer Halt → Type 0
+GivesWanted Wants (Ok answer) =
+    Wants (output_of_answer answer) × IsOneOf (statuses.Done ∷ statuses.NoAnswer ∷ []) answer.told.status
+GivesWanted Wants (Err (halts.Refused refusal)) = Wants (refused refusal)
+GivesWanted Wants (Err (halts.Failed failures.Fault)) = ⊥
+GivesWanted Wants (Err (halts.Failed failures.NoMemory)) = ⊤
+
+-- what the compiler's answer has
+abbrev pub Gives : Network → Intent → Result Compiled CompileFault → Result Answer Halt → Type 0
+Gives net intent compiled answer = GivesWanted (AnswerWants net intent compiled) answer
+
+-- what an intent has in a network
+abbrev pub GivesOf : Network → Intent → Result Answer Halt → Type 0
+GivesOf net intent answer = GivesWanted (CompiledWants AnswerWants net intent) answer

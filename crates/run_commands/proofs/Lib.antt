@@ -1,0 +1,3 @@
+pub mod PublicLaws
+pub mod Walking
+pub mod Writable

@@ -1,0 +1,193 @@
+-- Output while walking: what went out so far with the frames of the rest is the frames of the whole walk.
+use Rattle.std.proofs.Common.{◌≡◌, ℕ, suc, ◌+◌, Bool, true, false, is_some, List, [], ◌∷◌, ◌++◌, Option, Some, None, refl, sym, ap, ◌∙◌, append_assoc, append-nil, subst, slice_get}
+use Rattle.srx_edge.specs.Sinks.{SinkSeen, sent}
+use Rattle.pcap_io.specs.Capture.{written_frame_bytes}
+use Rattle.srx_edge.specs.Steps.{Ending, Wrote}
+use Rattle.srx_edge.proofs.PublicLaws.{sent_both}
+use Rattle.srv6_rules.specs.declared.sid.Reason.{Reason}
+use Rattle.srv6_rules.specs.Packet.{Packet, Content}
+use Rattle.icmp6_errors.specs.Answer.{error_bytes}
+use Rattle.net_model.specs.Network.{Network}
+use Rattle.walk_rules.specs.declared.place.Place.{Place}
+use Rattle.walk_rules.specs.declared.place.Outcome.{Outcome}
+use Rattle.walk_rules.specs.declared.place.Outcome.TheVariants as outcomes
+use Rattle.walk_rules.specs.declared.place.Ended.TheVariants as ends
+use Rattle.walk_rules.specs.Treatment.{Gave, step_of}
+use Rattle.walk_rules.specs.Walk.{Step, walk_of, far_end, arrival, next_place, decisions, left_or_stages, end_by, end_of}
+use Rattle.walk_rules.proofs.PublicLaws.{walk_of-suc, walk_of-zero, walk_of-none}
+use Rattle.command_output.specs.declared.halt.Failure.{Failure}
+use Rattle.command_output.specs.declared.halt.Failure.TheVariants as failures
+use Rattle.command_output.specs.Answers.{ending_of_failure}
+use Rattle.run_commands.specs.Capture.{frames_of, frame_by, frame_of_gave}
+use Rattle.command_output.proofs.PublicLaws.{wrote_longer, wrote_after, wanted_after}
+
+-- of a whole walk some stages are left: what went out before is a front of its frames, and its end is theirs
+pub record Progress (number : ℕ) (net : Network) (left whole : List Step) (first now : SinkSeen) : Type 0 where
+  pub bytes : List ℕ
+  pub seen : now ≡ sent bytes first
+  pub frames : bytes ++ frames_of number left ≡ frames_of number whole
+  pub ends : end_of net left ≡ end_of net whole
+
+-- nothing went out yet
+pub progress_none : (number : ℕ) (net : Network) (whole : List Step) (first : SinkSeen) → Progress number net whole whole first first
+progress_none number net whole first = record { bytes = []; seen = refl; frames = refl; ends = refl }
+
+-- a link with a far end goes on
+arrives : (end : Option ℕ) (place next : Place) (link : ℕ) → arrival end place ≡ Some next → left_or_stages link end ≡ ends.Stages
+arrives None place next link h = cc
+arrives (Some node) place next link h = refl
+
+-- a packet that goes on hasn't ended
+pub goes_on : (net : Network) (place next : Place) (outcome : Outcome) → next_place net place outcome ≡ Some next
+    → end_by net place outcome ≡ ends.Stages
+goes_on net place next (outcomes.Again sid how) h = refl
+goes_on net place next (outcomes.Hand sid how family) h = refl
+goes_on net place next (outcomes.Send link) h = arrives (far_end (slice_get net.links link)) place next link h
+goes_on net place next outcomes.Local h = cc
+goes_on net place next (outcomes.Drop reason told) h = cc
+
+-- the end of a walk that goes on after its first stage is that of the rest
+pub end_of-cons : (net : Network) (s : Step) (rest : List Step) → end_by net s.place s.gave.outcome ≡ ends.Stages
+    → end_of net (s ∷ rest) ≡ end_of net rest
+end_of-cons net s [] h = h
+end_of-cons net s (t ∷ rest) h = refl
+
+module _ (number : ℕ) (net : Network) (left whole rest : List Step) (s : Step) (first now later : SinkSeen) (begins : left ≡ s ∷ rest)
+    (p : Progress number net left whole first now) where
+  -- what went out, and then the stage's frames and those of the rest
+  frames-on : (p.bytes ++ frame_of_gave number s.gave) ++ frames_of number rest ≡ frames_of number whole
+  frames-on = append_assoc p.bytes (frame_of_gave number s.gave) (frames_of number rest)
+      ∙ (ap (λ (steps : List Step). p.bytes ++ frames_of number steps) (sym begins) ∙ p.frames)
+
+  -- after a stage whose frames went out
+  pub progress_on : end_by net s.place s.gave.outcome ≡ ends.Stages → later ≡ sent (frame_of_gave number s.gave) now
+      → Progress number net rest whole first later
+  progress_on goes went = record {
+    bytes = p.bytes ++ frame_of_gave number s.gave;
+    seen = sent_both p.bytes (frame_of_gave number s.gave) first now later p.seen went;
+    frames = frames-on;
+    ends = sym (end_of-cons net s rest goes) ∙ (ap (end_of net) (sym begins) ∙ p.ends);
+  }
+
+  -- frames that went out in part
+  pub progress_cut : (failure : Failure) → Wrote (ending_of_failure failure) (frame_of_gave number s.gave) now later
+      → Wrote (ending_of_failure failure) (frames_of number whole) first later
+  progress_cut failure wrote = subst (λ (bytes : List ℕ). Wrote (ending_of_failure failure) bytes first later) frames-on
+      (wrote_longer failure (p.bytes ++ frame_of_gave number s.gave) (frames_of number rest) first later
+      (wrote_after failure p.bytes (frame_of_gave number s.gave) first now later p.seen wrote))
+
+-- memory was wanting before a stage
+pub progress_wants : (number : ℕ) (net : Network) (left whole : List Step) (first now : SinkSeen)
+    → Progress number net left whole first now
+    → Wrote (ending_of_failure failures.NoMemory) (frames_of number whole) first now
+progress_wants number net left whole first now p =
+    subst (λ (bytes : List ℕ). Wrote (ending_of_failure failures.NoMemory) bytes first now) p.frames
+    (wanted_after p.bytes (frames_of number left) first now p.seen)
+
+-- no stage is left: all went out, and the walk ended as the last stage did
+
+pub progress_stops : (number : ℕ) (net : Network) (left whole : List Step) (first now : SinkSeen) → left ≡ []
+    → Progress number net left whole first now
+    → (now ≡ sent (frames_of number whole) first) × (ends.Stages ≡ end_of net whole)
+progress_stops number net left whole first now none p = (
+  p.seen ∙ ap (λ (bytes : List ℕ). sent bytes first)
+      (sym (append-nil p.bytes) ∙ (ap (λ (steps : List Step). p.bytes ++ frames_of number steps) (sym none) ∙ p.frames)),
+  ap (end_of net) (sym none) ∙ p.ends,
+)
+
+pub progress_ends : (number : ℕ) (net : Network) (left whole : List Step) (s : Step) (first now later : SinkSeen) → left ≡ s ∷ []
+    → Progress number net left whole first now
+    → later ≡ sent (frame_of_gave number s.gave) now
+    → (later ≡ sent (frames_of number whole) first) × (end_by net s.place s.gave.outcome ≡ end_of net whole)
+progress_ends number net left whole s first now later last p went = (
+  sent_both p.bytes (frame_of_gave number s.gave) first now later p.seen went
+      ∙ ap (λ (bytes : List ℕ). sent bytes first)
+      (sym (append-nil (p.bytes ++ frame_of_gave number s.gave)) ∙ frames-on number net left whole [] s first now later last p),
+  ap (end_of net) (sym last) ∙ p.ends,
+)
+
+-- a walk's first stage by what it gave, and the walk from where it leads
+
+module _ (net : Network) (all more : ℕ) (place : Place) (content : Content) (pick : ℕ → ℕ) (taken : ℕ) (gave : Gave) (is : all ≡ suc more)
+    (gives : step_of net place content (pick taken) ≡ gave) where
+  abbrev pub step_by : Step
+  step_by = record { place = place; before = content; gave = gave }
+
+  pub walk_begins : walk_of all net (Some place) content pick taken
+      ≡ step_by ∷ walk_of more net (next_place net place gave.outcome) gave.after pick (taken + decisions gave.outcome)
+  walk_begins = ap (λ (n : ℕ). walk_of n net (Some place) content pick taken) is
+      ∙ subst (λ (g : Gave). walk_of (suc more) net (Some place) content pick taken
+      ≡ record { place = place; before = content; gave = g }
+      ∷ walk_of more net (next_place net place g.outcome) g.after pick (taken + decisions g.outcome))
+      gives (walk_of-suc more net place content pick taken)
+
+  pub walk_goes_on : (next : Place) → next_place net place gave.outcome ≡ Some next
+      → walk_of all net (Some place) content pick taken
+      ≡ step_by ∷ walk_of more net (Some next) gave.after pick (taken + decisions gave.outcome)
+  walk_goes_on next goes = walk_begins
+      ∙ ap (λ (o : Option Place). step_by ∷ walk_of more net o gave.after pick (taken + decisions gave.outcome)) goes
+
+  pub walk_ends : next_place net place gave.outcome ≡ None → walk_of all net (Some place) content pick taken ≡ step_by ∷ []
+  walk_ends stops = walk_begins
+      ∙ ap (λ (o : Option Place). step_by ∷ walk_of more net o gave.after pick (taken + decisions gave.outcome)) stops
+      ∙ ap (λ (steps : List Step). step_by ∷ steps) (walk_of-none more net gave.after pick (taken + decisions gave.outcome))
+
+pub walk_is_over : (net : Network) (left : ℕ) (place : Option Place) (content : Content) (pick : ℕ → ℕ) (taken : ℕ) → left ≡ 0
+    → walk_of left net place content pick taken ≡ []
+walk_is_over net left place content pick taken is =
+    ap (λ (n : ℕ). walk_of n net place content pick taken) is ∙ walk_of-zero net place content pick taken
+
+-- a stage of the loop, by what it gave
+
+module _ (number : ℕ) (net : Network) (all more : ℕ) (place : Place) (content : Content) (pick : ℕ → ℕ) (taken : ℕ) (gave : Gave)
+    (whole : List Step)
+    (first now later : SinkSeen) (is : all ≡ suc more) (gives : step_of net place content (pick taken) ≡ gave)
+    (p : Progress number net (walk_of all net (Some place) content pick taken) whole first now) where
+  pub staged_on : (next : Place) → next_place net place gave.outcome ≡ Some next → later ≡ sent (frame_of_gave number gave) now
+      → Progress number net (walk_of more net (Some next) gave.after pick (taken + decisions gave.outcome)) whole first later
+  staged_on next goes went = progress_on number net (walk_of all net (Some place) content pick taken) whole
+      (walk_of more net (Some next) gave.after pick (taken + decisions gave.outcome))
+      (step_by net all more place content pick taken gave is gives) first now later
+      (walk_goes_on net all more place content pick taken gave is gives next goes) p (goes_on net place next gave.outcome goes) went
+
+  pub staged_end : next_place net place gave.outcome ≡ None → later ≡ sent (frame_of_gave number gave) now
+      → (later ≡ sent (frames_of number whole) first) × (end_by net place gave.outcome ≡ end_of net whole)
+  staged_end stops went = progress_ends number net (walk_of all net (Some place) content pick taken) whole
+      (step_by net all more place content pick taken gave is gives) first now later
+      (walk_ends net all more place content pick taken gave is gives stops) p went
+
+  pub staged_cut : (failure : Failure) → Wrote (ending_of_failure failure) (frame_of_gave number gave) now later
+      → Wrote (ending_of_failure failure) (frames_of number whole) first later
+  staged_cut failure wrote = progress_cut number net (walk_of all net (Some place) content pick taken) whole
+      (walk_of more net (next_place net place gave.outcome) gave.after pick (taken + decisions gave.outcome))
+      (step_by net all more place content pick taken gave is gives) first now later
+      (walk_begins net all more place content pick taken gave is gives) p failure wrote
+
+-- the frame of a drop is that of its error, and a drop without one has none
+
+error-frame : (number : ℕ) (reason : Reason) (sends : Bool) (after : Content) (told : Option Packet) (bytes : List ℕ) → sends ≡ true
+    → sends ≡ is_some told → bytes ≡ error_bytes told
+    → written_frame_bytes number 0 bytes ≡ frame_by number (outcomes.Drop reason sends) after told
+error-frame number reason sends after None bytes is tells has = cc
+error-frame number reason sends after (Some error) bytes is tells has = ap (written_frame_bytes number 0) has
+
+no_error-frame : (number : ℕ) (reason : Reason) (sends : Bool) (after : Content) (told : Option Packet) → sends ≡ false
+    → sends ≡ is_some told → [] ≡ frame_by number (outcomes.Drop reason sends) after told
+no_error-frame number reason sends after None is tells = refl
+no_error-frame number reason sends after (Some error) is tells = cc
+
+pub error_went : (ending : Ending) (number : ℕ) (reason : Reason) (sends : Bool) (after : Content) (told : Option Packet) (bytes : List ℕ)
+    → (first now : SinkSeen) → sends ≡ true → sends ≡ is_some told → bytes ≡ error_bytes told
+    → Wrote ending (written_frame_bytes number 0 bytes) first now
+    → Wrote ending (frame_by number (outcomes.Drop reason sends) after told) first now
+error_went ending number reason sends after told bytes first now is tells has wrote =
+    subst (λ (frame : List ℕ). Wrote ending frame first now) (error-frame number reason sends after told bytes is tells has) wrote
+
+pub no_error_went : (ending : Ending) (number : ℕ) (reason : Reason) (sends : Bool) (after : Content) (told : Option Packet)
+    → (first now : SinkSeen) → sends ≡ false → sends ≡ is_some told
+    → Wrote ending [] first now
+    → Wrote ending (frame_by number (outcomes.Drop reason sends) after told) first now
+no_error_went ending number reason sends after told first now is tells wrote =
+    subst (λ (frame : List ℕ). Wrote ending frame first now) (no_error-frame number reason sends after told is tells) wrote
+
+pub ruleset errors = (error_went, no_error_went)

@@ -1,0 +1,107 @@
+-- The command `run`: the packets of the input, one after the other, from a node of the network that a file describes.
+use Rattle.std.specs.Prelude.{◌≡◌, ℕ, Bool, true, false, List, [], ◌∷◌, codes, Option, Some, None, Result, Ok, Err, IsSomeAnd, is_ok}
+use Rattle.std.specs.List.{flat_map}
+use Rattle.pcap_io.specs.declared.frame.Body.{Body}
+use Rattle.pcap_io.specs.declared.frame.Body.TheVariants as bodies
+use Rattle.pcap_io.specs.declared.frame.Frame.{Frame}
+use Rattle.pcap_io.specs.Capture.{written_head_bytes}
+use Rattle.srv6_rules.specs.declared.sid.Family.{Family}
+use Rattle.srv6_rules.specs.declared.sid.Family.TheVariants.{V6, V4}
+use Rattle.srv6_rules.specs.Packet.{Content, entered}
+use Rattle.net_model.specs.Network.{Network}
+use Rattle.walk_rules.specs.declared.place.How.TheVariants.{Arrived}
+use Rattle.walk_rules.specs.Walk.{Step, walk_of, choice_at, end_of}
+use Rattle.srx_edge.specs.Edge.{file_named}
+use Rattle.trace_replay.specs.declared.limits.TheConstants.{STAGES}
+use Rattle.command_inputs.specs.declared.packets.Packets.{Packets}
+use Rattle.command_output.specs.declared.unread.Unread.{Unread}
+use Rattle.command_output.specs.declared.refusal.Refusal.{Refusal}
+use Rattle.command_output.specs.declared.status.Status.TheVariants as statuses
+use Rattle.run_commands.specs.Capture.{frames_of}
+use Rattle.command_inputs.specs.Judgements.{network_in, node_in}
+use Rattle.command_output.specs.Outputs.{after, ended_by}
+use Rattle.command_output.specs.Lines.{packet_line, unread_line}
+use Rattle.command_inputs.specs.Packets.{packets_in, reading_of, unread_in, fault_of}
+use Rattle.command_output.specs.Pieces.{Piece, ForOut, ForErr, Output}
+use Rattle.command_output.specs.Shape.{Shape}
+use Rattle.command_output.specs.Verbs.{has_two_words}
+
+-- its first words: the file and the node; the choices may follow
+abbrev pub is_run : List ℕ → List ℕ → List ℕ → Bool
+is_run verb file node = has_two_words (codes "run") verb file node
+
+-- the walk of what stands at a node as a packet of a family, as it enters there, with a list of choices
+abbrev pub walk_from : Network → ℕ → List ℕ → Family → Content → List Step
+walk_from net node choices family content =
+    walk_of STAGES net (Some (record { node = node; how = Arrived 0; family = family })) content (choice_at choices) 0
+
+-- the list of choices where the words give none
+abbrev pub no_choices : List ℕ
+no_choices = 0 ∷ []
+
+-- the lines of the packets that aren't read
+
+abbrev pub unread_by : ℕ → Option Unread → List ℕ
+unread_by number None = []
+unread_by number (Some cause) = unread_line number cause
+
+abbrev pub unread_of_frame : Frame → List ℕ
+unread_of_frame frame = unread_by frame.number (unread_in frame.body)
+
+abbrev pub unread_lines : List Frame → List ℕ
+unread_lines frames = flat_map unread_of_frame frames
+
+-- a packet of a number: the frames of its walk, and then its line
+abbrev pub packet_pieces : Network → ℕ → List Step → List Piece
+packet_pieces net number steps = ForOut (frames_of number steps) ∷ ForErr (packet_line net number (end_of net steps)) ∷ []
+
+-- the packet of a family that bytes are
+abbrev pub walked_as : Network → ℕ → List ℕ → ℕ → Family → List ℕ → List Piece
+walked_as net node choices number family packet =
+    packet_pieces net number (walk_from net node choices family (entered family packet))
+
+-- the packet of a frame, if it is read
+abbrev pub walked_by : Network → ℕ → List ℕ → ℕ → Body → List Piece
+walked_by net node choices number (bodies.V6 packet) = walked_as net node choices number V6 packet
+walked_by net node choices number (bodies.V4 packet) = walked_as net node choices number V4 packet
+walked_by net node choices number bodies.ShortFrame = []
+walked_by net node choices number bodies.NotIp = []
+
+abbrev pub walked_of_frame : Network → ℕ → List ℕ → Frame → List Piece
+walked_of_frame net node choices frame = walked_by net node choices frame.number frame.body
+
+-- the head of the capture that is written, the lines of the packets that aren't read, and the others one after the other
+abbrev pub packets_pieces : Network → ℕ → List ℕ → List Frame → List Piece
+packets_pieces net node choices frames =
+    ForOut written_head_bytes ∷ ForErr (unread_lines frames) ∷ flat_map (walked_of_frame net node choices) frames
+
+abbrev pub ran : Network → ℕ → List ℕ → Packets → Output
+ran net node choices packets =
+    ended_by (packets_pieces net node choices (reading_of packets).frames) (fault_of (reading_of packets))
+
+-- the file is judged, then the node's name, then the input
+abbrev pub run_output : List ℕ → List ℕ → List ℕ → List ℕ → Output
+run_output text name choices input =
+    after (network_in text) (λ net. after (node_in net name) (λ node. after (packets_in input) (λ packets.
+    ran net node choices packets)))
+
+-- whether the input is read: the file and the node's name are judged well
+
+abbrev pub has_start : Result Network Refusal → List ℕ → Bool
+has_start (Ok net) name = is_ok (node_in net name)
+has_start (Err refusal) name = false
+
+abbrev pub reads_input : Option (List ℕ) → List ℕ → Bool
+reads_input None name = false
+reads_input (Some text) name = has_start (network_in text) name
+
+abbrev pub run_shape : List ℕ → List ℕ → List ℕ → Shape
+run_shape file name choices = record {
+  files = file ∷ [];
+  goes_on = λ texts. false;
+  reads = true;
+  leaves_input = λ held. reads_input (file_named held file) name ≡ false;
+  lines_last = false;
+  statuses = statuses.Done ∷ statuses.Refused ∷ [];
+  wants = λ held input output. IsSomeAnd (file_named held file) (λ text. output ≡ run_output text name choices input);
+}

@@ -1,8 +1,0 @@
-use Rattle.std.proofs.Common.{rules}
-use Rattle.srv6_cli.proofs.Compiling.{knows_none_in}
-use Rattle.srv6_cli.proofs.commands.compile.Answer.of_compiled.Goals as goal
-
-pub of_none-requires : goal.of_none-requires
-of_none-requires c =
-    knows_none_in c.args.net.now c.args.intent.now c.args.compiled.now c.in-Err-NoList.solution c.requires.facts c.requires.answers
-    (search rules)

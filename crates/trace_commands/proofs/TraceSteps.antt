@@ -1,0 +1,120 @@
+-- Lines while walking: what went out so far with the lines of the rest is the text of the whole walk.
+use Rattle.std.proofs.Common.{◌≡◌, ℕ, suc, ◌+◌, List, [], ◌∷◌, ◌++◌, Option, Some, None, refl, sym, ap, ◌∙◌, append_assoc, append-nil, subst}
+use Rattle.srx_edge.specs.Sinks.{SinkSeen, sent}
+use Rattle.srx_edge.specs.Steps.{Ending, Whole, Fault, Memory, Wrote}
+use Rattle.srx_edge.proofs.PublicLaws.{sent_both, cut_after, cut_whole, cut_none}
+use Rattle.srv6_rules.specs.Packet.{Content}
+use Rattle.net_model.specs.Network.{Network}
+use Rattle.walk_rules.specs.declared.place.Place.{Place}
+use Rattle.walk_rules.specs.Treatment.{Gave, step_of}
+use Rattle.walk_rules.specs.Walk.{Step, walk_of, next_place, decisions}
+use Rattle.trace_replay.specs.Laws.{walk_lines}
+use Rattle.trace_replay.specs.Lines.{stage_text, stages_text}
+use Rattle.command_output.specs.declared.halt.Failure.{Failure}
+use Rattle.command_output.specs.declared.halt.Failure.TheVariants as failures
+use Rattle.command_output.specs.Answers.{ending_of_failure}
+use Rattle.trace_commands.specs.Trace.{text_of}
+use Rattle.command_output.specs.Lines.{line}
+use Rattle.run_commands.proofs.PublicLaws.{step_by, walk_begins, walk_goes_on, walk_ends}
+use Rattle.command_output.proofs.PublicLaws.{poured_cut, wrote_longer, wrote_after, wanted_after}
+
+-- bytes that a step writes behind others, however it ended
+pub wrote_then : (ending : Ending) (bytes more : List ℕ) (old mid new : SinkSeen) → mid ≡ sent bytes old → Wrote ending more mid new
+    → Wrote ending (bytes ++ more) old new
+wrote_then Whole bytes more old mid new first h = sent_both bytes more old mid new first h
+wrote_then Fault bytes more old mid new first h = cut_after _ bytes more old mid new first h
+wrote_then Memory bytes more old mid new first h = cut_after _ bytes more old mid new first h
+
+-- of a text the lines of these stages from a place are left: what went out before is its front
+pub record Written (net : Network) (place : Option Place) (left : List Step) (whole : List ℕ) (first now : SinkSeen) : Type 0 where
+  pub bytes : List ℕ
+  pub seen : now ≡ sent bytes first
+  pub text : bytes ++ text_of (walk_lines net place left) ≡ whole
+
+-- nothing went out yet
+pub written_none : (net : Network) (place : Option Place) (left : List Step) (first : SinkSeen)
+    → Written net place left (text_of (walk_lines net place left)) first first
+written_none net place left first = record { bytes = []; seen = refl; text = refl }
+
+module _ (net : Network) (place : Option Place) (left rest : List Step) (s : Step) (whole : List ℕ) (first now later : SinkSeen)
+    (begins : left ≡ s ∷ rest) (p : Written net place left whole first now) where
+  abbrev stage_line : List ℕ
+  stage_line = line (stage_text net s.gave)
+
+  abbrev next : Option Place
+  next = next_place net s.place s.gave.outcome
+
+  -- what went out, and then the stage's line and those of the rest
+  lines-on : (p.bytes ++ stage_line) ++ text_of (walk_lines net next rest) ≡ whole
+  lines-on = append_assoc p.bytes stage_line (text_of (walk_lines net next rest))
+      ∙ (ap (λ (steps : List Step). p.bytes ++ text_of (walk_lines net place steps)) (sym begins) ∙ p.text)
+
+  -- after a stage whose line went out
+  pub stage_on : later ≡ sent stage_line now → Written net next rest whole first later
+  stage_on went = record {
+    bytes = p.bytes ++ stage_line;
+    seen = sent_both p.bytes stage_line first now later p.seen went;
+    text = lines-on;
+  }
+
+  -- a line that went out in part
+  pub stage_cut : (failure : Failure) → Wrote (ending_of_failure failure) stage_line now later
+      → Wrote (ending_of_failure failure) whole first later
+  stage_cut failure wrote = subst (λ (bytes : List ℕ). Wrote (ending_of_failure failure) bytes first later) lines-on
+      (wrote_longer failure (p.bytes ++ stage_line) (text_of (walk_lines net next rest)) first later
+      (wrote_after failure p.bytes stage_line first now later p.seen wrote))
+
+-- memory was wanting before a stage
+pub written_wants : (net : Network) (place : Option Place) (left : List Step) (whole : List ℕ) (first now : SinkSeen)
+    → Written net place left whole first now
+    → Wrote (ending_of_failure failures.NoMemory) whole first now
+written_wants net place left whole first now p =
+    subst (λ (bytes : List ℕ). Wrote (ending_of_failure failures.NoMemory) bytes first now) p.text
+    (wanted_after p.bytes (text_of (walk_lines net place left)) first now p.seen)
+
+-- no stage is left, and the packet doesn't go on: all went out
+pub written_all : (net : Network) (whole : List ℕ) (first now : SinkSeen) → Written net None [] whole first now → now ≡ sent whole first
+written_all net whole first now p = p.seen ∙ ap (λ (bytes : List ℕ). sent bytes first) (sym (append-nil p.bytes) ∙ p.text)
+
+-- or it could go on, which one more line says
+pub written_stopped : (ending : Ending) (net : Network) (place : Place) (left : List Step) (whole : List ℕ)
+    (first now later : SinkSeen) → left ≡ []
+    → Written net (Some place) left whole first now → Wrote ending (line stages_text) now later
+    → Wrote ending whole first later
+written_stopped ending net place left whole first now later none p wrote =
+    let last : p.bytes ++ line stages_text ≡ whole =
+    ap (λ (bytes : List ℕ). p.bytes ++ bytes) (sym (append-nil (line stages_text)))
+    ∙ (ap (λ (steps : List Step). p.bytes ++ text_of (walk_lines net (Some place) steps)) (sym none) ∙ p.text) in
+    subst (λ (bytes : List ℕ). Wrote ending bytes first later) last
+    (wrote_then ending p.bytes (line stages_text) first now later p.seen wrote)
+
+-- a stage of the loop, by what it gave
+
+module _ (net : Network) (all more : ℕ) (place : Place) (content : Content) (pick : ℕ → ℕ) (taken : ℕ) (gave : Gave)
+    (whole : List ℕ)
+    (first now later : SinkSeen) (is : all ≡ suc more) (gives : step_of net place content (pick taken) ≡ gave)
+    (p : Written net (Some place) (walk_of all net (Some place) content pick taken) whole first now) where
+  pub line_on : (next : Place) → next_place net place gave.outcome ≡ Some next → later ≡ sent (line (stage_text net gave)) now
+      → Written net (Some next) (walk_of more net (Some next) gave.after pick (taken + decisions gave.outcome)) whole first later
+  line_on next goes went = subst (λ (o : Option Place). Written net o
+      (walk_of more net (Some next) gave.after pick (taken + decisions gave.outcome)) whole first later) goes
+      (stage_on net (Some place) (walk_of all net (Some place) content pick taken)
+      (walk_of more net (Some next) gave.after pick (taken + decisions gave.outcome))
+      (step_by net all more place content pick taken gave is gives) whole first now later
+      (walk_goes_on net all more place content pick taken gave is gives next goes) p went)
+
+  pub line_end : next_place net place gave.outcome ≡ None → later ≡ sent (line (stage_text net gave)) now → later ≡ sent whole first
+  line_end stops went = written_all net whole first later
+      (subst (λ (o : Option Place). Written net o [] whole first later) stops
+      (stage_on net (Some place) (walk_of all net (Some place) content pick taken) []
+      (step_by net all more place content pick taken gave is gives) whole first now later
+      (walk_ends net all more place content pick taken gave is gives stops) p went))
+
+  pub line_cut : (failure : Failure) → Wrote (ending_of_failure failure) (line (stage_text net gave)) now later
+      → Wrote (ending_of_failure failure) whole first later
+  line_cut failure wrote = stage_cut net (Some place) (walk_of all net (Some place) content pick taken)
+      (walk_of more net (next_place net place gave.outcome) gave.after pick (taken + decisions gave.outcome))
+      (step_by net all more place content pick taken gave is gives) whole first now later
+      (walk_begins net all more place content pick taken gave is gives) p failure wrote
+
+pub ruleset texts = (poured_cut, wrote_longer, wrote_after, wrote_then, sent_both, cut_whole, cut_none)

@@ -1,0 +1,211 @@
+-- What `trace` leaves, by where it ends.
+use Rattle.std.proofs.Common.{◌≡◌, inl, inr, ℕ, true, false, List, [], ◌∷◌, Option, None, Some, IfSome, Ok, Err, refl, sym, ap, ◌∙◌, subst}
+use Rattle.std.specs.Prelude.{IsSomeAnd}
+use Rattle.srx_edge.specs.Edge.{file_named}
+use Rattle.srx_edge.specs.FilesRead.{FilesSeen, asked_for}
+use Rattle.srx_edge.specs.Sources.{SourceSeen}
+use Rattle.srx_edge.specs.Sinks.{SinkSeen, sent}
+use Rattle.srx_edge.specs.Steps.{How, Wrote}
+use Rattle.net_model.specs.Network.{Network}
+use Rattle.command_output.specs.declared.halt.Failure.{Failure}
+use Rattle.command_output.specs.declared.halt.Failure.TheVariants as failures
+use Rattle.command_output.specs.declared.halt.Halt.{Halt}
+use Rattle.command_output.specs.declared.halt.Halt.TheVariants as halts
+use Rattle.command_output.specs.declared.refusal.Refusal.{Refusal}
+use Rattle.command_output.specs.declared.status.Status.TheVariants as statuses
+use Rattle.command_inputs.specs.declared.packets.Packets.{Packets}
+use Rattle.command_output.specs.declared.told.Told.{Told}
+use Rattle.command_output.specs.Answers.{ending_of_failure, JudgesFile, JudgesInput, CommandsOut}
+use Rattle.command_inputs.specs.Judgements.{network_in, node_in}
+use Rattle.command_output.specs.Outputs.{refused, ended_by}
+use Rattle.command_output.specs.Lines.{bytes_of_text, refusal_line}
+use Rattle.command_output.specs.Outside.{outside, IsFrontOf, Asks, Reads, files_left_by}
+use Rattle.command_inputs.specs.Packets.{packets_in, reading_of, fault_of}
+use Rattle.command_output.specs.Pieces.{ForOut, Output, Stop, Never, AtFiles, AtInput, At, Elsewhere, ToOut, stop_at}
+use Rattle.run_commands.specs.Run.{has_start, reads_input}
+use Rattle.trace_commands.specs.Trace.{trace_text, traced, trace_output, trace_shape}
+use Rattle.command_output.specs.Endings.{Takes}
+use Rattle.command_output.specs.Shape.{Held, names_of, WantedOf}
+use Rattle.command_output.proofs.PublicLaws.{each, some-map, front_whole, asks_all, asks_front}
+use Rattle.command_output.proofs.PublicLaws.{refused_commands, files_fault, input_fault, memory_wants, written_whole, written_cut, pieces_refused}
+use Rattle.std.proofs.lemmas.Result.{err_from_is_err_and}
+use Rattle.trace_commands.proofs.trace.trace.Goals as goal
+
+-- an output that is wanted of the text, and of the input, that are told
+trace-wants : (told : Option Held) (left : Option (List ℕ)) (file name choices : List ℕ) (P Q : List ℕ → Type 0) (output : Output)
+    → IfSome told (λ held. IsSomeAnd (file_named held file) P) → IfSome left Q
+    → ((text input : List ℕ) → P text → Q input → output ≡ trace_output text name choices input)
+    → WantedOf (trace_shape file name choices) told left output
+trace-wants None left file name choices P Q output p q f = tt
+trace-wants (Some held) None file name choices P Q output p q f = tt
+trace-wants (Some held) (Some input) file name choices P Q output p q f =
+    some-map (file_named held file) P (λ text. output ≡ trace_output text name choices input) (λ text h. f text input h q) p
+
+-- of any input
+any-input : (left : Option (List ℕ)) → IfSome left (λ input. Unit {0})
+any-input None = tt
+any-input (Some input) = tt
+
+asks-file : (file name choices : List ℕ) (stop : Stop) (f g : FilesSeen) → g ≡ files_left_by stop (asked_for file f)
+    → Asks (trace_shape file name choices) stop f g
+asks-file file name choices stop f g seen = asks_all (trace_shape file name choices) stop (file ∷ []) f g (front_whole (file ∷ [])) tt
+    (each f.told (λ held. names_of (trace_shape file name choices) held ≡ file ∷ []) (λ held. refl)) seen
+
+-- the input as it was
+takes-unread : (file name choices : List ℕ) (stop : Stop) (f g : FilesSeen) (s : SourceSeen)
+    → Asks (trace_shape file name choices) stop f g → Reads stop s s
+    → Takes (trace_shape file name choices) stop f g s s
+takes-unread file name choices stop f g s asks reads = record {
+  asks = asks;
+  reads = reads;
+  unread = each f.told (λ held. reads_input (file_named held file) name ≡ false → s ≡ s) (λ held _. refl);
+  reads_none = λ _. refl;
+}
+
+module _ (file name choices : List ℕ) (f g : FilesSeen) (s t : SourceSeen) (o : SinkSeen) where
+  -- the file was refused, wasn't read, or memory was wanting
+  trace_halted_at_file : (halt : Halt) → JudgesFile network_in file (Err halt) f g
+      → CommandsOut (trace_shape file name choices) (Err halt) f g s s o o
+  trace_halted_at_file (halts.Refused refusal) h = refused_commands (trace_shape file name choices) refusal f g s s o
+      (trace-wants f.told s.left file name choices (λ text. network_in text ≡ Err refusal) (λ input. Unit {0}) (refused refusal)
+      h.0 (any-input s.left)
+      (λ text input is _. rw is refl))
+      (inr (inl refl)) (takes-unread file name choices Never f g s (asks-file file name choices Never f g h.1) refl)
+  trace_halted_at_file (halts.Failed failures.Fault) h =
+      files_fault (trace_shape file name choices) f g s o (takes-unread file name choices AtFiles f g s
+      (asks-file file name choices AtFiles f g h) refl)
+  trace_halted_at_file (halts.Failed failures.NoMemory) h = memory_wants (trace_shape file name choices) f g s s o
+      (takes-unread file name choices Elsewhere f g s (asks_front (trace_shape file name choices) h.names f g h.front
+      (each f.told (λ held. IsFrontOf (names_of (trace_shape file name choices) held) h.names) (λ held. h.front)) h.seen) refl)
+
+  module _ (net : Network) (judged : JudgesFile network_in file (Ok net) f g) where
+    -- the node's name was refused
+    trace_halted_at_node : (refusal : Refusal) → node_in net name ≡ Err refusal
+        → CommandsOut (trace_shape file name choices) (Err (halts.Refused refusal)) f g s s o o
+    trace_halted_at_node refusal node = refused_commands (trace_shape file name choices) refusal f g s s o
+        (trace-wants f.told s.left file name choices (λ text. network_in text ≡ Ok net) (λ input. Unit {0}) (refused refusal)
+        judged.0 (any-input s.left)
+        (λ text input is _. rw (is, node) refl))
+        (inr (inl refl)) (takes-unread file name choices Never f g s (asks-file file name choices Never f g judged.1) refl)
+
+    module _ (node : ℕ) (found : node_in net name ≡ Ok node) where
+      starts : (o : Option (List ℕ)) → IsSomeAnd o (λ text. network_in text ≡ Ok net) → reads_input o name ≡ false → ⊥
+      starts None h early = absurd h
+      starts (Some text) h early = let begins : has_start (network_in text) name ≡ true = rw (h, found) refl in cc
+
+      unread : (told : Option Held) → IfSome told (λ held. IsSomeAnd (file_named held file) (λ text. network_in text ≡ Ok net))
+          → IfSome told (λ held. reads_input (file_named held file) name ≡ false → t ≡ s)
+      unread None h = tt
+      unread (Some held) h = λ early. absurd (starts (file_named held file) h early)
+
+      takes : (stop : Stop) → g ≡ files_left_by stop (asked_for file f) → Reads stop s t → Takes (trace_shape file name choices) stop f g s t
+      takes stop seen reads = record {
+        asks = asks-file file name choices stop f g seen;
+        reads = reads;
+        unread = unread f.told judged.0;
+        reads_none = λ no. cc;
+      }
+
+      -- the input was refused, wasn't read, or memory was wanting
+      trace_halted_at_input : (halt : Halt) → JudgesInput packets_in (Err halt) s t
+          → CommandsOut (trace_shape file name choices) (Err halt) f g s t o o
+      trace_halted_at_input (halts.Refused refusal) h = refused_commands (trace_shape file name choices) refusal f g s t o
+          (trace-wants f.told s.left file name choices (λ text. network_in text ≡ Ok net) (λ input. packets_in input ≡ Err refusal)
+          (refused refusal)
+          judged.0 h.0 (λ text input is bad. rw (is, found, bad) refl))
+          (inr (inl refl)) (takes Never judged.1 h.1)
+      trace_halted_at_input (halts.Failed failures.Fault) h = input_fault (trace_shape file name choices) f g s t o (takes AtInput judged.1 h)
+      trace_halted_at_input (halts.Failed failures.NoMemory) h = memory_wants (trace_shape file name choices) f g s t o (takes Elsewhere judged.1 h)
+
+      module _ (packets : Packets) (drawn : JudgesInput packets_in (Ok packets) s t) (p : SinkSeen) where
+        abbrev bytes : List ℕ
+        bytes = trace_text net node choices (reading_of packets)
+
+        wanted : WantedOf (trace_shape file name choices) f.told s.left (traced net node choices packets)
+        wanted = trace-wants f.told s.left file name choices (λ text. network_in text ≡ Ok net) (λ input. packets_in input ≡ Ok packets)
+            (traced net node choices packets) judged.0 drawn.0 (λ text input is good. rw (is, found, good) refl)
+
+        wanted-by : (fault : Option Refusal) → fault ≡ fault_of (reading_of packets)
+            → WantedOf (trace_shape file name choices) f.told s.left (ended_by (ForOut bytes ∷ []) fault)
+        wanted-by fault is = subst (λ (o : Option Refusal). WantedOf (trace_shape file name choices) f.told s.left
+            (ended_by (ForOut bytes ∷ []) o)) (sym is) wanted
+
+        reads : Reads Never s t
+        reads = ap (λ (u : SourceSeen). u.faults) drawn.1
+
+        takes-how : (how : Option How) → Takes (trace_shape file name choices) (stop_at ToOut how) f g s t
+        takes-how None = takes Elsewhere judged.1 reads
+        takes-how (Some how) = takes (At ToOut how) judged.1 reads
+
+        -- the text didn't go out whole
+        cut-by : (fault : Option Refusal) (failure : Failure)
+            → WantedOf (trace_shape file name choices) f.told s.left (ended_by (ForOut bytes ∷ []) fault)
+            → Wrote (ending_of_failure failure) bytes o p
+            → CommandsOut (trace_shape file name choices) (Err (halts.Failed failure)) f g s t o p
+        cut-by None failure w wrote =
+            written_cut (trace_shape file name choices) failure bytes [] statuses.Done f g s t o p wrote w takes-how
+        cut-by (Some refusal) failure w wrote =
+            written_cut (trace_shape file name choices) failure bytes (refusal_line refusal) statuses.Refused f g s t o p wrote w takes-how
+
+        trace_halted_at_out : (failure : Failure) → Wrote (ending_of_failure failure) bytes o p
+            → CommandsOut (trace_shape file name choices) (Err (halts.Failed failure)) f g s t o p
+        trace_halted_at_out failure wrote = cut-by (fault_of (reading_of packets)) failure wanted wrote
+
+        -- it did, and nothing is behind the frames
+        trace_done : (told : Told) → None ≡ fault_of (reading_of packets) → bytes_of_text told.line ≡ [] → told.status ≡ statuses.Done
+            → p ≡ sent bytes o → CommandsOut (trace_shape file name choices) (Ok told) f g s t o p
+        trace_done told whole line status went = written_whole (trace_shape file name choices) told bytes f g s t o p went
+            (rw (line, status) (wanted-by None whole)) (rw status refl) (inl status) (takes Never judged.1 reads) (λ _ _. drawn.1)
+
+        -- something is, which is refused
+        trace_refused : (refusal : Refusal) → Some refusal ≡ fault_of (reading_of packets) → p ≡ sent bytes o
+            → CommandsOut (trace_shape file name choices) (Err (halts.Refused refusal)) f g s t o p
+        trace_refused refusal more went = λ err. pieces_refused (trace_shape file name choices) (ForOut bytes ∷ []) (outside f s o err)
+            (outside g t p err) refusal
+            (ap (λ (q : SinkSeen). (outside g t q err).sinks) went) (wanted-by (Some refusal) more) (inr (inl refl))
+            (takes Never judged.1 reads)
+
+-- the goals
+
+pub returns-in_err-net : goal.returns-in_err-net
+returns-in_err-net g c =
+    let p = err_from_is_err_and c.from_residual.result c.from_residual.ensures.1 in
+    rw (p.1, p.2) (trace_halted_at_file c.args.file.now c.args.node.now c.args.choices.now _ _ (g.S.Source.seen c.args.input.now)
+    (g.S.Source.seen c.args.input.now)
+    (g.O.Sink.seen c.args.out.now)
+    c.in_err-net.field-0.0 c.in_err-net.ensures)
+
+pub returns-in_err-node : goal.returns-in_err-node
+returns-in_err-node g c =
+    let p = err_from_is_err_and c.from_residual-in_err-node.result c.from_residual-in_err-node.ensures.1 in
+    rw (p.1, p.2) (trace_halted_at_node c.args.file.now c.args.node.now c.args.choices.now _ _ (g.S.Source.seen c.args.input.now)
+    (g.S.Source.seen c.args.input.now)
+    (g.O.Sink.seen c.args.out.now)
+    c.in_ok-net.net c.in_ok-net.ensures c.in_err-node.field-0.0 (sym c.in_err-node.ensures.judged))
+
+pub returns-in_err-packets : goal.returns-in_err-packets
+returns-in_err-packets g c =
+    let p = err_from_is_err_and c.from_residual-in_err-packets.result c.from_residual-in_err-packets.ensures.1 in
+    rw (p.1, p.2) (trace_halted_at_input c.args.file.now c.args.node.now c.args.choices.now _ _ _ _ (g.O.Sink.seen c.args.out.now)
+    c.in_ok-net.net c.in_ok-net.ensures c.in_ok-node.node (sym c.in_ok-node.ensures.judged)
+    c.in_err-packets.field-0.0 c.in_err-packets.ensures.judged)
+
+pub returns-in_err-refusal : goal.returns-in_err-refusal
+returns-in_err-refusal g c =
+    let p = err_from_is_err_and c.from_residual-in_err-refusal.result c.from_residual-in_err-refusal.ensures.1 in
+    rw (p.1, p.2) (trace_halted_at_out c.args.file.now c.args.node.now c.args.choices.now _ _ _ _ (g.O.Sink.seen c.args.out.now)
+    c.in_ok-net.net c.in_ok-net.ensures c.in_ok-node.node (sym c.in_ok-node.ensures.judged) c.in_ok-packets.packets
+    c.in_ok-packets.ensures.judged (g.O.Sink.seen c.write_trace.new.out)
+    c.in_err-refusal.field-0.0 c.in_err-refusal.ensures.wrote)
+
+pub returns-in-Some : goal.returns-in-Some
+returns-in-Some g c = trace_refused c.args.file.now c.args.node.now c.args.choices.now _ _ _ _ (g.O.Sink.seen c.args.out.now)
+    c.in_ok-net.net c.in_ok-net.ensures c.in_ok-node.node (sym c.in_ok-node.ensures.judged) c.in_ok-packets.packets
+    c.in_ok-packets.ensures.judged (g.O.Sink.seen c.write_trace.new.out)
+    c.in-Some.refusal (sym c.in-Some.is ∙ c.in_ok-refusal.ensures.fault) c.in_ok-refusal.ensures.wrote
+
+pub returns : goal.returns
+returns g c = trace_done c.args.file.now c.args.node.now c.args.choices.now _ _ _ _ (g.O.Sink.seen c.args.out.now)
+    c.in_ok-net.net c.in_ok-net.ensures c.in_ok-node.node (sym c.in_ok-node.ensures.judged) c.in_ok-packets.packets
+    c.in_ok-packets.ensures.judged (g.O.Sink.seen c.write_trace.new.out)
+    _ (sym c.in-None.is ∙ c.in_ok-refusal.ensures.fault) refl refl c.in_ok-refusal.ensures.wrote

@@ -1,0 +1,61 @@
+-- The command `replay`: the trace of a file, run again in the network that another describes.
+use Rattle.std.specs.Prelude.{◌≡◌, ℕ, Bool, true, false, List, [], ◌∷◌, ◌++◌, codes, Option, Some, None, Result, Ok, Err, IsSomeAnd, is_ok, ⊤}
+use Rattle.std.specs.Fmt.{decimal}
+use Rattle.net_model.specs.Network.{Network}
+use Rattle.trace_replay.specs.declared.verdict.Replayed.{Replayed}
+use Rattle.trace_replay.specs.Replays.{Wrong, first_wrong, counts_of}
+use Rattle.srx_edge.specs.Edge.{file_named}
+use Rattle.command_output.specs.declared.refusal.Refusal.{Refusal}
+use Rattle.command_output.specs.declared.status.Status.TheVariants as statuses
+use Rattle.command_output.specs.Outputs.{reported}
+use Rattle.command_inputs.specs.Judgements.{network_in, trace_in}
+use Rattle.command_output.specs.Outputs.{refused, after}
+use Rattle.command_output.specs.Pieces.{Output}
+use Rattle.command_output.specs.Shape.{Shape}
+use Rattle.command_output.specs.Verbs.{has_two_words}
+
+-- its words: the description and the trace
+abbrev pub is_replay : List ℕ → List ℕ → List ℕ → Bool
+is_replay verb file trace = has_two_words (codes "replay") verb file trace
+
+-- the line of a trace that is right: its packets, and its lines but for the first and the last
+unfoldable pub right_line : ℕ → ℕ → List ℕ
+right_line packets lines = codes "ok " ++ (decimal packets ++ 32 ∷ (decimal lines ++ 10 ∷ []))
+
+-- the line of one that is not: its first wrong line, from 1, and what should stand there
+unfoldable pub wrong_line : ℕ → List ℕ → List ℕ
+wrong_line number expected = codes "no " ++ (decimal number ++ 32 ∷ (expected ++ 10 ∷ []))
+
+-- what is said of the lines of a trace
+
+abbrev pub replayed_by : Replayed → Option Wrong → Output
+replayed_by counts None = reported (right_line counts.packets counts.lines) [] statuses.Done
+replayed_by counts (Some wrong) = reported (wrong_line wrong.line wrong.expected) [] statuses.SaysNo
+
+abbrev pub replayed : Network → List (List ℕ) → Output
+replayed net lines = replayed_by (counts_of lines) (first_wrong net lines)
+
+-- the description is judged, and then the trace
+
+abbrev pub replay_output : Network → List ℕ → Output
+replay_output net text = after (trace_in net text) (replayed net)
+
+abbrev pub NetworkWants : Result Network Refusal → Option (List ℕ) → Output → Type 0
+NetworkWants (Err refusal) trace output = output ≡ refused refusal
+NetworkWants (Ok net) trace output = IsSomeAnd trace (λ text. output ≡ replay_output net text)
+
+-- the trace is asked for where the description gives a network
+abbrev pub asks_for_trace : List (List ℕ) → Bool
+asks_for_trace [] = false
+asks_for_trace (text ∷ more) = is_ok (network_in text)
+
+abbrev pub replay_shape : List ℕ → List ℕ → Shape
+replay_shape file trace = record {
+  files = file ∷ trace ∷ [];
+  goes_on = asks_for_trace;
+  reads = false;
+  leaves_input = λ held. ⊤;
+  lines_last = true;
+  statuses = statuses.Done ∷ statuses.Refused ∷ statuses.SaysNo ∷ [];
+  wants = λ held input output. IsSomeAnd (file_named held file) (λ text. NetworkWants (network_in text) (file_named held trace) output);
+}

@@ -1,0 +1,54 @@
+-- What the steps of `walk` leave of the sinks.
+use Rattle.std.proofs.Common.{◌≡◌, ℕ, List, [], ◌∷◌, refl, sym, ap, ap₂, subst, append-nil}
+use Rattle.pcap_io.specs.declared.frame.Body.{Body}
+use Rattle.pcap_io.specs.Capture.{written_head_bytes}
+use Rattle.srx_edge.specs.Sinks.{SinkSeen, sent}
+use Rattle.srx_edge.specs.Steps.{Ending, Memory, Wrote}
+use Rattle.srv6_rules.specs.declared.policy.Policy.{Policy}
+use Rattle.net_model.specs.Network.{Network}
+use Rattle.intent_reader.specs.declared.intent.Intent.{Intent}
+use Rattle.command_output.specs.declared.halt.Failure.{Failure}
+use Rattle.command_output.specs.Answers.{ending_of_failure}
+use Rattle.walk_command.specs.Walk.{at_headend, ended_line, walked_by, pieces_behind_head}
+use Rattle.command_output.specs.Pieces.{Piece, ForOut, ForErr, Sinks, sinks_of, WroteAll}
+use Rattle.command_output.proofs.PublicLaws.{all_longer, all_then, all_wanting, all_on_err}
+
+-- memory was wanting before a step of pieces
+pub none_went : (pieces : List Piece) (sinks : Sinks) → WroteAll Memory pieces sinks sinks
+none_went pieces sinks = all_wanting [] pieces sinks sinks refl
+
+-- what comes behind the head
+pub behind_head : (ending : Ending) (more : List Piece) (o p e : SinkSeen) (new : Sinks) → p ≡ sent written_head_bytes o
+    → WroteAll ending more (sinks_of p e) new → WroteAll ending (ForOut written_head_bytes ∷ more) (sinks_of o e) new
+behind_head ending more o p e new went wrote = all_then ending (ForOut written_head_bytes ∷ []) more (sinks_of o e) (sinks_of p e) new
+    (ap (λ (s : SinkSeen). sinks_of s e) went) wrote
+
+-- a frame that is the only one
+module _ (net : Network) (intent : Intent) (policy : Policy) (choices : List ℕ) (number : ℕ) (body : Body) where
+  abbrev line : List ℕ
+  line = ended_line net intent.headend number (at_headend policy intent.inner body)
+
+  abbrev walks : List Piece
+  walks = walked_by net intent choices number (at_headend policy intent.inner body)
+
+  abbrev pieces : List Piece
+  pieces = pieces_behind_head net intent policy choices (record { number = number; body = body } ∷ [])
+
+  one-frame : ForErr line ∷ walks ≡ pieces
+  one-frame = ap₂ (λ (l : List ℕ) (w : List Piece). ForErr l ∷ w) (sym (append-nil line)) (sym (append-nil walks))
+
+  of-one : (ending : Ending) (old new : Sinks) → WroteAll ending (ForErr line ∷ walks) old new → WroteAll ending pieces old new
+  of-one ending old new wrote = subst (λ (w : List Piece). WroteAll ending w old new) one-frame wrote
+
+  -- its line didn't go out whole
+  pub one_cut : (failure : Failure) (o e f : SinkSeen) → Wrote (ending_of_failure failure) line e f
+      → WroteAll (ending_of_failure failure) pieces (sinks_of o e) (sinks_of o f)
+  one_cut failure o e f wrote = of-one (ending_of_failure failure) (sinks_of o e) (sinks_of o f)
+      (all_longer failure (ForErr line ∷ []) walks (sinks_of o e) (sinks_of o f)
+      (all_on_err (ending_of_failure failure) line o e f wrote))
+
+  -- it did, and then its walk was written as far as that went
+  pub one_walked : (ending : Ending) (o e f : SinkSeen) (new : Sinks) → f ≡ sent line e → WroteAll ending walks (sinks_of o f) new
+      → WroteAll ending pieces (sinks_of o e) new
+  one_walked ending o e f new told wrote = of-one ending (sinks_of o e) new
+      (all_then ending (ForErr line ∷ []) walks (sinks_of o e) (sinks_of o f) new (ap (λ (s : SinkSeen). sinks_of o s) told) wrote)

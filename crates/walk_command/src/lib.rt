@@ -1,0 +1,9 @@
+//! The command `walk`, and what becomes of packets at the headend of an intent.
+//!
+//! `specs/Walk.antt` has its words, its shape and its output, and what a walk keeps to.
+#![tactic(auto)]
+
+pub mod laws;
+pub mod walk;
+
+pub use walk::{AtHeadend, at_headend, policy_of};

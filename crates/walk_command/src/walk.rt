@@ -1,0 +1,526 @@
+//! The command `walk`: the inner packets of the input, encapsulated at the headend of the intent of
+//! a file with the list that the intent is compiled to, in the network that another describes.
+
+ghost use Rattle.std.specs.Prelude.{◌≡◌, ◌<◌, ◌^◌, true, IfOk, Ok, length, map, string_bytes};
+ghost use Rattle.std.specs.List.{flat_map};
+ghost use Rattle.pcap_io.specs.Frames.{frames_of as frames_in};
+ghost use Rattle.srx_edge.specs.Steps.{Wrote};
+ghost use Rattle.srv6_rules.specs.Packet.{entered};
+ghost use Rattle.srv6_rules.specs.Policies.{IsPolicy, encapsulated_by};
+ghost use Rattle.policy_encap.specs.Inner.{HoldsInner};
+ghost use Rattle.intent_reader.specs.Rules.{IsIntent};
+ghost use Rattle.command_output.specs.Answers.{Commands, ending_of_step};
+ghost use Rattle.compile_commands.specs.Compile.{HasValues};
+ghost use Rattle.run_commands.specs.Run.{packet_pieces};
+ghost use Rattle.walk_command.specs.Walk.{StartsAs, at_headend, ended_line, ended_of_frame, of_content, of_encapsulating, pieces_behind_head, policy_of, walk_at_headend, walk_pieces, walk_shape, walked_by, walked_of_frame};
+ghost use Rattle.command_output.specs.Outside.{outside};
+ghost use Rattle.command_inputs.specs.Packets.{HasHead, fault_of, reading_of};
+ghost use Rattle.command_output.specs.Pieces.{WroteAll, sinks_of};
+
+use base::{NoMemory, Seq};
+use command_inputs::{Next, Packets, intent_of_file, network_of_file, next_of, packets_of_input};
+use command_output::{
+    Failure, Halt, Refusal, Status, Text, Told, Unread, line_of_packet, line_of_unread,
+    refusal_of_not_flat, write_all,
+};
+use compile_commands::{line_of_hop_limit, line_of_none, line_of_too_long};
+use intent_reader::Intent;
+use ip6_headers::{Ip4View, Ip6View};
+use list_pack::values;
+use net_model::Net;
+use node_stage::Content;
+use path_compiler::{CompileFault, Compiled};
+use pcap_io::{Body, CaptureHead, Frame, FrameReader, HEAD_LEN, MAX_FRAMES};
+use pkt_buf::PktBuf;
+use policy_encap::{EncapFault, encap};
+use run_commands::{Buffers, write_head, write_walk};
+use srv6_rules::numbers::{IPV6_HEADER_LEN, MOST_LEN};
+use srv6_rules::{Family, Policy, Reason};
+use srx_edge::{Files, Sink, Source};
+use std::alloc::Global;
+use walk_rules::{Ended, How, Place};
+
+/// What becomes of a frame's packet at the headend, before the first stage.
+#[derive(Drop)]
+pub enum AtHeadend {
+    /// It is not read.
+    NotRead(Unread),
+    /// It is dropped.
+    Dropped(Reason),
+    /// It is encapsulated, and this is the outer packet.
+    Enters(Content),
+}
+
+/// How a walk starts.
+#[derive(Drop)]
+pub enum Start {
+    /// With what the headend puts in front of packets.
+    List(Policy),
+    /// There is no list; the line says why.
+    NoList(Text),
+}
+
+/// What the headend puts in front of packets: the compiled list, with the intent's fields.
+#[tactic(auto, using(crate::proofs::WalkStarts::segments))]
+pub fn policy_of(
+    alloc: Global,
+    net: &Net,
+    intent: &Intent,
+    compiled: &Compiled,
+) -> Result<Policy, NoMemory>
+    requires { HasValues net.now compiled.now }
+    ensures { IfOk result (λ policy. policy ≡ policy_of net.now intent.now compiled.now) }
+{
+    let segments = values(alloc, net, &compiled.list)?;
+    Ok(Policy {
+        source: intent.source,
+        segments: Seq::new(segments),
+        traffic_class: intent.traffic_class,
+        flow_label: intent.flow_label,
+        hop_limit: intent.hop_limit,
+        reduced: intent.reduced,
+    })
+}
+
+/// How a walk starts for an intent: with the list that it is compiled to, if there is one.
+#[tactic(auto, using(compile_commands::proofs::PublicLaws::valued))]
+fn start_of_intent(alloc: Global, net: &Net, intent: &Intent) -> Result<Start, Halt>
+    requires { IsIntent net.now intent.now }
+    ensures { StartsAs net.now intent.now result }
+{
+    net.keeps_rules();
+    match path_compiler::compile(alloc, net, intent) {
+        Ok(list) => Ok(Start::List(policy_of(alloc, net, intent, &list)?)),
+        Err(CompileFault::NotFlat(why)) => Err(Halt::Refused(refusal_of_not_flat(net, &why))),
+        Err(CompileFault::NoList { .. }) => Ok(Start::NoList(line_of_none())),
+        Err(CompileFault::TooLong { found }) => {
+            Ok(Start::NoList(line_of_too_long(alloc, found.containers)?))
+        }
+        Err(CompileFault::HopLimit { found }) => {
+            Ok(Start::NoList(line_of_hop_limit(alloc, found.need)?))
+        }
+        Err(CompileFault::NoMemory) => Err(Halt::Failed(Failure::NoMemory)),
+    }
+}
+
+/// What enters with the bytes of a buffer.
+fn content_of(alloc: Global, buf: &PktBuf) -> Result<Content, NoMemory>
+    ensures { IfOk result (λ content. content ≡ entered Family.V6 buf.now.bytes) }
+{
+    let bytes = buf.view().to_vec(alloc)?;
+    Ok(Content::enter(Family::V6, bytes))
+}
+
+/// A packet of a family that the headend encapsulates, or drops.
+fn encapsulated(
+    alloc: Global,
+    policy: &Policy,
+    family: Family,
+    inner: PktBuf,
+) -> Result<AtHeadend, NoMemory>
+    requires policy { IsPolicy policy.now }
+    requires packet { HoldsInner family inner.bytes }
+    ensures { IfOk result (λ at.
+        at ≡ of_encapsulating (encapsulated_by policy.now family inner.bytes)) }
+{
+    let mut buf = inner;
+    match encap(policy, family, &mut buf) {
+        Ok(()) => {
+            let outer = content_of(alloc, &buf)?;
+            Ok(AtHeadend::Enters(outer))
+        }
+        Err(EncapFault::InnerHop) => Ok(AtHeadend::Dropped(Reason::InnerHop)),
+        Err(EncapFault::TooBig { .. }) => Ok(AtHeadend::Dropped(Reason::TooBig)),
+        Err(EncapFault::NoMemory) => Err(NoMemory),
+    }
+}
+
+/// Bytes that enter the headend as an IPv6 packet, in place: what stands behind the packet's end is
+/// cut.
+fn entering(alloc: Global, policy: &Policy, bytes: Vec<u8>) -> Result<AtHeadend, NoMemory>
+    requires { IsPolicy policy.now }
+    ensures { IfOk result (λ at. at ≡ of_content policy.now (entered Family.V6 bytes.items)) }
+{
+    let mut bytes = bytes;
+    bytes.truncate(MOST_LEN);
+    let len = match Ip6View::read(bytes.as_slice()) {
+        Ok(view) => IPV6_HEADER_LEN + usize::from(view.payload_len()),
+        Err(fault) => return Ok(AtHeadend::Dropped(fault.reason())),
+    };
+    bytes.truncate(len);
+    encapsulated(alloc, policy, Family::V6, PktBuf::of(bytes))
+}
+
+/// Bytes that enter the headend as an IPv4 packet, in the same way.
+fn entering4(alloc: Global, policy: &Policy, bytes: Vec<u8>) -> Result<AtHeadend, NoMemory>
+    requires { IsPolicy policy.now }
+    ensures { IfOk result (λ at. at ≡ of_content policy.now (entered Family.V4 bytes.items)) }
+{
+    let mut bytes = bytes;
+    bytes.truncate(MOST_LEN);
+    let len = match Ip4View::read(bytes.as_slice()) {
+        Ok(view) => usize::from(view.total_len()),
+        Err(fault) => return Ok(AtHeadend::Dropped(fault.reason())),
+    };
+    bytes.truncate(len);
+    encapsulated(alloc, policy, Family::V4, PktBuf::of(bytes))
+}
+
+/// What becomes of a frame's packet at the headend, for inner packets of a family.
+pub fn at_headend(
+    alloc: Global,
+    policy: &Policy,
+    inner: Family,
+    body: Body,
+) -> Result<AtHeadend, NoMemory>
+    requires { IsPolicy policy.now }
+    ensures { IfOk result (λ at. at ≡ at_headend policy.now inner body) }
+{
+    match (body, inner) {
+        (Body::V6(bytes), Family::V6) => entering(alloc, policy, bytes.into_vec()),
+        (Body::V4(bytes), Family::V4) => entering4(alloc, policy, bytes.into_vec()),
+        (Body::V6(_), Family::V4) | (Body::V4(_), Family::V6) => {
+            Ok(AtHeadend::NotRead(Unread::WrongVersion))
+        }
+        (Body::ShortFrame, Family::V6 | Family::V4) => {
+            Ok(AtHeadend::NotRead(Unread::ShortFrame))
+        }
+        (Body::NotIp, Family::V6 | Family::V4) => Ok(AtHeadend::NotRead(Unread::NotIp)),
+    }
+}
+
+/// Writes the line of a packet that ends at the headend.
+#[tactic(auto, using(command_output::proofs::PublicLaws::writing))]
+fn tell_ended<E: Sink>(
+    alloc: Global,
+    net: &Net,
+    node: u32,
+    number: u32,
+    at: &AtHeadend,
+    err: &mut E,
+) -> Result<(), Failure>
+    requires { node < length net.now.nodes }
+    ensures { Wrote (ending_of_step result) (ended_line net.now node number at.now)
+        (E.seen err.old) (E.seen err.new) }
+{
+    match at {
+        AtHeadend::NotRead(cause) => {
+            let line = line_of_unread(alloc, number, *cause)?;
+            write_all(err, line.as_bytes())
+        }
+        AtHeadend::Dropped(reason) => {
+            let ended = Ended::Dropped {
+                node,
+                reason: *reason,
+            };
+            let line = line_of_packet(alloc, net, number, &ended)?;
+            write_all(err, line.as_bytes())
+        }
+        AtHeadend::Enters(_) => Ok(()),
+    }
+}
+
+/// Writes what the walk of a packet from the headend sends, and then its line.
+fn walk_outer<O: Sink, E: Sink>(
+    alloc: Global,
+    net: &Net,
+    intent: &Intent,
+    choices: &[u32],
+    number: u32,
+    outer: Content,
+    buffers: &mut Buffers,
+    out: &mut O,
+    err: &mut E,
+) -> Result<(), Failure>
+    requires headend { intent.now.headend < length net.now.nodes }
+    requires choices { 0 < length choices.now }
+    ensures { WroteAll (ending_of_step result)
+        (packet_pieces net.now number (walk_at_headend net.now intent.now choices.now outer))
+        (sinks_of (O.seen out.old) (E.seen err.old)) (sinks_of (O.seen out.new) (E.seen err.new)) }
+{
+    let place = Place {
+        node: intent.headend,
+        how: How::Submitted { table: 0 },
+        family: Family::V6,
+    };
+    let ended = write_walk(alloc, net, place, number, outer, choices, buffers, out)?;
+    let line = line_of_packet(alloc, net, number, &ended)?;
+    write_all(err, line.as_bytes())
+}
+
+/// Walks the packet of a frame, if the headend encapsulates it.
+fn walk_entered<O: Sink, E: Sink>(
+    alloc: Global,
+    net: &Net,
+    intent: &Intent,
+    choices: &[u32],
+    number: u32,
+    at: AtHeadend,
+    buffers: &mut Buffers,
+    out: &mut O,
+    err: &mut E,
+) -> Result<(), Failure>
+    requires headend { intent.now.headend < length net.now.nodes }
+    requires choices { 0 < length choices.now }
+    ensures { WroteAll (ending_of_step result)
+        (walked_by net.now intent.now choices.now number at)
+        (sinks_of (O.seen out.old) (E.seen err.old)) (sinks_of (O.seen out.new) (E.seen err.new)) }
+{
+    match at {
+        AtHeadend::Enters(outer) => walk_outer(
+            alloc, net, intent, choices, number, outer, buffers, out, err,
+        ),
+        AtHeadend::NotRead(_) | AtHeadend::Dropped(_) => Ok(()),
+    }
+}
+
+/// Writes the line of a frame whose packet ends at the headend.
+#[tactic(auto, using(command_output::proofs::PublicLaws::writing))]
+fn tell_frame<E: Sink>(
+    alloc: Global,
+    net: &Net,
+    intent: &Intent,
+    policy: &Policy,
+    frame: Frame,
+    err: &mut E,
+) -> Result<(), Failure>
+    requires headend { intent.now.headend < length net.now.nodes }
+    requires policy { IsPolicy policy.now }
+    ensures { Wrote (ending_of_step result) (ended_of_frame net.now intent.now policy.now frame)
+        (E.seen err.old) (E.seen err.new) }
+{
+    let Frame { number, body } = frame;
+    let at = at_headend(alloc, policy, intent.inner, body)?;
+    tell_ended(alloc, net, intent.headend, number, &at, err)
+}
+
+/// Walks the packet of a frame, if the headend encapsulates it.
+fn walk_frame<O: Sink, E: Sink>(
+    alloc: Global,
+    net: &Net,
+    intent: &Intent,
+    policy: &Policy,
+    choices: &[u32],
+    frame: Frame,
+    buffers: &mut Buffers,
+    out: &mut O,
+    err: &mut E,
+) -> Result<(), Failure>
+    requires headend { intent.now.headend < length net.now.nodes }
+    requires policy { IsPolicy policy.now }
+    requires choices { 0 < length choices.now }
+    ensures { WroteAll (ending_of_step result)
+        (walked_of_frame net.now intent.now policy.now choices.now frame)
+        (sinks_of (O.seen out.old) (E.seen err.old)) (sinks_of (O.seen out.new) (E.seen err.new)) }
+{
+    let Frame { number, body } = frame;
+    let at = at_headend(alloc, policy, intent.inner, body)?;
+    walk_entered(alloc, net, intent, choices, number, at, buffers, out, err)
+}
+
+/// Writes the lines of the frames behind a capture's head whose packets end at the headend.
+fn tell_frames<E: Sink>(
+    alloc: Global,
+    net: &Net,
+    intent: &Intent,
+    policy: &Policy,
+    head: CaptureHead,
+    behind: &[u8],
+    err: &mut E,
+) -> Result<(), Failure>
+    requires headend { intent.now.headend < length net.now.nodes }
+    requires policy { IsPolicy policy.now }
+    ensures { Wrote (ending_of_step result)
+        (flat_map (ended_of_frame net.now intent.now policy.now)
+        (frames_in head MAX_FRAMES 1 behind.now).frames)
+        (E.seen err.old) (E.seen err.new) }
+{
+    let mut reader = FrameReader::new(alloc, head, behind)?;
+    'frames: loop {
+        match next_of(&mut reader)? {
+            Next::Frame(frame) => tell_frame(alloc, net, intent, policy, frame, err)?,
+            Next::End(_) => return Ok(()),
+        }
+    }
+}
+
+/// Walks the packets of the frames behind a capture's head that the headend encapsulates, one after
+/// the other, and gives the refusal of what is behind the frames, if anything is.
+fn walk_frames<O: Sink, E: Sink>(
+    alloc: Global,
+    net: &Net,
+    intent: &Intent,
+    policy: &Policy,
+    choices: &[u32],
+    head: CaptureHead,
+    behind: &[u8],
+    out: &mut O,
+    err: &mut E,
+) -> Result<Option<Refusal>, Failure>
+    requires headend { intent.now.headend < length net.now.nodes }
+    requires policy { IsPolicy policy.now }
+    requires choices { 0 < length choices.now }
+    ensures fault { IfOk result (λ fault.
+        fault ≡ fault_of (frames_in head MAX_FRAMES 1 behind.now)) }
+    ensures wrote { WroteAll (ending_of_step result)
+        (flat_map (walked_of_frame net.now intent.now policy.now choices.now)
+        (frames_in head MAX_FRAMES 1 behind.now).frames)
+        (sinks_of (O.seen out.old) (E.seen err.old)) (sinks_of (O.seen out.new) (E.seen err.new)) }
+{
+    let mut buffers = Buffers::new(alloc);
+    let mut reader = FrameReader::new(alloc, head, behind)?;
+    'frames: loop {
+        match next_of(&mut reader)? {
+            Next::Frame(read) => {
+                walk_frame(
+                    alloc,
+                    net,
+                    intent,
+                    policy,
+                    choices,
+                    read,
+                    &mut buffers,
+                    out,
+                    err,
+                )?;
+            }
+            Next::End(fault) => return Ok(fault),
+        }
+    }
+}
+
+/// The line, or the walk, of a bare packet, which is packet 1.
+fn walk_bare<O: Sink, E: Sink>(
+    alloc: Global,
+    net: &Net,
+    intent: &Intent,
+    policy: &Policy,
+    choices: &[u32],
+    packet: Seq<u8>,
+    out: &mut O,
+    err: &mut E,
+) -> Result<(), Failure>
+    requires headend { intent.now.headend < length net.now.nodes }
+    requires policy { IsPolicy policy.now }
+    requires choices { 0 < length choices.now }
+    ensures { WroteAll (ending_of_step result)
+        (pieces_behind_head net.now intent.now policy.now choices.now
+        (reading_of (Packets.Bare packet)).frames)
+        (sinks_of (O.seen out.old) (E.seen err.old)) (sinks_of (O.seen out.new) (E.seen err.new)) }
+{
+    let at = at_headend(alloc, policy, intent.inner, Body::V6(packet))?;
+    tell_ended(alloc, net, intent.headend, 1, &at, err)?;
+    walk_entered(
+        alloc,
+        net,
+        intent,
+        choices,
+        1,
+        at,
+        &mut Buffers::new(alloc),
+        out,
+        err,
+    )
+}
+
+/// Writes the capture's head, the lines of the packets that end at the headend, and walks the
+/// others; gives the refusal of what is behind the frames, if anything is.
+fn walk_packets<O: Sink, E: Sink>(
+    alloc: Global,
+    net: &Net,
+    intent: &Intent,
+    policy: &Policy,
+    choices: &[u32],
+    packets: Packets,
+    out: &mut O,
+    err: &mut E,
+) -> Result<Option<Refusal>, Failure>
+    requires headend { intent.now.headend < length net.now.nodes }
+    requires policy { IsPolicy policy.now }
+    requires choices { 0 < length choices.now }
+    requires head { HasHead packets }
+    ensures fault { IfOk result (λ fault. fault ≡ fault_of (reading_of packets)) }
+    ensures wrote { WroteAll (ending_of_step result)
+        (walk_pieces net.now intent.now policy.now choices.now (reading_of packets).frames)
+        (sinks_of (O.seen out.old) (E.seen err.old)) (sinks_of (O.seen out.new) (E.seen err.new)) }
+{
+    write_head(alloc, out)?;
+    match packets {
+        Packets::Bare(packet) => {
+            walk_bare(alloc, net, intent, policy, choices, packet, out, err)?;
+            Ok(None)
+        }
+        Packets::Capture(head, bytes) => {
+            let behind = bytes.as_slice().split_at(HEAD_LEN).1;
+            tell_frames(alloc, net, intent, policy, head, behind, err)?;
+            walk_frames(alloc, net, intent, policy, choices, head, behind, out, err)
+        }
+    }
+}
+
+/// A hop limit is a byte.
+fn hop_limit_fits(hop_limit: u8)
+    ensures { hop_limit < 2 ^ 8 }
+{
+    let _ = hop_limit;
+}
+
+/// The headend is there, and what is compiled makes a policy.
+fn headend_fits(net: &Net, intent: &Intent, policy: &Policy)
+    requires intent { IsIntent net.now intent.now }
+    requires policy { StartsAs net.now intent.now (Ok (Start.List policy.now)) }
+    ensures headend { intent.now.headend < length net.now.nodes }
+    ensures policy { IsPolicy policy.now }
+{
+    let _ = net;
+    let _ = intent;
+    let _ = policy;
+}
+
+/// Walks the inner packets of the input, one after the other, from the headend of the intent of a
+/// file, encapsulated with the list that the intent is compiled to in the network that another file
+/// describes. Decision d of each packet, counted in its sends from 0, takes the choice at d modulo
+/// the number of choices. The description is judged, then the intent, each before the next is read;
+/// where there is no list nothing is written but a line, and the input is not read. Packets that
+/// are not read or that the headend drops have their lines before the first stage of any packet, by
+/// their numbers. What is behind the last frame of a capture is refused once all packets were
+/// walked.
+pub fn walk<F: Files, S: Source, O: Sink, E: Sink>(
+    alloc: Global,
+    file: &str,
+    intent: &str,
+    choices: &[u32],
+    files: &mut F,
+    input: &mut S,
+    out: &mut O,
+    err: &mut E,
+) -> Result<Told, Halt>
+    requires { 0 < length choices.now }
+    ensures { Commands (walk_shape file.now intent.now choices.now) result
+        (outside (F.seen files.old) (S.seen input.old) (O.seen out.old) (E.seen err.old))
+        (outside (F.seen files.new) (S.seen input.new) (O.seen out.new) (E.seen err.new)) }
+{
+    let net = network_of_file(alloc, files, file)?;
+    let intent = intent_of_file(alloc, files, &net, intent)?;
+    let start = start_of_intent(alloc, &net, &intent)?;
+    let policy = match start {
+        Start::List(policy) => policy,
+        Start::NoList(line) => {
+            return Ok(Told {
+                line,
+                status: Status::NoAnswer,
+            });
+        }
+    };
+    net.keeps_rules();
+    hop_limit_fits(intent.hop_limit);
+    headend_fits(&net, &intent, &policy);
+    let packets = packets_of_input(alloc, input)?;
+    match walk_packets(alloc, &net, &intent, &policy, choices, packets, out, err)? {
+        Some(refusal) => Err(Halt::Refused(refusal)),
+        None => Ok(Told {
+            line: Text::Fixed(b""),
+            status: Status::Done,
+        }),
+    }
+}
