@@ -1,2 +1,3 @@
--- The laws of this crate as lemmas, each the proof of a clause of `laws`: what crates above cite.
+-- The lemmas that crates above may cite: each proves a clause of a public function.
+pub use Rattle.path_compiler.proofs.Checking.{says_lists}
 pub use Rattle.path_compiler.proofs.Certifying.{certifies-found, certifies-none, certifies-answer}

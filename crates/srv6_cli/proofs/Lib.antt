@@ -18,6 +18,8 @@ pub mod Certificates
 pub mod Tracing
 pub mod Checking
 pub mod CheckEnds
+pub mod Reporting
+pub mod Printing
 pub mod WalkEnds
 pub mod WalkSteps
 pub mod HeadendSteps

@@ -14,3 +14,4 @@ pub mod Laws
 pub mod Halts
 pub mod Answers
 pub mod Summary
+pub mod Printed

@@ -4,8 +4,10 @@
 ghost use Rattle.std.specs.Prelude.{◌≡◌, ◌≢◌};
 ghost use Rattle.srv6_cli.specs.Command.Walk.{WalksKeepTo};
 ghost use Rattle.srv6_cli.specs.Laws.{OfServe, HadFault, HadWant, AfterFilesFault, AfterInputFault, AfterOutFault, AfterOutWant, NoFault, NoWant, OneFault};
+ghost use Rattle.srv6_cli.specs.Printed.{CheckConfirmsCompile};
 
 use crate::status::Status;
+use net_reader::networks_keep_the_rules;
 
 /// Where a count of faults changed, it went on by one, what failed was not called again, and what
 /// follows it in the order files, input, pieces was neither read nor written. (own rule)
@@ -47,3 +49,14 @@ pub fn counts_go_with_their_status()
 pub fn a_walk_keeps_to_the_intent()
     ensures { WalksKeepTo }
 {}
+
+/// What `compile` writes to `out`, where it has no more bytes than a file may have, is a certificate
+/// that `check` confirms, given the same description and intent: it tells `least` with exactly the
+/// report's containers and need, also of a list that is too long or needs too high a hop limit, or
+/// `none` where there is no list. What `compile` refuses `check` refuses with the same line. (own
+/// rule)
+pub fn check_confirms_what_compile_prints()
+    ensures { CheckConfirmsCompile }
+{
+    networks_keep_the_rules();
+}
