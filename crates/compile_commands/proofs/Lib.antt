@@ -2,3 +2,5 @@ pub mod CheckEnds
 pub mod Checking
 pub mod Compiling
 pub mod PublicLaws
+pub mod Reporting
+pub mod Printing

@@ -126,7 +126,7 @@ module _ (v : LegsValue) (net : Network) (Realizes Executes : List Container →
   none-path : (s : Solution) → IsSolution v s → s.path ≡ [] → IsWithoutPath v
   none-path s is empty = subst (λ (path : List PathStep). IsPathOrNone v path) empty is.path
 
-  none-realizes : (s : Solution) → IsSolution v s → s.path ≡ [] → (list : List Container) (need : ℕ) → IsLegalList net list
+  pub none-realizes : (s : Solution) → IsSolution v s → s.path ≡ [] → (list : List Container) (need : ℕ) → IsLegalList net list
       → Realizes list need → ⊥
   none-realizes s is empty list need legal real =
       let path = means.paths list need legal real in

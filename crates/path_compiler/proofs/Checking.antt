@@ -20,7 +20,7 @@ use Rattle.path_compiler.specs.Checked.{IsLeastPair, Says}
 
 module _ (v : LegsValue) (net : Network) (Realizes Executes : List Container → ℕ → Type 0) (means : Means v net Realizes Executes) where
   -- a list that realizes has a path of no greater cost
-  under-list : (o : Option Cost) → IsLeast v start o → (list : List Container) (need : ℕ) → IsLegalList net list → Realizes list need
+  pub under-list : (o : Option Cost) → IsLeast v start o → (list : List Container) (need : ℕ) → IsLegalList net list → Realizes list need
       → Under o (Some (cost_with (length list) need))
   under-list o least list need legal real =
       let path = means.paths list need legal real in

@@ -4,17 +4,22 @@ use Rattle.net_model.specs.Network.{Network}
 use Rattle.net_model.specs.Flat.{flatness_of}
 use Rattle.intent_reader.specs.declared.intent.Intent.{Intent}
 use Rattle.list_pack.specs.declared.types.Container.{Container}
+use Rattle.list_pack.specs.declared.types.Solution.{Solution}
 use Rattle.list_pack.specs.Costs.{AtMost}
 use Rattle.list_pack.specs.Paths.{cost_with}
 use Rattle.list_pack.specs.SidLists.{IsLegalList}
 use Rattle.list_certificate.specs.declared.types.Cert.{Cert}
 use Rattle.list_certificate.specs.declared.types.Verdict.{Verdict}
 use Rattle.list_certificate.specs.declared.types.Verdict.TheVariants.{Least, NoList, No}
+use Rattle.list_certificate.specs.Certs.{certificate_of}
 use Rattle.list_certificate.specs.Verdicts.{IsVerdict}
 use Rattle.leg_table.specs.Realizes.{ListRealizes, ListExecutes}
 use Rattle.leg_table.specs.Value.{legs_value}
 use Rattle.path_compiler.specs.declared.certificates.CheckFault.{CheckFault}
 use Rattle.path_compiler.specs.declared.certificates.CheckFault.TheVariants as faults
+use Rattle.path_compiler.specs.declared.compiled.Compiled.{Compiled}
+use Rattle.path_compiler.specs.declared.compiled.CompileFault.{CompileFault}
+use Rattle.path_compiler.specs.declared.compiled.CompileFault.TheVariants as compile_faults
 use Rattle.path_compiler.specs.Compiled.{IsWhole}
 
 -- a legal list of so many containers, all of whose SIDs are executed, realizes with this need, and no legal list that realizes has fewer
@@ -39,3 +44,17 @@ CheckAnswers net intent cert (Ok verdict) =
     × Says net (ListRealizes net intent) (ListExecutes net intent) verdict
 CheckAnswers net intent cert (Err (faults.NotFlat why)) = flatness_of net ≡ Err why
 CheckAnswers net intent cert (Err faults.NoMemory) = Unit {0}
+
+-- the verdict on the certificate of what the search found over the strict steps of an intent, wherever its head stands
+abbrev pub Certifies : Network → Intent → Solution → Verdict → Type 0
+Certifies net intent s verdict = (head : ℕ) → IsVerdict (legs_value net intent) (certificate_of head s) verdict
+
+-- with an answer of the compiler comes a certificate whose verdict is the answer's: its list's containers and need, also where the list is
+-- over a bound of the intent, or that there is none
+abbrev pub CertifiesAnswer : Network → Intent → Result Compiled CompileFault → Type 0
+CertifiesAnswer net intent (Ok c) = Certifies net intent c.solution (Least c.containers c.need)
+CertifiesAnswer net intent (Err (compile_faults.NotFlat why)) = Unit {0}
+CertifiesAnswer net intent (Err (compile_faults.NoList s)) = Certifies net intent s NoList
+CertifiesAnswer net intent (Err (compile_faults.TooLong found)) = Certifies net intent found.solution (Least found.containers found.need)
+CertifiesAnswer net intent (Err (compile_faults.HopLimit found)) = Certifies net intent found.solution (Least found.containers found.need)
+CertifiesAnswer net intent (Err compile_faults.NoMemory) = Unit {0}

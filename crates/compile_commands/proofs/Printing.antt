@@ -1,0 +1,251 @@
+-- What `compile` prints is read by `check` as the certificate of what was compiled, and judged so.
+use Rattle.std.proofs.Common.{◌≡◌, ◌↔◌, ℕ, ◌+◌, ◌≤◌, Bool, true, false, List, [], ◌++◌, length, All, Option, None, Some, Result, Ok, Err, IsOk, refl, sym, ◌∙◌, ap, subst}
+use Rattle.std.specs.Prelude.{IsSomeAnd, nat_lt, if◌then◌else◌}
+use Rattle.std.proofs.lemmas.Bool.{le-ltb}
+use Rattle.std.proofs.lemmas.List.{append-nil}
+use Rattle.srx_edge.specs.Edge.{file_named}
+use Rattle.net_model.specs.Network.{Network}
+use Rattle.net_model.specs.Rules.{IsNetwork}
+use Rattle.net_model.specs.Flat.{IsFlat, flatness_of}
+use Rattle.net_model.specs.declared.fault.NetFault.{NetFault}
+use Rattle.net_model.specs.declared.flat.NotFlat.{NotFlat}
+use Rattle.net_model.proofs.PublicLaws.{flatness_ok, keeps_from_network}
+use Rattle.net_words.specs.declared.intent.DescribedIntent.{DescribedIntent}
+use Rattle.net_words.specs.Intent as words
+use Rattle.net_reader.specs.Reading.{net_in}
+use Rattle.intent_reader.specs.declared.intent.Intent.{Intent}
+use Rattle.intent_reader.specs.declared.fault.IntentFault.{IntentFault}
+use Rattle.intent_reader.specs.Judging.{judged, intent_of_text}
+use Rattle.intent_reader.specs.Reading.{◌>>=◌, of_text}
+use Rattle.intent_reader.specs.Rules.{IsIntent}
+use Rattle.intent_reader.proofs.JudgingLemmas.{judged_keeps}
+use Rattle.intent_reader.proofs.RangeLemmas.{said_in_range}
+use Rattle.list_pack.specs.declared.types.Solution.{Solution}
+use Rattle.list_pack.specs.Least.{IsSolution}
+use Rattle.list_pack.specs.Value.{LegsValue, KeepsLaws}
+use Rattle.list_certificate.specs.declared.types.Cert.{Cert}
+use Rattle.list_certificate.specs.declared.types.Verdict.{Verdict}
+use Rattle.list_certificate.specs.declared.types.Verdict.TheVariants.{Least, NoList}
+use Rattle.list_certificate.specs.Certs.{certificate_of}
+use Rattle.list_certificate.specs.Laws.{IsComment, lines_text}
+use Rattle.list_certificate.specs.Reading.{read_of}
+use Rattle.list_certificate.specs.Spelling.{spelled}
+use Rattle.list_certificate.specs.Verdicts.{IsVerdict}
+use Rattle.list_certificate.proofs.PublicLaws.{one-verdict, solution-cert, what-is-read}
+use Rattle.leg_table.specs.Value.{legs_value}
+use Rattle.leg_table.proofs.FlatNets.{flat-facts}
+use Rattle.leg_table.proofs.PublicLaws.{legs-mean, strict-laws}
+use Rattle.leg_table.specs.Realizes.{ListRealizes, ListExecutes}
+use Rattle.path_compiler.specs.declared.compiled.Compiled.{Compiled}
+use Rattle.path_compiler.specs.declared.compiled.CompileFault.{CompileFault}
+use Rattle.path_compiler.specs.declared.compiled.CompileFault.TheVariants as faults
+use Rattle.path_compiler.specs.Checked.{Certifies, Says}
+use Rattle.path_compiler.specs.Compiled.{CompileAnswers}
+use Rattle.path_compiler.proofs.PublicLaws.{certifies-answer, says_lists}
+use Rattle.command_inputs.specs.declared.limits.TheConstants.{FILE_LIMIT}
+use Rattle.command_output.specs.declared.refusal.Refusal.{Refusal}
+use Rattle.command_output.specs.declared.refusal.Refusal.TheVariants as refusals
+use Rattle.command_output.specs.declared.status.Status.{Status}
+use Rattle.command_output.specs.declared.status.Status.TheVariants as statuses
+use Rattle.compile_commands.specs.Check as checks
+use Rattle.compile_commands.specs.Check.{CertWants, FlatWants, told_of}
+use Rattle.compile_commands.specs.Compile.{AnswerWants, NetworkWants, IntentWants, HasValues, hop_limit_line, no_report, none_line, printed, report_of, reported, too_long_line}
+use Rattle.command_inputs.specs.Judgements.{network_in, network_by, intent_in, intent_by, cert_in, cert_by}
+use Rattle.command_output.specs.Pieces.{Output}
+use Rattle.compile_commands.specs.Printed.{bytes_for_out, ConfirmsAnswer, ConfirmsPrinted, CheckConfirmsCompile}
+use Rattle.compile_commands.proofs.Checking.{network_of}
+use Rattle.compile_commands.proofs.Compiling.{values_kept, values_long, values_over}
+use Rattle.compile_commands.proofs.Reporting.{report_texts, no_report_texts, report-lines, no-report-lines, report-comments, no-report-comments}
+
+-- a text that gives an intent gives one that keeps the rules
+
+intent-by : (net : Network) (text : List ℕ) (intent : Intent) (said : Result DescribedIntent NetFault) → words.intent_in text ≡ said
+    → intent_of_text net text ≡ Ok intent → IsIntent net intent
+intent-by net text intent (Ok d) is h =
+    judged_keeps net d intent (said_in_range text d is)
+    (subst (λ (r : Result DescribedIntent NetFault). ◌>>=◌ (of_text r) (judged net) ≡ Ok intent) is h)
+intent-by net text intent (Err fault) is h =
+    let none = subst (λ (r : Result DescribedIntent NetFault). ◌>>=◌ (of_text r) (judged net) ≡ Ok intent) is h in absurd (cc)
+
+intent-of : (net : Network) (text : List ℕ) (intent : Intent) → intent_in net text ≡ Ok intent → IsIntent net intent
+intent-of net text intent is = by (nat_lt FILE_LIMIT (length text)) (intent_of_text net text) refl is
+  where
+    by : (big : Bool) (read : Result Intent IntentFault) → intent_of_text net text ≡ read
+        → (if big then Err (refusals.TooBig FILE_LIMIT) else intent_by read) ≡ Ok intent → IsIntent net intent
+    by true read e h = absurd (cc)
+    by false (Ok i) e h = let same : i ≡ intent = cc in intent-by net text intent (words.intent_in text) refl (e ∙ ap Ok same)
+    by false (Err fault) e h = absurd (cc)
+
+-- a text gives a network that keeps the rules
+abbrev pub RulesAreKept : Type 0
+RulesAreKept = (text : List ℕ) (net : Network) → net_in text ≡ Ok net → IsNetwork net
+
+network-of : RulesAreKept → (text : List ℕ) (net : Network) → network_in text ≡ Ok net → IsNetwork net
+network-of rules text net is = by (nat_lt FILE_LIMIT (length text)) (net_in text) refl is
+  where
+    by : (big : Bool) (read : Result Network NetFault) → net_in text ≡ read
+        → (if big then Err (refusals.TooBig FILE_LIMIT) else network_by read) ≡ Ok net → IsNetwork net
+    by true read e h = absurd (cc)
+    by false (Ok n) e h = let same : n ≡ net = cc in rules text net (e ∙ ap Ok same)
+    by false (Err fault) e h = absurd (cc)
+
+module _ (net : Network) (intent : Intent) (network : IsNetwork net) (is_intent : IsIntent net intent) where
+  abbrev v : LegsValue
+  v = legs_value net intent
+
+  flat-by : flatness_of net ≡ Ok tt → IsFlat net
+  flat-by is = (flatness_ok net).0 (subst (λ (r : Result (Unit {0}) NotFlat). IsOk r) (sym is) refl)
+
+  laws-of : flatness_of net ≡ Ok tt → KeepsLaws v
+  laws-of is = strict-laws net intent (keeps_from_network net network) (flat-facts net network (flat-by is)) is_intent
+
+  -- the text is read as the certificate of the solution
+  cert-read : (s : Solution) (comments : List (List ℕ)) (text : List ℕ) → KeepsLaws v → IsSolution v s → All IsComment comments
+      → text ≡ lines_text comments ++ spelled net s → length text ≤ FILE_LIMIT
+      → cert_in net v text ≡ Ok (certificate_of (1 + length comments) s)
+  cert-read s comments text laws is all parts small =
+      let fits : nat_lt FILE_LIMIT (length text) ≡ false = le-ltb FILE_LIMIT (length text) small in
+      let read : read_of net v text ≡ Ok (certificate_of (1 + length comments) s)
+      = ap (read_of net v) parts
+      ∙ what-is-read net v comments s network laws (network_of net intent (keeps_from_network net network)) is all in
+      rw fits (ap cert_by read)
+
+  -- so the verdict is the one that it certifies
+  told-by : (s : Solution) (comments : List (List ℕ)) (text : List ℕ) (verdict : Verdict) (output : Output) → flatness_of net ≡ Ok tt
+      → IsSolution v s → Certifies net intent s verdict → All IsComment comments
+      → text ≡ lines_text comments ++ spelled net s → length text ≤ FILE_LIMIT
+      → FlatWants net intent (flatness_of net) (Some text) output → output ≡ told_of net verdict
+  told-by s comments text verdict output flat is certifies all parts small wants =
+      let laws = laws-of flat in
+      let head : ℕ = 1 + length comments in
+      let flat_wants : FlatWants net intent (Ok tt) (Some text) output
+      = subst (λ (r : Result (Unit {0}) NotFlat). FlatWants net intent r (Some text) output) flat wants in
+      let read : CertWants net intent (Ok (certificate_of head s)) output
+      = subst (λ (r : Result Cert Refusal). CertWants net intent r output) (cert-read s comments text laws is all parts small) flat_wants in
+      let same : read.0 ≡ verdict
+      = one-verdict v (certificate_of head s) read.0 verdict laws (solution-cert v head s is) read.1.is (certifies head) in
+      read.2 ∙ ap (told_of net) same
+
+  -- and that verdict is wanted
+  told-back : (s : Solution) (comments : List (List ℕ)) (text : List ℕ) (verdict : Verdict) (output : Output) → flatness_of net ≡ Ok tt
+      → IsSolution v s → Certifies net intent s verdict → All IsComment comments
+      → text ≡ lines_text comments ++ spelled net s → length text ≤ FILE_LIMIT
+      → output ≡ told_of net verdict → FlatWants net intent (flatness_of net) (Some text) output
+  told-back s comments text verdict output flat is certifies all parts small told =
+      let laws = laws-of flat in
+      let cert : Cert = certificate_of (1 + length comments) s in
+      let judges : IsVerdict v cert verdict = certifies (1 + length comments) in
+      let says : Says net (ListRealizes net intent) (ListExecutes net intent) verdict
+      = says_lists v net (ListRealizes net intent) (ListExecutes net intent) (legs-mean net intent network (flat-by flat) is_intent)
+      cert verdict laws judges in
+      let wants : CertWants net intent (Ok cert) output = (verdict, record { is = judges; says = says }, told) in
+      let read : FlatWants net intent (Ok tt) (Some text) output
+      = subst (λ (r : Result Cert Refusal). CertWants net intent r output) (sym (cert-read s comments text laws is all parts small)) wants in
+      subst (λ (r : Result (Unit {0}) NotFlat). FlatWants net intent r (Some text) output) (sym flat) read
+
+  -- what is for `out` of a report with a certificate behind it
+  out-is : (told report : List ℕ) (status : Status) (s : Solution) (comments : List (List ℕ)) (output : Output)
+      → output ≡ reported (printed net report s) told status → report ≡ lines_text comments
+      → bytes_for_out output.pieces ≡ lines_text comments ++ spelled net s
+  out-is told report status s comments output is lines =
+      ap (λ (o : Output). bytes_for_out o.pieces) is ∙ append-nil (report ++ spelled net s)
+      ∙ ap (λ (bytes : List ℕ). bytes ++ spelled net s) lines
+
+  module _ (old output : Output) (small : length (bytes_for_out old.pieces) ≤ FILE_LIMIT) where
+    -- what `check` wants of what was printed
+    abbrev Checks : Type 0
+    Checks = FlatWants net intent (flatness_of net) (Some (bytes_for_out old.pieces)) output
+
+    list-confirmed : (c : Compiled) (told : List ℕ) (status : Status) → flatness_of net ≡ Ok tt → IsSolution v c.solution
+        → Certifies net intent c.solution (Least c.containers c.need) → HasValues net c
+        → old ≡ reported (printed net (report_of net c) c.solution) told status
+        → Checks ↔ (output ≡ told_of net (Least c.containers c.need))
+    list-confirmed c told status flat is certifies has e =
+        let all = report-comments net c has in
+        let parts = out-is told (report_of net c) status c.solution (report_texts net c) old e (report-lines net c) in
+        let text : List ℕ = bytes_for_out old.pieces in
+        let verdict : Verdict = Least c.containers c.need in (
+          told-by c.solution (report_texts net c) text verdict output flat is certifies all parts small,
+          told-back c.solution (report_texts net c) text verdict output flat is certifies all parts small,
+        )
+
+    none-confirmed : (s : Solution) (told : List ℕ) (status : Status) → flatness_of net ≡ Ok tt → IsSolution v s
+        → Certifies net intent s NoList → old ≡ reported (printed net no_report s) told status → Checks ↔ (output ≡ told_of net NoList)
+    none-confirmed s told status flat is certifies e =
+        let parts = out-is told no_report status s no_report_texts old e no-report-lines in
+        let text : List ℕ = bytes_for_out old.pieces in (
+          told-by s no_report_texts text NoList output flat is certifies no-report-comments parts small,
+          told-back s no_report_texts text NoList output flat is certifies no-report-comments parts small,
+        )
+
+    confirmed : (answer : Result Compiled CompileFault) → CompileAnswers net intent answer → AnswerWants net intent answer old
+        → Checks ↔ ConfirmsAnswer net answer output
+    confirmed (Ok c) answers e =
+        list-confirmed c [] statuses.Done answers.flat answers.found.solution
+        (certifies-answer net intent (Ok c) network is_intent answers) (values_kept net intent c network answers) e
+    confirmed (Err (faults.NotFlat why)) answers e =
+        let P : Result (Unit {0}) NotFlat → Type 0 = λ r. FlatWants net intent r (Some (bytes_for_out old.pieces)) output in
+        (λ wants. subst P answers wants, λ told. subst P (sym answers) told)
+    confirmed (Err (faults.NoList s)) answers e =
+        none-confirmed s none_line statuses.NoAnswer answers.flat answers.solution
+        (certifies-answer net intent (Err (faults.NoList s)) network is_intent answers) e
+    confirmed (Err (faults.TooLong c)) answers e =
+        list-confirmed c (too_long_line c.containers) statuses.NoAnswer answers.flat answers.found.solution
+        (certifies-answer net intent (Err (faults.TooLong c)) network is_intent answers) (values_long net intent c network answers) e
+    confirmed (Err (faults.HopLimit c)) answers e =
+        list-confirmed c (hop_limit_line c.need) statuses.NoAnswer answers.flat answers.found.solution
+        (certifies-answer net intent (Err (faults.HopLimit c)) network is_intent answers) (values_over net intent c network answers) e
+    confirmed (Err faults.NoMemory) answers e = absurd e
+
+-- by the judgements of the description and the intent
+
+module _ (rules : RulesAreKept) (old output : Output) (small : length (bytes_for_out old.pieces) ≤ FILE_LIMIT) where
+  abbrev bytes : List ℕ
+  bytes = bytes_for_out old.pieces
+
+  by-intent : (net : Network) (text : List ℕ) (r : Result Intent Refusal) → IsNetwork net → intent_in net text ≡ r
+      → IntentWants AnswerWants net r old
+      → checks.IntentWants net r (Some bytes) output ↔ IntentWants (ConfirmsPrinted old) net r output
+  by-intent net text (Err refusal) network is wants = (λ h. h, λ h. h)
+  by-intent net text (Ok intent) network is wants =
+      let is_intent = intent-of net text intent is in (
+        λ h. (wants.0, wants.1, wants.2, (wants.3, (confirmed net intent network is_intent old output small wants.0 wants.1 wants.3).0 h)),
+        λ h. (confirmed net intent network is_intent old output small h.0 h.1 h.3.0).1 h.3.1,
+      )
+
+  by-network : (text : List ℕ) (r : Result Network Refusal) (p : Option (List ℕ)) → network_in text ≡ r
+      → NetworkWants AnswerWants r p old
+      → checks.NetworkWants r p (Some bytes) output ↔ NetworkWants (ConfirmsPrinted old) r p output
+  by-network text (Err refusal) p is wants = (λ h. h, λ h. h)
+  by-network text (Ok net) None is wants = absurd wants
+  by-network text (Ok net) (Some plan) is wants =
+      by-intent net plan (intent_in net plan) (network-of rules text net is) refl wants
+
+  by-file : (o p : Option (List ℕ)) → IsSomeAnd o (λ text. NetworkWants AnswerWants (network_in text) p old)
+      → IsSomeAnd o (λ text. checks.NetworkWants (network_in text) p (Some bytes) output)
+      ↔ IsSomeAnd o (λ text. NetworkWants (ConfirmsPrinted old) (network_in text) p output)
+  by-file None p wants = absurd wants
+  by-file (Some text) p wants = by-network text (network_in text) p refl wants
+
+-- what is wanted of `check` by what its files hold
+abbrev CheckOf : Output → Option (List ℕ) → Option (List ℕ) → Option (List ℕ) → Type 0
+CheckOf output o p q = IsSomeAnd o (λ text. checks.NetworkWants (network_in text) p q output)
+
+files-to : (output : Output) (a b c x y z : Option (List ℕ)) → a ≡ x → b ≡ y → c ≡ z → CheckOf output a b c → CheckOf output x y z
+files-to output a b c x y z f g h wants =
+    subst (λ (o : Option (List ℕ)). CheckOf output o y z) f
+    (subst (λ (p : Option (List ℕ)). CheckOf output a p z) g
+    (subst (λ (q : Option (List ℕ)). CheckOf output a b q) h wants))
+
+pub check_confirms : RulesAreKept → CheckConfirmsCompile
+check_confirms rules old new file intent cert input other made output holds wants =
+    let o : Option (List ℕ) = file_named old file in
+    let p : Option (List ℕ) = file_named old intent in
+    let q : Option (List ℕ) = Some (bytes_for_out made.pieces) in
+    let x : Option (List ℕ) = file_named new file in
+    let y : Option (List ℕ) = file_named new intent in
+    let z : Option (List ℕ) = file_named new cert in
+    let both = by-file rules made output holds.small o p wants in (
+      λ h. both.0 (files-to output x y z o p q holds.described holds.intended holds.certified h),
+      λ h. files-to output o p q x y z (sym holds.described) (sym holds.intended) (sym holds.certified) (both.1 h),
+    )

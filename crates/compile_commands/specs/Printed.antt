@@ -1,0 +1,53 @@
+-- What `check` says of what `compile` printed.
+use Rattle.std.specs.Prelude.{◌≡◌, ◌↔◌, ℕ, ◌≤◌, List, [], ◌∷◌, ◌++◌, length, Some, Result, Ok, Err, IsSomeAnd}
+use Rattle.net_model.specs.Network.{Network}
+use Rattle.intent_reader.specs.declared.intent.Intent.{Intent}
+use Rattle.path_compiler.specs.declared.compiled.Compiled.{Compiled}
+use Rattle.path_compiler.specs.declared.compiled.CompileFault.{CompileFault}
+use Rattle.path_compiler.specs.declared.compiled.CompileFault.TheVariants as faults
+use Rattle.srx_edge.specs.Edge.{file_named}
+use Rattle.command_inputs.specs.declared.limits.TheConstants.{FILE_LIMIT}
+use Rattle.command_output.specs.declared.status.Status.TheVariants as statuses
+use Rattle.compile_commands.specs.Check.{check_shape, least_line, no_list_line}
+use Rattle.compile_commands.specs.Compile.{AnswerWants, NetworkWants, compile_shape, flat_refusal, reported}
+use Rattle.command_inputs.specs.Judgements.{network_in, refused}
+use Rattle.command_output.specs.Pieces.{Piece, ForOut, ForErr, Output}
+use Rattle.command_output.specs.Shape.{Held}
+
+-- all bytes of pieces that are for `out`
+abbrev pub bytes_for_out : List Piece → List ℕ
+bytes_for_out [] = []
+bytes_for_out (ForOut bytes ∷ more) = bytes ++ bytes_for_out more
+bytes_for_out (ForErr bytes ∷ more) = bytes_for_out more
+
+-- a command finds in its files the texts of the description and the intent as another did, and for the certificate what that one printed,
+-- which has no more bytes than a file may have
+pub record HoldsPrinted (old new : Held) (file intent cert : List ℕ) (printed : Output) : Type 0 where
+  pub described : file_named new file ≡ file_named old file
+  pub intended : file_named new intent ≡ file_named old intent
+  pub certified : file_named new cert ≡ Some (bytes_for_out printed.pieces)
+  pub small : length (bytes_for_out printed.pieces) ≤ FILE_LIMIT
+
+-- the output of `check` by the compiler's answer: `least` with the list's containers and need, also where the list is over a bound of the
+-- intent; `none` where there is none; a network that is not flat is refused by both commands
+abbrev pub ConfirmsAnswer : Network → Result Compiled CompileFault → Output → Type 0
+ConfirmsAnswer net (Ok c) output = output ≡ reported (least_line c.containers c.need) [] statuses.Done
+ConfirmsAnswer net (Err (faults.NotFlat why)) output = output ≡ refused (flat_refusal net why)
+ConfirmsAnswer net (Err (faults.NoList solution)) output = output ≡ reported no_list_line [] statuses.Done
+ConfirmsAnswer net (Err (faults.TooLong found)) output = output ≡ reported (least_line found.containers found.need) [] statuses.Done
+ConfirmsAnswer net (Err (faults.HopLimit found)) output = output ≡ reported (least_line found.containers found.need) [] statuses.Done
+ConfirmsAnswer net (Err faults.NoMemory) output = ⊥
+
+-- what was printed is what is wanted of `compile` for an answer of the compiler, and the output of `check` is that answer's
+abbrev pub ConfirmsPrinted : Output → Network → Intent → Result Compiled CompileFault → Output → Type 0
+ConfirmsPrinted printed net intent answer output = AnswerWants net intent answer printed × ConfirmsAnswer net answer output
+
+-- of an output that is wanted of `compile`, exactly these are wanted of `check` with what was printed; where the description or the
+-- intent is refused, both are that refusal
+abbrev pub CheckConfirmsCompile : Type 0
+CheckConfirmsCompile =
+    (old new : Held) (file intent cert input other : List ℕ) (printed output : Output) → HoldsPrinted old new file intent cert printed
+    → (compile_shape file intent).wants old input printed
+    → (check_shape file intent cert).wants new other output
+    ↔ IsSomeAnd (file_named old file)
+    (λ text. NetworkWants (ConfirmsPrinted printed) (network_in text) (file_named old intent) output)

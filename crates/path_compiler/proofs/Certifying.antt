@@ -1,0 +1,111 @@
+-- The certificate of what the search found is judged as the list was.
+use Rattle.std.proofs.Common.{◌≡◌, ℕ, arith, Bool, List, [], ◌∷◌, length, Some, Result, Ok, Err, IsOk, refl, sym, ◌∙◌, ap, subst}
+use Rattle.net_model.specs.Network.{Network}
+use Rattle.net_model.specs.Rules.{IsNetwork}
+use Rattle.net_model.specs.Flat.{IsFlat, flatness_of}
+use Rattle.net_model.specs.declared.flat.NotFlat.{NotFlat}
+use Rattle.net_model.proofs.PublicLaws.{flatness_ok, keeps_from_network}
+use Rattle.intent_reader.specs.Rules.{IsIntent}
+use Rattle.intent_reader.specs.declared.intent.Intent.{Intent}
+use Rattle.list_pack.specs.declared.types.Container.{Container}
+use Rattle.list_pack.specs.declared.types.Cost.{Cost}
+use Rattle.list_pack.specs.declared.types.PathStep.{PathStep}
+use Rattle.list_pack.specs.declared.types.Solution.{Solution}
+use Rattle.list_pack.specs.Value.{LegsValue, KeepsLaws}
+use Rattle.list_pack.specs.Costs.{AtMost, start}
+use Rattle.list_pack.specs.Least.{IsLeast, IsSolution}
+use Rattle.list_pack.specs.Meaning.{Means}
+use Rattle.list_pack.specs.Paths.{cost_with}
+use Rattle.list_certificate.specs.declared.types.Verdict.TheVariants.{Least, NoList}
+use Rattle.list_certificate.specs.Certs.{certificate_of}
+use Rattle.list_certificate.specs.Laws.{IsAcceptedBy}
+use Rattle.list_certificate.specs.Verdicts.{IsVerdict}
+use Rattle.list_certificate.proofs.PublicLaws.{solution-accepted}
+use Rattle.leg_table.specs.Realizes.{ListRealizes, ListExecutes}
+use Rattle.leg_table.specs.Value.{legs_value}
+use Rattle.leg_table.proofs.FlatNets.{flat-facts}
+use Rattle.leg_table.proofs.PublicLaws.{strict-laws, legs-mean}
+use Rattle.path_compiler.specs.declared.compiled.Compiled.{Compiled}
+use Rattle.path_compiler.specs.declared.compiled.CompileFault.{CompileFault}
+use Rattle.path_compiler.specs.declared.compiled.CompileFault.TheVariants as faults
+use Rattle.path_compiler.specs.Checked.{Certifies, CertifiesAnswer}
+use Rattle.path_compiler.specs.Compiled.{CompileAnswers, IsChosen, IsFound}
+use Rattle.path_compiler.proofs.Answering.{none-realizes}
+use Rattle.path_compiler.proofs.Checking.{under-list}
+
+-- of two costs that are each at most the other the first is the second
+costs-one : (a b : Cost) → AtMost a b → AtMost b a → a ≡ b
+costs-one a b down up =
+    let one = down.containers in
+    let two = up.containers in
+    let containers : a.containers ≡ b.containers = omega (arith, one, two) in
+    let three = down.hops containers in
+    let four = up.hops (sym containers) in
+    let hops : a.hops ≡ b.hops = omega (arith, three, four) in
+    ap (λ (n : ℕ). cost_with n a.hops) containers ∙ ap (cost_with b.containers) hops
+
+module _ (v : LegsValue) (net : Network) (Realizes Executes : List Container → ℕ → Type 0) (means : Means v net Realizes Executes)
+    (laws : KeepsLaws v) where
+  -- the least cost of a path is that of a chosen list
+  least-chosen : (list : List Container) (need : ℕ) (cost : Cost) → IsChosen net Realizes Executes list need → IsLeast v start (Some cost)
+      → cost ≡ cost_with (length list) need
+  least-chosen list need cost chosen least =
+      let down : AtMost cost (cost_with (length list) need)
+      = under-list v net Realizes Executes means (Some cost) least list need chosen.whole.legal chosen.whole.realizes in
+      let path = least.attains in
+      let made = means.lists path.0 cost path.1 in
+      let up : AtMost (cost_with (length list) need) cost
+      = subst (λ (n : ℕ). AtMost (cost_with (length list) need) (cost_with n cost.hops)) made.of_path.count
+      (chosen.least _ cost.hops made.legal made.realizes) in
+      costs-one cost (cost_with (length list) need) down up
+
+  module _ (reduced : Bool) (c : Compiled) (found : IsFound v net Realizes Executes reduced c) (head : ℕ) where
+    least-by : (path : List PathStep) → c.solution.path ≡ path → IsAcceptedBy v head c.solution path
+        → IsVerdict v (certificate_of head c.solution) (Least c.containers c.need)
+    least-by [] is accepted =
+        absurd (none-realizes v net Realizes Executes means c.solution found.solution is c.list c.need found.chosen.whole.legal
+        found.chosen.whole.realizes)
+    least-by (p ∷ ps) is accepted =
+        let same : accepted.0 ≡ cost_with c.containers c.need
+        = least-chosen c.list c.need accepted.0 found.chosen accepted.1.least ∙ ap (λ (n : ℕ). cost_with n c.need) (sym found.containers) in
+        subst (λ (cost : Cost). IsVerdict v (certificate_of head c.solution) (Least cost.containers cost.hops)) same accepted.1.verdict
+
+    pub verdict-found : IsVerdict v (certificate_of head c.solution) (Least c.containers c.need)
+    verdict-found = least-by c.solution.path refl (solution-accepted v head c.solution laws found.solution)
+
+pub verdict-none : (v : LegsValue) (s : Solution) (head : ℕ) → KeepsLaws v → IsSolution v s → s.path ≡ []
+    → IsVerdict v (certificate_of head s) NoList
+verdict-none v s head laws is empty = subst (IsAcceptedBy v head s) empty (solution-accepted v head s laws is)
+
+-- over the strict steps of an intent
+
+strict : (net : Network) (intent : Intent) → IsNetwork net → IsFlat net → IsIntent net intent → KeepsLaws (legs_value net intent)
+strict net intent network flat is = strict-laws net intent (keeps_from_network net network) (flat-facts net network flat) is
+
+pub certifies-found : (net : Network) (intent : Intent) (reduced : Bool) (c : Compiled) → IsNetwork net → IsFlat net
+    → IsIntent net intent → IsFound (legs_value net intent) net (ListRealizes net intent) (ListExecutes net intent) reduced c
+    → Certifies net intent c.solution (Least c.containers c.need)
+certifies-found net intent reduced c network flat is found =
+    verdict-found (legs_value net intent) net (ListRealizes net intent) (ListExecutes net intent) (legs-mean net intent network flat is)
+    (strict net intent network flat is) reduced c found
+
+pub certifies-none : (net : Network) (intent : Intent) (s : Solution) → IsNetwork net → IsFlat net → IsIntent net intent
+    → IsSolution (legs_value net intent) s → s.path ≡ [] → Certifies net intent s NoList
+certifies-none net intent s network flat is solution empty =
+    λ head. verdict-none (legs_value net intent) s head (strict net intent network flat is) solution empty
+
+flat-by : (net : Network) → flatness_of net ≡ Ok tt → IsFlat net
+flat-by net is = (flatness_ok net).0 (subst (λ (r : Result (Unit {0}) NotFlat). IsOk r) (sym is) refl)
+
+pub certifies-answer : (net : Network) (intent : Intent) (answer : Result Compiled CompileFault) → IsNetwork net → IsIntent net intent
+    → CompileAnswers net intent answer → CertifiesAnswer net intent answer
+certifies-answer net intent (Ok c) network is answers =
+    certifies-found net intent intent.reduced c network (flat-by net answers.flat) is answers.found
+certifies-answer net intent (Err (faults.NotFlat why)) network is answers = tt
+certifies-answer net intent (Err (faults.NoList s)) network is answers =
+    certifies-none net intent s network (flat-by net answers.flat) is answers.solution answers.no_path
+certifies-answer net intent (Err (faults.TooLong c)) network is answers =
+    certifies-found net intent intent.reduced c network (flat-by net answers.flat) is answers.found
+certifies-answer net intent (Err (faults.HopLimit c)) network is answers =
+    certifies-found net intent intent.reduced c network (flat-by net answers.flat) is answers.found
+certifies-answer net intent (Err faults.NoMemory) network is answers = tt

@@ -1,0 +1,3 @@
+-- The lemmas that crates above may cite: each proves a clause of a public function.
+pub use Rattle.path_compiler.proofs.Checking.{says_lists}
+pub use Rattle.path_compiler.proofs.Certifying.{certifies-found, certifies-none, certifies-answer}

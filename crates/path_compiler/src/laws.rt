@@ -1,0 +1,34 @@
+//! Laws of compiled lists and certificates, each the contract of a function that does nothing.
+
+ghost use Rattle.std.specs.Prelude.{◌≡◌, Bool, [], Result};
+ghost use Rattle.net_model.specs.Network.{Network};
+ghost use Rattle.net_model.specs.Rules.{IsNetwork};
+ghost use Rattle.net_model.specs.Flat.{IsFlat};
+ghost use Rattle.intent_reader.specs.Rules.{IsIntent};
+ghost use Rattle.intent_reader.specs.declared.intent.Intent.{Intent};
+ghost use Rattle.list_pack.specs.declared.types.Solution.{Solution};
+ghost use Rattle.list_pack.specs.Least.{IsSolution};
+ghost use Rattle.list_certificate.specs.declared.types.Verdict.TheVariants.{Least, NoList};
+ghost use Rattle.leg_table.specs.Realizes.{ListRealizes, ListExecutes};
+ghost use Rattle.leg_table.specs.Value.{legs_value};
+ghost use Rattle.path_compiler.specs.declared.compiled.Compiled.{Compiled};
+ghost use Rattle.path_compiler.specs.declared.compiled.CompileFault.{CompileFault};
+ghost use Rattle.path_compiler.specs.Checked.{Certifies, CertifiesAnswer};
+ghost use Rattle.path_compiler.specs.Compiled.{CompileAnswers, IsFound};
+
+/// In a flat network the certificate of what the search found, wherever its head stands, is judged
+/// `Least` with exactly the chosen list's containers and need, in either form of the header, and
+/// `NoList` where no path was found. So it is for each answer of `compile`, also where the least
+/// list is too long or its need not below the hop limit. (own rule)
+pub fn a_certificate_tells_what_was_compiled()
+    ensures found { (net : Network) (intent : Intent) (reduced : Bool) (c : Compiled)
+        → IsNetwork net → IsFlat net → IsIntent net intent
+        → IsFound (legs_value net intent) net (ListRealizes net intent) (ListExecutes net intent) reduced c
+        → Certifies net intent c.solution (Least c.containers c.need) }
+    ensures none { (net : Network) (intent : Intent) (s : Solution)
+        → IsNetwork net → IsFlat net → IsIntent net intent
+        → IsSolution (legs_value net intent) s → s.path ≡ [] → Certifies net intent s NoList }
+    ensures answers { (net : Network) (intent : Intent) (answer : Result Compiled CompileFault)
+        → IsNetwork net → IsIntent net intent → CompileAnswers net intent answer
+        → CertifiesAnswer net intent answer }
+{}
