@@ -16,6 +16,7 @@ pub mod Compiling
 pub mod Generating
 pub mod Certificates
 pub mod Tracing
+pub mod Replaying
 pub mod Checking
 pub mod CheckEnds
 pub mod WalkEnds

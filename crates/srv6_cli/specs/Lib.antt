@@ -11,6 +11,7 @@ pub mod Judgements
 pub mod Command
 pub mod Serves
 pub mod Laws
+pub mod Replaying
 pub mod Halts
 pub mod Answers
 pub mod Summary

@@ -3,6 +3,7 @@
 
 ghost use Rattle.std.specs.Prelude.{◌≡◌, ◌≢◌};
 ghost use Rattle.srv6_cli.specs.Command.Walk.{WalksKeepTo};
+ghost use Rattle.srv6_cli.specs.Replaying.{OutReceives, UnendedTracesAreRefused, WholeTracesAreRight};
 ghost use Rattle.srv6_cli.specs.Laws.{OfServe, HadFault, HadWant, AfterFilesFault, AfterInputFault, AfterOutFault, AfterOutWant, NoFault, NoWant, OneFault};
 
 use crate::status::Status;
@@ -46,4 +47,15 @@ pub fn counts_go_with_their_status()
 /// with its hop limit lowered by one, and nothing else changed. (RFC 8986 sections 5.1 and 5.2)
 pub fn a_walk_keeps_to_the_intent()
     ensures { WalksKeepTo }
+{}
+
+/// What `trace` writes for `out` of bytes as input, where its status is Done and the text has no
+/// more bytes than a file may have: `replay`, given the same description and this text as its
+/// trace, has `ok` with the numbers of the packets that were read and of their lines as its one
+/// output. Where `trace` refuses what is behind the packets, `replay` refuses what was written at
+/// the line behind its last one. What is said to be for `out` is what `out` receives. (own rule)
+pub fn what_is_traced_is_replayed()
+    ensures out { OutReceives }
+    ensures whole { WholeTracesAreRight }
+    ensures unended { UnendedTracesAreRefused }
 {}
