@@ -17,7 +17,7 @@ use Rattle.command_inputs.proofs.Judging.{judged-text, asks-one}
 
 -- a text within the limit that is a trace, or has a bad line
 
-trace-small : (net : Network) (text : List ℕ) (bad : Option ℕ) (read : Result (List (List ℕ)) Refusal) → length text ≤ FILE_LIMIT
+pub trace-small : (net : Network) (text : List ℕ) (bad : Option ℕ) (read : Result (List (List ℕ)) Refusal) → length text ≤ FILE_LIMIT
     → bad_line net text ≡ bad → trace_by text bad ≡ read → trace_in net text ≡ read
 trace-small net text bad read fits is by =
     let small : nat_lt FILE_LIMIT (length text) ≡ false = le-ltb FILE_LIMIT (length text) fits in

@@ -42,6 +42,12 @@ bytes_of_piece (ForErr bytes) = map (λ byte. (ToErr, byte)) bytes
 abbrev pub bytes_in_order : List Piece → List (Which × ℕ)
 bytes_in_order pieces = flat_map bytes_of_piece pieces
 
+-- the bytes of pieces that are for `out`, in order
+abbrev pub bytes_for_out : List Piece → List ℕ
+bytes_for_out [] = []
+bytes_for_out (ForOut bytes ∷ more) = bytes ++ bytes_for_out more
+bytes_for_out (ForErr bytes ∷ more) = bytes_for_out more
+
 -- where a call stopped before its end: a fault of the files or of the input, a fault of a sink or a want of memory in it,
 -- or a want of memory elsewhere
 pub data Stop : Type 0 where

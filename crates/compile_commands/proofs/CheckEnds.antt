@@ -24,17 +24,14 @@ use Rattle.command_output.specs.declared.status.Status.TheVariants as statuses
 use Rattle.command_output.specs.declared.told.Told.{Told}
 use Rattle.command_output.specs.Answers.{ending_of_failure, JudgesFile, CommandsUnread}
 use Rattle.compile_commands.specs.Check.{CertWants, FlatWants, IntentWants, NetworkWants, RefusesFlat, LegsOf, JudgesAs, asks_for_next, check_shape}
-use Rattle.command_output.specs.Outputs.{output_of_judgement}
-use Rattle.command_output.specs.Outputs.{reported}
+use Rattle.command_output.specs.Outputs.{output_of_judgement, reported, refused}
 use Rattle.command_inputs.specs.Judgements.{network_in, intent_in, cert_in}
-use Rattle.command_output.specs.Outputs.{refused}
 use Rattle.command_output.specs.Lines.{bytes_of_text}
 use Rattle.command_output.specs.Outside.{IsFrontOf, Asks, Reads, asked_for_all, files_left_by}
 use Rattle.command_output.specs.Pieces.{Output, Stop, Never, AtFiles, At, Elsewhere, ToOut, stop_at}
 use Rattle.command_output.specs.Endings.{ending_of_status, Takes}
 use Rattle.command_output.specs.Shape.{Held, goes_on_with, texts_with, WantedOf, IsOneOf}
-use Rattle.command_output.proofs.PublicLaws.{judgement-status, each, each-map, some-map, front_whole, front_longer, front_after, asks_all, asks_fault, asks_front}
-use Rattle.command_output.proofs.PublicLaws.{refused_commands, files_fault, memory_wants, written_whole, written_cut}
+use Rattle.command_output.proofs.PublicLaws.{judgement-status, each, each-map, some-map, front_whole, front_longer, front_after, asks_all, asks_fault, asks_front, refused_commands, files_fault, memory_wants, written_whole, written_cut}
 
 -- what holds of what is told, of two facts of it
 both : (told : Option Held) (P Q R : Held → Type 0) → ((held : Held) → P held → Q held → R held) → IfSome told P → IfSome told Q

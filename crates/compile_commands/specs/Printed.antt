@@ -1,5 +1,5 @@
 -- What `check` says of what `compile` printed.
-use Rattle.std.specs.Prelude.{◌≡◌, ◌↔◌, ℕ, ◌≤◌, List, [], ◌∷◌, ◌++◌, length, Some, Result, Ok, Err, IsSomeAnd}
+use Rattle.std.specs.Prelude.{◌≡◌, ◌↔◌, ℕ, ◌≤◌, List, [], length, Some, Result, Ok, Err, IsSomeAnd}
 use Rattle.net_model.specs.Network.{Network}
 use Rattle.intent_reader.specs.declared.intent.Intent.{Intent}
 use Rattle.path_compiler.specs.declared.compiled.Compiled.{Compiled}
@@ -9,16 +9,12 @@ use Rattle.srx_edge.specs.Edge.{file_named}
 use Rattle.command_inputs.specs.declared.limits.TheConstants.{FILE_LIMIT}
 use Rattle.command_output.specs.declared.status.Status.TheVariants as statuses
 use Rattle.compile_commands.specs.Check.{check_shape, least_line, no_list_line}
-use Rattle.compile_commands.specs.Compile.{AnswerWants, NetworkWants, compile_shape, flat_refusal, reported}
-use Rattle.command_inputs.specs.Judgements.{network_in, refused}
-use Rattle.command_output.specs.Pieces.{Piece, ForOut, ForErr, Output}
+use Rattle.compile_commands.specs.Compile.{AnswerWants, NetworkWants, compile_shape}
+use Rattle.command_output.specs.Halts.{flat_refusal}
+use Rattle.command_output.specs.Outputs.{reported, refused}
+use Rattle.command_inputs.specs.Judgements.{network_in}
+use Rattle.command_output.specs.Pieces.{Output, bytes_for_out}
 use Rattle.command_output.specs.Shape.{Held}
-
--- all bytes of pieces that are for `out`
-abbrev pub bytes_for_out : List Piece → List ℕ
-bytes_for_out [] = []
-bytes_for_out (ForOut bytes ∷ more) = bytes ++ bytes_for_out more
-bytes_for_out (ForErr bytes ∷ more) = bytes_for_out more
 
 -- a command finds in its files the texts of the description and the intent as another did, and for the certificate what that one printed,
 -- which has no more bytes than a file may have

@@ -1,20 +1,19 @@
 //! The command `trace`: the walks of the packets of the input, from a node of the network that a
 //! file describes, as text.
 
-ghost use Rattle.std.specs.Prelude.{◌≡◌, ◌<◌, ◌++◌, IfOk, Some, length};
-ghost use Rattle.std.specs.List.{flat_map};
+ghost use Rattle.std.specs.Prelude.{◌≡◌, ◌<◌, IfOk, Some, length};
 ghost use Rattle.pcap_io.specs.Frames.{frames_of as frames_in};
 ghost use Rattle.srv6_rules.specs.Packet.{bytes_of};
 ghost use Rattle.srx_edge.specs.Steps.{Wrote};
 ghost use Rattle.command_output.specs.Answers.{CommandsOut, ending_of_step};
-ghost use Rattle.trace_commands.specs.Trace.{frame_text, last_text, packet_lines, text_of, trace_shape, trace_text};
+ghost use Rattle.trace_commands.specs.Trace.{text_of, traced_as, traced_of, traced_of_frame};
 ghost use Rattle.command_output.specs.Lines.{line};
 ghost use Rattle.command_inputs.specs.Packets.{HasHead, fault_of, reading_of};
-ghost use Rattle.trace_replay.specs.Laws.{walk_lines};
-ghost use Rattle.trace_replay.specs.Lines.{end_text, head_text, outcome_text, stages_text};
+ghost use Rattle.trace_replay.specs.Lines.{outcome_text, stages_text};
 ghost use Rattle.trace_replay.specs.Numbered.{IsNumbered};
+ghost use Rattle.trace_replay.specs.Written.{packet_trace, packets_trace, trace_head_bytes, trace_end_bytes, walk_trace};
 ghost use Rattle.walk_rules.specs.Relation.{IsPlace};
-ghost use Rattle.walk_rules.specs.Walk.{choice_at, walk_of};
+ghost use Rattle.walk_rules.specs.Walk.{choice_at};
 
 use command_inputs::{Next, Packets, network_of_file, next_of, node_of_name, packets_of_input};
 use command_output::{Failure, Halt, Refusal, Status, Text, Told, write_all};
@@ -32,7 +31,7 @@ use walk_rules::{How, Outcome, Place, next_place};
 /// Writes the first line.
 #[tactic(auto, using(command_output::proofs::PublicLaws::writing))]
 fn write_head<O: Sink>(alloc: Global, out: &mut O) -> Result<(), Failure>
-    ensures { Wrote (ending_of_step result) (line head_text) (O.seen out.old) (O.seen out.new) }
+    ensures { Wrote (ending_of_step result) trace_head_bytes (O.seen out.old) (O.seen out.new) }
 {
     let mut text = Vec::new(alloc);
     print_head(alloc, &mut text)?;
@@ -83,8 +82,8 @@ fn write_stages<O: Sink>(
 ) -> Result<(), Failure>
     requires place { IsPlace net.now start }
     requires choices { 0 < length choices.now }
-    ensures { Wrote (ending_of_step result) (text_of (walk_lines net.now (Some start)
-        (walk_of STAGES net.now (Some start) content (choice_at choices.now) 0)))
+    ensures { Wrote (ending_of_step result)
+        (walk_trace STAGES net.now (Some start) content (choice_at choices.now) 0)
         (O.seen out.old) (O.seen out.new) }
 {
     let mut content = content;
@@ -105,7 +104,7 @@ fn write_stages<O: Sink>(
 }
 
 /// Writes the lines of a packet: its bytes as it enters at the node, and its walk from there.
-#[tactic(auto, using(crate::proofs::TraceSteps::texts))]
+#[tactic(auto, using(crate::proofs::TraceSteps::lines))]
 fn trace_packet<O: Sink>(
     alloc: Global,
     net: &Net,
@@ -119,7 +118,7 @@ fn trace_packet<O: Sink>(
     requires node { node < length net.now.nodes }
     requires choices { 0 < length choices.now }
     ensures { Wrote (ending_of_step result)
-        (text_of (packet_lines net.now node choices.now number family content))
+        (packet_trace net.now (traced_as node choices.now number family content))
         (O.seen out.old) (O.seen out.new) }
 {
     let mut text = Vec::new(alloc);
@@ -134,7 +133,7 @@ fn trace_packet<O: Sink>(
 }
 
 /// Writes the lines of the packet of a frame, if it is read.
-#[tactic(auto, using(command_output::proofs::PublicLaws::writing))]
+#[tactic(auto, using(crate::proofs::TraceSteps::packet))]
 fn trace_frame<O: Sink>(
     alloc: Global,
     net: &Net,
@@ -145,7 +144,8 @@ fn trace_frame<O: Sink>(
 ) -> Result<(), Failure>
     requires node { node < length net.now.nodes }
     requires choices { 0 < length choices.now }
-    ensures { Wrote (ending_of_step result) (frame_text net.now node choices.now frame)
+    ensures { Wrote (ending_of_step result)
+        (packets_trace net.now (traced_of_frame node choices.now frame))
         (O.seen out.old) (O.seen out.new) }
 {
     let Frame { number, body } = frame;
@@ -175,8 +175,8 @@ fn trace_frames<O: Sink>(
     ensures fault { IfOk result (λ fault.
         fault ≡ fault_of (frames_in head MAX_FRAMES 1 behind.now)) }
     ensures wrote { Wrote (ending_of_step result)
-        (flat_map (frame_text net.now node choices.now)
-        (frames_in head MAX_FRAMES 1 behind.now).frames)
+        (packets_trace net.now (traced_of node choices.now
+        (frames_in head MAX_FRAMES 1 behind.now).frames))
         (O.seen out.old) (O.seen out.new) }
 {
     let mut reader = FrameReader::new(alloc, head, behind)?;
@@ -205,7 +205,7 @@ fn trace_packets<O: Sink>(
     requires head { HasHead packets }
     ensures fault { IfOk result (λ fault. fault ≡ fault_of (reading_of packets)) }
     ensures wrote { Wrote (ending_of_step result)
-        (flat_map (frame_text net.now node choices.now) (reading_of packets).frames)
+        (packets_trace net.now (traced_of node choices.now (reading_of packets).frames))
         (O.seen out.old) (O.seen out.new) }
 {
     match packets {
@@ -227,24 +227,15 @@ fn trace_packets<O: Sink>(
 /// Writes the last line.
 #[tactic(auto, using(command_output::proofs::PublicLaws::writing))]
 fn write_end<O: Sink>(alloc: Global, out: &mut O) -> Result<(), Failure>
-    ensures { Wrote (ending_of_step result) (line end_text) (O.seen out.old) (O.seen out.new) }
+    ensures { Wrote (ending_of_step result) trace_end_bytes (O.seen out.old) (O.seen out.new) }
 {
     let mut text = Vec::new(alloc);
     print_end(alloc, &mut text)?;
     write_all(out, text.as_slice())
 }
 
-/// Writes the last line, where nothing that is refused follows the frames.
-fn write_last<O: Sink>(alloc: Global, fault: &Option<Refusal>, out: &mut O) -> Result<(), Failure>
-    ensures { Wrote (ending_of_step result) (last_text fault.now) (O.seen out.old) (O.seen out.new) }
-{
-    match fault {
-        Some(_) => Ok(()),
-        None => write_end(alloc, out),
-    }
-}
-
-/// Writes the trace, and gives the refusal of what is behind the frames, if anything is.
+/// Writes the trace, which has its last line where nothing that is refused follows the frames, and
+/// gives the refusal of what is behind them, if anything is.
 #[tactic(auto, using(crate::proofs::TraceSteps::texts))]
 fn write_trace<O: Sink>(
     alloc: Global,
@@ -259,13 +250,18 @@ fn write_trace<O: Sink>(
     requires head { HasHead packets }
     ensures fault { IfOk result (λ fault. fault ≡ fault_of (reading_of packets)) }
     ensures wrote { Wrote (ending_of_step result)
-        (trace_text net.now node choices.now (reading_of packets))
+        (text_of net.now node choices.now (reading_of packets))
         (O.seen out.old) (O.seen out.new) }
 {
     write_head(alloc, out)?;
     let fault = trace_packets(alloc, net, node, choices, packets, out)?;
-    write_last(alloc, &fault, out)?;
-    Ok(fault)
+    match fault {
+        Some(refusal) => Ok(Some(refusal)),
+        None => {
+            write_end(alloc, out)?;
+            Ok(None)
+        }
+    }
 }
 
 /// Writes the walks of the packets of the input, one after the other, from a node of the network

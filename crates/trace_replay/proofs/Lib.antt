@@ -7,6 +7,7 @@ pub mod PacketLines
 pub mod Pieces
 pub mod Printed
 pub mod Printing
+pub mod PublicLaws
 pub mod Splitting
 pub mod StageLines
 pub mod StageOutcomes

@@ -23,7 +23,7 @@ use Rattle.command_output.specs.Outside.{outside, IsFrontOf, Asks, Reads, files_
 use Rattle.command_inputs.specs.Packets.{packets_in, reading_of, fault_of}
 use Rattle.command_output.specs.Pieces.{ForOut, Output, Stop, Never, AtFiles, AtInput, At, Elsewhere, ToOut, stop_at}
 use Rattle.run_commands.specs.Run.{has_start, reads_input}
-use Rattle.trace_commands.specs.Trace.{trace_text, traced, trace_output, trace_shape}
+use Rattle.trace_commands.specs.Trace.{text_of, traced, trace_output, trace_shape}
 use Rattle.command_output.specs.Endings.{Takes}
 use Rattle.command_output.specs.Shape.{Held, names_of, WantedOf}
 use Rattle.command_output.proofs.PublicLaws.{each, some-map, front_whole, asks_all, asks_front}
@@ -119,7 +119,7 @@ module _ (file name choices : List ℕ) (f g : FilesSeen) (s t : SourceSeen) (o 
 
       module _ (packets : Packets) (drawn : JudgesInput packets_in (Ok packets) s t) (p : SinkSeen) where
         abbrev bytes : List ℕ
-        bytes = trace_text net node choices (reading_of packets)
+        bytes = text_of net node choices (reading_of packets)
 
         wanted : WantedOf (trace_shape file name choices) f.told s.left (traced net node choices packets)
         wanted = trace-wants f.told s.left file name choices (λ text. network_in text ≡ Ok net) (λ input. packets_in input ≡ Ok packets)

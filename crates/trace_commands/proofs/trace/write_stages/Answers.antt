@@ -7,7 +7,7 @@ use Rattle.walk_rules.specs.Walk.{walk_of, choice_at}
 use Rattle.trace_replay.specs.declared.limits.TheConstants.{STAGES}
 use Rattle.trace_replay.specs.Laws.{walk_lines}
 use Rattle.command_output.specs.Answers.{ending_of_step}
-use Rattle.trace_commands.specs.Trace.{text_of}
+use Rattle.trace_replay.specs.Written.{fed}
 use Rattle.run_commands.proofs.PublicLaws.{walk_is_over}
 use Rattle.trace_commands.proofs.TraceSteps.{Written, written_stopped, written_wants, line_on, line_end, line_cut}
 use Rattle.trace_commands.proofs.trace.write_stages.Goals as goal
@@ -28,7 +28,7 @@ loop-used-preserved g c =
       written = subst (λ (n : ℕ). Written c.args.net.now (Some c.in-Some.next)
           (walk_of (STAGES - (c.loop-used.used + 1)) c.args.net.now (Some c.in-Some.next) c.staged.new.content
           (choice_at c.args.choices.now) (c.loop-used.taken + n))
-          (text_of (walk_lines c.args.net.now (Some c.args.start)
+          (fed (walk_lines c.args.net.now (Some c.args.start)
           (walk_of STAGES c.args.net.now (Some c.args.start) c.args.content (choice_at c.args.choices.now) 0)))
           (g.O.Sink.seen c.args.out.now) (g.O.Sink.seen c.write_event.new.out)) (sym c.decisions_of-taken.ensures.taken) on;
     }

@@ -1,0 +1,323 @@
+-- What `trace` writes is a trace of packets that entered, which is what `replay` finds.
+use Rattle.std.proofs.Common.{◌≡◌, ℕ, zero, suc, ◌+◌, ◌^◌, ◌<◌, ◌≤◌, Bool, true, false, List, [], ◌∷◌, All, length, drop, Option, Some, None, Result, Ok, Err, refl, sym, ap, ◌∙◌, arith, subst, append-nil}
+use Rattle.std.specs.Prelude.{◌↔◌, ◌/◌, ◌==◌, IsSomeAnd, bytes_eq, if◌then◌else◌, nat_le, nat_lt, slice_index}
+use Rattle.std.proofs.lemmas.Bool.{leb-true, leb-false}
+use Rattle.std.proofs.lemmas.List.Elements.{All-append, All-cons, All-drop, All-nil, All-take}
+use Rattle.std.proofs.lemmas.Option.{slice_get_within}
+use Rattle.pcap_io.specs.declared.fault.CaptureFault.{CaptureFault}
+use Rattle.pcap_io.specs.declared.frame.Body.{Body}
+use Rattle.pcap_io.specs.declared.frame.Body.TheVariants as bodies
+use Rattle.pcap_io.specs.declared.head.CaptureHead.{CaptureHead}
+use Rattle.pcap_io.specs.declared.head.LinkType.{LinkType}
+use Rattle.pcap_io.specs.declared.head.LinkType.TheVariants as links
+use Rattle.pcap_io.specs.declared.numbers.TheConstants.{HEAD_LEN, MAX_FRAMES}
+use Rattle.pcap_io.specs.Frames.{Reading, Spelled, behind, body_of, by_ethertype, first_frame, frame_len, frames_of, numbered, packet_in}
+use Rattle.pcap_io.specs.Head.{head_of}
+use Rattle.pcap_io.specs.Numbers.{number_of}
+use Rattle.pcap_io.proofs.PublicLaws.{frames_of-none, frames_of-whole, frames_of-zero}
+use Rattle.srv6_rules.specs.declared.sid.Family.{Family}
+use Rattle.srv6_rules.specs.declared.sid.Family.TheVariants as families
+use Rattle.srv6_rules.specs.Packet.{entered}
+use Rattle.net_model.specs.Keeps.{Keeps}
+use Rattle.net_model.specs.Named.{node_numbered}
+use Rattle.net_model.specs.Network.{Network}
+use Rattle.net_model.proofs.PublicLaws.{keeps_from_network, position_item}
+use Rattle.net_reader.specs.Reading.{net_in}
+use Rattle.net_reader.proofs.ReadLemmas.{exact-networks}
+use Rattle.trace_replay.specs.declared.verdict.Replayed.{Replayed}
+use Rattle.trace_replay.specs.Replays.{Wrong, counts_of}
+use Rattle.trace_replay.specs.Written.{IsTraced, Traced, counts_written, packets_lines, trace_lines, trace_text, unended_text}
+use Rattle.trace_replay.proofs.PublicLaws.{unended-bad, written-counts, written-good, written-lines, written-right}
+use Rattle.srx_edge.specs.Edge.{file_named}
+use Rattle.srx_edge.specs.Sinks.{sent}
+use Rattle.srx_edge.proofs.PublicLaws.{sent_both}
+use Rattle.command_inputs.specs.declared.limits.TheConstants.{FILE_LIMIT, INPUT_LIMIT}
+use Rattle.command_inputs.specs.declared.packets.Packets.{Packets}
+use Rattle.command_inputs.specs.declared.packets.Packets.TheVariants.{Bare, Capture}
+use Rattle.command_output.specs.declared.refusal.Refusal.{Refusal}
+use Rattle.command_output.specs.declared.refusal.Refusal.TheVariants as refusals
+use Rattle.command_output.specs.declared.status.Status.TheVariants as statuses
+use Rattle.trace_commands.specs.Replay.{NetworkWants, replay_output, replayed, replayed_by}
+use Rattle.trace_commands.specs.Trace.{text_by, text_of, trace_output, traced, traced_as, traced_by, traced_of, traced_of_frame}
+use Rattle.command_output.specs.Outputs.{after, ended_by, refused}
+use Rattle.command_inputs.specs.Judgements.{network_in, node_in, node_or, refused_as}
+use Rattle.command_inputs.specs.Packets.{capture_by, fault_of, is_bare, packets_in, reading_of}
+use Rattle.command_output.specs.Pieces.{ForErr, ForOut, Output, Piece, bytes_for_out, gone}
+use Rattle.trace_commands.specs.Replaying.{Judged, OutReceives, ReplaysTo, UnendedTracesAreRefused, WholeTracesAreRight, right_with, trace_for_out, traced_under}
+use Rattle.command_inputs.proofs.PublicLaws.{trace-small}
+
+-- ---- what `out` receives
+
+pub out_receives : OutReceives
+out_receives [] old = refl
+out_receives (ForOut bytes ∷ more) old =
+    sent_both bytes (bytes_for_out more) old.out (sent bytes old.out) (gone (ForOut bytes ∷ more) old).out refl
+    (out_receives more (record old { out = sent bytes old.out }))
+out_receives (ForErr bytes ∷ more) old = out_receives more (record old { err = sent bytes old.err })
+
+-- ---- the network and the node
+
+ok-as : {A F : Type 0} (refusal : F → Refusal) (read : Result A F) (a : A) → refused_as refusal read ≡ Ok a → read ≡ Ok a
+ok-as refusal (Ok b) a e = let same : b ≡ a = cc in ap Ok same
+ok-as refusal (Err fault) a e = absurd (let no : ⊥ = cc in no)
+
+ok-else : {A : Type 0} (too_big : Bool) (refusal : Refusal) (read : Result A Refusal) (a : A)
+    → (if too_big then Err refusal else read) ≡ Ok a → read ≡ Ok a
+ok-else true refusal read a e = absurd (let no : ⊥ = cc in no)
+ok-else false refusal read a e = e
+
+described-keeps : (text : List ℕ) (net : Network) → network_in text ≡ Ok net → Keeps net
+described-keeps text net e =
+    let read : net_in text ≡ Ok net = ok-as (λ fault. refusals.Net fault) (net_in text) net
+    (ok-else (nat_lt FILE_LIMIT (length text)) (refusals.TooBig FILE_LIMIT) (refused_as (λ fault. refusals.Net fault) (net_in text)) net e) in
+    let parts = (exact-networks text net).0 read in
+    keeps_from_network net parts.3
+
+named-some : (found : Option ℕ) (node : ℕ) → node_or found ≡ Ok node → found ≡ Some node
+named-some None node e = absurd (let no : ⊥ = cc in no)
+named-some (Some n) node e = let same : n ≡ node = cc in ap Some same
+
+named-within : (net : Network) (name : List ℕ) (node : ℕ) → node_in net name ≡ Ok node → node < length net.nodes
+named-within net name node e =
+    let item = position_item (λ n. bytes_eq n.name name) net.nodes node (named-some (node_numbered name net.nodes) node e) in
+    slice_get_within net.nodes node item.0 item.1
+
+-- ---- the bytes of a frame's packet are among those of the input
+
+abbrev AreBytes : List ℕ → Type 0
+AreBytes bytes = All (λ byte. byte < 2 ^ 8) bytes
+
+abbrev HoldsBytes : Body → Type 0
+HoldsBytes (bodies.V6 packet) = AreBytes packet
+HoldsBytes (bodies.V4 packet) = AreBytes packet
+HoldsBytes bodies.ShortFrame = Unit {0}
+HoldsBytes bodies.NotIp = Unit {0}
+
+version-by : (six four : Bool) (packet : List ℕ) → AreBytes packet
+    → HoldsBytes (if six then bodies.V6 packet else if four then bodies.V4 packet else bodies.NotIp)
+version-by true four packet h = h
+version-by false true packet h = h
+version-by false false packet h = tt
+
+ethertype-by : (short six four : Bool) (packet : List ℕ) → AreBytes packet
+    → HoldsBytes (if short then bodies.NotIp else if six then bodies.V6 packet else if four then bodies.V4 packet else bodies.NotIp)
+ethertype-by true six four packet h = tt
+ethertype-by false six four packet h = version-by six four packet h
+
+-- the two EtherTypes are those of IPv6 and of IPv4
+ethertype-bytes : (bytes : List ℕ) → AreBytes bytes → HoldsBytes (by_ethertype bytes)
+ethertype-bytes bytes h =
+    let kind = number_of false 2 (drop 12 bytes) in
+    ethertype-by (nat_lt (length bytes) 14) (kind == 34525) (kind == 2048) (drop 14 bytes) (All-drop (λ byte. byte < 2 ^ 8) 14 bytes h)
+
+packet-bytes : (link : LinkType) (bytes : List ℕ) → AreBytes bytes → HoldsBytes (packet_in link bytes)
+unfolding packet_in
+packet-bytes links.Ethernet bytes h = ethertype-bytes bytes h
+packet-bytes links.Raw bytes h = version-by (slice_index bytes 0 / 16 == 6) (slice_index bytes 0 / 16 == 4) bytes h
+packet-bytes links.Ipv6 bytes h = h
+
+body-bytes : (link : LinkType) (f : Spelled) → AreBytes f.captured → HoldsBytes (body_of link f)
+unfolding body_of
+body-bytes link f h = by-length (nat_lt (length f.captured) f.original)
+  where
+    by-length : (short : Bool) → HoldsBytes (if short then bodies.ShortFrame else packet_in link f.captured)
+    by-length true = tt
+    by-length false = packet-bytes link f.captured h
+
+captured-bytes : (little : Bool) (bytes : List ℕ) → AreBytes bytes → AreBytes (first_frame little bytes).captured
+unfolding first_frame
+captured-bytes little bytes h =
+    All-take (λ byte. byte < 2 ^ 8) _ (drop 16 bytes) (All-drop (λ byte. byte < 2 ^ 8) 16 bytes h)
+
+-- ---- so the packets of the frames are ones that entered
+
+module _ (net : Network) (node : ℕ) (choices : List ℕ) (there : node < length net.nodes) where
+  abbrev Entered : Traced → Type 0
+  Entered = IsTraced net
+
+  entered-as : (number : ℕ) (family : Family) (packet : List ℕ) → number < 2 ^ 32 → AreBytes packet
+      → IsTraced net (traced_as node choices number family (entered family packet))
+  entered-as number family packet small h = record {
+    number = small;
+    node = there;
+    bytes = packet;
+    each = h;
+    content = refl;
+  }
+
+  entered-one : (p : Traced) → IsTraced net p → All (IsTraced net) (p ∷ [])
+  entered-one p is = All-cons (IsTraced net) p [] is (All-nil (IsTraced net))
+
+  entered-by : (number : ℕ) (body : Body) → number < 2 ^ 32 → HoldsBytes body → All (IsTraced net) (traced_by node choices number body)
+  entered-by number (bodies.V6 packet) small h = entered-one _ (entered-as number families.V6 packet small h)
+  entered-by number (bodies.V4 packet) small h = entered-one _ (entered-as number families.V4 packet small h)
+  entered-by number bodies.ShortFrame small h = All-nil (IsTraced net)
+  entered-by number bodies.NotIp small h = All-nil (IsTraced net)
+
+  abbrev AllEntered : Reading → Type 0
+  AllEntered read = All (IsTraced net) (traced_of node choices read.frames)
+
+  -- where a whole frame stands at the front, and the frames behind it did
+  entered-first : (head : CaptureHead) (most n : ℕ) (bytes : List ℕ) → AreBytes bytes → n < 2 ^ 32
+      → AllEntered (frames_of head most (n + 1) (behind head.little bytes))
+      → (whole : Bool) → nat_le (frame_len head.little bytes) (length bytes) ≡ whole
+      → AllEntered (frames_of head (suc most) n bytes)
+  entered-first head most n bytes h small more true is = subst AllEntered
+      (sym (frames_of-whole head most n bytes (leb-true (frame_len head.little bytes) (length bytes) is)))
+      (All-append (IsTraced net) (traced_of_frame node choices (numbered head.link n (first_frame head.little bytes)))
+      (traced_of node choices (frames_of head most (n + 1) (behind head.little bytes)).frames)
+      (entered-by n (body_of head.link (first_frame head.little bytes)) small
+      (body-bytes head.link (first_frame head.little bytes) (captured-bytes head.little bytes h)))
+      more)
+  entered-first head most n bytes h small more false is = subst AllEntered
+      (sym (frames_of-none head (suc most) n bytes (leb-false (frame_len head.little bytes) (length bytes) is)))
+      (All-nil (IsTraced net))
+
+  entered-frames : (head : CaptureHead) (most n : ℕ) (bytes : List ℕ) → AreBytes bytes → n + most < 2 ^ 32
+      → AllEntered (frames_of head most n bytes)
+  entered-frames head zero n bytes h small = subst AllEntered (sym (frames_of-zero head n bytes)) (All-nil (IsTraced net))
+  entered-frames head (suc most) n bytes h small =
+      entered-first head most n bytes h (omega (arith, small))
+      (entered-frames head most (n + 1) (behind head.little bytes)
+      (All-drop (λ byte. byte < 2 ^ 8) (frame_len head.little bytes) bytes h) (omega (arith, small)))
+      (nat_le (frame_len head.little bytes) (length bytes)) refl
+
+  abbrev InBytes : Packets → Type 0
+  InBytes (Bare packet) = AreBytes packet
+  InBytes (Capture head bytes) = AreBytes bytes
+
+  entered-packets : (packets : Packets) → InBytes packets → AllEntered (reading_of packets)
+  entered-packets (Bare packet) h = entered-by 1 (bodies.V6 packet) (omega arith) h
+  entered-packets (Capture head bytes) h =
+      entered-frames head MAX_FRAMES 1 (drop HEAD_LEN bytes) (All-drop (λ byte. byte < 2 ^ 8) HEAD_LEN bytes h) (omega arith)
+
+  in-capture : (head : Result CaptureHead CaptureFault) (input : List ℕ) (packets : Packets) → AreBytes input
+      → capture_by head input ≡ Ok packets → InBytes packets
+  in-capture (Ok head) input packets h e = let same : Capture head input ≡ packets = cc in subst InBytes same h
+  in-capture (Err fault) input packets h e = absurd (let no : ⊥ = cc in no)
+
+  in-input-by : (bare : Bool) (input : List ℕ) (packets : Packets) → AreBytes input
+      → (if bare then Ok (Bare input) else capture_by (head_of input) input) ≡ Ok packets → InBytes packets
+  in-input-by true input packets h e = let same : Bare input ≡ packets = cc in subst InBytes same h
+  in-input-by false input packets h e = in-capture (head_of input) input packets h e
+
+  in-input : (input : List ℕ) (packets : Packets) → AreBytes input → packets_in input ≡ Ok packets → InBytes packets
+  in-input input packets h e = in-input-by (is_bare input) input packets h
+      (ok-else (nat_lt INPUT_LIMIT (length input)) (refusals.TooBig INPUT_LIMIT)
+      (if is_bare input then Ok (Bare input) else capture_by (head_of input) input) packets e)
+
+judged-entered : {text name input : List ℕ} (choices : List ℕ) (judged : Judged text name input) → AreBytes input
+    → All (IsTraced judged.net) (traced_under choices judged)
+judged-entered {text} {name} {input} choices judged h =
+    let there = named-within judged.net name judged.node judged.named in
+    entered-packets judged.net judged.node choices there judged.packets
+    (in-input judged.net judged.node choices there input judged.packets h judged.read)
+
+-- ---- what `trace` writes
+
+out-ended : (bytes : List ℕ) (fault : Option Refusal) → bytes_for_out (ended_by (ForOut bytes ∷ []) fault).pieces ≡ bytes
+out-ended bytes None = append-nil bytes
+out-ended bytes (Some refusal) = append-nil bytes
+
+output-judged : {text name input : List ℕ} (choices : List ℕ) (judged : Judged text name input)
+    → trace_output text name choices input ≡ traced judged.net judged.node choices judged.packets
+output-judged {text} {name} {input} choices judged =
+    ap (λ (r : Result Network Refusal). after r (λ net. after (node_in net name) (λ node. after (packets_in input)
+    (traced net node choices)))) judged.described
+    ∙ (ap (λ (r : Result ℕ Refusal). after r (λ node. after (packets_in input) (traced judged.net node choices))) judged.named
+    ∙ ap (λ (r : Result Packets Refusal). after r (traced judged.net judged.node choices)) judged.read)
+
+out-judged : {text name input : List ℕ} (choices : List ℕ) (judged : Judged text name input)
+    → trace_for_out text name choices input ≡ text_by judged.net (traced_under choices judged) (fault_of (reading_of judged.packets))
+out-judged choices judged =
+    ap (λ (output : Output). bytes_for_out output.pieces) (output-judged choices judged)
+    ∙ out-ended (text_of judged.net judged.node choices (reading_of judged.packets)) (fault_of (reading_of judged.packets))
+
+done-unrefused : (pieces : List Piece) (fault : Option Refusal) → (ended_by pieces fault).status ≡ statuses.Done → fault ≡ None
+done-unrefused pieces None e = refl
+done-unrefused pieces (Some refusal) e = absurd (let no : ⊥ = cc in no)
+
+refused-some : (pieces : List Piece) (fault : Option Refusal) → (ended_by pieces fault).status ≡ statuses.Refused
+    → (refusal : Refusal) × (fault ≡ Some refusal)
+refused-some pieces None e = absurd (let no : ⊥ = cc in no)
+refused-some pieces (Some refusal) e = (refusal, refl)
+
+-- where it is Done, all was judged well
+done-after : {A : Type 0} (read : Result A Refusal) (follow : A → Output) → (after read follow).status ≡ statuses.Done
+    → (a : A) × (read ≡ Ok a) × ((follow a).status ≡ statuses.Done)
+done-after (Ok a) follow e = (a, refl, e)
+done-after (Err refusal) follow e = absurd (let no : ⊥ = cc in no)
+
+done-judged : (text name choices input : List ℕ) → (trace_output text name choices input).status ≡ statuses.Done → Judged text name input
+done-judged text name choices input e =
+    let first = done-after (network_in text)
+    (λ net. after (node_in net name) (λ node. after (packets_in input) (traced net node choices))) e in
+    let second = done-after (node_in first.0 name) (λ node. after (packets_in input) (traced first.0 node choices)) first.2 in
+    let third = done-after (packets_in input) (traced first.0 second.0 choices) second.2 in
+    record {
+      net = first.0;
+      node = second.0;
+      packets = third.0;
+      described = first.1;
+      named = second.1;
+      read = third.1;
+    }
+
+-- ---- what `replay` says of it
+
+wanted-by : (file trace : Option (List ℕ)) (text bytes : List ℕ) (net : Network) (given : Output) → file ≡ Some text → trace ≡ Some bytes
+    → network_in text ≡ Ok net
+    → IsSomeAnd file (λ text. NetworkWants (network_in text) trace given) ↔ (given ≡ replay_output net bytes)
+wanted-by file trace text bytes net given first second is = rw (first, second, is) (λ h. h, λ h. h)
+
+replays : (text bytes : List ℕ) (net : Network) (output : Output) → network_in text ≡ Ok net → replay_output net bytes ≡ output
+    → ReplaysTo text bytes output
+replays text bytes net output is says = λ file name held input given first second.
+    let same = wanted-by (file_named held file) (file_named held name) text bytes net given first second is in
+    (λ h. same.0 h ∙ says, λ h. same.1 (h ∙ sym says))
+
+right-output : (net : Network) (packets : List Traced) → Keeps net → All (IsTraced net) packets
+    → length (trace_text net packets) ≤ FILE_LIMIT
+    → replay_output net (trace_text net packets) ≡ right_with (counts_written net packets)
+right-output net packets keeps each fits =
+    let read = trace-small net (trace_text net packets) None (Ok (trace_lines net packets)) fits (written-good net keeps packets each)
+    (ap Ok (written-lines net keeps packets each)) in
+    ap (λ (r : Result (List (List ℕ)) Refusal). after r (replayed net)) read
+    ∙ (ap (λ (wrong : Option Wrong). replayed_by (counts_of (trace_lines net packets)) wrong) (written-right net keeps packets each)
+    ∙ ap (λ (counts : Replayed). replayed_by counts None) (sym (written-counts net keeps packets each)))
+
+unended-output : (net : Network) (packets : List Traced) → Keeps net → All (IsTraced net) packets
+    → length (unended_text net packets) ≤ FILE_LIMIT
+    → replay_output net (unended_text net packets) ≡ refused (refusals.BadTrace (length (packets_lines net packets) + 2))
+unended-output net packets keeps each fits =
+    let bad = length (packets_lines net packets) + 2 in
+    let read = trace-small net (unended_text net packets) (Some bad) (Err (refusals.BadTrace bad)) fits
+    (unended-bad net keeps packets each) refl in
+    ap (λ (r : Result (List (List ℕ)) Refusal). after r (replayed net)) read
+
+pub whole_right : WholeTracesAreRight
+whole_right text name choices input h done fits =
+    let judged = done-judged text name choices input done in
+    let packets = traced_under choices judged in
+    let fault = done-unrefused (ForOut (text_of judged.net judged.node choices (reading_of judged.packets)) ∷ [])
+    (fault_of (reading_of judged.packets)) (ap (λ (o : Output). o.status) (sym (output-judged choices judged)) ∙ done) in
+    let out : trace_for_out text name choices input ≡ trace_text judged.net packets =
+    out-judged choices judged ∙ ap (text_by judged.net packets) fault in (
+      judged,
+      replays text (trace_for_out text name choices input) judged.net _ judged.described
+          (ap (replay_output judged.net) out
+          ∙ right-output judged.net packets (described-keeps text judged.net judged.described) (judged-entered choices judged h)
+          (subst (λ (bytes : List ℕ). length bytes ≤ FILE_LIMIT) out fits)),
+    )
+
+pub unended_refused : UnendedTracesAreRefused
+unended_refused text name choices input h judged ends fits =
+    let packets = traced_under choices judged in
+    let fault = refused-some (ForOut (text_of judged.net judged.node choices (reading_of judged.packets)) ∷ [])
+    (fault_of (reading_of judged.packets)) (ap (λ (o : Output). o.status) (sym (output-judged choices judged)) ∙ ends) in
+    let out : trace_for_out text name choices input ≡ unended_text judged.net packets =
+    out-judged choices judged ∙ ap (text_by judged.net packets) fault.1 in
+    replays text (trace_for_out text name choices input) judged.net _ judged.described
+    (ap (replay_output judged.net) out
+    ∙ unended-output judged.net packets (described-keeps text judged.net judged.described) (judged-entered choices judged h)
+    (subst (λ (bytes : List ℕ). length bytes ≤ FILE_LIMIT) out fits))
