@@ -7,6 +7,7 @@ pub mod Lines
 pub mod Capture
 pub mod Sent
 pub mod Packets
+pub mod Scheduled
 pub mod Judgements
 pub mod Command
 pub mod Serves

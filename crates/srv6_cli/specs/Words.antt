@@ -5,10 +5,10 @@ use Rattle.srv6_cli.specs.declared.commands.gen_.Made.{Made}
 
 -- what the words ask for; words outside the grammar ask for nothing that there is
 pub data Command : Type 0 where
-  Run : List ℕ → List ℕ → List ℕ → Command
+  Run : List ℕ → List ℕ → List ℕ → List ℕ → Command
   Compile : List ℕ → List ℕ → Command
   Check : List ℕ → List ℕ → List ℕ → Command
-  Walk : List ℕ → List ℕ → List ℕ → Command
+  Walk : List ℕ → List ℕ → List ℕ → List ℕ → Command
   Trace : List ℕ → List ℕ → List ℕ → Command
   Replay : List ℕ → List ℕ → Command
   Show : Command

@@ -17,6 +17,7 @@ mod lines;
 mod node_name;
 mod packets;
 mod refusal;
+mod scheduled;
 mod status;
 mod summed;
 mod summing;

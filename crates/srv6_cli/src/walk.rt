@@ -52,7 +52,7 @@ impl Buffers {
 
 /// Writes the frame of a packet: its number as seconds, and microseconds.
 #[tactic(auto, using(crate::proofs::Writing::writing))]
-fn write_frame<O: Sink>(
+pub fn write_frame<O: Sink>(
     number: u32,
     micros: u32,
     packet: &[u8],

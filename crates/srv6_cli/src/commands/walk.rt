@@ -1,7 +1,7 @@
 //! The command `walk`: the inner packets of the input, encapsulated at the headend of the intent of
 //! a file with the list that the intent is compiled to, in the network that another describes.
 
-ghost use Rattle.std.specs.Prelude.{◌≡◌, ◌<◌, ◌^◌, true, IfOk, Ok, length, map, string_bytes};
+ghost use Rattle.std.specs.Prelude.{◌≡◌, ◌<◌, ◌^◌, ℕ, true, IfOk, List, Ok, length, map, string_bytes};
 ghost use Rattle.std.specs.List.{flat_map};
 ghost use Rattle.pcap_io.specs.Frames.{frames_of as frames_in};
 ghost use Rattle.srx_edge.specs.Steps.{Wrote};
@@ -13,13 +13,15 @@ ghost use Rattle.srv6_cli.specs.Answers.{Commands, ending_of_step};
 ghost use Rattle.srv6_cli.specs.Words.{Walk};
 ghost use Rattle.srv6_cli.specs.Command.Compile.{HasValues};
 ghost use Rattle.srv6_cli.specs.Command.Run.{packet_pieces};
-ghost use Rattle.srv6_cli.specs.Command.Walk.{StartsAs, at_headend, ended_line, ended_of_frame, of_content, of_encapsulating, pieces_behind_head, policy_of, walk_at_headend, walk_pieces, walked_by, walked_of_frame};
+ghost use Rattle.srv6_cli.specs.Command.Walk.{StartsAs, at_headend, comings_at_headend, ended_line, ended_of_frame, of_content, of_encapsulating, pieces_behind_head, policy_of, walk_at_headend, walk_pieces, walked_by, walked_of_frame};
 ghost use Rattle.srv6_cli.specs.Outside.{outside};
 ghost use Rattle.srv6_cli.specs.Packets.{HasHead, fault_of, reading_of};
 ghost use Rattle.srv6_cli.specs.Pieces.{WroteAll, sinks_of};
+ghost use Rattle.srv6_cli.specs.Scheduled.{scheduled_pieces};
 
 use super::compile::{line_of_hop_limit, line_of_none, line_of_too_long};
 use super::run::write_head;
+use super::walk_scheduled::walk_in_turns;
 use crate::halt::{Failure, Halt};
 use crate::judge::{intent_of_file, network_of_file};
 use crate::lines::{line_of_packet, line_of_unread};
@@ -393,7 +395,39 @@ fn walk_frames<O: Sink, E: Sink>(
     }
 }
 
-/// The line, or the walk, of a bare packet, which is packet 1.
+/// The same in the order of a schedule. Without one no packet is kept in memory behind its end.
+fn walk_scheduled<O: Sink, E: Sink>(
+    alloc: Global,
+    net: &Net,
+    intent: &Intent,
+    policy: &Policy,
+    choices: &[u32],
+    schedule: &[u32],
+    head: CaptureHead,
+    behind: &[u8],
+    out: &mut O,
+    err: &mut E,
+) -> Result<Option<Refusal>, Failure>
+    requires headend { intent.now.headend < length net.now.nodes }
+    requires policy { IsPolicy policy.now }
+    requires choices { 0 < length choices.now }
+    ensures fault { IfOk result (λ fault.
+        fault ≡ fault_of (frames_in head MAX_FRAMES 1 behind.now)) }
+    ensures wrote { WroteAll (ending_of_step result)
+        (scheduled_pieces net.now schedule.now
+        (comings_at_headend net.now intent.now policy.now choices.now
+        (frames_in head MAX_FRAMES 1 behind.now).frames))
+        (sinks_of (O.seen out.old) (E.seen err.old)) (sinks_of (O.seen out.new) (E.seen err.new)) }
+{
+    if schedule.is_empty() {
+        return walk_frames(alloc, net, intent, policy, choices, head, behind, out, err);
+    }
+    walk_in_turns(
+        alloc, net, intent, policy, choices, schedule, head, behind, out, err,
+    )
+}
+
+/// The line, or the walk, of a bare packet, which is packet 1, and in its turn whatever the schedule.
 fn walk_bare<O: Sink, E: Sink>(
     alloc: Global,
     net: &Net,
@@ -407,8 +441,8 @@ fn walk_bare<O: Sink, E: Sink>(
     requires headend { intent.now.headend < length net.now.nodes }
     requires policy { IsPolicy policy.now }
     requires choices { 0 < length choices.now }
-    ensures { WroteAll (ending_of_step result)
-        (pieces_behind_head net.now intent.now policy.now choices.now
+    ensures { (schedule : List ℕ) → WroteAll (ending_of_step result)
+        (pieces_behind_head net.now intent.now policy.now choices.now schedule
         (reading_of (Packets.Bare packet)).frames)
         (sinks_of (O.seen out.old) (E.seen err.old)) (sinks_of (O.seen out.new) (E.seen err.new)) }
 {
@@ -435,6 +469,7 @@ fn walk_packets<O: Sink, E: Sink>(
     intent: &Intent,
     policy: &Policy,
     choices: &[u32],
+    schedule: &[u32],
     packets: Packets,
     out: &mut O,
     err: &mut E,
@@ -445,7 +480,8 @@ fn walk_packets<O: Sink, E: Sink>(
     requires head { HasHead packets }
     ensures fault { IfOk result (λ fault. fault ≡ fault_of (reading_of packets)) }
     ensures wrote { WroteAll (ending_of_step result)
-        (walk_pieces net.now intent.now policy.now choices.now (reading_of packets).frames)
+        (walk_pieces net.now intent.now policy.now choices.now schedule.now
+        (reading_of packets).frames)
         (sinks_of (O.seen out.old) (E.seen err.old)) (sinks_of (O.seen out.new) (E.seen err.new)) }
 {
     write_head(alloc, out)?;
@@ -457,7 +493,9 @@ fn walk_packets<O: Sink, E: Sink>(
         Packets::Capture(head, bytes) => {
             let behind = bytes.as_slice().split_at(HEAD_LEN).1;
             tell_frames(alloc, net, intent, policy, head, behind, err)?;
-            walk_frames(alloc, net, intent, policy, choices, head, behind, out, err)
+            walk_scheduled(
+                alloc, net, intent, policy, choices, schedule, head, behind, out, err,
+            )
         }
     }
 }
@@ -481,8 +519,8 @@ fn headend_fits(net: &Net, intent: &Intent, policy: &Policy)
     let _ = policy;
 }
 
-/// Walks the inner packets of the input, one after the other, from the headend of the intent of a
-/// file, encapsulated with the list that the intent is compiled to in the network that another file
+/// Walks the inner packets of the input, in the order of a schedule as `run` does, from the headend of
+/// the intent of a file, encapsulated with the list that the intent is compiled to in the network that another file
 /// describes. Decision d of each packet, counted in its sends from 0, takes the choice at d modulo
 /// the number of choices. The description is judged, then the intent, each before the next is read;
 /// where there is no list nothing is written but a line, and the input is not read. Packets that
@@ -494,13 +532,14 @@ pub fn walk<F: Files, S: Source, O: Sink, E: Sink>(
     file: &str,
     intent: &str,
     choices: &[u32],
+    schedule: &[u32],
     files: &mut F,
     input: &mut S,
     out: &mut O,
     err: &mut E,
 ) -> Result<Told, Halt>
     requires { 0 < length choices.now }
-    ensures { Commands (Walk file.now intent.now choices.now) result
+    ensures { Commands (Walk file.now intent.now choices.now schedule.now) result
         (outside (F.seen files.old) (S.seen input.old) (O.seen out.old) (E.seen err.old))
         (outside (F.seen files.new) (S.seen input.new) (O.seen out.new) (E.seen err.new)) }
 {
@@ -520,7 +559,9 @@ pub fn walk<F: Files, S: Source, O: Sink, E: Sink>(
     hop_limit_fits(intent.hop_limit);
     headend_fits(&net, &intent, &policy);
     let packets = packets_of_input(alloc, input)?;
-    match walk_packets(alloc, &net, &intent, &policy, choices, packets, out, err)? {
+    match walk_packets(
+        alloc, &net, &intent, &policy, choices, schedule, packets, out, err,
+    )? {
         Some(refusal) => Err(Halt::Refused(refusal)),
         None => Ok(Told {
             line: Text::Fixed(b""),
