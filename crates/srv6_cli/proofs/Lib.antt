@@ -8,6 +8,11 @@ pub mod Writing
 pub mod PieceSteps
 pub mod FrameSteps
 pub mod Walking
+pub mod PieceBytes
+pub mod Scheduling
+pub mod Turning
+pub mod Entering
+pub mod Mixing
 pub mod TraceSteps
 pub mod Counting
 pub mod Writable

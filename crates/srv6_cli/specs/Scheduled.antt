@@ -49,7 +49,7 @@ line_by net number (Some end) = packet_line net number end
 
 -- each packet of a flight in the network has a frame's number, in which they rise
 pub record IsInStep (net : Network) (numbers : List ℕ) (f : Flight) : Type 0 where
-  pub net : f.net ≡ net
+  pub same_net : f.net ≡ net
   pub each : length numbers ≡ length f.packets
   pub rising : IsStrictlyIncreasing numbers
 
@@ -58,7 +58,7 @@ pub record HasEntered (net : Network) (last : ℕ) (packets : List Coming) (numb
   pub in_step : IsInStep net numbers f
   pub few : length f.packets ≤ last
   pub below : All (λ number. number ≤ last) numbers
-  pub packets : comings_of numbers f ≡ packets
+  pub those : comings_of numbers f ≡ packets
 
 -- these packets enter behind all that did, whose frames' numbers are lower
 abbrev pub EntersBehind : List Coming → ℕ → List ℕ → Flight → List ℕ → Flight → Type 0

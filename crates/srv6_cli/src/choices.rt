@@ -83,8 +83,11 @@ fn are_entries(numbers: &[u32]) -> bool
 pub fn schedule_of(alloc: Global, text: &str) -> Result<Option<Vec<u32>>, AllocError>
     ensures { IfOk result (λ schedule. items_of schedule ≡ schedule_in text.now) }
 {
-    match numbers_of(alloc, text, MAX_SCHEDULE)? {
-        Some(numbers) if are_entries(numbers.as_slice()) => Ok(Some(numbers)),
-        Some(_) | None => Ok(None),
+    let Some(numbers) = numbers_of(alloc, text, MAX_SCHEDULE)? else {
+        return Ok(None);
+    };
+    if !are_entries(numbers.as_slice()) {
+        return Ok(None);
     }
+    Ok(Some(numbers))
 }

@@ -1,8 +1,17 @@
 //! What the contract of `serve` says of each fault and of each want of memory in a sink by itself.
 //! Each law is of every call, also over files, an input and sinks that tell nothing.
 
-ghost use Rattle.std.specs.Prelude.{◌≡◌, ◌≢◌};
-ghost use Rattle.srv6_cli.specs.Command.Walk.{WalksKeepTo};
+ghost use Rattle.std.specs.Prelude.{◌≡◌, ◌≢◌, ℕ, List};
+ghost use Rattle.net_model.specs.Network.{Network};
+ghost use Rattle.srv6_rules.specs.declared.policy.Policy.{Policy};
+ghost use Rattle.intent_reader.specs.declared.intent.Intent.{Intent};
+ghost use Rattle.packet_walk.specs.Schedule.{scheduled, steps_of};
+ghost use Rattle.srv6_cli.specs.declared.packets.Packets.{Packets};
+ghost use Rattle.srv6_cli.specs.Capture.{frames_of};
+ghost use Rattle.srv6_cli.specs.Command.Run.{comings_from};
+ghost use Rattle.srv6_cli.specs.Command.Walk.{WalksKeepTo, comings_at_headend};
+ghost use Rattle.srv6_cli.specs.Packets.{reading_of};
+ghost use Rattle.srv6_cli.specs.Scheduled.{frames_sent};
 ghost use Rattle.srv6_cli.specs.Laws.{OfServe, HadFault, HadWant, AfterFilesFault, AfterInputFault, AfterOutFault, AfterOutWant, NoFault, NoWant, OneFault};
 
 use crate::status::Status;
@@ -46,4 +55,17 @@ pub fn counts_go_with_their_status()
 /// with its hop limit lowered by one, and nothing else changed. (RFC 8986 sections 5.1 and 5.2)
 pub fn a_walk_keeps_to_the_intent()
     ensures { WalksKeepTo }
+{}
+
+/// Whatever the schedule, the frames of a packet are those of its own walk, in their order; so two
+/// schedules give each packet the same frames in the same order, and only their mixing differs. The
+/// packets are those of a capture, or the bare one. (own rule)
+pub fn a_schedule_mixes_walks()
+    ensures run { (net : Network) (node number : ℕ) (choices schedule : List ℕ) (packets : Packets) →
+        let comings = comings_from net node choices (reading_of packets).frames in
+        frames_sent number (scheduled schedule comings) ≡ frames_of number (steps_of number comings) }
+    ensures walk { (net : Network) (intent : Intent) (policy : Policy) (number : ℕ) (choices : List ℕ)
+        (schedule : List ℕ) (packets : Packets) →
+        let comings = comings_at_headend net intent policy choices (reading_of packets).frames in
+        frames_sent number (scheduled schedule comings) ≡ frames_of number (steps_of number comings) }
 {}

@@ -162,7 +162,8 @@ pub fn write_turns<O: Sink, E: Sink>(
 ) -> Result<(), Failure>
     requires { IsInStep net.now entered.numbers.items entered.flight }
     ensures { WroteAll (ending_of_step result)
-        (scheduled_pieces net.now schedule.now (comings_of entered.numbers.items entered.flight))
+        (scheduled_pieces net.now schedule.now
+        (comings_of entered.entry.numbers.items entered.entry.flight))
         (sinks_of (O.seen out.old) (E.seen err.old)) (sinks_of (O.seen out.new) (E.seen err.new)) }
 {
     let Entered {

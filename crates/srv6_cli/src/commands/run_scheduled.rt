@@ -2,11 +2,12 @@
 
 ghost use Rattle.std.specs.Prelude.{◌≡◌, ◌<◌, ◌+◌, ◌^◌, IfOk, OnOk, length};
 ghost use Rattle.pcap_io.specs.Frames.{frames_of as frames_in};
+ghost use Rattle.packet_walk.specs.Schedule.{comings_of};
 ghost use Rattle.srv6_cli.specs.Answers.{ending_of_step};
 ghost use Rattle.srv6_cli.specs.Command.Run.{coming_of_frame, comings_from};
 ghost use Rattle.srv6_cli.specs.Packets.{fault_of};
 ghost use Rattle.srv6_cli.specs.Pieces.{WroteAll, sinks_of};
-ghost use Rattle.srv6_cli.specs.Scheduled.{EntersBehind, HasEntered, scheduled_pieces};
+ghost use Rattle.srv6_cli.specs.Scheduled.{EntersBehind, IsInStep, scheduled_pieces};
 
 use crate::halt::Failure;
 use crate::packets::{Next, next_of};
@@ -65,9 +66,11 @@ fn enter_frames<'a>(
     requires choices { 0 < length choices.now }
     ensures fault { IfOk result (λ read.
         read.1 ≡ fault_of (frames_in head MAX_FRAMES 1 behind.now)) }
-    ensures entered { IfOk result (λ read. HasEntered net.now MAX_FRAMES
-        (comings_from net.now node choices.now (frames_in head MAX_FRAMES 1 behind.now).frames)
-        read.0.numbers.items read.0.flight) }
+    ensures in_step { IfOk result (λ read.
+        IsInStep net.now read.0.numbers.items read.0.flight) }
+    ensures packets { IfOk result (λ read. comings_of read.0.numbers.items read.0.flight
+        ≡ comings_from net.now node choices.now
+        (frames_in head MAX_FRAMES 1 behind.now).frames) }
 {
     let mut entered = Entered::new(alloc, net);
     let mut reader = FrameReader::new(alloc, head, behind)?;
