@@ -60,7 +60,7 @@ module _ (f : Flight) (numbers : List ℕ) (number : ℕ) where
         let each : length numbers ≡ length f.packets = h.in_step.each in
         record {
           in_step = record {
-            net = h.in_step.same_net;
+            same_net = h.in_step.same_net;
             each = omega (arith, n, m, each);
             rising = rising-push numbers number h.in_step.rising
                 (λ k within. let l : get_or numbers k 0 ≤ last = All-get_or (λ x. x ≤ last) numbers k 0 within h.below in
@@ -80,6 +80,9 @@ module _ (f : Flight) (numbers : List ℕ) (number : ℕ) where
 
 -- frames are numbered from 1, and there are no more than there may be
 
+first-same : (f g : Frame) (fs gs : List Frame) → f ∷ fs ≡ g ∷ gs → f.number ≡ g.number
+first-same f g fs gs is = let same : f ≡ g = cc in ap (λ (x : Frame). x.number) same
+
 first-number : (head : CaptureHead) (most n : ℕ) (bytes : List ℕ) (frame : Frame) (more : Reading)
     → frames_of head most n bytes ≡ with_front (frame ∷ []) more → (frame.number ≡ n) × (0 < most)
 first-number head zero n bytes frame more is =
@@ -89,8 +92,7 @@ first-number head (suc most) n bytes frame more is =
       | inl less ↦ absurd (let none : [] ≡ frame ∷ more.frames =
           ap (λ (r : Reading). r.frames) (sym (frames_of-none head (suc most) n bytes less) ∙ is) in cc)
       | inr whole ↦ (
-        (let same = ap (λ (r : Reading). r.frames) (sym (frames_of-whole head most n bytes whole) ∙ is) in
-            let one : frame ≡ _ = cc in ap (λ (x : Frame). x.number) one),
+        sym (first-same _ frame _ more.frames (ap (λ (r : Reading). r.frames) (sym (frames_of-whole head most n bytes whole) ∙ is))),
         omega arith,
       )
     ]
