@@ -1,10 +1,10 @@
--- The choices that the words give (own rules).
+-- The choices and the schedule that the words give (own rules).
 use Rattle.std.specs.Prelude.{ℕ, ◌^◌, Bool, ◌&&◌, ◌||◌, ◌==◌, not, nat_lt, if◌then◌else◌, List, [], ◌∷◌, length, slice_index, Option, Some, None}
 use Rattle.std.specs.Global.{Vec}
 use Rattle.std.specs.Char.{is_ascii_digit}
 use Rattle.std.specs.List.{list_all, slice_split}
 use Rattle.std.specs.Str.Parse.{digits_value}
-use Rattle.command_inputs.specs.declared.limits.TheConstants.{MAX_CHOICES}
+use Rattle.command_inputs.specs.declared.limits.TheConstants.{MAX_CHOICES, MAX_SCHEDULE}
 
 -- decimal digits, of which the first is 0 only where it is the only one
 abbrev pub is_numeral : List ℕ → Bool
@@ -29,10 +29,26 @@ numbers_in (part ∷ parts) = number_before (number_in part) (numbers_in parts)
 abbrev pub parts_at_commas : List ℕ → List (List ℕ)
 parts_at_commas text = slice_split (λ byte. byte == 44) text
 
+-- so many numbers at most, joined by commas, and at least one
+abbrev pub numbers_up_to : ℕ → List ℕ → Option (List ℕ)
+numbers_up_to most text = if nat_lt most (length (parts_at_commas text)) then None else numbers_in (parts_at_commas text)
+
 -- 1 to 4,096 numbers joined by commas
 abbrev pub choices_in : List ℕ → Option (List ℕ)
-choices_in text = if nat_lt MAX_CHOICES (length (parts_at_commas text)) then None else numbers_in (parts_at_commas text)
+choices_in text = numbers_up_to MAX_CHOICES text
+
+-- 1 to 65,536 numbers from 1 on, joined by commas
+
+abbrev pub is_entry : ℕ → Bool
+is_entry number = not (number == 0)
+
+abbrev pub entries_of : Option (List ℕ) → Option (List ℕ)
+entries_of None = None
+entries_of (Some numbers) = if list_all is_entry numbers then Some numbers else None
+
+abbrev pub schedule_in : List ℕ → Option (List ℕ)
+schedule_in text = entries_of (numbers_up_to MAX_SCHEDULE text)
 
 abbrev pub items_of : Option (Vec ℕ) → Option (List ℕ)
 items_of None = None
-items_of (Some choices) = Some choices.items
+items_of (Some numbers) = Some numbers.items

@@ -9,10 +9,10 @@ mod judge;
 mod limits;
 mod packets;
 
-pub use choices::{choices_of, number_of};
+pub use choices::{choices_of, number_of, schedule_of};
 pub use judge::{
     cert_of_file, intent_of_file, intent_of_text, network_of_file, network_of_text, node_of_name,
     trace_of_file,
 };
-pub use limits::{FILE_LIMIT, INPUT_LIMIT, MAX_CHOICES};
+pub use limits::{FILE_LIMIT, INPUT_LIMIT, MAX_CHOICES, MAX_SCHEDULE};
 pub use packets::{Next, Packets, next_of, packets_of_input, unread_of};

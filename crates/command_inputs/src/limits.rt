@@ -8,3 +8,6 @@ pub const INPUT_LIMIT: usize = 67_108_864;
 
 /// The most choices that the words give. (own rule)
 pub const MAX_CHOICES: usize = 4_096;
+
+/// The most entries of a schedule that the words give. (own rule)
+pub const MAX_SCHEDULE: usize = 65_536;

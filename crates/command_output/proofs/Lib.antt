@@ -6,3 +6,4 @@ pub mod PieceLemmas
 pub mod PieceSteps
 pub mod PublicLaws
 pub mod Writing
+pub mod PieceBytes

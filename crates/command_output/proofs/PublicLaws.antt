@@ -2,6 +2,7 @@
 pub use Rattle.command_output.proofs.Asking.{asks_all, asks_fault, asks_front, each, each-map, front_after, front_longer, front_whole, some-map}
 pub use Rattle.command_output.proofs.Commanding.{files_fault, input_fault, memory_first, memory_wants, pieces_cut, pieces_refused, pieces_whole, refused_commands, written_cut, written_whole}
 pub use Rattle.command_output.proofs.Endings.{judgement-status}
-pub use Rattle.command_output.proofs.PieceLemmas.{ending_by-stop_at, gone-append, seen_of, went_cut}
+pub use Rattle.command_output.proofs.PieceLemmas.{bytes_in_order-append, ending_by-stop_at, gone-append, marked, seen_of, went_cut}
 pub use Rattle.command_output.proofs.PieceSteps.{all_behind, all_both, all_longer, all_on_err, all_then, all_wanting, behind_line, cut_at_line, cut_at_out, line_behind_out, wanting_behind_out}
 pub use Rattle.command_output.proofs.Writing.{poured_cut, wanted_after, writing, wrote_after, wrote_longer}
+pub use Rattle.command_output.proofs.PieceBytes.{all_same}

@@ -1,3 +1,4 @@
 pub mod Capture
 pub mod Run
 pub mod Show
+pub mod Scheduled

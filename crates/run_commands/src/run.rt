@@ -1,18 +1,21 @@
-//! The command `run`: the packets of the input, one after the other, from a node of the network
-//! that a file describes.
+//! The command `run`: the packets of the input, from a node of the network that a file describes, in
+//! the order of a schedule, or one after the other.
 
-ghost use Rattle.std.specs.Prelude.{◌≡◌, ◌<◌, ◌≤◌, ◌∷◌, [], IfOk, length, drop};
+ghost use Rattle.std.specs.Prelude.{◌≡◌, ◌<◌, ◌≤◌, ◌∷◌, [], ℕ, IfOk, List, length, drop};
 ghost use Rattle.std.specs.List.{flat_map};
 ghost use Rattle.pcap_io.specs.Capture.{written_head_bytes};
 ghost use Rattle.pcap_io.specs.Frames.{frames_of as frames_in};
 ghost use Rattle.srx_edge.specs.Steps.{Wrote};
 ghost use Rattle.command_output.specs.Answers.{Commands, ending_of_step};
-ghost use Rattle.run_commands.specs.Run.{packet_pieces, packets_pieces, run_shape, unread_lines, unread_of_frame, walk_from, walked_of_frame};
+ghost use Rattle.run_commands.specs.Run.{comings_from, packet_pieces, packets_pieces, run_shape, unread_lines, unread_of_frame, walk_from, walked_of_frame};
 ghost use Rattle.command_output.specs.Outside.{outside};
 ghost use Rattle.command_inputs.specs.Packets.{HasHead, fault_of, reading_of};
 ghost use Rattle.command_output.specs.Pieces.{WroteAll, sinks_of};
+ghost use Rattle.run_commands.specs.Scheduled.{scheduled_pieces};
 
+use crate::run_scheduled::walk_in_turns;
 use crate::walk::{Buffers, write_walk};
+use base::Seq;
 use command_inputs::{
     Next, Packets, network_of_file, next_of, node_of_name, packets_of_input, unread_of,
 };
@@ -164,6 +167,66 @@ fn walk_frames<O: Sink, E: Sink>(
     }
 }
 
+/// The same in the order of a schedule. Without one no packet is kept in memory behind its end.
+fn walk_scheduled<O: Sink, E: Sink>(
+    alloc: Global,
+    net: &Net,
+    node: u32,
+    choices: &[u32],
+    schedule: &[u32],
+    head: CaptureHead,
+    behind: &[u8],
+    out: &mut O,
+    err: &mut E,
+) -> Result<Option<Refusal>, Failure>
+    requires node { node < length net.now.nodes }
+    requires choices { 0 < length choices.now }
+    ensures fault { IfOk result (λ fault.
+        fault ≡ fault_of (frames_in head MAX_FRAMES 1 behind.now)) }
+    ensures wrote { WroteAll (ending_of_step result)
+        (scheduled_pieces net.now schedule.now
+        (comings_from net.now node choices.now (frames_in head MAX_FRAMES 1 behind.now).frames))
+        (sinks_of (O.seen out.old) (E.seen err.old)) (sinks_of (O.seen out.new) (E.seen err.new)) }
+{
+    if schedule.is_empty() {
+        return walk_frames(alloc, net, node, choices, head, behind, out, err);
+    }
+    walk_in_turns(alloc, net, node, choices, schedule, head, behind, out, err)
+}
+
+/// Walks the only packet, which is in its turn whatever the schedule.
+fn walk_alone<O: Sink, E: Sink>(
+    alloc: Global,
+    net: &Net,
+    node: u32,
+    choices: &[u32],
+    packet: Seq<u8>,
+    out: &mut O,
+    err: &mut E,
+) -> Result<(), Failure>
+    requires node { node < length net.now.nodes }
+    requires choices { 0 < length choices.now }
+    ensures { (schedule : List ℕ) → WroteAll (ending_of_step result)
+        (scheduled_pieces net.now schedule
+        (comings_from net.now node choices.now (reading_of (Packets.Bare packet)).frames))
+        (sinks_of (O.seen out.old) (E.seen err.old)) (sinks_of (O.seen out.new) (E.seen err.new)) }
+{
+    let frame = Frame {
+        number: 1,
+        body: Body::V6(packet),
+    };
+    walk_frame(
+        alloc,
+        net,
+        node,
+        choices,
+        frame,
+        &mut Buffers::new(alloc),
+        out,
+        err,
+    )
+}
+
 /// Writes the capture's head, the lines of the packets that are not read, and walks the others;
 /// gives the refusal of what is behind the frames, if anything is.
 fn run_packets<O: Sink, E: Sink>(
@@ -171,6 +234,7 @@ fn run_packets<O: Sink, E: Sink>(
     net: &Net,
     node: u32,
     choices: &[u32],
+    schedule: &[u32],
     packets: Packets,
     out: &mut O,
     err: &mut E,
@@ -180,39 +244,28 @@ fn run_packets<O: Sink, E: Sink>(
     requires head { HasHead packets }
     ensures fault { IfOk result (λ fault. fault ≡ fault_of (reading_of packets)) }
     ensures wrote { WroteAll (ending_of_step result)
-        (packets_pieces net.now node choices.now (reading_of packets).frames)
+        (packets_pieces net.now node choices.now schedule.now (reading_of packets).frames)
         (sinks_of (O.seen out.old) (E.seen err.old)) (sinks_of (O.seen out.new) (E.seen err.new)) }
 {
     write_head(alloc, out)?;
     match packets {
         Packets::Bare(packet) => {
-            let frame = Frame {
-                number: 1,
-                body: Body::V6(packet),
-            };
-            walk_frame(
-                alloc,
-                net,
-                node,
-                choices,
-                frame,
-                &mut Buffers::new(alloc),
-                out,
-                err,
-            )?;
+            walk_alone(alloc, net, node, choices, packet, out, err)?;
             Ok(None)
         }
         Packets::Capture(head, bytes) => {
             let behind = bytes.as_slice().split_at(HEAD_LEN).1;
             tell_unread_frames(alloc, head, behind, err)?;
-            walk_frames(alloc, net, node, choices, head, behind, out, err)
+            walk_scheduled(alloc, net, node, choices, schedule, head, behind, out, err)
         }
     }
 }
 
-/// Runs the packets of the input, one after the other, from a node of the network that a file
-/// describes. Decision d of each packet, counted in its sends from 0, takes the choice at d modulo
-/// the number of choices. The file is judged, then the node's name, then the input, each before the
+/// Runs the packets of the input from a node of the network that a file describes. A schedule's entry
+/// gives the packet of that number one stage; one that names no packet in flight gives none; behind
+/// the last entry the packets still in flight are run to their ends in the order of their numbers.
+/// Decision d of each packet, counted in its sends from 0, takes the choice at d modulo the number of
+/// choices. The file is judged, then the node's name, then the input, each before the
 /// next is read. What is behind the last frame of a capture is refused once all packets were
 /// walked.
 pub fn run<F: Files, S: Source, O: Sink, E: Sink>(
@@ -220,20 +273,21 @@ pub fn run<F: Files, S: Source, O: Sink, E: Sink>(
     file: &str,
     node: &str,
     choices: &[u32],
+    schedule: &[u32],
     files: &mut F,
     input: &mut S,
     out: &mut O,
     err: &mut E,
 ) -> Result<Told, Halt>
     requires { 0 < length choices.now }
-    ensures { Commands (run_shape file.now node.now choices.now) result
+    ensures { Commands (run_shape file.now node.now choices.now schedule.now) result
         (outside (F.seen files.old) (S.seen input.old) (O.seen out.old) (E.seen err.old))
         (outside (F.seen files.new) (S.seen input.new) (O.seen out.new) (E.seen err.new)) }
 {
     let net = network_of_file(alloc, files, file)?;
     let node = node_of_name(&net, node)?;
     let packets = packets_of_input(alloc, input)?;
-    match run_packets(alloc, &net, node, choices, packets, out, err)? {
+    match run_packets(alloc, &net, node, choices, schedule, packets, out, err)? {
         Some(refusal) => Err(Halt::Refused(refusal)),
         None => Ok(Told {
             line: Text::Fixed(b""),

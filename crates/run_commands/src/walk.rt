@@ -44,7 +44,7 @@ impl Buffers {
 
 /// Writes the frame of a packet: its number as seconds, and microseconds.
 #[tactic(auto, using(command_output::proofs::PublicLaws::writing))]
-fn write_frame<O: Sink>(
+pub fn write_frame<O: Sink>(
     number: u32,
     micros: u32,
     packet: &[u8],

@@ -25,10 +25,11 @@ unknown_two (a ∷ []) two = absurd (omega (arith, two))
 unknown_two (a ∷ b ∷ []) two = refl
 unknown_two (a ∷ b ∷ c ∷ words) two = absurd (omega (arith, two))
 
-pub unknown_many : (words : List (String Global)) → 4 < length words → Unknown ≡ command_of (words_of words)
+pub unknown_many : (words : List (String Global)) → 5 < length words → Unknown ≡ command_of (words_of words)
 unknown_many [] many = absurd (omega (arith, many))
 unknown_many (a ∷ []) many = absurd (omega (arith, many))
 unknown_many (a ∷ b ∷ []) many = absurd (omega (arith, many))
 unknown_many (a ∷ b ∷ c ∷ []) many = absurd (omega (arith, many))
 unknown_many (a ∷ b ∷ c ∷ d ∷ []) many = absurd (omega (arith, many))
-unknown_many (a ∷ b ∷ c ∷ d ∷ e ∷ words) many = refl
+unknown_many (a ∷ b ∷ c ∷ d ∷ e ∷ []) many = absurd (omega (arith, many))
+unknown_many (a ∷ b ∷ c ∷ d ∷ e ∷ f ∷ words) many = refl

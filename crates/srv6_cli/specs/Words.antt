@@ -4,10 +4,10 @@ use Rattle.generate_command.specs.declared.gen_.Made.{Made}
 
 -- what the words ask for; words outside the grammar ask for nothing that there is
 pub data Command : Type 0 where
-  Run : List ℕ → List ℕ → List ℕ → Command
+  Run : List ℕ → List ℕ → List ℕ → List ℕ → Command
   Compile : List ℕ → List ℕ → Command
   Check : List ℕ → List ℕ → List ℕ → Command
-  Walk : List ℕ → List ℕ → List ℕ → Command
+  Walk : List ℕ → List ℕ → List ℕ → List ℕ → Command
   Trace : List ℕ → List ℕ → List ℕ → Command
   Replay : List ℕ → List ℕ → Command
   Show : Command

@@ -2,13 +2,12 @@
 
 ghost use Rattle.std.specs.Prelude.{◌≡◌, IfOk};
 ghost use Rattle.command_output.specs.Answers.{Commands};
-ghost use Rattle.srv6_cli.specs.Command.{UsageTold};
-ghost use Rattle.command_inputs.specs.Choices.{choices_in};
-ghost use Rattle.srv6_cli.specs.Command.{HasChoices, command_of, command_of_four, command_of_three, command_seen, gen_with, run_with, shape_of, trace_with, walk_with, words_of};
+ghost use Rattle.srv6_cli.specs.Command.{UsageTold, HasChoices, command_of, command_of_five, command_of_four, command_of_three, command_seen, gen_with, run_with, shape_of, trace_with, walk_with, words_of};
+ghost use Rattle.command_inputs.specs.Choices.{choices_in, items_of};
 ghost use Rattle.generate_command.specs.Gen.{made_in, size_in};
 ghost use Rattle.command_output.specs.Outside.{outside};
 
-use command_inputs::choices_of;
+use command_inputs::{choices_of, schedule_of};
 use command_output::{Halt, Status, Text, Told};
 use compile_commands::{check, compile};
 use generate_command::{Made, generate, made_of_word, size_of_word};
@@ -33,6 +32,8 @@ pub enum Words<'a> {
         node: &'a str,
         /// The choices that each packet takes, at least one.
         choices: Vec<u32>,
+        /// The numbers of the packets whose turns come first, one after the other.
+        schedule: Vec<u32>,
     },
     /// A list for the intent of a file in the network that another describes.
     Compile {
@@ -59,6 +60,8 @@ pub enum Words<'a> {
         intent: &'a str,
         /// The choices that each packet takes, at least one.
         choices: Vec<u32>,
+        /// The numbers of the packets whose turns come first, one after the other.
+        schedule: Vec<u32>,
     },
     /// The walks of the packets of the input from a node of the network that a file describes, as
     /// text.
@@ -90,43 +93,53 @@ pub enum Words<'a> {
     Unknown,
 }
 
-/// What the words of a run with choices spell.
+/// What the words of a run with choices and a schedule spell.
 fn run_with<'a>(
     alloc: Global,
     file: &'a str,
     node: &'a str,
     choices: &str,
+    schedule: Option<Vec<u32>>,
 ) -> Result<Words<'a>, AllocError>
     ensures spelled { IfOk result (λ words. command_seen words
-        ≡ run_with file.now node.now (choices_in choices.now)) }
+        ≡ run_with file.now node.now (choices_in choices.now) (items_of schedule)) }
     ensures some { IfOk result HasChoices }
 {
-    match choices_of(alloc, choices)? {
-        Some(choices) => Ok(Words::Run {
+    let Some(choices) = choices_of(alloc, choices)? else {
+        return Ok(Words::Unknown);
+    };
+    match schedule {
+        Some(schedule) => Ok(Words::Run {
             file,
             node,
             choices,
+            schedule,
         }),
         None => Ok(Words::Unknown),
     }
 }
 
-/// What the words of a walk with choices spell.
+/// What the words of a walk with choices and a schedule spell.
 fn walk_with<'a>(
     alloc: Global,
     file: &'a str,
     intent: &'a str,
     choices: &str,
+    schedule: Option<Vec<u32>>,
 ) -> Result<Words<'a>, AllocError>
     ensures spelled { IfOk result (λ words. command_seen words
-        ≡ walk_with file.now intent.now (choices_in choices.now)) }
+        ≡ walk_with file.now intent.now (choices_in choices.now) (items_of schedule)) }
     ensures some { IfOk result HasChoices }
 {
-    match choices_of(alloc, choices)? {
-        Some(choices) => Ok(Words::Walk {
+    let Some(choices) = choices_of(alloc, choices)? else {
+        return Ok(Words::Unknown);
+    };
+    match schedule {
+        Some(schedule) => Ok(Words::Walk {
             file,
             intent,
             choices,
+            schedule,
         }),
         None => Ok(Words::Unknown),
     }
@@ -183,6 +196,7 @@ fn words_of_three<'a>(
             file: first,
             node: second,
             choices: vec![in alloc; 0]?,
+            schedule: Vec::new(alloc),
         });
     }
     if verb == "compile" && !first.is_empty() && !second.is_empty() {
@@ -196,6 +210,7 @@ fn words_of_three<'a>(
             file: first,
             intent: second,
             choices: vec![in alloc; 0]?,
+            schedule: Vec::new(alloc),
         });
     }
     if verb == "trace" && !first.is_empty() && !second.is_empty() {
@@ -230,10 +245,10 @@ fn words_of_four<'a>(
     ensures some { IfOk result HasChoices }
 {
     if verb == "run" && !first.is_empty() && !second.is_empty() {
-        return run_with(alloc, first, second, third);
+        return run_with(alloc, first, second, third, Some(Vec::new(alloc)));
     }
     if verb == "walk" && !first.is_empty() && !second.is_empty() {
-        return walk_with(alloc, first, second, third);
+        return walk_with(alloc, first, second, third, Some(Vec::new(alloc)));
     }
     if verb == "trace" && !first.is_empty() && !second.is_empty() {
         return trace_with(alloc, first, second, third);
@@ -244,6 +259,28 @@ fn words_of_four<'a>(
             intent: second,
             cert: third,
         });
+    }
+    Ok(Words::Unknown)
+}
+
+/// What a verb with four words behind it spells, the last of which are choices and a schedule.
+fn words_of_five<'a>(
+    alloc: Global,
+    verb: &str,
+    first: &'a str,
+    second: &'a str,
+    third: &str,
+    fourth: &str,
+) -> Result<Words<'a>, AllocError>
+    ensures spelled { IfOk result (λ words. command_seen words
+        ≡ command_of_five verb.now first.now second.now third.now fourth.now) }
+    ensures some { IfOk result HasChoices }
+{
+    if verb == "run" && !first.is_empty() && !second.is_empty() {
+        return run_with(alloc, first, second, third, schedule_of(alloc, fourth)?);
+    }
+    if verb == "walk" && !first.is_empty() && !second.is_empty() {
+        return walk_with(alloc, first, second, third, schedule_of(alloc, fourth)?);
     }
     Ok(Words::Unknown)
 }
@@ -264,6 +301,14 @@ fn read_words(alloc: Global, words: &[String]) -> Result<Words<'_>, AllocError>
             first.as_str(),
             second.as_str(),
             third.as_str(),
+        ),
+        [verb, first, second, third, fourth] => words_of_five(
+            alloc,
+            verb.as_str(),
+            first.as_str(),
+            second.as_str(),
+            third.as_str(),
+            fourth.as_str(),
         ),
         _ => Ok(Words::Unknown),
     }
@@ -299,11 +344,13 @@ pub fn command<F: Files, S: Source, O: Sink, E: Sink>(
             file,
             node,
             choices,
+            schedule,
         } => run::run(
             alloc,
             file,
             node,
             choices.as_slice(),
+            schedule.as_slice(),
             files,
             input,
             out,
@@ -315,11 +362,13 @@ pub fn command<F: Files, S: Source, O: Sink, E: Sink>(
             file,
             intent,
             choices,
+            schedule,
         } => walk::walk(
             alloc,
             file,
             intent,
             choices.as_slice(),
+            schedule.as_slice(),
             files,
             input,
             out,

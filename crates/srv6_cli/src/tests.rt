@@ -115,6 +115,14 @@ const PACKET: [u8; 40] = [
     0xbb, 0xbb, 0x00, 0xf0, 0x01, 0, 0, 0, 0, 0, 0, 0, 0, 0, 0,
 ];
 
+/// A capture's head: lowest byte first, microseconds, raw IP.
+const CAPTURE_HEAD: [u8; 24] = [
+    0xd4, 0xc3, 0xb2, 0xa1, 2, 0, 4, 0, 0, 0, 0, 0, 0, 0, 0, 0, 0, 0, 4, 0, 101, 0, 0, 0,
+];
+
+/// The numbers in front of a frame of 40 bytes.
+const FRAME_HEAD: [u8; 16] = [0, 0, 0, 0, 0, 0, 0, 0, 40, 0, 0, 0, 40, 0, 0, 0];
+
 /// Four nodes in a row, two links between the second and the third.
 const ROW: &str = r#"
 block = [{ prefix = "fcbb:bb00::/32", kind = "next", csid = 16 }]
@@ -301,6 +309,12 @@ const COMPILE: &[&str] = &["compile", "net.toml", "intent.toml"];
 const CHECK: &[&str] = &["check", "net.toml", "intent.toml", "cert"];
 
 const WALK: &[&str] = &["walk", "net.toml", "enough.toml", "0"];
+
+const WALK_MIXED: &[&str] = &["walk", "net.toml", "enough.toml", "0", "2,1,2,1"];
+
+const WALK_PAIRED: &[&str] = &["walk", "net.toml", "enough.toml", "0", "1,1,2,2"];
+
+const WALK_ABSENT: &[&str] = &["walk", "net.toml", "enough.toml", "0", "9"];
 
 const WALK_WITHOUT_LIST: &[&str] = &["walk", "net.toml", "intent.toml"];
 
@@ -504,6 +518,63 @@ fn walk_without_list(rt: HostRuntime) -> Result<(), Fail> {
     Ok(())
 }
 
+/// Walks two packets, in a capture, with these words.
+fn serve_two(alloc: Global, words: &[&str]) -> Result<Ran, Fail> {
+    let words = words_of(alloc, words)?;
+    let mut files = files_of(alloc, 0)?;
+    let mut capture = CAPTURE_HEAD.to_vec(alloc)?;
+    capture.extend_from_slice(&FRAME_HEAD)?;
+    capture.extend_from_slice(&PACKET)?;
+    capture.extend_from_slice(&FRAME_HEAD)?;
+    capture.extend_from_slice(&PACKET)?;
+    let mut input = MemSource::new(alloc, capture.as_slice(), &[])?;
+    let mut out = MemSink::new(alloc, &[])?;
+    let mut err = MemSink::new(alloc, &[])?;
+    let status = serve(
+        alloc,
+        words.as_slice(),
+        &mut files,
+        &mut input,
+        &mut out,
+        &mut err,
+    );
+    Ok(Ran {
+        status,
+        out: out.held().to_vec(alloc)?,
+        err: err.held().to_vec(alloc)?,
+    })
+}
+
+/// Each of two packets is sent over two links with 40 bytes more, handed over at C and sent on. The
+/// frames' numbers stand behind a head of 24 bytes and each frame before, of 96 bytes, or at last 56.
+#[test]
+fn a_schedule_mixes_the_packets(rt: HostRuntime) -> Result<(), Fail> {
+    let default = serve_two(rt.alloc(), WALK)?;
+    assert_eq!(rt; default.status, Status::Done);
+    assert_eq!(rt; default.out.len(), 520);
+    let lines = "packet 1: left out\npacket 2: left out\n";
+    assert_eq!(rt; default.err.as_slice(), lines.as_bytes());
+    let mixed = serve_two(rt.alloc(), WALK_MIXED)?;
+    assert_eq!(rt; mixed.out.len(), 520);
+    assert_eq!(rt; mixed.err.as_slice(), lines.as_bytes());
+    assert_eq!(rt; mixed.out.as_slice().get(24), Some(&2));
+    assert_eq!(rt; mixed.out.as_slice().get(120), Some(&1));
+    assert_eq!(rt; mixed.out.as_slice().get(216), Some(&2));
+    assert_eq!(rt; mixed.out.as_slice().get(312), Some(&1));
+    assert_eq!(rt; mixed.out.as_slice().get(408), Some(&1));
+    assert_eq!(rt; mixed.out.as_slice().get(464), Some(&2));
+    let paired = serve_two(rt.alloc(), WALK_PAIRED)?;
+    assert_eq!(rt; paired.err.as_slice(), lines.as_bytes());
+    assert_eq!(rt; paired.out.as_slice().get(24), Some(&1));
+    assert_eq!(rt; paired.out.as_slice().get(120), Some(&1));
+    assert_eq!(rt; paired.out.as_slice().get(216), Some(&2));
+    assert_eq!(rt; paired.out.as_slice().get(312), Some(&2));
+    let absent = serve_two(rt.alloc(), WALK_ABSENT)?;
+    assert_eq!(rt; absent.out.as_slice(), default.out.as_slice());
+    assert_eq!(rt; absent.err.as_slice(), default.err.as_slice());
+    Ok(())
+}
+
 #[test]
 fn no_call_is_left_that_could_fail(rt: HostRuntime) -> Result<(), Fail> {
     let beyond = Faults {
@@ -534,6 +605,8 @@ fn words_that_are_no_command(rt: HostRuntime) -> Result<(), Fail> {
     let usage = "usage: srv6 compile|check|walk|run|trace|replay|show|gen\n";
     assert_eq!(rt; one.err.as_slice(), usage.as_bytes());
     assert_eq!(rt; one.out.len(), 0);
+    let zero = serve_words(rt.alloc(), &["run", "net.toml", "A", "0", "1,0"], &NONE)?;
+    assert_eq!(rt; zero.status, Status::Usage);
     Ok(())
 }
 

@@ -6,3 +6,5 @@ pub mod WalkEnds
 pub mod WalkKeeping
 pub mod WalkStarts
 pub mod WalkSteps
+pub mod Scheduling
+pub mod Mixing

@@ -30,9 +30,8 @@ use Rattle.command_inputs.specs.Packets.{packets_in, reading_of, fault_of}
 use Rattle.command_output.specs.Pieces.{Piece, Output, Which, Stop, Never, AtFiles, AtInput, At, Elsewhere, sinks_of, gone, stop_at, WroteAll}
 use Rattle.command_output.specs.Endings.{Takes}
 use Rattle.command_output.specs.Shape.{Held, goes_on_with, names_of, WantedOf}
-use Rattle.command_output.proofs.PublicLaws.{each, each-map, some-map, front_whole, front_longer, front_after, asks_all, asks_fault, asks_front}
+use Rattle.command_output.proofs.PublicLaws.{each, each-map, some-map, front_whole, front_longer, front_after, asks_all, asks_fault, asks_front, refused_commands, files_fault, input_fault, memory_wants, pieces_whole, pieces_refused, pieces_cut}
 use Rattle.walk_command.proofs.WalkKeeping.{walks_keep}
-use Rattle.command_output.proofs.PublicLaws.{refused_commands, files_fault, input_fault, memory_wants, pieces_whole, pieces_refused, pieces_cut}
 
 -- the names that are asked for, by the judgement of the description
 
@@ -51,7 +50,7 @@ any-input : (left : Option (List ℕ)) → IfSome left (λ input. Unit {0})
 any-input None = tt
 any-input (Some input) = tt
 
-module _ (file intent choices : List ℕ) where
+module _ (file intent choices schedule : List ℕ) where
   abbrev DescriptionIs : Result Network Refusal → Held → Type 0
   DescriptionIs judged held = IsSomeAnd (file_named held file) (λ text. network_in text ≡ judged)
 
@@ -59,15 +58,15 @@ module _ (file intent choices : List ℕ) where
   IntentIs net read held = IsSomeAnd (file_named held intent) (λ text. intent_in net text ≡ read)
 
   names-ok : (net : Network) (told : Option Held) → IfSome told (DescriptionIs (Ok net))
-      → IfSome told (λ held. names_of (walk_shape file intent choices) held ≡ file ∷ intent ∷ [])
+      → IfSome told (λ held. names_of (walk_shape file intent choices schedule) held ≡ file ∷ intent ∷ [])
   names-ok net told h = each-map told (DescriptionIs (Ok net))
-      (λ held. names_of (walk_shape file intent choices) held ≡ file ∷ intent ∷ [])
+      (λ held. names_of (walk_shape file intent choices schedule) held ≡ file ∷ intent ∷ [])
       (λ held h. rw (goes-on-ok net (file_named held file) h) refl) h
 
   names-refused : (refusal : Refusal) (told : Option Held) → IfSome told (DescriptionIs (Err refusal))
-      → IfSome told (λ held. names_of (walk_shape file intent choices) held ≡ file ∷ [])
+      → IfSome told (λ held. names_of (walk_shape file intent choices schedule) held ≡ file ∷ [])
   names-refused refusal told h = each-map told (DescriptionIs (Err refusal))
-      (λ held. names_of (walk_shape file intent choices) held ≡ file ∷ [])
+      (λ held. names_of (walk_shape file intent choices schedule) held ≡ file ∷ [])
       (λ held h. rw (goes-on-refused refusal (file_named held file) h) refl) h
 
   -- what is asked for behind the description
@@ -77,18 +76,18 @@ module _ (file intent choices : List ℕ) where
   -- an output that is wanted of the description's judgement, and of the input
   wants : (judged : Result Network Refusal) (Q : List ℕ → Type 0) (told : Option Held) (left : Option (List ℕ)) (output : Output)
       → IfSome told (DescriptionIs judged) → IfSome left Q
-      → IfSome told (λ held. (input : List ℕ) → Q input → NetworkWants (WalkWants choices input) judged (file_named held intent) output)
-      → WantedOf (walk_shape file intent choices) told left output
+      → IfSome told (λ held. (input : List ℕ) → Q input → NetworkWants (WalkWants choices schedule input) judged (file_named held intent) output)
+      → WantedOf (walk_shape file intent choices schedule) told left output
   wants judged Q None left output h q w = tt
   wants judged Q (Some held) None output h q w = tt
   wants judged Q (Some held) (Some input) output h q w = some-map (file_named held file) (λ text. network_in text ≡ judged)
-      (λ text. NetworkWants (WalkWants choices input) (network_in text) (file_named held intent) output)
-      (λ text is. subst (λ (j : Result Network Refusal). NetworkWants (WalkWants choices input) j (file_named held intent) output) (sym is)
+      (λ text. NetworkWants (WalkWants choices schedule input) (network_in text) (file_named held intent) output)
+      (λ text is. subst (λ (j : Result Network Refusal). NetworkWants (WalkWants choices schedule input) j (file_named held intent) output) (sym is)
       (w input q)) h
 
   -- the input as it was
-  takes-unread : (stop : Stop) (f g : FilesSeen) (s : SourceSeen) → Asks (walk_shape file intent choices) stop f g → Reads stop s s
-      → Takes (walk_shape file intent choices) stop f g s s
+  takes-unread : (stop : Stop) (f g : FilesSeen) (s : SourceSeen) → Asks (walk_shape file intent choices schedule) stop f g → Reads stop s s
+      → Takes (walk_shape file intent choices schedule) stop f g s s
   takes-unread stop f g s asks reads = record {
     asks = asks;
     reads = reads;
@@ -98,22 +97,22 @@ module _ (file intent choices : List ℕ) where
 
   -- the description was refused, wasn't read, or memory was wanting
   pub walk_halted_at_file : (f g : FilesSeen) (s : SourceSeen) (o e : SinkSeen) (halt : Halt) → JudgesFile network_in file (Err halt) f g
-      → Commands (walk_shape file intent choices) (Err halt) (outside f s o e) (outside g s o e)
-  walk_halted_at_file f g s o e (halts.Refused refusal) h = refused_commands (walk_shape file intent choices) refusal f g s s o
+      → Commands (walk_shape file intent choices schedule) (Err halt) (outside f s o e) (outside g s o e)
+  walk_halted_at_file f g s o e (halts.Refused refusal) h = refused_commands (walk_shape file intent choices schedule) refusal f g s s o
       (wants (Err refusal) (λ input. Unit {0}) f.told s.left (refused refusal) h.0 (any-input s.left)
       (each f.told (λ held. (input : List ℕ) → Unit {0} → refused refusal ≡ refused refusal) (λ held input _. refl)))
       (inr (inl refl))
-      (takes-unread Never f g s (asks_all (walk_shape file intent choices) Never (file ∷ []) f g
+      (takes-unread Never f g s (asks_all (walk_shape file intent choices schedule) Never (file ∷ []) f g
       (record { rest = intent ∷ []; whole = refl }) tt (names-refused refusal f.told h.0) h.1) refl) e
-  walk_halted_at_file f g s o e (halts.Failed failures.Fault) h = files_fault (walk_shape file intent choices) f g s o
-      (takes-unread AtFiles f g s (asks_fault (walk_shape file intent choices) (file ∷ []) f g
+  walk_halted_at_file f g s o e (halts.Failed failures.Fault) h = files_fault (walk_shape file intent choices schedule) f g s o
+      (takes-unread AtFiles f g s (asks_fault (walk_shape file intent choices schedule) (file ∷ []) f g
       (record { rest = intent ∷ []; whole = refl }) tt
-      (each f.told (λ held. IsFrontOf (names_of (walk_shape file intent choices) held) (file ∷ []))
+      (each f.told (λ held. IsFrontOf (names_of (walk_shape file intent choices schedule) held) (file ∷ []))
       (λ held. record { rest = behind held; whole = refl })) h) refl) e
-  walk_halted_at_file f g s o e (halts.Failed failures.NoMemory) h = memory_wants (walk_shape file intent choices) f g s s o
-      (takes-unread Elsewhere f g s (asks_front (walk_shape file intent choices) h.names f g
+  walk_halted_at_file f g s o e (halts.Failed failures.NoMemory) h = memory_wants (walk_shape file intent choices schedule) f g s s o
+      (takes-unread Elsewhere f g s (asks_front (walk_shape file intent choices schedule) h.names f g
       (front_longer (file ∷ []) h.names (intent ∷ []) h.front)
-      (each f.told (λ held. IsFrontOf (names_of (walk_shape file intent choices) held) h.names)
+      (each f.told (λ held. IsFrontOf (names_of (walk_shape file intent choices schedule) held) h.names)
       (λ held. front_longer (file ∷ []) h.names (behind held) h.front)) h.seen) refl) e
 
   module _ (f mid g : FilesSeen) (s t : SourceSeen) (o e : SinkSeen) (net : Network)
@@ -124,34 +123,34 @@ module _ (file intent choices : List ℕ) where
 
     wants-intent : (read : Result Intent Refusal) (Q : List ℕ → Type 0) (output : Output)
         → IfSome mid.told (IntentIs net read) → IfSome s.left Q
-        → ((input : List ℕ) → Q input → IntentWants (WalkWants choices input) net read output)
-        → WantedOf (walk_shape file intent choices) f.told s.left output
+        → ((input : List ℕ) → Q input → IntentWants (WalkWants choices schedule input) net read output)
+        → WantedOf (walk_shape file intent choices schedule) f.told s.left output
     wants-intent read Q output h q w = wants (Ok net) Q f.told s.left output judged.0 q
-        (of-first (λ held. (input : List ℕ) → Q input → NetworkWants (WalkWants choices input) (Ok net) (file_named held intent) output)
+        (of-first (λ held. (input : List ℕ) → Q input → NetworkWants (WalkWants choices schedule input) (Ok net) (file_named held intent) output)
         (each-map mid.told (IntentIs net read)
-        (λ held. (input : List ℕ) → Q input → NetworkWants (WalkWants choices input) (Ok net) (file_named held intent) output)
+        (λ held. (input : List ℕ) → Q input → NetworkWants (WalkWants choices schedule input) (Ok net) (file_named held intent) output)
         (λ held there input q. some-map (file_named held intent) (λ text. intent_in net text ≡ read)
-        (λ text. IntentWants (WalkWants choices input) net (intent_in net text) output)
-        (λ text is. subst (λ (r : Result Intent Refusal). IntentWants (WalkWants choices input) net r output) (sym is) (w input q)) there) h))
+        (λ text. IntentWants (WalkWants choices schedule input) net (intent_in net text) output)
+        (λ text is. subst (λ (r : Result Intent Refusal). IntentWants (WalkWants choices schedule input) net r output) (sym is) (w input q)) there) h))
 
     -- both files were asked for
-    asks-both : (stop : Stop) → g ≡ files_left_by stop (asked_for intent mid) → Asks (walk_shape file intent choices) stop f g
-    asks-both stop seen = asks_all (walk_shape file intent choices) stop (file ∷ intent ∷ []) f g (front_whole (file ∷ intent ∷ [])) tt
+    asks-both : (stop : Stop) → g ≡ files_left_by stop (asked_for intent mid) → Asks (walk_shape file intent choices schedule) stop f g
+    asks-both stop seen = asks_all (walk_shape file intent choices schedule) stop (file ∷ intent ∷ []) f g (front_whole (file ∷ intent ∷ [])) tt
         (names-ok net f.told judged.0) (seen ∙ ap (λ (files : FilesSeen). files_left_by stop (asked_for intent files)) judged.1)
 
     -- the intent was refused, wasn't read, or memory was wanting
     pub walk_halted_at_intent : (halt : Halt) → JudgesFile (intent_in net) intent (Err halt) mid g
-        → Commands (walk_shape file intent choices) (Err halt) (outside f s o e) (outside g s o e)
-    walk_halted_at_intent (halts.Refused refusal) h = refused_commands (walk_shape file intent choices) refusal f g s s o
+        → Commands (walk_shape file intent choices schedule) (Err halt) (outside f s o e) (outside g s o e)
+    walk_halted_at_intent (halts.Refused refusal) h = refused_commands (walk_shape file intent choices schedule) refusal f g s s o
         (wants-intent (Err refusal) (λ input. Unit {0}) (refused refusal) h.0 (any-input s.left) (λ input _. refl))
         (inr (inl refl)) (takes-unread Never f g s (asks-both Never h.1) refl) e
-    walk_halted_at_intent (halts.Failed failures.Fault) h = files_fault (walk_shape file intent choices) f g s o
+    walk_halted_at_intent (halts.Failed failures.Fault) h = files_fault (walk_shape file intent choices schedule) f g s o
         (takes-unread AtFiles f g s (asks-both AtFiles h) refl) e
-    walk_halted_at_intent (halts.Failed failures.NoMemory) h = memory_wants (walk_shape file intent choices) f g s s o
-        (takes-unread Elsewhere f g s (asks_front (walk_shape file intent choices) (file ∷ h.names) f g
+    walk_halted_at_intent (halts.Failed failures.NoMemory) h = memory_wants (walk_shape file intent choices schedule) f g s s o
+        (takes-unread Elsewhere f g s (asks_front (walk_shape file intent choices schedule) (file ∷ h.names) f g
         (front_after file (intent ∷ []) h.names h.front)
-        (each-map f.told (λ held. names_of (walk_shape file intent choices) held ≡ file ∷ intent ∷ [])
-        (λ held. IsFrontOf (names_of (walk_shape file intent choices) held) (file ∷ h.names))
+        (each-map f.told (λ held. names_of (walk_shape file intent choices schedule) held ≡ file ∷ intent ∷ [])
+        (λ held. IsFrontOf (names_of (walk_shape file intent choices schedule) held) (file ∷ h.names))
         (λ held is. subst (λ (names : List (List ℕ)). IsFrontOf names (file ∷ h.names)) (sym is)
         (front_after file (intent ∷ []) h.names h.front))
         (names-ok net f.told judged.0))
@@ -159,27 +158,27 @@ module _ (file intent choices : List ℕ) where
 
     module _ (value : Intent) (read : JudgesFile (intent_in net) intent (Ok value) mid g) where
       wants-answer : (Q : List ℕ → Type 0) (output : Output) → IfSome s.left Q
-          → ((input : List ℕ) → Q input → CompiledWants (WalkWants choices input) net value output)
-          → WantedOf (walk_shape file intent choices) f.told s.left output
+          → ((input : List ℕ) → Q input → CompiledWants (WalkWants choices schedule input) net value output)
+          → WantedOf (walk_shape file intent choices schedule) f.told s.left output
       wants-answer Q output q w = wants-intent (Ok value) Q output read.0 q w
 
       -- the network isn't flat, or memory was wanting
       pub walk_halted_at_start : (halt : Halt) → StartsAs net value (Err halt)
-          → Commands (walk_shape file intent choices) (Err halt) (outside f s o e) (outside g s o e)
-      walk_halted_at_start (halts.Refused refusal) h = refused_commands (walk_shape file intent choices) refusal f g s s o
-          (wants-answer (λ input. Unit {0}) (refused refusal) (any-input s.left) (λ input _. h choices input))
+          → Commands (walk_shape file intent choices schedule) (Err halt) (outside f s o e) (outside g s o e)
+      walk_halted_at_start (halts.Refused refusal) h = refused_commands (walk_shape file intent choices schedule) refusal f g s s o
+          (wants-answer (λ input. Unit {0}) (refused refusal) (any-input s.left) (λ input _. h choices schedule input))
           (inr (inl refl)) (takes-unread Never f g s (asks-both Never read.1) refl) e
       walk_halted_at_start (halts.Failed failures.Fault) h = absurd h
-      walk_halted_at_start (halts.Failed failures.NoMemory) h = memory_wants (walk_shape file intent choices) f g s s o
+      walk_halted_at_start (halts.Failed failures.NoMemory) h = memory_wants (walk_shape file intent choices schedule) f g s s o
           (takes-unread Elsewhere f g s (asks-both Elsewhere read.1) refl) e
 
       -- there is no list
       pub walk_without_list : (line : Text) (told : Told) → StartsAs net value (Ok (starts.NoList line))
           → told.line ≡ line → told.status ≡ statuses.NoAnswer
-          → Commands (walk_shape file intent choices) (Ok told) (outside f s o e) (outside g s o e)
-      walk_without_list line told h is status = pieces_whole (walk_shape file intent choices) [] (outside f s o e) (outside g s o e) told refl
+          → Commands (walk_shape file intent choices schedule) (Ok told) (outside f s o e) (outside g s o e)
+      walk_without_list line told h is status = pieces_whole (walk_shape file intent choices schedule) [] (outside f s o e) (outside g s o e) told refl
           (rw (is, status) (wants-answer (λ input. Unit {0}) (no_list (bytes_of_text line)) (any-input s.left)
-          (λ input _. h choices input)))
+          (λ input _. h choices schedule input)))
           (rw status refl) (inr (inr (inl status))) (takes-unread Never f g s (asks-both Never read.1) refl)
           (λ done. cc (sym status ∙ done))
 
@@ -200,7 +199,7 @@ module _ (file intent choices : List ℕ) where
             (λ held has none. absurd (none has)) (has-list f.told judged.0 (of-first (IntentIs net (Ok value)) read.0))
 
         takes : (stop : Stop) → g ≡ files_left_by stop (asked_for intent mid) → Reads stop s t
-            → Takes (walk_shape file intent choices) stop f g s t
+            → Takes (walk_shape file intent choices schedule) stop f g s t
         takes stop seen reads = record {
           asks = asks-both stop seen;
           reads = reads;
@@ -210,75 +209,75 @@ module _ (file intent choices : List ℕ) where
 
         -- what is wanted of an input
         wants-list : (Q : List ℕ → Type 0) (output : Output) → IfSome s.left Q
-            → ((input : List ℕ) → Q input → output ≡ walk_output net value policy choices input)
-            → WantedOf (walk_shape file intent choices) f.told s.left output
+            → ((input : List ℕ) → Q input → output ≡ walk_output net value policy choices schedule input)
+            → WantedOf (walk_shape file intent choices schedule) f.told s.left output
         wants-list Q output q w = wants-answer Q output q
             (λ input h. (
               Ok begins.0,
               begins.1,
               tt,
               (
-                w input h ∙ ap (λ (p : Policy). walk_output net value p choices input) begins.2,
+                w input h ∙ ap (λ (p : Policy). walk_output net value p choices schedule input) begins.2,
                 λ inner is. walks_keep net value begins.0 choices inner byte begins.1 some is,
               ),
             ))
 
         -- the input was refused, wasn't read, or memory was wanting
         pub walk_halted_at_input : (halt : Halt) → JudgesInput packets_in (Err halt) s t
-            → Commands (walk_shape file intent choices) (Err halt) (outside f s o e) (outside g t o e)
-        walk_halted_at_input (halts.Refused refusal) h = refused_commands (walk_shape file intent choices) refusal f g s t o
+            → Commands (walk_shape file intent choices schedule) (Err halt) (outside f s o e) (outside g t o e)
+        walk_halted_at_input (halts.Refused refusal) h = refused_commands (walk_shape file intent choices schedule) refusal f g s t o
             (wants-list (λ input. packets_in input ≡ Err refusal) (refused refusal) h.0 (λ input bad. rw bad refl))
             (inr (inl refl)) (takes Never read.1 h.1) e
-        walk_halted_at_input (halts.Failed failures.Fault) h = input_fault (walk_shape file intent choices) f g s t o
+        walk_halted_at_input (halts.Failed failures.Fault) h = input_fault (walk_shape file intent choices schedule) f g s t o
             (takes AtInput read.1 h) e
-        walk_halted_at_input (halts.Failed failures.NoMemory) h = memory_wants (walk_shape file intent choices) f g s t o
+        walk_halted_at_input (halts.Failed failures.NoMemory) h = memory_wants (walk_shape file intent choices schedule) f g s t o
             (takes Elsewhere read.1 h) e
 
         module _ (packets : Packets) (drawn : JudgesInput packets_in (Ok packets) s t) (p q : SinkSeen) where
           abbrev before : List Piece
-          before = walk_pieces net value policy choices (reading_of packets).frames
+          before = walk_pieces net value policy choices schedule (reading_of packets).frames
 
-          wanted : WantedOf (walk_shape file intent choices) f.told s.left (walked net value policy choices packets)
-          wanted = wants-list (λ input. packets_in input ≡ Ok packets) (walked net value policy choices packets) drawn.0
+          wanted : WantedOf (walk_shape file intent choices schedule) f.told s.left (walked net value policy choices schedule packets)
+          wanted = wants-list (λ input. packets_in input ≡ Ok packets) (walked net value policy choices schedule packets) drawn.0
               (λ input good. rw good refl)
 
           reads : Reads Never s t
           reads = ap (λ (u : SourceSeen). u.faults) drawn.1
 
-          takes-how : (sink : Which) (how : Option How) → Takes (walk_shape file intent choices) (stop_at sink how) f g s t
+          takes-how : (sink : Which) (how : Option How) → Takes (walk_shape file intent choices schedule) (stop_at sink how) f g s t
           takes-how sink None = takes Elsewhere read.1 reads
           takes-how sink (Some how) = takes (At sink how) read.1 reads
 
           -- the packets' pieces didn't go out whole
           cut-by : (fault : Option Refusal) (failure : Failure)
-              → WantedOf (walk_shape file intent choices) f.told s.left (ended_by before fault)
+              → WantedOf (walk_shape file intent choices schedule) f.told s.left (ended_by before fault)
               → WroteAll (ending_of_failure failure) before (sinks_of o e) (sinks_of p q)
-              → Commands (walk_shape file intent choices) (Err (halts.Failed failure)) (outside f s o e) (outside g t p q)
-          cut-by None failure w wrote = pieces_cut (walk_shape file intent choices) before (outside f s o e) (outside g t p q)
+              → Commands (walk_shape file intent choices schedule) (Err (halts.Failed failure)) (outside f s o e) (outside g t p q)
+          cut-by None failure w wrote = pieces_cut (walk_shape file intent choices schedule) before (outside f s o e) (outside g t p q)
               failure [] statuses.Done refl wrote w takes-how
-          cut-by (Some refusal) failure w wrote = pieces_cut (walk_shape file intent choices) before (outside f s o e) (outside g t p q)
+          cut-by (Some refusal) failure w wrote = pieces_cut (walk_shape file intent choices schedule) before (outside f s o e) (outside g t p q)
               failure (refusal_line refusal) statuses.Refused refl wrote w takes-how
 
           pub walk_halted_at_pieces : (failure : Failure) → WroteAll (ending_of_failure failure) before (sinks_of o e) (sinks_of p q)
-              → Commands (walk_shape file intent choices) (Err (halts.Failed failure)) (outside f s o e) (outside g t p q)
+              → Commands (walk_shape file intent choices schedule) (Err (halts.Failed failure)) (outside f s o e) (outside g t p q)
           walk_halted_at_pieces failure wrote = cut-by (fault_of (reading_of packets)) failure wanted wrote
 
           -- they did, and nothing is behind the frames
           pub walk_done : (told : Told) → None ≡ fault_of (reading_of packets) → bytes_of_text told.line ≡ []
               → told.status ≡ statuses.Done → sinks_of p q ≡ gone before (sinks_of o e)
-              → Commands (walk_shape file intent choices) (Ok told) (outside f s o e) (outside g t p q)
+              → Commands (walk_shape file intent choices schedule) (Ok told) (outside f s o e) (outside g t p q)
           walk_done told whole line status went =
-              let none : WantedOf (walk_shape file intent choices) f.told s.left (ended_by before None) =
-              subst (λ (fault : Option Refusal). WantedOf (walk_shape file intent choices) f.told s.left (ended_by before fault))
+              let none : WantedOf (walk_shape file intent choices schedule) f.told s.left (ended_by before None) =
+              subst (λ (fault : Option Refusal). WantedOf (walk_shape file intent choices schedule) f.told s.left (ended_by before fault))
               (sym whole) wanted in
-              pieces_whole (walk_shape file intent choices) before (outside f s o e) (outside g t p q) told went
+              pieces_whole (walk_shape file intent choices schedule) before (outside f s o e) (outside g t p q) told went
               (rw (line, status) none) (rw status refl) (inl status) (takes Never read.1 reads) (λ _ _. drawn.1)
 
           -- something is, which is refused
           pub walk_refused : (refusal : Refusal) → Some refusal ≡ fault_of (reading_of packets)
               → sinks_of p q ≡ gone before (sinks_of o e)
-              → Commands (walk_shape file intent choices) (Err (halts.Refused refusal)) (outside f s o e) (outside g t p q)
-          walk_refused refusal more went = pieces_refused (walk_shape file intent choices) before (outside f s o e) (outside g t p q) refusal went
-              (subst (λ (fault : Option Refusal). WantedOf (walk_shape file intent choices) f.told s.left (ended_by before fault))
+              → Commands (walk_shape file intent choices schedule) (Err (halts.Refused refusal)) (outside f s o e) (outside g t p q)
+          walk_refused refusal more went = pieces_refused (walk_shape file intent choices schedule) before (outside f s o e) (outside g t p q) refusal went
+              (subst (λ (fault : Option Refusal). WantedOf (walk_shape file intent choices schedule) f.told s.left (ended_by before fault))
               (sym more) wanted)
               (inr (inl refl)) (takes Never read.1 reads)

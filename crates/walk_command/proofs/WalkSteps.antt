@@ -1,5 +1,5 @@
 -- What the steps of `walk` leave of the sinks.
-use Rattle.std.proofs.Common.{◌≡◌, ℕ, List, [], ◌∷◌, refl, sym, ap, ap₂, subst, append-nil}
+use Rattle.std.proofs.Common.{◌≡◌, ℕ, List, [], ◌∷◌, ◌++◌, refl, sym, ap, ap₂, append-nil}
 use Rattle.pcap_io.specs.declared.frame.Body.{Body}
 use Rattle.pcap_io.specs.Capture.{written_head_bytes}
 use Rattle.srx_edge.specs.Sinks.{SinkSeen, sent}
@@ -10,8 +10,9 @@ use Rattle.intent_reader.specs.declared.intent.Intent.{Intent}
 use Rattle.command_output.specs.declared.halt.Failure.{Failure}
 use Rattle.command_output.specs.Answers.{ending_of_failure}
 use Rattle.walk_command.specs.Walk.{at_headend, ended_line, walked_by, pieces_behind_head}
-use Rattle.command_output.specs.Pieces.{Piece, ForOut, ForErr, Sinks, sinks_of, WroteAll}
-use Rattle.command_output.proofs.PublicLaws.{all_longer, all_then, all_wanting, all_on_err}
+use Rattle.command_output.specs.Pieces.{Piece, ForOut, ForErr, Which, ToErr, Sinks, bytes_in_order, sinks_of, WroteAll}
+use Rattle.command_output.proofs.PublicLaws.{all_same, marked, all_longer, all_then, all_wanting, all_on_err}
+use Rattle.walk_command.proofs.Scheduling.{walk_alone}
 
 -- memory was wanting before a step of pieces
 pub none_went : (pieces : List Piece) (sinks : Sinks) → WroteAll Memory pieces sinks sinks
@@ -24,7 +25,7 @@ behind_head ending more o p e new went wrote = all_then ending (ForOut written_h
     (ap (λ (s : SinkSeen). sinks_of s e) went) wrote
 
 -- a frame that is the only one
-module _ (net : Network) (intent : Intent) (policy : Policy) (choices : List ℕ) (number : ℕ) (body : Body) where
+module _ (net : Network) (intent : Intent) (policy : Policy) (choices schedule : List ℕ) (number : ℕ) (body : Body) where
   abbrev line : List ℕ
   line = ended_line net intent.headend number (at_headend policy intent.inner body)
 
@@ -32,13 +33,14 @@ module _ (net : Network) (intent : Intent) (policy : Policy) (choices : List ℕ
   walks = walked_by net intent choices number (at_headend policy intent.inner body)
 
   abbrev pieces : List Piece
-  pieces = pieces_behind_head net intent policy choices (record { number = number; body = body } ∷ [])
+  pieces = pieces_behind_head net intent policy choices schedule (record { number = number; body = body } ∷ [])
 
-  one-frame : ForErr line ∷ walks ≡ pieces
-  one-frame = ap₂ (λ (l : List ℕ) (w : List Piece). ForErr l ∷ w) (sym (append-nil line)) (sym (append-nil walks))
+  one-frame : bytes_in_order (ForErr line ∷ walks) ≡ bytes_in_order pieces
+  one-frame = ap₂ (λ (l : List ℕ) (bytes : List (Which × ℕ)). marked ToErr l ++ bytes) (sym (append-nil line))
+      (walk_alone net intent policy choices number body schedule)
 
   of-one : (ending : Ending) (old new : Sinks) → WroteAll ending (ForErr line ∷ walks) old new → WroteAll ending pieces old new
-  of-one ending old new wrote = subst (λ (w : List Piece). WroteAll ending w old new) one-frame wrote
+  of-one ending old new wrote = all_same (ForErr line ∷ walks) pieces old new one-frame ending wrote
 
   -- its line didn't go out whole
   pub one_cut : (failure : Failure) (o e f : SinkSeen) → Wrote (ending_of_failure failure) line e f

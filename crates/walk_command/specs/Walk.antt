@@ -28,6 +28,7 @@ use Rattle.path_compiler.specs.declared.compiled.Compiled.{Compiled}
 use Rattle.path_compiler.specs.declared.compiled.CompileFault.{CompileFault}
 use Rattle.path_compiler.specs.declared.compiled.CompileFault.TheVariants as faults
 use Rattle.path_compiler.specs.Compiled.{IsCompiled}
+use Rattle.packet_walk.specs.Schedule.{Coming}
 use Rattle.srx_edge.specs.Edge.{file_named}
 use Rattle.walk_command.specs.declared.walk.AtHeadend.{AtHeadend}
 use Rattle.walk_command.specs.declared.walk.AtHeadend.TheVariants.{NotRead, Dropped, Enters}
@@ -49,10 +50,11 @@ use Rattle.command_output.specs.Outputs.{refused, after, ended_by}
 use Rattle.command_output.specs.Lines.{bytes_of_text, packet_line, unread_line}
 use Rattle.command_inputs.specs.Packets.{packets_in, reading_of, fault_of}
 use Rattle.command_output.specs.Pieces.{Piece, ForOut, ForErr, Output}
+use Rattle.run_commands.specs.Scheduled.{coming, scheduled_pieces}
 use Rattle.command_output.specs.Shape.{Held, Shape}
 use Rattle.command_output.specs.Verbs.{has_two_words}
 
--- its first words: the description and the intent; the choices may follow
+-- its first words: the description and the intent; the choices may follow, and behind them the schedule
 abbrev pub is_walk : List ℕ → List ℕ → List ℕ → Bool
 is_walk verb file intent = has_two_words (codes "walk") verb file intent
 
@@ -116,24 +118,39 @@ abbrev pub walked_of_frame : Network → Intent → Policy → List ℕ → Fram
 walked_of_frame net intent policy choices frame =
     walked_by net intent choices frame.number (at_headend policy intent.inner frame.body)
 
+-- a frame's packet by its number and its walk, if the headend encapsulates it
+abbrev pub coming_at : Network → Intent → List ℕ → ℕ → AtHeadend → List Coming
+coming_at net intent choices number (NotRead cause) = []
+coming_at net intent choices number (Dropped reason) = []
+coming_at net intent choices number (Enters content) = coming number (walk_at_headend net intent choices content)
+
+abbrev pub coming_of_frame : Network → Intent → Policy → List ℕ → Frame → List Coming
+coming_of_frame net intent policy choices frame =
+    coming_at net intent choices frame.number (at_headend policy intent.inner frame.body)
+
+-- the packets that it encapsulates
+abbrev pub comings_at_headend : Network → Intent → Policy → List ℕ → List Frame → List Coming
+comings_at_headend net intent policy choices frames = flat_map (coming_of_frame net intent policy choices) frames
+
 -- the head of the capture that is written; the lines of the packets that end at the headend, by their numbers; and the
--- others, one after the other
+-- stages of the others in the order of a schedule
 
-abbrev pub pieces_behind_head : Network → Intent → Policy → List ℕ → List Frame → List Piece
-pieces_behind_head net intent policy choices frames =
-    ForErr (flat_map (ended_of_frame net intent policy) frames) ∷ flat_map (walked_of_frame net intent policy choices) frames
+abbrev pub pieces_behind_head : Network → Intent → Policy → List ℕ → List ℕ → List Frame → List Piece
+pieces_behind_head net intent policy choices schedule frames =
+    ForErr (flat_map (ended_of_frame net intent policy) frames)
+    ∷ scheduled_pieces net schedule (comings_at_headend net intent policy choices frames)
 
-abbrev pub walk_pieces : Network → Intent → Policy → List ℕ → List Frame → List Piece
-walk_pieces net intent policy choices frames =
-    ForOut written_head_bytes ∷ pieces_behind_head net intent policy choices frames
+abbrev pub walk_pieces : Network → Intent → Policy → List ℕ → List ℕ → List Frame → List Piece
+walk_pieces net intent policy choices schedule frames =
+    ForOut written_head_bytes ∷ pieces_behind_head net intent policy choices schedule frames
 
-abbrev pub walked : Network → Intent → Policy → List ℕ → Packets → Output
-walked net intent policy choices packets =
-    ended_by (walk_pieces net intent policy choices (reading_of packets).frames) (fault_of (reading_of packets))
+abbrev pub walked : Network → Intent → Policy → List ℕ → List ℕ → Packets → Output
+walked net intent policy choices schedule packets =
+    ended_by (walk_pieces net intent policy choices schedule (reading_of packets).frames) (fault_of (reading_of packets))
 
 -- the input is judged where there is a list
-abbrev pub walk_output : Network → Intent → Policy → List ℕ → List ℕ → Output
-walk_output net intent policy choices input = after (packets_in input) (walked net intent policy choices)
+abbrev pub walk_output : Network → Intent → Policy → List ℕ → List ℕ → List ℕ → Output
+walk_output net intent policy choices schedule input = after (packets_in input) (walked net intent policy choices schedule)
 
 -- no list: the line that `compile` has, and no capture
 abbrev pub no_list : List ℕ → Output
@@ -155,19 +172,19 @@ pub record KeepsTo (net : Network) (intent : Intent) (c : Compiled) (choices : L
   pub lowered : handed.content ≡ content_lowered inner
 
 -- the output of a list, whose walks keep to the intent
-abbrev pub ListWants : Network → Intent → List ℕ → List ℕ → Compiled → Output → Type 0
-ListWants net intent choices input c output =
-    (output ≡ walk_output net intent (policy_of net intent c) choices input)
+abbrev pub ListWants : Network → Intent → List ℕ → List ℕ → List ℕ → Compiled → Output → Type 0
+ListWants net intent choices schedule input c output =
+    (output ≡ walk_output net intent (policy_of net intent c) choices schedule input)
     × ((inner : Content) → IsEncapsulated intent.inner c inner → KeepsTo net intent c choices inner)
 
 -- the output of an answer of the compiler; want of memory has none
-abbrev pub WalkWants : List ℕ → List ℕ → Network → Intent → Result Compiled CompileFault → Output → Type 0
-WalkWants choices input net intent (Ok c) output = ListWants net intent choices input c output
-WalkWants choices input net intent (Err (faults.NotFlat why)) output = output ≡ refused (flat_refusal net why)
-WalkWants choices input net intent (Err (faults.NoList solution)) output = output ≡ no_list none_line
-WalkWants choices input net intent (Err (faults.TooLong found)) output = output ≡ no_list (too_long_line found.containers)
-WalkWants choices input net intent (Err (faults.HopLimit found)) output = output ≡ no_list (hop_limit_line found.need)
-WalkWants choices input net intent (Err faults.NoMemory) output = ⊥
+abbrev pub WalkWants : List ℕ → List ℕ → List ℕ → Network → Intent → Result Compiled CompileFault → Output → Type 0
+WalkWants choices schedule input net intent (Ok c) output = ListWants net intent choices schedule input c output
+WalkWants choices schedule input net intent (Err (faults.NotFlat why)) output = output ≡ refused (flat_refusal net why)
+WalkWants choices schedule input net intent (Err (faults.NoList solution)) output = output ≡ no_list none_line
+WalkWants choices schedule input net intent (Err (faults.TooLong found)) output = output ≡ no_list (too_long_line found.containers)
+WalkWants choices schedule input net intent (Err (faults.HopLimit found)) output = output ≡ no_list (hop_limit_line found.need)
+WalkWants choices schedule input net intent (Err faults.NoMemory) output = ⊥
 
 -- the input is read only where the intent may be compiled
 
@@ -182,8 +199,8 @@ HasListIn (Ok net) intent = IsSomeAnd intent (λ text. HasList net (intent_in ne
 abbrev pub ReadsInput : List ℕ → List ℕ → Held → Type 0
 ReadsInput file intent held = IsSomeAnd (file_named held file) (λ text. HasListIn (network_in text) (file_named held intent))
 
-abbrev pub walk_shape : List ℕ → List ℕ → List ℕ → Shape
-walk_shape file intent choices = record {
+abbrev pub walk_shape : List ℕ → List ℕ → List ℕ → List ℕ → Shape
+walk_shape file intent choices schedule = record {
   files = file ∷ intent ∷ [];
   goes_on = asks_for_intent;
   reads = true;
@@ -191,16 +208,16 @@ walk_shape file intent choices = record {
   lines_last = false;
   statuses = statuses.Done ∷ statuses.Refused ∷ statuses.NoAnswer ∷ [];
   wants = λ held input output.
-      IsSomeAnd (file_named held file) (λ text. NetworkWants (WalkWants choices input) (network_in text) (file_named held intent) output);
+      IsSomeAnd (file_named held file) (λ text. NetworkWants (WalkWants choices schedule input) (network_in text) (file_named held intent) output);
 }
 
 -- how a walk starts, as its steps answer it: with the policy of a list, or there is no list, or the refusal
 abbrev pub StartsAs : Network → Intent → Result Start Halt → Type 0
 StartsAs net intent (Ok (starts.List policy)) = (c : Compiled) × IsCompiled net intent c × (policy ≡ policy_of net intent c)
 StartsAs net intent (Ok (starts.NoList told)) =
-    (choices input : List ℕ) → CompiledWants (WalkWants choices input) net intent (no_list (bytes_of_text told))
+    (choices schedule input : List ℕ) → CompiledWants (WalkWants choices schedule input) net intent (no_list (bytes_of_text told))
 StartsAs net intent (Err (halts.Refused refusal)) =
-    (choices input : List ℕ) → CompiledWants (WalkWants choices input) net intent (refused refusal)
+    (choices schedule input : List ℕ) → CompiledWants (WalkWants choices schedule input) net intent (refused refusal)
 StartsAs net intent (Err (halts.Failed failures.Fault)) = ⊥
 StartsAs net intent (Err (halts.Failed failures.NoMemory)) = ⊤
 

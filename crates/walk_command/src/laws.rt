@@ -1,6 +1,15 @@
-//! What walks from the headend keep to.
+//! What walks from the headend keep to, and what a schedule changes of them.
 
-ghost use Rattle.walk_command.specs.Walk.{WalksKeepTo};
+ghost use Rattle.std.specs.Prelude.{◌≡◌, ℕ, List};
+ghost use Rattle.srv6_rules.specs.declared.policy.Policy.{Policy};
+ghost use Rattle.net_model.specs.Network.{Network};
+ghost use Rattle.intent_reader.specs.declared.intent.Intent.{Intent};
+ghost use Rattle.packet_walk.specs.Schedule.{scheduled, steps_of};
+ghost use Rattle.command_inputs.specs.declared.packets.Packets.{Packets};
+ghost use Rattle.command_inputs.specs.Packets.{reading_of};
+ghost use Rattle.run_commands.specs.Capture.{frames_of};
+ghost use Rattle.run_commands.specs.Scheduled.{frames_sent};
+ghost use Rattle.walk_command.specs.Walk.{WalksKeepTo, comings_at_headend};
 
 /// An inner packet whose hop limit is at least 2, and whose outer packet is not too big, enters at
 /// the headend. Its walk, which `walk` writes, crosses and executes exactly the intent's steps, in
@@ -8,4 +17,14 @@ ghost use Rattle.walk_command.specs.Walk.{WalksKeepTo};
 /// with its hop limit lowered by one, and nothing else changed. (RFC 8986 sections 5.1 and 5.2)
 pub fn a_walk_keeps_to_the_intent()
     ensures { WalksKeepTo }
+{}
+
+/// Whatever the schedule, the frames of a packet that the headend encapsulates are those of its own
+/// walk, in their order; so two schedules give each packet the same frames in the same order, and
+/// only their mixing differs. The packets are those of a capture, or the bare one. (own rule)
+pub fn a_schedule_mixes_walks()
+    ensures { (net : Network) (intent : Intent) (policy : Policy) (number : ℕ) (choices : List ℕ)
+        (schedule : List ℕ) (packets : Packets) →
+        let comings = comings_at_headend net intent policy choices (reading_of packets).frames in
+        frames_sent number (scheduled schedule comings) ≡ frames_of number (steps_of number comings) }
 {}

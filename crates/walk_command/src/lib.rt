@@ -5,5 +5,6 @@
 
 pub mod laws;
 pub mod walk;
+mod walk_scheduled;
 
 pub use walk::{AtHeadend, at_headend, policy_of};

@@ -1,7 +1,7 @@
 //! The command `walk`: the inner packets of the input, encapsulated at the headend of the intent of
 //! a file with the list that the intent is compiled to, in the network that another describes.
 
-ghost use Rattle.std.specs.Prelude.{◌≡◌, ◌<◌, ◌^◌, true, IfOk, Ok, length, map, string_bytes};
+ghost use Rattle.std.specs.Prelude.{◌≡◌, ◌<◌, ◌^◌, ℕ, true, IfOk, List, Ok, length, map, string_bytes};
 ghost use Rattle.std.specs.List.{flat_map};
 ghost use Rattle.pcap_io.specs.Frames.{frames_of as frames_in};
 ghost use Rattle.srx_edge.specs.Steps.{Wrote};
@@ -12,11 +12,13 @@ ghost use Rattle.intent_reader.specs.Rules.{IsIntent};
 ghost use Rattle.command_output.specs.Answers.{Commands, ending_of_step};
 ghost use Rattle.compile_commands.specs.Compile.{HasValues};
 ghost use Rattle.run_commands.specs.Run.{packet_pieces};
-ghost use Rattle.walk_command.specs.Walk.{StartsAs, at_headend, ended_line, ended_of_frame, of_content, of_encapsulating, pieces_behind_head, policy_of, walk_at_headend, walk_pieces, walk_shape, walked_by, walked_of_frame};
+ghost use Rattle.walk_command.specs.Walk.{StartsAs, at_headend, comings_at_headend, ended_line, ended_of_frame, of_content, of_encapsulating, pieces_behind_head, policy_of, walk_at_headend, walk_pieces, walk_shape, walked_by, walked_of_frame};
 ghost use Rattle.command_output.specs.Outside.{outside};
 ghost use Rattle.command_inputs.specs.Packets.{HasHead, fault_of, reading_of};
 ghost use Rattle.command_output.specs.Pieces.{WroteAll, sinks_of};
+ghost use Rattle.run_commands.specs.Scheduled.{scheduled_pieces};
 
+use crate::walk_scheduled::walk_in_turns;
 use base::{NoMemory, Seq};
 use command_inputs::{Next, Packets, intent_of_file, network_of_file, next_of, packets_of_input};
 use command_output::{
@@ -389,7 +391,39 @@ fn walk_frames<O: Sink, E: Sink>(
     }
 }
 
-/// The line, or the walk, of a bare packet, which is packet 1.
+/// The same in the order of a schedule. Without one no packet is kept in memory behind its end.
+fn walk_scheduled<O: Sink, E: Sink>(
+    alloc: Global,
+    net: &Net,
+    intent: &Intent,
+    policy: &Policy,
+    choices: &[u32],
+    schedule: &[u32],
+    head: CaptureHead,
+    behind: &[u8],
+    out: &mut O,
+    err: &mut E,
+) -> Result<Option<Refusal>, Failure>
+    requires headend { intent.now.headend < length net.now.nodes }
+    requires policy { IsPolicy policy.now }
+    requires choices { 0 < length choices.now }
+    ensures fault { IfOk result (λ fault.
+        fault ≡ fault_of (frames_in head MAX_FRAMES 1 behind.now)) }
+    ensures wrote { WroteAll (ending_of_step result)
+        (scheduled_pieces net.now schedule.now
+        (comings_at_headend net.now intent.now policy.now choices.now
+        (frames_in head MAX_FRAMES 1 behind.now).frames))
+        (sinks_of (O.seen out.old) (E.seen err.old)) (sinks_of (O.seen out.new) (E.seen err.new)) }
+{
+    if schedule.is_empty() {
+        return walk_frames(alloc, net, intent, policy, choices, head, behind, out, err);
+    }
+    walk_in_turns(
+        alloc, net, intent, policy, choices, schedule, head, behind, out, err,
+    )
+}
+
+/// The line, or the walk, of a bare packet, which is packet 1, and in its turn whatever the schedule.
 fn walk_bare<O: Sink, E: Sink>(
     alloc: Global,
     net: &Net,
@@ -403,8 +437,8 @@ fn walk_bare<O: Sink, E: Sink>(
     requires headend { intent.now.headend < length net.now.nodes }
     requires policy { IsPolicy policy.now }
     requires choices { 0 < length choices.now }
-    ensures { WroteAll (ending_of_step result)
-        (pieces_behind_head net.now intent.now policy.now choices.now
+    ensures { (schedule : List ℕ) → WroteAll (ending_of_step result)
+        (pieces_behind_head net.now intent.now policy.now choices.now schedule
         (reading_of (Packets.Bare packet)).frames)
         (sinks_of (O.seen out.old) (E.seen err.old)) (sinks_of (O.seen out.new) (E.seen err.new)) }
 {
@@ -431,6 +465,7 @@ fn walk_packets<O: Sink, E: Sink>(
     intent: &Intent,
     policy: &Policy,
     choices: &[u32],
+    schedule: &[u32],
     packets: Packets,
     out: &mut O,
     err: &mut E,
@@ -441,7 +476,8 @@ fn walk_packets<O: Sink, E: Sink>(
     requires head { HasHead packets }
     ensures fault { IfOk result (λ fault. fault ≡ fault_of (reading_of packets)) }
     ensures wrote { WroteAll (ending_of_step result)
-        (walk_pieces net.now intent.now policy.now choices.now (reading_of packets).frames)
+        (walk_pieces net.now intent.now policy.now choices.now schedule.now
+        (reading_of packets).frames)
         (sinks_of (O.seen out.old) (E.seen err.old)) (sinks_of (O.seen out.new) (E.seen err.new)) }
 {
     write_head(alloc, out)?;
@@ -453,7 +489,9 @@ fn walk_packets<O: Sink, E: Sink>(
         Packets::Capture(head, bytes) => {
             let behind = bytes.as_slice().split_at(HEAD_LEN).1;
             tell_frames(alloc, net, intent, policy, head, behind, err)?;
-            walk_frames(alloc, net, intent, policy, choices, head, behind, out, err)
+            walk_scheduled(
+                alloc, net, intent, policy, choices, schedule, head, behind, out, err,
+            )
         }
     }
 }
@@ -477,8 +515,8 @@ fn headend_fits(net: &Net, intent: &Intent, policy: &Policy)
     let _ = policy;
 }
 
-/// Walks the inner packets of the input, one after the other, from the headend of the intent of a
-/// file, encapsulated with the list that the intent is compiled to in the network that another file
+/// Walks the inner packets of the input, in the order of a schedule as `run` does, from the headend of
+/// the intent of a file, encapsulated with the list that the intent is compiled to in the network that another file
 /// describes. Decision d of each packet, counted in its sends from 0, takes the choice at d modulo
 /// the number of choices. The description is judged, then the intent, each before the next is read;
 /// where there is no list nothing is written but a line, and the input is not read. Packets that
@@ -490,13 +528,14 @@ pub fn walk<F: Files, S: Source, O: Sink, E: Sink>(
     file: &str,
     intent: &str,
     choices: &[u32],
+    schedule: &[u32],
     files: &mut F,
     input: &mut S,
     out: &mut O,
     err: &mut E,
 ) -> Result<Told, Halt>
     requires { 0 < length choices.now }
-    ensures { Commands (walk_shape file.now intent.now choices.now) result
+    ensures { Commands (walk_shape file.now intent.now choices.now schedule.now) result
         (outside (F.seen files.old) (S.seen input.old) (O.seen out.old) (E.seen err.old))
         (outside (F.seen files.new) (S.seen input.new) (O.seen out.new) (E.seen err.new)) }
 {
@@ -516,7 +555,9 @@ pub fn walk<F: Files, S: Source, O: Sink, E: Sink>(
     hop_limit_fits(intent.hop_limit);
     headend_fits(&net, &intent, &policy);
     let packets = packets_of_input(alloc, input)?;
-    match walk_packets(alloc, &net, &intent, &policy, choices, packets, out, err)? {
+    match walk_packets(
+        alloc, &net, &intent, &policy, choices, schedule, packets, out, err,
+    )? {
         Some(refusal) => Err(Halt::Refused(refusal)),
         None => Ok(Told {
             line: Text::Fixed(b""),

@@ -25,67 +25,66 @@ use Rattle.command_output.specs.Pieces.{Piece, Output, Which, Stop, Never, AtFil
 use Rattle.run_commands.specs.Run.{packets_pieces, ran, run_output, has_start, reads_input, run_shape}
 use Rattle.command_output.specs.Endings.{Takes}
 use Rattle.command_output.specs.Shape.{Held, names_of, WantedOf}
-use Rattle.command_output.proofs.PublicLaws.{each, some-map, front_whole, asks_all, asks_front}
-use Rattle.command_output.proofs.PublicLaws.{refused_commands, files_fault, input_fault, memory_wants, pieces_whole, pieces_refused, pieces_cut}
+use Rattle.command_output.proofs.PublicLaws.{each, some-map, front_whole, asks_all, asks_front, refused_commands, files_fault, input_fault, memory_wants, pieces_whole, pieces_refused, pieces_cut}
 use Rattle.std.proofs.lemmas.Result.{err_from_is_err_and}
 use Rattle.run_commands.proofs.run.run.Goals as goal
 
 -- an output that is wanted of the text, and of the input, that are told
-run-wants : (told : Option Held) (left : Option (List ℕ)) (file name choices : List ℕ) (P Q : List ℕ → Type 0) (output : Output)
+run-wants : (told : Option Held) (left : Option (List ℕ)) (file name choices schedule : List ℕ) (P Q : List ℕ → Type 0) (output : Output)
     → IfSome told (λ held. IsSomeAnd (file_named held file) P) → IfSome left Q
-    → ((text input : List ℕ) → P text → Q input → output ≡ run_output text name choices input)
-    → WantedOf (run_shape file name choices) told left output
-run-wants None left file name choices P Q output p q f = tt
-run-wants (Some held) None file name choices P Q output p q f = tt
-run-wants (Some held) (Some input) file name choices P Q output p q f =
-    some-map (file_named held file) P (λ text. output ≡ run_output text name choices input) (λ text h. f text input h q) p
+    → ((text input : List ℕ) → P text → Q input → output ≡ run_output text name choices schedule input)
+    → WantedOf (run_shape file name choices schedule) told left output
+run-wants None left file name choices schedule P Q output p q f = tt
+run-wants (Some held) None file name choices schedule P Q output p q f = tt
+run-wants (Some held) (Some input) file name choices schedule P Q output p q f =
+    some-map (file_named held file) P (λ text. output ≡ run_output text name choices schedule input) (λ text h. f text input h q) p
 
 -- of any input
 any-input : (left : Option (List ℕ)) → IfSome left (λ input. Unit {0})
 any-input None = tt
 any-input (Some input) = tt
 
-asks-file : (file name choices : List ℕ) (stop : Stop) (f g : FilesSeen) → g ≡ files_left_by stop (asked_for file f)
-    → Asks (run_shape file name choices) stop f g
-asks-file file name choices stop f g seen = asks_all (run_shape file name choices) stop (file ∷ []) f g (front_whole (file ∷ [])) tt
-    (each f.told (λ held. names_of (run_shape file name choices) held ≡ file ∷ []) (λ held. refl)) seen
+asks-file : (file name choices schedule : List ℕ) (stop : Stop) (f g : FilesSeen) → g ≡ files_left_by stop (asked_for file f)
+    → Asks (run_shape file name choices schedule) stop f g
+asks-file file name choices schedule stop f g seen = asks_all (run_shape file name choices schedule) stop (file ∷ []) f g (front_whole (file ∷ [])) tt
+    (each f.told (λ held. names_of (run_shape file name choices schedule) held ≡ file ∷ []) (λ held. refl)) seen
 
 -- the input as it was
-takes-unread : (file name choices : List ℕ) (stop : Stop) (f g : FilesSeen) (s : SourceSeen)
-    → Asks (run_shape file name choices) stop f g → Reads stop s s
-    → Takes (run_shape file name choices) stop f g s s
-takes-unread file name choices stop f g s asks reads = record {
+takes-unread : (file name choices schedule : List ℕ) (stop : Stop) (f g : FilesSeen) (s : SourceSeen)
+    → Asks (run_shape file name choices schedule) stop f g → Reads stop s s
+    → Takes (run_shape file name choices schedule) stop f g s s
+takes-unread file name choices schedule stop f g s asks reads = record {
   asks = asks;
   reads = reads;
   unread = each f.told (λ held. reads_input (file_named held file) name ≡ false → s ≡ s) (λ held _. refl);
   reads_none = λ _. refl;
 }
 
-module _ (file name choices : List ℕ) (f g : FilesSeen) (s t : SourceSeen) (o e : SinkSeen) where
+module _ (file name choices schedule : List ℕ) (f g : FilesSeen) (s t : SourceSeen) (o e : SinkSeen) where
   -- the file was refused, wasn't read, or memory was wanting
   run_halted_at_file : (halt : Halt) → JudgesFile network_in file (Err halt) f g
-      → Commands (run_shape file name choices) (Err halt) (outside f s o e) (outside g s o e)
-  run_halted_at_file (halts.Refused refusal) h = refused_commands (run_shape file name choices) refusal f g s s o
-      (run-wants f.told s.left file name choices (λ text. network_in text ≡ Err refusal) (λ input. Unit {0}) (refused refusal)
+      → Commands (run_shape file name choices schedule) (Err halt) (outside f s o e) (outside g s o e)
+  run_halted_at_file (halts.Refused refusal) h = refused_commands (run_shape file name choices schedule) refusal f g s s o
+      (run-wants f.told s.left file name choices schedule (λ text. network_in text ≡ Err refusal) (λ input. Unit {0}) (refused refusal)
       h.0 (any-input s.left)
       (λ text input is _. rw is refl))
-      (inr (inl refl)) (takes-unread file name choices Never f g s (asks-file file name choices Never f g h.1) refl) e
+      (inr (inl refl)) (takes-unread file name choices schedule Never f g s (asks-file file name choices schedule Never f g h.1) refl) e
   run_halted_at_file (halts.Failed failures.Fault) h =
-      files_fault (run_shape file name choices) f g s o (takes-unread file name choices AtFiles f g s
-      (asks-file file name choices AtFiles f g h) refl) e
-  run_halted_at_file (halts.Failed failures.NoMemory) h = memory_wants (run_shape file name choices) f g s s o
-      (takes-unread file name choices Elsewhere f g s (asks_front (run_shape file name choices) h.names f g h.front
-      (each f.told (λ held. IsFrontOf (names_of (run_shape file name choices) held) h.names) (λ held. h.front)) h.seen) refl) e
+      files_fault (run_shape file name choices schedule) f g s o (takes-unread file name choices schedule AtFiles f g s
+      (asks-file file name choices schedule AtFiles f g h) refl) e
+  run_halted_at_file (halts.Failed failures.NoMemory) h = memory_wants (run_shape file name choices schedule) f g s s o
+      (takes-unread file name choices schedule Elsewhere f g s (asks_front (run_shape file name choices schedule) h.names f g h.front
+      (each f.told (λ held. IsFrontOf (names_of (run_shape file name choices schedule) held) h.names) (λ held. h.front)) h.seen) refl) e
 
   module _ (net : Network) (judged : JudgesFile network_in file (Ok net) f g) where
     -- the node's name was refused
     run_halted_at_node : (refusal : Refusal) → node_in net name ≡ Err refusal
-        → Commands (run_shape file name choices) (Err (halts.Refused refusal)) (outside f s o e) (outside g s o e)
-    run_halted_at_node refusal node = refused_commands (run_shape file name choices) refusal f g s s o
-        (run-wants f.told s.left file name choices (λ text. network_in text ≡ Ok net) (λ input. Unit {0}) (refused refusal)
+        → Commands (run_shape file name choices schedule) (Err (halts.Refused refusal)) (outside f s o e) (outside g s o e)
+    run_halted_at_node refusal node = refused_commands (run_shape file name choices schedule) refusal f g s s o
+        (run-wants f.told s.left file name choices schedule (λ text. network_in text ≡ Ok net) (λ input. Unit {0}) (refused refusal)
         judged.0 (any-input s.left)
         (λ text input is _. rw (is, node) refl))
-        (inr (inl refl)) (takes-unread file name choices Never f g s (asks-file file name choices Never f g judged.1) refl) e
+        (inr (inl refl)) (takes-unread file name choices schedule Never f g s (asks-file file name choices schedule Never f g judged.1) refl) e
 
     module _ (node : ℕ) (found : node_in net name ≡ Ok node) where
       starts : (o : Option (List ℕ)) → IsSomeAnd o (λ text. network_in text ≡ Ok net) → reads_input o name ≡ false → ⊥
@@ -97,9 +96,9 @@ module _ (file name choices : List ℕ) (f g : FilesSeen) (s t : SourceSeen) (o 
       unread None h = tt
       unread (Some held) h = λ early. absurd (starts (file_named held file) h early)
 
-      takes : (stop : Stop) → g ≡ files_left_by stop (asked_for file f) → Reads stop s t → Takes (run_shape file name choices) stop f g s t
+      takes : (stop : Stop) → g ≡ files_left_by stop (asked_for file f) → Reads stop s t → Takes (run_shape file name choices schedule) stop f g s t
       takes stop seen reads = record {
-        asks = asks-file file name choices stop f g seen;
+        asks = asks-file file name choices schedule stop f g seen;
         reads = reads;
         unread = unread f.told judged.0;
         reads_none = λ no. cc;
@@ -107,59 +106,59 @@ module _ (file name choices : List ℕ) (f g : FilesSeen) (s t : SourceSeen) (o 
 
       -- the input was refused, wasn't read, or memory was wanting
       run_halted_at_input : (halt : Halt) → JudgesInput packets_in (Err halt) s t
-          → Commands (run_shape file name choices) (Err halt) (outside f s o e) (outside g t o e)
-      run_halted_at_input (halts.Refused refusal) h = refused_commands (run_shape file name choices) refusal f g s t o
-          (run-wants f.told s.left file name choices (λ text. network_in text ≡ Ok net) (λ input. packets_in input ≡ Err refusal)
+          → Commands (run_shape file name choices schedule) (Err halt) (outside f s o e) (outside g t o e)
+      run_halted_at_input (halts.Refused refusal) h = refused_commands (run_shape file name choices schedule) refusal f g s t o
+          (run-wants f.told s.left file name choices schedule (λ text. network_in text ≡ Ok net) (λ input. packets_in input ≡ Err refusal)
           (refused refusal)
           judged.0 h.0 (λ text input is bad. rw (is, found, bad) refl))
           (inr (inl refl)) (takes Never judged.1 h.1) e
-      run_halted_at_input (halts.Failed failures.Fault) h = input_fault (run_shape file name choices) f g s t o (takes AtInput judged.1 h) e
-      run_halted_at_input (halts.Failed failures.NoMemory) h = memory_wants (run_shape file name choices) f g s t o (takes Elsewhere judged.1 h) e
+      run_halted_at_input (halts.Failed failures.Fault) h = input_fault (run_shape file name choices schedule) f g s t o (takes AtInput judged.1 h) e
+      run_halted_at_input (halts.Failed failures.NoMemory) h = memory_wants (run_shape file name choices schedule) f g s t o (takes Elsewhere judged.1 h) e
 
       module _ (packets : Packets) (drawn : JudgesInput packets_in (Ok packets) s t) (p q : SinkSeen) where
         abbrev before : List Piece
-        before = packets_pieces net node choices (reading_of packets).frames
+        before = packets_pieces net node choices schedule (reading_of packets).frames
 
-        wanted : WantedOf (run_shape file name choices) f.told s.left (ran net node choices packets)
-        wanted = run-wants f.told s.left file name choices (λ text. network_in text ≡ Ok net) (λ input. packets_in input ≡ Ok packets)
-            (ran net node choices packets) judged.0 drawn.0 (λ text input is good. rw (is, found, good) refl)
+        wanted : WantedOf (run_shape file name choices schedule) f.told s.left (ran net node choices schedule packets)
+        wanted = run-wants f.told s.left file name choices schedule (λ text. network_in text ≡ Ok net) (λ input. packets_in input ≡ Ok packets)
+            (ran net node choices schedule packets) judged.0 drawn.0 (λ text input is good. rw (is, found, good) refl)
 
         reads : Reads Never s t
         reads = ap (λ (u : SourceSeen). u.faults) drawn.1
 
-        takes-how : (sink : Which) (how : Option How) → Takes (run_shape file name choices) (stop_at sink how) f g s t
+        takes-how : (sink : Which) (how : Option How) → Takes (run_shape file name choices schedule) (stop_at sink how) f g s t
         takes-how sink None = takes Elsewhere judged.1 reads
         takes-how sink (Some how) = takes (At sink how) judged.1 reads
 
         -- the packets' pieces didn't go out whole
-        cut-by : (fault : Option Refusal) (failure : Failure) → WantedOf (run_shape file name choices) f.told s.left (ended_by before fault)
+        cut-by : (fault : Option Refusal) (failure : Failure) → WantedOf (run_shape file name choices schedule) f.told s.left (ended_by before fault)
             → WroteAll (ending_of_failure failure) before (sinks_of o e) (sinks_of p q)
-            → Commands (run_shape file name choices) (Err (halts.Failed failure)) (outside f s o e) (outside g t p q)
-        cut-by None failure w wrote = pieces_cut (run_shape file name choices) before (outside f s o e) (outside g t p q) failure [] statuses.Done
+            → Commands (run_shape file name choices schedule) (Err (halts.Failed failure)) (outside f s o e) (outside g t p q)
+        cut-by None failure w wrote = pieces_cut (run_shape file name choices schedule) before (outside f s o e) (outside g t p q) failure [] statuses.Done
             refl wrote w takes-how
-        cut-by (Some refusal) failure w wrote = pieces_cut (run_shape file name choices) before (outside f s o e) (outside g t p q) failure
+        cut-by (Some refusal) failure w wrote = pieces_cut (run_shape file name choices schedule) before (outside f s o e) (outside g t p q) failure
             (refusal_line refusal) statuses.Refused refl wrote w takes-how
 
         run_halted_at_pieces : (failure : Failure) → WroteAll (ending_of_failure failure) before (sinks_of o e) (sinks_of p q)
-            → Commands (run_shape file name choices) (Err (halts.Failed failure)) (outside f s o e) (outside g t p q)
+            → Commands (run_shape file name choices schedule) (Err (halts.Failed failure)) (outside f s o e) (outside g t p q)
         run_halted_at_pieces failure wrote = cut-by (fault_of (reading_of packets)) failure wanted wrote
 
         -- they did, and nothing is behind the frames
         run_done : (told : Told) → None ≡ fault_of (reading_of packets) → bytes_of_text told.line ≡ [] → told.status ≡ statuses.Done
             → sinks_of p q ≡ gone before (sinks_of o e)
-            → Commands (run_shape file name choices) (Ok told) (outside f s o e) (outside g t p q)
+            → Commands (run_shape file name choices schedule) (Ok told) (outside f s o e) (outside g t p q)
         run_done told whole line status went =
-            let none : WantedOf (run_shape file name choices) f.told s.left (ended_by before None) =
-            subst (λ (fault : Option Refusal). WantedOf (run_shape file name choices) f.told s.left (ended_by before fault))
+            let none : WantedOf (run_shape file name choices schedule) f.told s.left (ended_by before None) =
+            subst (λ (fault : Option Refusal). WantedOf (run_shape file name choices schedule) f.told s.left (ended_by before fault))
             (sym whole) wanted in
-            pieces_whole (run_shape file name choices) before (outside f s o e) (outside g t p q) told went
+            pieces_whole (run_shape file name choices schedule) before (outside f s o e) (outside g t p q) told went
             (rw (line, status) none) (rw status refl) (inl status) (takes Never judged.1 reads) (λ _ _. drawn.1)
 
         -- something is, which is refused
         run_refused : (refusal : Refusal) → Some refusal ≡ fault_of (reading_of packets) → sinks_of p q ≡ gone before (sinks_of o e)
-            → Commands (run_shape file name choices) (Err (halts.Refused refusal)) (outside f s o e) (outside g t p q)
-        run_refused refusal more went = pieces_refused (run_shape file name choices) before (outside f s o e) (outside g t p q) refusal went
-            (subst (λ (fault : Option Refusal). WantedOf (run_shape file name choices) f.told s.left (ended_by before fault))
+            → Commands (run_shape file name choices schedule) (Err (halts.Refused refusal)) (outside f s o e) (outside g t p q)
+        run_refused refusal more went = pieces_refused (run_shape file name choices schedule) before (outside f s o e) (outside g t p q) refusal went
+            (subst (λ (fault : Option Refusal). WantedOf (run_shape file name choices schedule) f.told s.left (ended_by before fault))
             (sym more) wanted)
             (inr (inl refl)) (takes Never judged.1 reads)
 
@@ -168,7 +167,7 @@ module _ (file name choices : List ℕ) (f g : FilesSeen) (s t : SourceSeen) (o 
 pub returns-in_err-net : goal.returns-in_err-net
 returns-in_err-net g c =
     let p = err_from_is_err_and c.from_residual.result c.from_residual.ensures.1 in
-    rw (p.1, p.2) (run_halted_at_file c.args.file.now c.args.node.now c.args.choices.now _ _ (g.S.Source.seen c.args.input.now)
+    rw (p.1, p.2) (run_halted_at_file c.args.file.now c.args.node.now c.args.choices.now c.args.schedule.now _ _ (g.S.Source.seen c.args.input.now)
     (g.S.Source.seen c.args.input.now)
     (g.O.Sink.seen c.args.out.now) (g.E.Sink.seen c.args.err.now)
     c.in_err-net.field-0.0 c.in_err-net.ensures)
@@ -176,7 +175,7 @@ returns-in_err-net g c =
 pub returns-in_err-node : goal.returns-in_err-node
 returns-in_err-node g c =
     let p = err_from_is_err_and c.from_residual-in_err-node.result c.from_residual-in_err-node.ensures.1 in
-    rw (p.1, p.2) (run_halted_at_node c.args.file.now c.args.node.now c.args.choices.now _ _ (g.S.Source.seen c.args.input.now)
+    rw (p.1, p.2) (run_halted_at_node c.args.file.now c.args.node.now c.args.choices.now c.args.schedule.now _ _ (g.S.Source.seen c.args.input.now)
     (g.S.Source.seen c.args.input.now)
     (g.O.Sink.seen c.args.out.now) (g.E.Sink.seen c.args.err.now)
     c.in_ok-net.net c.in_ok-net.ensures c.in_err-node.field-0.0 (sym c.in_err-node.ensures.judged))
@@ -184,7 +183,7 @@ returns-in_err-node g c =
 pub returns-in_err-packets : goal.returns-in_err-packets
 returns-in_err-packets g c =
     let p = err_from_is_err_and c.from_residual-in_err-packets.result c.from_residual-in_err-packets.ensures.1 in
-    rw (p.1, p.2) (run_halted_at_input c.args.file.now c.args.node.now c.args.choices.now _ _ _ _ (g.O.Sink.seen c.args.out.now)
+    rw (p.1, p.2) (run_halted_at_input c.args.file.now c.args.node.now c.args.choices.now c.args.schedule.now _ _ _ _ (g.O.Sink.seen c.args.out.now)
     (g.E.Sink.seen c.args.err.now)
     c.in_ok-net.net c.in_ok-net.ensures c.in_ok-node.node (sym c.in_ok-node.ensures.judged)
     c.in_err-packets.field-0.0 c.in_err-packets.ensures.judged)
@@ -192,21 +191,21 @@ returns-in_err-packets g c =
 pub returns-in_err-refusal : goal.returns-in_err-refusal
 returns-in_err-refusal g c =
     let p = err_from_is_err_and c.from_residual-in_err-refusal.result c.from_residual-in_err-refusal.ensures.1 in
-    rw (p.1, p.2) (run_halted_at_pieces c.args.file.now c.args.node.now c.args.choices.now _ _ _ _ (g.O.Sink.seen c.args.out.now)
+    rw (p.1, p.2) (run_halted_at_pieces c.args.file.now c.args.node.now c.args.choices.now c.args.schedule.now _ _ _ _ (g.O.Sink.seen c.args.out.now)
     (g.E.Sink.seen c.args.err.now)
     c.in_ok-net.net c.in_ok-net.ensures c.in_ok-node.node (sym c.in_ok-node.ensures.judged) c.in_ok-packets.packets
     c.in_ok-packets.ensures.judged (g.O.Sink.seen c.run_packets.new.out) (g.E.Sink.seen c.run_packets.new.err)
     c.in_err-refusal.field-0.0 c.in_err-refusal.ensures.wrote)
 
 pub returns-in-Some : goal.returns-in-Some
-returns-in-Some g c = run_refused c.args.file.now c.args.node.now c.args.choices.now _ _ _ _ (g.O.Sink.seen c.args.out.now)
+returns-in-Some g c = run_refused c.args.file.now c.args.node.now c.args.choices.now c.args.schedule.now _ _ _ _ (g.O.Sink.seen c.args.out.now)
     (g.E.Sink.seen c.args.err.now)
     c.in_ok-net.net c.in_ok-net.ensures c.in_ok-node.node (sym c.in_ok-node.ensures.judged) c.in_ok-packets.packets
     c.in_ok-packets.ensures.judged (g.O.Sink.seen c.run_packets.new.out) (g.E.Sink.seen c.run_packets.new.err)
     c.in-Some.refusal (sym c.in-Some.is ∙ c.in_ok-refusal.ensures.fault) c.in_ok-refusal.ensures.wrote
 
 pub returns : goal.returns
-returns g c = run_done c.args.file.now c.args.node.now c.args.choices.now _ _ _ _ (g.O.Sink.seen c.args.out.now)
+returns g c = run_done c.args.file.now c.args.node.now c.args.choices.now c.args.schedule.now _ _ _ _ (g.O.Sink.seen c.args.out.now)
     (g.E.Sink.seen c.args.err.now)
     c.in_ok-net.net c.in_ok-net.ensures c.in_ok-node.node (sym c.in_ok-node.ensures.judged) c.in_ok-packets.packets
     c.in_ok-packets.ensures.judged (g.O.Sink.seen c.run_packets.new.out) (g.E.Sink.seen c.run_packets.new.err)

@@ -1,8 +1,9 @@
 use Rattle.std.proofs.Common.{[], refl}
 use Rattle.std.proofs.lemmas.Result.{err_from_is_err_and}
 use Rattle.command_output.specs.Answers.{ending_of_step, ending_of_failure}
+use Rattle.srx_edge.specs.Steps.{Whole}
 use Rattle.pcap_io.specs.Capture.{written_head_bytes}
-use Rattle.command_output.proofs.PublicLaws.{all_longer, cut_at_out, cut_at_line, behind_line}
+use Rattle.command_output.proofs.PublicLaws.{cut_at_out, cut_at_line, behind_line}
 use Rattle.run_commands.proofs.run.run_packets.Goals as goal
 
 pub returns-in_err-write_head-clause-wrote : goal.returns-in_err-write_head-clause-wrote
@@ -11,13 +12,19 @@ returns-in_err-write_head-clause-wrote g c =
     rw (p.1, p.2) (cut_at_out written_head_bytes [] _ _ _ (g.E.Sink.seen c.args.err.now) (g.E.Sink.seen c.args.err.now)
     c.in_err-write_head.field-0.0 c.in_err-write_head.ensures)
 
-pub returns-in_err-walk_frame-in-Bare-clause-wrote : goal.returns-in_err-walk_frame-in-Bare-clause-wrote
-returns-in_err-walk_frame-in-Bare-clause-wrote g c =
-    let p = err_from_is_err_and c.from_residual-in_err-walk_frame-in-Bare.result c.from_residual-in_err-walk_frame-in-Bare.ensures.1 in
+pub returns-in_err-walk_alone-in-Bare-clause-wrote : goal.returns-in_err-walk_alone-in-Bare-clause-wrote
+returns-in_err-walk_alone-in-Bare-clause-wrote g c =
+    let p = err_from_is_err_and c.from_residual-in_err-walk_alone-in-Bare.result c.from_residual-in_err-walk_alone-in-Bare.ensures.1 in
     rw (p.1, p.2, c.in-Bare.is) (behind_line written_head_bytes [] _ (g.O.Sink.seen c.args.out.now) (g.O.Sink.seen c.write_head.new.out)
     (g.E.Sink.seen c.args.err.now) (g.E.Sink.seen c.args.err.now) c.in_ok-write_head.ensures
-    (ending_of_failure c.in_err-walk_frame-in-Bare.field-0.0) _ refl
-    (all_longer c.in_err-walk_frame-in-Bare.field-0.0 _ [] _ _ c.in_err-walk_frame-in-Bare.ensures))
+    (ending_of_failure c.in_err-walk_alone-in-Bare.field-0.0) _ refl
+    (c.in_err-walk_alone-in-Bare.ensures c.args.schedule.now))
+
+pub returns-in_ok-walk_alone-in-Bare-clause-wrote : goal.returns-in_ok-walk_alone-in-Bare-clause-wrote
+returns-in_ok-walk_alone-in-Bare-clause-wrote g c =
+    rw c.in-Bare.is (behind_line written_head_bytes [] _ (g.O.Sink.seen c.args.out.now) (g.O.Sink.seen c.write_head.new.out)
+    (g.E.Sink.seen c.args.err.now) (g.E.Sink.seen c.args.err.now) c.in_ok-write_head.ensures Whole _ refl
+    (c.in_ok-walk_alone-in-Bare.ensures c.args.schedule.now))
 
 pub returns-in_err-tell_unread_frames-in-Capture-clause-wrote : goal.returns-in_err-tell_unread_frames-in-Capture-clause-wrote
 returns-in_err-tell_unread_frames-in-Capture-clause-wrote g c =
@@ -32,6 +39,6 @@ pub returns-in_ok-tell_unread_frames-in-Capture-clause-wrote : goal.returns-in_o
 returns-in_ok-tell_unread_frames-in-Capture-clause-wrote g c =
     rw c.in-Capture.is (behind_line written_head_bytes _ _ (g.O.Sink.seen c.args.out.now) (g.O.Sink.seen c.write_head.new.out)
     (g.E.Sink.seen c.args.err.now) (g.E.Sink.seen c.tell_unread_frames.new.err) c.in_ok-write_head.ensures
-    (ending_of_step c.walk_frames.result) _
+    (ending_of_step c.walk_scheduled.result) _
     (rw (c.split_at.ensures.back, c.as_slice.ensures) at c.in_ok-tell_unread_frames-in-Capture.ensures)
-    (rw (c.split_at.ensures.back, c.as_slice.ensures) at c.walk_frames.ensures.wrote))
+    (rw (c.split_at.ensures.back, c.as_slice.ensures) at c.walk_scheduled.ensures.wrote))

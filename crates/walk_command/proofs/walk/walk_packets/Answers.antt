@@ -21,13 +21,14 @@ returns-in_err-walk_bare-in-Bare-clause-wrote g c =
     let p = err_from_is_err_and c.from_residual-in_err-walk_bare-in-Bare.result c.from_residual-in_err-walk_bare-in-Bare.ensures.1 in
     rw (p.1, p.2, c.in-Bare.is) (behind_head (ending_of_failure c.in_err-walk_bare-in-Bare.field-0.0) _ (g.O.Sink.seen c.args.out.now)
     (g.O.Sink.seen c.write_head.new.out) (g.E.Sink.seen c.args.err.now) _ c.in_ok-write_head.ensures
-    c.in_err-walk_bare-in-Bare.ensures)
+    (c.in_err-walk_bare-in-Bare.ensures c.args.schedule.now))
 
 pub returns-in_ok-walk_bare-in-Bare-clause-wrote : goal.returns-in_ok-walk_bare-in-Bare-clause-wrote
 returns-in_ok-walk_bare-in-Bare-clause-wrote g c =
-    rw c.in-Bare.is (behind_head Whole (pieces_behind_head c.args.net.now c.args.intent.now c.args.policy.now c.args.choices.now
+    rw c.in-Bare.is (behind_head Whole (pieces_behind_head c.args.net.now c.args.intent.now c.args.policy.now c.args.choices.now c.args.schedule.now
     (reading_of (Bare c.in-Bare.packet)).frames) (g.O.Sink.seen c.args.out.now) (g.O.Sink.seen c.write_head.new.out)
-    (g.E.Sink.seen c.args.err.now) _ c.in_ok-write_head.ensures c.in_ok-walk_bare-in-Bare.ensures)
+    (g.E.Sink.seen c.args.err.now) _ c.in_ok-write_head.ensures
+    (c.in_ok-walk_bare-in-Bare.ensures c.args.schedule.now))
 
 pub returns-in_err-tell_frames-in-Capture-clause-wrote : goal.returns-in_err-tell_frames-in-Capture-clause-wrote
 returns-in_err-tell_frames-in-Capture-clause-wrote g c =
@@ -42,6 +43,6 @@ pub returns-in_ok-tell_frames-in-Capture-clause-wrote : goal.returns-in_ok-tell_
 returns-in_ok-tell_frames-in-Capture-clause-wrote g c =
     rw c.in-Capture.is (behind_line written_head_bytes _ _ (g.O.Sink.seen c.args.out.now) (g.O.Sink.seen c.write_head.new.out)
     (g.E.Sink.seen c.args.err.now) (g.E.Sink.seen c.tell_frames.new.err) c.in_ok-write_head.ensures
-    (ending_of_step c.walk_frames.result) _
+    (ending_of_step c.walk_scheduled.result) _
     (rw (c.split_at.ensures.back, c.as_slice.ensures) at c.in_ok-tell_frames-in-Capture.ensures)
-    (rw (c.split_at.ensures.back, c.as_slice.ensures) at c.walk_frames.ensures.wrote))
+    (rw (c.split_at.ensures.back, c.as_slice.ensures) at c.walk_scheduled.ensures.wrote))

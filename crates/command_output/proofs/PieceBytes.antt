@@ -1,0 +1,56 @@
+-- Pieces with the same bytes in order go out alike.
+use Rattle.std.proofs.Common.{◌≡◌, ℕ, List, [], ◌∷◌, ◌++◌, Option, None, Some, refl, sym, ap, ◌∙◌}
+use Rattle.srx_edge.specs.Sinks.{SinkSeen, sent}
+use Rattle.srx_edge.specs.Steps.{Ending, Whole, Fault, Memory, How}
+use Rattle.srx_edge.proofs.PublicLaws.{sent-sent}
+use Rattle.command_output.specs.Pieces.{Piece, ForOut, ForErr, Which, ToOut, ToErr, Sinks, gone, bytes_in_order, Went, stop_at, StopsIn, WroteAll}
+use Rattle.command_output.proofs.PieceLemmas.{marked}
+
+-- the sinks once bytes have gone out to one of them
+
+abbrev sent_to : Which → List ℕ → Sinks → Sinks
+sent_to ToOut bytes sinks = record sinks { out = sent bytes sinks.out }
+sent_to ToErr bytes sinks = record sinks { err = sent bytes sinks.err }
+
+abbrev gone_bytes : List (Which × ℕ) → Sinks → Sinks
+gone_bytes [] sinks = sinks
+gone_bytes (b ∷ more) sinks = gone_bytes more (sent_to b.0 (b.1 ∷ []) sinks)
+
+sent-none : (sink : Which) (sinks : Sinks) → sent_to sink [] sinks ≡ sinks
+sent-none ToOut sinks = refl
+sent-none ToErr sinks = refl
+
+sent-both : (sink : Which) (first more : List ℕ) (sinks : Sinks) → sent_to sink more (sent_to sink first sinks) ≡ sent_to sink (first ++ more) sinks
+sent-both ToOut first more sinks = ap (λ (s : SinkSeen). record sinks { out = s }) (sent-sent more first sinks.out)
+sent-both ToErr first more sinks = ap (λ (s : SinkSeen). record sinks { err = s }) (sent-sent more first sinks.err)
+
+gone-marked : (sink : Which) (bytes : List ℕ) (more : List (Which × ℕ)) (sinks : Sinks)
+    → gone_bytes (marked sink bytes ++ more) sinks ≡ gone_bytes more (sent_to sink bytes sinks)
+gone-marked sink [] more sinks = ap (gone_bytes more) (sym (sent-none sink sinks))
+gone-marked sink (byte ∷ bytes) more sinks =
+    gone-marked sink bytes more (sent_to sink (byte ∷ []) sinks) ∙ ap (gone_bytes more) (sent-both sink (byte ∷ []) bytes sinks)
+
+gone-bytes : (pieces : List Piece) (sinks : Sinks) → gone pieces sinks ≡ gone_bytes (bytes_in_order pieces) sinks
+gone-bytes [] sinks = refl
+gone-bytes (ForOut bytes ∷ more) sinks =
+    gone-bytes more (record sinks { out = sent bytes sinks.out }) ∙ sym (gone-marked ToOut bytes (bytes_in_order more) sinks)
+gone-bytes (ForErr bytes ∷ more) sinks =
+    gone-bytes more (record sinks { err = sent bytes sinks.err }) ∙ sym (gone-marked ToErr bytes (bytes_in_order more) sinks)
+
+module _ (one other : List Piece) (old new : Sinks) (same : bytes_in_order one ≡ bytes_in_order other) where
+  gone-same : gone one old ≡ gone other old
+  gone-same = gone-bytes one old ∙ (ap (λ (bytes : List (Which × ℕ)). gone_bytes bytes old) same ∙ sym (gone-bytes other old))
+
+  went-same : (sink : Which) (how : Option How) → Went (stop_at sink how) one old new → Went (stop_at sink how) other old new
+  went-same sink None w = record { first = w.first; rest = w.rest; whole = w.whole ∙ same; sinks = w.sinks }
+  went-same sink (Some how) w =
+      record { first = w.first; rest = w.rest; whole = w.whole ∙ same; next = w.next; sinks = w.sinks }
+
+  stops-same : (ending : Ending) → StopsIn ending one old new → StopsIn ending other old new
+  stops-same ending s = record { sink = s.sink; how = s.how; ends = s.ends; went = went-same s.sink s.how s.went }
+
+  -- a step that wrote the first wrote the others
+  pub all_same : (ending : Ending) → WroteAll ending one old new → WroteAll ending other old new
+  all_same Whole h = h ∙ gone-same
+  all_same Fault h = stops-same Fault h
+  all_same Memory h = stops-same Memory h

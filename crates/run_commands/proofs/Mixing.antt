@@ -1,0 +1,93 @@
+-- The frames that a schedule gives each packet.
+use Rattle.std.proofs.Common.{◌≡◌, ℕ, zero, suc, ◌+◌, ◌<◌, false, nat_eq, List, [], ◌∷◌, ◌++◌, drop, length, map, refl, sym, ap, ◌∙◌, arith, inl, inr, subst}
+use Rattle.std.specs.Prelude.{⊤}
+use Rattle.std.specs.List.{flat_map, IsDistinct, AllByRecursion}
+use Rattle.std.proofs.lemmas.Bool.{cases_lt, ne_eqb}
+use Rattle.pcap_io.specs.declared.frame.Body.{Body}
+use Rattle.pcap_io.specs.declared.frame.Body.TheVariants as bodies
+use Rattle.pcap_io.specs.declared.frame.Frame.{Frame}
+use Rattle.pcap_io.specs.declared.head.CaptureHead.{CaptureHead}
+use Rattle.pcap_io.specs.declared.numbers.TheConstants.{HEAD_LEN, MAX_FRAMES}
+use Rattle.pcap_io.specs.Frames.{Reading, behind, frame_len, frames_of as frames_in}
+use Rattle.pcap_io.proofs.PublicLaws.{frames_of-zero, frames_of-whole, frames_of-none}
+use Rattle.net_model.specs.Network.{Network}
+use Rattle.walk_rules.specs.Walk.{Step}
+use Rattle.packet_walk.specs.Schedule.{Coming, Taken, all_of, scheduled, stages_of, steps_of}
+use Rattle.packet_walk.proofs.PublicLaws.{stages-scheduled}
+use Rattle.command_inputs.specs.declared.packets.Packets.{Packets}
+use Rattle.command_inputs.specs.declared.packets.Packets.TheVariants.{Bare, Capture}
+use Rattle.run_commands.specs.Capture.{frame_of_gave, frames_of}
+use Rattle.run_commands.specs.Run as run
+use Rattle.command_inputs.specs.Packets.{reading_of}
+use Rattle.run_commands.specs.Scheduled.{coming, frame_of_stage, frames_sent}
+
+-- the frames of all of a packet's stages are those of its walk
+frames-all : (number : ℕ) (steps : List Step) → flat_map frame_of_stage (all_of number steps) ≡ frames_of number steps
+frames-all number [] = refl
+frames-all number (s ∷ behind) = ap (λ (bytes : List ℕ). frame_of_gave number s.gave ++ bytes) (frames-all number behind)
+
+pub frames-sent : (number : ℕ) (schedule : List ℕ) (comings : List Coming) → IsDistinct nat_eq (map (λ (c : Coming). c.number) comings)
+    → frames_sent number (scheduled schedule comings) ≡ frames_of number (steps_of number comings)
+frames-sent number schedule comings apart =
+    ap (λ (stages : List Taken). flat_map frame_of_stage stages) (stages-scheduled number schedule comings apart)
+    ∙ frames-all number (steps_of number comings)
+
+-- frames numbered from n on
+
+abbrev pub AreFrom : ℕ → List Frame → Type 0
+AreFrom n [] = ⊤
+AreFrom n (frame ∷ more) = (frame.number ≡ n) × AreFrom (n + 1) more
+
+are-from : (head : CaptureHead) (most n : ℕ) (bytes : List ℕ) → AreFrom n (frames_in head most n bytes).frames
+are-from head zero n bytes = subst (λ (r : Reading). AreFrom n r.frames) (sym (frames_of-zero head n bytes)) tt
+are-from head (suc most) n bytes =
+    elim (cases_lt (length bytes) (frame_len head.little bytes)) [
+      | inl less ↦ subst (λ (r : Reading). AreFrom n r.frames) (sym (frames_of-none head (suc most) n bytes less)) tt
+      | inr whole ↦ subst (λ (r : Reading). AreFrom n r.frames) (sym (frames_of-whole head most n bytes whole))
+          (refl, are-from head most (n + 1) (behind head.little bytes))
+    ]
+
+pub are-from-packets : (packets : Packets) → AreFrom 1 (reading_of packets).frames
+are-from-packets (Bare packet) = (refl, tt)
+are-from-packets (Capture head input) = are-from head MAX_FRAMES 1 (drop HEAD_LEN input)
+
+-- so the packets of frames differ in their numbers, where each frame has one at most
+
+abbrev pub IsOne : (Frame → List Coming) → Type 1
+IsOne packets = (frame : Frame) (P : List Coming → Type 0) → P [] → ((steps : List Step) → P (coming frame.number steps)) → P (packets frame)
+
+abbrev pub numbers : List Coming → List ℕ
+numbers comings = map (λ (c : Coming). c.number) comings
+
+module _ (packets : Frame → List Coming) (one : IsOne packets) where
+  above : (m n : ℕ) → m < n → (frames : List Frame) → AreFrom n frames
+      → AllByRecursion (λ y. nat_eq m y ≡ false) (numbers (flat_map packets frames))
+  above m n less [] from = tt
+  above m n less (frame ∷ more) from =
+      let rest = above m (n + 1) (omega (arith, less)) more from.1 in
+      one frame (λ cs. AllByRecursion (λ y. nat_eq m y ≡ false) (numbers (cs ++ flat_map packets more))) rest
+      (λ steps. (ne_eqb m frame.number (λ same. omega (arith, less, from.0, same)), rest))
+
+  pub apart : (n : ℕ) (frames : List Frame) → AreFrom n frames → IsDistinct nat_eq (numbers (flat_map packets frames))
+  apart n [] from = tt
+  apart n (frame ∷ more) from =
+      let rest = apart (n + 1) more from.1 in
+      one frame (λ cs. IsDistinct nat_eq (numbers (cs ++ flat_map packets more))) rest
+      (λ steps. (above frame.number (n + 1) (omega (arith, from.0)) more from.1, rest))
+
+-- of the packets of `run`
+
+run-one : (net : Network) (node : ℕ) (choices : List ℕ) (number : ℕ) (body : Body) (P : List Coming → Type 0)
+    → P [] → ((steps : List Step) → P (coming number steps)) → P (run.coming_by net node choices number body)
+run-one net node choices number (bodies.V6 packet) P none some = some _
+run-one net node choices number (bodies.V4 packet) P none some = some _
+run-one net node choices number bodies.ShortFrame P none some = none
+run-one net node choices number bodies.NotIp P none some = none
+
+pub run-mixes : (net : Network) (node number : ℕ) (choices schedule : List ℕ) (packets : Packets)
+    → let comings = run.comings_from net node choices (reading_of packets).frames in
+    frames_sent number (scheduled schedule comings) ≡ frames_of number (steps_of number comings)
+run-mixes net node number choices schedule packets =
+    frames-sent number schedule (run.comings_from net node choices (reading_of packets).frames)
+    (apart (run.coming_of_frame net node choices) (λ frame P. run-one net node choices frame.number frame.body P) 1
+    (reading_of packets).frames (are-from-packets packets))

@@ -1,0 +1,122 @@
+-- Packets one after the other, and a packet alone, as stages in the order of a schedule.
+use Rattle.std.proofs.Common.{◌≡◌, ℕ, suc, ◌+◌, ◌-◌, Bool, true, false, if◌then◌else◌, nat_eq, List, [], ◌∷◌, ◌++◌, drop, Option, Some, refl, sym, ap, ap₂, ◌∙◌, append_assoc, append-nil, arith}
+use Rattle.std.specs.List.{flat_map}
+use Rattle.std.proofs.lemmas.Bool.{eqb-true}
+use Rattle.std.proofs.lemmas.Grind.{flat_map-append}
+use Rattle.std.proofs.lemmas.List.{map-append}
+use Rattle.pcap_io.specs.declared.frame.Body.{Body}
+use Rattle.pcap_io.specs.declared.frame.Body.TheVariants as bodies
+use Rattle.pcap_io.specs.declared.frame.Frame.{Frame}
+use Rattle.srv6_rules.specs.declared.sid.Family.{Family}
+use Rattle.srv6_rules.specs.declared.sid.Family.TheVariants.{V6, V4}
+use Rattle.srv6_rules.specs.Packet.{Content, entered}
+use Rattle.net_model.specs.Network.{Network}
+use Rattle.walk_rules.specs.declared.place.Place.{Place}
+use Rattle.walk_rules.specs.Walk.{Step, walk_of, walk_on, stage_of, end_of}
+use Rattle.walk_rules.proofs.PublicLaws.{walk_of-suc}
+use Rattle.packet_walk.specs.Schedule.{Coming, Taken, steps_of, without_first, first_of, all_of, one_by_one, scheduled}
+use Rattle.trace_replay.specs.declared.limits.TheConstants.{STAGES}
+use Rattle.run_commands.specs.Capture.{frame_of_gave, frames_of}
+use Rattle.command_output.specs.Lines.{packet_line}
+use Rattle.command_output.specs.Pieces.{Piece, Which, ToOut, ToErr, bytes_in_order}
+use Rattle.run_commands.specs.Scheduled.{coming, pieces_of_stage, pieces_of_stages, scheduled_pieces}
+use Rattle.run_commands.specs.Run as run
+use Rattle.run_commands.specs.Run.{packet_pieces, walk_from}
+use Rattle.command_output.proofs.PublicLaws.{marked, bytes_in_order-append}
+
+-- a packet's frames and then its line are the pieces of its stages, one after the other
+
+module _ (net : Network) where
+  packet-same : (number : ℕ) (s : Step) (more : List Step)
+      → bytes_in_order (packet_pieces net number (s ∷ more)) ≡ bytes_in_order (pieces_of_stages net (all_of number (s ∷ more)))
+  packet-same number s [] =
+      ap (λ (frame : List ℕ). marked ToOut frame ++ (marked ToErr (packet_line net number (end_of net (s ∷ []))) ++ []))
+      (append-nil (frame_of_gave number s.gave))
+  packet-same number s (t ∷ more) =
+      ap (λ (bytes : List (Which × ℕ)). bytes ++ (marked ToErr (packet_line net number (end_of net (t ∷ more))) ++ []))
+      (map-append (λ byte. (ToOut, byte)) (frame_of_gave number s.gave) (frames_of number (t ∷ more)))
+      ∙ (append_assoc (marked ToOut (frame_of_gave number s.gave)) (marked ToOut (frames_of number (t ∷ more)))
+      (marked ToErr (packet_line net number (end_of net (t ∷ more))) ++ [])
+      ∙ ap (λ (bytes : List (Which × ℕ)). marked ToOut (frame_of_gave number s.gave) ++ bytes) (packet-same number t more))
+
+  -- a packet of a walk, which has a stage
+
+  module _ (number : ℕ) (place : Place) (content : Content) (pick : ℕ → ℕ) where
+    abbrev steps : List Step
+    steps = walk_of STAGES net (Some place) content pick 0
+
+    first-step : steps ≡ stage_of net place content (pick 0) ∷ walk_on (STAGES - 1) net (stage_of net place content (pick 0)) pick 0
+    first-step =
+        let one_more : STAGES ≡ suc (STAGES - 1) = omega arith in
+        ap (λ (n : ℕ). walk_of n net (Some place) content pick 0) one_more ∙ walk_of-suc (STAGES - 1) net place content pick 0
+
+    pub walk-same : bytes_in_order (packet_pieces net number steps) ≡ bytes_in_order (pieces_of_stages net (all_of number steps))
+    walk-same =
+        ap (λ (all : List Step). bytes_in_order (packet_pieces net number all)) first-step
+        ∙ (packet-same number (stage_of net place content (pick 0))
+        (walk_on (STAGES - 1) net (stage_of net place content (pick 0)) pick 0)
+        ∙ sym (ap (λ (all : List Step). bytes_in_order (pieces_of_stages net (all_of number all))) first-step))
+
+    pub one-same : bytes_in_order (packet_pieces net number steps) ≡ bytes_in_order (pieces_of_stages net (one_by_one (coming number steps)))
+    one-same = walk-same
+        ∙ sym (ap (λ (stages : List Taken). bytes_in_order (pieces_of_stages net stages)) (append-nil (all_of number steps)))
+
+  -- packets one after the other
+  pub frames-same : (pieces : Frame → List Piece) (packets : Frame → List Coming)
+      → ((frame : Frame) → bytes_in_order (pieces frame) ≡ bytes_in_order (pieces_of_stages net (one_by_one (packets frame))))
+      → (frames : List Frame) → bytes_in_order (flat_map pieces frames) ≡ bytes_in_order (scheduled_pieces net [] (flat_map packets frames))
+  frames-same pieces packets each [] = refl
+  frames-same pieces packets each (frame ∷ more) =
+      let one : List Taken = one_by_one (packets frame) in
+      let others : List Taken = one_by_one (flat_map packets more) in
+      bytes_in_order-append (pieces frame) (flat_map pieces more)
+      ∙ (ap₂ (λ (a b : List (Which × ℕ)). a ++ b) (each frame) (frames-same pieces packets each more)
+      ∙ (sym (bytes_in_order-append (pieces_of_stages net one) (pieces_of_stages net others))
+      ∙ ap bytes_in_order (sym (flat_map-append (pieces_of_stage net) one others)
+      ∙ ap (pieces_of_stages net)
+      (sym (flat_map-append (λ (c : Coming). all_of c.number c.steps) (packets frame) (flat_map packets more))))))
+
+-- one packet takes its stages in their order, whatever the schedule
+
+module _ (number : ℕ) where
+  by-entry : (entry : ℕ) (schedule : List ℕ) (steps : List Step)
+      → ((left : List Step) → scheduled schedule (coming number left) ≡ all_of number left)
+      → (b : Bool) → nat_eq entry number ≡ b
+      → first_of entry (if b then steps else []) ++ scheduled schedule (if b then coming number (drop 1 steps) else coming number steps)
+      ≡ all_of number steps
+  by-entry entry schedule [] alone true is = alone []
+  by-entry entry schedule (s ∷ behind) alone true is =
+      let same : entry ≡ number = eqb-true entry number is in
+      ap₂ (λ (n : ℕ) (more : List Taken). record { number = n; step = s; behind = behind } ∷ more) same (alone behind)
+  by-entry entry schedule steps alone false is = alone steps
+
+  pub alone : (schedule : List ℕ) (steps : List Step) → scheduled schedule (coming number steps) ≡ all_of number steps
+  alone [] steps = append-nil (all_of number steps)
+  alone (entry ∷ schedule) steps = by-entry entry schedule steps (alone schedule) (nat_eq entry number) refl
+
+pub no-packet : (schedule : List ℕ) → scheduled schedule [] ≡ []
+no-packet [] = refl
+no-packet (entry ∷ schedule) = no-packet schedule
+
+-- the packets of `run`
+
+module _ (net : Network) (node : ℕ) (choices : List ℕ) where
+  run-same : (number : ℕ) (body : Body) → bytes_in_order (run.walked_by net node choices number body)
+      ≡ bytes_in_order (pieces_of_stages net (one_by_one (run.coming_by net node choices number body)))
+  run-same number (bodies.V6 packet) = one-same net number _ (entered V6 packet) _
+  run-same number (bodies.V4 packet) = one-same net number _ (entered V4 packet) _
+  run-same number bodies.ShortFrame = refl
+  run-same number bodies.NotIp = refl
+
+  pub run_one_by_one : (frames : List Frame) → bytes_in_order (flat_map (run.walked_of_frame net node choices) frames)
+      ≡ bytes_in_order (scheduled_pieces net [] (run.comings_from net node choices frames))
+  run_one_by_one frames = frames-same net (run.walked_of_frame net node choices) (run.coming_of_frame net node choices)
+      (λ frame. run-same frame.number frame.body) frames
+
+  pub run_alone : (number : ℕ) (packet schedule : List ℕ) → bytes_in_order (run.walked_by net node choices number (bodies.V6 packet))
+      ≡ bytes_in_order (scheduled_pieces net schedule
+      (run.comings_from net node choices (record { number = number; body = bodies.V6 packet } ∷ [])))
+  run_alone number packet schedule =
+      walk-same net number _ (entered V6 packet) _
+      ∙ sym (ap (λ (stages : List Taken). bytes_in_order (pieces_of_stages net stages))
+      (alone number schedule (walk_from net node choices V6 (entered V6 packet))))

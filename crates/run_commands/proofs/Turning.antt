@@ -1,0 +1,230 @@
+-- Packets in turns: what a packet's stage writes, and what is due after it.
+use Rattle.std.proofs.Common.{◌≡◌, ℕ, suc, ◌+◌, ◌≤◌, ◌<◌, List, [], ◌∷◌, ◌++◌, length, Option, Some, None, IfSome, IsSome, is_some, Ok, Err, refl, sym, ap, ◌∙◌, subst, append_assoc, append-nil, arith}
+use Rattle.std.proofs.lemmas.Bool.{false≢true}
+use Rattle.std.specs.List.{flat_map}
+use Rattle.std.proofs.lemmas.Grind.{flat_map-append}
+use Rattle.icmp6_errors.specs.Answer.{error_bytes}
+use Rattle.net_model.specs.Keeps.{Keeps}
+use Rattle.net_model.specs.Network.{Network}
+use Rattle.walk_rules.specs.declared.place.Ended.{Ended}
+use Rattle.walk_rules.specs.Laws.{TellsOfError}
+use Rattle.walk_rules.specs.Treatment.{step_of}
+use Rattle.walk_rules.specs.Walk.{Step, choice_at, end_of}
+use Rattle.walk_rules.proofs.PublicLaws.{stage-step, step-tells}
+use Rattle.packet_walk.specs.declared.event.Event.{Event}
+use Rattle.packet_walk.specs.declared.event.TheConstants.{STAGES}
+use Rattle.packet_walk.specs.Flight.{InFlight, Flight, IsGiven, IsInFlight, Turns, after_stage, event_of, packet_of, stage_in, staged, turned, with_packet}
+use Rattle.packet_walk.specs.Rest.{end_where, end_from, rest_of}
+use Rattle.packet_walk.specs.Schedule.{Taken, Progress, IsOf, IsTurnOf, IsNoTurn, due, frame_of, next_of}
+use Rattle.packet_walk.proofs.PublicLaws.{packet-same, given-packet, turned-going, turned-net, length-turned, rest-going, rest-ended, end-going, end-ended, staged-counted}
+use Rattle.srx_edge.specs.Steps.{Whole, Memory}
+use Rattle.command_output.specs.declared.halt.Failure.{Failure}
+use Rattle.command_output.specs.declared.halt.Failure.TheVariants as failures
+use Rattle.command_output.specs.Answers.{ending_of_failure}
+use Rattle.command_output.specs.Pieces.{Piece, Sinks, gone, WroteAll}
+use Rattle.run_commands.specs.Scheduled.{line_behind, line_by, pieces_of_stage, pieces_of_stages}
+use Rattle.command_output.specs.Sent.{IsEnd, IsWritable}
+use Rattle.command_output.proofs.PublicLaws.{all_longer, all_behind, all_both, all_wanting}
+use Rattle.run_commands.proofs.Writable.{gave_writable, end_within}
+
+-- what holds of the packet that is there
+pub of-there : {X : Type 0} (o : Option X) (x : X) (P : X → Type 0) → o ≡ Some x → IfSome o P → P x
+of-there o x P there h = subst (λ (p : Option _). IfSome p P) there h
+
+pub to-there : {X : Type 0} (o : Option X) (x : X) (P : X → Type 0) → o ≡ Some x → P x → IfSome o P
+to-there o x P there h = subst (λ (p : Option _). IfSome p P) (sym there) h
+
+-- a packet in flight takes its next stage
+module _ (net : Network) (p : InFlight) (keeps : Keeps net) (is : IsInFlight net p) (going : p.ended ≡ None) where
+  abbrev step : Step
+  step = stage_in net p
+
+  abbrev after : InFlight
+  after = staged net p
+
+  abbrev choice : ℕ
+  choice = choice_at p.choices p.decisions
+
+  stage-writable : IsWritable step.gave.outcome after.content
+  stage-writable = gave_writable net p.place p.content choice (step_of net p.place p.content choice) refl keeps is.place is.content
+
+  stage-tells : TellsOfError step.gave.outcome step.gave.error
+  stage-tells = step-tells net p.place p.content choice
+
+  left : p.stages < STAGES
+  left = is.counted.left going
+
+  -- it ends as its last step does
+  end-is : (end : Ended) → after.ended ≡ Some end → end ≡ end_of net (step ∷ [])
+  end-is end over =
+      sym (end-ended net after end over)
+      ∙ (end-going net p going left
+      ∙ (ap (end_where (end_of net (rest_of net p))) going
+      ∙ ap (end_of net) (rest-going net p going left ∙ ap (λ (rest : List Step). step ∷ rest) (rest-ended net after end over))))
+
+  line-where : (number : ℕ) (e : Option Ended) → after.ended ≡ e → line_behind net number step (rest_of net after) ≡ line_by net number e
+  line-where number None on =
+      ap (line_behind net number step) (rest-going net after on ((staged-counted net p going is.counted).left on))
+  line-where number (Some end) over =
+      ap (line_behind net number step) (rest-ended net after end over)
+      ∙ ap (line_by net number) (ap (λ (e : Ended). Some e) (sym (end-is end over)))
+
+  -- its line is behind its last stage
+  stage-line : (number : ℕ) → line_behind net number step (rest_of net after) ≡ line_by net number after.ended
+  stage-line number = line-where number after.ended refl
+
+  end-where-within : (e : Option Ended) → after.ended ≡ e → IfSome e (IsEnd net)
+  end-where-within None on = tt
+  end-where-within (Some end) over = subst (IsEnd net) (sym (end-is end over))
+      (end_within net p.place p.content step.gave.outcome step.gave.after step.gave.error keeps is.place
+      (stage-step net p.place p.content choice keeps is.place))
+
+  stage-within : IfSome after.ended (IsEnd net)
+  stage-within = end-where-within after.ended refl
+
+-- a turn of a packet in flight
+module _ (f : Flight) (packet : ℕ) (given : IsGiven f packet) (going : IfSome (packet_of f packet) (λ p. p.ended ≡ None)) where
+  abbrev pub which : (p : InFlight) × (packet_of f packet ≡ Some p)
+  which = given-packet f packet given
+
+  which-going : which.0.ended ≡ None
+  which-going = of-there (packet_of f packet) which.0 (λ p. p.ended ≡ None) which.1 going
+
+  pub no_event : (new : Flight) → IfSome (packet_of f packet) (λ p. Turns packet f p (Ok None) new) → ⊥
+  no_event new h =
+      let over = of-there (packet_of f packet) which.0 (λ p. Turns packet f p (Ok None) new) which.1 h in
+      absurd (false≢true (ap is_some (sym which-going) ∙ over.0))
+
+  module _ (event : Event) (new : Flight) (h : IfSome (packet_of f packet) (λ p. Turns packet f p (Ok (Some event)) new)) where
+    turns : Turns packet f which.0 (Ok (Some event)) new
+    turns = of-there (packet_of f packet) which.0 (λ p. Turns packet f p (Ok (Some event)) new) which.1 h
+
+    pub new-turned : new ≡ turned packet f
+    new-turned = turns.2 ∙ sym (turned-going packet f which.0 which.1 which-going)
+
+    pub new-there : packet_of new packet ≡ Some (staged f.net which.0)
+    new-there = ap (λ (g : Flight). packet_of g packet) turns.2
+        ∙ packet-same f.packets packet which.0 (staged f.net which.0) which.1
+
+    pub new-given : IsGiven new packet
+    new-given =
+        let e : length new.packets ≡ length f.packets =
+        ap (λ (g : Flight). length g.packets) new-turned ∙ length-turned f packet which.0 which.1 which-going in
+        record { first = given.first; last = omega (arith, given.last, e) }
+
+    pub new-error : new.error ≡ error_bytes (stage_in f.net which.0).gave.error
+    new-error = ap (λ (g : Flight). g.error) turns.2
+
+    pub event-outcome : event.outcome ≡ (stage_in f.net which.0).gave.outcome
+    event-outcome = ap (λ (e : Event). e.outcome) turns.1
+
+    module _ (keeps : Keeps f.net) (fits : IfSome (packet_of f packet) (IsInFlight f.net)) where
+      which-fits : IsInFlight f.net which.0
+      which-fits = of-there (packet_of f packet) which.0 (IsInFlight f.net) which.1 fits
+
+      pub new-writable : IfSome (packet_of new packet) (λ p. IsWritable event.outcome p.content)
+      new-writable = to-there (packet_of new packet) (staged f.net which.0) (λ p. IsWritable event.outcome p.content) new-there
+          (subst (λ o. IsWritable o (staged f.net which.0).content) (sym event-outcome)
+          (stage-writable f.net which.0 keeps which-fits which-going))
+
+      pub event-tells : TellsOfError event.outcome (stage_in f.net which.0).gave.error
+      event-tells = subst (λ o. TellsOfError o (stage_in f.net which.0).gave.error) (sym event-outcome)
+          (stage-tells f.net which.0 keeps which-fits which-going)
+
+      pub new-within : (net : Network) → f.net ≡ net → IfSome (packet_of new packet) (λ p. IfSome p.ended (IsEnd net))
+      new-within net same = to-there (packet_of new packet) (staged f.net which.0) (λ p. IfSome p.ended (IsEnd net)) new-there
+          (subst (λ (n : Network). IfSome (staged f.net which.0).ended (IsEnd n)) same
+          (stage-within f.net which.0 keeps which-fits which-going))
+
+      pub new-line : (number : ℕ) → line_behind f.net number (stage_in f.net which.0) (rest_of f.net (staged f.net which.0))
+          ≡ line_by f.net number (staged f.net which.0).ended
+      new-line number = stage-line f.net which.0 keeps which-fits which-going number
+
+-- of all stages these are done, and the others are due
+pub record InTurns (net : Network) (numbers : List ℕ) (whole : List Taken) (now : Progress) (f : Flight) (first sinks : Sinks) : Type 0 where
+  pub same_net : f.net ≡ net
+  pub same_numbers : now.numbers ≡ numbers
+  pub of : IsOf f now
+  pub done : List Taken
+  pub left : done ++ due now f ≡ whole
+  pub went : sinks ≡ gone (pieces_of_stages net done) first
+
+module _ (net : Network) (numbers : List ℕ) (whole : List Taken) (old new : Progress) (f : Flight) (first mid : Sinks)
+    (t : InTurns net numbers whole old f first mid) where
+  -- no stage is due: all went out
+  pub turns_over : IsNoTurn old f new → mid ≡ gone (pieces_of_stages net whole) first
+  turns_over none = t.went ∙ ap (λ (stages : List Taken). gone (pieces_of_stages net stages) first)
+      (sym (append-nil t.done) ∙ (ap (λ (more : List Taken). t.done ++ more) (sym none.none) ∙ t.left))
+
+  -- memory was wanting before the next stage
+  pub turns_wanting : WroteAll Memory (pieces_of_stages net whole) first mid
+  turns_wanting = subst (λ (stages : List Taken). WroteAll Memory (pieces_of_stages net stages) first mid) t.left
+      (subst (λ (pieces : List Piece). WroteAll Memory pieces first mid)
+      (sym (flat_map-append (pieces_of_stage net) t.done (due old f)))
+      (all_wanting (pieces_of_stages net t.done) (pieces_of_stages net (due old f)) first mid t.went))
+
+  module _ (packet number : ℕ) (turn : IsTurnOf old f packet new) (is : number ≡ frame_of numbers packet) where
+    abbrev pub turning : InFlight
+    turning = (which f packet turn.given turn.going).0
+
+    there : packet_of f packet ≡ Some turning
+    there = (which f packet turn.given turn.going).1
+
+    abbrev pub stage : Taken
+    stage = next_of number net turning
+
+    first-due : due old f ≡ stage ∷ due new (turned packet f)
+    first-due =
+        of-there (packet_of f packet) turning (λ p. due old f ≡ next_of (frame_of old.numbers packet) f.net p ∷ due new (turned packet f))
+        there turn.first
+        ∙ (ap (λ (n : ℕ). next_of n f.net turning ∷ due new (turned packet f))
+        (ap (λ (ns : List ℕ). frame_of ns packet) t.same_numbers ∙ sym is)
+        ∙ ap (λ (n : Network). next_of number n turning ∷ due new (turned packet f)) t.same_net)
+
+    stages-on : (t.done ++ stage ∷ []) ++ due new (turned packet f) ≡ whole
+    stages-on = append_assoc t.done (stage ∷ []) (due new (turned packet f))
+        ∙ (ap (λ (more : List Taken). t.done ++ more) (sym first-due) ∙ t.left)
+
+    pieces-on : pieces_of_stages net (t.done ++ stage ∷ []) ≡ pieces_of_stages net t.done ++ pieces_of_stage net stage
+    pieces-on = flat_map-append (pieces_of_stage net) t.done (stage ∷ [])
+        ∙ ap (λ (more : List Piece). pieces_of_stages net t.done ++ more) (append-nil (pieces_of_stage net stage))
+
+    -- a stage's pieces went out
+    pub turns_on : (g : Flight) (sinks : Sinks) → g ≡ turned packet f
+        → IfSome (packet_of f packet) (λ p. sinks ≡ gone (pieces_of_stage net (next_of number net p)) mid)
+        → InTurns net numbers whole new g first sinks
+    turns_on g sinks is-turned wrote =
+        let went : sinks ≡ gone (pieces_of_stage net stage) mid =
+        of-there (packet_of f packet) turning (λ p. sinks ≡ gone (pieces_of_stage net (next_of number net p)) mid) there wrote in
+        subst (λ (h : Flight). InTurns net numbers whole new h first sinks) (sym is-turned)
+        (record {
+          same_net = turned-net packet f ∙ t.same_net;
+          same_numbers = turn.numbers ∙ t.same_numbers;
+          of = turn.later;
+          done = t.done ++ stage ∷ [];
+          left = stages-on;
+          went = all_both (pieces_of_stages net t.done) (pieces_of_stage net stage) first mid sinks t.went went
+              ∙ ap (λ (pieces : List Piece). gone pieces first) (sym pieces-on);
+        })
+
+    -- they went out in part
+    pub turns_cut : (failure : Failure) (sinks : Sinks)
+        → IfSome (packet_of f packet) (λ p. WroteAll (ending_of_failure failure) (pieces_of_stage net (next_of number net p)) mid sinks)
+        → WroteAll (ending_of_failure failure) (pieces_of_stages net whole) first sinks
+    turns_cut failure sinks wrote =
+        let cut : WroteAll (ending_of_failure failure) (pieces_of_stage net stage) mid sinks =
+        of-there (packet_of f packet) turning
+        (λ p. WroteAll (ending_of_failure failure) (pieces_of_stage net (next_of number net p)) mid sinks) there wrote in
+        subst (λ (stages : List Taken). WroteAll (ending_of_failure failure) (pieces_of_stages net stages) first sinks) stages-on
+        (subst (λ (pieces : List Piece). WroteAll (ending_of_failure failure) pieces first sinks)
+        (sym (flat_map-append (pieces_of_stage net) (t.done ++ stage ∷ []) (due new (turned packet f))))
+        (all_longer failure (pieces_of_stages net (t.done ++ stage ∷ [])) (pieces_of_stages net (due new (turned packet f))) first sinks
+        (subst (λ (pieces : List Piece). WroteAll (ending_of_failure failure) pieces first sinks) (sym pieces-on)
+        (all_behind failure (pieces_of_stages net t.done) (pieces_of_stage net stage) first mid sinks t.went cut))))
+
+    -- fewer are due
+    pub turns_fewer : (g : Flight) → g ≡ turned packet f → length (due new g) < length (due old f)
+    turns_fewer g is-turned =
+        let e : length (due old f) ≡ suc (length (due new (turned packet f))) = ap length first-due in
+        let d : length (due new g) ≡ length (due new (turned packet f)) = ap (λ (h : Flight). length (due new h)) is-turned in
+        omega (arith, e, d)

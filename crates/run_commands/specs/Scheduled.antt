@@ -1,0 +1,72 @@
+-- What packets send in the order of a schedule (own rules).
+use Rattle.std.specs.Prelude.{◌≡◌, ℕ, ◌<◌, ◌≤◌, List, [], ◌∷◌, ◌++◌, length, All, Option, Some, None}
+use Rattle.std.specs.List.{flat_map}
+use Rattle.std.specs.List.Sorted.{IsStrictlyIncreasing}
+use Rattle.net_model.specs.Network.{Network}
+use Rattle.srv6_rules.specs.Packet.{Content}
+use Rattle.walk_rules.specs.declared.place.Ended.{Ended}
+use Rattle.walk_rules.specs.declared.place.Place.{Place}
+use Rattle.walk_rules.specs.Walk.{Step, walk_of, choice_at, end_of}
+use Rattle.trace_replay.specs.declared.limits.TheConstants.{STAGES}
+use Rattle.packet_walk.specs.Flight.{Flight}
+use Rattle.packet_walk.specs.Schedule.{Coming, Taken, comings_of, scheduled, stages_of}
+use Rattle.run_commands.specs.Capture.{frame_of_gave}
+use Rattle.command_output.specs.Lines.{packet_line}
+use Rattle.command_output.specs.Pieces.{Piece, ForOut, ForErr}
+
+-- one packet by the number of its frame and its walk
+abbrev pub coming : ℕ → List Step → List Coming
+coming number steps = record { number = number; steps = steps } ∷ []
+
+-- the line of a packet of a number whose walk ends with a step; none where there are more behind it
+abbrev pub line_behind : Network → ℕ → Step → List Step → List ℕ
+line_behind net number step [] = packet_line net number (end_of net (step ∷ []))
+line_behind net number step (next ∷ more) = []
+
+-- the frame that a stage sends, if it sends one, with the packet's number
+abbrev pub frame_of_stage : Taken → List ℕ
+frame_of_stage t = frame_of_gave t.number t.step.gave
+
+-- a stage's frame, and behind the packet's last stage its line
+abbrev pub pieces_of_stage : Network → Taken → List Piece
+pieces_of_stage net t = ForOut (frame_of_stage t) ∷ ForErr (line_behind net t.number t.step t.behind) ∷ []
+
+abbrev pub pieces_of_stages : Network → List Taken → List Piece
+pieces_of_stages net stages = flat_map (pieces_of_stage net) stages
+
+-- the pieces of all stages of packets, in the order of a schedule
+abbrev pub scheduled_pieces : Network → List ℕ → List Coming → List Piece
+scheduled_pieces net schedule comings = pieces_of_stages net (scheduled schedule comings)
+
+-- the frames that stages send of the packet of a number, in order
+abbrev pub frames_sent : ℕ → List Taken → List ℕ
+frames_sent number stages = flat_map frame_of_stage (stages_of number stages)
+
+-- the line of a packet of a number, if it has ended
+abbrev pub line_by : Network → ℕ → Option Ended → List ℕ
+line_by net number None = []
+line_by net number (Some end) = packet_line net number end
+
+-- each packet of a flight in the network has a frame's number, in which they rise
+pub record IsInStep (net : Network) (numbers : List ℕ) (f : Flight) : Type 0 where
+  pub same_net : f.net ≡ net
+  pub each : length numbers ≡ length f.packets
+  pub rising : IsStrictlyIncreasing numbers
+
+-- the packets that entered so far are these, and their frames' numbers are no more than a last one
+pub record HasEntered (net : Network) (last : ℕ) (packets : List Coming) (numbers : List ℕ) (f : Flight) : Type 0 where
+  pub in_step : IsInStep net numbers f
+  pub few : length f.packets ≤ last
+  pub below : All (λ number. number ≤ last) numbers
+  pub those : comings_of numbers f ≡ packets
+
+-- these packets enter behind all that did, whose frames' numbers are lower
+abbrev pub EntersBehind : List Coming → ℕ → List ℕ → Flight → List ℕ → Flight → Type 0
+EntersBehind packets number numbers_old old numbers_new new =
+    (net : Network) (last : ℕ) (before : List Coming) → last < number → HasEntered net last before numbers_old old
+    → HasEntered net number (before ++ packets) numbers_new new
+
+-- a packet enters, which walks from a place with a list of choices
+abbrev pub EntersOne : ℕ → Content → Place → List ℕ → List ℕ → Flight → List ℕ → Flight → Type 0
+EntersOne number content place choices numbers_old old numbers_new new =
+    EntersBehind (coming number (walk_of STAGES old.net (Some place) content (choice_at choices) 0)) number numbers_old old numbers_new new

@@ -1,0 +1,110 @@
+//! The command `run` under a schedule: the packets of the input side by side.
+
+ghost use Rattle.std.specs.Prelude.{◌≡◌, ◌<◌, ◌+◌, ◌^◌, IfOk, OnOk, length};
+ghost use Rattle.pcap_io.specs.Frames.{frames_of as frames_in};
+ghost use Rattle.packet_walk.specs.Schedule.{comings_of};
+ghost use Rattle.command_output.specs.Answers.{ending_of_step};
+ghost use Rattle.run_commands.specs.Run.{coming_of_frame, comings_from};
+ghost use Rattle.command_inputs.specs.Packets.{fault_of};
+ghost use Rattle.command_output.specs.Pieces.{WroteAll, sinks_of};
+ghost use Rattle.run_commands.specs.Scheduled.{EntersBehind, IsInStep, scheduled_pieces};
+
+use crate::scheduled::{Entered, write_turns};
+use base::NoMemory;
+use command_inputs::{Next, next_of};
+use command_output::{Failure, Refusal};
+use net_model::Net;
+use node_stage::Content;
+use pcap_io::{Body, CaptureHead, Frame, FrameReader, MAX_FRAMES};
+use srv6_rules::Family;
+use srx_edge::Sink;
+use std::alloc::Global;
+use walk_rules::{How, Place};
+
+/// The packet of a frame enters at a node, if it is read.
+fn enter_frame<'a>(
+    node: u32,
+    choices: &'a [u32],
+    frame: Frame,
+    entered: &mut Entered<'a>,
+) -> Result<(), NoMemory>
+    requires node { node < length entered.old.flight.net.nodes }
+    requires choices { 0 < length choices.now }
+    requires few { length entered.old.flight.packets + 1 < 2 ^ 32 }
+    ensures { OnOk result (EntersBehind
+        (coming_of_frame entered.old.flight.net node choices.now frame) frame.number
+        entered.old.numbers.items entered.old.flight
+        entered.new.numbers.items entered.new.flight) }
+{
+    let Frame { number, body } = frame;
+    let (family, bytes) = match body {
+        Body::V6(bytes) => (Family::V6, bytes),
+        Body::V4(bytes) => (Family::V4, bytes),
+        Body::ShortFrame | Body::NotIp => return Ok(()),
+    };
+    let place = Place {
+        node,
+        how: How::Arrived { table: 0 },
+        family,
+    };
+    let content = Content::enter(family, bytes.into_vec());
+    entered.enter(number, content, place, choices)
+}
+
+/// The packets of the frames behind a capture's head enter at a node, those that are read; and the
+/// refusal of what is behind the frames, if anything is.
+fn enter_frames<'a>(
+    alloc: Global,
+    net: &'a Net,
+    node: u32,
+    choices: &'a [u32],
+    head: CaptureHead,
+    behind: &[u8],
+) -> Result<(Entered<'a>, Option<Refusal>), NoMemory>
+    requires node { node < length net.now.nodes }
+    requires choices { 0 < length choices.now }
+    ensures fault { IfOk result (λ read.
+        read.1 ≡ fault_of (frames_in head MAX_FRAMES 1 behind.now)) }
+    ensures in_step { IfOk result (λ read.
+        IsInStep net.now read.0.numbers.items read.0.flight) }
+    ensures packets { IfOk result (λ read. comings_of read.0.numbers.items read.0.flight
+        ≡ comings_from net.now node choices.now
+        (frames_in head MAX_FRAMES 1 behind.now).frames) }
+{
+    let mut entered = Entered::new(alloc, net);
+    let mut reader = FrameReader::new(alloc, head, behind)?;
+    'frames: loop {
+        match next_of(&mut reader) {
+            Ok(Next::Frame(frame)) => enter_frame(node, choices, frame, &mut entered)?,
+            Ok(Next::End(fault)) => return Ok((entered, fault)),
+            Err(_) => return Err(NoMemory),
+        }
+    }
+}
+
+/// Walks the packets of the frames behind a capture's head in the order of a schedule, and gives the
+/// refusal of what is behind the frames, if anything is.
+pub fn walk_in_turns<O: Sink, E: Sink>(
+    alloc: Global,
+    net: &Net,
+    node: u32,
+    choices: &[u32],
+    schedule: &[u32],
+    head: CaptureHead,
+    behind: &[u8],
+    out: &mut O,
+    err: &mut E,
+) -> Result<Option<Refusal>, Failure>
+    requires node { node < length net.now.nodes }
+    requires choices { 0 < length choices.now }
+    ensures fault { IfOk result (λ fault.
+        fault ≡ fault_of (frames_in head MAX_FRAMES 1 behind.now)) }
+    ensures wrote { WroteAll (ending_of_step result)
+        (scheduled_pieces net.now schedule.now
+        (comings_from net.now node choices.now (frames_in head MAX_FRAMES 1 behind.now).frames))
+        (sinks_of (O.seen out.old) (E.seen err.old)) (sinks_of (O.seen out.new) (E.seen err.new)) }
+{
+    let (entered, fault) = enter_frames(alloc, net, node, choices, head, behind)?;
+    write_turns(alloc, net, schedule, entered, out, err)?;
+    Ok(fault)
+}

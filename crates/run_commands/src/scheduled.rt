@@ -1,0 +1,179 @@
+//! Packets side by side, in turns by a schedule, written as they go.
+
+ghost use Rattle.std.specs.Prelude.{◌≡◌, ◌≤◌, ◌<◌, ◌+◌, ◌^◌, [], IfSome, None, OnOk, Option, length};
+ghost use Rattle.icmp6_errors.specs.Answer.{error_bytes};
+ghost use Rattle.packet_walk.specs.Flight.{IsGiven, packet_of, turned};
+ghost use Rattle.packet_walk.specs.Schedule.{comings_of, next_of};
+ghost use Rattle.srx_edge.specs.Steps.{Wrote};
+ghost use Rattle.srv6_rules.specs.Packet.{Packet as PacketValue};
+ghost use Rattle.walk_rules.specs.Laws.{TellsOfError};
+ghost use Rattle.walk_rules.specs.Relation.{IsPlace};
+ghost use Rattle.command_output.specs.Answers.{ending_of_step};
+ghost use Rattle.run_commands.specs.Capture.{frame_by};
+ghost use Rattle.command_output.specs.Pieces.{WroteAll, sinks_of};
+ghost use Rattle.run_commands.specs.Scheduled.{EntersOne, IsInStep, line_by, pieces_of_stage, scheduled_pieces};
+ghost use Rattle.command_output.specs.Sent.{IsEnd, IsWritable};
+
+use crate::walk::write_frame;
+use base::NoMemory;
+use command_output::{Failure, line_of_packet, write_all};
+use net_model::Net;
+use node_stage::Content;
+use packet_walk::{Flight, Turns};
+use srx_edge::Sink;
+use std::alloc::Global;
+use walk_rules::{Outcome, Place};
+
+/// Packets that entered, with the numbers of their frames.
+#[derive(Debug, Drop)]
+pub struct Entered<'a> {
+    /// The packets.
+    pub flight: Flight<'a>,
+    /// The numbers of their frames, in the order of entering, in which they rise.
+    pub numbers: Vec<u32>,
+}
+
+impl<'a> Entered<'a> {
+    /// None yet; takes no memory.
+    pub fn new(alloc: Global, net: &'a Net) -> Entered<'a>
+        ensures flight { result.flight ≡ record { net = net.now; error = []; packets = [] } }
+        ensures numbers { result.numbers.items ≡ [] }
+    {
+        Entered {
+            flight: Flight::new(alloc, net),
+            numbers: Vec::new(alloc),
+        }
+    }
+
+    /// What stands at a place enters there, with the number of its frame, which is above those of the
+    /// packets before it, and with the choices of its decisions.
+    pub fn enter(
+        &mut self,
+        number: u32,
+        content: Content,
+        place: Place,
+        choices: &'a [u32],
+    ) -> Result<(), NoMemory>
+        requires place { IsPlace self.old.flight.net place }
+        requires choices { 0 < length choices.now }
+        requires few { length self.old.flight.packets + 1 < 2 ^ 32 }
+        ensures { OnOk result (EntersOne number content place choices.now
+            self.old.numbers.items self.old.flight self.new.numbers.items self.new.flight) }
+    {
+        self.flight.enter_content(content, place, choices)?;
+        self.numbers.push(number)?;
+        Ok(())
+    }
+}
+
+/// Writes what a packet's stage sends, with the number of its frame: the packet on a link, or the
+/// ICMPv6 error about what is dropped.
+#[tactic(auto, using(crate::proofs::Walking::errors))]
+fn write_stage<O: Sink>(
+    flight: &Flight<'_>,
+    packet: u32,
+    number: u32,
+    outcome: &Outcome,
+    room: &mut Vec<u8>,
+    out: &mut O,
+) -> Result<(), Failure>
+    requires given { IsGiven flight.now packet }
+    requires writable { IfSome (packet_of flight.now packet)
+        (λ p. IsWritable outcome.now p.content) }
+    ensures { IfSome (packet_of flight.now packet) (λ p. (told : Option PacketValue)
+        → TellsOfError outcome.now told → flight.now.error ≡ error_bytes told
+        → Wrote (ending_of_step result) (frame_by number outcome.now p.content told)
+        (O.seen out.old) (O.seen out.new)) }
+{
+    match outcome {
+        Outcome::Send { link } => write_frame(number, *link + 1, flight.bytes(packet), room, out),
+        Outcome::Drop { error: told, .. } => {
+            if !*told {
+                return Ok(());
+            }
+            write_frame(number, 0, flight.error(), room, out)
+        }
+        Outcome::Again { .. } | Outcome::Hand { .. } | Outcome::Local => Ok(()),
+    }
+}
+
+/// Writes the line of a packet, with the number of its frame, if it has ended.
+#[tactic(auto, using(command_output::proofs::PublicLaws::writing))]
+fn write_end<E: Sink>(
+    alloc: Global,
+    net: &Net,
+    flight: &Flight<'_>,
+    packet: u32,
+    number: u32,
+    err: &mut E,
+) -> Result<(), Failure>
+    requires given { IsGiven flight.now packet }
+    requires within { IfSome (packet_of flight.now packet)
+        (λ p. IfSome p.ended (IsEnd net.now)) }
+    ensures { IfSome (packet_of flight.now packet) (λ p. Wrote (ending_of_step result)
+        (line_by net.now number p.ended) (E.seen err.old) (E.seen err.new)) }
+{
+    match flight.ended(packet) {
+        Some(ended) => {
+            let line = line_of_packet(alloc, net, number, &ended)?;
+            write_all(err, line.as_bytes())
+        }
+        None => Ok(()),
+    }
+}
+
+/// A packet takes its next stage, and what that sends is written with the number of the packet's
+/// frame; behind its last stage its line.
+fn write_turn<O: Sink, E: Sink>(
+    alloc: Global,
+    net: &Net,
+    flight: &mut Flight<'_>,
+    packet: u32,
+    number: u32,
+    room: &mut Vec<u8>,
+    out: &mut O,
+    err: &mut E,
+) -> Result<(), Failure>
+    requires given { IsGiven flight.old packet }
+    requires going { IfSome (packet_of flight.old packet) (λ p. p.ended ≡ None) }
+    requires net { flight.old.net ≡ net.now }
+    ensures turned { OnOk result (flight.new ≡ turned packet flight.old) }
+    ensures wrote { IfSome (packet_of flight.old packet) (λ p. WroteAll (ending_of_step result)
+        (pieces_of_stage net.now (next_of number net.now p))
+        (sinks_of (O.seen out.old) (E.seen err.old)) (sinks_of (O.seen out.new) (E.seen err.new))) }
+{
+    flight.keeps_rules(packet);
+    let Some(event) = flight.turn(packet)? else {
+        return Ok(());
+    };
+    write_stage(flight, packet, number, &event.outcome, room, out)?;
+    write_end(alloc, net, flight, packet, number, err)
+}
+
+/// Writes all stages of the packets that entered, in the order of a schedule.
+pub fn write_turns<O: Sink, E: Sink>(
+    alloc: Global,
+    net: &Net,
+    schedule: &[u32],
+    entered: Entered<'_>,
+    out: &mut O,
+    err: &mut E,
+) -> Result<(), Failure>
+    requires { IsInStep net.now entered.numbers.items entered.flight }
+    ensures { WroteAll (ending_of_step result)
+        (scheduled_pieces net.now schedule.now
+        (comings_of entered.entry.numbers.items entered.entry.flight))
+        (sinks_of (O.seen out.old) (E.seen err.old)) (sinks_of (O.seen out.new) (E.seen err.new)) }
+{
+    let Entered {
+        mut flight,
+        numbers,
+    } = entered;
+    let mut room = Vec::new(alloc);
+    let mut turns = Turns::new(schedule, numbers.as_slice());
+    'turns: while let Some(packet) = turns.next(&flight) {
+        let number = numbers[(packet - 1) as usize];
+        write_turn(alloc, net, &mut flight, packet, number, &mut room, out, err)?;
+    }
+    Ok(())
+}
