@@ -7,9 +7,8 @@ use Rattle.trace_replay.specs.Replays.{Wrong, first_wrong, counts_of}
 use Rattle.srx_edge.specs.Edge.{file_named}
 use Rattle.command_output.specs.declared.refusal.Refusal.{Refusal}
 use Rattle.command_output.specs.declared.status.Status.TheVariants as statuses
-use Rattle.command_output.specs.Outputs.{reported}
+use Rattle.command_output.specs.Outputs.{refused, after, reported}
 use Rattle.command_inputs.specs.Judgements.{network_in, trace_in}
-use Rattle.command_output.specs.Outputs.{refused, after}
 use Rattle.command_output.specs.Pieces.{Output}
 use Rattle.command_output.specs.Shape.{Shape}
 use Rattle.command_output.specs.Verbs.{has_two_words}
