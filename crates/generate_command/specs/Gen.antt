@@ -24,10 +24,9 @@ use Rattle.generate_command.specs.declared.summed.Summary.{Summary}
 use Rattle.command_inputs.specs.Choices.{number_in}
 use Rattle.compile_commands.specs.Compile.{NetworkWants, hop_limit_line, none_line, too_long_line}
 use Rattle.command_output.specs.Halts.{flat_refusal}
-use Rattle.command_output.specs.Outputs.{reported}
+use Rattle.command_output.specs.Outputs.{refused, reported}
 use Rattle.walk_command.specs.Walk.{no_list}
 use Rattle.command_inputs.specs.Judgements.{network_in}
-use Rattle.command_output.specs.Outputs.{refused}
 use Rattle.command_output.specs.Lines.{bytes_of_text}
 use Rattle.command_output.specs.Pieces.{Output}
 use Rattle.command_output.specs.Shape.{Shape}

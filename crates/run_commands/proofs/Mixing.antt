@@ -69,6 +69,7 @@ module _ (packets : Frame → List Coming) (one : IsOne packets) where
       (λ steps. (ne_eqb m frame.number (λ same. omega (arith, less, from.0, same)), rest))
 
   pub apart : (n : ℕ) (frames : List Frame) → AreFrom n frames → IsDistinct nat_eq (numbers (flat_map packets frames))
+  unfolding IsDistinct
   apart n [] from = tt
   apart n (frame ∷ more) from =
       let rest = apart (n + 1) more from.1 in

@@ -1,19 +1,18 @@
 -- The words of the command line, and the shapes of the commands that they name (own rules).
-pub mod Run
-pub mod Compile
-pub mod Check
-pub mod Walk
-pub mod Trace
-pub mod Replay
-pub mod Show
-pub mod Gen
-use Rattle.std.specs.Prelude.{◌≡◌, ℕ, ◌<◌, true, false, if◌then◌else◌, List, [], ◌∷◌, length, map, Option, Some, None, String, string_bytes, ⊤}
+use Rattle.std.specs.Prelude.{◌≡◌, ℕ, ◌<◌, true, false, if◌then◌else◌, List, [], ◌∷◌, codes, length, map, Option, Some, None, Result, Ok, Err, String, string_bytes, ⊤}
 use Rattle.std.specs.declared.alloc.Global.{Global}
+use Rattle.command_output.specs.declared.halt.Halt.{Halt}
 use Rattle.command_output.specs.declared.status.Status.TheVariants as statuses
+use Rattle.command_output.specs.declared.told.Told.{Told}
 use Rattle.generate_command.specs.declared.gen_.Made.{Made}
 use Rattle.srv6_cli.specs.declared.commands.Words.{Words}
 use Rattle.srv6_cli.specs.declared.commands.Words.TheVariants as words
+<<<<<<< HEAD
 use Rattle.command_inputs.specs.Choices.{choices_in, schedule_in}
+=======
+use Rattle.command_inputs.specs.Choices.{choices_in}
+use Rattle.command_output.specs.Lines.{line, bytes_of_text}
+>>>>>>> part/part
 use Rattle.command_output.specs.Pieces.{ForErr}
 use Rattle.command_output.specs.Shape.{Shape}
 use Rattle.srv6_cli.specs.Words.{Command}
