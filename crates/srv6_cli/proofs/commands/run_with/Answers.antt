@@ -3,6 +3,6 @@ use Rattle.command_inputs.specs.Choices.{items_of}
 use Rattle.command_inputs.proofs.PublicLaws.{choices_in-some}
 use Rattle.srv6_cli.proofs.commands.run_with.Goals as goal
 
-pub returns-in-Some-2-clause-some : goal.returns-in-Some-2-clause-some
-returns-in-Some-2-clause-some c =
+pub returns-in-Some-schedule-clause-some : goal.returns-in-Some-schedule-clause-some
+returns-in-Some-schedule-clause-some c =
     choices_in-some c.args.choices.now c.in-Some.choices.items (ap items_of (sym c.in-Some.is) ∙ c.in_ok-choices.ensures)
