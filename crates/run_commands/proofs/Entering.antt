@@ -1,7 +1,7 @@
 -- Packets that enter, frame by frame.
 use Rattle.std.proofs.Common.{◌≡◌, ℕ, zero, suc, ◌+◌, ◌-◌, ◌^◌, ◌<◌, ◌≤◌, List, [], ◌∷◌, ◌++◌, length, get_or, Option, Some, None, Ok, Err, refl, sym, ap, ap₂, ◌∙◌, subst, append_assoc, append-nil, length-append, arith, inl, inr}
 use Rattle.std.specs.List.{flat_map}
-use Rattle.std.specs.Prelude.{All}
+use Rattle.std.specs.Prelude.{All, OnOk, Result}
 use Rattle.std.proofs.lemmas.Grind.{flat_map-append}
 use Rattle.std.proofs.lemmas.Bool.{cases_lt}
 use Rattle.std.proofs.lemmas.List.Elements.{All-push, All-get_or, All-from_get_or}
@@ -77,6 +77,11 @@ module _ (f : Flight) (numbers : List ℕ) (number : ℕ) where
     enters_as new numbers_new is ns =
         subst (λ (g : Flight). EntersOne number content place choices numbers f numbers_new g) (sym is)
         (subst (λ (xs : List ℕ). EntersOne number content place choices numbers f xs (entered f p)) (sym ns) enters_one)
+
+-- the same packets by other words
+pub enters-same : {X E : Type 0} (r : Result X E) (one other : List Coming) (number : ℕ) (ns : List ℕ) (f : Flight) (ms : List ℕ) (g : Flight)
+    → OnOk r (EntersBehind one number ns f ms g) → one ≡ other → OnOk r (EntersBehind other number ns f ms g)
+enters-same r one other number ns f ms g enters same = subst (λ (cs : List Coming). OnOk r (EntersBehind cs number ns f ms g)) same enters
 
 -- frames are numbered from 1, and there are no more than there may be
 

@@ -1,5 +1,5 @@
 -- Packets one after the other, and a packet alone, as stages in the order of a schedule.
-use Rattle.std.proofs.Common.{◌≡◌, ℕ, suc, ◌+◌, ◌-◌, Bool, true, false, if◌then◌else◌, nat_eq, List, [], ◌∷◌, ◌++◌, drop, Option, Some, refl, sym, ap, ap₂, ◌∙◌, append_assoc, append-nil, arith}
+use Rattle.std.proofs.Common.{◌≡◌, ℕ, suc, ◌+◌, ◌-◌, Bool, true, false, if◌then◌else◌, nat_eq, List, [], ◌∷◌, ◌++◌, drop, length, Option, Some, refl, sym, ap, ap₂, ◌∙◌, append_assoc, append-nil, arith}
 use Rattle.std.specs.List.{flat_map}
 use Rattle.std.proofs.lemmas.Bool.{eqb-true}
 use Rattle.std.proofs.lemmas.Grind.{flat_map-append}
@@ -17,12 +17,13 @@ use Rattle.walk_rules.proofs.PublicLaws.{walk_of-suc}
 use Rattle.packet_walk.specs.Schedule.{Coming, Taken, steps_of, without_first, first_of, all_of, one_by_one, scheduled}
 use Rattle.trace_replay.specs.declared.limits.TheConstants.{STAGES}
 use Rattle.run_commands.specs.Capture.{frame_of_gave, frames_of}
+use Rattle.srx_edge.specs.Steps.{Ending}
 use Rattle.command_output.specs.Lines.{packet_line}
-use Rattle.command_output.specs.Pieces.{Piece, Which, ToOut, ToErr, bytes_in_order}
+use Rattle.command_output.specs.Pieces.{Piece, Sinks, Which, ToOut, ToErr, WroteAll, bytes_in_order}
 use Rattle.run_commands.specs.Scheduled.{coming, pieces_of_stage, pieces_of_stages, scheduled_pieces}
 use Rattle.run_commands.specs.Run as run
 use Rattle.run_commands.specs.Run.{packet_pieces, walk_from}
-use Rattle.command_output.proofs.PublicLaws.{marked, bytes_in_order-append}
+use Rattle.command_output.proofs.PublicLaws.{all_same, marked, bytes_in_order-append}
 
 -- a packet's frames and then its line are the pieces of its stages, one after the other
 
@@ -120,3 +121,22 @@ module _ (net : Network) (node : ℕ) (choices : List ℕ) where
       walk-same net number _ (entered V6 packet) _
       ∙ sym (ap (λ (stages : List Taken). bytes_in_order (pieces_of_stages net stages))
       (alone number schedule (walk_from net node choices V6 (entered V6 packet))))
+
+  -- a step that wrote the packets one after the other wrote them under no schedule
+  pub wrote_in_order : (frames : List Frame) (schedule : List ℕ) → length schedule ≡ 0 → (ending : Ending) (old new : Sinks)
+      → WroteAll ending (flat_map (run.walked_of_frame net node choices) frames) old new
+      → WroteAll ending (scheduled_pieces net schedule (run.comings_from net node choices frames)) old new
+  wrote_in_order frames [] none ending old new wrote =
+      all_same (flat_map (run.walked_of_frame net node choices) frames)
+      (scheduled_pieces net [] (run.comings_from net node choices frames)) old new (run_one_by_one frames) ending wrote
+  wrote_in_order frames (entry ∷ schedule) none ending old new wrote = absurd (omega (arith, none))
+
+  -- a step that wrote the only packet wrote it under any
+  pub wrote_alone : (number : ℕ) (packet schedule : List ℕ) (ending : Ending) (old new : Sinks)
+      → WroteAll ending (run.walked_by net node choices number (bodies.V6 packet)) old new
+      → WroteAll ending (scheduled_pieces net schedule
+      (run.comings_from net node choices (record { number = number; body = bodies.V6 packet } ∷ []))) old new
+  wrote_alone number packet schedule ending old new wrote =
+      all_same (run.walked_by net node choices number (bodies.V6 packet))
+      (scheduled_pieces net schedule (run.comings_from net node choices (record { number = number; body = bodies.V6 packet } ∷ []))) old new
+      (run_alone number packet schedule) ending wrote

@@ -1,12 +1,14 @@
 -- Packets in turns: what a packet's stage writes, and what is due after it.
-use Rattle.std.proofs.Common.{◌≡◌, ℕ, suc, ◌+◌, ◌≤◌, ◌<◌, List, [], ◌∷◌, ◌++◌, length, Option, Some, None, IfSome, IsSome, is_some, Ok, Err, refl, sym, ap, ◌∙◌, subst, append_assoc, append-nil, arith}
+use Rattle.std.proofs.Common.{◌≡◌, ℕ, zero, suc, ◌+◌, ◌-◌, ◌≤◌, ◌<◌, List, [], ◌∷◌, ◌++◌, length, Option, Some, None, IfSome, IsSome, is_some, Ok, Err, refl, sym, ap, ◌∙◌, subst, append_assoc, append-nil, arith}
 use Rattle.std.proofs.lemmas.Bool.{false≢true}
+use Rattle.std.specs.Prelude.{OnOk, Result, slice_index, slice_index_or}
 use Rattle.std.specs.List.{flat_map}
 use Rattle.std.proofs.lemmas.Grind.{flat_map-append}
 use Rattle.icmp6_errors.specs.Answer.{error_bytes}
 use Rattle.net_model.specs.Keeps.{Keeps}
 use Rattle.net_model.specs.Network.{Network}
 use Rattle.walk_rules.specs.declared.place.Ended.{Ended}
+use Rattle.walk_rules.specs.declared.place.Outcome.{Outcome}
 use Rattle.walk_rules.specs.Laws.{TellsOfError}
 use Rattle.walk_rules.specs.Treatment.{step_of}
 use Rattle.walk_rules.specs.Walk.{Step, choice_at, end_of}
@@ -15,17 +17,25 @@ use Rattle.packet_walk.specs.declared.event.Event.{Event}
 use Rattle.packet_walk.specs.declared.event.TheConstants.{STAGES}
 use Rattle.packet_walk.specs.Flight.{InFlight, Flight, IsGiven, IsInFlight, Turns, after_stage, event_of, packet_of, stage_in, staged, turned, with_packet}
 use Rattle.packet_walk.specs.Rest.{end_where, end_from, rest_of}
-use Rattle.packet_walk.specs.Schedule.{Taken, Progress, IsOf, IsTurnOf, IsNoTurn, due, frame_of, next_of}
+use Rattle.packet_walk.specs.Schedule.{Taken, Progress, IsOf, IsTurnOf, IsNoTurn, comings_of, due, frame_of, next_of, progress, scheduled}
 use Rattle.packet_walk.proofs.PublicLaws.{packet-same, given-packet, turned-going, turned-net, length-turned, rest-going, rest-ended, end-going, end-ended, staged-counted}
-use Rattle.srx_edge.specs.Steps.{Whole, Memory}
+use Rattle.srx_edge.specs.Sinks.{SinkSeen}
+use Rattle.srx_edge.specs.Steps.{Ending, Whole, Memory, Wrote}
+use Rattle.srv6_rules.specs.Packet.{Packet}
 use Rattle.command_output.specs.declared.halt.Failure.{Failure}
 use Rattle.command_output.specs.declared.halt.Failure.TheVariants as failures
 use Rattle.command_output.specs.Answers.{ending_of_failure}
-use Rattle.command_output.specs.Pieces.{Piece, Sinks, gone, WroteAll}
-use Rattle.run_commands.specs.Scheduled.{line_behind, line_by, pieces_of_stage, pieces_of_stages}
+use Rattle.command_output.specs.Pieces.{Piece, ForErr, Sinks, gone, sinks_of, WroteAll}
+use Rattle.run_commands.specs.Capture.{frame_by, frame_of_gave}
+use Rattle.run_commands.specs.Scheduled.{IsInStep, line_behind, line_by, pieces_of_stage, pieces_of_stages}
 use Rattle.command_output.specs.Sent.{IsEnd, IsWritable}
-use Rattle.command_output.proofs.PublicLaws.{all_longer, all_behind, all_both, all_wanting}
+use Rattle.command_output.proofs.PublicLaws.{all_longer, all_behind, all_both, all_wanting, cut_at_out, line_behind_out}
 use Rattle.run_commands.proofs.Writable.{gave_writable, end_within}
+
+-- what holds, holds where a result is well
+pub ok_from : {X E : Type 0} (r : Result X E) (P : Type 0) → P → OnOk r P
+ok_from (Ok x) P h = h
+ok_from (Err e) P h = tt
 
 -- what holds of the packet that is there
 pub of-there : {X : Type 0} (o : Option X) (x : X) (P : X → Type 0) → o ≡ Some x → IfSome o P → P x
@@ -95,6 +105,19 @@ module _ (f : Flight) (packet : ℕ) (given : IsGiven f packet) (going : IfSome 
       let over = of-there (packet_of f packet) which.0 (λ p. Turns packet f p (Ok None) new) which.1 h in
       absurd (false≢true (ap is_some (sym which-going) ∙ over.0))
 
+  turn-wrote : (net : Network) → f.net ≡ net → (number : ℕ) (ending : Ending) (s t : Sinks)
+      → WroteAll ending (pieces_of_stage f.net (next_of number f.net which.0)) s t
+      → IfSome (packet_of f packet) (λ p. WroteAll ending (pieces_of_stage net (next_of number net p)) s t)
+  turn-wrote net same number ending s t wrote =
+      to-there (packet_of f packet) which.0 (λ p. WroteAll ending (pieces_of_stage net (next_of number net p)) s t) which.1
+      (subst (λ (n : Network). WroteAll ending (pieces_of_stage n (next_of number n which.0)) s t) same wrote)
+
+  -- memory was wanting for its stage
+  pub turn-wanting : (net : Network) → f.net ≡ net → (number : ℕ) (s : Sinks)
+      → IfSome (packet_of f packet) (λ p. WroteAll Memory (pieces_of_stage net (next_of number net p)) s s)
+  turn-wanting net same number s = turn-wrote net same number Memory s s
+      (all_wanting [] (pieces_of_stage f.net (next_of number f.net which.0)) s s refl)
+
   module _ (event : Event) (new : Flight) (h : IfSome (packet_of f packet) (λ p. Turns packet f p (Ok (Some event)) new)) where
     turns : Turns packet f which.0 (Ok (Some event)) new
     turns = of-there (packet_of f packet) which.0 (λ p. Turns packet f p (Ok (Some event)) new) which.1 h
@@ -140,6 +163,54 @@ module _ (f : Flight) (packet : ℕ) (given : IsGiven f packet) (going : IfSome 
           ≡ line_by f.net number (staged f.net which.0).ended
       new-line number = stage-line f.net which.0 keeps which-fits which-going number
 
+      abbrev stage-sent : ℕ → List ℕ
+      stage-sent number = frame_of_gave number (stage_in f.net which.0).gave
+
+      abbrev stage-end : ℕ → List ℕ
+      stage-end number = line_behind f.net number (stage_in f.net which.0) (rest_of f.net (staged f.net which.0))
+
+      -- what was written of what its stage sends
+      sent-by : (number : ℕ) (ending : Ending) (o q : SinkSeen)
+          → IfSome (packet_of new packet) (λ p. (told : Option Packet) → TellsOfError event.outcome told → new.error ≡ error_bytes told
+          → Wrote ending (frame_by number event.outcome p.content told) o q)
+          → Wrote ending (stage-sent number) o q
+      sent-by number ending o q wrote =
+          subst (λ (outcome : Outcome). Wrote ending
+          (frame_by number outcome (staged f.net which.0).content (stage_in f.net which.0).gave.error) o q) event-outcome
+          (of-there (packet_of new packet) (staged f.net which.0)
+          (λ p. (told : Option Packet) → TellsOfError event.outcome told → new.error ≡ error_bytes told
+          → Wrote ending (frame_by number event.outcome p.content told) o q) new-there wrote
+          (stage_in f.net which.0).gave.error event-tells new-error)
+
+      -- and of its line
+      ended-by : (net : Network) → f.net ≡ net → (number : ℕ) (ending : Ending) (e d : SinkSeen)
+          → IfSome (packet_of new packet) (λ p. Wrote ending (line_by net number p.ended) e d)
+          → Wrote ending (stage-end number) e d
+      ended-by net same number ending e d wrote =
+          subst (λ (line : List ℕ). Wrote ending line e d) (sym (new-line number))
+          (subst (λ (n : Network). Wrote ending (line_by n number (staged f.net which.0).ended) e d) (sym same)
+          (of-there (packet_of new packet) (staged f.net which.0) (λ p. Wrote ending (line_by net number p.ended) e d) new-there wrote))
+
+      pub turn-cut : (net : Network) → f.net ≡ net → (number : ℕ) (failure : Failure) (o q e : SinkSeen)
+          → IfSome (packet_of new packet) (λ p. (told : Option Packet) → TellsOfError event.outcome told → new.error ≡ error_bytes told
+          → Wrote (ending_of_failure failure) (frame_by number event.outcome p.content told) o q)
+          → IfSome (packet_of f packet) (λ p. WroteAll (ending_of_failure failure) (pieces_of_stage net (next_of number net p))
+          (sinks_of o e) (sinks_of q e))
+      turn-cut net same number failure o q e wrote =
+          turn-wrote net same number (ending_of_failure failure) (sinks_of o e) (sinks_of q e)
+          (cut_at_out (stage-sent number) (stage-end number) (ForErr (stage-end number) ∷ []) o q e e failure
+          (sent-by number (ending_of_failure failure) o q wrote))
+
+      pub turn-ends : (net : Network) → f.net ≡ net → (number : ℕ) (ending : Ending) (o q e d : SinkSeen)
+          → IfSome (packet_of new packet) (λ p. (told : Option Packet) → TellsOfError event.outcome told → new.error ≡ error_bytes told
+          → Wrote Whole (frame_by number event.outcome p.content told) o q)
+          → IfSome (packet_of new packet) (λ p. Wrote ending (line_by net number p.ended) e d)
+          → IfSome (packet_of f packet) (λ p. WroteAll ending (pieces_of_stage net (next_of number net p)) (sinks_of o e) (sinks_of q d))
+      turn-ends net same number ending o q e d sent ends =
+          turn-wrote net same number ending (sinks_of o e) (sinks_of q d)
+          (line_behind_out (stage-sent number) (stage-end number) [] o q e d (sent-by number Whole o q sent) ending
+          (ended-by net same number ending e d ends))
+
 -- of all stages these are done, and the others are due
 pub record InTurns (net : Network) (numbers : List ℕ) (whole : List Taken) (now : Progress) (f : Flight) (first sinks : Sinks) : Type 0 where
   pub same_net : f.net ≡ net
@@ -148,6 +219,34 @@ pub record InTurns (net : Network) (numbers : List ℕ) (whole : List Taken) (no
   pub done : List Taken
   pub left : done ++ due now f ≡ whole
   pub went : sinks ≡ gone (pieces_of_stages net done) first
+
+-- before the first turn
+pub turns_start : (net : Network) (numbers schedule : List ℕ) (now : Progress) (f : Flight) (sinks : Sinks) → IsInStep net numbers f
+    → now ≡ progress schedule numbers 0 → ((g : Flight) → length numbers ≡ length g.packets → IsOf g now)
+    → InTurns net numbers (scheduled schedule (comings_of numbers f)) now f sinks sinks
+turns_start net numbers schedule now f sinks step is of = record {
+  same_net = step.same_net;
+  same_numbers = ap (λ (at : Progress). at.numbers) is;
+  of = of f step.each;
+  done = [];
+  left = ap (λ (at : Progress). due at f) is;
+  went = refl;
+}
+
+-- what is within a list doesn't depend on what is past its end
+within-any : (xs : List ℕ) (i d e : ℕ) → i < length xs → slice_index_or xs i d ≡ slice_index_or xs i e
+within-any [] i d e within = absurd (omega (arith, within))
+within-any (x ∷ xs) zero d e within = refl
+within-any (x ∷ xs) (suc i) d e within = within-any xs i d e (omega (arith, within))
+
+frame-at : (numbers : List ℕ) (packet : ℕ) → 1 ≤ packet → slice_index numbers (packet - 1) ≡ frame_of numbers packet
+frame-at numbers zero first = absurd (omega (arith, first))
+frame-at numbers (suc before) first = let e : suc before - 1 ≡ before = omega arith in ap (slice_index numbers) e
+
+-- the number of a packet's frame, as it stands among the numbers
+pub frame-is : (numbers : List ℕ) (packet number : ℕ) → 1 ≤ packet → packet - 1 < length numbers
+    → number ≡ slice_index_or numbers (packet - 1) number → number ≡ frame_of numbers packet
+frame-is numbers packet number first within is = is ∙ (within-any numbers (packet - 1) number 0 within ∙ frame-at numbers packet first)
 
 module _ (net : Network) (numbers : List ℕ) (whole : List Taken) (old new : Progress) (f : Flight) (first mid : Sinks)
     (t : InTurns net numbers whole old f first mid) where
@@ -162,6 +261,13 @@ module _ (net : Network) (numbers : List ℕ) (whole : List Taken) (old new : Pr
       (subst (λ (pieces : List Piece). WroteAll Memory pieces first mid)
       (sym (flat_map-append (pieces_of_stage net) t.done (due old f)))
       (all_wanting (pieces_of_stages net t.done) (pieces_of_stages net (due old f)) first mid t.went))
+
+  -- the packet whose turn it is has a number
+  pub turns_within : (packet : ℕ) → IsTurnOf old f packet new → packet - 1 < length numbers
+  turns_within packet turn =
+      let e : length old.numbers ≡ length f.packets = t.of.each in
+      let n : length old.numbers ≡ length numbers = ap length t.same_numbers in
+      omega (arith, turn.given.first, turn.given.last, e, n)
 
   module _ (packet number : ℕ) (turn : IsTurnOf old f packet new) (is : number ≡ frame_of numbers packet) where
     abbrev pub turning : InFlight

@@ -3,6 +3,10 @@ use Rattle.std.proofs.lemmas.Result.{err_from_is_err_and}
 use Rattle.command_output.specs.Answers.{ending_of_step, ending_of_failure}
 use Rattle.srx_edge.specs.Steps.{Whole}
 use Rattle.pcap_io.specs.Capture.{written_head_bytes}
+use Rattle.command_inputs.specs.declared.packets.Packets.TheVariants.{Bare}
+use Rattle.command_inputs.specs.Packets.{reading_of}
+use Rattle.run_commands.specs.Run.{comings_from}
+use Rattle.run_commands.specs.Scheduled.{scheduled_pieces}
 use Rattle.command_output.proofs.PublicLaws.{cut_at_out, cut_at_line, behind_line}
 use Rattle.run_commands.proofs.run.run_packets.Goals as goal
 
@@ -22,7 +26,10 @@ returns-in_err-walk_alone-in-Bare-clause-wrote g c =
 
 pub returns-in_ok-walk_alone-in-Bare-clause-wrote : goal.returns-in_ok-walk_alone-in-Bare-clause-wrote
 returns-in_ok-walk_alone-in-Bare-clause-wrote g c =
-    rw c.in-Bare.is (behind_line written_head_bytes [] _ (g.O.Sink.seen c.args.out.now) (g.O.Sink.seen c.write_head.new.out)
+    rw c.in-Bare.is (behind_line written_head_bytes []
+    (scheduled_pieces c.args.net.now c.args.schedule.now
+    (comings_from c.args.net.now c.args.node c.args.choices.now (reading_of (Bare c.in-Bare.packet)).frames))
+    (g.O.Sink.seen c.args.out.now) (g.O.Sink.seen c.write_head.new.out)
     (g.E.Sink.seen c.args.err.now) (g.E.Sink.seen c.args.err.now) c.in_ok-write_head.ensures Whole _ refl
     (c.in_ok-walk_alone-in-Bare.ensures c.args.schedule.now))
 
