@@ -25,11 +25,7 @@ use Rattle.command_output.specs.declared.refusal.Refusal.{Refusal}
 use Rattle.command_output.specs.declared.status.Status.{Status}
 use Rattle.command_output.specs.declared.status.Status.TheVariants as statuses
 use Rattle.command_output.specs.Halts.{flat_refusal}
-<<<<<<< HEAD
-use Rattle.command_output.specs.Outputs.{reported, refused}
-=======
 use Rattle.command_output.specs.Outputs.{refused, reported, output_of_judgement}
->>>>>>> part/part
 use Rattle.command_inputs.specs.Judgements.{network_in, intent_in, cert_in}
 use Rattle.command_output.specs.Lines.{line, bytes_of_text}
 use Rattle.command_output.specs.Pieces.{Output}

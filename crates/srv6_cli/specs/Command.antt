@@ -7,12 +7,8 @@ use Rattle.command_output.specs.declared.told.Told.{Told}
 use Rattle.generate_command.specs.declared.gen_.Made.{Made}
 use Rattle.srv6_cli.specs.declared.commands.Words.{Words}
 use Rattle.srv6_cli.specs.declared.commands.Words.TheVariants as words
-<<<<<<< HEAD
 use Rattle.command_inputs.specs.Choices.{choices_in, schedule_in}
-=======
-use Rattle.command_inputs.specs.Choices.{choices_in}
 use Rattle.command_output.specs.Lines.{line, bytes_of_text}
->>>>>>> part/part
 use Rattle.command_output.specs.Pieces.{ForErr}
 use Rattle.command_output.specs.Shape.{Shape}
 use Rattle.srv6_cli.specs.Words.{Command}
