@@ -184,12 +184,12 @@ packets_failed net node choices whole now new failure first sink p h =
     wrote_frames (ending_of_failure failure) net node choices whole.frames first sink
     (told_failed (frame_trace net node choices) whole now new failure first sink p h)
 
-pub packets_all : (net : Network) (node : ℕ) (choices : List ℕ) (whole : Reading) (now new : Reader) (fault : Option Refusal)
-    (first sink : SinkSeen) → LinesWent (frame_trace net node choices) whole now first sink → Nexts now (Ok (nexts.End fault)) new
+pub packets_all : (net : Network) (node : ℕ) (choices : List ℕ) (whole : Reading) (now : Reader) (fault : Option Refusal)
+    (first sink : SinkSeen) → LinesWent (frame_trace net node choices) whole now first sink → Nexts now (Ok (nexts.End fault)) now
     → sink ≡ sent (packets_trace net (traced_of node choices whole.frames)) first
-packets_all net node choices whole now new fault first sink p h =
+packets_all net node choices whole now fault first sink p h =
     wrote_frames Whole net node choices whole.frames first sink
-    (told_all (frame_trace net node choices) whole now new fault first sink p h)
+    (told_all (frame_trace net node choices) whole now now fault first sink p h)
 
 -- what wasn't done with a trace that has no end wasn't done with any
 pub unended_cut : (failure : Failure) (net : Network) (packets : List Traced) (fault : Option Refusal) (old new : SinkSeen)

@@ -26,5 +26,5 @@ returns-in_err-trace_frame-in-Frame-clause-wrote g c =
     c.in_err-trace_frame-in-Frame.field-0.0 c.in_err-trace_frame-in-Frame.ensures)
 
 pub returns-in-End-clause-wrote : goal.returns-in-End-clause-wrote
-returns-in-End-clause-wrote g c = packets_all c.args.net.now c.args.node c.args.choices.now _ _ _ c.in-End.fault _ _
+returns-in-End-clause-wrote g c = packets_all c.args.net.now c.args.node c.args.choices.now _ _ c.in-End.fault _ _
     c.frames.invariant (rw c.in-End.is at c.in_ok-frame.ensures)
