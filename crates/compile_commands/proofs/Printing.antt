@@ -47,9 +47,9 @@ use Rattle.command_output.specs.declared.refusal.Refusal.{Refusal}
 use Rattle.command_output.specs.declared.refusal.Refusal.TheVariants as refusals
 use Rattle.command_output.specs.declared.status.Status.{Status}
 use Rattle.command_output.specs.declared.status.Status.TheVariants as statuses
-use Rattle.command_output.specs.Outputs as checks
-use Rattle.compile_commands.specs.Check.{CertWants, FlatWants}
-use Rattle.command_output.specs.Outputs.{told_of, reported}
+use Rattle.command_output.specs.Outputs.{reported}
+use Rattle.compile_commands.specs.Check as checks
+use Rattle.compile_commands.specs.Check.{CertWants, FlatWants, told_of}
 use Rattle.compile_commands.specs.Compile.{AnswerWants, NetworkWants, IntentWants, HasValues, hop_limit_line, no_report, none_line, printed, report_of, too_long_line}
 use Rattle.command_inputs.specs.Judgements.{network_in, network_by, intent_in, intent_by, cert_in, cert_by}
 use Rattle.command_output.specs.Pieces.{Output, bytes_for_out}

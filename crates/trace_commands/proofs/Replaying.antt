@@ -21,9 +21,9 @@ use Rattle.srv6_rules.specs.Packet.{entered}
 use Rattle.net_model.specs.Keeps.{Keeps}
 use Rattle.net_model.specs.Named.{node_numbered}
 use Rattle.net_model.specs.Network.{Network}
+use Rattle.net_model.specs.Rules.{IsNetwork}
 use Rattle.net_model.proofs.PublicLaws.{keeps_from_network, position_item}
 use Rattle.net_reader.specs.Reading.{net_in}
-use Rattle.net_reader.proofs.ReadLemmas.{exact-networks}
 use Rattle.trace_replay.specs.declared.verdict.Replayed.{Replayed}
 use Rattle.trace_replay.specs.Replays.{Wrong, counts_of}
 use Rattle.trace_replay.specs.Written.{IsTraced, Traced, counts_written, packets_lines, trace_lines, trace_text, unended_text}
@@ -66,12 +66,13 @@ ok-else : {A : Type 0} (too_big : Bool) (refusal : Refusal) (read : Result A Ref
 ok-else true refusal read a e = absurd (let no : ⊥ = cc in no)
 ok-else false refusal read a e = e
 
-described-keeps : (text : List ℕ) (net : Network) → network_in text ≡ Ok net → Keeps net
-described-keeps text net e =
-    let read : net_in text ≡ Ok net = ok-as (λ fault. refusals.Net fault) (net_in text) net
-    (ok-else (nat_lt FILE_LIMIT (length text)) (refusals.TooBig FILE_LIMIT) (refused_as (λ fault. refusals.Net fault) (net_in text)) net e) in
-    let parts = (exact-networks text net).0 read in
-    keeps_from_network net parts.3
+-- a text gives a network that keeps the rules
+abbrev pub RulesAreKept : Type 0
+RulesAreKept = (text : List ℕ) (net : Network) → net_in text ≡ Ok net → IsNetwork net
+
+described-keeps : RulesAreKept → (text : List ℕ) (net : Network) → network_in text ≡ Ok net → Keeps net
+described-keeps rules text net e = keeps_from_network net (rules text net (ok-as (λ fault. refusals.Net fault) (net_in text) net
+    (ok-else (nat_lt FILE_LIMIT (length text)) (refusals.TooBig FILE_LIMIT) (refused_as (λ fault. refusals.Net fault) (net_in text)) net e)))
 
 named-some : (found : Option ℕ) (node : ℕ) → node_or found ≡ Ok node → found ≡ Some node
 named-some None node e = absurd (let no : ⊥ = cc in no)
@@ -295,8 +296,8 @@ unended-output net packets keeps each fits =
     (unended-bad net keeps packets each) refl in
     ap (λ (r : Result (List (List ℕ)) Refusal). after r (replayed net)) read
 
-pub whole_right : WholeTracesAreRight
-whole_right text name choices input h done fits =
+pub whole_right : RulesAreKept → WholeTracesAreRight
+whole_right rules text name choices input h done fits =
     let judged = done-judged text name choices input done in
     let packets = traced_under choices judged in
     let fault = done-unrefused (ForOut (text_of judged.net judged.node choices (reading_of judged.packets)) ∷ [])
@@ -306,12 +307,12 @@ whole_right text name choices input h done fits =
       judged,
       replays text (trace_for_out text name choices input) judged.net _ judged.described
           (ap (replay_output judged.net) out
-          ∙ right-output judged.net packets (described-keeps text judged.net judged.described) (judged-entered choices judged h)
+          ∙ right-output judged.net packets (described-keeps rules text judged.net judged.described) (judged-entered choices judged h)
           (subst (λ (bytes : List ℕ). length bytes ≤ FILE_LIMIT) out fits)),
     )
 
-pub unended_refused : UnendedTracesAreRefused
-unended_refused text name choices input h judged ends fits =
+pub unended_refused : RulesAreKept → UnendedTracesAreRefused
+unended_refused rules text name choices input h judged ends fits =
     let packets = traced_under choices judged in
     let fault = refused-some (ForOut (text_of judged.net judged.node choices (reading_of judged.packets)) ∷ [])
     (fault_of (reading_of judged.packets)) (ap (λ (o : Output). o.status) (sym (output-judged choices judged)) ∙ ends) in
@@ -319,5 +320,5 @@ unended_refused text name choices input h judged ends fits =
     out-judged choices judged ∙ ap (text_by judged.net packets) fault.1 in
     replays text (trace_for_out text name choices input) judged.net _ judged.described
     (ap (replay_output judged.net) out
-    ∙ unended-output judged.net packets (described-keeps text judged.net judged.described) (judged-entered choices judged h)
+    ∙ unended-output judged.net packets (described-keeps rules text judged.net judged.described) (judged-entered choices judged h)
     (subst (λ (bytes : List ℕ). length bytes ≤ FILE_LIMIT) out fits))

@@ -2,6 +2,8 @@
 
 ghost use Rattle.trace_commands.specs.Replaying.{OutReceives, UnendedTracesAreRefused, WholeTracesAreRight};
 
+use net_reader::networks_keep_the_rules;
+
 /// What `trace` writes for `out` of bytes as input, where its status is Done and the text has no
 /// more bytes than a file may have: `replay`, given the same description and this text as its
 /// trace, has `ok` with the numbers of the packets that were read and of their lines as its one
@@ -11,4 +13,6 @@ pub fn what_is_traced_is_replayed()
     ensures out { OutReceives }
     ensures whole { WholeTracesAreRight }
     ensures unended { UnendedTracesAreRefused }
-{}
+{
+    networks_keep_the_rules();
+}

@@ -6,7 +6,7 @@ ghost use Rattle.pcap_io.specs.Frames.{frames_of as frames_in};
 ghost use Rattle.srv6_rules.specs.Packet.{bytes_of};
 ghost use Rattle.srx_edge.specs.Steps.{Wrote};
 ghost use Rattle.command_output.specs.Answers.{CommandsOut, ending_of_step};
-ghost use Rattle.trace_commands.specs.Trace.{text_of, traced_as, traced_of, traced_of_frame};
+ghost use Rattle.trace_commands.specs.Trace.{text_of, trace_shape, traced_as, traced_of, traced_of_frame};
 ghost use Rattle.command_output.specs.Lines.{line};
 ghost use Rattle.command_inputs.specs.Packets.{HasHead, fault_of, reading_of};
 ghost use Rattle.trace_replay.specs.Lines.{outcome_text, stages_text};
