@@ -61,8 +61,9 @@ pub fn unknown_routing_fault(place: ChainPlace, header: &[u8]) -> Option<Fault>
     })
 }
 
-/// The segments of the segment routing header at a place are out of range, which is a fault in
-/// Segments Left (RFC 8754 section 4.3.1.1, RFC 8986 section 4.6).
+/// The segments of the segment routing header at a place are out of range, or one is left where
+/// none may be, which is a fault in Segments Left (RFC 8754 section 4.3.1.1, RFC 8986 sections 4.1
+/// and 4.4 to 4.8).
 pub fn bad_segments(at: usize) -> Fault
     requires { at ≤ MOST_LEN }
     ensures { result ≡ record { reason = Reason.BadSegments; at = at + SEGMENTS_LEFT_AT } }

@@ -65,7 +65,8 @@ fn judge_bytes(compression: Compression, at: usize, bytes: &[u8]) -> Judged
 /// Whether the whole segment routing header that stands at a place of a packet, in bytes from its
 /// first, is at its end for a SID with REPLACE-CSID: Segments Left is 0, and the destination's
 /// index is 0, or the entry at 0 is there and its CSID at the index below is 0. A SID that
-/// decapsulates refuses the header where it is not (RFC 8986 section 4.6, RFC 9800 section 4.2).
+/// decapsulates refuses the header where it is not (RFC 8986 sections 4.4 to 4.8, RFC 9800 section
+/// 4.2).
 pub fn is_at_end(compression: Compression, at: usize, bytes: &[u8]) -> bool
     requires packet { HoldsPacket bytes.now }
     requires replace { IsReplace compression }

@@ -1,14 +1,11 @@
--- What each behaviour does, and which SIDs lists take.
-use Rattle.std.proofs.Common.{◌≡◌, ℕ, Bool, true, false, ◌==◌, ◌&&◌, ◌||◌, not, refl, ap, ◌⊎◌, ◌↔◌, inl, inr}
-use Rattle.std.specs.Prelude.{None}
+-- Which behaviours go on, and which expose what.
+use Rattle.std.proofs.Common.{◌≡◌, ℕ, Bool, true, false, ◌==◌, ◌&&◌, ◌||◌, refl, ap, ◌⊎◌, ◌↔◌, inl, inr}
 use Rattle.std.proofs.lemmas.Bool.{eqb-true, or_cases}
 use Rattle.srv6_rules.specs.declared.sid.Behaviour.{Behaviour}
 use Rattle.srv6_rules.specs.declared.sid.Behaviour.TheVariants.{End, EndX, EndT, Dx6, Dx4, Dt6, Dt4, Dt46, B6, B6Red}
-use Rattle.srv6_rules.specs.declared.sid.Csid.{Csid}
-use Rattle.srv6_rules.specs.declared.sid.Csid.TheVariants as csids
 use Rattle.srv6_rules.specs.declared.sid.Family.TheVariants as families
 use Rattle.srv6_rules.specs.declared.sid.SidEntry.{SidEntry}
-use Rattle.srv6_rules.specs.Behaviours.{behaviour_goes_on, behaviour_exposes, behaviour_policy, behaviour_is_listed, goes_on, exposes, is_plain, is_listed, ipv6_inside, ipv4_inside, family_inside, is_packet_inside}
+use Rattle.srv6_rules.specs.Behaviours.{behaviour_goes_on, behaviour_exposes, goes_on, exposes, ipv6_inside, ipv4_inside, family_inside, is_packet_inside}
 
 -- ---- what goes on
 
@@ -170,80 +167,3 @@ goes_on-exposes s kind e no_usd = rw (goes_on-exposes_by s.behaviour kind e, no_
 
 pub goes_on-exposes_usd : (s : SidEntry) (kind : ℕ) → goes_on s ≡ true → s.usd ≡ true → exposes s kind ≡ is_packet_inside kind
 goes_on-exposes_usd s kind e usd = rw (goes_on-exposes_by s.behaviour kind e, usd) refl
-
--- ---- what lists take
-
-abbrev IsListed : Behaviour → Type 0
-IsListed b = (b ≡ End) ⊎ ((b ≡ EndX) ⊎ (((table : ℕ) × (b ≡ EndT table)) ⊎ ((b ≡ Dx6) ⊎ ((table : ℕ) × (b ≡ Dt6 table)))))
-
-listed-forth : (b : Behaviour) → behaviour_is_listed b ≡ true → IsListed b
-listed-forth End e = inl refl
-listed-forth EndX e = inr (inl refl)
-listed-forth (EndT table) e = inr (inr (inl (table, refl)))
-listed-forth Dx6 e = inr (inr (inr (inl refl)))
-listed-forth Dx4 e = cc
-listed-forth (Dt6 table) e = inr (inr (inr (inr (table, refl))))
-listed-forth (Dt4 table) e = cc
-listed-forth (Dt46 table) e = cc
-listed-forth (B6 policy) e = cc
-listed-forth (B6Red policy) e = cc
-
-listed-back : (b : Behaviour) → IsListed b → behaviour_is_listed b ≡ true
-listed-back b (inl e) = ap behaviour_is_listed e
-listed-back b (inr (inl e)) = ap behaviour_is_listed e
-listed-back b (inr (inr (inl t))) = ap behaviour_is_listed t.1
-listed-back b (inr (inr (inr (inl e)))) = ap behaviour_is_listed e
-listed-back b (inr (inr (inr (inr t)))) = ap behaviour_is_listed t.1
-
-parts-forth : (c : Csid) (psp usp usd listed : Bool) → (is_plain c && (not psp && (not usp && (not usd && listed)))) ≡ true
-    → (c ≡ csids.Plain) × ((psp ≡ false) × ((usp ≡ false) × ((usd ≡ false) × (listed ≡ true))))
-parts-forth csids.Plain false false false true e = (refl, (refl, (refl, (refl, refl))))
-parts-forth csids.Plain false false false false e = cc
-parts-forth csids.Plain false false true listed e = cc
-parts-forth csids.Plain false true usd listed e = cc
-parts-forth csids.Plain true usp usd listed e = cc
-parts-forth csids.Next psp usp usd listed e = cc
-parts-forth csids.Replace psp usp usd listed e = cc
-
-parts-back : (c : Csid) (psp usp usd listed : Bool)
-    → (c ≡ csids.Plain) × ((psp ≡ false) × ((usp ≡ false) × ((usd ≡ false) × (listed ≡ true))))
-    → (is_plain c && (not psp && (not usp && (not usd && listed)))) ≡ true
-parts-back c psp usp usd listed h = rw (h.0, h.1.0, h.1.1.0, h.1.1.1.0, h.1.1.1.1) refl
-
-pub listed-is : (s : SidEntry) → (is_listed s ≡ true) ↔ ((s.csid ≡ csids.Plain) × ((s.psp ≡ false) × ((s.usp ≡ false) × ((s.usd ≡ false)
-    × IsListed s.behaviour))))
-listed-is s = (
-  λ e. let h = parts-forth s.csid s.psp s.usp s.usd (behaviour_is_listed s.behaviour) e in
-      (h.0, (h.1.0, (h.1.1.0, (h.1.1.1.0, listed-forth s.behaviour h.1.1.1.1)))),
-  λ h. parts-back s.csid s.psp s.usp s.usd (behaviour_is_listed s.behaviour)
-      (h.0, (h.1.0, (h.1.1.0, (h.1.1.1.0, listed-back s.behaviour h.1.1.1.1)))),
-)
-
--- what lists take has no flavours
-pub listed-psp : (s : SidEntry) → is_listed s ≡ true → s.psp ≡ false
-listed-psp s e = ((listed-is s).0 e).1.0
-
-pub listed-usp : (s : SidEntry) → is_listed s ≡ true → s.usp ≡ false
-listed-usp s e = ((listed-is s).0 e).1.1.0
-
-pub listed-usd : (s : SidEntry) → is_listed s ≡ true → s.usd ≡ false
-listed-usd s e = ((listed-is s).0 e).1.1.1.0
-
-pub listed-plain : (s : SidEntry) → is_listed s ≡ true → s.csid ≡ csids.Plain
-listed-plain s e = ((listed-is s).0 e).0
-
--- a SID that lists take binds no policy
-unbound-by : (b : Behaviour) → behaviour_is_listed b ≡ true → behaviour_policy b ≡ None
-unbound-by End e = refl
-unbound-by EndX e = refl
-unbound-by (EndT table) e = refl
-unbound-by Dx6 e = refl
-unbound-by Dx4 e = refl
-unbound-by (Dt6 table) e = refl
-unbound-by (Dt4 table) e = refl
-unbound-by (Dt46 table) e = refl
-unbound-by (B6 policy) e = cc
-unbound-by (B6Red policy) e = cc
-
-pub listed-unbound : (s : SidEntry) → is_listed s ≡ true → behaviour_policy s.behaviour ≡ None
-listed-unbound s e = unbound-by s.behaviour (listed-back s.behaviour ((listed-is s).0 e).1.1.1.1)

@@ -144,7 +144,6 @@ kind_of-fits reasons.HmacTlv at kind h e = cc
 kind_of-fits reasons.BadTlv at kind h e = cc
 kind_of-fits reasons.UnknownRouting at kind h e = fits_along (Parameter 0 at) kind (omega arith, h) e
 kind_of-fits reasons.UpperLayer at kind h e = fits_along (Parameter 4 at) kind (omega arith, h) e
-kind_of-fits reasons.NotBuilt at kind h e = cc
 kind_of-fits reasons.Ttl at kind h e = cc
 kind_of-fits reasons.TooBig at kind h e = cc
 kind_of-fits reasons.InnerHop at kind h e = cc

@@ -10,7 +10,7 @@ pub use Rattle.srv6_rules.proofs.Without.{without-others, without-bytes, without
 pub use Rattle.srv6_rules.proofs.AreaItems.{area_fault-empty, area_fault-item, area_fault-within, options_fault-within, tlvs_fault-within, pad1-skipped, option-skipped, option-discarded, option-told, option-bad, tlv-hmac, tlv-bad, tlv-pad1, tlv-skipped}
 pub use Rattle.srv6_rules.proofs.Reached.{over-goes_on, over-passed, over-all_passed, over-decides, reached-contained, reached-lies, reached-stands, first-there}
 pub use Rattle.srv6_rules.proofs.Treatments.{first-passed, late-refused, options-judged, options-passed, options-refused, fragment-refused, routing-by, unknown-passed, unknown-refused, plain-whole, header-by, sid-known, known-whole, known-packed, whole-last, whole-steps, whole-refuses, packed-steps, packed-last, packed-refuses, at_header-unshifted, at_header-shifts, at_header-options, at_header-routing, at_header-known, at_header-packed, at_header-whole, end-skipped, at_header-either, at_header-skipped, last-stays, last-out, at_header-last, at_header-taken_out, at_header-passed, at_header-passed_other, at_header-after_step, at_header-steps, at_header-pops, at_header-refuses, at_header-unknown, at_address_header-either, at_address_header-passed, at_address_header-refuses}
-pub use Rattle.srv6_rules.proofs.BehaviourLaws.{goes_on-is, exposes-ipv6, exposes-ipv4, exposes-kinds, goes_on-exposes, goes_on-exposes_usd, listed-is, listed-plain, listed-psp, listed-usp, listed-usd, listed-unbound}
+pub use Rattle.srv6_rules.proofs.BehaviourLaws.{goes_on-is, exposes-ipv6, exposes-ipv4, exposes-kinds, goes_on-exposes, goes_on-exposes_usd}
 pub use Rattle.srv6_rules.proofs.Flavours.{at_sid-lowers, at_sid-fields, at_sid-spellable, at_sid-delivered_fields, at_sid-delivered_spellable, as_in-lies}
 pub use Rattle.srv6_rules.proofs.Endpoints.{at_sid-steps, at_sid-steps_psp, at_sid-moves, at_sid-shifted, upper-shifts, at_sid-bytes, at_sid-exposes, at_sid-exposed_packet, at_sid-exposed_packet4, at_sid-content, at_sid-exposed_back, at_sid-delivered, at_sid-place, at_address-delivered, at_address-not_onward, at_address-not_exposed, at_address-place}
 pub use Rattle.srv6_rules.proofs.Encapsulations.{upper-plain, at_segment-onward, at_segment-psp, at_segment-usp, bare-exposed, bare-upper_layer, at_segment-hop_limit, at_segment-bad_segments, at_segment-upper_layer, at_segment-exposed, at_segment-spellable, outer-chain, outer-inner, lowered-spellable, lowered-spelling, encapsulated-spellable}

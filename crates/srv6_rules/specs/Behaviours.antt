@@ -1,5 +1,6 @@
--- SIDs by what they do: only here are behaviours told apart (RFC 8986 section 4).
-use Rattle.std.specs.Prelude.{ℕ, Bool, true, false, ◌==◌, ◌&&◌, ◌||◌, not, if◌then◌else◌, Option, Some, None}
+-- What SIDs do, by their behaviours and flavours (RFC 8986 section 4): which go on to the next segment, which expose the packet
+-- inside and of which family, and which have links, a table or a policy of their own, put a header in front, and take flavours.
+use Rattle.std.specs.Prelude.{ℕ, Bool, true, false, ◌==◌, ◌&&◌, ◌||◌, if◌then◌else◌, Option, Some, None}
 use Rattle.srv6_rules.specs.declared.numbers.TheConstants.{IPV6_INSIDE, IPV4_INSIDE}
 use Rattle.srv6_rules.specs.declared.sid.Behaviour.{Behaviour}
 use Rattle.srv6_rules.specs.declared.sid.Behaviour.TheVariants.{End, EndX, EndT, Dx6, Dx4, Dt6, Dt4, Dt46, B6, B6Red}
@@ -127,24 +128,8 @@ is_packet_inside kind = (kind == ipv6_inside) || (kind == ipv4_inside)
 abbrev pub exposes : SidEntry → ℕ → Bool
 exposes s kind = behaviour_exposes s.behaviour kind || (s.usd && is_packet_inside kind)
 
--- ---- what the compiler's lists take so far: plain End, End.X, End.T, End.DX6 and End.DT6 without flavours
-
-abbrev pub behaviour_is_listed : Behaviour → Bool
-behaviour_is_listed End = true
-behaviour_is_listed EndX = true
-behaviour_is_listed (EndT table) = true
-behaviour_is_listed Dx6 = true
-behaviour_is_listed Dx4 = false
-behaviour_is_listed (Dt6 table) = true
-behaviour_is_listed (Dt4 table) = false
-behaviour_is_listed (Dt46 table) = false
-behaviour_is_listed (B6 policy) = false
-behaviour_is_listed (B6Red policy) = false
-
+-- a SID's part of a segment list is not compressed (RFC 9800 section 4)
 abbrev pub is_plain : Csid → Bool
 is_plain csids.Plain = true
 is_plain csids.Next = false
 is_plain csids.Replace = false
-
-abbrev pub is_listed : SidEntry → Bool
-is_listed s = is_plain s.csid && (not s.psp && (not s.usp && (not s.usd && behaviour_is_listed s.behaviour)))

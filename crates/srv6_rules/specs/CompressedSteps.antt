@@ -158,7 +158,7 @@ replace_step c p at srh =
     (if has_bad_list c srh p.destination then Dropped (segments_fault at)
     else unless_dropped (tlvs_fault at srh) (let m = move_of c srh p.destination in Moved (moved p at m) m.ended))
 
--- the header is at its end, which can be judged: else a SID that decapsulates refuses it (RFC 8986 section 4.6)
+-- the header is at its end, which can be judged: else a SID that decapsulates refuses it (RFC 8986 sections 4.4 to 4.8)
 abbrev pub is_at_end : Compression → Srh → ℕ → Bool
 is_at_end c srh destination = not (lacks_entry c srh destination) && is_ended c srh srh.segments_left destination
 

@@ -1,6 +1,6 @@
--- What a node does with a packet that came to one of its SIDs or to its own address: RFC 8986 sections 4.1 to 4.8 with the
--- flavours of section 4.16, RFC 9800 sections 4.1 and 4.2, and the processing of RFC 8754 section 4.3.1.1, and RFC 8200 section
--- 4.4 at an address.
+-- What a node does with a packet that came to one of its SIDs or to its own address: RFC 8986 sections 4.1 to 4.8, 4.13 and 4.14
+-- with the flavours of section 4.16, RFC 9800 sections 4.1 and 4.2, and the processing of RFC 8754 section 4.3.1.1, and RFC 8200
+-- sections 4 and 4.4 at an address.
 use Rattle.std.specs.Prelude.{◌≡◌, ◌≢◌, ◌⊎◌, ℕ, ◌+◌, ◌-◌, ◌<◌, ◌≤◌, Bool, true, false, ◌==◌, ◌&&◌, ◌||◌, not, nat_lt, nat_le, if◌then◌else◌, List, [], ◌∷◌, ◌++◌, length, take, slice_index, slice_set, All, Option, Some, None}
 use Rattle.std.specs.List.{list_any}
 use Rattle.srv6_rules.specs.declared.numbers.TheConstants.{HOP_LIMIT_AT, DESTINATION_AT}
@@ -34,14 +34,15 @@ over_headers treat (h ∷ hs) end = treat h (over_headers treat hs end)
 abbrev pub over_chain : (Header → Endpoint → Endpoint) → (ChainEnd → Endpoint) → Chain → Endpoint
 over_chain treat end c = over_headers treat c.headers (end c.end)
 
--- the upper layers that a node takes at its SIDs
+-- the upper layers that a node takes at its SIDs (RFC 8986 section 4.1.1)
 abbrev pub is_allowed : List ℕ → ℕ → Bool
 is_allowed allow kind = list_any (λ k. k == kind) allow
 
 abbrev pub upper_layer : List ℕ → Packet → ChainPlace → Endpoint
 upper_layer allow p place = if is_allowed allow place.kind then Delivered p else Refused reasons.UpperLayer place.at
 
--- Last Entry passes the entries that are there, or Segments Left passes Last Entry by more than 1
+-- Last Entry passes the entries that are there, or Segments Left passes Last Entry by more than 1 (RFC 8754 section 4.3.1.1, RFC
+-- 8986 section 4.1)
 abbrev pub has_bad_segments : Srh → Bool
 has_bad_segments s = nat_lt (entries_of s) (s.last_entry + 1) || nat_lt (s.last_entry + 1) s.segments_left
 
@@ -60,7 +61,7 @@ unless_fault (Some fault) behind = Refused fault.reason fault.at
 unless_fault None behind = behind
 
 -- the step over a segment routing header with segments left: the hop limit is judged, then the segments (RFC 8986 section
--- 4.1.1), then the type-length-value area (that it comes last is an own rule)
+-- 4.1), then the type-length-value area (that it comes last is an own rule)
 abbrev pub next_segment : Packet → ℕ → Srh → Endpoint
 next_segment p at s =
     if nat_le p.hop_limit 1 then Refused reasons.HopLimit 0
@@ -96,7 +97,7 @@ abbrev pub after_last : SidEntry → Header → Endpoint → Endpoint
 after_last s h behind = if s.usp then outcome_without h behind else behind
 
 -- a header whose segments are whole: with no segments left it is passed over; a SID that goes on takes the step over it, and
--- before another one no segments may be left
+-- before another one no segments may be left (RFC 8986 sections 4.1 to 4.8, 4.13 and 4.14)
 abbrev pub at_whole_segments : SidEntry → Packet → Header → Endpoint → Endpoint
 at_whole_segments s p h behind =
     if segments_left h == 0 then after_last s h behind

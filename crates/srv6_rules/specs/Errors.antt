@@ -29,7 +29,6 @@ kind_of reasons.HmacTlv at = None
 kind_of reasons.BadTlv at = None
 kind_of reasons.UnknownRouting at = Some (Parameter WRONG_FIELD at)
 kind_of reasons.UpperLayer at = Some (Parameter WRONG_UPPER_LAYER at)
-kind_of reasons.NotBuilt at = None
 kind_of reasons.Ttl at = None
 kind_of reasons.TooBig at = None
 kind_of reasons.InnerHop at = None
@@ -84,7 +83,9 @@ is_about_option TimeExceeded = false
 is_about_option (Parameter code at) = code == UNKNOWN_OPTION
 
 -- no error of a kind is made about a packet whose source is no one node's address, whose destination is multicast (but for
--- an unknown option), or which is itself an error or a redirect (RFC 4443 section 2.4 (e))
+-- an unknown option), or which is itself an error or a redirect (RFC 4443 section 2.4 (e.1) to (e.3) and (e.6)). Own rules: no
+-- address is known to be anycast (e.6), a packet comes without its link layer (e.4, e.5), and the rate of errors is not limited
+-- (f)
 unfoldable pub is_unanswered : Packet → IcmpKind → Bool
 is_unanswered p kind =
     is_unspecified p.source || (is_multicast p.source

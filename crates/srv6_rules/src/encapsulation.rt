@@ -126,7 +126,7 @@ pub fn last_segment_has_the_packet_inside()
 {}
 
 /// A SID that does not go on, as End.DT6, refuses the packet at a segment that is not the last,
-/// whatever its hop limit, for Segments Left (RFC 8986 section 4.6).
+/// whatever its hop limit, for Segments Left (RFC 8986 sections 4.4 to 4.8).
 pub fn decapsulation_is_at_the_last_segment()
     ensures { (s : SidEntry) → s.csid ≡ Plain
         → (allow : List ℕ) (e : Encapsulation) (inner : List ℕ) (i hop : ℕ)

@@ -50,7 +50,6 @@ impl IcmpKind {
             | Reason::Fragment
             | Reason::HmacTlv
             | Reason::BadTlv
-            | Reason::NotBuilt
             | Reason::Ttl
             | Reason::TooBig
             | Reason::InnerHop => return None,

@@ -1,7 +1,7 @@
 //! Laws about the definitions, each the contract of a function that does nothing.
 
 ghost use Rattle.std.specs.Prelude.{◌≡◌, ◌≢◌, ◌⊎◌, ◌↔◌, ◌<◌, ◌≤◌, ◌+◌, ◌-◌, ◌*◌, ◌^◌, true, false, if◌then◌else◌, List, [], ℕ, ◌∷◌, ◌++◌, length, take, drop, slice_index, slice_set, All, flat_map, Contains, Option, Some, None};
-ghost use Rattle.srv6_rules.specs.Behaviours.{ipv6_inside, ipv4_inside, is_packet_inside, behaviour_policy, goes_on, exposes, is_listed};
+ghost use Rattle.srv6_rules.specs.Behaviours.{ipv6_inside, ipv4_inside, is_packet_inside, goes_on, exposes};
 ghost use Rattle.srv6_rules.specs.CompressedSteps.{SuitsCompression, compression_of, is_replace, shifted};
 ghost use Rattle.srv6_rules.specs.Packet4.{Packet4, spelling4};
 ghost use Rattle.srv6_rules.specs.declared.numbers.TheConstants.{NEXT_HEADER_AT, PAD1, HMAC, OPTIONS_AT, SEGMENT_LIST_AT, SEGMENT_LEN};
@@ -531,17 +531,6 @@ pub fn behaviours_go_on_or_expose()
         → exposes s kind ≡ is_packet_inside kind }
 {}
 
-/// The compiler's lists take so far the SIDs of End, End.X, End.T, End.DX6 and End.DT6 that are not
-/// compressed and have no flavours; none of these binds a policy (RFC 8986 sections 4.1 to 4.4 and
-/// 4.6).
-pub fn plain_sids_are_listed()
-    ensures listed { (s : SidEntry) → (is_listed s ≡ true) ↔ ((s.csid ≡ Plain)
-        × ((s.psp ≡ false) × ((s.usp ≡ false) × ((s.usd ≡ false) × ((s.behaviour ≡ End)
-        ⊎ ((s.behaviour ≡ EndX) ⊎ (((table : ℕ) × (s.behaviour ≡ EndT table))
-        ⊎ ((s.behaviour ≡ Dx6) ⊎ ((table : ℕ) × (s.behaviour ≡ Dt6 table)))))))))) }
-    ensures unbound { (s : SidEntry) → is_listed s ≡ true → behaviour_policy s.behaviour ≡ None }
-{}
-
 /// A packet that goes on from a SID, whichever its flavours, had a hop limit above 1 and has one
 /// lower by one, has its traffic class, flow label and source as they were, and stays a packet that
 /// bytes can spell, where the SID's compression suits its prefix (RFC 8754 section 4.3.1.1, RFC
@@ -575,7 +564,7 @@ pub fn onward_is_one_step()
 /// Decapsulation changes no byte: what is exposed are the packet's bytes from the place of the
 /// packet inside on. What they read as is a content that bytes can spell and that reads back; of a
 /// packet they begin with its spelling, and bytes that do not read are kept as they are (RFC 8986
-/// section 4.6).
+/// sections 4.4 to 4.8).
 pub fn decapsulation_changes_no_byte()
     ensures exposes { (s : SidEntry) (allow : List ℕ) (p : Packet) (family : Family)
         (bytes : List ℕ) → at_sid s allow p ≡ Exposed family bytes → ExposesFrom s p family bytes }

@@ -29,10 +29,11 @@ pub const DESTINATION_AT: usize = 24;
 /// The next header that names Hop-by-Hop Options: 0 (RFC 8200 section 4.3).
 pub const HOP_BY_HOP: u8 = 0;
 
-/// The next header that names an IPv6 packet inside a packet: 41 (RFC 8986 section 4.6).
+/// The next header that names an IPv6 packet inside a packet: 41 (RFC 8986 sections 4.4 and
+/// 4.6).
 pub const IPV6_INSIDE: u8 = 41;
 
-/// The next header that names an IPv4 packet inside a packet: 4 (RFC 8986 section 4.7).
+/// The next header that names an IPv4 packet inside a packet: 4 (RFC 8986 sections 4.5 and 4.7).
 pub const IPV4_INSIDE: u8 = 4;
 
 /// The next header that names a Routing header: 43 (RFC 8200 section 4.4).

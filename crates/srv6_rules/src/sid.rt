@@ -2,8 +2,8 @@
 
 ghost use Rattle.std.specs.Prelude.{◌≡◌, Some};
 ghost use Rattle.srv6_rules.specs.Reasons.{reason_name};
-ghost use Rattle.srv6_rules.specs.Behaviours.{behaviour_goes_on, behaviour_exposes, behaviour_takes_links, behaviour_table, behaviour_policy, behaviour_reduces, behaviour_takes_flavours, behaviour_is_listed};
-ghost use Rattle.srv6_rules.specs.Behaviours.{goes_on, exposes, is_listed};
+ghost use Rattle.srv6_rules.specs.Behaviours.{behaviour_goes_on, behaviour_exposes, behaviour_takes_links, behaviour_table, behaviour_policy, behaviour_reduces, behaviour_takes_flavours};
+ghost use Rattle.srv6_rules.specs.Behaviours.{goes_on, exposes};
 ghost use Rattle.srv6_rules.specs.CompressedSteps.{compression_of};
 
 use crate::compression::Compression;
@@ -113,8 +113,6 @@ pub enum Reason {
     UnknownRouting,
     /// An upper layer that the node does not allow at a SID.
     UpperLayer,
-    /// A form that is not built yet.
-    NotBuilt,
     /// The TTL of an IPv4 packet is at most 1 and would have to be lowered.
     Ttl,
     /// With another header in front the packet would be longer than its payload length can state.
@@ -144,7 +142,6 @@ impl Display for Reason {
             Reason::BadTlv => "BadTlv",
             Reason::UnknownRouting => "UnknownRouting",
             Reason::UpperLayer => "UpperLayer",
-            Reason::NotBuilt => "NotBuilt",
             Reason::Ttl => "Ttl",
             Reason::TooBig => "TooBig",
             Reason::InnerHop => "InnerHop",
@@ -309,24 +306,6 @@ impl Behaviour {
             | Behaviour::B6Red { .. } => false,
         }
     }
-
-    /// The compiler's lists take it: so far End, End.X, End.T, End.DX6 and End.DT6.
-    fn is_listed(&self) -> bool
-        ensures { result ≡ behaviour_is_listed self.now }
-    {
-        match self {
-            Behaviour::End
-            | Behaviour::EndX
-            | Behaviour::EndT { .. }
-            | Behaviour::Dx6
-            | Behaviour::Dt6 { .. } => true,
-            Behaviour::Dx4
-            | Behaviour::Dt4 { .. }
-            | Behaviour::Dt46 { .. }
-            | Behaviour::B6 { .. }
-            | Behaviour::B6Red { .. } => false,
-        }
-    }
 }
 
 impl SidEntry {
@@ -354,17 +333,5 @@ impl SidEntry {
             prefix_len: self.prefix.len(),
             block_len: self.block_len,
         }
-    }
-
-    /// The compiler's lists take it: so far the plain SIDs of End, End.X, End.T, End.DX6 and
-    /// End.DT6 without flavours.
-    pub fn is_listed(&self) -> bool
-        ensures { result ≡ is_listed self.now }
-    {
-        self.csid == Csid::Plain
-            && !self.psp
-            && !self.usp
-            && !self.usd
-            && self.behaviour.is_listed()
     }
 }

@@ -1,5 +1,4 @@
 pub mod Choosing
-pub mod DropReasons
 pub mod Entering
 pub mod Going
 pub mod NumberLemmas

@@ -28,7 +28,6 @@ use Rattle.trace_replay.specs.Lines.{family_number, hex_text, name_of_node, pack
 use Rattle.trace_replay.specs.Reading.{behind_packet}
 use Rattle.trace_replay.specs.Replays.{begins_packet}
 use Rattle.trace_replay.specs.Written.{IsTraced, Traced, entry_place, packet_line}
-use Rattle.trace_replay.proofs.DropReasons.{ContentComes, read-comes}
 use Rattle.trace_replay.proofs.Entering.{enters-whole}
 use Rattle.trace_replay.proofs.Splitting.{AreWords, IsTextLine, words-line, words-read}
 use Rattle.trace_replay.proofs.StageLines.{content-bytes, stage-line-is, stages-line}
@@ -48,9 +47,6 @@ pub record MayStand (net : Network) (place : Place) (content : Content) : Type 0
   pub fits : IsContent content
   pub back : read_as place.family (bytes_of content) ≡ content
 
-content-comes : (net : Network) (place : Place) (content : Content) → MayStand net place content → ContentComes content
-content-comes net place content may = subst ContentComes may.back (read-comes place.family (bytes_of content))
-
 next-stands : (net : Network) (place : Place) (content : Content) (choice : ℕ) (next : Place) → Keeps net → MayStand net place content
     → let gave = step_of net place content choice in next_place net place gave.outcome ≡ Some next → MayStand net next gave.after
 next-stands net place content choice next keeps may e =
@@ -66,7 +62,7 @@ next-stands net place content choice next keeps may e =
 stage-inner : (net : Network) (place : Place) (content : Content) (choice : ℕ) → Keeps net → MayStand net place content
     → IsInner net (stage_text net (step_of net place content choice))
 stage-inner net place content choice keeps may =
-    let line = stage-line-is net place content choice keeps may.is may.fits (content-comes net place content may) in
+    let line = stage-line-is net place content choice keeps may.is may.fits in
     record { text = line.text; phase = ap behind_packet line.read; begins = line.begins }
 
 -- the lines from a place, if there is one

@@ -33,9 +33,8 @@ use Rattle.trace_replay.specs.Lines.{again_table_text, again_text, again_through
 use Rattle.trace_replay.specs.Numbered.{IsNumbered}
 use Rattle.trace_replay.specs.Replays.{begins_packet}
 use Rattle.trace_replay.proofs.Choosing.{numbered}
-use Rattle.trace_replay.proofs.DropReasons.{ContentComes, comes}
 use Rattle.trace_replay.proofs.Splitting.{AreWords, IsTextLine, IsWord, joined, words-line, words-read}
-use Rattle.trace_replay.proofs.StageOutcomes.{HasTable, OutcomeComes, exposed-table, onward-table, step-bytes, step-comes}
+use Rattle.trace_replay.proofs.StageOutcomes.{HasTable, exposed-table, onward-table, step-bytes}
 use Rattle.trace_replay.proofs.WordTexts.{decimal-number, decimal-word, family-back, family-word, hex-hex, hex-word, name-word, prefix-back, prefix-word}
 
 -- a line that is no packet's first one: it is text of one line, and is read as this
@@ -80,27 +79,26 @@ send-is link hex n h = rw (n, h) refl
 drop-is : (reason hex : List ℕ) → is_reason reason ≡ true → is_hex hex ≡ true → is_stage (codes "drop" ∷ reason ∷ hex ∷ []) ≡ true
 drop-is reason hex r h = rw (r, h) refl
 
-reason-told : (reason : Reason) → comes reason ≡ true → IsWord (reason_name reason) × (is_reason (reason_name reason) ≡ true)
+reason-told : (reason : Reason) → IsWord (reason_name reason) × (is_reason (reason_name reason) ≡ true)
 unfolding reason_name
-reason-told reasons.Truncated h = (refl, refl)
-reason-told reasons.BadVersion h = (refl, refl)
-reason-told reasons.Multicast h = (refl, refl)
-reason-told reasons.NoRoute h = (refl, refl)
-reason-told reasons.HopLimit h = (refl, refl)
-reason-told reasons.BadChain h = (refl, refl)
-reason-told reasons.LateHopByHop h = (refl, refl)
-reason-told reasons.OptionDiscard h = (refl, refl)
-reason-told reasons.OptionUnknown h = (refl, refl)
-reason-told reasons.Fragment h = (refl, refl)
-reason-told reasons.BadSegments h = (refl, refl)
-reason-told reasons.HmacTlv h = (refl, refl)
-reason-told reasons.BadTlv h = (refl, refl)
-reason-told reasons.UnknownRouting h = (refl, refl)
-reason-told reasons.UpperLayer h = (refl, refl)
-reason-told reasons.NotBuilt h = cc
-reason-told reasons.Ttl h = (refl, refl)
-reason-told reasons.TooBig h = (refl, refl)
-reason-told reasons.InnerHop h = (refl, refl)
+reason-told reasons.Truncated = (refl, refl)
+reason-told reasons.BadVersion = (refl, refl)
+reason-told reasons.Multicast = (refl, refl)
+reason-told reasons.NoRoute = (refl, refl)
+reason-told reasons.HopLimit = (refl, refl)
+reason-told reasons.BadChain = (refl, refl)
+reason-told reasons.LateHopByHop = (refl, refl)
+reason-told reasons.OptionDiscard = (refl, refl)
+reason-told reasons.OptionUnknown = (refl, refl)
+reason-told reasons.Fragment = (refl, refl)
+reason-told reasons.BadSegments = (refl, refl)
+reason-told reasons.HmacTlv = (refl, refl)
+reason-told reasons.BadTlv = (refl, refl)
+reason-told reasons.UnknownRouting = (refl, refl)
+reason-told reasons.UpperLayer = (refl, refl)
+reason-told reasons.Ttl = (refl, refl)
+reason-told reasons.TooBig = (refl, refl)
+reason-told reasons.InnerHop = (refl, refl)
 
 -- ---- lines of outcomes
 
@@ -150,11 +148,11 @@ module _ (net : Network) where
       stage-line net (codes "send") (name ∷ hex_text bytes ∷ []) (refl, (name-word name is, (hex-word bytes all, tt)))
       (send-is name (hex_text bytes) is (hex-hex bytes all)) refl
 
-  drop-line : (reason : Reason) (bytes : List ℕ) → comes reason ≡ true → All (λ b. b < 2 ^ 8) bytes
+  drop-line : (reason : Reason) (bytes : List ℕ) → All (λ b. b < 2 ^ 8) bytes
       → IsLineOf net lines.Stage (drop_text reason (hex_text bytes))
   unfolding drop_text
-  drop-line reason bytes is all =
-      let told = reason-told reason is in
+  drop-line reason bytes all =
+      let told = reason-told reason in
       stage-line net (codes "drop") (reason_name reason ∷ hex_text bytes ∷ []) (refl, (told.0, (hex-word bytes all, tt)))
       (drop-is (reason_name reason) (hex_text bytes) told.1 (hex-hex bytes all)) refl
 
@@ -203,7 +201,7 @@ link-named net link None keeps e there = absurd (no-item net.links link there e)
 link-named net link (Some l) keeps e there = (keeps.link link l e).name
 
 module _ (net : Network) (place : Place) (content : Content) (choice : ℕ) (keeps : Keeps net) (is : IsPlace net place)
-    (fits : IsContent content) (reads : ContentComes content) where
+    (fits : IsContent content) where
   abbrev gave : Gave
   gave = step_of net place content choice
 
@@ -233,8 +231,7 @@ module _ (net : Network) (place : Place) (content : Content) (choice : ℕ) (kee
       (link-named net link (slice_get net.links link) keeps refl (subst (IsNumbered net) e there)) after-bytes
   outcome-line outcomes.Local e = local-line net
   outcome-line (outcomes.Drop reason told) e =
-      drop-line net reason (error_bytes gave.error)
-      (subst OutcomeComes e (step-comes net place content choice reads)) (step-bytes net place content choice fits)
+      drop-line net reason (error_bytes gave.error) (step-bytes net place content choice fits)
 
   pub stage-line-is : IsLineOf net lines.Stage (stage_text net gave)
   stage-line-is = outcome-line gave.outcome refl

@@ -1,130 +1,29 @@
--- What a stage's line tells of its outcome: the reason of a drop, the bytes of an error, and the table that a packet goes by.
-use Rattle.std.proofs.Common.{◌≡◌, ℕ, ◌^◌, ◌<◌, ◌≤◌, Bool, true, false, List, ◌∷◌, ◌++◌, All, IfSome, Option, Some, None, slice_get, refl, subst, arith, lit<}
-use Rattle.std.specs.Prelude.{nat_le, ◌&&◌}
+-- What a stage's line tells of its outcome: the bytes of an error, and the table that a packet goes by.
+use Rattle.std.proofs.Common.{◌≡◌, ℕ, ◌^◌, ◌<◌, ◌≤◌, Bool, true, false, cond, List, ◌∷◌, ◌++◌, All, IfSome, Option, Some, None, slice_get, refl, subst, arith, lit<}
 use Rattle.std.proofs.lemmas.List.Elements.{All-append, All-cons, All-nil, All-take}
 use Rattle.std.proofs.lemmas.Option.{same_Some}
 use Rattle.srv6_rules.specs.declared.icmp.IcmpKind.{IcmpKind}
 use Rattle.srv6_rules.specs.declared.icmp.IcmpKind.TheVariants.{Unreachable, TimeExceeded, Parameter}
 use Rattle.srv6_rules.specs.declared.numbers.TheConstants.{MOST_QUOTE_LEN}
 use Rattle.srv6_rules.specs.declared.sid.Behaviour.{Behaviour}
-use Rattle.srv6_rules.specs.declared.sid.Family.{Family}
 use Rattle.srv6_rules.specs.declared.sid.Reason.{Reason}
 use Rattle.srv6_rules.specs.declared.sid.Reason.TheVariants as reasons
-use Rattle.srv6_rules.specs.declared.sid.SidEntry.{SidEntry}
-use Rattle.srv6_rules.specs.Behaviours.{behaviour_policy, behaviour_table, behaviour_takes_links}
+use Rattle.srv6_rules.specs.Behaviours.{behaviour_table, behaviour_takes_links}
 use Rattle.srv6_rules.specs.Endpoint.{Delivered, Endpoint, Exposed, Onward, Refused, at_address, at_sid}
 use Rattle.srv6_rules.specs.Errors.{code_of, error_about, error_checksum, error_packet, is_unanswered, kind_of, message_head, pointer_of, quote_of, type_of}
 use Rattle.srv6_rules.specs.Packet.{Content, IsContent, IsSpellable, Packet, Unreadable, V4, V6, address_bytes, first_word, four_bytes, header_spelling, spelling, two_bytes}
-use Rattle.srv6_rules.specs.Packet4.{Packet4, destination4, ttl}
-use Rattle.srv6_rules.specs.Policies.{Encapsulating, InnerHop, Outer, TooBig}
+use Rattle.srv6_rules.specs.Packet4.{destination4}
 use Rattle.srv6_rules.proofs.PublicLaws.{all-address_bytes, all-four_bytes, all-spelling, all-two_bytes}
 use Rattle.icmp6_errors.specs.Answer.{error_bytes}
 use Rattle.net_model.specs.declared.limits.TheConstants.{LAST_TABLE}
-use Rattle.net_model.specs.declared.net.Hit.{Hit}
-use Rattle.net_model.specs.declared.net.Hit.TheVariants as hits
-use Rattle.net_model.specs.declared.parts.NamedPolicy.{NamedPolicy}
-use Rattle.net_model.specs.Best.{lookup_of}
 use Rattle.net_model.specs.Network.{Network}
 use Rattle.walk_rules.specs.declared.place.How.{How}
 use Rattle.walk_rules.specs.declared.place.How.TheVariants.{Arrived, Submitted, Through}
-use Rattle.walk_rules.specs.declared.place.Outcome.{Outcome}
-use Rattle.walk_rules.specs.declared.place.Outcome.TheVariants as outcomes
 use Rattle.walk_rules.specs.declared.place.Place.{Place}
-use Rattle.walk_rules.specs.Treatment.{Gave, allow_of, bound_at_sid, dropped, error_by, error_from, error_of, exposed_from, onward_at_sid, onward_from, pushed_at_sid, step_of, treated, treated4, treated_at_address, treated_at_sid, treated_in, way_on}
-use Rattle.walk_rules.specs.Way.{Away, Into, Over, Own, Way, is_multicast_of, way_by, way_by_hit, way_by_table, way_of}
+use Rattle.walk_rules.specs.Treatment.{Gave, allow_of, dropped, error_by, error_from, error_of, exposed_from, onward_from, step_of, treated_at_address, treated_at_sid, way_on}
+use Rattle.walk_rules.specs.Way.{way_of}
 use Rattle.walk_rules.proofs.Outcomes.{treated-each, treated4-each}
 use Rattle.walk_rules.proofs.PublicLaws.{onward-each}
-use Rattle.trace_replay.proofs.DropReasons.{ContentComes, EndComes, at_address-comes, at_sid-comes, comes, either}
-
--- ---- the reason of a drop
-
-abbrev pub OutcomeComes : Outcome → Type 0
-OutcomeComes (outcomes.Again sid how) = Unit {0}
-OutcomeComes (outcomes.Hand sid how family) = Unit {0}
-OutcomeComes (outcomes.Send link) = Unit {0}
-OutcomeComes outcomes.Local = Unit {0}
-OutcomeComes (outcomes.Drop reason told) = comes reason ≡ true
-
-abbrev pub GaveComes : Gave → Type 0
-GaveComes gave = OutcomeComes gave.outcome
-
-abbrev WayComes : Way → Type 0
-WayComes (Away reason) = comes reason ≡ true
-WayComes (Over set lower) = Unit {0}
-WayComes Own = Unit {0}
-WayComes (Into n) = Unit {0}
-
-address-comes : (net : Network) (node : ℕ) (p : Packet) (e : Endpoint) → EndComes e → GaveComes (treated_at_address net node p e)
-address-comes net node p (Onward q) h = refl
-address-comes net node p (Exposed family bytes) h = refl
-address-comes net node p (Delivered q) h = tt
-address-comes net node p (Refused reason at) h = h
-
-module _ (net : Network) (node n : ℕ) (b : Behaviour) (p : Packet) where
-  pushed-comes : (x : Encapsulating) → GaveComes (pushed_at_sid net node n b p x)
-  pushed-comes (Outer outer) = tt
-  pushed-comes (TooBig length) = refl
-  pushed-comes InnerHop = refl
-
-  bound-comes : (q : Packet) (o : Option NamedPolicy) → GaveComes (bound_at_sid net node n b p q o)
-  bound-comes q None = refl
-  bound-comes q (Some named) = pushed-comes _
-
-  onward-comes : (q : Packet) (o : Option ℕ) → GaveComes (onward_at_sid net node n b p q o)
-  onward-comes q None = tt
-  onward-comes q (Some number) = bound-comes q (slice_get net.policies number)
-
-  endpoint-comes : (e : Endpoint) → EndComes e → GaveComes (treated_at_sid net node n b p e)
-  endpoint-comes (Onward q) h = onward-comes q (behaviour_policy b)
-  endpoint-comes (Exposed family bytes) h = tt
-  endpoint-comes (Delivered q) h = tt
-  endpoint-comes (Refused reason at) h = h
-
-in-comes : (net : Network) (node n : ℕ) (o : Option SidEntry) (p : Packet) → GaveComes (treated_in net node n o p)
-in-comes net node n None p = refl
-in-comes net node n (Some s) p =
-    let allow = allow_of (slice_get net.nodes node) in
-    endpoint-comes net node n s.behaviour p (at_sid s allow p) (at_sid-comes s allow p)
-
-hit-comes : (net : Network) (lower : Bool) (hit : Hit) → WayComes (way_by_hit net lower hit)
-hit-comes net lower (hits.Sid n) = tt
-hit-comes net lower hits.Address = tt
-hit-comes net lower (hits.Route n) = tt
-hit-comes net lower hits.Nothing = refl
-
-table-comes : (net : Network) (node table : ℕ) (family : Family) (lower : Bool) (destination : ℕ)
-    → WayComes (way_by_table net node table family lower destination)
-table-comes net node table family lower destination =
-    either WayComes (is_multicast_of family destination) _ _ refl (hit-comes net lower (lookup_of net node table family destination))
-
-how-comes : (net : Network) (node : ℕ) (how : How) (family : Family) (destination : ℕ) → WayComes (way_by net node how family destination)
-how-comes net node (Arrived table) family destination = table-comes net node table family true destination
-how-comes net node (Submitted table) family destination = table-comes net node table family false destination
-how-comes net node (Through sid lower) family destination = tt
-
-way-comes : (net : Network) (place : Place) (destination : ℕ) → WayComes (way_of net place destination)
-unfolding way_of
-way-comes net place destination = how-comes net place.node place.how place.family destination
-
-treated-comes : (net : Network) (node : ℕ) (w : Way) (p : Packet) (choice : ℕ) → WayComes w → GaveComes (treated net node w p choice)
-treated-comes net node (Away reason) p choice h = h
-treated-comes net node (Over set lower) p choice h = either GaveComes (lower && nat_le p.hop_limit 1) _ _ refl tt
-treated-comes net node Own p choice h = address-comes net node p (at_address p) (at_address-comes p)
-treated-comes net node (Into n) p choice h = in-comes net node n (slice_get net.sids n) p
-
-treated4-comes : (net : Network) (node : ℕ) (w : Way) (p : Packet4) (choice : ℕ) → WayComes w → GaveComes (treated4 net node w p choice)
-treated4-comes net node (Away reason) p choice h = h
-treated4-comes net node (Over set lower) p choice h = either GaveComes (lower && nat_le (ttl p) 1) _ _ refl tt
-treated4-comes net node Own p choice h = refl
-treated4-comes net node (Into n) p choice h = refl
-
-pub step-comes : (net : Network) (place : Place) (content : Content) (choice : ℕ) → ContentComes content
-    → GaveComes (step_of net place content choice)
-step-comes net place (Unreadable bytes reason) choice h = h
-step-comes net place (V6 p) choice h =
-    treated-comes net place.node (way_of net place p.destination) p choice (way-comes net place p.destination)
-step-comes net place (V4 p) choice h =
-    treated4-comes net place.node (way_of net place (destination4 p)) p choice (way-comes net place (destination4 p))
 
 -- ---- the bytes of an error
 
@@ -156,7 +55,6 @@ code-fits reasons.HmacTlv at kind e = cc
 code-fits reasons.BadTlv at kind e = cc
 code-fits reasons.UnknownRouting at kind e = code-along (Parameter 0 at) kind (lit< tt) e
 code-fits reasons.UpperLayer at kind e = code-along (Parameter 4 at) kind (lit< tt) e
-code-fits reasons.NotBuilt at kind e = cc
 code-fits reasons.Ttl at kind e = cc
 code-fits reasons.TooBig at kind e = cc
 code-fits reasons.InnerHop at kind e = cc
@@ -193,6 +91,11 @@ about-bytes : (p : Packet) (kind : IcmpKind) (from : ℕ) → IsSpellable p → 
 unfolding error_about
 about-bytes p kind from h fits =
     spelled-bytes (error_about p kind from) (lit< tt) (lit< tt) (message-bytes p kind (error_checksum p kind from) h fits)
+
+-- what is so of both sides of a test is so of what it gives
+either : {T : Type 0} (P : T → Type 0) (b : Bool) (x y : T) → P x → P y → P (cond b x y)
+either P true x y h g = h
+either P false x y h g = g
 
 packet-bytes : (p : Packet) (kind : IcmpKind) (from : ℕ) → IsSpellable p → code_of kind < 2 ^ 8
     → ErrorIsBytes (error_packet p kind from)

@@ -61,7 +61,7 @@ family_read word =
 abbrev pub is_prefix : List ℕ → Bool
 is_prefix word = is_some (prefix_of_text word)
 
--- the reasons for which there are drops in a trace
+-- the reasons for a drop
 abbrev pub reasons_of_drops : List Reason
 reasons_of_drops =
     reasons.Truncated ∷ reasons.BadVersion ∷ reasons.Multicast ∷ reasons.NoRoute ∷ reasons.HopLimit ∷ reasons.BadChain

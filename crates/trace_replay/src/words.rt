@@ -78,7 +78,7 @@ pub(crate) fn is_prefix(word: &str) -> bool
     parse_prefix(word.as_bytes()).is_ok()
 }
 
-/// Whether a word is the name of a reason for which there are drops.
+/// Whether a word is the name of a reason for a drop.
 #[tactic(auto, unfolding(srv6_rules::specs::Reasons::reason_name))]
 pub(crate) fn is_reason(word: &str) -> bool
     ensures { result ≡ is_reason word.now }
