@@ -84,10 +84,6 @@ pub two_number-below : (bytes : List ℕ) → All (λ b. b < 2 ^ 8) bytes → tw
 unfolding two_number
 two_number-below bytes h = big_number-below 2 bytes h
 
-pub four_number-below : (bytes : List ℕ) → All (λ b. b < 2 ^ 8) bytes → four_number bytes < 2 ^ 32
-unfolding four_number
-four_number-below bytes h = big_number-below 4 bytes h
-
 pub address_number-below : (bytes : List ℕ) → All (λ b. b < 2 ^ 8) bytes → address_number bytes < 2 ^ 128
 unfolding address_number
 address_number-below bytes h = big_number-below 16 bytes h

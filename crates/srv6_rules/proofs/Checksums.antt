@@ -37,10 +37,6 @@ carried-complement (suc n) =
     let full : (m - 1) % 65535 + 1 ≡ 65535 = omega arith in
     carried-above m some ∙ full
 
-pub carried-most : (n : ℕ) → carried n ≤ all_ones
-carried-most zero = omega (arith, carried-small 0 (omega arith))
-carried-most (suc n) = omega (arith, carried-above (suc n) (omega arith))
-
 ones_add-small : (w n : ℕ) → w + n < 2 ^ 16 → ones_add w n ≡ w + n
 ones_add-small w n h = rw (lt-ltb (w + n) (2 ^ 16) h) refl
 

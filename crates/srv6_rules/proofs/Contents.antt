@@ -92,10 +92,6 @@ pub read_as-spelled4 : (family : Family) (bytes : List ℕ) (q : Packet4) → Al
 read_as-spelled4 families.V6 bytes q all e = absurd (content_of-never4 bytes q e)
 read_as-spelled4 families.V4 bytes q all e = reads4-spelled bytes q (reads4 bytes (read4 bytes) q e)
 
--- a packet of a family reads as it alone
-pub read_as-reads4 : (bytes : List ℕ) (p : Packet4) → read_as families.V4 bytes ≡ V4 p → read4 bytes ≡ Ok p
-read_as-reads4 bytes p e = reads4 bytes (read4 bytes) p e
-
 -- bytes that do not read are kept as they are
 pub read_as-unreadable : (family : Family) (bytes kept : List ℕ) (why : Reason) → read_as family bytes ≡ Unreadable kept why → bytes ≡ kept
 read_as-unreadable families.V6 bytes kept why e = unreadable bytes kept why e

@@ -137,10 +137,6 @@ size-bare false many n is has = cc
 -- ---- the header of an encapsulation
 
 module _ (e : Encapsulation) (left : ℕ) where
-  length-list : length (segment_list e) ≡ (if e.reduced then length e.segments - 1 else length e.segments)
-  unfolding listed
-  length-list = length-listed e.reduced e.segments
-
   length-body : length (segment_routing_of e left).body ≡ 8 * (segment_routing_of e left).extension_len
   length-body = length-entries (segment_list e) ∙ omega arith
 

@@ -318,11 +318,6 @@ content_of-spelling p rest h = rw (spelling-laid p rest) (read_back p rest h)
 pub content_of-spelling_alone : (p : Packet) → IsSpellable p → content_of (spelling p) ≡ V6 p
 content_of-spelling_alone p h = ap content_of (sym (append-nil (spelling p))) ∙ content_of-spelling p [] h
 
--- the header states the payload's length
-pub stated_len-spelling : (p : Packet) (rest : List ℕ) → IsSpellable p → stated_len (spelling p ++ rest) ≡ length p.payload
-unfolding spelled word
-stated_len-spelling p rest h = rw (spelling-laid p rest) (stated_is p rest h)
-
 -- ---- what reads was spelled
 
 -- bytes that read as a packet hold what their header states, and the packet is what is read there

@@ -1,7 +1,7 @@
 -- The packet that a policy's header makes: its lengths, and what stands where.
-use Rattle.std.proofs.Common.{◌≡◌, ℕ, ◌+◌, ◌-◌, ◌*◌, ◌^◌, ◌<◌, ◌≤◌, Bool, true, false, if◌then◌else◌, List, [], ◌∷◌, ◌++◌, length, map, flat_map, take, drop, slice_index, slice_set, All, refl, sym, ap, subst, ◌∙◌, arith, inl, inr, length-append}
+use Rattle.std.proofs.Common.{◌≡◌, ℕ, ◌+◌, ◌-◌, ◌*◌, ◌^◌, ◌<◌, ◌≤◌, Bool, true, false, if◌then◌else◌, List, [], ◌∷◌, ◌++◌, length, map, flat_map, drop, slice_index, All, refl, sym, ap, subst, ◌∙◌, arith, inl, inr, length-append}
 use Rattle.std.proofs.lemmas.Bool.{cases_lt, lt-ltb, le-ltb, le-leb, lt-leb}
-use Rattle.std.proofs.lemmas.List.{length-map, drop_at, take_at, append_assoc, set-append_right}
+use Rattle.std.proofs.lemmas.List.{length-map, drop_at, append_assoc}
 use Rattle.std.proofs.lemmas.List.Elements.{All-cons, All-tail}
 use Rattle.v6_addr.specs.declared.address.Addr.{Addr}
 use Rattle.srv6_rules.specs.declared.policy.Policy.{Policy}
@@ -14,7 +14,6 @@ use Rattle.srv6_rules.specs.Behaviours.{ipv6_inside}
 use Rattle.srv6_rules.specs.Encapsulation.{Encapsulation, segment_list, has_segment_routing, outer, pushed, header_bytes, IsSpellableEncapsulation}
 use Rattle.srv6_rules.specs.Policies.{encapsulation_by, outer_by, inner_kind, routing_header, pushed_round, most_payload, Outer, TooBig, InnerHop, unless_too_big, headend_by, pushed_by}
 use Rattle.srv6_rules.proofs.Packets.{length-spelling}
-use Rattle.srv6_rules.proofs.Edits.{edit-payload}
 use Rattle.srv6_rules.proofs.Encapsulations.{length-outer, at_segment-spellable}
 
 -- ---- a header's first byte, which names what stands behind it
@@ -74,14 +73,6 @@ module _ (e : Encapsulation) (inner : Family) (bytes : List ℕ) (hop : ℕ) whe
   pub round-length : length (spelling (pushed_round e inner bytes hop)) ≡ header_bytes e.reduced (length e.segments) + length bytes
   round-length = length-spelling (pushed_round e inner bytes hop) ∙ round-payload
 
-  -- the bytes that were put in stand behind the header bytes
-  pub round-inner : drop (header_bytes e.reduced (length e.segments) - 40) (pushed_round e inner bytes hop).payload ≡ bytes
-  round-inner =
-      let len = length-append (front_of e inner) bytes in
-      let size = ap (λ n. 40 + n) (ap length (sym round-front)) ∙ round-payload in
-      ap (drop (header_bytes e.reduced (length e.segments) - 40)) round-front
-      ∙ drop_at (front_of e inner) bytes (header_bytes e.reduced (length e.segments) - 40) (omega (arith, len, size))
-
   pub round-next_header : (pushed_round e inner bytes hop).next_header < 2 ^ 8
   round-next_header = small_next (has_segment_routing e) inner
 
@@ -103,20 +94,6 @@ module _ (e : Encapsulation) (inner : Family) (bytes : List ℕ) (hop : ℕ) whe
             (small_kind inner) v6.payload;
       }
 
--- the outer packets round bytes of one length have one header
-same-header : (p q : Packet) → p.traffic_class ≡ q.traffic_class → p.flow_label ≡ q.flow_label → p.next_header ≡ q.next_header
-    → p.hop_limit ≡ q.hop_limit → p.source ≡ q.source → p.destination ≡ q.destination → length p.payload ≡ length q.payload
-    → header_spelling p ≡ header_spelling q
-unfolding header_spelling
-same-header p q a b c d e f g = rw (a, b, c, d, e, f, g) refl
-
-round-header : (e : Encapsulation) (inner : Family) (xs ys : List ℕ) (hop : ℕ) → length xs ≡ length ys
-    → header_spelling (pushed_round e inner xs hop) ≡ header_spelling (pushed_round e inner ys hop)
-round-header e inner xs ys hop same =
-    let one = round-payload e inner xs hop in
-    let two = round-payload e inner ys hop in
-    same-header (pushed_round e inner xs hop) (pushed_round e inner ys hop) refl refl refl refl refl refl (omega (arith, one, two))
-
 -- the bytes in front of the inner packet's
 round-split : (e : Encapsulation) (inner : Family) (bytes : List ℕ) (hop : ℕ)
     → spelling (pushed_round e inner bytes hop)
@@ -124,20 +101,6 @@ round-split : (e : Encapsulation) (inner : Family) (bytes : List ℕ) (hop : ℕ
 round-split e inner bytes hop =
     let p : Packet = pushed_round e inner bytes hop in
     ap (λ xs. header_spelling p ++ xs) (round-front e inner bytes hop) ∙ sym (append_assoc (header_spelling p) (front_of e inner) bytes)
-
--- the front of an outer packet, up to the inner packet, and other inner bytes of one length
-pub round-other : (e : Encapsulation) (inner : Family) (xs ys : List ℕ) (hop n : ℕ) → length xs ≡ length ys
-    → n + length xs ≡ length (spelling (pushed_round e inner xs hop))
-    → take n (spelling (pushed_round e inner xs hop)) ++ ys ≡ spelling (pushed_round e inner ys hop)
-round-other e inner xs ys hop n same place =
-    let front : List ℕ = header_spelling (pushed_round e inner xs hop) ++ front_of e inner in
-    let split = round-split e inner xs hop in
-    let len : length (spelling (pushed_round e inner xs hop)) ≡ length front + length xs =
-    ap length split ∙ length-append front xs in
-    ap (λ zs. take n zs ++ ys) split
-    ∙ ap (λ zs. zs ++ ys) (take_at front xs n (omega (arith, len)))
-    ∙ ap (λ zs. (zs ++ front_of e inner) ++ ys) (round-header e inner xs ys hop same)
-    ∙ sym (round-split e inner ys hop)
 
 -- the inner bytes behind that front
 pub round-behind : (e : Encapsulation) (inner : Family) (bytes : List ℕ) (hop n : ℕ)
@@ -149,26 +112,6 @@ round-behind e inner bytes hop n place =
     let len : length (spelling (pushed_round e inner bytes hop)) ≡ length front + length bytes =
     ap length split ∙ length-append front bytes in
     ap (drop n) split ∙ drop_at front bytes n (omega (arith, len))
-
--- a byte of the inner packet that changes changes in the outer packet behind the header bytes
-pub round-edit : (e : Encapsulation) (inner : Family) (bytes : List ℕ) (hop k v : ℕ)
-    → spelling (pushed_round e inner (slice_set bytes k v) hop)
-    ≡ slice_set (spelling (pushed_round e inner bytes hop)) (header_bytes e.reduced (length e.segments) + k) v
-round-edit e inner bytes hop k v =
-    let p : Packet = pushed_round e inner bytes hop in
-    let front : List ℕ = front_of e inner in
-    let len = length-append front bytes in
-    let size = ap (λ n. 40 + n) (ap length (sym (round-front e inner bytes hop))) ∙ round-payload e inner bytes hop in
-    let place : 40 + (length front + k) ≡ header_bytes e.reduced (length e.segments) + k = omega (arith, len, size) in
-    let behind : length front + k - length front ≡ k = omega arith in
-    let payload : (pushed_round e inner (slice_set bytes k v) hop).payload ≡ slice_set p.payload (length front + k) v =
-    round-front e inner (slice_set bytes k v) hop
-    ∙ sym (ap (λ j. front ++ slice_set bytes j v) behind)
-    ∙ sym (set-append_right front bytes (length front) (length front + k) v refl (omega arith))
-    ∙ ap (λ xs. slice_set xs (length front + k) v) (sym (round-front e inner bytes hop)) in
-    ap (λ xs. spelling (record p { payload = xs })) payload
-    ∙ edit-payload p (length front + k) v
-    ∙ ap (λ j. slice_set (spelling p) j v) place
 
 -- ---- what comes of it
 
@@ -203,7 +146,7 @@ module _ (policy : Policy) (reduced : Bool) (inner : Family) (bytes : List ℕ) 
   pub by-inner : drop size (spelling (outer_by policy reduced inner bytes)) ≡ bytes
   by-inner = round-behind (encapsulation_by policy reduced) inner bytes policy.hop_limit size (sym by-length)
 
-  pub by-fits : size + length bytes ≤ 65575 → pushed_by policy reduced inner bytes ≡ Outer (outer_by policy reduced inner bytes)
+  pub by-fits : size + length bytes ≤ most_len → pushed_by policy reduced inner bytes ≡ Outer (outer_by policy reduced inner bytes)
   by-fits short = made-fits (outer_by policy reduced inner bytes) (omega (arith, by-payload))
 
   pub by-big : (n : ℕ) → 65535 < n → 40 + n ≡ size + length bytes → pushed_by policy reduced inner bytes ≡ TooBig n

@@ -2,7 +2,7 @@
 pub use Rattle.srv6_rules.proofs.Bytes.{length-two_bytes, length-four_bytes, length-address_bytes, all-two_bytes, all-four_bytes, all-address_bytes, two_number-below, two_number-append, four_number-append, address_number-append}
 pub use Rattle.srv6_rules.proofs.Packets.{content_of-spelling, content_of-spelling_alone, length-spelling, all-spelling, packet_at-spellable, reads-spellable, reads-spelled}
 pub use Rattle.srv6_rules.proofs.Packets4.{read4-spelling, read4-alone, read4-version, read4-short, read4-header, read4-total, read4-cut, read4-whole, reads4-spellable, reads4-spelled, spells4-value, ttl_lowered-ttl, ttl_lowered-length, ttl_lowered-other, ttl_lowered-front, ttl_lowered-all, lowered4-spelling, lowered4-spellable, lowered4-checksum, lowered4-other, lowered4-sum, lowered4-verifies}
-pub use Rattle.srv6_rules.proofs.Contents.{content_of-never4, read_as-is_content, read_as-bytes_of, read_as-spelled, read_as-spelled4, read_as-reads4, read_as-unreadable, read_as-family6, read_as-family4, entered-is_content, entered-back}
+pub use Rattle.srv6_rules.proofs.Contents.{content_of-never4, read_as-is_content, read_as-bytes_of, read_as-spelled, read_as-spelled4, read_as-unreadable, read_as-family6, read_as-family4, entered-is_content, entered-back}
 pub use Rattle.srv6_rules.proofs.Edits.{spelling-behind, edit-hop_limit, edit-destination, edit-payload}
 pub use Rattle.srv6_rules.proofs.Headers.{srh_of-spelling, srh_of-spellable, srh_spelling-srh_of, entry-at, length-entries}
 pub use Rattle.srv6_rules.proofs.Chains.{chain_of-start, chain_at-goes_on, chain_at-upper, chain_at-cut, chain_at-header, chain_at-lies, chain_at-follow, chain_at-stand, chain_at-ends, chain_at-upper_stands, chain_at-spelled, follow-ascends, follow-chain, start-stands, behind-stands, extension_bytes-least, header_in-lies, lies-at, lies-spelled, lies-bytes, lies-stated}
@@ -20,4 +20,4 @@ pub use Rattle.srv6_rules.proofs.Containers.{container-shift, container-rest, ar
 pub use Rattle.srv6_rules.proofs.PackedEntries.{entry-csid, entry-past, entry-address, next-sid, index-back, index-holds, index-written}
 pub use Rattle.srv6_rules.proofs.SteppedPackets.{shifted-spellable, step-spellable, step-hop_limit, StepMoves, step-moves, step-at_end, at_end-none, step-place}
 pub use Rattle.srv6_rules.proofs.SteppedEntries.{entry-next, entry-last, entry-first, entry-ended}
-pub use Rattle.srv6_rules.proofs.PolicyLaws.{round-front, round-payload, round-length, round-inner, round-next_header, round-spellable, round-edit, round-other, round-behind, by-length, by-payload, by-inner, by-fits, by-big, by-only_big, made-fits, made-big, headend-low, headend-high}
+pub use Rattle.srv6_rules.proofs.PolicyLaws.{round-front, round-payload, round-length, round-next_header, round-spellable, round-behind, by-length, by-payload, by-inner, by-fits, by-big, by-only_big, made-fits, made-big, headend-low, headend-high}

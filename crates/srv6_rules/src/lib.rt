@@ -7,16 +7,20 @@
 //! that these definitions speak of, and the laws about the definitions.
 #![tactic(auto)]
 
+pub mod area_laws;
+pub mod chain_laws;
 pub mod compressed;
 mod compression;
 pub mod encapsulation;
+pub mod header_laws;
 pub mod icmp;
 pub mod ip4;
-pub mod laws;
 pub mod numbers;
+pub mod packet_laws;
 pub mod policies;
 mod policy;
 mod sid;
+pub mod sid_laws;
 
 pub use compression::Compression;
 pub use icmp::IcmpKind;

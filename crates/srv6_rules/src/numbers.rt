@@ -77,6 +77,11 @@ pub const SEGMENT_LIST_AT: usize = 8;
 /// The length of an entry of the segment list, an address: 16 (RFC 8754 section 2).
 pub const SEGMENT_LEN: usize = 16;
 
+/// The most segments that are put in front of a packet: 127. Their entries take 254 units of 8
+/// bytes, and those of 128 would not fit the header's length (RFC 8754 section 2; that the reduced
+/// form has no more is an own rule).
+pub const MOST_SEGMENTS: usize = 127;
+
 /// The place of the options in a Hop-by-Hop or Destination Options header: 2 (RFC 8200 section
 /// 4.2).
 pub const OPTIONS_AT: usize = 2;

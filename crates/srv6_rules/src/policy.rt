@@ -3,7 +3,8 @@
 use base::Seq;
 use v6_addr::Addr;
 
-/// The segments of a policy in the order in which they are visited, 1 to 127 of them.
+/// The segments of a policy in the order in which they are visited, 1 to 127 of them (RFC 8986
+/// section 5.1; at most 127 is an own rule).
 pub type SegmentList = Seq<Addr>;
 
 /// What a packet is encapsulated with (RFC 8986 sections 4.13 and 5.1).

@@ -13,7 +13,7 @@ use std::fmt;
 use std::fmt::{Display, Formatter};
 use v6_addr::Prefix;
 
-/// The family of a packet.
+/// The family of a packet (RFC 8200, RFC 791).
 #[derive(Clone, Copy, Debug, PartialEq, Eq)]
 pub enum Family {
     /// IPv6 (RFC 8200).
@@ -79,7 +79,7 @@ pub enum Behaviour {
     },
 }
 
-/// Why a node dropped a packet.
+/// Why a node dropped a packet (own rule).
 #[derive(Clone, Copy, Debug, PartialEq, Eq)]
 pub enum Reason {
     /// Fewer bytes than the header and its payload length say.
@@ -149,10 +149,11 @@ impl Display for Reason {
     }
 }
 
-/// A set of equal next hops, as numbers of links in the order of the description.
+/// A set of equal next hops, as numbers of links in the order of the description (own rule).
 pub type LinkSet = Seq<u32>;
 
-/// A SID: a prefix that a node has, and what is done with packets that come to it.
+/// A SID: a prefix that a node has, and what is done with packets that come to it (RFC 8986
+/// sections 3 and 4).
 #[derive(Debug, Drop)]
 pub struct SidEntry {
     /// The node's number.

@@ -1,0 +1,18 @@
+use Rattle.srv6_rules.proofs.Chains.{lies-at, lies-spelled, lies-stated, lies-bytes}
+use Rattle.srv6_rules.proofs.Flavours.{as_in-lies}
+use Rattle.srv6_rules.proofs.chain_laws.header_has_bytes_of_the_packet.Goals as goal
+
+pub returns-clause-each : goal.returns-clause-each
+returns-clause-each c = lies-at
+
+pub returns-clause-spelled : goal.returns-clause-spelled
+returns-clause-spelled c = lies-spelled
+
+pub returns-clause-stated : goal.returns-clause-stated
+returns-clause-stated c = lies-stated
+
+pub returns-clause-below : goal.returns-clause-below
+returns-clause-below c = lies-bytes
+
+pub returns-clause-there : goal.returns-clause-there
+returns-clause-there c = as_in-lies

@@ -1,0 +1,20 @@
+use Rattle.srv6_rules.proofs.Chains.{chain_at-follow, follow-ascends, start-stands, behind-stands, chain_at-stand, follow-chain}
+use Rattle.srv6_rules.proofs.chain_laws.headers_of_a_chain_follow_one_another.Goals as goal
+
+pub returns-clause-follow : goal.returns-clause-follow
+returns-clause-follow c = chain_at-follow
+
+pub returns-clause-ascend : goal.returns-clause-ascend
+returns-clause-ascend c = follow-ascends
+
+pub returns-clause-start : goal.returns-clause-start
+returns-clause-start c = start-stands
+
+pub returns-clause-behind : goal.returns-clause-behind
+returns-clause-behind c = behind-stands
+
+pub returns-clause-stand : goal.returns-clause-stand
+returns-clause-stand c = chain_at-stand
+
+pub returns-clause-only : goal.returns-clause-only
+returns-clause-only c = follow-chain

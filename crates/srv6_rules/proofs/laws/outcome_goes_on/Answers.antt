@@ -1,5 +1,0 @@
-use Rattle.srv6_rules.proofs.Reached.{over-goes_on}
-use Rattle.srv6_rules.proofs.laws.outcome_goes_on.Goals as goal
-
-pub returns : goal.returns
-returns c = over-goes_on

@@ -1,5 +1,0 @@
-use Rattle.srv6_rules.proofs.Endpoints.{at_sid-moves}
-use Rattle.srv6_rules.proofs.laws.packed_segments_are_moved_on_in.Goals as goal
-
-pub returns : goal.returns
-returns c = at_sid-moves

@@ -1,8 +1,0 @@
-use Rattle.srv6_rules.proofs.Packets.{content_of-spelling, content_of-spelling_alone}
-use Rattle.srv6_rules.proofs.laws.reading_gives_the_value_back.Goals as goal
-
-pub returns-clause-front : goal.returns-clause-front
-returns-clause-front c = content_of-spelling
-
-pub returns-clause-alone : goal.returns-clause-alone
-returns-clause-alone c = content_of-spelling_alone

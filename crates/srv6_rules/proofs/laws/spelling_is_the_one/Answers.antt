@@ -1,5 +1,0 @@
-use Rattle.srv6_rules.proofs.Packets.{spells-value}
-use Rattle.srv6_rules.proofs.laws.spelling_is_the_one.Goals as goal
-
-pub returns-clause-value : goal.returns-clause-value
-returns-clause-value c = spells-value

@@ -1,5 +1,0 @@
-use Rattle.srv6_rules.proofs.Headers.{srh_of-spelling}
-use Rattle.srv6_rules.proofs.laws.srh_reading_gives_the_value_back.Goals as goal
-
-pub returns : goal.returns
-returns c = srh_of-spelling

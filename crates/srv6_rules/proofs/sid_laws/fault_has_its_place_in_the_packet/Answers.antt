@@ -1,0 +1,8 @@
+use Rattle.srv6_rules.proofs.Endpoints.{at_sid-place, at_address-place}
+use Rattle.srv6_rules.proofs.sid_laws.fault_has_its_place_in_the_packet.Goals as goal
+
+pub returns-clause-at_sid : goal.returns-clause-at_sid
+returns-clause-at_sid c = at_sid-place
+
+pub returns-clause-at_address : goal.returns-clause-at_address
+returns-clause-at_address c = at_address-place
