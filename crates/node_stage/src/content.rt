@@ -18,7 +18,7 @@ pub(crate) enum Held {
     Unreadable(PktBuf, Reason),
 }
 
-/// A packet of IPv6 or IPv4, or bytes that do not read as one and why.
+/// A packet of IPv6 or IPv4, or bytes that do not read as one and why (own rule).
 #[derive(Debug, Drop)]
 pub struct Content {
     pub(crate) held: Held,
@@ -80,7 +80,7 @@ impl Content {
         mem::replace(self, Content::unreadable(empty, Reason::Truncated))
     }
 
-    /// The bytes: those that spell the packet, or those that do not read.
+    /// The bytes: those that spell the packet, or those that do not read (own rule).
     pub fn bytes(&self) -> &[u8]
         ensures { result.now ≡ bytes_of self.now }
     {
@@ -91,7 +91,7 @@ impl Content {
         }
     }
 
-    /// Appends the bytes; with want of memory nothing is appended.
+    /// Appends the bytes; with want of memory nothing is appended (own rule).
     pub fn append_to(&self, out: &mut Vec<u8>) -> Result<(), AllocError>
         ensures ok { OnOk result (out.new.items ≡ out.old.items ++ bytes_of self.now) }
         ensures err { OnErr result (out.new.items ≡ out.old.items) }
@@ -99,15 +99,15 @@ impl Content {
         out.extend_from_slice(self.bytes())
     }
 
-    /// The length of the bytes.
+    /// The length of the bytes (own rule).
     pub fn len(&self) -> usize
         ensures { result ≡ length (bytes_of self.now) }
     {
         self.bytes().len()
     }
 
-    /// Bytes can spell what is held: a packet's fields fit their widths, and each byte is a byte.
-    /// For the callers' proofs.
+    /// Bytes can spell what is held: a packet's fields fit their widths, and each byte is a byte
+    /// (own rule). For the callers' proofs.
     pub fn keeps_rules(&self)
         ensures { IsContent self.now }
     {

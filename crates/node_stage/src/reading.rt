@@ -55,7 +55,8 @@ impl Content {
         Content::read_as(family, buf)
     }
 
-    /// What enters a node with these bytes as a packet of a family, in place, as from a buffer.
+    /// What enters a node with these bytes as a packet of a family, in place, as from a buffer (own
+    /// rule).
     pub fn enter(family: Family, bytes: Vec<u8>) -> Content
         ensures { result ≡ entered family bytes.items }
     {
