@@ -74,7 +74,8 @@ pub fn bad_segments(at: usize) -> Fault
     }
 }
 
-/// An extension header at a place is cut.
+/// An extension header at a place is cut (RFC 8200 section 4; that the packet is dropped is an own
+/// rule).
 pub fn cut_fault(place: ChainPlace) -> Fault
     ensures { result ≡ record { reason = Reason.BadChain; at = place.at } }
 {

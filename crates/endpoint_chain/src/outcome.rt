@@ -7,7 +7,8 @@ ghost use Rattle.ip6_headers.specs.Items.{fault_of};
 use ip6_headers::Fault;
 use srv6_rules::{Family, Reason};
 
-/// What came of a packet at a SID, where the packet's bytes are changed in their places.
+/// What came of a packet at a SID, where the packet's bytes are changed in their places (RFC 8986
+/// section 4).
 #[derive(Clone, Copy, Debug, PartialEq, Eq)]
 pub enum EndOutcome {
     /// The SID was executed and the packet goes on, with another destination.
@@ -29,7 +30,7 @@ pub enum EndOutcome {
 }
 
 impl EndOutcome {
-    /// The packet is dropped for a fault at a place of it.
+    /// The packet is dropped for a fault at a place of it (own rule).
     pub fn dropped(fault: Fault) -> EndOutcome
         requires { fault.at < 2 ^ 32 }
         ensures { result ≡ dropped_for (fault_of fault) }

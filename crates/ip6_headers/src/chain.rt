@@ -12,7 +12,8 @@ use srv6_rules::numbers::{
 };
 
 /// Where a chain has come to: a place, the next-header value that names what stands there, and the
-/// place of the field that held that value. Places are in bytes from the packet's first.
+/// place of the field that held that value. Places are in bytes from the packet's first (RFC 8200
+/// section 4).
 #[derive(Clone, Copy, Debug, PartialEq, Eq)]
 pub struct ChainPlace {
     /// The place.
@@ -24,7 +25,8 @@ pub struct ChainPlace {
 }
 
 impl ChainPlace {
-    /// Where the chain of a packet starts: behind its IPv6 header, which names what stands there.
+    /// Where the chain of a packet starts: behind its IPv6 header, which names what stands there
+    /// (RFC 8200 section 4).
     pub fn first(next_header: u8) -> ChainPlace
         ensures { place_view result ≡ first_place next_header }
     {
@@ -36,7 +38,7 @@ impl ChainPlace {
     }
 
     /// Where the chain goes on behind the header of these bytes that stands here: its first byte
-    /// names what stands there.
+    /// names what stands there (RFC 8200 section 4).
     pub fn behind(self, header: &[u8]) -> ChainPlace
         requires least { EXTENSION_UNIT ≤ length header.now }
         requires fits { self.at + length header.now ≤ usize.MAX }
@@ -50,7 +52,7 @@ impl ChainPlace {
     }
 }
 
-/// What bytes begin with that a next-header value names.
+/// What bytes begin with that a next-header value names (RFC 8200 section 4).
 #[derive(Clone, Copy, Debug, PartialEq, Eq)]
 pub enum Stands {
     /// A whole extension header.
@@ -64,7 +66,7 @@ pub enum Stands {
     Cut,
 }
 
-/// A step along a chain.
+/// A step along a chain (RFC 8200 section 4).
 #[derive(Clone, Copy, Debug, PartialEq, Eq)]
 pub enum ChainStep {
     /// A whole extension header stands at the place.
@@ -78,7 +80,7 @@ pub enum ChainStep {
     Upper,
 }
 
-/// The extension header at a place is cut.
+/// The extension header at a place is cut (RFC 8200 section 4).
 #[derive(Clone, Copy, Debug, PartialEq, Eq)]
 pub struct BadChain;
 

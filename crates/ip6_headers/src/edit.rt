@@ -10,7 +10,7 @@ use srv6_rules::numbers::{
 use v6_addr::Addr;
 
 /// An edit of the IPv6 header that bytes begin with. What it writes stands in these bytes, each
-/// field's in its place, and no other byte changes.
+/// field's in its place, and no other byte changes (RFC 8200 section 3).
 #[derive(Drop)]
 pub struct Ip6Edit<'a> {
     bytes: &'a mut [u8],
@@ -20,7 +20,7 @@ pub struct Ip6Edit<'a> {
 impl<'a> Ip6Edit<'a> {
     ghost use Rattle.ip6_headers.specs.Editing.{edited, lent_as};
 
-    /// An edit over bytes, of which a header's 40 are there.
+    /// An edit over bytes, of which a header's 40 are there (RFC 8200 section 3).
     pub fn over(bytes: &'a mut [u8]) -> Ip6Edit<'a>
         requires { header_len ≤ length bytes.old }
         ensures same_reference { lent_as result ≡ bytes.entry.ghost_name }
@@ -29,7 +29,8 @@ impl<'a> Ip6Edit<'a> {
         Ip6Edit { bytes }
     }
 
-    /// Writes the payload length, in bytes: how many behind the header are the packet's.
+    /// Writes the payload length, in bytes: how many behind the header are the packet's (RFC 8200
+    /// section 3).
     pub fn set_payload_len(&mut self, len: u16)
         ensures same_reference { lent_as self.new ≡ lent_as self.old }
         ensures bytes { edited self.new
@@ -39,7 +40,7 @@ impl<'a> Ip6Edit<'a> {
         put_two(self.bytes, PAYLOAD_LEN_AT, len);
     }
 
-    /// Writes the value that names what stands behind the header.
+    /// Writes the value that names what stands behind the header (RFC 8200 section 3).
     pub fn set_next_header(&mut self, next_header: u8)
         ensures same_reference { lent_as self.new ≡ lent_as self.old }
         ensures bytes { edited self.new ≡ slice_set (edited self.old) NEXT_HEADER_AT next_header }
@@ -47,7 +48,7 @@ impl<'a> Ip6Edit<'a> {
         self.bytes[NEXT_HEADER_AT] = next_header;
     }
 
-    /// Writes the hop limit.
+    /// Writes the hop limit (RFC 8200 section 3).
     pub fn set_hop_limit(&mut self, hop_limit: u8)
         ensures same_reference { lent_as self.new ≡ lent_as self.old }
         ensures bytes { edited self.new ≡ slice_set (edited self.old) HOP_LIMIT_AT hop_limit }
@@ -55,7 +56,7 @@ impl<'a> Ip6Edit<'a> {
         self.bytes[HOP_LIMIT_AT] = hop_limit;
     }
 
-    /// Writes the destination address.
+    /// Writes the destination address (RFC 8200 section 3).
     pub fn set_destination(&mut self, destination: Addr)
         ensures same_reference { lent_as self.new ≡ lent_as self.old }
         ensures bytes { edited self.new

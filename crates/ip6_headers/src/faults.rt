@@ -16,7 +16,7 @@ impl ReadFault {
     ghost use Rattle.srv6_rules.specs.Packet.{Unreadable};
     ghost use Rattle.ip6_headers.specs.Reading.{unreadable};
 
-    /// The reason for which a node drops bytes that do not read.
+    /// The reason for which a node drops bytes that do not read (own rule).
     pub fn reason(self) -> Reason
         ensures { (bytes : List ℕ) → Unreadable bytes result ≡ unreadable bytes self }
     {

@@ -14,7 +14,8 @@ use srv6_rules::numbers::{
 use std::marker::Model;
 use v6_addr::Addr;
 
-/// An IPv4 packet in bytes, which begin with it: what stands behind its end is not part of it.
+/// An IPv4 packet in bytes, which begin with it: what stands behind its end is not part of it (RFC
+/// 791 section 3.1).
 #[derive(Debug, Drop)]
 pub struct Ip4View<'a> {
     bytes: &'a [u8],
@@ -117,7 +118,7 @@ impl<'a> Ip4View<'a> {
         }
     }
 
-    /// The time to live.
+    /// The time to live (RFC 791 section 3.1).
     #[tactic(auto, using(crate::proofs::PacketBytes4::fields4))]
     pub fn ttl(&self) -> u8
         ensures { result ≡ ttl self.now }
@@ -125,7 +126,7 @@ impl<'a> Ip4View<'a> {
         self.bytes[TTL_AT]
     }
 
-    /// The number that names what stands behind the header.
+    /// The number that names what stands behind the header (RFC 791 section 3.1).
     #[tactic(auto, using(crate::proofs::PacketBytes4::fields4))]
     pub fn protocol(&self) -> u8
         ensures { result ≡ protocol self.now }
@@ -133,7 +134,7 @@ impl<'a> Ip4View<'a> {
         self.bytes[PROTOCOL_AT]
     }
 
-    /// The packet's length in bytes, its header among it.
+    /// The packet's length in bytes, its header among it (RFC 791 section 3.1).
     #[tactic(auto, using(crate::proofs::PacketBytes4::fields4))]
     pub fn total_len(&self) -> u16
         ensures field { result ≡ total_len self.now.header }
@@ -142,7 +143,8 @@ impl<'a> Ip4View<'a> {
         total_len(self.bytes)
     }
 
-    /// The source address, in the highest 32 bits.
+    /// The source address, in the highest 32 bits (RFC 791 section 3.1; that it stands there is an
+    /// own rule).
     #[tactic(auto, using(crate::proofs::PacketBytes4::fields4))]
     pub fn source(&self) -> Addr
         ensures { result.value ≡ source4 self.now }
@@ -150,7 +152,8 @@ impl<'a> Ip4View<'a> {
         address4_at(self.bytes, IPV4_SOURCE_AT)
     }
 
-    /// The destination address, in the highest 32 bits.
+    /// The destination address, in the highest 32 bits (RFC 791 section 3.1; that it stands there
+    /// is an own rule).
     #[tactic(auto, using(crate::proofs::PacketBytes4::fields4))]
     pub fn destination(&self) -> Addr
         ensures { result.value ≡ destination4 self.now }
@@ -158,7 +161,7 @@ impl<'a> Ip4View<'a> {
         address4_at(self.bytes, IPV4_DESTINATION_AT)
     }
 
-    /// The packet's bytes up to its end, which spell it.
+    /// The packet's bytes up to its end, which spell it (RFC 791 section 3.1).
     #[tactic(auto, using(crate::proofs::PacketBytes4::spellings4))]
     pub fn bytes(&self) -> &'a [u8]
         ensures { result.now ≡ spelling4 self.now }

@@ -6,7 +6,7 @@ ghost use Rattle.srv6_rules.specs.Packet.{two_bytes, address_bytes, two_number, 
 use byteorder::{BigEndian, ByteOrder};
 use v6_addr::Addr;
 
-/// The number in the 2 bytes from a place on.
+/// The number in the 2 bytes from a place on (RFC 791 appendix B).
 #[tactic(auto, unfolding(srv6_rules::specs::Packet::two_number))]
 pub fn two_at(bytes: &[u8], at: usize) -> u16
     requires { at + 2 ≤ length bytes.now }
@@ -15,7 +15,7 @@ pub fn two_at(bytes: &[u8], at: usize) -> u16
     BigEndian::read_u16(bytes.split_at(at).1)
 }
 
-/// The number in the 4 bytes from a place on.
+/// The number in the 4 bytes from a place on (RFC 791 appendix B).
 #[tactic(auto, unfolding(srv6_rules::specs::Packet::four_number))]
 pub fn four_at(bytes: &[u8], at: usize) -> u32
     requires { at + 4 ≤ length bytes.now }
@@ -24,7 +24,7 @@ pub fn four_at(bytes: &[u8], at: usize) -> u32
     BigEndian::read_u32(bytes.split_at(at).1)
 }
 
-/// The address in the 16 bytes from a place on.
+/// The address in the 16 bytes from a place on (RFC 791 appendix B).
 #[tactic(auto, unfolding(srv6_rules::specs::Packet::address_number))]
 pub fn address_at(bytes: &[u8], at: usize) -> Addr
     requires { at + 16 ≤ length bytes.now }

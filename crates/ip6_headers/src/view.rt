@@ -13,7 +13,8 @@ use srv6_rules::numbers::{
 use std::marker::Model;
 use v6_addr::Addr;
 
-/// An IPv6 packet in bytes, which begin with it: what stands behind its end is not part of it.
+/// An IPv6 packet in bytes, which begin with it: what stands behind its end is not part of it (RFC
+/// 8200 section 3).
 #[derive(Debug, Drop)]
 pub struct Ip6View<'a> {
     bytes: &'a [u8],
@@ -62,7 +63,7 @@ pub fn read_fault(bytes: &[u8]) -> Option<ReadFault>
 }
 
 impl<'a> Ip6View<'a> {
-    /// The packet in bytes that hold one.
+    /// The packet in bytes that hold one (RFC 8200 section 3).
     pub fn over(bytes: &'a [u8]) -> Ip6View<'a>
         requires { HoldsPacket bytes.now }
         ensures { result ≡ packet_at bytes.now }
@@ -89,8 +90,8 @@ impl<'a> Ip6View<'a> {
         }
     }
 
-    /// Bytes can spell the packet: its fields fit their widths. An empty function, for the callers'
-    /// proofs.
+    /// Bytes can spell the packet: its fields fit their widths (RFC 8200 section 3). An empty
+    /// function, for the callers' proofs.
     #[tactic(auto, using(crate::proofs::PacketBytes::readings))]
     pub fn keeps_rules(&self)
         ensures { IsSpellable self.now }
@@ -98,7 +99,7 @@ impl<'a> Ip6View<'a> {
         let _ = &self.bytes;
     }
 
-    /// The traffic class.
+    /// The traffic class (RFC 8200 section 3).
     #[tactic(auto, unfolding(srv6_rules::specs::Packet::packet_at))]
     pub fn traffic_class(&self) -> u8
         ensures { result ≡ self.now.traffic_class }
@@ -106,7 +107,7 @@ impl<'a> Ip6View<'a> {
         (four_at(self.bytes, 0) / 0x10_0000 % 0x100) as u8
     }
 
-    /// The flow label, 20 bits.
+    /// The flow label, 20 bits (RFC 8200 section 3).
     #[tactic(auto, unfolding(srv6_rules::specs::Packet::packet_at))]
     pub fn flow_label(&self) -> u32
         ensures { result ≡ self.now.flow_label }
@@ -114,7 +115,7 @@ impl<'a> Ip6View<'a> {
         four_at(self.bytes, 0) % 0x10_0000
     }
 
-    /// The payload's length in bytes, which the header states.
+    /// The payload's length in bytes, which the header states (RFC 8200 section 3).
     #[tactic(auto, using(crate::proofs::PacketBytes::payload_lens))]
     pub fn payload_len(&self) -> u16
         ensures { result ≡ length self.now.payload }
@@ -122,7 +123,7 @@ impl<'a> Ip6View<'a> {
         stated_len(self.bytes)
     }
 
-    /// The value that names what stands behind the IPv6 header.
+    /// The value that names what stands behind the IPv6 header (RFC 8200 section 3).
     #[tactic(auto, unfolding(srv6_rules::specs::Packet::packet_at))]
     pub fn next_header(&self) -> u8
         ensures { result ≡ self.now.next_header }
@@ -130,7 +131,7 @@ impl<'a> Ip6View<'a> {
         self.bytes[NEXT_HEADER_AT]
     }
 
-    /// The hop limit.
+    /// The hop limit (RFC 8200 section 3).
     #[tactic(auto, unfolding(srv6_rules::specs::Packet::packet_at))]
     pub fn hop_limit(&self) -> u8
         ensures { result ≡ self.now.hop_limit }
@@ -138,7 +139,7 @@ impl<'a> Ip6View<'a> {
         self.bytes[HOP_LIMIT_AT]
     }
 
-    /// The source address.
+    /// The source address (RFC 8200 section 3).
     #[tactic(auto, unfolding(srv6_rules::specs::Packet::packet_at))]
     pub fn source(&self) -> Addr
         ensures { result.value ≡ self.now.source }
@@ -146,7 +147,7 @@ impl<'a> Ip6View<'a> {
         address_at(self.bytes, SOURCE_AT)
     }
 
-    /// The destination address.
+    /// The destination address (RFC 8200 section 3).
     #[tactic(auto, unfolding(srv6_rules::specs::Packet::packet_at))]
     pub fn destination(&self) -> Addr
         ensures { result.value ≡ self.now.destination }
@@ -154,7 +155,7 @@ impl<'a> Ip6View<'a> {
         address_at(self.bytes, DESTINATION_AT)
     }
 
-    /// The bytes behind the IPv6 header, up to the packet's end.
+    /// The bytes behind the IPv6 header, up to the packet's end (RFC 8200 section 3).
     #[tactic(auto, unfolding(srv6_rules::specs::Packet::packet_at))]
     pub fn payload(&self) -> &'a [u8]
         ensures { result.now ≡ self.now.payload }
@@ -163,7 +164,7 @@ impl<'a> Ip6View<'a> {
         self.bytes.split_at(IPV6_HEADER_LEN).1.split_at(len).0
     }
 
-    /// The packet's bytes up to its end, which spell it.
+    /// The packet's bytes up to its end, which spell it (RFC 8200 section 3).
     #[tactic(auto, using(crate::proofs::PacketBytes::spellings))]
     pub fn bytes(&self) -> &'a [u8]
         ensures { result.now ≡ spelling self.now }

@@ -11,7 +11,8 @@ use ip6_headers::{Ip6Edit, Ip6View};
 use srv6_rules::{Compression, Csid};
 use v6_addr::{Addr, field, with_field};
 
-/// What came of a packet at a SID with NEXT-CSID and an argument that is not 0.
+/// What came of a packet at a SID with NEXT-CSID and an argument that is not 0 (RFC 9800 section
+/// 4.1).
 #[derive(Clone, Copy, Debug, PartialEq, Eq)]
 pub enum ShiftOutcome {
     /// The next SID is active, and the hop limit is one lower.

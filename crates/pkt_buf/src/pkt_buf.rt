@@ -30,7 +30,7 @@ impl PktBuf {
     ghost use Rattle.std.specs.Borrow.{sem};
     ghost use Rattle.pkt_buf.specs.Lending.{LendsBytes};
 
-    /// Bytes with so many spare ones in front.
+    /// Bytes with so many spare ones in front (own rule).
     pub fn new(alloc: Global, front: usize, bytes: &[u8]) -> Result<PktBuf, NoMemory>
         requires { length bytes.now ≤ MOST_LEN }
         ensures { IfOk result (λ b. b ≡ record { bytes = bytes.now; front = front }) }
@@ -41,7 +41,7 @@ impl PktBuf {
         Ok(PktBuf { held, front })
     }
 
-    /// Bytes with none spare in front, in place; takes no memory.
+    /// Bytes with none spare in front, in place; takes no memory (own rule).
     pub fn of(bytes: Vec<u8>) -> PktBuf
         ensures { result ≡ record { bytes = bytes.items; front = 0 } }
     {
@@ -51,21 +51,21 @@ impl PktBuf {
         }
     }
 
-    /// No bytes, of this buffer's allocator; takes no memory.
+    /// No bytes, of this buffer's allocator; takes no memory (own rule).
     pub fn no_bytes(&self) -> PktBuf
         ensures { result ≡ record { bytes = []; front = 0 } }
     {
         PktBuf::of(Vec::new(*self.held.allocator()))
     }
 
-    /// The packet's bytes.
+    /// The packet's bytes (own rule).
     pub fn view(&self) -> &[u8]
         ensures { result.now ≡ self.now.bytes }
     {
         self.held.as_slice().split_at(self.front).1
     }
 
-    /// The packet's bytes, to be changed in their places.
+    /// The packet's bytes, to be changed in their places (own rule).
     pub fn view_mut(&mut self) -> &mut [u8]
         ensures* writes_back { sem 𝓛 (LendsBytes self.entry result) }
         ensures value { result.now ≡ self.old.bytes }
@@ -73,14 +73,14 @@ impl PktBuf {
         self.held.slice_mut(self.front..)
     }
 
-    /// How many the packet's bytes are.
+    /// How many the packet's bytes are (own rule).
     pub fn len(&self) -> usize
         ensures { result ≡ length self.now.bytes }
     {
         self.view().len()
     }
 
-    /// Writes the packet's byte at a place, counted from 0.
+    /// Writes the packet's byte at a place, counted from 0 (own rule).
     pub fn set(&mut self, at: usize, byte: u8)
         requires { at < length self.old.bytes }
         ensures { self.new ≡ record {
@@ -91,14 +91,14 @@ impl PktBuf {
         self.held[self.front + at] = byte;
     }
 
-    /// How many bytes are spare in front.
+    /// How many bytes are spare in front (own rule).
     pub fn front(&self) -> usize
         ensures { result ≡ self.now.front }
     {
         self.front
     }
 
-    /// Puts so many bytes of 0 in front of the packet's, in place of spare ones.
+    /// Puts so many bytes of 0 in front of the packet's, in place of spare ones (own rule).
     pub fn open_front(&mut self, n: usize)
         requires { n ≤ self.old.front }
         ensures { self.new ≡ record {
@@ -111,7 +111,7 @@ impl PktBuf {
         self.front = front;
     }
 
-    /// Puts bytes in front of the packet's, in place of as many spare ones.
+    /// Puts bytes in front of the packet's, in place of as many spare ones (own rule).
     pub fn put_front(&mut self, bytes: &[u8])
         requires { length bytes.now ≤ self.old.front }
         ensures { self.new ≡ record {
@@ -125,7 +125,8 @@ impl PktBuf {
     }
 
     /// Gives at least so many spare bytes in front; the packet's bytes stay. Where as many are
-    /// spare nothing changes and no memory is taken. With want of memory nothing changes either.
+    /// spare nothing changes and no memory is taken. With want of memory nothing changes either
+    /// (own rule).
     pub fn reserve_front(&mut self, n: usize) -> Result<(), NoMemory>
         ensures room { OnOk result (n ≤ self.new.front) }
         ensures bytes { self.new.bytes ≡ self.old.bytes }
@@ -144,7 +145,7 @@ impl PktBuf {
         Ok(())
     }
 
-    /// Takes n bytes from a place on out of the packet's; the spare ones stay.
+    /// Takes n bytes from a place on out of the packet's; the spare ones stay (own rule).
     pub fn cut(&mut self, at: usize, n: usize)
         requires { at + n ≤ length self.old.bytes }
         ensures { self.new ≡ record {
@@ -156,7 +157,7 @@ impl PktBuf {
         self.held.drain(start..start + n);
     }
 
-    /// Takes the packet's first n bytes out, which become spare.
+    /// Takes the packet's first n bytes out, which become spare (own rule).
     pub fn drop_front(&mut self, n: usize)
         requires { n ≤ length self.old.bytes }
         ensures { self.new ≡ record {
@@ -167,7 +168,7 @@ impl PktBuf {
         self.front += n;
     }
 
-    /// Keeps the packet's first bytes, as many as a length; the spare ones stay.
+    /// Keeps the packet's first bytes, as many as a length; the spare ones stay (own rule).
     pub fn truncate(&mut self, len: usize)
         requires { len ≤ length self.old.bytes }
         ensures { self.new ≡ record {
