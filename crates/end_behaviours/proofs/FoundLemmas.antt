@@ -148,13 +148,6 @@ routing-unknown s p h rest unshifted kind other =
     let t : (routing_type h == segment_routing) ≡ false = ne_eqb (routing_type h) segment_routing other in
     at_header-routing s p h rest unshifted kind ∙ rw (k, t) refl
 
--- a segment routing header
-pub routing-known : (h : Header) → h.place.kind ≡ routing → routing_type h ≡ segment_routing → is_segment_routing h ≡ true
-routing-known h kind type =
-    let k : (h.place.kind == routing) ≡ true = eq-eqb h.place.kind routing kind in
-    let t : (routing_type h == segment_routing) ≡ true = eq-eqb (routing_type h) segment_routing type in
-    rw (k, t) refl
-
 -- where the SID does not shift in front of it
 pub header-unshifted : (s : SidEntry) (p : Packet) (h : Header) (rest : Endpoint) → (shifts_at s p && not (is_options h)) ≡ false
     → at_header s p h rest ≡ at_header_by (at_sid_routing s p) h rest

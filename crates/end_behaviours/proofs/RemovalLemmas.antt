@@ -111,13 +111,6 @@ left-remains e at old new (Hand family) comes reaches = tt
 left-remains e at old new Local comes reaches = ((spelled-alone new comes.packet comes.spelled).0, reaches)
 left-remains e at old new (Drop reason place) comes reaches = tt
 
-pub reaches-nearer : (near at : ℕ) (bytes : List ℕ) (outcome : EndOutcome) → near ≤ at → Reaches at bytes outcome
-    → Reaches near bytes outcome
-reaches-nearer near at bytes On le reaches = omega arith
-reaches-nearer near at bytes (Hand family) le reaches = tt
-reaches-nearer near at bytes Local le reaches = omega arith
-reaches-nearer near at bytes (Drop reason place) le reaches = tt
-
 pub remains-alone : (at : ℕ) (bytes : List ℕ) (outcome : EndOutcome) → (outcome ≡ On) ⊎ (outcome ≡ Local) → Remains at bytes outcome
     → HoldsAlone bytes
 remains-alone at bytes On is left = left.0

@@ -10,7 +10,7 @@ use Rattle.endpoint_chain.specs.Outcomes.{HoldsAlone}
 use Rattle.endpoint_chain.specs.declared.outcome.EndOutcome.{EndOutcome}
 use Rattle.endpoint_chain.proofs.PublicLaws.{alone-length}
 use Rattle.end_behaviours.specs.declared.headers.Found.{Found}
-use Rattle.end_behaviours.specs.Finding.{IsFound, IsLast, LiesAt, at_sid_from}
+use Rattle.end_behaviours.specs.Finding.{IsFound, IsLast, at_sid_from}
 use Rattle.end_behaviours.specs.Stepping.{Remains}
 use Rattle.end_behaviours.proofs.AloneLemmas.{alone-from}
 
@@ -22,11 +22,6 @@ found-in s allow seen old first place found same is =
     let P : List ℕ → Type 0 =
     λ xs. IsFound s (packet_at xs) first (at_sid_from s allow (packet_at xs)) (at_sid_from s allow (packet_at xs) place) found in
     subst P same is
-
--- a header is no earlier than itself
-pub header-here : (p : Packet) (first : ℕ) (place : ChainPlace) (len : ℕ) → LiesAt p first place len → LiesAt p place.at place len
-header-here p first place len header =
-    record { lies = header.lies; long = header.long; stands = header.stands; later = omega arith; routing = header.routing }
 
 -- where a header that is taken out ends
 pub record Ends (bytes : List ℕ) (place next : ChainPlace) : Type 0 where

@@ -2,30 +2,26 @@
 use Rattle.std.proofs.Common.{◌≡◌, ◌≢◌, ℕ, false, List, Option, Some, None, IfSome, ◌≤◌, ◌<◌, length, slice_get, refl, sym, ap, subst, ◌∙◌, arith}
 use Rattle.std.specs.Prelude.{Result}
 use Rattle.srv6_rules.specs.declared.policy.Policy.{Policy}
-use Rattle.srv6_rules.specs.declared.sid.Family.{Family}
 use Rattle.srv6_rules.specs.declared.sid.Family.TheVariants as families
-use Rattle.srv6_rules.specs.declared.sid.Reason.{Reason}
-use Rattle.srv6_rules.specs.declared.sid.Reason.TheVariants as reasons
 use Rattle.srv6_rules.specs.Behaviours.{behaviour_policy, behaviour_reduces}
-use Rattle.srv6_rules.specs.Policies.{Encapsulating, IsPolicy, Outer, TooBig, pushed_by}
+use Rattle.srv6_rules.specs.Policies.{Encapsulating, IsPolicy, Outer, pushed_by}
 use Rattle.srv6_rules.specs.declared.sid.Csid.{Csid}
 use Rattle.srv6_rules.specs.declared.sid.Csid.TheVariants as csids
 use Rattle.srv6_rules.specs.declared.sid.SidEntry.{SidEntry}
 use Rattle.srv6_rules.specs.CompressedSteps.{is_next}
-use Rattle.srv6_rules.specs.Endpoint.{Endpoint, Onward, Exposed, Delivered, Refused, at_sid}
-use Rattle.srv6_rules.specs.Packet.{Packet, Content, V6, Spells, content_of, packet_at, read_as, spelling}
+use Rattle.srv6_rules.specs.Endpoint.{Endpoint, Onward, Delivered, at_sid}
+use Rattle.srv6_rules.specs.Packet.{Packet, Content, V6, Spells, content_of, packet_at, spelling}
 use Rattle.srv6_rules.specs.declared.numbers.TheConstants.{MOST_LEN}
 use Rattle.srv6_rules.proofs.PublicLaws.{length-spelling}
 use Rattle.net_model.specs.Network.{Network}
 use Rattle.net_model.specs.Keeps.{Keeps}
 use Rattle.net_model.specs.declared.parts.NamedPolicy.{NamedPolicy}
 use Rattle.net_model.specs.declared.parts.Node.{Node}
-use Rattle.walk_rules.specs.declared.place.How.{How}
 use Rattle.walk_rules.specs.declared.place.Outcome.TheVariants as outcomes
-use Rattle.walk_rules.specs.Treatment.{Gave, goes, dropped, onward_from, exposed_from, allow_of, pushed_at_sid, bound_at_sid, onward_at_sid, treated_at_sid, treated_in}
+use Rattle.walk_rules.specs.Treatment.{Gave, goes, onward_from, allow_of, pushed_at_sid, bound_at_sid, onward_at_sid, treated_at_sid, treated_in}
 use Rattle.endpoint_chain.specs.declared.outcome.EndOutcome.{EndOutcome}
 use Rattle.endpoint_chain.specs.declared.outcome.EndOutcome.TheVariants as ends
-use Rattle.endpoint_chain.specs.Outcomes.{HoldsAlone, Leaves, ComesOf}
+use Rattle.endpoint_chain.specs.Outcomes.{Leaves, ComesOf}
 use Rattle.policy_encap.specs.Answers.{Makes}
 use Rattle.node_stage.specs.declared.staged.Staged.{Staged}
 use Rattle.node_stage.specs.Staging.{Stages}
@@ -78,19 +74,6 @@ module _ (net : Network) (node n : ℕ) (s : SidEntry) (allow old : List ℕ) wh
       ap (λ (c : Content). goes outcomes.Local c) (reads ∙ spells-content new left.packet left.spelled)
       ∙ came (Delivered left.packet) left.is
 
-  pub came-exposed : (how : How) (family : Family) (new : List ℕ) (after : Content) → how ≡ exposed_from n s.behaviour
-      → after ≡ read_as family new → at_sid s allow p ≡ Exposed family new
-      → goes (outcomes.Hand n how family) after ≡ wanted
-  came-exposed how family new after goes_so reads is =
-      ap (λ (h : How). goes (outcomes.Hand n h family) after) goes_so
-      ∙ ap (goes (outcomes.Hand n (exposed_from n s.behaviour) family)) reads
-      ∙ came (Exposed family new) is
-
-  pub came-dropped : (reason : Reason) (at : ℕ) (new : List ℕ) (content : Content) → HoldsAlone old → content ≡ content_of new
-      → new ≡ old → at_sid s allow p ≡ Refused reason at → dropped net node reason at content ≡ wanted
-  came-dropped reason at new content alone reads same is =
-      ap (dropped net node reason at) (reads ∙ ap content_of same ∙ alone.holds.reads) ∙ came (Refused reason at) is
-
   -- a packet that goes on from a SID that binds a policy, by what comes of putting the policy's header in front
   module _ (number : ℕ) (named : NamedPolicy) (policy : Policy) (binds : behaviour_policy s.behaviour ≡ Some number)
       (there : slice_get net.policies number ≡ Some named) (is : policy ≡ named.policy) (mid : List ℕ)
@@ -112,10 +95,6 @@ module _ (net : Network) (node n : ℕ) (s : SidEntry) (allow old : List ℕ) wh
     pushed-on gave new so makes =
         so ∙ ap (goes (outcomes.Again n (onward_from n s.behaviour))) (spells-content new makes.packet makes.spelled)
         ∙ pushed (Outer makes.packet) makes.outer
-
-    pub pushed-big : (gave : Gave) (length : ℕ) → gave ≡ dropped net node reasons.TooBig 0 (V6 p)
-        → pushed_by policy (behaviour_reduces s.behaviour) families.V6 mid ≡ TooBig length → gave ≡ wanted
-    pushed-big gave length so big = so ∙ pushed (TooBig length) big
 
 -- the policy that a SID binds is there
 pub policy-there : (net : Network) (n : ℕ) (s : SidEntry) (number : ℕ) → Keeps net → slice_get net.sids n ≡ Some s

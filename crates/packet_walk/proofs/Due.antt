@@ -146,25 +146,6 @@ module _ (f : Flight) (numbers : List ℕ) (entry place number : ℕ) (next : nu
 
 -- behind the last entry
 
-one-more : (f : Flight) (at : Progress) (q : InFlight) → IsOf f at → packet_of f (suc at.passed) ≡ Some q → IsSome q.ended
-    → (number : ℕ) (p : InFlight) → number ≤ suc at.passed → packet_of f number ≡ Some p
-    → ((eqb number (suc at.passed) ≡ true) × (number ≡ suc at.passed)) ⊎ ((eqb number (suc at.passed) ≡ false) × (number ≢ suc at.passed))
-    → IsSome p.ended
-one-more f at q of there over number p few is (inl same) =
-    subst (λ (o : Option InFlight). IfSome o (λ r. IsSome r.ended))
-    (sym there ∙ (ap (packet_of f) (sym same.1) ∙ is)) over
-one-more f at q of there over number p few is (inr apart) = of.passed number p (omega (arith, few, apart.1)) is
-
--- a packet more is passed, as it has ended
-pub of-more : (f : Flight) (at new : Progress) (q : InFlight) → IsOf f at → packet_of f (suc at.passed) ≡ Some q → IsSome q.ended
-    → new.numbers ≡ at.numbers → new.passed ≡ suc at.passed → IsOf f new
-of-more f at new q of there over numbers passed =
-    record {
-      each = ap length numbers ∙ of.each;
-      passed = λ number p few is.
-          one-more f at q of there over number p (omega (arith, few, passed)) is (eqb_tells number (suc at.passed));
-    }
-
 module _ (f : Flight) (old new : Progress) (of : IsOf f new) (behind : old.schedule ≡ []) (numbers : new.numbers ≡ old.numbers) where
   due-behind : (at : Progress) (g : Flight) → at.schedule ≡ [] → due at g ≡ one_by_one (comings_of at.numbers g)
   due-behind at g none = ap (λ (schedule : List ℕ). scheduled schedule (comings_of at.numbers g)) none
@@ -235,10 +216,6 @@ module _ (old now : Progress) (f : Flight) (entry : ℕ) (left : List ℕ) (l : 
 
   of-next : IsOf f next_at
   of-next = record { each = l.later.each; passed = l.later.passed }
-
-  -- one more gave no packet a stage
-  pub left-more : EntryGives now.numbers f entry None → IsLeft old f next_at
-  left-more none = record { due = sym (due-now ∙ none left); numbers = l.numbers; later = of-next }
 
   -- one gives a packet its next stage
   module _ (number : ℕ) (gives : GivesTo now.numbers f entry number) where

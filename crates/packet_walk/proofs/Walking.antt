@@ -5,10 +5,10 @@ use Rattle.net_model.specs.Network.{Network}
 use Rattle.walk_rules.specs.declared.place.Ended.{Ended}
 use Rattle.packet_walk.specs.declared.event.TheConstants.{STAGES}
 use Rattle.packet_walk.specs.declared.event.Event.{Event}
-use Rattle.packet_walk.specs.Flight.{InFlight, Flight, IsCounted, IsGiven, IsInFlight, Turns, packet_of, after_stage, staged, turned, without_error}
-use Rattle.packet_walk.specs.Rest.{end_from, turned_times, HasTurned, HasWanted}
+use Rattle.packet_walk.specs.Flight.{InFlight, Flight, IsCounted, IsGiven, IsInFlight, Turns, packet_of, after_stage, staged, turned}
+use Rattle.packet_walk.specs.Rest.{end_from, turned_times}
 use Rattle.packet_walk.proofs.Packets.{turned-going, packet-same, length-with, given-packet}
-use Rattle.packet_walk.proofs.Rests.{staged-counted, end-going, end-ended}
+use Rattle.packet_walk.proofs.Rests.{staged-counted, end-going}
 use Rattle.packet_walk.proofs.Moves.{turned_times-suc}
 
 abbrev pub stages_of : Option InFlight → ℕ
@@ -99,31 +99,6 @@ module _ (number : ℕ) (first now : Flight) (w : Walking number first now) wher
         let old : stages_of (packet_of now number) ≡ p.stages = ap stages_of w.there in
         let left : p.stages < STAGES = w.counted.left going in
         omega (arith, new, old, left)
-
-  few-times : w.times ≤ STAGES
-  few-times = omega (arith, w.few, w.counted.stages)
-
-  pub has-turned : HasTurned number first now
-  has-turned = record { times = w.times; few = few-times; is = w.is }
-
-  -- it has ended
-  pub walking-end : (end : Ended) (q : InFlight) → packet_of first number ≡ Some q → IfSome (packet_of now number) (λ q. Some end ≡ q.ended)
-      → (end ≡ end_from first.net q) × HasTurned number first now × IfSome (packet_of now number) (λ q. q.ended ≡ Some end)
-  walking-end end q at is =
-      let ended : Some end ≡ p.ended = subst (λ (o : Option InFlight). IfSome o (λ q. Some end ≡ q.ended)) w.there is in (
-        sym (end-ended first.net p end (sym ended)) ∙ w.ends q at,
-        has-turned,
-        subst (λ (o : Option InFlight). IfSome o (λ q. q.ended ≡ Some end)) (sym w.there) (sym ended),
-      )
-
-  -- memory is wanting
-  pub walking-wants : (later : Flight) → p.ended ≡ None → later ≡ without_error now → HasWanted number first later
-  walking-wants later going is = record {
-    before = now;
-    turns = has-turned;
-    going = subst (λ (o : Option InFlight). IfSome o (λ q. q.ended ≡ None)) (sym w.there) going;
-    is = is;
-  }
 
   -- what a turn of it answers, as it has not ended
   turn-gave : (o : Option Event) (later : Flight) → p.ended ≡ None → Turns number now p (Ok o) later

@@ -5,10 +5,10 @@ use Rattle.std.proofs.lemmas.List.Elements.{All-drop}
 use Rattle.srv6_rules.specs.declared.policy.Policy.{Policy}
 use Rattle.srv6_rules.specs.declared.sid.Family.{Family}
 use Rattle.srv6_rules.specs.declared.sid.Family.TheVariants.{V6, V4}
-use Rattle.srv6_rules.specs.Packet.{Packet, IsSpellable, Spells, header_len, stated_len, packet_at, spelling, two_number}
+use Rattle.srv6_rules.specs.Packet.{Packet, IsSpellable, Spells, header_len, most_len, stated_len, packet_at, spelling, two_number}
 use Rattle.srv6_rules.specs.Packet4.{total_len, packet4_at, spelling4, ttl_lowered}
-use Rattle.srv6_rules.specs.Policies.{IsPolicy, encapsulation_by, inner_hop, inner_lowered_bytes, outer_by, pushed_by, encapsulated_by, TooBig, InnerHop}
-use Rattle.srv6_rules.proofs.PublicLaws.{two_number-below, spelling-behind, lowered-spelling, lowered4-spelling, ttl_lowered-length, round-next_header, made-fits, made-big, headend-low, headend-high}
+use Rattle.srv6_rules.specs.Policies.{IsPolicy, encapsulation_by, inner_hop, inner_lowered_bytes, outer_by, pushed_by, encapsulated_by, TooBig}
+use Rattle.srv6_rules.proofs.PublicLaws.{two_number-below, spelling-behind, lowered-spelling, lowered4-spelling, ttl_lowered-length, round-next_header, made-fits, made-big, headend-high}
 use Rattle.policy_encap.specs.Inner.{HoldsInner}
 use Rattle.ip6_headers.proofs.PublicLaws.{holds-spellable, holds-payload_len, holds-front, holds4-spellable, holds4-byte, holds4-length, holds4-front}
 use Rattle.policy_encap.specs.Headers.{FitsOuter}
@@ -57,7 +57,7 @@ whole-6 bytes h =
 whole-4 : (bytes : List ℕ) → HoldsInner V4 bytes → bytes ≡ spelling4 (packet4_at bytes)
 whole-4 bytes h = let end = h.1 in sym (take_all (total_len bytes) bytes (omega arith)) ∙ holds4-front bytes h.0
 
-pub inner-short : (inner : Family) (bytes : List ℕ) → HoldsInner inner bytes → length bytes ≤ 65575
+pub inner-short : (inner : Family) (bytes : List ℕ) → HoldsInner inner bytes → length bytes ≤ most_len
 unfolding total_len two_number
 inner-short V6 bytes h =
     let len = holds-payload_len bytes h.0 in
@@ -110,10 +110,6 @@ length-lowered V4 bytes h =
 module _ (policy : Policy) (inner : Family) (bytes : List ℕ) where
   abbrev lowered : List ℕ
   lowered = inner_lowered_bytes inner bytes
-
-  pub encap-low : (hop : ℕ) → hop ≡ inner_hop inner bytes → hop ≤ 1 → Refuses (encapsulated_by policy inner bytes) InnerHop bytes bytes
-  encap-low hop is low =
-      record { told_so = headend-low policy inner (inner_hop inner bytes) lowered (omega arith); same = refl }
 
   pub encap-refuses : (hop n : ℕ) → hop ≡ inner_hop inner bytes → 1 < hop
       → n ≡ length (outer_by policy policy.reduced inner lowered).payload

@@ -1,6 +1,6 @@
 -- A segment routing header in the bytes that begin with it, and in its own.
 use Rattle.std.proofs.Common.{◌≡◌, ℕ, ◌+◌, ◌*◌, ◌^◌, ◌<◌, ◌≤◌, true, nat_le, List, ◌++◌, length, take, drop, slice_index, slice_set, All, refl, sym, ap, ◌∙◌, arith, Result, Ok, Err}
-use Rattle.std.proofs.lemmas.Bool.{le-leb, leb-true, and_parts}
+use Rattle.std.proofs.lemmas.Bool.{le-leb}
 use Rattle.std.proofs.lemmas.List.Elements.{All-set}
 use Rattle.std.proofs.lemmas.List.{length-append, length-take, length-drop, get_or-take, length-set, get_or-set_same, get_or-set_other, take-append-drop, drop-take, drop-set-lt, take-take, take_all}
 use Rattle.srv6_rules.specs.Packet.{two_bytes, two_number}
@@ -49,15 +49,6 @@ begins_with n bytes all is =
       spelled = λ kind. ap srh_spelling same ∙ srh_spelling-srh_of bytes all least kind ∙ ap (λ k. take k bytes) sum;
     }
 
--- the header's own bytes have its stated length
-pub one_header : (n : ℕ) (bytes : List ℕ) → IsHeader routing bytes n
-    → length (take n bytes) ≡ 8 * (slice_index (take n bytes) 1 + 1)
-one_header n bytes is =
-    let stated : n ≡ 8 * (slice_index bytes 1 + 1) = is.stated in
-    let within : n ≤ length bytes = is.within in
-    let e1 : slice_index (take n bytes) 1 ≡ slice_index bytes 1 = get_or-take n bytes 1 0 (omega arith) in
-    omega (arith, length-take n bytes)
-
 length-srh_spelling : (s : Srh) → length (srh_spelling s) ≡ 8 + length s.body
 length-srh_spelling s = omega (arith, length-append (two_bytes s.tag) s.body, length-two_bytes s.tag)
 
@@ -79,29 +70,6 @@ spelled-read s rest (Ok t) ok is = ap Ok (is.value ∙ srh_of-spelling s rest ok
 spelled-read s rest (Err cut) ok is = let whole = spelled-whole s rest ok in cc
 
 -- ---- a byte written
-
--- Segments Left written is the header with other Segments Left
-pub left-written : (v : ℕ) (bytes : List ℕ) → 8 ≤ length bytes
-    → srh_of (slice_set bytes 3 v) ≡ record (srh_of bytes) { segments_left = v }
-left-written v bytes long =
-    let e0 : slice_index (slice_set bytes 3 v) 0 ≡ slice_index bytes 0 = get_or-set_other bytes 3 0 v 0 (λ e. omega arith) in
-    let e1 : slice_index (slice_set bytes 3 v) 1 ≡ slice_index bytes 1 = get_or-set_other bytes 3 1 v 0 (λ e. omega arith) in
-    let e3 : slice_index (slice_set bytes 3 v) 3 ≡ v = get_or-set_same bytes 3 v 0 (omega arith) in
-    let e4 : slice_index (slice_set bytes 3 v) 4 ≡ slice_index bytes 4 = get_or-set_other bytes 3 4 v 0 (λ e. omega arith) in
-    let e5 : slice_index (slice_set bytes 3 v) 5 ≡ slice_index bytes 5 = get_or-set_other bytes 3 5 v 0 (λ e. omega arith) in
-    let d6 : drop 6 (slice_set bytes 3 v) ≡ drop 6 bytes = drop-set-lt 6 bytes 3 v (omega arith) in
-    let d8 : drop 8 (slice_set bytes 3 v) ≡ drop 8 bytes = drop-set-lt 8 bytes 3 v (omega arith) in
-    rw (e0, e1, e3, e4, e5, d6, d8) refl
-
-pub left-whole : (v : ℕ) (bytes : List ℕ) → is_whole routing (slice_set bytes 3 v) ≡ is_whole routing bytes
-left-whole v bytes =
-    let e1 : slice_index (slice_set bytes 3 v) 1 ≡ slice_index bytes 1 = get_or-set_other bytes 3 1 v 0 (λ e. omega arith) in
-    rw (e1, length-set bytes 3 v) refl
-
-pub whole-least : (bytes : List ℕ) → is_whole routing bytes ≡ true → 8 ≤ length bytes
-whole-least bytes whole =
-    let both = and_parts (nat_le 8 (length bytes)) (nat_le (8 * (slice_index bytes 1 + 1)) (length bytes)) whole in
-    leb-true 8 (length bytes) both.0
 
 -- but for the routing type a header's own bytes are its spelling
 kind-written : (bytes : List ℕ) → srh_of (slice_set bytes 2 4) ≡ srh_of bytes
