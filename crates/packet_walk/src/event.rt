@@ -2,10 +2,10 @@
 
 use walk_rules::Outcome;
 
-/// The most stages of a packet. (own rule)
-pub const STAGES: u32 = 10_000;
+/// The most stages of a packet: 10,000 (own rule).
+pub const STAGES: u32 = walk_rules::STAGES;
 
-/// One stage of a packet in flight.
+/// One stage of a packet in flight (own rule).
 #[derive(Clone, Copy, Debug, PartialEq, Eq)]
 pub struct Event {
     /// The packet's number, from 1.

@@ -3,7 +3,7 @@ use Rattle.std.proofs.Common.{◌≡◌, ℕ, ◌+◌, ◌-◌, ◌*◌, ◌^◌
 use Rattle.std.proofs.lemmas.Bool.{leb-true, and_parts}
 use Rattle.std.proofs.lemmas.List.{length-drop, length-set, set-append_left}
 use Rattle.std.proofs.lemmas.List.Elements.{All-set}
-use Rattle.srv6_rules.specs.Packet.{Packet, V6, IsSpellable, content_of, packet_at, spelling, stated_len}
+use Rattle.srv6_rules.specs.Packet.{Packet, V6, IsSpellable, content_of, most_len, packet_at, spelling, stated_len}
 use Rattle.srv6_rules.specs.Chain.{from_place, is_whole, routing}
 use Rattle.srv6_rules.specs.CompressedSteps.{Move, moved}
 use Rattle.srv6_rules.proofs.PublicLaws.{content_of-spelling, edit-payload, length-spelling}
@@ -32,7 +32,7 @@ header-within bytes at whole =
     omega arith
 
 pub place-most : (bytes : List ℕ) (at : ℕ) → HoldsPacket bytes → 40 ≤ at → is_whole routing (from_place (packet_at bytes) at) ≡ true
-    → at ≤ 65575
+    → at ≤ most_len
 place-most bytes at h behind whole =
     let within = header-within bytes at whole in
     let most = payload-most bytes h in

@@ -1,5 +1,7 @@
 //! Numbers of segment lists.
 
-/// The most entries of a segment list that is written: 127. Their length is 254 units of 8 bytes,
-/// and the length of 128 would not fit its byte (RFC 8754 section 2).
-pub const MOST_ENTRIES: usize = 127;
+use srv6_rules::numbers::MOST_SEGMENTS;
+
+/// The most entries of a segment list that is written: 127, one for each segment (RFC 8754 section
+/// 2).
+pub const MOST_ENTRIES: usize = MOST_SEGMENTS;

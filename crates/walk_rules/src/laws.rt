@@ -22,8 +22,10 @@ ghost use Rattle.walk_rules.specs.declared.place.How.TheVariants.{Arrived, Submi
 ghost use Rattle.walk_rules.specs.declared.place.Outcome.{Outcome};
 ghost use Rattle.walk_rules.specs.declared.place.Place.{Place};
 
+use crate::limits::STAGES;
+
 /// What a look-up finds is there, and the node's; the SID that a way leads into stands at the node,
-/// and from a place of a network the links that it goes over are a set of the node's.
+/// and from a place of a network the links that it goes over are a set of the node's (own rule).
 pub fn a_way_leads_from_its_place()
     ensures hit { (net : Network) (node table : ℕ) (family : Family) (destination : ℕ) →
         IsThere net node (lookup_of net node table family destination) }
@@ -54,7 +56,7 @@ pub fn a_low_hop_limit_is_not_sent()
 {}
 
 /// A walk from a place is the stage there, and then the walk from the next place; a walk from no
-/// place, and one that may have no stages, has none.
+/// place, and one that may have no stages, has none (own rule).
 pub fn a_walk_unfolds()
     ensures stage { (more : ℕ) (net : Network) (place : Place) (content : Content) →
         (pick : ℕ → ℕ) (taken : ℕ) →
@@ -67,7 +69,7 @@ pub fn a_walk_unfolds()
         walk_of 0 net place content pick taken ≡ [] }
 {}
 
-/// Each outcome that there is at a place is the one of some choice.
+/// Each outcome that there is at a place is the one of some choice (own rule).
 pub fn an_outcome_has_a_choice()
     ensures { (net : Network) (place : Place) (content : Content) →
         (outcome : Outcome) (after : Content) (error : Option Packet) →
@@ -77,7 +79,7 @@ pub fn an_outcome_has_a_choice()
         ≡ record { outcome = outcome; after = after; error = error }) }
 {}
 
-/// Each choice has an outcome that there is at the place.
+/// Each choice has an outcome that there is at the place (own rule).
 pub fn a_choice_has_an_outcome()
     ensures { (net : Network) (place : Place) (content : Content) (choice : ℕ) →
         Keeps net → IsPlace net place →
@@ -86,7 +88,7 @@ pub fn a_choice_has_an_outcome()
 {}
 
 /// A stage sends on members of its set of equal next hops alone, on each of them where it sends on
-/// one, and each of them is there and starts at the node.
+/// one, and each of them is there and starts at the node (own rule).
 pub fn each_next_hop_is_an_outcome()
     ensures member { (net : Network) (place : Place) (content : Content) (link : ℕ) →
         (after : Content) (error : Option Packet) →
@@ -103,7 +105,7 @@ pub fn each_next_hop_is_an_outcome()
 {}
 
 /// A stage has several outcomes only where a set of equal next hops has several members, and they
-/// leave the same packet and send the same error.
+/// leave the same packet and send the same error (own rule).
 pub fn outcomes_differ_in_the_link()
     ensures { (net : Network) (place : Place) (content : Content) →
         (one : Outcome) (after : Content) (error : Option Packet) →
@@ -113,7 +115,8 @@ pub fn outcomes_differ_in_the_link()
         ((one ≡ other) ⊎ SendsApart (hops_at net place content) one other) }
 {}
 
-/// The choice tells at most the link on which a stage sends, which is the member that it names.
+/// The choice tells at most the link on which a stage sends, which is the member that it names (own
+/// rule).
 pub fn only_a_send_depends_on_the_choice()
     ensures named { (net : Network) (place : Place) (content : Content) (choice link : ℕ) →
         (step_of net place content choice).outcome ≡ Outcome.Send link →
@@ -122,7 +125,7 @@ pub fn only_a_send_depends_on_the_choice()
         DifferAtMostInLink (step_of net place content choice) (step_of net place content other) }
 {}
 
-/// A Send is one decision, and nothing else is one.
+/// A Send is one decision, and nothing else is one (own rule).
 pub fn a_send_is_one_decision()
     ensures one { (outcome : Outcome) →
         (decisions outcome ≡ 1) ↔ ((link : ℕ) × (outcome ≡ Outcome.Send link)) }
@@ -168,7 +171,7 @@ pub fn a_drop_tells_of_its_error()
 {}
 
 /// Where a SID was executed, the outcome names it: the way leads into it, it stands at the node and
-/// the packet, or what was exposed, goes on in its way.
+/// the packet, or what was exposed, goes on in its way (own rule).
 pub fn an_execution_names_its_sid()
     ensures again { (net : Network) (place : Place) (content : Content) (choice : ℕ) →
         (n : ℕ) (how : How) →
@@ -182,7 +185,7 @@ pub fn an_execution_names_its_sid()
 {}
 
 /// From a place a packet goes on to a place, and from a SID it goes on in a way that there is at
-/// the SID's node.
+/// the SID's node (own rule).
 pub fn a_place_leads_to_a_place()
     ensures next { (net : Network) (place : Place) (content : Content) (choice : ℕ) (next : Place) →
         Keeps net → IsPlace net place →
@@ -217,7 +220,7 @@ pub fn ways_on_are_by_behaviour()
 
 /// In a network that keeps the rules, where SIDs suit their compression, what bytes can spell stays
 /// so in a stage, and what reads as itself from its bytes, as a packet of the place's family, does
-/// so after it. The next place has the family of what stands there then.
+/// so after it. The next place has the family of what stands there then (own rule).
 pub fn a_stage_keeps_a_content()
     ensures content { (net : Network) (place : Place) (content : Content) (choice : ℕ) →
         Keeps net → IsContent content → IsContent (step_of net place content choice).after }
@@ -230,7 +233,7 @@ pub fn a_stage_keeps_a_content()
 {}
 
 /// The stages of a walk begin at its place and follow one another, and are fewer than they may be
-/// only where they ended; no other stages do so.
+/// only where they ended; no other stages do so (own rule).
 pub fn a_walk_follows_its_stages()
     ensures is { (fuel : ℕ) (net : Network) (place : Option Place) (content : Content) →
         (pick : ℕ → ℕ) (taken : ℕ) →
@@ -241,7 +244,8 @@ pub fn a_walk_follows_its_stages()
         steps ≡ walk_of fuel net place content pick taken }
 {}
 
-/// A walk of fewer stages is the beginning of one of more, which goes on from where it stopped.
+/// A walk of fewer stages is the beginning of one of more, which goes on from where it stopped (own
+/// rule).
 pub fn a_walk_is_a_beginning()
     ensures front { (m n : ℕ) (net : Network) (place : Option Place) (content : Content) →
         (pick : ℕ → ℕ) (taken : ℕ) →
@@ -255,7 +259,7 @@ pub fn a_walk_is_a_beginning()
         ≡ w ++ walk_of n net next (content_after content w) pick (taken_after taken w) }
 {}
 
-/// A walk that ended stays as it is, however many stages it may have more.
+/// A walk that ended stays as it is, however many stages it may have more (own rule).
 pub fn an_ended_walk_stays()
     ensures { (m n : ℕ) (net : Network) (place : Option Place) (content : Content) →
         (pick : ℕ → ℕ) (taken : ℕ) →
@@ -264,7 +268,7 @@ pub fn an_ended_walk_stays()
 {}
 
 /// A walk depends on the choices of the decisions that it may take alone, so each walk is that of
-/// some list of choices.
+/// some list of choices (own rule).
 pub fn a_walk_is_of_some_list()
     ensures same { (fuel : ℕ) (net : Network) (place : Option Place) (content : Content) →
         (pick other : ℕ → ℕ) (taken : ℕ) →
@@ -284,11 +288,11 @@ pub fn a_run_has_few_stages()
         length (walk_of fuel net place content pick taken) ≤ fuel }
     ensures run { (fuel : ℕ) (net : Network) (place : Option Place) (content : Content) →
         (pick : ℕ → ℕ) (taken : ℕ) →
-        fuel ≤ 10000 → length (walk_of fuel net place content pick taken) ≤ 10000 }
+        fuel ≤ STAGES → length (walk_of fuel net place content pick taken) ≤ STAGES }
 {}
 
 /// Each stage of a walk from a place of a network is at a place, and gives an outcome that there
-/// is.
+/// is (own rule).
 pub fn a_walk_stays_at_places()
     ensures { (fuel : ℕ) (net : Network) (place : Place) (content : Content) →
         (pick : ℕ → ℕ) (taken : ℕ) → Keeps net → IsPlace net place →
@@ -296,7 +300,7 @@ pub fn a_walk_stays_at_places()
 {}
 
 /// Where the packet could go on after the last stage the stages were used, and only there; a walk
-/// of fewer stages than it may have has another end.
+/// of fewer stages than it may have has another end (own rule).
 pub fn a_walk_that_could_go_on_used_its_stages()
     ensures goes_on { (net : Network) (place : Option Place) (s : Step) (more : List Step) →
         (end_of net (s ∷ more) ≡ Ended.Stages) ↔ IsSome (place_after net place (s ∷ more)) }
