@@ -20,7 +20,7 @@ use std::marker::Model;
 use walk_rules::{Ended, Outcome, Place};
 
 /// Packets in flight in a network. They have numbers from 1, in the order in which they entered,
-/// and each takes its own walk, whatever turns the others have in between.
+/// and each takes its own walk, whatever turns the others have in between (own rule).
 #[derive(Debug, Drop)]
 pub struct Flight<'a> {
     alloc: Global,
@@ -44,7 +44,7 @@ impl<'a> Model for Flight<'a> {
 }
 
 impl<'a> Flight<'a> {
-    /// No packets yet; takes no memory.
+    /// No packets yet; takes no memory (own rule).
     pub fn new(alloc: Global, net: &'a Net) -> Flight<'a>
         ensures { result ≡ record { net = net.now; error = []; packets = [] } }
     {
@@ -56,14 +56,15 @@ impl<'a> Flight<'a> {
         }
     }
 
-    /// How many packets entered.
+    /// How many packets entered (own rule).
     pub fn count(&self) -> u32
         ensures { result ≡ length self.now.packets }
     {
         self.packets.len() as u32
     }
 
-    /// The network keeps its rules, and a packet is at a place of it. For the callers' proofs.
+    /// The network keeps its rules, and a packet is at a place of it (own rule). For the callers'
+    /// proofs.
     pub fn keeps_rules(&self, number: u32)
         requires { IsGiven self.now number }
         ensures network { Keeps self.now.net }
@@ -145,7 +146,7 @@ impl<'a> Flight<'a> {
         }))
     }
 
-    /// The bytes of what stands where a packet stands, or ended.
+    /// The bytes of what stands where a packet stands, or ended (own rule).
     pub fn bytes(&self, number: u32) -> &[u8]
         requires { IsGiven self.now number }
         ensures { IfSome (packet_of self.now number) (λ p. result.now ≡ bytes_of p.content) }
@@ -162,7 +163,7 @@ impl<'a> Flight<'a> {
         self.error.as_slice()
     }
 
-    /// How a packet ended, if it has.
+    /// How a packet ended, if it has (own rule).
     pub fn ended(&self, number: u32) -> Option<Ended>
         requires { IsGiven self.now number }
         ensures { IfSome (packet_of self.now number) (λ p. result ≡ p.ended) }
@@ -171,7 +172,7 @@ impl<'a> Flight<'a> {
     }
 
     /// Takes a packet to its end, which is that of its walk of at most 10,000 stages, and gives it;
-    /// where it has ended nothing changes. After `NoMemory` the turns before it stand.
+    /// where it has ended nothing changes. After `NoMemory` the turns before it stand (own rule).
     pub fn walk(&mut self, number: u32) -> Result<Ended, NoMemory>
         requires { IsGiven self.old number }
         ensures { IfSome (packet_of self.old number) (λ p.

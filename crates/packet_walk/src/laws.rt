@@ -16,7 +16,7 @@ use crate::event::STAGES;
 
 /// The rest of a packet's walk is its next stage, and then the rest of the walk after it, and both
 /// end alike; of a packet that has ended there is none. The rest of one that enters is its walk of at
-/// most 10,000 stages.
+/// most 10,000 stages (own rule).
 pub fn a_turn_takes_the_next_stage()
     ensures next { (net : Network) (p : InFlight) → IsCounted p → p.ended ≡ None →
         rest_of net p ≡ stage_in net p ∷ rest_of net (staged net p) }
@@ -32,7 +32,8 @@ pub fn a_turn_takes_the_next_stage()
         (rest_of net p ≡ walk) × (end_from net p ≡ end_of net walk) }
 {}
 
-/// A turn of a packet, and one that enters, change nothing of another, and the network stays.
+/// A turn of a packet, and one that enters, change nothing of another, and the network stays (own
+/// rule).
 pub fn a_turn_changes_one_packet()
     ensures turn { (f : Flight) (number other : ℕ) → number ≢ other →
         packet_of (turned number f) other ≡ packet_of f other }
@@ -43,7 +44,7 @@ pub fn a_turn_changes_one_packet()
 
 /// Over any sequence of turns, and of packets that enter, the stages that are given to a packet are
 /// the beginning of the rest of its own walk, as many as it had turns; so from its entry they are
-/// the beginning of its walk of at most 10,000 stages.
+/// the beginning of its walk of at most 10,000 stages (own rule).
 pub fn a_packet_takes_its_own_walk()
     ensures rest { (f : Flight) (number : ℕ) (p : InFlight) (moves : List Move) →
         packet_of f number ≡ Some p → IsCounted p →
@@ -58,7 +59,7 @@ pub fn a_packet_takes_its_own_walk()
 
 /// Whatever the schedule, a packet takes all the steps of its walk that were still to come, in their
 /// order, and no other; so two schedules give it the same stages in the same order. The packets'
-/// numbers differ; those of a flight's packets rise.
+/// numbers differ; those of a flight's packets rise (own rule).
 pub fn a_schedule_gives_each_packet_its_walk()
     ensures steps { (number : ℕ) (schedule : List ℕ) (comings : List Coming) →
         IsDistinct nat_eq (map (λ c. c.number) comings) →
@@ -75,7 +76,8 @@ pub fn a_schedule_gives_each_packet_its_walk()
         stages_of frame (scheduled schedule (comings_of numbers f)) ≡ all_of frame (rest_of f.net p) }
 {}
 
-/// With the empty schedule the stages are all of the first packet, then all of the second, and so on.
+/// With the empty schedule the stages are all of the first packet, then all of the second, and so
+/// on (own rule).
 pub fn no_schedule_takes_packets_one_by_one()
     ensures stages { (comings : List Coming) →
         scheduled [] comings ≡ flat_map (λ c. all_of c.number c.steps) comings }
@@ -83,13 +85,14 @@ pub fn no_schedule_takes_packets_one_by_one()
         map (λ t. t.step) (scheduled [] comings) ≡ flat_map (λ c. c.steps) comings }
 {}
 
-/// Whatever the schedule, there are as many stages as steps to come.
+/// Whatever the schedule, there are as many stages as steps to come (own rule).
 pub fn a_schedule_takes_all_steps()
     ensures { (schedule : List ℕ) (comings : List Coming) →
         length (scheduled schedule comings) ≡ sum_by (λ c. length c.steps) comings }
 {}
 
-/// A packet's stage is its last, with no step behind it, exactly where it has ended after it.
+/// A packet's stage is its last, with no step behind it, exactly where it has ended after it (own
+/// rule).
 pub fn the_last_stage_ends_a_packet()
     ensures last { (net : Network) (p : InFlight) → IsCounted p → p.ended ≡ None →
         rest_of net (staged net p) ≡ [] → IsSome (staged net p).ended }

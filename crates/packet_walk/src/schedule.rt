@@ -31,7 +31,7 @@ impl<'a> Model for Turns<'a> {
     ghost invariant = { λ t. IsStrictlyIncreasing t.numbers.now };
 }
 
-/// Whether numbers rise, each above the one before it.
+/// Whether numbers rise, each above the one before it (own rule).
 pub fn are_rising(numbers: &[u32]) -> bool
     ensures { Decides result (IsStrictlyIncreasing numbers.now) }
 {
@@ -40,7 +40,7 @@ pub fn are_rising(numbers: &[u32]) -> bool
 
 impl<'a> Turns<'a> {
     /// A schedule's entries, and the frames' numbers of a flight's packets in the order of entering,
-    /// in which they rise, as `are_rising` tells. It takes no memory.
+    /// in which they rise, as `are_rising` tells. It takes no memory (own rule).
     pub fn new(schedule: &'a [u32], numbers: &'a [u32]) -> Turns<'a>
         requires { IsStrictlyIncreasing numbers.now }
         ensures is { result ≡ progress schedule.now numbers.now 0 }
@@ -105,7 +105,7 @@ impl<'a> Turns<'a> {
     /// The number of the packet whose turn is next, in the order of entering as `Flight::turn` takes
     /// it: it has not ended. None exactly where all packets have ended. The turn is to be taken before
     /// the next call. A call takes a step for each entry that it leaves behind, with a search among
-    /// the numbers, and for each packet that it passes.
+    /// the numbers, and for each packet that it passes (own rule).
     pub fn next(&mut self, flight: &Flight<'_>) -> Option<u32>
         requires { IsOf flight.now self.old }
         ensures { IsNext self.old flight.now result self.new }

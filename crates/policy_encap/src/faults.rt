@@ -6,7 +6,8 @@ ghost use Rattle.policy_encap.specs.declared.faults.EncapFault.TheVariants as en
 
 use base::NoMemory;
 
-/// Why a policy's header was not put in front of a packet. The buffer is as it was.
+/// Why a policy's header was not put in front of a packet (RFC 8200 section 3, RFC 8986 sections
+/// 4.13 and 4.14). The buffer is as it was.
 #[derive(Clone, Copy, Debug, PartialEq, Eq)]
 pub enum PushFault {
     /// The outer packet's payload would be longer than 65,535 bytes (RFC 8200 section 3).
@@ -26,7 +27,8 @@ impl From<NoMemory> for PushFault {
     }
 }
 
-/// Why a packet was not encapsulated. The buffer is as it was.
+/// Why a packet was not encapsulated (RFC 8200 section 3, RFC 8986 section 5.1). The buffer is as it
+/// was.
 #[derive(Clone, Copy, Debug, PartialEq, Eq)]
 pub enum EncapFault {
     /// The packet's hop limit is at most 1, so that it cannot be lowered (own rule).

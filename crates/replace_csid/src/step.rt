@@ -16,7 +16,7 @@ use srh_codec::SrhView;
 use srv6_rules::numbers::{IPV6_HEADER_LEN, SEGMENTS_LEFT_AT};
 use srv6_rules::{Compression, Reason};
 
-/// What came of a packet at its segment routing header.
+/// What came of a packet at its segment routing header (RFC 9800 section 4.2).
 #[derive(Clone, Copy, Debug, PartialEq, Eq)]
 pub enum ReplaceOutcome {
     /// The next SID is active, and the hop limit is one lower.

@@ -17,7 +17,8 @@ pub struct SrhEdit<'a> {
 impl<'a> SrhEdit<'a> {
     ghost use Rattle.srh_codec.specs.Editing.{lent_as, edited};
 
-    /// An edit of the header that these bytes begin with, which `SrhView::read` does not refuse.
+    /// An edit of the header that these bytes begin with, which `SrhView::read` does not refuse
+    /// (RFC 8754 section 2).
     pub fn over(bytes: &'a mut [u8]) -> SrhEdit<'a>
         requires { is_whole routing bytes.old ≡ true }
         ensures same_reference { lent_as result ≡ bytes.entry.ghost_name }
@@ -27,7 +28,7 @@ impl<'a> SrhEdit<'a> {
     }
 
     /// Writes Segments Left. No other byte changes, and the header is the one that it was with
-    /// other Segments Left.
+    /// other Segments Left (RFC 8754 section 2).
     pub fn set_segments_left(&mut self, segments_left: u8)
         ensures same_reference { lent_as self.new ≡ lent_as self.old }
         ensures bytes { edited self.new

@@ -47,56 +47,59 @@ impl<'a> SrhView<'a> {
         })
     }
 
-    /// The value that names what stands behind the header.
+    /// The value that names what stands behind the header (RFC 8754 section 2).
     pub fn next_header(&self) -> u8
         ensures { result ≡ self.now.next_header }
     {
         self.bytes[0]
     }
 
-    /// The header's length in units of 8 bytes behind its first 8.
+    /// The header's length in units of 8 bytes behind its first 8 (RFC 8754 section 2).
     pub fn extension_len(&self) -> u8
         ensures { result ≡ self.now.extension_len }
     {
         self.bytes[EXTENSION_LEN_AT]
     }
 
-    /// Segments Left: how many segments are to be visited behind the active one.
+    /// Segments Left: how many segments are to be visited behind the active one (RFC 8754 section
+    /// 2).
     pub fn segments_left(&self) -> u8
         ensures { result ≡ self.now.segments_left }
     {
         self.bytes[SEGMENTS_LEFT_AT]
     }
 
-    /// Last Entry: the place of the segment list's last entry, counted from 0.
+    /// Last Entry: the place of the segment list's last entry, counted from 0 (RFC 8754 section 2).
     pub fn last_entry(&self) -> u8
         ensures { result ≡ self.now.last_entry }
     {
         self.bytes[LAST_ENTRY_AT]
     }
 
-    /// The flags.
+    /// The flags (RFC 8754 section 2).
     pub fn flags(&self) -> u8
         ensures { result ≡ self.now.flags }
     {
         self.bytes[FLAGS_AT]
     }
 
-    /// The tag.
+    /// The tag (RFC 8754 section 2).
     pub fn tag(&self) -> u16
         ensures { result ≡ self.now.tag }
     {
         two_at(self.bytes, TAG_AT)
     }
 
-    /// How many entries of 16 bytes the header's length holds, whatever Last Entry says.
+    /// How many entries of 16 bytes the header's length holds, whatever Last Entry says (RFC 8754
+    /// section 2).
     pub fn entries(&self) -> usize
         ensures { result ≡ entries_of self.now }
     {
         usize::from(self.extension_len() / 2)
     }
 
-    /// The segment list's entry at a place counted from 0; the list begins with the last segment.
+    /// The segment list's entry at a place counted from 0; the list begins with the last segment
+    /// (RFC 8754 section 2).
     pub fn entry(&self, i: usize) -> Addr
         requires { i < entries_of self.now }
         ensures { result.value ≡ entry_of self.now i }
@@ -105,7 +108,7 @@ impl<'a> SrhView<'a> {
     }
 
     /// The bytes of the type-length-value area: those between the entry at Last Entry, which is
-    /// there, and the header's end.
+    /// there, and the header's end (RFC 8754 sections 2 and 2.1).
     pub fn tlv_bytes(&self) -> &'a [u8]
         requires { self.now.last_entry < entries_of self.now }
         ensures { result.now ≡ tlv_bytes self.now }
@@ -114,7 +117,8 @@ impl<'a> SrhView<'a> {
         self.bytes.split_at(start).1
     }
 
-    /// The header's bytes: but for the routing type, the spelling of what was read.
+    /// The header's bytes: but for the routing type, the spelling of what was read (RFC 8754
+    /// section 2).
     pub fn bytes(&self) -> &'a [u8]
         ensures { slice_set result.now ROUTING_TYPE_AT SEGMENT_ROUTING ≡ srh_spelling self.now }
     {

@@ -11,7 +11,7 @@ use srv6_rules::numbers::{SEGMENT_LEN, SEGMENT_LIST_AT, SEGMENT_ROUTING};
 use v6_addr::Addr;
 
 /// What is said of a segment routing header that has no flags, no tag and no type-length-value
-/// area.
+/// area (RFC 8754 section 2).
 #[derive(Clone, Copy, Debug)]
 pub struct SrhParts<'a> {
     /// The value that names what stands behind the header.

@@ -2,7 +2,7 @@
 
 use srv6_rules::{Family, Reason};
 
-/// How a packet came to be treated at a node.
+/// How a packet came to be treated at a node (own rule).
 #[derive(Clone, Copy, Debug, PartialEq, Eq)]
 pub enum How {
     /// It was received or exposed, and is looked up in a table; the hop limit is lowered.
@@ -24,7 +24,7 @@ pub enum How {
     },
 }
 
-/// Where a packet stands before a stage.
+/// Where a packet stands before a stage (own rule).
 #[derive(Clone, Copy, Debug, PartialEq, Eq)]
 pub struct Place {
     /// The node's number.
@@ -35,7 +35,7 @@ pub struct Place {
     pub family: Family,
 }
 
-/// What comes of a packet in one stage.
+/// What comes of a packet in one stage (own rule).
 #[derive(Clone, Copy, Debug, PartialEq, Eq)]
 pub enum Outcome {
     /// A SID was executed, and the packet stays at the node.
@@ -70,7 +70,7 @@ pub enum Outcome {
     },
 }
 
-/// How a walk ended.
+/// How a walk ended (own rule).
 #[derive(Clone, Copy, Debug, PartialEq, Eq)]
 pub enum Ended {
     /// The packet left the network.

@@ -9,7 +9,7 @@ use net_model::{Hit, Net, NodeTable};
 use srv6_rules::{Family, Reason};
 use v6_addr::Addr;
 
-/// Where a packet goes from a place.
+/// Where a packet goes from a place (own rule).
 #[derive(Clone, Copy, Debug)]
 pub enum Way<'a> {
     /// Away, for a reason.
