@@ -10,13 +10,14 @@ use Rattle.net_model.specs.Flat.{IsFlat, flatness_of}
 use Rattle.net_model.specs.declared.fault.NetFault.{NetFault}
 use Rattle.net_model.specs.declared.flat.NotFlat.{NotFlat}
 use Rattle.net_model.proofs.PublicLaws.{flatness_ok, keeps_from_network}
+use Rattle.toml_words.specs.Reading.{◌>>=◌}
 use Rattle.net_words.specs.declared.intent.DescribedIntent.{DescribedIntent}
 use Rattle.net_words.specs.Intent as words
 use Rattle.net_reader.specs.Reading.{net_in}
 use Rattle.intent_reader.specs.declared.intent.Intent.{Intent}
 use Rattle.intent_reader.specs.declared.fault.IntentFault.{IntentFault}
 use Rattle.intent_reader.specs.Judging.{judged, intent_of_text}
-use Rattle.intent_reader.specs.Reading.{◌>>=◌, of_text}
+use Rattle.intent_reader.specs.Reading.{of_text}
 use Rattle.intent_reader.specs.Rules.{IsIntent}
 use Rattle.intent_reader.proofs.JudgingLemmas.{judged_keeps}
 use Rattle.intent_reader.proofs.RangeLemmas.{said_in_range}
