@@ -23,7 +23,7 @@ use Rattle.command_output.specs.declared.status.Status.{Status}
 use Rattle.command_output.specs.declared.status.Status.TheVariants as statuses
 use Rattle.command_output.specs.declared.told.Told.{Told}
 use Rattle.command_output.specs.Answers.{ending_of_failure, JudgesFile, CommandsUnread}
-use Rattle.compile_commands.specs.Check.{CertWants, FlatWants, IntentWants, NetworkWants, RefusesFlat, LegsOf, JudgesAs, asks_for_next, check_shape}
+use Rattle.compile_commands.specs.Check.{CertWants, FlatWants, CheckedIntentWants, CheckedNetworkWants, RefusesFlat, LegsOf, JudgesAs, asks_for_next, check_shape}
 use Rattle.command_output.specs.Outputs.{output_of_judgement, reported, refused}
 use Rattle.command_inputs.specs.Judgements.{network_in, intent_in, cert_in}
 use Rattle.command_output.specs.Lines.{bytes_of_text}
@@ -102,7 +102,7 @@ module _ (file intent cert : List ℕ) where
 
   abbrev Wants : Held → Output → Type 0
   Wants held output = IsSomeAnd (file_named held file)
-      (λ text. NetworkWants (network_in text) (file_named held intent) (file_named held cert) output)
+      (λ text. CheckedNetworkWants (network_in text) (file_named held intent) (file_named held cert) output)
 
   wanted : (told : Option Held) (left : Option (List ℕ)) (output : Output) → IfSome told (λ held. Wants held output)
       → WantedOf (check_shape file intent cert) told left output
@@ -110,18 +110,18 @@ module _ (file intent cert : List ℕ) where
   wanted (Some held) left output w = w
 
   wants-net : (judged : Result Network Refusal) (held : Held) (output : Output) → GivesNet judged held
-      → NetworkWants judged (file_named held intent) (file_named held cert) output → Wants held output
+      → CheckedNetworkWants judged (file_named held intent) (file_named held cert) output → Wants held output
   wants-net judged held output h w = some-map (file_named held file) (λ text. network_in text ≡ judged)
-      (λ text. NetworkWants (network_in text) (file_named held intent) (file_named held cert) output)
-      (λ text is. subst (λ (j : Result Network Refusal). NetworkWants j (file_named held intent) (file_named held cert) output)
+      (λ text. CheckedNetworkWants (network_in text) (file_named held intent) (file_named held cert) output)
+      (λ text is. subst (λ (j : Result Network Refusal). CheckedNetworkWants j (file_named held intent) (file_named held cert) output)
       (sym is) w) h
 
   wants-intent : (net : Network) (judged : Result Intent Refusal) (held : Held) (output : Output) → GivesNet (Ok net) held
-      → GivesIntent net judged held → IntentWants net judged (file_named held cert) output → Wants held output
+      → GivesIntent net judged held → CheckedIntentWants net judged (file_named held cert) output → Wants held output
   wants-intent net judged held output h i w = wants-net (Ok net) held output h
       (some-map (file_named held intent) (λ text. intent_in net text ≡ judged)
-      (λ text. IntentWants net (intent_in net text) (file_named held cert) output)
-      (λ text is. subst (λ (j : Result Intent Refusal). IntentWants net j (file_named held cert) output) (sym is) w) i)
+      (λ text. CheckedIntentWants net (intent_in net text) (file_named held cert) output)
+      (λ text is. subst (λ (j : Result Intent Refusal). CheckedIntentWants net j (file_named held cert) output) (sym is) w) i)
 
   wants-cert : (net : Network) (value : Intent) (judged : Result Cert Refusal) (held : Held) (output : Output) → GivesNet (Ok net) held
       → GivesIntent net (Ok value) held → flatness_of net ≡ Ok tt → GivesCert net value judged held → CertWants net value judged output

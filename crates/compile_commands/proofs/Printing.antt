@@ -10,13 +10,14 @@ use Rattle.net_model.specs.Flat.{IsFlat, flatness_of}
 use Rattle.net_model.specs.declared.fault.NetFault.{NetFault}
 use Rattle.net_model.specs.declared.flat.NotFlat.{NotFlat}
 use Rattle.net_model.proofs.PublicLaws.{flatness_ok, keeps_from_network}
+use Rattle.toml_words.specs.Reading.{◌>>=◌}
 use Rattle.net_words.specs.declared.intent.DescribedIntent.{DescribedIntent}
 use Rattle.net_words.specs.Intent as words
 use Rattle.net_reader.specs.Reading.{net_in}
 use Rattle.intent_reader.specs.declared.intent.Intent.{Intent}
 use Rattle.intent_reader.specs.declared.fault.IntentFault.{IntentFault}
 use Rattle.intent_reader.specs.Judging.{judged, intent_of_text}
-use Rattle.intent_reader.specs.Reading.{◌>>=◌, of_text}
+use Rattle.intent_reader.specs.Reading.{of_text}
 use Rattle.intent_reader.specs.Rules.{IsIntent}
 use Rattle.intent_reader.proofs.JudgingLemmas.{judged_keeps}
 use Rattle.intent_reader.proofs.RangeLemmas.{said_in_range}
@@ -206,7 +207,7 @@ module _ (rules : RulesAreKept) (old output : Output) (small : length (bytes_for
 
   by-intent : (net : Network) (text : List ℕ) (r : Result Intent Refusal) → IsNetwork net → intent_in net text ≡ r
       → IntentWants AnswerWants net r old
-      → checks.IntentWants net r (Some bytes) output ↔ IntentWants (ConfirmsPrinted old) net r output
+      → checks.CheckedIntentWants net r (Some bytes) output ↔ IntentWants (ConfirmsPrinted old) net r output
   by-intent net text (Err refusal) network is wants = (λ h. h, λ h. h)
   by-intent net text (Ok intent) network is wants =
       let is_intent = intent-of net text intent is in (
@@ -216,21 +217,21 @@ module _ (rules : RulesAreKept) (old output : Output) (small : length (bytes_for
 
   by-network : (text : List ℕ) (r : Result Network Refusal) (p : Option (List ℕ)) → network_in text ≡ r
       → NetworkWants AnswerWants r p old
-      → checks.NetworkWants r p (Some bytes) output ↔ NetworkWants (ConfirmsPrinted old) r p output
+      → checks.CheckedNetworkWants r p (Some bytes) output ↔ NetworkWants (ConfirmsPrinted old) r p output
   by-network text (Err refusal) p is wants = (λ h. h, λ h. h)
   by-network text (Ok net) None is wants = absurd wants
   by-network text (Ok net) (Some plan) is wants =
       by-intent net plan (intent_in net plan) (network-of rules text net is) refl wants
 
   by-file : (o p : Option (List ℕ)) → IsSomeAnd o (λ text. NetworkWants AnswerWants (network_in text) p old)
-      → IsSomeAnd o (λ text. checks.NetworkWants (network_in text) p (Some bytes) output)
+      → IsSomeAnd o (λ text. checks.CheckedNetworkWants (network_in text) p (Some bytes) output)
       ↔ IsSomeAnd o (λ text. NetworkWants (ConfirmsPrinted old) (network_in text) p output)
   by-file None p wants = absurd wants
   by-file (Some text) p wants = by-network text (network_in text) p refl wants
 
 -- what is wanted of `check` by what its files hold
 abbrev CheckOf : Output → Option (List ℕ) → Option (List ℕ) → Option (List ℕ) → Type 0
-CheckOf output o p q = IsSomeAnd o (λ text. checks.NetworkWants (network_in text) p q output)
+CheckOf output o p q = IsSomeAnd o (λ text. checks.CheckedNetworkWants (network_in text) p q output)
 
 files-to : (output : Output) (a b c x y z : Option (List ℕ)) → a ≡ x → b ≡ y → c ≡ z → CheckOf output a b c → CheckOf output x y z
 files-to output a b c x y z f g h wants =

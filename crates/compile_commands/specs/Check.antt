@@ -95,13 +95,13 @@ FlatWants net intent (Err why) cert output = output ≡ refused (flat_refusal ne
 FlatWants net intent (Ok flat) cert output =
     IsSomeAnd cert (λ text. CertWants net intent (cert_in net (legs_value net intent) text) output)
 
-abbrev pub IntentWants : Network → Result Intent Refusal → Option (List ℕ) → Output → Type 0
-IntentWants net (Err refusal) cert output = output ≡ refused refusal
-IntentWants net (Ok intent) cert output = FlatWants net intent (flatness_of net) cert output
+abbrev pub CheckedIntentWants : Network → Result Intent Refusal → Option (List ℕ) → Output → Type 0
+CheckedIntentWants net (Err refusal) cert output = output ≡ refused refusal
+CheckedIntentWants net (Ok intent) cert output = FlatWants net intent (flatness_of net) cert output
 
-abbrev pub NetworkWants : Result Network Refusal → Option (List ℕ) → Option (List ℕ) → Output → Type 0
-NetworkWants (Err refusal) intent cert output = output ≡ refused refusal
-NetworkWants (Ok net) intent cert output = IsSomeAnd intent (λ text. IntentWants net (intent_in net text) cert output)
+abbrev pub CheckedNetworkWants : Result Network Refusal → Option (List ℕ) → Option (List ℕ) → Output → Type 0
+CheckedNetworkWants (Err refusal) intent cert output = output ≡ refused refusal
+CheckedNetworkWants (Ok net) intent cert output = IsSomeAnd intent (λ text. CheckedIntentWants net (intent_in net text) cert output)
 
 -- the intent is asked for where the description gives a network, and the certificate where the intent is one in it and it is flat
 
@@ -127,7 +127,7 @@ check_shape file intent cert = record {
   lines_last = true;
   statuses = statuses.Done ∷ statuses.Refused ∷ statuses.SaysNo ∷ [];
   wants = λ held input output.
-      IsSomeAnd (file_named held file) (λ text. NetworkWants (network_in text) (file_named held intent) (file_named held cert) output);
+      IsSomeAnd (file_named held file) (λ text. CheckedNetworkWants (network_in text) (file_named held intent) (file_named held cert) output);
 }
 
 -- What `check` has to write, as its steps answer it.

@@ -6,6 +6,7 @@ use Rattle.net_model.specs.declared.fault.NetFault.{NetFault}
 use Rattle.net_model.specs.Network.{Network}
 use Rattle.net_model.specs.Named.{node_numbered, link_numbered}
 use Rattle.net_model.specs.Rules.{are_distinct, same_number}
+use Rattle.toml_words.specs.Reading.{◌>>=◌, or_fault}
 use Rattle.net_words.specs.declared.step.DescribedStep.{DescribedStep}
 use Rattle.net_words.specs.declared.step.DescribedStep.TheVariants as described
 use Rattle.net_words.specs.declared.intent.DescribedIntent.{DescribedIntent}
@@ -15,7 +16,7 @@ use Rattle.intent_reader.specs.declared.intent.Intent.{Intent}
 use Rattle.intent_reader.specs.declared.fault.IntentFault.{IntentFault}
 use Rattle.intent_reader.specs.declared.fault.IntentFault.TheVariants as faults
 use Rattle.intent_reader.specs.Functions.{function_numbered}
-use Rattle.intent_reader.specs.Reading.{◌>>=◌, or_fault, each_of, Gives}
+use Rattle.intent_reader.specs.Reading.{each_of, Gives}
 use Rattle.intent_reader.specs.Rules.{node_after, ends_in_function}
 use Rattle.intent_reader.specs.Judging.{link_at, step_named, astray, steps_from, intent_with, judged}
 

@@ -1,55 +1,24 @@
 -- An intent that is given keeps the rules in its network.
-use Rattle.std.proofs.Common.{◌≡◌, ℕ, suc, ◌<◌, ◌≤◌, ◌^◌, ◌&&◌, Bool, true, false, cond, List, [], ◌∷◌, length, Option, Some, None, refl, ap, subst, arith}
-use Rattle.std.specs.Prelude.{Result, Ok, Err}
+use Rattle.std.proofs.Common.{◌≡◌, ℕ, suc, ◌<◌, ◌≤◌, ◌^◌, ◌&&◌, Bool, true, List, [], ◌∷◌, length, Some, refl, ap, arith}
+use Rattle.std.specs.Prelude.{Ok}
 use Rattle.std.specs.Option.{is_some}
 use Rattle.std.specs.Str.{bytes_eq}
 use Rattle.std.proofs.lemmas.Bool.{le-leb, lt-ltb}
-use Rattle.std.proofs.lemmas.Option.{same_Some, slice_get_within}
+use Rattle.std.proofs.lemmas.Option.{slice_get_within}
 use Rattle.net_model.specs.Network.{Network}
 use Rattle.net_model.specs.Named.{node_numbered}
 use Rattle.net_model.proofs.PublicLaws.{position_item}
+use Rattle.toml_words.specs.Reading.{or_fault}
+use Rattle.net_words.specs.declared.limits.TheConstants.{MAX_STEPS}
 use Rattle.net_words.specs.declared.step.DescribedStep.{DescribedStep}
 use Rattle.net_words.specs.declared.intent.DescribedIntent.{DescribedIntent}
 use Rattle.intent_reader.specs.declared.intent.Step.{Step}
 use Rattle.intent_reader.specs.declared.intent.Intent.{Intent}
-use Rattle.intent_reader.specs.declared.fault.IntentFault.{IntentFault}
 use Rattle.intent_reader.specs.declared.fault.IntentFault.TheVariants as faults
-use Rattle.intent_reader.specs.Reading.{◌>>=◌, or_fault}
 use Rattle.intent_reader.specs.Rules.{node_after, stand_after, ends_in_function, is_intent, IsIntent}
 use Rattle.intent_reader.specs.Described.{InRange}
 use Rattle.intent_reader.specs.Judging.{step_named, astray, steps_from, intent_with, judged}
-
--- a value that is given has the fact
-pub record Holds {X : Type 0} (fact : X → Type 0) (r : Result X IntentFault) : Type 0 where
-  pub given : (x : X) → r ≡ Ok x → fact x
-
-value : {X : Type 0} → Result X IntentFault → Option X
-value (Ok x) = Some x
-value (Err fault) = None
-
-same_Ok : {X : Type 0} (x y : X) → ◌≡◌ {A = Result X IntentFault} (Ok x) (Ok y) → x ≡ y
-unfolding value
-same_Ok x y e = same_Some x y (ap value e)
-
-of_fault : {X : Type 0} (fact : X → Type 0) (fault : IntentFault) → Holds fact (Err fault)
-of_fault fact fault = record { given = λ x h. absurd (let no : ◌≡◌ {A = Result _ IntentFault} (Err fault) (Ok x) = h in cc) }
-
-pub of_value : {X : Type 0} (fact : X → Type 0) (x : X) → fact x → Holds fact (Ok x)
-of_value fact x f = record { given = λ y h. subst fact (same_Ok x y h) f }
-
-pub after : {X Y : Type 0} (fact : Y → Type 0) (r : Result X IntentFault) (next : X → Result Y IntentFault)
-    → ((x : X) → r ≡ Ok x → Holds fact (next x)) → Holds fact (◌>>=◌ r next)
-after fact (Ok x) next each = each x refl
-after fact (Err fault) next each = of_fault fact fault
-
-pub tested : {X : Type 0} (fact : X → Type 0) (b : Bool) (x : X) (fault : IntentFault) → (b ≡ true → fact x)
-    → Holds fact (cond b (Ok x) (Err fault))
-tested fact true x fault f = of_value fact x (f refl)
-tested fact false x fault f = of_fault fact fault
-
-pub found : {X : Type 0} (fault : IntentFault) (o : Option X) (x : X) → or_fault fault o ≡ Ok x → o ≡ Some x
-found fault None x h = absurd (let no : ◌≡◌ {A = Result _ IntentFault} (Err fault) (Ok x) = h in cc)
-found fault (Some y) x h = ap Some (same_Ok y x h)
+use Rattle.intent_reader.proofs.GivenLemmas.{Holds, of_value, after, tested, found}
 
 -- the walk over the steps from a node stands somewhere, and they are as many as were described
 record Walks (net : Network) (node : ℕ) (ds : List DescribedStep) (steps : List Step) : Type 0 where
@@ -78,7 +47,7 @@ keeps_all : (net : Network) (d : DescribedIntent) (headend : ℕ) (steps : List 
 unfolding is_intent
 keeps_all net d headend steps range within walk last =
     let some : 1 ≤ length steps = omega (arith, range.some_steps, walk.count) in
-    let most : length steps ≤ 48 = omega (arith, range.most_steps, walk.count) in
+    let most : length steps ≤ MAX_STEPS = omega (arith, range.most_steps, walk.count) in
     let label : d.flow_label < 2 ^ 20 = omega (arith, range.flow_label) in
     both _ _ (lt-ltb _ _ within) (both _ _ (le-leb _ _ range.hop_limit) (both _ _ (le-leb _ _ range.some_containers)
     (both _ _ (le-leb _ _ range.most_containers) (both _ _ (lt-ltb _ _ label) (both _ _ (le-leb _ _ some)

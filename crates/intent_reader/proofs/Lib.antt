@@ -3,6 +3,7 @@ pub mod FunctionLemmas
 pub mod ListReading
 pub mod WalkLemmas
 pub mod KeepsLemmas
+pub mod GivenLemmas
 pub mod RangeLemmas
 pub mod JudgingLemmas
 pub mod FaultLemmas

@@ -1,24 +1,17 @@
 -- Reading the items of a list one after another, and a step's items each from where the one before it ended.
-use Rattle.std.proofs.Common.{◌≡◌, ℕ, suc, ◌+◌, ◌<◌, ◌≤◌, List, [], ◌∷◌, ◌++◌, length, get_or, drop, refl, sym, ap, ◌∙◌, append_assoc, append-nil, add-one}
+use Rattle.std.proofs.Common.{◌≡◌, ℕ, suc, ◌+◌, ◌<◌, ◌≤◌, List, [], ◌∷◌, ◌++◌, length, get_or, drop, refl, sym, ap, ◌∙◌, append-nil, add-one}
 use Rattle.std.proofs.Math.ListN.{drop_of_length-le}
 use Rattle.std.proofs.lemmas.List.{drop_more}
 use Rattle.std.specs.Prelude.{Result, Ok, Err}
 use Rattle.net_model.specs.Network.{Network}
+use Rattle.toml_words.specs.Reading.{◌>>=◌, read_map, or_fault}
+use Rattle.toml_words.proofs.ListReading.{same_list, front_moves}
 use Rattle.net_words.specs.declared.step.DescribedStep.{DescribedStep}
 use Rattle.intent_reader.specs.declared.intent.Step.{Step}
 use Rattle.intent_reader.specs.declared.fault.IntentFault.{IntentFault}
-use Rattle.intent_reader.specs.Reading.{◌>>=◌, read_map, or_fault, each_of}
+use Rattle.intent_reader.specs.Reading.{each_of}
 use Rattle.intent_reader.specs.Rules.{node_after}
 use Rattle.intent_reader.specs.Judging.{step_named, astray, steps_from}
-
-same_list : {Y : Type 0} (r : Result (List Y) IntentFault) → read_map (λ rest. [] ++ rest) r ≡ r
-same_list (Ok ys) = refl
-same_list (Err fault) = refl
-
-front_moves : {Y : Type 0} (done : List Y) (y : Y) (r : Result (List Y) IntentFault)
-    → read_map (λ rest. done ++ rest) (◌>>=◌ r (λ ys. Ok (y ∷ ys))) ≡ read_map (λ rest. (done ++ y ∷ []) ++ rest) r
-front_moves done y (Ok rest) = ap Ok (sym (append_assoc done (y ∷ []) rest))
-front_moves done y (Err fault) = refl
 
 -- ---- items one after another
 

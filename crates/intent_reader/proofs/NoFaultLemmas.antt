@@ -7,6 +7,8 @@ use Rattle.std.proofs.lemmas.Option.{same_Some, cond_some}
 use Rattle.net_model.specs.Network.{Network}
 use Rattle.net_model.specs.Named.{node_numbered, link_numbered}
 use Rattle.net_model.specs.Rules.{are_distinct, same_number}
+use Rattle.toml_words.specs.Reading.{or_fault}
+use Rattle.net_words.specs.declared.limits.TheConstants.{MAX_STEPS, MAX_CONTAINERS}
 use Rattle.net_words.specs.declared.step.DescribedStep.{DescribedStep}
 use Rattle.net_words.specs.declared.step.DescribedStep.TheVariants as described
 use Rattle.net_words.specs.declared.intent.DescribedIntent.{DescribedIntent}
@@ -15,12 +17,13 @@ use Rattle.intent_reader.specs.declared.intent.Step.TheVariants.{Links, Function
 use Rattle.intent_reader.specs.declared.intent.Intent.{Intent}
 use Rattle.intent_reader.specs.declared.fault.IntentFault.TheVariants as faults
 use Rattle.intent_reader.specs.Functions.{function_numbered}
-use Rattle.intent_reader.specs.Reading.{or_fault, each_of}
+use Rattle.intent_reader.specs.Reading.{each_of}
 use Rattle.intent_reader.specs.Rules.{far_node, first_end, node_after, stand_after, ends_in_function, is_intent, IsIntent}
 use Rattle.intent_reader.specs.Described.{InRange, all_some, step_by_names, intent_by_names}
 use Rattle.intent_reader.specs.Judging.{link_at, step_named, astray, steps_from, intent_with, judged}
 use Rattle.intent_reader.proofs.WalkLemmas.{then_some}
-use Rattle.intent_reader.proofs.JudgingLemmas.{Holds, of_value, after, tested, found, judged_keeps}
+use Rattle.intent_reader.proofs.GivenLemmas.{Holds, of_value, after, tested, found}
+use Rattle.intent_reader.proofs.JudgingLemmas.{judged_keeps}
 
 -- ---- what is given is over the names' numbers
 
@@ -118,10 +121,10 @@ walk_of net i h =
     let at_hops = (and_parts (nat_lt i.headend (length net.nodes)) _ h).1 in
     let at_some = (and_parts (nat_le 1 i.hop_limit) _ at_hops).1 in
     let at_most = (and_parts (nat_le 1 i.max_containers) _ at_some).1 in
-    let at_label = (and_parts (nat_le i.max_containers 127) _ at_most).1 in
+    let at_label = (and_parts (nat_le i.max_containers MAX_CONTAINERS) _ at_most).1 in
     let at_first = (and_parts (nat_lt i.flow_label (2 ^ 20)) _ at_label).1 in
     let at_count = (and_parts (nat_le 1 (length i.steps)) _ at_first).1 in
-    let at_walk = (and_parts (nat_le (length i.steps) 48) _ at_count).1 in
+    let at_walk = (and_parts (nat_le (length i.steps) MAX_STEPS) _ at_count).1 in
     and_parts _ _ at_walk
 
 judged_back : (net : Network) (d : DescribedIntent) (i : Intent) → intent_by_names net d ≡ Some i → IsIntent net i → judged net d ≡ Ok i

@@ -1,8 +1,7 @@
 -- What an intent's text says is in its ranges.
-use Rattle.std.proofs.Common.{◌≡◌, ℕ, suc, ℤ, ◌≤◌, Bool, true, false, cond, List, [], ◌∷◌, length, Option, Some, None, refl, sym, ap, subst, arith}
-use Rattle.std.specs.Prelude.{pos, negsuc, Result, Ok, Err}
+use Rattle.std.proofs.Common.{◌≡◌, ℕ, suc, ℤ, ◌≤◌, List, [], ◌∷◌, length, Option, Some, None, refl, sym, ap, subst, arith}
+use Rattle.std.specs.Prelude.{pos, negsuc, Result, Ok}
 use Rattle.std.proofs.lemmas.Bool.{and_parts, leb-true}
-use Rattle.std.proofs.lemmas.Option.{same_Some}
 use Rattle.toml.specs.Data.{Data, Members, get_member}
 use Rattle.net_model.specs.declared.limits.TheConstants.{LAST_OCTET, LAST_FLOW_LABEL, DEFAULT_HOP_LIMIT}
 use Rattle.net_model.specs.declared.fault.FaultPlace.{FaultPlace}
@@ -13,7 +12,7 @@ use Rattle.net_model.specs.declared.fault.TableKind.TheVariants as tables
 use Rattle.net_model.specs.declared.fault.NetFault.{NetFault}
 use Rattle.net_model.specs.declared.fault.NetFault.TheVariants as net_faults
 use Rattle.net_model.specs.Keys.{key_text}
-use Rattle.toml_words.specs.Reading.{◌>>=◌, or_fault, document_of}
+use Rattle.toml_words.specs.Reading.{or_fault, document_of}
 use Rattle.toml_words.specs.Tree.{integer_in, number_within, number_in, name_in, addr_in, word_in, needed, or_default, optional, only, count_in, few, each_from, tables_in, items_at}
 use Rattle.net_words.specs.declared.limits.TheConstants.{MAX_STEPS, MAX_CONTAINERS, DEFAULT_CONTAINERS}
 use Rattle.net_words.specs.declared.step.DescribedStep.{DescribedStep}
@@ -21,34 +20,7 @@ use Rattle.net_words.specs.declared.intent.DescribedIntent.{DescribedIntent}
 use Rattle.net_words.specs.Words.{family_of, mode_of}
 use Rattle.net_words.specs.Intent.{step_of, steps_at, intent_place, intent_of, intent_in}
 use Rattle.intent_reader.specs.Described.{InRange}
-
--- a value that is given has the fact
-record Holds {X : Type 0} (fact : X → Type 0) (r : Result X NetFault) : Type 0 where
-  given : (x : X) → r ≡ Ok x → fact x
-
-value : {X : Type 0} → Result X NetFault → Option X
-value (Ok x) = Some x
-value (Err fault) = None
-
-same_Ok : {X : Type 0} (x y : X) → ◌≡◌ {A = Result X NetFault} (Ok x) (Ok y) → x ≡ y
-unfolding value
-same_Ok x y e = same_Some x y (ap value e)
-
-of_fault : {X : Type 0} (fact : X → Type 0) (fault : NetFault) → Holds fact (Err fault)
-of_fault fact fault = record { given = λ x h. absurd (let no : ◌≡◌ {A = Result _ NetFault} (Err fault) (Ok x) = h in cc) }
-
-of_value : {X : Type 0} (fact : X → Type 0) (x : X) → fact x → Holds fact (Ok x)
-of_value fact x f = record { given = λ y h. subst fact (same_Ok x y h) f }
-
-after : {X Y : Type 0} (fact : Y → Type 0) (r : Result X NetFault) (next : X → Result Y NetFault)
-    → ((x : X) → r ≡ Ok x → Holds fact (next x)) → Holds fact (◌>>=◌ r next)
-after fact (Ok x) next each = each x refl
-after fact (Err fault) next each = of_fault fact fault
-
-tested : {X : Type 0} (fact : X → Type 0) (b : Bool) (x : X) (fault : NetFault) → (b ≡ true → fact x)
-    → Holds fact (cond b (Ok x) (Err fault))
-tested fact true x fault f = of_value fact x (f refl)
-tested fact false x fault f = of_fault fact fault
+use Rattle.intent_reader.proofs.GivenLemmas.{Holds, of_fault, of_value, after, tested}
 
 -- ---- numbers
 

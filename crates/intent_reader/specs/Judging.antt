@@ -4,6 +4,7 @@ use Rattle.std.specs.Prelude.{ℕ, suc, Bool, true, false, List, [], ◌∷◌, 
 use Rattle.net_model.specs.Network.{Network}
 use Rattle.net_model.specs.Named.{node_numbered, link_numbered}
 use Rattle.net_model.specs.Rules.{are_distinct, same_number}
+use Rattle.toml_words.specs.Reading.{◌>>=◌, or_fault}
 use Rattle.net_words.specs.declared.intent.Mode.{Mode}
 use Rattle.net_words.specs.declared.intent.Mode.TheVariants as modes
 use Rattle.net_words.specs.declared.step.DescribedStep.{DescribedStep}
@@ -16,7 +17,7 @@ use Rattle.intent_reader.specs.declared.intent.Intent.{Intent}
 use Rattle.intent_reader.specs.declared.fault.IntentFault.{IntentFault}
 use Rattle.intent_reader.specs.declared.fault.IntentFault.TheVariants as faults
 use Rattle.intent_reader.specs.Functions.{function_numbered}
-use Rattle.intent_reader.specs.Reading.{◌>>=◌, or_fault, checked, each_of, of_text}
+use Rattle.intent_reader.specs.Reading.{checked, each_of, of_text}
 use Rattle.intent_reader.specs.Rules.{node_after, ends_in_function}
 
 -- ---- steps; they are counted from 1, and k is a step's number

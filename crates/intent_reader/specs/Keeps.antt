@@ -4,6 +4,7 @@ use Rattle.srv6_rules.specs.declared.sid.SidEntry.{SidEntry}
 use Rattle.net_model.specs.declared.parts.Link.{Link}
 use Rattle.net_model.specs.Network.{Network}
 use Rattle.net_model.specs.Keeps.{IsLinkSet}
+use Rattle.net_words.specs.declared.limits.TheConstants.{MAX_STEPS, MAX_CONTAINERS}
 use Rattle.intent_reader.specs.declared.intent.Step.{Step}
 use Rattle.intent_reader.specs.declared.intent.Step.TheVariants.{Links, Function}
 use Rattle.intent_reader.specs.declared.intent.Intent.{Intent}
@@ -36,10 +37,10 @@ pub record KeepsIntent (net : Network) (i : Intent) : Type 0 where
   pub headend : i.headend < length net.nodes
   pub hop_limit : 1 ≤ i.hop_limit
   pub some_containers : 1 ≤ i.max_containers
-  pub most_containers : i.max_containers ≤ 127
+  pub most_containers : i.max_containers ≤ MAX_CONTAINERS
   pub flow_label : i.flow_label < 2 ^ 20
   pub some_steps : 1 ≤ length i.steps
-  pub most_steps : length i.steps ≤ 48
+  pub most_steps : length i.steps ≤ MAX_STEPS
   pub walk : Stands net i.headend i.steps
   pub front : (k : ℕ) → Stands net i.headend (take k i.steps)
   pub step : (k : ℕ) (s : Step) → slice_get i.steps k ≡ Some s → IsTaken net i.headend i.steps k s

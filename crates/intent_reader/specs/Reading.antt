@@ -1,23 +1,9 @@
 -- What reading an intent gives: a value, or the first fault.
-use Rattle.std.specs.Prelude.{◌≡◌, ◌≢◌, Bool, List, [], ◌∷◌, Option, Some, None, Result, Ok, Err, if◌then◌else◌}
+use Rattle.std.specs.Prelude.{◌≡◌, ◌≢◌, Bool, List, [], ◌∷◌, Result, Ok, Err, if◌then◌else◌}
 use Rattle.net_model.specs.declared.fault.NetFault.{NetFault}
+use Rattle.toml_words.specs.Reading.{◌>>=◌}
 use Rattle.intent_reader.specs.declared.fault.IntentFault.{IntentFault}
 use Rattle.intent_reader.specs.declared.fault.IntentFault.TheVariants.{Text, NoMemory}
-
--- what follows for a value; a fault stays the first
-abbrev pub ◌>>=◌ : {X Y : Type 0} → Result X IntentFault → (X → Result Y IntentFault) → Result Y IntentFault
-◌>>=◌ (Ok x) next = next x
-◌>>=◌ (Err fault) next = Err fault
-
--- a value as it is seen
-abbrev pub read_map : {X Y : Type 0} → (X → Y) → Result X IntentFault → Result Y IntentFault
-read_map see (Ok x) = Ok (see x)
-read_map see (Err fault) = Err fault
-
--- the value that is there, and else this fault
-abbrev pub or_fault : {X : Type 0} → IntentFault → Option X → Result X IntentFault
-or_fault fault None = Err fault
-or_fault fault (Some x) = Ok x
 
 -- a value that passes a test, and else this fault
 abbrev pub checked : {X : Type 0} → IntentFault → Bool → X → Result X IntentFault

@@ -6,6 +6,7 @@ use Rattle.srv6_rules.specs.declared.sid.SidEntry.{SidEntry}
 use Rattle.net_model.specs.declared.parts.Link.{Link}
 use Rattle.net_model.specs.Network.{Network}
 use Rattle.net_model.specs.Rules.{is_link_set}
+use Rattle.net_words.specs.declared.limits.TheConstants.{MAX_STEPS, MAX_CONTAINERS}
 use Rattle.intent_reader.specs.declared.intent.Step.{Step}
 use Rattle.intent_reader.specs.declared.intent.Step.TheVariants.{Links, Function}
 use Rattle.intent_reader.specs.declared.intent.Intent.{Intent}
@@ -59,8 +60,8 @@ ends_in_function (s ∷ t ∷ ss) = ends_in_function (t ∷ ss)
 -- the intent keeps all rules in the network
 unfoldable pub is_intent : Network → Intent → Bool
 is_intent net i =
-    nat_lt i.headend (length net.nodes) && (nat_le 1 i.hop_limit && (nat_le 1 i.max_containers && (nat_le i.max_containers 127
-    && (nat_lt i.flow_label (2 ^ 20) && (nat_le 1 (length i.steps) && (nat_le (length i.steps) 48
+    nat_lt i.headend (length net.nodes) && (nat_le 1 i.hop_limit && (nat_le 1 i.max_containers && (nat_le i.max_containers MAX_CONTAINERS
+    && (nat_lt i.flow_label (2 ^ 20) && (nat_le 1 (length i.steps) && (nat_le (length i.steps) MAX_STEPS
     && (is_some (stand_after net i.headend i.steps) && ends_in_function i.steps)))))))
 
 abbrev pub IsIntent : Network → Intent → Type 0

@@ -4,7 +4,7 @@ use base::Seq;
 use srv6_rules::{Family, LinkSet};
 use v6_addr::Addr;
 
-/// A step of an intent.
+/// A step of an intent (own rule).
 #[derive(Debug, Drop)]
 pub enum Step {
     /// One of these links is crossed; they start at one node and end at one node.
@@ -13,10 +13,10 @@ pub enum Step {
     Function(u32),
 }
 
-/// The steps of an intent, in order.
+/// The steps of an intent, in order (own rule).
 pub type Steps = Seq<Step>;
 
-/// A path intent: where packets enter, how they are encapsulated, and what they cross.
+/// A path intent: where packets enter, how they are encapsulated, and what they cross (own rules).
 #[derive(Debug, Drop)]
 pub struct Intent {
     /// The number of the node where packets enter and are encapsulated.

@@ -12,7 +12,7 @@ ghost use Rattle.intent_reader.specs.Described.{InRange, intent_by_names};
 ghost use Rattle.intent_reader.specs.Judging.{judged};
 
 /// What a text says gives an intent in a network, without a fault, exactly where all its names are
-/// known and the intent over their numbers keeps the rules.
+/// known and the intent over their numbers keeps the rules (own rules).
 pub fn no_fault_is_keeping_the_rules()
     ensures { (net : Network) (d : DescribedIntent) (i : Intent) → InRange d
         → (judged net d ≡ Ok i) ↔ ((intent_by_names net d ≡ Some i) × IsIntent net i) }
@@ -20,19 +20,20 @@ pub fn no_fault_is_keeping_the_rules()
 
 /// An intent that keeps the rules in a network has its headend there, its numbers in their ranges,
 /// and 1 to 48 steps; the walk stands at a node before and after each of them, and the last is a
-/// function.
+/// function (own rules).
 pub fn intents_have_walks()
     ensures { (net : Network) (i : Intent) → IsIntent net i → KeepsIntent net i }
 {}
 
 /// A step that leads from a node to a node crosses links all of which lead from the one to the
-/// other, or is a function at the node, where the walk stays.
+/// other, or is a function at the node, where the walk stays (own rule).
 pub fn steps_lead_on()
     ensures { (net : Network) (node : ℕ) (s : Step) (next : ℕ) → node_after net node s ≡ Some next
         → Steps net node s next }
 {}
 
-/// A walk over steps that begins at a node of a network that keeps the rules ends at a node of it.
+/// A walk over steps that begins at a node of a network that keeps the rules ends at a node of it
+/// (own rule).
 pub fn walks_stay_at_nodes()
     ensures { (net : Network) (node : ℕ) (steps : List Step) (end : ℕ) → Keeps net
         → node < length net.nodes

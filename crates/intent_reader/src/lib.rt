@@ -3,7 +3,8 @@
 //! An intent is TOML over a network, whose keys `net_words` tells. `read_intent` gives it with the
 //! numbers of nodes, links and SIDs in place of their names, or its first fault in one written
 //! order. `specs/` has the same order as functions on what the text says, and which rules an intent
-//! keeps in its network.
+//! keeps in its network; `is_intent` tests these. The laws about the definitions are the contracts
+//! of empty functions.
 #![tactic(auto)]
 
 mod fault;

@@ -6,9 +6,10 @@ ghost use Rattle.net_model.specs.Network.{Network};
 ghost use Rattle.net_model.specs.Keeps.{IsTitleOf};
 ghost use Rattle.net_model.specs.Named.{node_numbered};
 ghost use Rattle.net_model.specs.Rules.{are_distinct, same_number};
+ghost use Rattle.toml_words.specs.Reading.{or_fault};
 ghost use Rattle.intent_reader.specs.declared.fault.IntentFault.TheVariants as faults;
 ghost use Rattle.intent_reader.specs.Functions.{has_title, function_numbered, IsFunctionNumbered};
-ghost use Rattle.intent_reader.specs.Reading.{or_fault, each_of, Gives};
+ghost use Rattle.intent_reader.specs.Reading.{each_of, Gives};
 ghost use Rattle.intent_reader.specs.Judging.{link_at};
 
 use crate::fault::IntentFault;

@@ -8,6 +8,7 @@ ghost use Rattle.intent_reader.specs.Rules.{node_after, stand_after, is_function
 
 use crate::intent::{Intent, Step};
 use net_model::{Link, Net};
+use net_words::{MAX_CONTAINERS, MAX_STEPS};
 use srv6_rules::SidEntry;
 
 /// The link with a number, if there is one.
@@ -145,10 +146,10 @@ pub fn is_intent(net: &Net, intent: &Intent) -> bool
     intent.headend < net.nodes()
         && 1 <= intent.hop_limit
         && 1 <= intent.max_containers
-        && intent.max_containers <= 127
+        && intent.max_containers <= MAX_CONTAINERS
         && intent.flow_label < 0x10_0000
         && 1 <= steps.len()
-        && steps.len() <= 48
+        && steps.len() <= MAX_STEPS
         && stand_after(net, intent.headend, steps).is_some()
         && ends_in_function(steps)
 }

@@ -1,7 +1,8 @@
 //! The steps of an intent, each from the node where the one before it ended.
 
 ghost use Rattle.std.specs.Prelude.{◌≡◌, ◌-◌, ◌<◌, ◌^◌, length};
-ghost use Rattle.intent_reader.specs.Reading.{or_fault, Gives};
+ghost use Rattle.toml_words.specs.Reading.{or_fault};
+ghost use Rattle.intent_reader.specs.Reading.{Gives};
 ghost use Rattle.intent_reader.specs.Rules.{node_after};
 ghost use Rattle.intent_reader.specs.Judging.{step_named, astray, steps_from};
 

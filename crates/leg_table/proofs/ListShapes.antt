@@ -12,8 +12,8 @@ use Rattle.srv6_rules.specs.declared.sid.SidEntry.{SidEntry}
 use Rattle.srv6_rules.specs.Behaviours.{goes_on}
 use Rattle.net_model.specs.declared.parts.Block.{Block}
 use Rattle.net_model.specs.Network.{Network}
-use Rattle.net_model.specs.Rules.{block_of}
-use Rattle.net_model.specs.Keeps.{Keeps, IsBlockOf, SuitsBlock, block_len_of}
+use Rattle.net_model.specs.Rules.{block_of, block_len_of}
+use Rattle.net_model.specs.Keeps.{Keeps, IsBlockOf, SuitsBlock}
 use Rattle.net_model.proofs.PublicLaws.{block_of-is, position_item, position-None}
 use Rattle.intent_reader.specs.declared.intent.Intent.{Intent}
 use Rattle.list_places.specs.Lists.{SidBlock, block_len, csid_len_in}

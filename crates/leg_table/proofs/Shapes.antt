@@ -11,8 +11,8 @@ use Rattle.srv6_rules.specs.declared.sid.SidEntry.{SidEntry}
 use Rattle.net_model.specs.declared.parts.Block.{Block}
 use Rattle.net_model.specs.declared.parts.BlockKind.TheVariants as kinds
 use Rattle.net_model.specs.Network.{Network}
-use Rattle.net_model.specs.Rules.{block_of}
-use Rattle.net_model.specs.Keeps.{Keeps, IsBlockOf, SuitsBlock, block_len_of}
+use Rattle.net_model.specs.Rules.{block_of, block_len_of}
+use Rattle.net_model.specs.Keeps.{Keeps, IsBlockOf, SuitsBlock}
 use Rattle.net_model.proofs.PublicLaws.{block_of-is, position_item, position-None}
 use Rattle.list_pack.specs.declared.types.Shape.{Shape}
 use Rattle.list_pack.specs.Value.{is_compressed, same_block, IsInBlock, IsShape, ShareBlock}

@@ -15,9 +15,9 @@ use Rattle.net_model.specs.declared.parts.Block.{Block}
 use Rattle.net_model.specs.declared.parts.BlockKind.{BlockKind}
 use Rattle.net_model.specs.declared.parts.BlockKind.TheVariants as kinds
 use Rattle.net_model.specs.Network.{Network}
-use Rattle.net_model.specs.Rules.{IsNetwork, same_prefix, block_of}
+use Rattle.net_model.specs.Rules.{IsNetwork, same_prefix, block_of, block_len_of}
 use Rattle.net_model.specs.Keeps as keeps
-use Rattle.net_model.specs.Keeps.{Keeps, KeepsBlock, IsBlockOf, block_len_of}
+use Rattle.net_model.specs.Keeps.{Keeps, KeepsBlock, IsBlockOf}
 use Rattle.net_model.specs.Flat.{IsFlat}
 use Rattle.net_model.proofs.PublicLaws.{keeps_from_network, block_of-is, sid-replace_len, sid-some_csid, one_flavour, sid-not_next}
 use Rattle.list_places.specs.Lists.{SidBlock, block_len, IsInBlock, SuitsBlock, IsFlatSid}

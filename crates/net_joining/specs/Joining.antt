@@ -12,8 +12,7 @@ use Rattle.net_model.specs.declared.parts.Link.{Link}
 use Rattle.net_model.specs.declared.parts.Route.{Route}
 use Rattle.net_model.specs.declared.parts.NamedPolicy.{NamedPolicy}
 use Rattle.net_model.specs.Network.{Network}
-use Rattle.net_model.specs.Rules.{block_of}
-use Rattle.net_model.specs.Judging.{block_len_of}
+use Rattle.net_model.specs.Rules.{block_of, block_len_of}
 use Rattle.net_words.specs.declared.block.DescribedBlock.{DescribedBlock}
 use Rattle.net_words.specs.declared.node.DescribedNode.{DescribedNode}
 use Rattle.net_words.specs.declared.link.DescribedLink.{DescribedLink}

@@ -1,8 +1,9 @@
 //! Names joined to the items that have them: each name becomes a number.
 //!
+//! `join` gives the parts of the network that a description says, with numbers in place of names.
 //! An item's number is its place among the items of its kind, counted from 0; the number of a name
 //! that none has is their count, so that it is told apart later. `Numbering` has the names of
-//! items, read once into a map.
+//! items, read once into a map. `specs/` has both as functions on what is described.
 #![tactic(auto)]
 
 mod joining;

@@ -9,7 +9,7 @@ use net_words::{DescribedLink, DescribedNode, DescribedPolicy};
 use std::alloc::{AllocError, Global};
 use std::marker::Model;
 
-/// What has a name.
+/// What has a name (own rule).
 pub trait Named {
     /// The name.
     ghost name: { Self → List ℕ };
@@ -81,7 +81,8 @@ fn number_in(numbers: &IndexMap<&str, u32>, count: u32, name: &str) -> u32
     }
 }
 
-/// The names of the items of a kind. Contracts see them as a list, in the order of the items.
+/// The names of the items of a kind (own rule). Contracts see them as a list, in the order of the
+/// items.
 #[derive(Debug, Drop)]
 pub struct Numbering<'a> {
     names: Vec<&'a str>,
@@ -104,7 +105,7 @@ impl<'a> Numbering<'a> {
     ghost use Rattle.std.specs.Prelude.{◌≡◌, ◌<◌, ◌^◌, IfOk, map, length};
     ghost use Rattle.net_joining.specs.Numbering.{number_of};
 
-    /// The names of items.
+    /// The names of items (own rule).
     pub fn of<X: Named>(alloc: Global, items: &'a [X]) -> Result<Numbering<'a>, AllocError>
         requires { length items.now < 2 ^ 32 }
         ensures { IfOk result (λ names. names ≡ map X.name items.now) }
@@ -115,7 +116,7 @@ impl<'a> Numbering<'a> {
     }
 
     /// The number of a name: the place of the first item that has it, and the count of the items
-    /// where none has it.
+    /// where none has it (own rule).
     pub fn number(&self, name: &Name) -> u32
         ensures { result ≡ number_of self.now name.now }
     {

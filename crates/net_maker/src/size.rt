@@ -29,7 +29,7 @@ impl Model for Size {
 }
 
 impl Size {
-    /// The size that a number is. `None` exactly where the number isn't from 2 to 47.
+    /// The size that a number is. `None` exactly where the number isn't from 2 to 47. (own rule)
     #[tactic(auto, unfolding(crate::specs::Words::is_size))]
     pub fn new(last: u32) -> Option<Size>
         ensures test { is_some result ≡ is_size last }
@@ -42,7 +42,7 @@ impl Size {
         Some(Size { last })
     }
 
-    /// The number, from 2 to 47.
+    /// The number, from 2 to 47. (own rule)
     pub fn get(self) -> u32
         ensures value { result ≡ self }
         ensures is_size { IsSize self }

@@ -11,8 +11,8 @@ use Rattle.srv6_rules.specs.CompressedSteps.{SuitsKind, SuitsCompression, compre
 use Rattle.net_model.specs.declared.limits.TheConstants.{SHORT_CSID, LONG_CSID}
 use Rattle.net_model.specs.declared.parts.Block.{Block}
 use Rattle.net_model.specs.Network.{Network}
-use Rattle.net_model.specs.Rules.{block_of}
-use Rattle.net_model.specs.Keeps.{block_len_of, IsBlockOf, IsUnflavoured, SuitsBlock, KeepsSid, Keeps}
+use Rattle.net_model.specs.Rules.{block_of, block_len_of}
+use Rattle.net_model.specs.Keeps.{IsBlockOf, IsUnflavoured, SuitsBlock, KeepsSid, Keeps}
 use Rattle.net_model.proofs.BlockLemmas.{block_of-is}
 use Rattle.net_model.proofs.PairLemmas.{get_from_contains}
 

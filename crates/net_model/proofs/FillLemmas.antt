@@ -1,7 +1,6 @@
 -- The tables of a network while they are filled, entry by entry.
 use Rattle.std.proofs.Common.{◌≡◌, ◌↔◌, ℕ, suc, ◌+◌, ◌<◌, Bool, true, false, ◌==◌, ◌&&◌, cond, List, [], ◌∷◌, ◌++◌, length, get_or, take, Option, Some, None, refl, sym, ap, ◌∙◌, subst, arith, inl, inr}
 use Rattle.std.specs.Prelude.{not}
-use Rattle.std.specs.List.{list_any}
 use Rattle.std.specs.Option.{unwrap_or}
 use Rattle.std.specs.Ordering.{is_eq}
 use Rattle.std.specs.Map.{lookup}
@@ -23,7 +22,7 @@ use Rattle.net_model.specs.Best.{Entry}
 use Rattle.net_model.specs.Rules.{same_family}
 use Rattle.net_model.specs.EntryKeys.{entry_key_cmp, entry_key}
 use Rattle.net_model.specs.Tables.{HitTable, table_key_cmp, table_key, table_at, is_entry_of, entries_at, entries_from, AnswersFor, AnswerFor, AreTaken, HasOneMore}
-use Rattle.net_model.proofs.EntryLemmas.{contains_none, same_family-is}
+use Rattle.net_model.proofs.EntryLemmas.{same_family-is}
 use Rattle.net_model.proofs.RouteSetLemmas.{number_is_eq, family_is_eq, both_eq, entry_keys_tell}
 use Rattle.net_model.proofs.AnswerLemmas.{answers_new, answers_old, answers_none}
 
@@ -145,12 +144,6 @@ taken_more e taken now old new are more update node table family p =
           (λ has. subst (λ (t : HitTable). HasPrefix t p) same has)
     ]
 
-pub taken_same : (taken now : BTreeSet EntryKey) (tables : BTreeMap TableKey HitTable) → AreTaken taken tables → now.keys ≡ taken.keys
-    → AreTaken now tables
-taken_same taken now tables are same node table family p =
-    still_told _ _ _ _ (ap (list_any (λ k. is_eq (entry_key_cmp (entry_key node table family p) k))) same) (are node table family p)
-    (λ has. has) (λ has. has)
-
 -- ---- what the tables answer for
 
 pub entries_at-append : (es fs : List TableEntry) (node table : ℕ) (family : Family)
@@ -215,15 +208,6 @@ empty_table tables node table family none =
 pub answer_none : (tables : BTreeMap TableKey HitTable) → tables.entries ≡ [] → AnswerFor [] tables
 answer_none tables none node table family =
     subst (λ (t : HitTable). AnswersFor [] t) (sym (empty_table tables node table family none)) answers_none
-
-pub taken_none : (taken : BTreeSet EntryKey) (tables : BTreeMap TableKey HitTable) → taken.keys ≡ [] → tables.entries ≡ []
-    → AreTaken taken tables
-taken_none taken tables no_keys none node table family p = (
-  λ h. let fails : tree.contains entry_key_cmp taken (entry_key node table family p) ≡ false =
-      ap (list_any (λ k. is_eq (entry_key_cmp (entry_key node table family p) k))) no_keys in
-      absurd (both_ways _ fails h),
-  λ has. absurd (contains_none _ (subst (λ (t : HitTable). HasPrefix t p) (empty_table tables node table family none) has).1),
-)
 
 entries_from-push : {X : Type 0} (entry : ℕ → X → TableEntry) (n : ℕ) (xs : List X) (x : X)
     → entries_from entry n (xs ++ x ∷ []) ≡ entries_from entry n xs ++ entry (n + length xs) x ∷ []

@@ -21,9 +21,9 @@ use Rattle.net_model.specs.declared.parts.Node.{Node}
 use Rattle.net_model.specs.declared.parts.Link.{Link}
 use Rattle.net_model.specs.declared.parts.Route.{Route}
 use Rattle.net_model.specs.Network.{Network}
-use Rattle.net_model.specs.Rules.{IsNetwork, is_network, is_address, is_prefix, same_bytes, same_prefix, same_node_name, same_node_address, same_link_name, same_route, same_sid, keeps_node, keeps_link, ends_elsewhere, starts_at_node, starts_at, same_number, is_link_set, keeps_route, is_prefix_of, keeps_block, overlap, is_segment, keeps_policy, same_policy_name, suits_links, suits_table, suits_policy, suits_flavours, keeps_behaviour, block_of, suits_next, suits_replace, suits_block, keeps_compression, is_title, keeps_sid, has_room, is_name}
+use Rattle.net_model.specs.Rules.{IsNetwork, is_network, is_address, is_prefix, same_bytes, same_prefix, same_node_name, same_node_address, same_link_name, same_route, same_sid, keeps_node, keeps_link, ends_elsewhere, starts_at_node, starts_at, same_number, is_link_set, keeps_route, is_prefix_of, keeps_block, overlap, is_segment, keeps_policy, same_policy_name, suits_links, suits_table, suits_policy, suits_flavours, keeps_behaviour, block_of, block_len_of, suits_next, suits_replace, suits_block, keeps_compression, is_title, keeps_sid, has_room, is_name}
 use Rattle.net_model.specs.Titles.{same_option, same_title}
-use Rattle.net_model.specs.Keeps.{block_len_of, IsLinkSet, EndsElsewhere, IsUnflavoured, SuitsBehaviour, SuitsBlock, IsPrefixOf, IsTitleOf, KeepsBlock, KeepsNode, KeepsLink, KeepsRoute, KeepsPolicy, KeepsSid, Keeps}
+use Rattle.net_model.specs.Keeps.{IsLinkSet, EndsElsewhere, IsUnflavoured, SuitsBehaviour, SuitsBlock, IsPrefixOf, IsTitleOf, KeepsBlock, KeepsNode, KeepsLink, KeepsRoute, KeepsPolicy, KeepsSid, Keeps}
 use Rattle.net_model.proofs.ListLemmas.{passes_at, passes_among, same_number_of, same_bytes_from}
 use Rattle.net_model.proofs.TitleLemmas.{are_distinct-titles}
 use Rattle.net_model.proofs.EntryLemmas.{same_family-from}

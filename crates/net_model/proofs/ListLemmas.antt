@@ -1,6 +1,5 @@
 -- Lists whose items all pass a test, or are distinct, by number.
-use Rattle.std.proofs.Common.{◌≡◌, ℕ, zero, suc, ◌-◌, ◌≤◌, Bool, true, false, List, [], ◌∷◌, length, get_or, take, drop, Some, refl, sym, ap, ◌∙◌, subst, arith}
-use Rattle.std.proofs.lemmas.List.{take_all}
+use Rattle.std.proofs.Common.{◌≡◌, ℕ, zero, suc, Bool, true, false, List, [], ◌∷◌, Some, refl, ap, subst}
 use Rattle.std.specs.List.{slice_get, list_all, list_any, Contains}
 use Rattle.std.proofs.lemmas.Bool.{and_parts, and_from, not-true, eq-eqb, or_parts, both_ways}
 use Rattle.std.proofs.lemmas.Option.{same_Some}
@@ -41,10 +40,3 @@ same_bytes-self (x ∷ xs) = and_from _ _ (eq-eqb x x refl) (same_bytes-self xs)
 
 pub same_bytes_from : (xs ys : List ℕ) → xs ≡ ys → same_bytes xs ys ≡ true
 same_bytes_from xs ys e = subst (λ zs. same_bytes xs zs ≡ true) e (same_bytes-self xs)
-
--- what a slice pattern takes apart
-pub first_and_more : {X : Type 0} (xs : List X) (x : X) → 1 ≤ length xs → x ≡ get_or xs 0 x → xs ≡ x ∷ take (length xs - 1) (drop 1 xs)
-first_and_more [] x h e = absurd (omega arith)
-first_and_more (y ∷ ys) x h e =
-    let whole : take (length (y ∷ ys) - 1) ys ≡ ys = take_all (length (y ∷ ys) - 1) ys (omega arith) in
-    ap (λ z. z ∷ ys) (sym e) ∙ ap (λ zs. x ∷ zs) (sym whole)

@@ -1,5 +1,5 @@
 -- What the first number with a name means.
-use Rattle.std.proofs.Common.{◌≡◌, ℕ, zero, suc, ◌<◌, ◌≤◌, Bool, true, false, ltb, List, [], ◌∷◌, length, Option, Some, None, refl, subst, arith, inl, inr}
+use Rattle.std.proofs.Common.{◌≡◌, ℕ, zero, suc, ◌≤◌, Bool, true, false, ltb, List, [], ◌∷◌, length, Option, Some, None, refl, subst, arith, inl, inr}
 use Rattle.std.specs.List.{slice_get, position_or_len, position}
 use Rattle.std.specs.Str.{bytes_eq}
 use Rattle.std.proofs.lemmas.Bool.{cases_Bool, both_ways, ltb-true, ltb-false}
@@ -36,9 +36,6 @@ position_item p xs i h =
       | inl w ↦ (w.0, w.2, subst (λ z. p z ≡ true) w.3 (position-Some p xs i w.0 h).1)
       | inr w ↦ absurd (let within = cond_some _ _ _ h in omega (arith, ltb-true _ _ within.0, w.0, within.1))
     ]
-
-pub position_within : {X : Type 0} (p : X → Bool) (xs : List X) (i : ℕ) → position p xs ≡ Some i → i < length xs
-position_within p xs i h = let within = cond_some _ _ _ h in omega (arith, ltb-true _ _ within.0, within.1)
 
 node_means : (name : List ℕ) (nodes : List Node) (o : Option ℕ) → node_numbered name nodes ≡ o → IsNodeNumbered name nodes o
 node_means name nodes None h = λ i n e same. both_ways _ (position-None (λ m. bytes_eq m.name name) nodes h i n e)

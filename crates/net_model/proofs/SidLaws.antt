@@ -19,8 +19,8 @@ use Rattle.net_model.specs.declared.parts.Block.{Block}
 use Rattle.net_model.specs.declared.parts.Link.{Link}
 use Rattle.net_model.specs.declared.standing.Standing.{Standing}
 use Rattle.net_model.specs.Network.{Network}
-use Rattle.net_model.specs.Rules.{are_distinct, same_bytes, is_prefix, suits_links, suits_table, suits_policy, suits_flavours, keeps_behaviour, block_of, keeps_compression, is_title, keeps_sid, same_number, same_sid, is_sid_of, has_room, title_of, keeps_sids, keeps_titles, is_network, IsNetwork}
-use Rattle.net_model.specs.Judging.{block_len_of, sid_in_range, are_numbers, InRange, first_of, and_then, judged, stands_before, is_unknown, is_set_of, same_answer, fitting, standing_or, suits_keys, is_unknown_policy, title_text, same_text, same_title_text, is_full, suits_compression, judge_joins, judge_flavours, judge_apart, judge_standing, judge_sid, judge_block, judge_node, judge_link, judge_route, judge_policy, judging}
+use Rattle.net_model.specs.Rules.{are_distinct, same_bytes, is_prefix, suits_links, suits_table, suits_policy, suits_flavours, keeps_behaviour, block_of, block_len_of, keeps_compression, is_title, keeps_sid, same_number, same_sid, is_sid_of, has_room, title_of, keeps_sids, keeps_titles, is_network, IsNetwork}
+use Rattle.net_model.specs.Judging.{sid_in_range, are_numbers, InRange, first_of, and_then, judged, stands_before, is_unknown, is_set_of, same_answer, fitting, standing_or, suits_keys, is_unknown_policy, title_text, same_text, same_title_text, is_full, suits_compression, judge_joins, judge_flavours, judge_apart, judge_standing, judge_sid, judge_block, judge_node, judge_link, judge_route, judge_policy, judging}
 use Rattle.net_model.proofs.PassesLemmas.{passes, and_then_ok, then_ok, judged_passes_within, passes_both, passes_all, passes_distinct, list_all_within, left_out, left_out_behind}
 use Rattle.net_model.proofs.TableLaws.{set_known, set_law, blocks_law, nodes_law, links_law, routes_law, policies_law}
 

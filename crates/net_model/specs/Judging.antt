@@ -18,7 +18,7 @@ use Rattle.net_model.specs.declared.parts.Link.{Link}
 use Rattle.net_model.specs.declared.parts.Route.{Route}
 use Rattle.net_model.specs.declared.standing.Standing.{Standing}
 use Rattle.net_model.specs.Network.{Network}
-use Rattle.net_model.specs.Rules.{are_distinct, same_bytes, is_name, is_address, is_prefix, is_prefix_of, is_table, is_block_len, is_csid_len, overlap, keeps_node, same_node_name, same_node_address, same_link_name, starts_at, same_number, same_route, is_segment, keeps_outer, same_policy_name, suits_table, suits_flavours, block_of, suits_block, is_title, same_sid, is_sid_of, title_of}
+use Rattle.net_model.specs.Rules.{are_distinct, same_bytes, is_name, is_address, is_prefix, is_prefix_of, is_table, is_block_len, is_csid_len, overlap, keeps_node, same_node_name, same_node_address, same_link_name, starts_at, same_number, same_route, is_segment, keeps_outer, same_policy_name, suits_table, suits_flavours, block_of, block_len_of, suits_block, is_title, same_sid, is_sid_of, title_of}
 
 -- ---- what the parts hold before they are judged: counts, lengths, numbers and texts in their ranges
 
@@ -39,11 +39,6 @@ abbrev pub policy_in_range : NamedPolicy → Bool
 policy_in_range p =
     is_name p.name && (is_address p.policy.source.value && (few MAX_SEGMENTS is_segment p.policy.segments
     && keeps_outer p.policy.traffic_class p.policy.flow_label p.policy.hop_limit))
-
--- the length of a block, 0 where there is none
-abbrev pub block_len_of : Option Block → ℕ
-block_len_of None = 0
-block_len_of (Some b) = b.prefix.len
 
 -- a SID tells the length of its block, and names a title that is there
 abbrev pub sid_in_range : List Block → ℕ → SidEntry → Bool

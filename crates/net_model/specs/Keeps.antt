@@ -16,7 +16,7 @@ use Rattle.net_model.specs.declared.parts.Node.{Node}
 use Rattle.net_model.specs.declared.parts.Link.{Link}
 use Rattle.net_model.specs.declared.parts.Route.{Route}
 use Rattle.net_model.specs.Network.{Network}
-use Rattle.net_model.specs.Rules.{is_name, is_sid_of, block_of}
+use Rattle.net_model.specs.Rules.{is_name, is_sid_of, block_of, block_len_of}
 
 -- the link is there, and starts at the node
 abbrev pub StartsAt : List Link → ℕ → ℕ → Type 0
@@ -47,11 +47,6 @@ pub record SuitsBehaviour (net : Network) (s : SidEntry) : Type 0 where
   pub policy : IfSome (behaviour_policy s.behaviour) (λ number. number < length net.policies)
   pub links : MatchBool (behaviour_takes_links s.behaviour) (IsLinkSet net.links s.node s.links) (s.links ≡ [])
   pub flavours : behaviour_takes_flavours s.behaviour ≡ false → IsUnflavoured s
-
--- the length of a block, 0 where there is none
-abbrev pub block_len_of : Option Block → ℕ
-block_len_of None = 0
-block_len_of (Some b) = b.prefix.len
 
 -- the block is there and the prefix lies strictly inside it; with none it lies strictly inside no block
 abbrev pub IsBlockOf : List Block → PrefixValue → Option Block → Type 0

@@ -208,6 +208,11 @@ keeps_behaviour net s =
 abbrev pub block_of : List Block → PrefixValue → Option Block
 block_of blocks p = find (λ b. is_inside p b.prefix) blocks
 
+-- the length of a block, 0 where there is none
+abbrev pub block_len_of : Option Block → ℕ
+block_len_of None = 0
+block_len_of (Some b) = b.prefix.len
+
 -- the bits behind a block's are as many as its compressed SIDs have, or as a long one has
 abbrev pub is_next_len : Block → ℕ → Bool
 is_next_len b len = (len == b.prefix.len + b.csid) || (len == b.prefix.len + LONG_CSID)

@@ -1,14 +1,11 @@
 //! Why a text gives no network or no intent, and where in it (own rules).
 
-ghost use Rattle.std.specs.Prelude.{◌≡◌, Some};
-ghost use Rattle.net_model.specs.Keys.{table_text, key_text};
+ghost use Rattle.std.specs.Prelude.{◌≡◌};
 
 use std::alloc::{AllocError, AllocFailed};
-use std::fmt;
-use std::fmt::{Display, Formatter};
 use thiserror::Error;
 
-/// A table of a description or of an intent, or the whole of one of them.
+/// A table of a description or of an intent, or the whole of one of them (own rules).
 #[derive(Clone, Copy, Debug, PartialEq, Eq)]
 pub enum TableKind {
     /// The whole description.
@@ -31,7 +28,7 @@ pub enum TableKind {
     Step,
 }
 
-/// A key of a description or of an intent; arrays of tables stand at keys too.
+/// A key of a description or of an intent; arrays of tables stand at keys too (own rules).
 #[derive(Clone, Copy, Debug, PartialEq, Eq)]
 pub enum Key {
     /// The blocks.
@@ -98,87 +95,7 @@ pub enum Key {
     Function,
 }
 
-impl TableKind {
-    /// The table's name, as it stands in a file; of the whole, as it stands in a refusal.
-    #[tactic(auto, unfolding(crate::specs::Keys::table_text))]
-    pub fn text(&self) -> &'static str
-        ensures { result.now ≡ table_text self.now }
-    {
-        match self {
-            TableKind::Net => "net",
-            TableKind::Block => "block",
-            TableKind::Node => "node",
-            TableKind::Link => "link",
-            TableKind::Route => "route",
-            TableKind::Policy => "policy",
-            TableKind::Sid => "sid",
-            TableKind::Intent => "intent",
-            TableKind::Step => "step",
-        }
-    }
-}
-
-impl Key {
-    /// The key, as it stands in a file.
-    #[tactic(auto, unfolding(crate::specs::Keys::key_text))]
-    pub fn text(&self) -> &'static str
-        ensures { result.now ≡ key_text self.now }
-    {
-        match self {
-            Key::Block => "block",
-            Key::Node => "node",
-            Key::Link => "link",
-            Key::Route => "route",
-            Key::Policy => "policy",
-            Key::Sid => "sid",
-            Key::Step => "step",
-            Key::Prefix => "prefix",
-            Key::Kind => "kind",
-            Key::Csid => "csid",
-            Key::Name => "name",
-            Key::Address => "address",
-            Key::Allow => "allow",
-            Key::From => "from",
-            Key::To => "to",
-            Key::Table => "table",
-            Key::Via => "via",
-            Key::Source => "source",
-            Key::Segments => "segments",
-            Key::TrafficClass => "traffic_class",
-            Key::FlowLabel => "flow_label",
-            Key::HopLimit => "hop_limit",
-            Key::Behaviour => "behaviour",
-            Key::Flavours => "flavours",
-            Key::Title => "title",
-            Key::Links => "links",
-            Key::Headend => "headend",
-            Key::Inner => "inner",
-            Key::Mode => "mode",
-            Key::MaxContainers => "max_containers",
-            Key::Function => "function",
-        }
-    }
-}
-
-/// The table's name.
-impl Display for TableKind {
-    ghost output = { λ kind. Some (table_text kind) };
-
-    fn fmt<W: fmt::Write>(&self, f: &mut Formatter<W>) -> fmt::Result {
-        f.write_str(self.text())
-    }
-}
-
-/// The key.
-impl Display for Key {
-    ghost output = { λ key. Some (key_text key) };
-
-    fn fmt<W: fmt::Write>(&self, f: &mut Formatter<W>) -> fmt::Result {
-        f.write_str(self.text())
-    }
-}
-
-/// Where a fault is.
+/// Where a fault is (own rule).
 #[derive(Clone, Copy, Debug, PartialEq, Eq)]
 pub struct FaultPlace {
     /// The table.
@@ -310,120 +227,5 @@ impl<T: Drop> From<AllocFailed<T>> for NetFault {
 
     fn from(_: AllocFailed<T>) -> NetFault {
         NetFault::NoMemory
-    }
-}
-
-impl FaultPlace {
-    /// A key that is needed is absent here.
-    pub fn missing_key(self, key: Key) -> NetFault
-        ensures { result ≡ NetFault.MissingKey self.table self.item key }
-    {
-        NetFault::MissingKey {
-            table: self.table,
-            item: self.item,
-            key,
-        }
-    }
-
-    /// A value of another kind stands here.
-    pub fn wrong_kind(self) -> NetFault
-        ensures { result ≡ NetFault.WrongKind self.table self.item }
-    {
-        NetFault::WrongKind {
-            table: self.table,
-            item: self.item,
-        }
-    }
-
-    /// An unknown key stands here.
-    pub fn unknown_key(self) -> NetFault
-        ensures { result ≡ NetFault.UnknownKey self.table self.item }
-    {
-        NetFault::UnknownKey {
-            table: self.table,
-            item: self.item,
-        }
-    }
-
-    /// A text that is no name stands here.
-    pub fn bad_name(self) -> NetFault
-        ensures { result ≡ NetFault.BadName self.table self.item }
-    {
-        NetFault::BadName {
-            table: self.table,
-            item: self.item,
-        }
-    }
-
-    /// A text that is no address or prefix stands here.
-    pub fn bad_address(self) -> NetFault
-        ensures { result ≡ NetFault.BadAddress self.table self.item }
-    {
-        NetFault::BadAddress {
-            table: self.table,
-            item: self.item,
-        }
-    }
-
-    /// A word that the key does not take stands here.
-    pub fn bad_flavour(self) -> NetFault
-        ensures { result ≡ NetFault.BadFlavour self.table self.item }
-    {
-        NetFault::BadFlavour {
-            table: self.table,
-            item: self.item,
-        }
-    }
-
-    /// A name that nothing has stands here.
-    pub fn unknown_name(self) -> NetFault
-        ensures { result ≡ NetFault.UnknownName self.table self.item }
-    {
-        NetFault::UnknownName {
-            table: self.table,
-            item: self.item,
-        }
-    }
-
-    /// The name of an earlier item stands here.
-    pub fn double_name(self) -> NetFault
-        ensures { result ≡ NetFault.DoubleName self.table self.item }
-    {
-        NetFault::DoubleName {
-            table: self.table,
-            item: self.item,
-        }
-    }
-
-    /// Parts that do not fit one another stand here.
-    pub fn bad_structure(self) -> NetFault
-        ensures { result ≡ NetFault.BadStructure self.table self.item }
-    {
-        NetFault::BadStructure {
-            table: self.table,
-            item: self.item,
-        }
-    }
-
-    /// The prefix or the address of an earlier item stands here.
-    pub fn double_prefix(self) -> NetFault
-        ensures { result ≡ NetFault.DoublePrefix self.table self.item }
-    {
-        NetFault::DoublePrefix {
-            table: self.table,
-            item: self.item,
-        }
-    }
-
-    /// A number, a length or a count that is out of range stands here.
-    pub fn limit(self, what: Key, value: i64) -> NetFault
-        ensures { result ≡ NetFault.Limit self.table self.item what value }
-    {
-        NetFault::Limit {
-            table: self.table,
-            item: self.item,
-            what,
-            value,
-        }
     }
 }

@@ -18,7 +18,7 @@ use crate::tables::whole;
 use srv6_rules::{Csid, Family, SidEntry};
 use v6_addr::{Prefix, field};
 
-/// Why a network is not flat.
+/// Why a network is not flat (own rules).
 #[derive(Clone, Copy, Debug, PartialEq, Eq)]
 pub enum NotFlat {
     /// An entry lies strictly inside the prefix of a SID.

@@ -23,7 +23,8 @@ ghost use Rattle.net_model.specs.Best.{Entry, entries_of, IsBest, lookup_of};
 ghost use Rattle.net_model.specs.Flat.{IsFlat, Overlap, HasWholeUnits, flatness_of};
 ghost use Rattle.net_model.specs.Entries.{IsEntry};
 
-/// Best match has one answer in a network that keeps the rules, and the look-up gives it.
+/// Best match has one answer in a network that keeps the rules, and the look-up gives it (RFC 1812
+/// section 5.2.4.3, rule 2; which of equally long entries is best is an own rule).
 pub fn best_match_is_one()
     ensures found { (net : Network) (node table : ℕ) (family : Family) (a : ℕ)
         → IsBest net node table family a (lookup_of net node table family a) }
@@ -33,7 +34,7 @@ pub fn best_match_is_one()
 {}
 
 /// The entries of a node's table are its SIDs and its address in table 0 of IPv6, and its routes in
-/// their tables of their family.
+/// their tables of their family (own rule).
 pub fn entries_are_its_own()
     ensures { (net : Network) (node table : ℕ) (family : Family) (e : Entry)
         → Contains (entries_of net node table family) e ↔ IsEntry net node table family e }
@@ -41,7 +42,7 @@ pub fn entries_are_its_own()
 
 /// A flat network treats all addresses in the prefix of a SID alike: in each table of each node
 /// they have the same best match as IPv6 addresses; at the SID's own node that match in table 0 is
-/// the SID; and SIDs that hold one address have one prefix.
+/// the SID; and SIDs that hold one address have one prefix (own rule).
 pub fn flat_networks_treat_addresses_alike()
     ensures alike { (net : Network) (n : ℕ) (s : SidEntry) (node table a b : ℕ) → IsFlat net
         → slice_get net.sids n ≡ Some s → Holds s.prefix a → Holds s.prefix b
@@ -55,7 +56,7 @@ pub fn flat_networks_treat_addresses_alike()
 {}
 
 /// A SID that an address is looked up to is a SID of that node, in table 0 of IPv6, and holds the
-/// address.
+/// address (RFC 8754 section 4.3; that SIDs stand in table 0 is an own rule).
 pub fn matched_sids_hold_the_address()
     ensures { (net : Network) (m : ℕ) (t : SidEntry) (node table : ℕ) (family : Family) (a : ℕ)
         → lookup_of net node table family a ≡ Sid m → slice_get net.sids m ≡ Some t
@@ -63,7 +64,7 @@ pub fn matched_sids_hold_the_address()
 {}
 
 /// A network that keeps the rules has each of the facts that follow from them, and a set that
-/// passes the test of sets is some links of the node, each once.
+/// passes the test of sets is some links of the node, each once (own rules).
 pub fn rules_mean_their_facts()
     ensures network { (net : Network) → IsNetwork net → Keeps net }
     ensures set { (links : List Link) (node : ℕ) (set : List ℕ) → is_link_set links node set ≡ true
@@ -71,7 +72,7 @@ pub fn rules_mean_their_facts()
 {}
 
 /// The block of a prefix is one that it lies strictly inside; with none it lies strictly inside no
-/// block, so a block is not its own.
+/// block, so a block is not its own (own rule).
 pub fn blocks_hold_their_sids()
     ensures { (blocks : List Block) (p : PrefixValue) → IsBlockOf blocks p (block_of blocks p) }
 {}
@@ -132,7 +133,7 @@ pub fn blocks_hold_or_miss()
 {}
 
 /// What the place that a test finds in a list means: its item passes the test, and with no place
-/// none of the items passes.
+/// none of the items passes (own rule).
 pub fn places_are_of_passing_items<X>()
     ensures some { (test : X → Bool) (items : List X) (i : ℕ) → position test items ≡ Some i
         → (x : X) × (slice_get items i ≡ Some x) × (test x ≡ true) }
@@ -141,7 +142,8 @@ pub fn places_are_of_passing_items<X>()
 {}
 
 /// Parts in range have no fault exactly where the network keeps its rules; where SIDs are said to
-/// have other keys than their behaviours take, or a flavour twice, no fault is still enough.
+/// have other keys than their behaviours take, or a flavour twice, no fault is still enough (own
+/// rules).
 pub fn no_fault_is_keeping_the_rules()
     ensures exact { (net : Network) → InRange net → judging net [] ≡ Ok tt ↔ IsNetwork net }
     ensures enough { (net : Network) (standings : List Standing) → InRange net

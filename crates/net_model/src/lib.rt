@@ -6,13 +6,16 @@
 //! for each node, table number and family that has entries: `Net::lookup` gives the entry of a
 //! node's table that fits an address best, and `Net::table` one table for many look-ups.
 //! `compilable` tells whether the network is flat: then no entry lies strictly inside the prefix of
-//! a SID, and all addresses of that prefix are looked up alike; SIDs fit the blocks that they lie
-//! in; and SIDs of one prefix are compressed alike. Only building takes memory. The
-//! laws about the definitions are the contracts of empty functions. `NetFault` says why a text
+//! a SID, and all addresses of that prefix are looked up alike; SIDs that overlap a block lie
+//! strictly inside it, with a length that suits it and a CSID other than 0; and SIDs on one prefix
+//! that make the next segment the destination are compressed alike. Only building takes memory.
+//! The laws about the definitions are the contracts of empty functions. `NetFault` says why a text
 //! gives no network or no intent, and where in it.
 #![tactic(auto)]
 
 mod fault;
+mod fault_places;
+mod fault_texts;
 mod flat;
 #[cfg(test)]
 mod flat_tests;

@@ -1,62 +1,62 @@
 //! How many of each part a network may have, and the largest numbers of its parts (own rules). The
 //! definitions cite these, and so does the code.
 
-/// Nodes of a network.
+/// Nodes of a network (own rule).
 pub const MAX_NODES: usize = 256;
 
-/// Links of a network.
+/// Links of a network (own rule).
 pub const MAX_LINKS: usize = 4096;
 
-/// Routes of a network, in all tables of all nodes.
+/// Routes of a network, in all tables of all nodes (own rule).
 pub const MAX_ROUTES: usize = 65536;
 
-/// SIDs of a network.
+/// SIDs of a network (own rule).
 pub const MAX_SIDS: usize = 4096;
 
-/// SIDs of a node.
+/// SIDs of a node (own rule).
 pub const MAX_SIDS_OF_NODE: usize = 64;
 
-/// Links of a set of equal next hops.
+/// Links of a set of equal next hops (own rule).
 pub const MAX_LINKS_OF_SET: usize = 64;
 
-/// Upper layers that a node takes at its SIDs.
+/// Upper layers that a node takes at its SIDs (own rule).
 pub const MAX_ALLOWED_TYPES: usize = 16;
 
-/// Bytes of a name.
+/// Bytes of a name (own rule).
 pub const MAX_NAME_BYTES: usize = 32;
 
-/// The number of the last table of routes; the first is 0.
+/// The number of the last table of routes; the first is 0 (own rule).
 pub const LAST_TABLE: u32 = 65535;
 
-/// Blocks of SIDs of a description.
+/// Blocks of SIDs of a description (own rule).
 pub const MAX_BLOCKS: usize = 64;
 
-/// The bits that a block's length is a multiple of, and those of the shortest block.
+/// The bits that a block's length is a multiple of, and those of the shortest block (own rule).
 pub const BLOCK_UNIT: u8 = 16;
 
-/// The bits of the longest block.
+/// The bits of the longest block (own rule).
 pub const MAX_BLOCK_LEN: u8 = 64;
 
 /// The bits of the longest IPv4 prefix (RFC 791).
 pub const MAX_IPV4_PREFIX_LEN: u8 = 32;
 
-/// Policies of a description.
+/// Policies of a description (own rule).
 pub const MAX_POLICIES: usize = 256;
 
-/// Segments of a policy.
+/// Segments of a policy (own rule).
 pub const MAX_SEGMENTS: usize = 127;
 
-/// The bits of a short compressed SID.
+/// The bits of a short compressed SID (own rule).
 pub const SHORT_CSID: u32 = 16;
 
-/// The bits of a long compressed SID.
+/// The bits of a long compressed SID (own rule).
 pub const LONG_CSID: u32 = 32;
 
-/// The largest number of 8 bits.
+/// The largest number of 8 bits, as a traffic class and a hop limit have (RFC 8200 section 3).
 pub const LAST_OCTET: u32 = 255;
 
 /// The largest flow label, a number of 20 bits (RFC 8200 section 3).
 pub const LAST_FLOW_LABEL: u32 = 1_048_575;
 
-/// The hop limit of an outer header for which none is given.
+/// The hop limit of an outer header for which none is given (own rule).
 pub const DEFAULT_HOP_LIMIT: u32 = 64;

@@ -23,7 +23,8 @@ fn first_link(links: &[Link], name: &[u8]) -> Option<usize>
     links.iter().position(|l| is_called(&l.name, name))
 }
 
-/// The place of the first node with a name, counted from 0; `None` exactly where no node has it.
+/// The place of the first node with a name, counted from 0; `None` exactly where no node has it
+/// (own rule).
 pub fn place_of_node(nodes: &[Node], name: &[u8]) -> Option<usize>
     ensures number { result ≡ node_numbered name.now nodes.now }
     ensures meaning { IsNodeNumbered name.now nodes.now result }
@@ -31,7 +32,8 @@ pub fn place_of_node(nodes: &[Node], name: &[u8]) -> Option<usize>
     first_node(nodes, name)
 }
 
-/// The place of the first link with a name, counted from 0; `None` exactly where no link has it.
+/// The place of the first link with a name, counted from 0; `None` exactly where no link has it
+/// (own rule).
 pub fn place_of_link(links: &[Link], name: &[u8]) -> Option<usize>
     ensures number { result ≡ link_numbered name.now links.now }
     ensures meaning { IsLinkNumbered name.now links.now result }

@@ -14,7 +14,7 @@ use std::alloc::Global;
 use std::marker::Model;
 use v6_addr::Addr;
 
-/// The entry of a node's table that fits an address best.
+/// The entry of a node's table that fits an address best (RFC 8754 section 4.3).
 #[derive(Clone, Copy, Debug, PartialEq, Eq)]
 pub enum Hit {
     /// A SID, by its number.
@@ -27,7 +27,7 @@ pub enum Hit {
     Nothing,
 }
 
-/// A network that keeps the rules of descriptions.
+/// A network that keeps the rules of descriptions (own rules).
 #[derive(Debug, Drop)]
 pub struct Net {
     parts: NetParts,
@@ -92,7 +92,7 @@ impl Net {
         Ok(Net { parts, tables })
     }
 
-    /// That the network keeps the rules: an empty function, for the callers' proofs.
+    /// That the network keeps the rules: an empty function, for the callers' proofs (own rules).
     pub fn keeps_rules(&self)
         ensures network { IsNetwork self.now }
         ensures facts { Keeps self.now }
@@ -107,7 +107,7 @@ impl Net {
         &self.parts
     }
 
-    /// How many blocks there are, at most `MAX_BLOCKS`.
+    /// How many blocks there are, at most `MAX_BLOCKS` (own rule).
     pub fn blocks(&self) -> u32
         ensures { result ≡ length self.now.blocks }
     {
@@ -115,7 +115,7 @@ impl Net {
         self.parts.blocks.len() as u32
     }
 
-    /// How many nodes there are, at most `MAX_NODES`.
+    /// How many nodes there are, at most `MAX_NODES` (own rule).
     pub fn nodes(&self) -> u32
         ensures { result ≡ length self.now.nodes }
     {
@@ -123,7 +123,7 @@ impl Net {
         self.parts.nodes.len() as u32
     }
 
-    /// How many links there are, at most `MAX_LINKS`.
+    /// How many links there are, at most `MAX_LINKS` (own rule).
     pub fn links(&self) -> u32
         ensures { result ≡ length self.now.links }
     {
@@ -131,7 +131,7 @@ impl Net {
         self.parts.links.len() as u32
     }
 
-    /// How many routes there are, at most `MAX_ROUTES`.
+    /// How many routes there are, at most `MAX_ROUTES` (own rule).
     pub fn routes(&self) -> u32
         ensures { result ≡ length self.now.routes }
     {
@@ -139,7 +139,7 @@ impl Net {
         self.parts.routes.len() as u32
     }
 
-    /// How many policies there are, at most `MAX_POLICIES`.
+    /// How many policies there are, at most `MAX_POLICIES` (own rule).
     pub fn policies(&self) -> u32
         ensures { result ≡ length self.now.policies }
     {
@@ -147,14 +147,14 @@ impl Net {
         self.parts.policies.len() as u32
     }
 
-    /// How many titles there are.
+    /// How many titles there are (own rule).
     pub fn titles(&self) -> usize
         ensures { result ≡ length self.now.titles }
     {
         self.parts.titles.len()
     }
 
-    /// How many SIDs there are, at most `MAX_SIDS`.
+    /// How many SIDs there are, at most `MAX_SIDS` (own rule).
     pub fn sids(&self) -> u32
         ensures { result ≡ length self.now.sids }
     {
@@ -162,7 +162,7 @@ impl Net {
         self.parts.sids.len() as u32
     }
 
-    /// The block with a number, counted from 0.
+    /// The block with a number, counted from 0 (own rule).
     #[tactic(auto, using(std::proofs::lemmas::Option::gets))]
     pub fn block(&self, n: u32) -> &Block
         requires { n < length self.now.blocks }
@@ -171,7 +171,7 @@ impl Net {
         &self.parts.blocks[n as usize]
     }
 
-    /// The node with a number, counted from 0.
+    /// The node with a number, counted from 0 (own rule).
     #[tactic(auto, using(std::proofs::lemmas::Option::gets))]
     pub fn node(&self, n: u32) -> &Node
         requires { n < length self.now.nodes }
@@ -180,7 +180,7 @@ impl Net {
         &self.parts.nodes[n as usize]
     }
 
-    /// The number of the node with a name; `None` exactly where no node has it.
+    /// The number of the node with a name; `None` exactly where no node has it (own rule).
     pub fn node_named(&self, name: &[u8]) -> Option<u32>
         ensures number { result ≡ node_numbered name.now self.now.nodes }
         ensures meaning { IsNodeNumbered name.now self.now.nodes result }
@@ -192,7 +192,7 @@ impl Net {
         }
     }
 
-    /// The number of the link with a name; `None` exactly where no link has it.
+    /// The number of the link with a name; `None` exactly where no link has it (own rule).
     pub fn link_named(&self, name: &[u8]) -> Option<u32>
         ensures number { result ≡ link_numbered name.now self.now.links }
         ensures meaning { IsLinkNumbered name.now self.now.links result }
@@ -223,7 +223,7 @@ impl Net {
         self.table(node, table, family).lookup(a)
     }
 
-    /// The table of a node with a number, for packets of a family, for many look-ups.
+    /// The table of a node with a number, for packets of a family, for many look-ups (own rule).
     pub fn table(&self, node: u32, table: u32, family: Family) -> NodeTable<'_>
         requires { node < length self.now.nodes }
         ensures { result ≡ record { net = self.now; node = node; table = table; family = family } }
@@ -240,7 +240,7 @@ impl Net {
         self.tables.get(&table_key(node, table, family))
     }
 
-    /// The link with a number, counted from 0.
+    /// The link with a number, counted from 0 (own rule).
     #[tactic(auto, using(std::proofs::lemmas::Option::gets))]
     pub fn link(&self, n: u32) -> &Link
         requires { n < length self.now.links }
@@ -249,7 +249,7 @@ impl Net {
         &self.parts.links[n as usize]
     }
 
-    /// The route with a number, counted from 0.
+    /// The route with a number, counted from 0 (own rule).
     #[tactic(auto, using(std::proofs::lemmas::Option::gets))]
     pub fn route(&self, n: u32) -> &Route
         requires { n < length self.now.routes }
@@ -258,7 +258,7 @@ impl Net {
         &self.parts.routes[n as usize]
     }
 
-    /// The policy with a number, counted from 0.
+    /// The policy with a number, counted from 0 (own rule).
     #[tactic(auto, using(std::proofs::lemmas::Option::gets))]
     pub fn policy(&self, n: u32) -> &Policy
         requires { n < length self.now.policies }
@@ -268,7 +268,7 @@ impl Net {
         &self.parts.policies[n as usize].policy
     }
 
-    /// The title with a number, counted from 0.
+    /// The title with a number, counted from 0 (own rule).
     #[tactic(auto, using(std::proofs::lemmas::Option::gets))]
     pub fn title(&self, n: u32) -> &Name
         requires { n < length self.now.titles }
@@ -277,7 +277,7 @@ impl Net {
         &self.parts.titles[n as usize]
     }
 
-    /// The SID with a number, counted from 0.
+    /// The SID with a number, counted from 0 (own rule).
     #[tactic(auto, using(std::proofs::lemmas::Option::gets))]
     pub fn sid(&self, n: u32) -> &SidEntry
         requires { n < length self.now.sids }

@@ -11,7 +11,7 @@ use srv6_rules::Family;
 use std::marker::Model;
 use v6_addr::Addr;
 
-/// A table of a node of a network, for many look-ups. It takes no memory.
+/// A table of a node of a network, for many look-ups (own rule). It takes no memory.
 #[derive(Debug, Drop)]
 pub struct NodeTable<'a> {
     net: &'a Net,
@@ -54,21 +54,21 @@ impl<'a> NodeTable<'a> {
         }
     }
 
-    /// The network.
+    /// The network that has the table (own rule).
     pub fn net(&self) -> &'a Net
         ensures { result.now ≡ self.now.net }
     {
         self.net
     }
 
-    /// The family of the packets that it is for.
+    /// The family of the packets that it is for (own rule).
     pub fn family(&self) -> Family
         ensures { result ≡ self.now.family }
     {
         self.family
     }
 
-    /// What fits an address best, as `Net::lookup` gives it.
+    /// What fits an address best, as `Net::lookup` gives it (own rule).
     #[tactic(auto, unfolding(crate::specs::Best::lookup_of))]
     pub fn lookup(&self, a: Addr) -> Hit
         ensures { result ≡ lookup_of self.now.net self.now.node self.now.table self.now.family

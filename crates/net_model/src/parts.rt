@@ -8,7 +8,8 @@ use std::fmt;
 use std::marker::Model;
 use v6_addr::{Addr, Prefix};
 
-/// A node's, a link's, a policy's or a title's name. Contracts see its bytes, which are UTF-8.
+/// A node's, a link's, a policy's or a title's name (own rule). Contracts see its bytes, which are
+/// UTF-8.
 #[derive(Debug, Drop)]
 pub struct Name {
     text: String,
@@ -25,21 +26,21 @@ impl Model for Name {
 impl Name {
     ghost use Rattle.std.specs.Prelude.{string_bytes};
 
-    /// The name that a text writes.
+    /// The name that a text writes (own rule).
     pub fn new(text: String) -> Name
         ensures { result ≡ string_bytes text }
     {
         Name { text }
     }
 
-    /// The text.
+    /// The text (own rule).
     pub fn as_str(&self) -> &str
         ensures { result.now ≡ self.now }
     {
         self.text.as_str()
     }
 
-    /// The bytes of the text.
+    /// The bytes of the text (own rule).
     pub fn as_bytes(&self) -> &[u8]
         ensures { result.now ≡ self.now }
     {
@@ -58,10 +59,10 @@ impl fmt::Display for Name {
     }
 }
 
-/// The upper layers that a node takes at its SIDs, as next-header values.
+/// The upper layers that a node takes at its SIDs, as next-header values (RFC 8986 section 4.1.1).
 pub type TypeList = Seq<u8>;
 
-/// How SIDs of a block are compressed.
+/// How SIDs of a block are compressed (RFC 9800 section 4).
 #[derive(Clone, Copy, Debug, PartialEq, Eq)]
 pub enum BlockKind {
     /// NEXT-CSID (RFC 9800 section 4.1).
@@ -81,7 +82,7 @@ pub struct Block {
     pub csid: u8,
 }
 
-/// A node.
+/// A node (own rules).
 #[derive(Debug, Drop)]
 pub struct Node {
     /// Its name.
@@ -92,7 +93,7 @@ pub struct Node {
     pub allow: TypeList,
 }
 
-/// A link from a node to a node, or out of the network.
+/// A link from a node to a node, or out of the network (own rule).
 #[derive(Debug, Drop)]
 pub struct Link {
     /// Its name.
@@ -103,7 +104,7 @@ pub struct Link {
     pub to: Option<u32>,
 }
 
-/// A route.
+/// A route of one of a node's tables (own rules).
 #[derive(Debug, Drop)]
 pub struct Route {
     /// The number of its node.
@@ -118,7 +119,7 @@ pub struct Route {
     pub via: LinkSet,
 }
 
-/// A policy with its name.
+/// A policy with its name (own rule).
 #[derive(Debug, Drop)]
 pub struct NamedPolicy {
     /// Its name.
@@ -127,7 +128,7 @@ pub struct NamedPolicy {
     pub policy: Policy,
 }
 
-/// The parts of a network; an item's number is its place in its list, counted from 0.
+/// The parts of a network; an item's number is its place in its list, counted from 0 (own rule).
 #[derive(Debug, Drop)]
 pub struct NetParts {
     /// The blocks of compressed SIDs.

@@ -3,8 +3,8 @@
 ghost use Rattle.std.specs.Prelude.{◌≡◌, ◌↔◌, ℕ, Bool, IsTrue, length};
 ghost use Rattle.std.specs.List.{list_all, filter_map};
 ghost use Rattle.net_model.specs.Network.{network_of};
-ghost use Rattle.net_model.specs.Rules.{is_name, is_segment, keeps_node, title_of};
-ghost use Rattle.net_model.specs.Judging.{few, block_in_range, link_in_range, route_in_range, policy_in_range, block_len_of, sid_in_range, are_numbers, InRange};
+ghost use Rattle.net_model.specs.Rules.{block_len_of, is_name, is_segment, keeps_node, title_of};
+ghost use Rattle.net_model.specs.Judging.{few, block_in_range, link_in_range, route_in_range, policy_in_range, sid_in_range, are_numbers, InRange};
 
 use crate::limits::{
     MAX_BLOCKS, MAX_LINKS, MAX_LINKS_OF_SET, MAX_NODES, MAX_POLICIES, MAX_ROUTES, MAX_SEGMENTS,

@@ -1,5 +1,5 @@
 -- The parts of what a description says are in range.
-use Rattle.std.proofs.Common.{◌≡◌, ◌∙◌, ℕ, suc, ◌+◌, ◌<◌, Bool, true, ◌&&◌, nat_le, ◌==◌, List, [], ◌∷◌, length, map, Option, Some, None, refl, ap, arith}
+use Rattle.std.proofs.Common.{◌≡◌, ◌∙◌, ℕ, suc, ◌+◌, ◌<◌, Bool, true, ◌&&◌, nat_le, List, [], ◌∷◌, length, map, Option, Some, None, refl, ap, arith}
 use Rattle.std.specs.Prelude.{Ok}
 use Rattle.std.specs.List.{list_all, filter_map, cons_option}
 use Rattle.std.proofs.lemmas.Bool.{and_from, and_parts, lt-ltb, eq-eqb}
@@ -8,8 +8,8 @@ use Rattle.toml.specs.Data.{Members}
 use Rattle.srv6_rules.specs.Behaviours.{behaviour_table}
 use Rattle.net_model.specs.declared.limits.TheConstants.{MAX_LINKS_OF_SET, MAX_SIDS}
 use Rattle.net_model.specs.declared.parts.Block.{Block}
-use Rattle.net_model.specs.Rules.{is_name, is_prefix, is_table, is_title, suits_table, block_of, title_of}
-use Rattle.net_model.specs.Judging.{few, link_in_range, route_in_range, block_len_of, sid_in_range, are_numbers, InRange}
+use Rattle.net_model.specs.Rules.{is_name, is_prefix, is_table, is_title, suits_table, block_of, block_len_of, title_of}
+use Rattle.net_model.specs.Judging.{few, link_in_range, route_in_range, sid_in_range, are_numbers, InRange}
 use Rattle.net_words.specs.declared.route.DescribedRoute.{DescribedRoute}
 use Rattle.net_words.specs.declared.sid.DescribedSid.{DescribedSid}
 use Rattle.net_words.specs.declared.sid.BehaviourWord.{BehaviourWord}

@@ -19,16 +19,8 @@ abbrev pub Yields : {X : Type 0} → (X → Type 0) → Result X NetFault → Ty
 Yields P (Ok x) = P x
 Yields P (Err fault) = Unit {0}
 
--- nothing is known
-abbrev pub Any : {X : Type 0} → X → Type 0
-Any x = Unit {0}
-
 pub yielded : {X : Type 0} (P : X → Type 0) (r : Result X NetFault) (x : X) → Yields P r → r ≡ Ok x → P x
 yielded P r x holds is = let Q : Result _ NetFault → Type 0 = λ q. Yields P q in subst Q is holds
-
-pub yields-any : {X : Type 0} (r : Result X NetFault) → Yields Any r
-yields-any (Ok x) = tt
-yields-any (Err fault) = tt
 
 pub yields-next : {X Y : Type 0} (K : X → Type 0) (P : Y → Type 0) (r : Result X NetFault) (next : X → Result Y NetFault) → Yields K r
     → ((x : X) → K x → Yields P (next x)) → Yields P (◌>>=◌ r next)

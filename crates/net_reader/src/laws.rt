@@ -11,7 +11,7 @@ ghost use Rattle.net_joining.specs.Joining.{joined, title_in};
 ghost use Rattle.net_reader.specs.Standings.{HaveTheirKeys};
 ghost use Rattle.net_reader.specs.Reading.{net_in};
 
-/// The parts of what a tree describes are in the ranges that judging takes for granted.
+/// The parts of what a tree describes are in the ranges that judging takes for granted (own rules).
 pub fn described_parts_are_in_range()
     ensures { (root : Members) (said : Description) → description_of root ≡ Ok said
         → InRange (joined said) }
@@ -19,7 +19,7 @@ pub fn described_parts_are_in_range()
 
 /// A text gives a network exactly where it is TOML that describes something, whose parts with
 /// numbers in place of names keep the rules of networks, and whose SIDs have the keys that their
-/// behaviours take and no flavour twice; these parts are the network.
+/// behaviours take and no flavour twice; these parts are the network (own rules).
 pub fn networks_keep_the_rules()
     ensures { (text : List ℕ) (net : Network) → (net_in text ≡ Ok net)
         ↔ ((said : Description) × (description_in text ≡ Ok said) × (joined said ≡ net)

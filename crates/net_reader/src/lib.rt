@@ -4,7 +4,8 @@
 //! each of which may be absent, and whose items name one another by their names. `read_net` reads
 //! it in three steps: what the text says (`net_words`), numbers in place of names (`net_joining`),
 //! and judging the parts (`net_model`), and gives exactly the first fault. `specs/` has the same
-//! steps as functions on the text.
+//! steps as functions on the text. The laws about the definitions are the contracts of empty
+//! functions.
 #![tactic(auto)]
 
 mod laws;

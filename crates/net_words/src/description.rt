@@ -20,7 +20,7 @@ use std::alloc::Global;
 use toml::Table;
 use toml_words::{document, items_at, only};
 
-/// What a description says: its items in the order of the file.
+/// What a description says: its items in the order of the file (own rules).
 #[derive(Debug, Drop)]
 pub struct Description {
     /// The blocks of SIDs, at most 64.
@@ -104,8 +104,8 @@ pub fn describe(alloc: Global, root: &Table) -> Result<Description, NetFault>
     })
 }
 
-/// What a description's text says, or its first fault: `NotToml` exactly where the bytes are not
-/// UTF-8 or not TOML, and else as `describe`. `NoMemory` may come at any time.
+/// What a description's text says, or its first fault (own rules): `NotToml` exactly where the
+/// bytes are not UTF-8 or not TOML, and else as `describe`. `NoMemory` may come at any time.
 pub fn read_description(alloc: Global, text: &[u8]) -> Result<Description, NetFault>
     ensures { Gives (λ d. d) result (description_in text.now) }
 {

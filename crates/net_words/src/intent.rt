@@ -27,7 +27,7 @@ pub enum Mode {
     Reduced,
 }
 
-/// What an intent says.
+/// What an intent says (own rules).
 #[derive(Debug, Drop)]
 pub struct DescribedIntent {
     /// The name of the node where packets enter and are encapsulated.
@@ -127,8 +127,8 @@ pub fn describe_intent(alloc: Global, root: &Table) -> Result<DescribedIntent, N
     })
 }
 
-/// What an intent's text says, or its first fault: `NotToml` exactly where the bytes are not UTF-8
-/// or not TOML, and else as `describe_intent`. `NoMemory` may come at any time.
+/// What an intent's text says, or its first fault (own rules): `NotToml` exactly where the bytes
+/// are not UTF-8 or not TOML, and else as `describe_intent`. `NoMemory` may come at any time.
 pub fn read_intent(alloc: Global, text: &[u8]) -> Result<DescribedIntent, NetFault>
     ensures { Gives (λ i. i) result (intent_in text.now) }
 {

@@ -13,7 +13,7 @@ use std::alloc::Global;
 use toml::Table;
 use toml_words::{Describes, needed, only, optional};
 
-/// A link, as it is described.
+/// A link, as it is described (own rules).
 #[derive(Debug, Drop)]
 pub struct DescribedLink {
     /// Its name.

@@ -14,7 +14,7 @@ use toml::Table;
 use toml_words::{Describes, needed, only, optional_list};
 use v6_addr::Addr;
 
-/// A node, as it is described.
+/// A node, as it is described (own rules).
 #[derive(Debug, Drop)]
 pub struct DescribedNode {
     /// Its name.

@@ -13,7 +13,7 @@ use toml_words::{Kind, text_in};
 use v6_addr::{Prefix, parse_prefix, parse_prefix4};
 
 /// A prefix of either family. An IPv4 prefix holds addresses whose top 32 bits are the IPv4
-/// address, and its length is at most 32.
+/// address, and its length is at most 32 (own rule).
 #[derive(Clone, Copy, Debug, PartialEq, Eq)]
 pub struct FamilyPrefix {
     /// The family of its addresses.

@@ -15,7 +15,7 @@ use std::alloc::Global;
 use toml::Table;
 use toml_words::{Describes, needed, needed_list, only, optional_number};
 
-/// A route, as it is described.
+/// A route, as it is described (own rules).
 #[derive(Debug, Drop)]
 pub struct DescribedRoute {
     /// The name of its node.

@@ -58,8 +58,8 @@ pub enum Flavour {
     Usd,
 }
 
-/// A SID, as it is described. What its behaviour takes is judged later, and so are flavours that
-/// stand twice.
+/// A SID, as it is described (own rules). What its behaviour takes is judged later, and so are
+/// flavours that stand twice.
 #[derive(Debug, Drop)]
 pub struct DescribedSid {
     /// The name of its node.

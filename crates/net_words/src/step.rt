@@ -16,7 +16,7 @@ use std::alloc::Global;
 use toml::Table;
 use toml_words::{Describes, items_at, needed, needed_list, only, value_at};
 
-/// A step of an intent, as it is described.
+/// A step of an intent, as it is described (own rules).
 #[derive(Debug, Drop)]
 pub enum DescribedStep {
     /// One of the links with these names is crossed, of which there are 1 to 64.

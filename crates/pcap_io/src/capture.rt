@@ -3,7 +3,7 @@
 use crate::frame::Frame;
 use base::Seq;
 
-/// The frames of a capture.
+/// The frames of a capture. (own rule)
 #[derive(Debug, Drop)]
 pub struct Capture {
     /// Its whole frames, in order; the first has number 1.

@@ -9,7 +9,7 @@ use base::{NoMemory, Seq};
 use std::alloc::Global;
 
 /// What a frame holds. The bytes are those behind the link header, as they are in the capture:
-/// bytes behind a packet's own end are among them.
+/// bytes behind a packet's own end are among them. (own rule)
 #[derive(Debug, Drop)]
 pub enum Body {
     /// An IPv6 packet.
@@ -24,7 +24,7 @@ pub enum Body {
     NotIp,
 }
 
-/// A frame of a capture.
+/// A frame of a capture. (own rule)
 #[derive(Debug, Drop)]
 pub struct Frame {
     /// Its number in the capture, from 1 on.

@@ -9,7 +9,8 @@ use crate::numbers::{
     four_at, two_at,
 };
 
-/// What the frames of a capture hold.
+/// What the frames of a capture hold (libpcap's list of link-layer header types; that these three
+/// are read is an own rule).
 #[derive(Clone, Copy, Debug, PartialEq, Eq)]
 pub enum LinkType {
     /// Ethernet frames: link type 1.
@@ -20,7 +21,7 @@ pub enum LinkType {
     Ipv6,
 }
 
-/// What the head of a capture says of the frames behind it.
+/// What the head of a capture says of the frames behind it (libpcap's savefile format).
 #[derive(Clone, Copy, Debug, PartialEq, Eq)]
 pub struct CaptureHead {
     /// Whether the lowest byte of each number comes first.

@@ -8,13 +8,13 @@ ghost use Rattle.pcap_io.specs.Head.{Unread, FitsHead, head_bytes, head_of};
 ghost use Rattle.pcap_io.specs.Frames.{Spelled, Fits, Reading, Splits, HoldsNoFrame, frame_bytes, frame_len, behind, by_version, with_front, numbered_from, frames_of};
 ghost use Rattle.pcap_io.specs.Capture.{written_head, written_head_bytes, written_frame_bytes, capture_of};
 
-/// A head that is spelled is read, whatever follows it.
+/// A head that is spelled is read, whatever follows it. (own rule)
 pub fn spelled_heads_are_read()
     ensures { (head : CaptureHead) (u : Unread) (rest : List ℕ) → FitsHead u
         → head_of (head_bytes head u ++ rest) ≡ Ok head }
 {}
 
-/// What is read as a head is spelled so, each byte of it.
+/// What is read as a head is spelled so, each byte of it. (own rule)
 pub fn heads_are_spelled()
     ensures { (bytes : List ℕ) (head : CaptureHead) → All (λ b. b < 2 ^ 8) bytes
         → head_of bytes ≡ Ok head
@@ -22,20 +22,21 @@ pub fn heads_are_spelled()
 {}
 
 /// The frames that are read are those that stand in the bytes one after the other, up to a rest
-/// that begins with no whole frame, or up to the limit: no byte is lost or read twice.
+/// that begins with no whole frame, or up to the limit: no byte is lost or read twice. (own rule)
 pub fn frames_are_spelled()
     ensures { (head : CaptureHead) (most n : ℕ) (bytes : List ℕ) → All (λ b. b < 2 ^ 8) bytes
         → (frames : List Spelled) × Splits head most n bytes frames (frames_of head most n bytes) }
 {}
 
-/// There is one way only to split bytes into frames, and reading gives it.
+/// There is one way only to split bytes into frames, and reading gives it. (own rule)
 pub fn spelled_frames_are_read()
     ensures { (head : CaptureHead) (most n : ℕ) (bytes : List ℕ) (frames : List Spelled)
         (read : Reading) → Splits head most n bytes frames read
         → frames_of head most n bytes ≡ read }
 {}
 
-/// No frame is spelled at the front exactly where the bytes are fewer than its numbers say.
+/// No frame is spelled at the front exactly where the bytes are fewer than its numbers say. (own
+/// rule)
 pub fn no_frame_is_spelled_there()
     ensures none { (little : Bool) (bytes more : List ℕ) (f : Spelled)
         → HoldsNoFrame little bytes → Fits f → bytes ≡ frame_bytes little f ++ more → ⊥ }
@@ -45,7 +46,7 @@ pub fn no_frame_is_spelled_there()
 {}
 
 /// What is written reads back, whatever follows: the head, and each frame as its packet where the
-/// packet's first half byte is 6 or 4, else as none.
+/// packet's first half byte is 6 or 4, else as none. (own rule)
 pub fn written_captures_are_read()
     ensures head { (rest : List ℕ) → head_of (written_head_bytes ++ rest) ≡ Ok written_head }
     ensures frame { (number link most n : ℕ) (packet rest : List ℕ)

@@ -8,8 +8,8 @@ use base::NoMemory;
 use std::alloc::Global;
 use std::marker::Model;
 
-/// Takes the frames of a capture one by one. It is seen as the head, the number of frames taken,
-/// and the bytes behind the head that no frame has taken.
+/// Takes the frames of a capture one by one (own rule). It is seen as the head, the number of
+/// frames taken, and the bytes behind the head that no frame has taken.
 #[derive(Drop)]
 pub struct FrameReader {
     alloc: Global,
@@ -35,7 +35,7 @@ impl FrameReader {
     ghost use Rattle.std.specs.Prelude.{◌≡◌, ◌+◌, ◌<◌, ◌≤◌, length, IfOk, MatchResult};
     ghost use Rattle.pcap_io.specs.Capture.{Takes, IsDone};
 
-    /// A reader of all that follows the 24 bytes of a capture's head.
+    /// A reader of all that follows the 24 bytes of a capture's head. (own rule)
     pub fn new(alloc: Global, head: CaptureHead, input: &[u8]) -> Result<FrameReader, NoMemory>
         ensures { IfOk result (λ r. r ≡ record { head = head; taken = 0; rest = input.now }) }
     {

@@ -52,7 +52,7 @@ fn is_taken<T>(entries: &[(Prefix, T)], p: Prefix) -> bool
 }
 
 impl<T> Table<T> {
-    /// A table without entries.
+    /// A table without entries (own rule).
     pub fn new(alloc: Global) -> Table<T>
         ensures { result ≡ [] }
     {
@@ -62,7 +62,7 @@ impl<T> Table<T> {
     }
 
     /// Adds an entry behind the others. `Taken` exactly where the prefix is there, whatever its
-    /// value; want of memory is free. After both the table is as it was.
+    /// value (own rule); want of memory is free. After both the table is as it was.
     pub fn insert(&mut self, p: Prefix, t: T) -> Result<(), TableFault>
     where
         T: Drop,
@@ -77,8 +77,8 @@ impl<T> Table<T> {
         Ok(())
     }
 
-    /// Adds an entry, whose prefix is known not to be there, behind the others. After want of memory
-    /// the table is as it was.
+    /// Adds an entry, whose prefix is known not to be there, behind the others (own rule). After
+    /// want of memory the table is as it was.
     pub fn insert_new(&mut self, p: Prefix, t: T) -> Result<(), AllocFailed<(Prefix, T)>>
         requires { ¬ HasPrefix self.old p }
         ensures ok { OnOk result (self.new ≡ self.old ++ (p, t) ∷ []) }
@@ -106,7 +106,7 @@ impl<T> Table<T> {
         }
     }
 
-    /// The number of entries.
+    /// The number of entries (own rule).
     pub fn len(&self) -> usize
         ensures len { result ≡ length self.now }
         ensures table { IsTable self.now }
@@ -114,7 +114,7 @@ impl<T> Table<T> {
         self.entries.len()
     }
 
-    /// Entry `i`, counted from 0 in the order of insertion.
+    /// Entry `i`, counted from 0 in the order of insertion (own rule).
     pub fn entry(&self, i: usize) -> (&Prefix, &T)
         requires { i < length self.now }
         ensures { slice_get self.now i ≡ Some (result.0.now, result.1.now) }

@@ -16,7 +16,7 @@ pub struct HostFiles<'a, R> {
 }
 
 impl<'a, R> HostFiles<'a, R> {
-    /// No read has failed yet.
+    /// No read has failed yet. (own rule)
     pub fn new(rt: &'a R) -> HostFiles<'a, R>
         ensures { host_files_seen result
             ≡ record { told = None; asked = None; faults = 0; sure = false } }

@@ -17,7 +17,7 @@ pub struct HostSink<W> {
 }
 
 impl<W> HostSink<W> {
-    /// No write has failed yet.
+    /// No write has failed yet. (own rule)
     pub fn new(writer: W) -> HostSink<W>
         ensures writer { writer_of result ≡ writer }
         ensures seen { host_sink_seen result

@@ -20,7 +20,7 @@ pub struct HostSource<R> {
 }
 
 impl<R> HostSource<R> {
-    /// No read has failed yet.
+    /// No read has failed yet. (own rule)
     pub fn new(reader: R) -> HostSource<R>
         ensures reader { reader_of result ≡ reader }
         ensures seen { host_source_seen result

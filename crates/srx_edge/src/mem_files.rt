@@ -62,7 +62,7 @@ fn find<'a>(files: &'a [Held], name: &str) -> Option<&'a [u8]>
 
 impl MemFiles {
     /// No file is held, and no name was asked for. `fails` has the numbers of the reads that fail,
-    /// counted from 1.
+    /// counted from 1. (own rule)
     pub fn new(alloc: Global, fails: &[u64]) -> Result<MemFiles, NoMemory>
         ensures { IfOk result (λ files. files
             ≡ record { files = []; asked = []; fails = fails.now; faults = 0 }) }
@@ -76,14 +76,14 @@ impl MemFiles {
         })
     }
 
-    /// Whether a file of this name is held.
+    /// Whether a file of this name is held. (own rule)
     pub fn holds(&self, name: &str) -> bool
         ensures { IsTrue result ↔ IsSome (file_named self.now.files name.now) }
     {
         find(&self.files, name).is_some()
     }
 
-    /// Adds a file, of a name that isn't held.
+    /// Adds a file, of a name that isn't held. (own rule)
     pub fn hold(&mut self, name: &str, bytes: &[u8]) -> Result<(), NoMemory>
         requires { file_named self.old.files name.now ≡ None }
         ensures ok { OnOk result (self.new

@@ -35,7 +35,7 @@ impl Model for MemSink {
 }
 
 impl MemSink {
-    /// An empty sink. `fails` has the numbers of the writes that fail, counted from 1.
+    /// An empty sink. `fails` has the numbers of the writes that fail, counted from 1. (own rule)
     pub fn new(alloc: Global, fails: &[u64]) -> Result<MemSink, NoMemory>
         ensures { IfOk result (λ sink. sink ≡ record {
           held = [];
@@ -54,7 +54,7 @@ impl MemSink {
         })
     }
 
-    /// What the sink holds.
+    /// What the sink holds. (own rule)
     pub fn held(&self) -> &[u8]
         ensures { result.now ≡ self.now.held }
     {

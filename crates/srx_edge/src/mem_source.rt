@@ -37,7 +37,7 @@ impl Model for MemSource {
 
 impl MemSource {
     /// A source that has these bytes left. `fails` has the numbers of the reads that fail, counted
-    /// from 1.
+    /// from 1. (own rule)
     pub fn new(alloc: Global, bytes: &[u8], fails: &[u64]) -> Result<MemSource, NoMemory>
         ensures { IfOk result (λ source. source ≡ record {
           left = bytes.now;

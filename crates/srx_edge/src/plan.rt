@@ -4,7 +4,8 @@ ghost use Rattle.srx_edge.specs.Edge.{next_count};
 
 use std::alloc::{AllocError, Global};
 
-/// The numbers of the calls that fail, counted from 1, with the calls and the faults so far.
+/// The numbers of the calls that fail, counted from 1, with the calls and the faults so far. (own
+/// rule)
 #[derive(Drop)]
 pub struct Plan {
     pub fails: Vec<u64>,
@@ -13,7 +14,8 @@ pub struct Plan {
 }
 
 impl Plan {
-    /// No call was made yet.
+    /// No call was made yet. `fails` has the numbers of the calls that fail, counted from 1. (own
+    /// rule)
     pub fn new(alloc: Global, fails: &[u64]) -> Result<Plan, AllocError>
         ensures fails { IfOk result (λ plan. plan.fails.items ≡ fails.now) }
         ensures calls { IfOk result (λ plan. plan.calls ≡ 0) }
@@ -26,21 +28,21 @@ impl Plan {
         })
     }
 
-    /// Whether the next call fails.
+    /// Whether the next call fails. (own rule)
     pub fn fails_next(&self) -> bool
         ensures { IsTrue result ↔ Contains self.now.fails.items (next_count self.now.calls) }
     {
         self.fails.contains(&self.calls.saturating_add(1))
     }
 
-    /// Counts a call that passed.
+    /// Counts a call that passed. (own rule)
     pub fn pass(&mut self)
         ensures { self.new ≡ record self.old { calls = next_count self.old.calls } }
     {
         self.calls = self.calls.saturating_add(1);
     }
 
-    /// Counts a call that failed.
+    /// Counts a call that failed. (own rule)
     pub fn fail(&mut self)
         ensures { self.new ≡ record self.old {
           calls = next_count self.old.calls;

@@ -26,7 +26,7 @@ impl Model for SureSink {
 }
 
 impl SureSink {
-    /// An empty sink. It takes no memory yet.
+    /// An empty sink. It takes no memory yet. (own rule)
     pub fn new(alloc: Global) -> Result<SureSink, NoMemory>
         ensures { IfOk result (λ sink. sink ≡ record { held = []; wants = 0; stopped = false }) }
     {
@@ -37,7 +37,7 @@ impl SureSink {
         })
     }
 
-    /// What the sink holds.
+    /// What the sink holds. (own rule)
     pub fn held(&self) -> &[u8]
         ensures { result.now ≡ self.now.held }
     {

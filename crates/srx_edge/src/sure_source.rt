@@ -26,7 +26,7 @@ impl Model for SureSource {
 }
 
 impl SureSource {
-    /// A source that has these bytes left.
+    /// A source that has these bytes left. (own rule)
     pub fn new(alloc: Global, bytes: &[u8]) -> Result<SureSource, NoMemory>
         ensures { IfOk result (λ source. source ≡ record { left = bytes.now; ends = 0 }) }
     {

@@ -19,7 +19,7 @@ pub record HasRead {V X Y : Type 0} (read : ℕ → X → Result Y NetFault) (se
     : Type 0 where
   pub same : read_map (λ rest. done ++ rest) (each_from read (i + start) (map see (drop i vs))) ≡ each_from read start (map see vs)
 
-same_list : {Y : Type 0} (r : Result (List Y) NetFault) → read_map (λ rest. [] ++ rest) r ≡ r
+pub same_list : {F Y : Type 0} (r : Result (List Y) F) → read_map (λ rest. [] ++ rest) r ≡ r
 same_list (Ok ys) = refl
 same_list (Err fault) = refl
 
@@ -27,7 +27,7 @@ pub reads_start : {V X Y : Type 0} (read : ℕ → X → Result Y NetFault) (see
     → HasRead read see start vs 0 []
 reads_start read see start vs = record { same = rw zero-add (same_list (each_from read start (map see vs))) }
 
-front_moves : {Y : Type 0} (done : List Y) (y : Y) (r : Result (List Y) NetFault)
+pub front_moves : {F Y : Type 0} (done : List Y) (y : Y) (r : Result (List Y) F)
     → read_map (λ rest. done ++ rest) (◌>>=◌ r (λ ys. Ok (y ∷ ys))) ≡ read_map (λ rest. (done ++ y ∷ []) ++ rest) r
 front_moves done y (Ok rest) = ap Ok (sym (append_assoc done (y ∷ []) rest))
 front_moves done y (Err fault) = refl

@@ -1,4 +1,4 @@
--- What reading gives: a value, or the first fault.
+-- What reading gives: a value, or the first fault. What follows a value is the same for every kind of fault F.
 use Rattle.std.specs.Prelude.{◌≡◌, ◌≢◌, ℕ, List, Option, Some, None, Result, Ok, Err, if◌then◌else◌}
 use Rattle.std.specs.Str.{is_utf8}
 use Rattle.toml.specs.Data.{Members}
@@ -7,17 +7,17 @@ use Rattle.net_model.specs.declared.fault.NetFault.{NetFault}
 use Rattle.net_model.specs.declared.fault.NetFault.TheVariants as faults
 
 -- what follows for a value; a fault stays the first
-abbrev pub ◌>>=◌ : {X Y : Type 0} → Result X NetFault → (X → Result Y NetFault) → Result Y NetFault
+abbrev pub ◌>>=◌ : {F X Y : Type 0} → Result X F → (X → Result Y F) → Result Y F
 ◌>>=◌ (Ok x) next = next x
 ◌>>=◌ (Err fault) next = Err fault
 
 -- a value as it is seen
-abbrev pub read_map : {X Y : Type 0} → (X → Y) → Result X NetFault → Result Y NetFault
+abbrev pub read_map : {F X Y : Type 0} → (X → Y) → Result X F → Result Y F
 read_map see (Ok x) = Ok (see x)
 read_map see (Err fault) = Err fault
 
 -- the value that is there, and else this fault
-abbrev pub or_fault : {X : Type 0} → NetFault → Option X → Result X NetFault
+abbrev pub or_fault : {F X : Type 0} → F → Option X → Result X F
 or_fault fault None = Err fault
 or_fault fault (Some x) = Ok x
 

@@ -14,8 +14,8 @@ use net_model::{FaultPlace, Key, NetFault, TableKind};
 use std::alloc::Global;
 use toml::{Table, Value};
 
-/// What the tables of a kind describe. It is a type of its own for each kind, since what is
-/// described may be of a lower crate.
+/// What the tables of a kind describe (own rule). It is a type of its own for each kind, since what
+/// is described may be of a lower crate.
 pub trait Describes<D> {
     /// What a table gives at a place.
     ghost of: { FaultPlace → Members → Result D NetFault };
@@ -82,9 +82,9 @@ fn each_described<X: Describes<D>, D: Drop>(
     Ok(all)
 }
 
-/// What the items of an array of tables describe, which may be absent: first `WrongKind` at item 0
-/// where it is no array of tables, then `Limit` at item 0 where it has more items than the most,
-/// then the first fault of the first item that has one.
+/// What the items of an array of tables describe, which may be absent (own rules): first
+/// `WrongKind` at item 0 where it is no array of tables, then `Limit` at item 0 where it has more
+/// items than the most, then the first fault of the first item that has one.
 #[tactic(auto, using(crate::proofs::ListReading::counts))]
 pub fn items_at<X: Describes<D>, D: Drop>(
     alloc: Global,

@@ -12,7 +12,8 @@ use net_model::{FaultPlace, Key, NetFault};
 use std::alloc::Global;
 use toml::{Table, Value};
 
-/// What the value at a key is read as; `MissingKey` exactly where the table has no such key.
+/// What the value at a key is read as; `MissingKey` exactly where the table has no such key (own
+/// rule).
 pub fn needed<X: Kind>(
     alloc: Global,
     table: &Table,
@@ -27,7 +28,7 @@ pub fn needed<X: Kind>(
     }
 }
 
-/// What the value at a key is read as, and the default where the table has no such key.
+/// What the value at a key is read as, and the default where the table has no such key (own rule).
 pub fn optional<X: Kind + Drop>(
     alloc: Global,
     default: X,
@@ -43,8 +44,8 @@ pub fn optional<X: Kind + Drop>(
     }
 }
 
-/// The number at a key, from the least to the most, and the default where the table has no such
-/// key.
+/// The number at a key, from the least to the most, and the default where the table has no such key
+/// (own rule).
 pub fn optional_number(
     range: (u32, u32),
     default: u32,
@@ -61,7 +62,8 @@ pub fn optional_number(
     }
 }
 
-/// The number at a key, from the least to the most; `None` where the table has no such key.
+/// The number at a key, from the least to the most; `None` where the table has no such key (own
+/// rule).
 pub fn number_if_given(
     range: (u32, u32),
     table: &Table,
@@ -99,7 +101,7 @@ fn each<X: Kind + Drop>(
     Ok(members)
 }
 
-/// The array at a key, of any length; empty where the table has no such key.
+/// The array at a key, of any length; empty where the table has no such key (own rule).
 pub fn optional_array<X: Kind + Drop>(
     alloc: Global,
     table: &Table,
@@ -138,7 +140,7 @@ fn list_in<X: Kind + Drop>(
 }
 
 /// The list at a key, of at most so many members; `MissingKey` exactly where the table has no such
-/// key.
+/// key (own rule).
 pub fn needed_list<X: Kind + Drop>(
     alloc: Global,
     most: usize,
@@ -155,7 +157,7 @@ pub fn needed_list<X: Kind + Drop>(
     }
 }
 
-/// The list at a key, of at most so many members; empty where the table has no such key.
+/// The list at a key, of at most so many members; empty where the table has no such key (own rule).
 pub fn optional_list<X: Kind + Drop>(
     alloc: Global,
     most: usize,
@@ -172,7 +174,8 @@ pub fn optional_list<X: Kind + Drop>(
     }
 }
 
-/// The list at a key, of at most so many members; `None` where the table has no such key.
+/// The list at a key, of at most so many members; `None` where the table has no such key (own
+/// rule).
 pub fn list_if_given<X: Kind + Drop>(
     alloc: Global,
     most: usize,

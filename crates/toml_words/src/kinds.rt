@@ -15,7 +15,7 @@ use std::alloc::Global;
 use toml::Value;
 use v6_addr::{Addr, Prefix, parse_addr, parse_prefix};
 
-/// What a value may be read as.
+/// What a value may be read as (own rules).
 pub trait Kind: Sized {
     /// What a value gives at a place and under a key.
     ghost kind: { FaultPlace → Key → Data → Result Self NetFault };
@@ -91,7 +91,7 @@ impl<X: Kind> Kind for Option<X> {
     }
 }
 
-/// What a word stands for; `BadFlavour` exactly where it stands for nothing.
+/// What a word stands for; `BadFlavour` exactly where it stands for nothing (own rule).
 pub fn meant<X>(meaning: Option<X>, place: FaultPlace) -> Result<X, NetFault>
     ensures { result ≡ or_fault (NetFault.BadFlavour place.table place.item) meaning }
 {

@@ -1,9 +1,10 @@
 //! Words on the tree of a TOML document, for readers that give exactly the first fault.
 //!
 //! A reader is a row of keys in their order, and each word here gives a value or the first fault of
-//! what it reads. `Kind` is what a value may be read as; `needed`, `optional` and their like read
-//! the value at a key, and `items_at` the items of an array of tables. `specs/` has the same words
-//! as functions on the tree, and one clause, `Gives`, says that the code gives what they give.
+//! what it reads. `document` gives the tree of a text; `Kind` is what a value may be read as;
+//! `needed`, `optional` and their like read the value at a key, `items_at` the items of an array of
+//! tables, and `only` refuses other keys. `specs/` has the same words as functions on the tree, and
+//! the contracts say that the code gives what they give.
 #![tactic(auto)]
 
 mod items;

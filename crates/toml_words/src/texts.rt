@@ -8,8 +8,8 @@ use net_model::NetFault;
 use std::alloc::Global;
 use toml::Table;
 
-/// The document that a text is; `NotToml` exactly where the bytes are not UTF-8 or not TOML.
-/// `NoMemory` may come at any time.
+/// The document that a text is; `NotToml` exactly where the bytes are not UTF-8 or not TOML (own
+/// rule). `NoMemory` may come at any time.
 pub fn document(alloc: Global, text: &[u8]) -> Result<Table, NetFault>
     ensures { Gives table_view result (or_fault NotToml (document_of text.now)) }
 {

@@ -12,7 +12,7 @@ use net_model::{FaultPlace, Key, NetFault};
 use toml::value::Array;
 use toml::{Table, Value};
 
-/// The value at a key; `None` exactly where the table has no such key.
+/// The value at a key; `None` exactly where the table has no such key (own rule).
 pub fn value_at(table: &Table, key: Key) -> Option<&Value>
     ensures { option_map (λ v. view v.now) result
         ≡ get_member (key_text key) (table_view table.now) }
@@ -20,7 +20,7 @@ pub fn value_at(table: &Table, key: Key) -> Option<&Value>
     table.get(key.text())
 }
 
-/// The text that a value is; `WrongKind` exactly where it is none.
+/// The text that a value is; `WrongKind` exactly where it is none (own rule).
 pub fn text_in(value: &Value, place: FaultPlace) -> Result<&str, NetFault>
     ensures { read_map (λ s. s.now) result ≡ text_in place (view value.now) }
 {
@@ -30,7 +30,7 @@ pub fn text_in(value: &Value, place: FaultPlace) -> Result<&str, NetFault>
     }
 }
 
-/// The integer that a value is; `WrongKind` exactly where it is none.
+/// The integer that a value is; `WrongKind` exactly where it is none (own rule).
 pub fn integer_in(value: &Value, place: FaultPlace) -> Result<i64, NetFault>
     ensures { result ≡ integer_in place (view value.now) }
 {
@@ -58,7 +58,7 @@ fn number_within(
 }
 
 /// The number that a value is: `WrongKind` exactly where it is no integer, and `Limit` where it is
-/// one that is not from the least to the most.
+/// one that is not from the least to the most (own rules).
 pub fn number_in(
     value: &Value,
     least: u32,
@@ -129,7 +129,7 @@ fn has_only(table: &Table, keys: &[Key]) -> bool
     true
 }
 
-/// That a table has no other keys than these; else `UnknownKey`.
+/// That a table has no other keys than these; else `UnknownKey` (own rule).
 pub fn only(table: &Table, keys: &[Key], place: FaultPlace) -> Result<(), NetFault>
     ensures { read_map (λ _. table_view table.now) result
         ≡ only keys.now place (table_view table.now) }

@@ -37,7 +37,7 @@ use Rattle.command_inputs.specs.declared.packets.Packets.TheVariants.{Bare, Capt
 use Rattle.command_output.specs.declared.refusal.Refusal.{Refusal}
 use Rattle.command_output.specs.declared.refusal.Refusal.TheVariants as refusals
 use Rattle.command_output.specs.declared.status.Status.TheVariants as statuses
-use Rattle.trace_commands.specs.Replay.{NetworkWants, replay_output, replayed, replayed_by}
+use Rattle.trace_commands.specs.Replay.{ReplayWants, replay_output, replayed, replayed_by}
 use Rattle.trace_commands.specs.Trace.{text_by, text_of, trace_output, traced, traced_as, traced_by, traced_of, traced_of_frame}
 use Rattle.command_output.specs.Outputs.{after, ended_by, refused}
 use Rattle.command_inputs.specs.Judgements.{network_in, node_in, node_or, refused_as}
@@ -268,7 +268,7 @@ done-judged text name choices input e =
 
 wanted-by : (file trace : Option (List ℕ)) (text bytes : List ℕ) (net : Network) (given : Output) → file ≡ Some text → trace ≡ Some bytes
     → network_in text ≡ Ok net
-    → IsSomeAnd file (λ text. NetworkWants (network_in text) trace given) ↔ (given ≡ replay_output net bytes)
+    → IsSomeAnd file (λ text. ReplayWants (network_in text) trace given) ↔ (given ≡ replay_output net bytes)
 wanted-by file trace text bytes net given first second is = rw (first, second, is) (λ h. h, λ h. h)
 
 replays : (text bytes : List ℕ) (net : Network) (output : Output) → network_in text ≡ Ok net → replay_output net bytes ≡ output

@@ -39,9 +39,9 @@ replayed net lines = replayed_by (counts_of lines) (first_wrong net lines)
 abbrev pub replay_output : Network → List ℕ → Output
 replay_output net text = after (trace_in net text) (replayed net)
 
-abbrev pub NetworkWants : Result Network Refusal → Option (List ℕ) → Output → Type 0
-NetworkWants (Err refusal) trace output = output ≡ refused refusal
-NetworkWants (Ok net) trace output = IsSomeAnd trace (λ text. output ≡ replay_output net text)
+abbrev pub ReplayWants : Result Network Refusal → Option (List ℕ) → Output → Type 0
+ReplayWants (Err refusal) trace output = output ≡ refused refusal
+ReplayWants (Ok net) trace output = IsSomeAnd trace (λ text. output ≡ replay_output net text)
 
 -- the trace is asked for where the description gives a network
 abbrev pub asks_for_trace : List (List ℕ) → Bool
@@ -56,5 +56,5 @@ replay_shape file trace = record {
   leaves_input = λ held. ⊤;
   lines_last = true;
   statuses = statuses.Done ∷ statuses.Refused ∷ statuses.SaysNo ∷ [];
-  wants = λ held input output. IsSomeAnd (file_named held file) (λ text. NetworkWants (network_in text) (file_named held trace) output);
+  wants = λ held input output. IsSomeAnd (file_named held file) (λ text. ReplayWants (network_in text) (file_named held trace) output);
 }

@@ -21,7 +21,7 @@ use Rattle.command_output.specs.declared.told.Told.{Told}
 use Rattle.command_output.specs.Answers.{ending_of_failure, JudgesFile, CommandsUnread}
 use Rattle.command_output.specs.Outputs.{output_of_judgement}
 use Rattle.command_output.specs.Outputs.{reported}
-use Rattle.trace_commands.specs.Replay.{NetworkWants, asks_for_trace, replay_shape, replayed, replayed_by}
+use Rattle.trace_commands.specs.Replay.{ReplayWants, asks_for_trace, replay_shape, replayed, replayed_by}
 use Rattle.command_inputs.specs.Judgements.{network_in, trace_in}
 use Rattle.command_output.specs.Outputs.{refused, after}
 use Rattle.command_output.specs.Lines.{bytes_of_text}
@@ -75,11 +75,11 @@ module _ (file trace : List ℕ) where
   -- an output that is wanted of the description's judgement
   wants : (judged : Result Network Refusal) (told : Option Held) (left : Option (List ℕ)) (output : Output)
       → IfSome told (λ held. IsSomeAnd (file_named held file) (λ text. network_in text ≡ judged))
-      → IfSome told (λ held. NetworkWants judged (file_named held trace) output) → WantedOf (replay_shape file trace) told left output
+      → IfSome told (λ held. ReplayWants judged (file_named held trace) output) → WantedOf (replay_shape file trace) told left output
   wants judged None left output h w = tt
   wants judged (Some held) left output h w = some-map (file_named held file) (λ text. network_in text ≡ judged)
-      (λ text. NetworkWants (network_in text) (file_named held trace) output)
-      (λ text is. subst (λ (j : Result Network Refusal). NetworkWants j (file_named held trace) output) (sym is) w) h
+      (λ text. ReplayWants (network_in text) (file_named held trace) output)
+      (λ text is. subst (λ (j : Result Network Refusal). ReplayWants j (file_named held trace) output) (sym is) w) h
 
   takes : (stop : Stop) (f g : FilesSeen) (s : SourceSeen) → Asks (replay_shape file trace) stop f g → Reads stop s s
       → Takes (replay_shape file trace) stop f g s s
@@ -116,9 +116,9 @@ module _ (file trace : List ℕ) where
         → IfSome mid.told (λ held. IsSomeAnd (file_named held trace) (λ text. trace_in net text ≡ read)) → output ≡ after read (replayed net)
         → WantedOf (replay_shape file trace) f.told left output
     wants-trace read left output h w = wants (Ok net) f.told left output judged.0
-        (of-first (λ held. NetworkWants (Ok net) (file_named held trace) output)
+        (of-first (λ held. ReplayWants (Ok net) (file_named held trace) output)
         (each-map mid.told (λ held. IsSomeAnd (file_named held trace) (λ text. trace_in net text ≡ read))
-        (λ held. NetworkWants (Ok net) (file_named held trace) output)
+        (λ held. ReplayWants (Ok net) (file_named held trace) output)
         (λ held there. some-map (file_named held trace) (λ text. trace_in net text ≡ read)
         (λ text. output ≡ after (trace_in net text) (replayed net))
         (λ text is. subst (λ (r : Result (List (List ℕ)) Refusal). output ≡ after r (replayed net)) (sym is) w) there) h))
