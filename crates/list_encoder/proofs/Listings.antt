@@ -21,14 +21,6 @@ use Rattle.list_encoder.proofs.Orders.{head-same, head-less}
 use Rattle.list_encoder.proofs.Celling.{some-same, place_of, top-at-few}
 use Rattle.list_encoder.proofs.Heading.{edge-some}
 
-pub listed-none : (v : LegsValue) (cells : List Cell) (t : Costs) → IsListed v cells t 0 []
-listed-none v cells t =
-    record {
-      all = λ k room cell c at top h e. absurd (omega (arith, h));
-      only = λ q c. absurd (omega (arith, c.1));
-      order = λ i j d h l. absurd (omega (arith, l));
-    }
-
 -- a place beyond which nothing more is listed
 pub listed-further : (v : LegsValue) (cells : List Cell) (t : Costs) (n m : ℕ) (ps : List Potential) → n ≤ m
     → ((k room : ℕ) (cell : Cell) (c : Cost) → slice_get cells k ≡ Some cell → room ≤ top_at v cell → n ≤ 8 * k + room → 8 * k + room < m

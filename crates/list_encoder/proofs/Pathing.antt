@@ -25,10 +25,6 @@ use Rattle.list_encoder.proofs.Celling.{some-same}
 use Rattle.list_encoder.proofs.Tables.{plus-nothing}
 use Rattle.list_encoder.proofs.Heading.{Behind, head-of}
 
--- the first three numbers of a path's key
-step_key : PathStep → List ℕ
-step_key p = p.prefix.value ∷ p.prefix.len ∷ cond p.stays 0 1 ∷ []
-
 turn-same : (a b : Bool) → cond {A = ℕ} a 0 1 ≡ cond b 0 1 → a ≡ b
 turn-same true true e = refl
 turn-same true false e = absurd (omega (arith, e))
