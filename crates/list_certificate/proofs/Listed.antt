@@ -10,7 +10,7 @@ use Rattle.list_pack.specs.Least.{IsBefore, state_key_by}
 use Rattle.list_certificate.specs.declared.types.PotentialLine.{PotentialLine}
 use Rattle.list_certificate.specs.Certs.{same_via, same_state, potential_at}
 use Rattle.list_certificate.specs.Tests.{AreSorted, place_key, place_key_by, IsBehind, Splits}
-use Rattle.list_certificate.proofs.Orders.{lex-itself, lex-not-both, lex-longer, lex-lower, lex-higher}
+use Rattle.list_pack.proofs.Orders.{lex-itself, lex-not-both, lex-longer, lex-lower, lex-higher}
 
 -- what an index past the lines would give
 abbrev pub no_line : PotentialLine

@@ -10,7 +10,7 @@ use Rattle.list_pack.specs.Costs.{start, IsState, IsStateBy}
 use Rattle.list_pack.specs.Least.{IsBefore, state_key, state_key_by}
 use Rattle.list_certificate.specs.declared.types.PotentialLine.{PotentialLine}
 use Rattle.list_certificate.specs.Tests.{PassesUnlisted, FirstFailing, FirstFailure, OfSid, OfPosition, OfAll}
-use Rattle.list_certificate.proofs.Orders.{head-less, head-same, lex-longer, lex-not-both, lex-trans}
+use Rattle.list_pack.proofs.Orders.{head-less, head-same, lex-longer, lex-not-both, lex-trans}
 use Rattle.list_certificate.proofs.Passing.{place-in}
 
 -- SIDs in order

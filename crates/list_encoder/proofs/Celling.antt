@@ -12,7 +12,7 @@ use Rattle.list_encoder.specs.declared.cells.Cell.{Cell}
 use Rattle.list_pack.specs.Rooms.{top_room}
 use Rattle.list_encoder.specs.Cells.{cell_at, start_cell, state_at, IsCell, IsCellBy, AreCells, IsFirst, top_at, top_at_by}
 use Rattle.list_encoder.proofs.Rooms.{top-seven}
-use Rattle.list_encoder.proofs.Orders.{head-cases, head-less, head-same, lex-trans, lex-longer}
+use Rattle.list_pack.proofs.Orders.{head-cases, head-less, head-same, lex-trans, lex-longer}
 
 -- between an element and its place
 pub place_of : {X : Type 0} (xs : List X) (x : X) → Contains xs x → (k : ℕ) × (slice_get xs k ≡ Some x)

@@ -17,7 +17,7 @@ use Rattle.list_encoder.specs.Cells.{cell_at, start_cell, state_at, IsCellBy, Ar
 use Rattle.list_encoder.specs.Table.{Costs, entry, AreLeast, HasFewContainers}
 use Rattle.list_encoder.specs.declared.table.TheConstants.{MOST_CONTAINERS}
 use Rattle.list_encoder.specs.Listing.{IsOfPlace, IsListed, IsTop, ListsFewContainers}
-use Rattle.list_encoder.proofs.Orders.{head-same, head-less}
+use Rattle.list_pack.proofs.Orders.{head-same, head-less}
 use Rattle.list_encoder.proofs.Celling.{some-same, place_of, top-at-few}
 use Rattle.list_encoder.proofs.Heading.{edge-some}
 

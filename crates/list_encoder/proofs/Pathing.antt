@@ -20,7 +20,7 @@ use Rattle.list_encoder.specs.declared.picks.Spot.{Spot}
 use Rattle.list_encoder.specs.Cells.{cell_at, state_at, AreCells}
 use Rattle.list_encoder.specs.Table.{Costs, rest_at, LeadsTo, IsLink, AreLeast}
 use Rattle.list_encoder.specs.Picks.{IsSpot, IsTight, IsPick, Covers, link_step}
-use Rattle.list_encoder.proofs.Orders.{lex-itself, lex-not-both, lex-same, lex-longer, lex-after}
+use Rattle.list_pack.proofs.Orders.{lex-itself, lex-not-both, lex-same, lex-longer, lex-after}
 use Rattle.list_encoder.proofs.Celling.{some-same}
 use Rattle.list_encoder.proofs.Tables.{plus-nothing}
 use Rattle.list_encoder.proofs.Heading.{Behind, head-of}

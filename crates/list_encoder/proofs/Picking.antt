@@ -16,7 +16,7 @@ use Rattle.list_encoder.specs.declared.picks.Spot.{Spot}
 use Rattle.list_encoder.specs.Cells.{cell_at}
 use Rattle.list_encoder.specs.Table.{Costs, IsLink, AreInRange}
 use Rattle.list_encoder.specs.Picks.{better_of, IsSpot, IsPick, IsPickOrNone, Covers, link_step, CoversMoves, CoversLink, PicksMoves, PicksLink, PicksEnds, PicksLegs, PicksFirst}
-use Rattle.list_encoder.proofs.Orders.{lex-weak, lex-not-both}
+use Rattle.list_pack.proofs.Orders.{lex-weak, lex-not-both}
 use Rattle.list_encoder.proofs.Celling.{some-same}
 use Rattle.list_encoder.proofs.Rooms.{behind-few}
 use Rattle.list_encoder.proofs.Tables.{to-range, link-shape}
