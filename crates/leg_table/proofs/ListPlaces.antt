@@ -118,10 +118,6 @@ block-long : (net : Network) → Keeps net → (b : Block) → Contains net.bloc
 block-long net keeps b there = (keeps.block there.0 b (slice_get_read net.blocks (length net.blocks) there.0 b refl there.1
     (sym there.2))).at_least
 
-map-none : (o : Option Block) → option_map sid_block o ≡ None → o ≡ None
-map-none None e = refl
-map-none (Some b) e = absurd (cc)
-
 -- a compressed SID of a list is longer than a block of the network, which has at least 16 bits
 compressed-long : (net : Network) → Keeps net → (p : PrefixValue) → IsFlatSid (list_sid net p) → (list_sid net p).csid ≡ csids.Next
     → 16 ≤ p.len

@@ -132,4 +132,4 @@ module _ (net : Network) (intent : Intent) (network : IsNetwork net) (flat : IsF
 
   -- the legs mean the lists that realize the intent
   pub legs-mean : Means v net (ListRealizes net intent) (ListExecutes net intent)
-  legs-mean = record { sids = sids-of; lists = realized; paths = path-of }
+  legs-mean = record { sids = sids-of; suits = suits; lists = realized; paths = path-of }

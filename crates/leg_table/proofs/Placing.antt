@@ -24,20 +24,10 @@ placed-suc net n [] i h e = absurd (omega arith)
 placed-suc net n (x ∷ xs) zero h e = rw e refl
 placed-suc net n (x ∷ xs) (suc i) h e = ap (λ (r : List ℕ). x ∷ r) (placed-suc net n xs i (omega arith) e)
 
-pub placed-more : (net : Network) (n : ℕ) (xs : List ℕ) (i : ℕ) → i < length xs
-    → sid_before (slice_get net.sids n) (slice_get net.sids (get_or xs i 0)) ≡ false
-    → take i xs ++ placed net n (drop i xs) ≡ take (i + 1) xs ++ placed net n (drop (i + 1) xs)
-placed-more net n xs i h e = rw add-one (placed-suc net n xs i h e)
-
 placed-past : (net : Network) (n : ℕ) (xs : List ℕ)
     → take (length xs) xs ++ placed net n (drop (length xs) xs) ≡ take (length xs) xs ++ n ∷ drop (length xs) xs
 placed-past net n [] = refl
 placed-past net n (x ∷ xs) = ap (λ (r : List ℕ). x ∷ r) (placed-past net n xs)
-
-pub placed-all : (net : Network) (n : ℕ) (xs : List ℕ) (i : ℕ) → i ≡ length xs
-    → take i xs ++ placed net n (drop i xs) ≡ take i xs ++ n ∷ drop i xs
-placed-all net n xs i e =
-    subst (λ (k : ℕ). take k xs ++ placed net n (drop k xs) ≡ take k xs ++ n ∷ drop k xs) (sym e) (placed-past net n xs)
 
 -- a row by the numbers of its SIDs
 pub sids_below-zero : (net : Network) (intent : Intent) (position : ℕ) → sids_below net intent position 0 ≡ []
@@ -107,15 +97,6 @@ step-lands net intent i node to step stands h e after =
     ∙ ap (option_and_then (λ n. stand_after net n [])) after
 
 -- rows, one after another
-pub rows-start : (net : Network) (intent : Intent) (row : List ℕ) (rows : List (List ℕ)) → row ≡ sids_of net intent 0 → rows ≡ row ∷ []
-    → AreRows net intent 0 rows
-rows-start net intent row rows e f =
-    subst (AreRows net intent 0) (sym f) (refl, λ position h. at position h)
-  where
-    at : (position : ℕ) → position ≤ 0 → slice_get (row ∷ []) position ≡ Some (sids_of net intent position)
-    at zero h = ap Some e
-    at (suc k) h = absurd (omega arith)
-
 slice_get-push : (xs : List (List ℕ)) (x : List ℕ) (n : ℕ) → n ≡ length xs → slice_get (xs ++ x ∷ []) n ≡ Some x
 slice_get-push [] x zero e = refl
 slice_get-push [] x (suc n) e = absurd (omega arith)

@@ -167,10 +167,6 @@ pub record AreWaysBelow (net : Network) (steps : List Step) (place : Place) (cou
   pub count_is : length ways ≡ count
   pub each : (n : ℕ) → n < count → slice_get ways n ≡ Some (way_along net steps place n)
 
-pub ways-start : (net : Network) (steps : List Step) (place : Place) (ways : List (Option Behind)) → ways ≡ []
-    → AreWaysBelow net steps place 0 ways
-ways-start net steps place ways e = record { count_is = ap length e; each = λ n h. absurd (omega arith) }
-
 get-pushed : (xs : List (Option Behind)) (x : Option Behind) (n : ℕ) → n ≡ length xs → slice_get (xs ++ x ∷ []) n ≡ Some x
 get-pushed [] x zero e = refl
 get-pushed [] x (suc n) e = absurd (omega arith)
@@ -198,8 +194,3 @@ ways-more net steps place count ways more way is e f =
         get-pushed ways way n (same ∙ sym is.count_is) ∙ ap Some (e ∙ ap (way_along net steps place) (sym same))
     by_order n (inr (inl below)) h = get-below ways way n (omega (arith, is.count_is)) ∙ is.each n below
     by_order n (inr (inr above)) h = absurd (omega arith)
-
-pub ways-all : (net : Network) (steps : List Step) (place : Place) (count : ℕ) (ways : List (Option Behind))
-    → AreWaysBelow net steps place count ways → count ≡ length net.sids → AreWays net steps place ways
-ways-all net steps place count ways is e =
-    record { count = is.count_is ∙ e; each = λ n h. is.each n (omega arith) }

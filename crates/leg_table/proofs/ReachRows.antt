@@ -64,25 +64,6 @@ get-front [] x n h = absurd (omega arith)
 get-front (y ∷ xs) x zero h = refl
 get-front (y ∷ xs) x (suc n) h = get-front xs x n (omega arith)
 
--- where no step is left
-reaches-one : (net : Network) (node : ℕ) (reach : Reach) → IsReach net [] node reach → AreReaches net node [] (reach ∷ [])
-reaches-one net node reach is =
-    record { count = omega arith; each = λ position at r within stands there. each position at r within stands there }
-  where
-    each : (position at : ℕ) (r : Reach) → position ≤ 0 → stand_after net node (take position []) ≡ Some at
-        → slice_get (reach ∷ []) (0 - position) ≡ Some r → IsReach net (drop position []) at r
-    each zero at r within stands there =
-        let same : node ≡ at = some-same node at stands in
-        let it : reach ≡ r = some-same reach r there in
-        subst (λ (q : Reach). IsReach net [] at q) it (subst (λ (n : ℕ). IsReach net [] n reach) same is)
-    each (suc k) at r within stands there = absurd (omega arith)
-
-pub reaches-none : (net : Network) (node : ℕ) (steps : List Step) (reach : Reach) (reaches : List Reach) → steps ≡ []
-    → IsReach net steps node reach → reaches ≡ reach ∷ [] → AreReaches net node steps reaches
-reaches-none net node steps reach reaches e is f =
-    let one = reaches-one net node reach (subst (λ (ts : List Step). IsReach net ts node reach) e is) in
-    subst (λ (ts : List Step). AreReaches net node ts reaches) (sym e) (subst (AreReaches net node []) (sym f) one)
-
 -- one step more before the others
 more-reaches : (net : Network) (node to : ℕ) (t : Step) (ts : List Step) (reach : Reach) (reaches : List Reach)
     → AreReaches net to ts reaches → IsReach net (t ∷ ts) node reach → node_after net node t ≡ Some to

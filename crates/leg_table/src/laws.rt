@@ -24,7 +24,7 @@ ghost use Rattle.leg_table.specs.Realizes.{path_need, Realizes, Executes, ListRe
 ghost use Rattle.net_model.specs.Flat.{IsFlat};
 
 /// A way to an execution is there for all lists of choices exactly where it is there whatever is
-/// chosen at each stage.
+/// chosen at each stage. (own rule)
 pub fn every_way_is_for_all_choices()
     ensures { (net : Network) (end : List Step → walks.Step → Bool) (steps : List Step) →
         (place : Place) (content : Content) →
@@ -33,7 +33,7 @@ pub fn every_way_is_for_all_choices()
 
 /// In a network, from a place of it, along steps each of which starts where the one before it
 /// ended: a packet has a way to an execution whatever is chosen exactly where the ride by look-ups
-/// alone, which goes to the end of the first equal next hop, has it.
+/// alone, which goes to the end of the first equal next hop, has it. (own rule)
 pub fn every_way_is_a_ride()
     ensures { (net : Network) (end : List Step → walks.Step → Bool) (steps : List Step) →
         (place : Place) (p : Packet) → Keeps net → IsPlace net place →
@@ -45,7 +45,7 @@ pub fn every_way_is_a_ride()
 /// The leg by look-ups alone is there exactly where for all choices a packet to the next SID is
 /// taken to that SID along exactly the steps up to the leg's end, and executed there: a packet to
 /// the first address of its prefix, and in a flat network one to any address of the prefix that is
-/// multicast exactly where the first one is.
+/// multicast exactly where the first one is. (own rule)
 pub fn a_leg_is_for_all_choices()
     ensures first { (net : Network) (intent : Intent) (position : ℕ) (via : Option ℕ) (next : ℕ) →
         (leg : Leg) → Keeps net → IsIntent net intent →
@@ -61,7 +61,8 @@ pub fn a_leg_is_for_all_choices()
 /// The finish by look-ups alone is there exactly where for all choices a packet to the last SID is
 /// taken to that SID along exactly the steps that are left, and the packet inside exposed there: a
 /// packet to the first address of its prefix, and in a flat network one to any address of the
-/// prefix that is multicast exactly where the first one is and has no further SID behind it.
+/// prefix that is multicast exactly where the first one is and has no further SID behind it. (own
+/// rule)
 pub fn a_finish_is_for_all_choices()
     ensures first { (net : Network) (intent : Intent) (position : ℕ) (via : Option ℕ) (next : ℕ) →
         (lowered : ℕ) → Keeps net → IsIntent net intent →
@@ -75,7 +76,7 @@ pub fn a_finish_is_for_all_choices()
 {}
 
 /// The SIDs of a position stand in order, each once: those at the node where the walk stands there
-/// which have no title or are the function of the step that ends there.
+/// which have no title or are the function of the step that ends there. (own rule)
 pub fn sids_of_a_position_are_in_order()
     ensures { (net : Network) (intent : Intent) (position : ℕ) → Keeps net →
         AreSidsAt net intent position (sids_of net intent position) }
@@ -102,7 +103,7 @@ pub fn a_path_realizes_the_intent()
 
 /// In a flat network a legal list by which an inner packet is handed over along exactly the steps
 /// for all choices at one outer hop limit has a path of legs and a finish along it, whose need is
-/// below that hop limit; for each choice the path's SIDs are those that are executed.
+/// below that hop limit; for each choice the path's SIDs are those that are executed. (own rule)
 pub fn a_list_that_always_hands_over_is_a_path()
     ensures { (net : Network) (intent : Intent) (list : List Container) (inner : Content)
         (hop : ℕ) → IsNetwork net → IsFlat net → IsIntent net intent → IsLegalList net list →
@@ -113,7 +114,8 @@ pub fn a_list_that_always_hands_over_is_a_path()
 {}
 
 /// In a flat network, where a legal list hands over even one inner packet along exactly the steps
-/// for all choices at one outer hop limit, there is a legal list that realizes the intent.
+/// for all choices at one outer hop limit, there is a legal list that realizes the intent. (own
+/// rule)
 pub fn a_list_that_hands_over_has_one_that_realizes()
     ensures { (net : Network) (intent : Intent) (list : List Container) (inner : Content)
         (hop : ℕ) → IsNetwork net → IsFlat net → IsIntent net intent → IsLegalList net list →
@@ -123,7 +125,7 @@ pub fn a_list_that_hands_over_has_one_that_realizes()
 {}
 
 /// The trace that comes with what stages hand over is that of the stages up to and with the first
-/// hand-over.
+/// hand-over. (own rule)
 pub fn what_is_handed_over_has_its_trace()
     ensures { (net : Network) (stages : List walks.Step) (h : Handed) →
         handed_over net stages ≡ Some h →

@@ -1,5 +1,17 @@
 //! The legs of an intent: where a packet to the next SID is taken, whichever equal next hop is
 //! chosen.
+//!
+//! `StrictLegs` has for each position of an intent the SIDs that may be executed there, and the
+//! ways from its node along the steps that are left to all SIDs. Its legs, finishes and shapes are
+//! those that a search asks for (`Legs` of `list_pack`), and mean the lists that realize the intent
+//! (`ListLegs`).
+//!
+//! `specs/Tasks.antt` has the traces that keep to an intent's steps, `specs/Trace.antt` the traces
+//! of walks, `specs/Realizes.antt` when a list realizes an intent, `specs/Choices.antt` the ways
+//! whichever next hop is chosen, `specs/Ride.antt` those by look-ups alone, `specs/Sids.antt` the
+//! SIDs of a position, `specs/Leg.antt` legs and finishes, `specs/Value.antt` what a search sees of
+//! them. The functions of `laws` do nothing: their contracts are the laws that lead from look-ups
+//! to lists.
 #![tactic(auto)]
 
 mod laws;

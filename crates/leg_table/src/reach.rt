@@ -17,7 +17,7 @@ use std::alloc::Global;
 use walk_rules::{Place, Way, way_in_table, way_of};
 
 /// The ways from a node to all SIDs and their executions, by the SIDs' numbers; none where a packet
-/// does not come to the SID first, or leaves the steps before.
+/// does not come to the SID first, or leaves the steps before. (own rule)
 #[derive(Debug, Drop)]
 pub struct Reach {
     /// Of packets that have arrived at the node.
@@ -69,7 +69,7 @@ fn way_by(
     }
 }
 
-/// A way of a row, if it is there.
+/// A way of a row, if it is there. (own rule)
 pub fn way_at(ways: &[Option<Behind>], n: u32) -> Option<Behind>
     ensures { result ≡ way_at ways.now n }
 {
@@ -80,7 +80,7 @@ pub fn way_at(ways: &[Option<Behind>], n: u32) -> Option<Behind>
 }
 
 /// The way along steps from a place to a next SID and its execution, where the ways from the end of
-/// the first step are known.
+/// the first step are known. (own rule)
 pub fn way_from(
     net: &Net,
     steps: &[Step],
@@ -152,7 +152,8 @@ fn reach_of(
     Ok(Reach { arrived, submitted })
 }
 
-/// The ways from each node where the walk along steps stands, from the last one backwards.
+/// The ways from each node where the walk along steps stands, from the last one backwards. (own
+/// rule)
 pub fn reaches_of(
     alloc: Global,
     net: &Net,

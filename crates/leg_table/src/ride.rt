@@ -11,7 +11,7 @@ use intent_reader::Step;
 use net_model::Net;
 use walk_rules::far_end;
 
-/// A step has all links of a set.
+/// A step has all links of a set. (own rule)
 pub fn all_in_step(step: &Step, set: &[u32]) -> bool
     ensures { result ≡ rides.all_in_step step.now set.now }
 {
@@ -27,7 +27,7 @@ fn all_among(links: &[u32], set: &[u32]) -> bool
     set.iter().all(|link| links.contains(link))
 }
 
-/// The node where the first link of a set ends, if it ends at one.
+/// The node where the first link of a set ends, if it ends at one. (own rule)
 pub fn first_end(net: &Net, set: &[u32], node: u32) -> Option<u32>
     requires { IsLinkSet net.now.links node set.now }
     ensures value { result ≡ rules.first_end net.now set.now }
@@ -37,7 +37,7 @@ pub fn first_end(net: &Net, set: &[u32], node: u32) -> Option<u32>
     far_end(net, set[0])
 }
 
-/// What is behind the execution of a SID at the end of a ride.
+/// What is behind the execution of a SID at the end of a ride. (own rule)
 #[derive(Clone, Copy, Debug)]
 pub struct Behind {
     /// How many steps are left.
@@ -46,7 +46,7 @@ pub struct Behind {
     pub lowered: u32,
 }
 
-/// How many steps are left behind the execution of a SID.
+/// How many steps are left behind the execution of a SID. (own rule)
 pub fn left_after(net: &Net, n: u32, steps: &[Step]) -> Option<u32>
     requires is_there { n < length net.now.sids }
     requires few { length steps.now ≤ 48 }

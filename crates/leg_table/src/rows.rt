@@ -11,7 +11,7 @@ use intent_reader::{Intent, Step};
 use net_model::Net;
 use std::alloc::Global;
 
-/// The SIDs of a position, in order.
+/// The SIDs of a position, in order. (own rule)
 pub type Row = Seq<u32>;
 
 // the step that ends at a position is the function
@@ -93,7 +93,7 @@ fn row_of(
     Ok(Row::new(row))
 }
 
-/// The node where the walk stands behind a step.
+/// The node where the walk stands behind a step. (own rule)
 pub fn node_behind(net: &Net, node: u32, step: &Step) -> u32
     requires { IsTrue (is_some (rules.node_after net.now node step.now)) }
     ensures { rules.node_after net.now node step.now ≡ Some result }
@@ -107,7 +107,7 @@ pub fn node_behind(net: &Net, node: u32, step: &Step) -> u32
     }
 }
 
-/// The SIDs of each position, from the start to the end.
+/// The SIDs of each position, from the start to the end. (own rule)
 pub fn rows_of(alloc: Global, net: &Net, intent: &Intent) -> Result<Vec<Row>, NoMemory>
     requires { rules.IsIntent net.now intent.now }
     ensures { IfOk result (λ rows.

@@ -26,7 +26,7 @@ use v6_addr::Prefix;
 use walk_rules::{How, Place, onward_from};
 
 /// The legs of an intent in a network, with the SIDs of each position and the ways from its node to
-/// all SIDs, so that each question is a look-up or two.
+/// all SIDs, so that each question is a look-up or two. (own rule)
 #[derive(Debug, Drop)]
 pub struct StrictLegs<'a> {
     net: &'a Net,
@@ -47,7 +47,7 @@ impl<'a> Model for StrictLegs<'a> {
 }
 
 impl<'a> StrictLegs<'a> {
-    /// The legs of an intent that keeps the rules in a flat network.
+    /// The legs of an intent that keeps the rules in a flat network. (own rule)
     pub fn build(
         alloc: Global,
         net: &'a Net,
@@ -69,7 +69,7 @@ impl<'a> StrictLegs<'a> {
     }
 
     /// That the network and the intent keep their rules, and that the network is flat: a call for
-    /// the callers' proofs alone.
+    /// the callers' proofs alone. (own rule)
     pub fn keeps_rules(&self)
         ensures network { IsNetwork self.now.net }
         ensures facts { Keeps self.now.net }

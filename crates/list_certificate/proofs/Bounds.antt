@@ -16,7 +16,7 @@ use Rattle.list_pack.specs.Costs.{Move, Edge, AtMost, Under, plus, move_cost, be
 use Rattle.list_pack.specs.Least.{state_key, IsBefore, IsLeast, IsListing}
 use Rattle.list_pack.proofs.PublicLaws.{at_most-both, edge-parts, last-parts}
 use Rattle.list_pack.proofs.Costing.{edge-state}
-use Rattle.list_certificate.proofs.Orders.{lex-itself}
+use Rattle.list_pack.proofs.Orders.{lex-itself}
 use Rattle.list_certificate.proofs.Passing.{place-in}
 use Rattle.list_certificate.proofs.States.{state-made}
 use Rattle.list_certificate.proofs.LineWords.{room-few, position-few}

@@ -6,7 +6,7 @@ use Rattle.srv6_rules.specs.declared.sid.Csid.{Csid}
 use Rattle.srv6_rules.specs.declared.sid.SidEntry.{SidEntry}
 use Rattle.net_model.specs.Network.{Network}
 use Rattle.net_model.specs.Rules.{same_prefix}
-use Rattle.list_certificate.specs.Grid.{grid_len, grid_sids, grid_value}
+use Rattle.list_pack.specs.Grid.{grid_len, grid_sids, grid_value}
 use Rattle.list_certificate.specs.Reading.{IsSidOf, IsNetworkOf}
 
 prefix-same : (p q : PrefixValue) → same_prefix p q ≡ true → q ≡ p

@@ -1,4 +1,3 @@
-pub mod Orders
 pub mod Listed
 pub mod Passing
 pub mod Ranges
@@ -15,6 +14,5 @@ pub mod LineWords
 pub mod Readings
 pub mod Bounds
 pub mod PrintedRead
-pub mod GridLaws
 pub mod GridNets
 pub mod PublicLaws

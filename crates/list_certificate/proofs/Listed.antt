@@ -6,12 +6,11 @@ use Rattle.list_pack.specs.declared.types.Cost.{Cost}
 use Rattle.list_pack.specs.declared.types.State.{State}
 use Rattle.list_pack.specs.Order.{lex_before}
 use Rattle.list_pack.specs.Value.{LegsValue}
-use Rattle.list_pack.specs.Costs.{IsState}
 use Rattle.list_pack.specs.Least.{IsBefore, state_key_by}
 use Rattle.list_certificate.specs.declared.types.PotentialLine.{PotentialLine}
 use Rattle.list_certificate.specs.Certs.{same_via, same_state, potential_at}
 use Rattle.list_certificate.specs.Tests.{AreSorted, place_key, place_key_by, IsBehind, Splits}
-use Rattle.list_certificate.proofs.Orders.{lex-itself, lex-not-both, lex-longer, lex-lower, lex-higher}
+use Rattle.list_pack.proofs.Orders.{lex-itself, lex-not-both, lex-longer, lex-lower, lex-higher}
 
 -- what an index past the lines would give
 abbrev pub no_line : PotentialLine
@@ -123,12 +122,6 @@ not-listed [] s h i l e f = none-some l e
 not-listed (x ∷ xs) s h i l e f = not-by x xs s (not-listed xs s) (same_state x.potential.state s) refl h i l e f
 
 -- lines in order
-pub line-state : (v : LegsValue) (lines : List PotentialLine) (i : ℕ) (l : PotentialLine) → AreSorted v lines → slice_get lines i ≡ Some l
-    → IsState v l.potential.state
-line-state v lines i l sorted e =
-    subst (λ (x : PotentialLine). IsState v x.potential.state) (get_or_from_slice_get lines i l l e)
-    (sorted.states i l (slice_get_within lines i l e))
-
 pub line-order : (v : LegsValue) (lines : List PotentialLine) (i j : ℕ) (l m : PotentialLine) → AreSorted v lines
     → slice_get lines i ≡ Some l
     → slice_get lines j ≡ Some m → i < j → IsBefore v l.potential.state m.potential.state

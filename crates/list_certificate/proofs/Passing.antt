@@ -14,7 +14,7 @@ use Rattle.list_pack.specs.Least.{IsGoodAt}
 use Rattle.list_pack.proofs.PublicLaws.{under-none, under-behind, under-last, edge-parts, edge-made, last-parts}
 use Rattle.list_certificate.specs.declared.types.PotentialLine.{PotentialLine}
 use Rattle.list_certificate.specs.Certs.{potential_at}
-use Rattle.list_certificate.specs.Tests.{PassesMove, PassesLast, move_of, Tells, PassLegsTo, PassLegs, PassEnds}
+use Rattle.list_certificate.specs.Tests.{PassesMove, PassesLast, move_of, PassLegsTo, PassLegs, PassEnds}
 
 -- an item by its place
 pub place-in : (xs : List ℕ) (n : ℕ) → Contains xs n → (k : ℕ) × (k < length xs) × (slice_get xs k ≡ Some n)
@@ -59,35 +59,9 @@ module _ (v : LegsValue) (lines : List PotentialLine) (s : State) where
       sym (h ∙ ap (λ (x : Option Shape). room_behind stays x s.room next) e
       ∙ ap (λ (x : Shape). room_behind stays (option_map v.shape s.via) s.room x) f) ∙ k
 
-  pub passes-unlisted : (n : ℕ) (stays : Bool) (room : ℕ) (leg : Leg) → room_of v s (move_of n stays) ≡ Some room
-      → v.leg s.position s.via n ≡ Some leg
-      → potential_at lines (record { position = leg.to; via = Some n; room = room }) ≡ None
-      → PassesMove v lines s (move_of n stays)
-  passes-unlisted n stays room leg e f h = unlisted (move_of n stays) room leg e f h
-
-  pub passes-listed : (n : ℕ) (stays : Bool) (room : ℕ) (leg : Leg) (rest : Cost) (own : Option Cost) (b : Bool)
-      → room_of v s (move_of n stays) ≡ Some room
-      → v.leg s.position s.via n ≡ Some leg
-      → potential_at lines (record { position = leg.to; via = Some n; room = room }) ≡ Some rest
-      → own ≡ potential_at lines s
-      → Tells (Under own (Some (plus (move_cost stays leg.hops) rest))) b → Tells (PassesMove v lines s (move_of n stays)) b
-  passes-listed n stays room leg rest own b e f h o t =
-      subst (λ (x : Option Cost). Tells (Under (potential_at lines s) x) b) (sym (by-room (move_of n stays) room leg e f (Some rest) h))
-      (subst (λ (x : Option Cost). Tells (Under x (Some (plus (move_cost stays leg.hops) rest))) b) o t)
-
   -- a state passes exactly where its moves by legs do and those to the end
   pub good-legs : IsGoodAt v (potential_at lines) s → PassLegs v lines s
   good-legs good m = under-behind v (potential_at lines s) (edge_of v s m) (potential_at lines) (good.edges m)
-
-  pub good-ends : IsGoodAt v (potential_at lines) s → PassEnds v lines s
-  good-ends good m = under-last (potential_at lines s) (last_of v s m) (good.lasts m)
-
-  pub good-both : PassLegs v lines s → PassEnds v lines s → IsGoodAt v (potential_at lines) s
-  good-both legs ends =
-      record {
-        edges = λ m e h. subst (λ (o : Option Edge). Under (potential_at lines s) (behind o (potential_at lines))) h (legs m);
-        lasts = λ m c h. subst (λ (o : Option Cost). Under (potential_at lines s) o) h (ends m);
-      }
 
   -- moves by legs to some of the SIDs of a position
   abbrev pub SomeLegsTo : ℕ → List ℕ → ℕ → Type 0
@@ -124,11 +98,6 @@ module _ (v : LegsValue) (lines : List PotentialLine) (s : State) where
   abbrev pub LegsBelow : ℕ → Type 0
   LegsBelow to = (n : ℕ) (leg : Leg) (stays : Bool) → v.leg s.position s.via n ≡ Some leg → leg.to < to
       → PassesMove v lines s (move_of n stays)
-
-  pub below-none : KeepsLaws v → LegsBelow s.position
-  below-none laws n leg stays e h =
-      let forward = (laws.leg s.position s.via n leg e).forward in
-      absurd (omega (arith, h, forward))
 
   pub below-more : (to : ℕ) → PassLegsTo v lines s to → LegsBelow to → LegsBelow (to + 1)
   below-more to here so n leg stays e h =

@@ -66,9 +66,6 @@ module _ (v : LegsValue) (s : State) (step : PathStep) where
   abbrev pub NoEdgeTo : ℕ → List ℕ → ℕ → Type 0
   NoEdgeTo to sids count = (i n : ℕ) → i < count → slice_get sids i ≡ Some n → IsEdgeBy v s step to n None
 
-  pub no-edge-none : (to : ℕ) (sids : List ℕ) → NoEdgeTo to sids 0
-  no-edge-none to sids i n h = absurd (omega (arith, h))
-
   pub no-edge-more : (to : ℕ) (sids : List ℕ) (count n : ℕ) → slice_get sids count ≡ Some n → IsEdgeBy v s step to n None
       → NoEdgeTo to sids count
       → NoEdgeTo to sids (count + 1)
@@ -103,13 +100,6 @@ module _ (v : LegsValue) (s : State) (step : PathStep) where
       let there : parts.leg.to ≡ e.to.position = ap (λ (x : Edge). x.to.position) parts.is in
       omega (arith, forward, there, h)
 
-  pub below-next : (to : ℕ) → IsEdgeTo v s step to None → NoEdgeBelow to → NoEdgeBelow (to + 1)
-  below-next to here so e along h =
-      elim (cases_lt e.to.position to) as (λ w. ⊥) [
-        | inl less ↦ so e along less
-        | inr more ↦ here e along (omega (arith, h, more))
-      ]
-
   pub below-last : KeepsLaws v → (to : ℕ) → v.steps < to → NoEdgeBelow to → IsEdgeOf v s step None
   below-last laws to h so e along =
       let parts = edge-parts v s along.move e along.edge in
@@ -120,9 +110,6 @@ module _ (v : LegsValue) (s : State) (step : PathStep) where
   -- with none of the first SIDs of the last position the step finishes
   abbrev pub NoLast : List ℕ → ℕ → Type 0
   NoLast sids count = (i n : ℕ) → i < count → slice_get sids i ≡ Some n → IsLastBy v s step n None
-
-  pub no-last-none : (sids : List ℕ) → NoLast sids 0
-  no-last-none sids i n h = absurd (omega (arith, h))
 
   pub no-last-more : (sids : List ℕ) (count n : ℕ) → slice_get sids count ≡ Some n → IsLastBy v s step n None → NoLast sids count
       → NoLast sids (count + 1)
@@ -186,10 +173,6 @@ leads-more : (v : LegsValue) (s t : State) (steps : List PathStep) (step : PathS
 leads-more v s t [] step e h along = (e, subst (λ (x : State). GoesAlong v x step e) (sym h) along, refl)
 leads-more v s t (p ∷ ps) step e h along = (h.0, h.1, leads-more v h.0.to t ps step e h.2 along)
 
-pub run-none : (v : LegsValue) (s : State) → Run v s [] nothing s
-run-none v s =
-    record { moves = []; steps_are = refl; leads = refl; goes_on = λ m more. sym (plus-none (cost_of v s (m ∷ more))) }
-
 pub run-more : (v : LegsValue) (s t : State) (steps : List PathStep) (spent : Cost) (step : PathStep) (e : Edge) → Run v s steps spent t
     → GoesAlong v t step e
     → Run v s (steps ++ step ∷ []) (plus spent e.cost) e.to
@@ -213,11 +196,6 @@ pub record Walking (v : LegsValue) (lines : List PathLine) (k : ℕ) (state : St
   pub is_state : IsState v state
   pub containers : spent.containers ≤ k
   pub hops : spent.hops ≤ 1000 * k
-
-pub walking-none : (v : LegsValue) (lines : List PathLine)
-    → Walking v lines 0 (record { position = 0; via = None; room = 0 }) (record { containers = 0; hops = 0 })
-walking-none v lines =
-    record { run = run-none v start; is_state = (refl, refl); containers = omega arith; hops = omega arith }
 
 steps-one : (lines : List PathLine) (k : ℕ) (l : PathLine) → slice_get lines k ≡ Some l
     → steps_of (take (k + 1) lines) ≡ steps_of (take k lines) ++ l.step ∷ []

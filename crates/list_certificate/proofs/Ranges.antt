@@ -1,18 +1,16 @@
 -- The states in order: by positions, the SIDs of a position, and the rooms of a SID.
-use Rattle.std.proofs.Common.{◌≡◌, ℕ, zero, suc, ◌+◌, ◌<◌, ◌≤◌, inl, inr, Bool, true, false, List, [], ◌∷◌, length, Option, Some, None, slice_get, Contains, refl, sym, ◌∙◌, ap, subst, arith}
+use Rattle.std.proofs.Common.{◌≡◌, ℕ, zero, suc, ◌+◌, ◌<◌, ◌≤◌, inl, inr, true, List, [], ◌∷◌, length, Option, Some, None, slice_get, Contains, refl, sym, ◌∙◌, ap, subst, arith}
 use Rattle.std.specs.Prelude.{IsSome, is_some}
 use Rattle.std.proofs.lemmas.Bool.{cases_lt, false≢true, and_parts}
 use Rattle.std.proofs.lemmas.Option.{none-some, same_Some}
 use Rattle.list_pack.specs.declared.types.State.{State}
 use Rattle.list_pack.specs.Order.{lex_before}
 use Rattle.list_pack.specs.Value.{LegsValue, KeepsLaws, sid_key, sid_before, ascends}
-use Rattle.list_pack.specs.Rooms.{top_room}
 use Rattle.list_pack.specs.Costs.{start, IsState, IsStateBy}
 use Rattle.list_pack.specs.Least.{IsBefore, state_key, state_key_by}
 use Rattle.list_certificate.specs.declared.types.PotentialLine.{PotentialLine}
-use Rattle.list_certificate.specs.Tests.{Fails, PassesUnlisted, FirstFailing, FirstFailure, OfSid, OfPosition, OfAll}
-use Rattle.list_certificate.proofs.Orders.{head-cases, head-less, head-same, lex-behind, lex-longer, lex-not-both, lex-trans}
-use Rattle.list_certificate.proofs.Listed.{nothing-before}
+use Rattle.list_certificate.specs.Tests.{PassesUnlisted, FirstFailing, FirstFailure, OfSid, OfPosition, OfAll}
+use Rattle.list_pack.proofs.Orders.{head-less, head-same, lex-longer, lex-not-both, lex-trans}
 use Rattle.list_certificate.proofs.Passing.{place-in}
 
 -- SIDs in order
@@ -59,25 +57,6 @@ position-after v p o n m r q h k =
     ((v.shape m).prefix.value ∷ (v.shape m).prefix.len ∷ v.node m ∷ q ∷ []) h in
     false≢true (sym (lex-not-both (state_key_by v p (Some n) r) (state_key_by v o (Some m) q) less) ∙ k)
 
-pub room-before : (v : LegsValue) (position n r q : ℕ)
-    → lex_before (state_key_by v position (Some n) r) (state_key_by v position (Some n) q) ≡ true → r < q
-room-before v position n r q h =
-    let value = (v.shape n).prefix.value in
-    let len = (v.shape n).prefix.len in
-    let node = v.node n in
-    let one = lex-behind position (value ∷ len ∷ node ∷ r ∷ []) (value ∷ len ∷ node ∷ q ∷ []) h in
-    let two = lex-behind value (len ∷ node ∷ r ∷ []) (len ∷ node ∷ q ∷ []) one in
-    let three = lex-behind len (node ∷ r ∷ []) (node ∷ q ∷ []) two in
-    let four = lex-behind node (r ∷ []) (q ∷ []) three in
-    last-less four
-  where
-    last-less : lex_before (r ∷ []) (q ∷ []) ≡ true → r < q
-    last-less k =
-        elim (head-cases r q [] [] k) as (λ w. r < q) [
-          | inl less ↦ less
-          | inr same ↦ absurd (false≢true same.1)
-        ]
-
 module _ (v : LegsValue) (lines : List PotentialLine) where
   -- the first rooms of a SID
   abbrev pub RoomsPass : ℕ → ℕ → ℕ → Type 0
@@ -92,9 +71,6 @@ module _ (v : LegsValue) (lines : List PotentialLine) where
   PositionsPass count = (position : ℕ) → position < count → FirstFailure v lines (OfPosition position) None
 
 module _ (v : LegsValue) (laws : KeepsLaws v) (lines : List PotentialLine) where
-  pub rooms-none : (position n : ℕ) → RoomsPass v lines position n 0
-  rooms-none position n t is_t of h = absurd (omega (arith, h))
-
   pub rooms-more : (position n count : ℕ) → PassesUnlisted v lines (record { position = position; via = Some n; room = count })
       → RoomsPass v lines position n count
       → RoomsPass v lines position n (count + 1)
@@ -113,37 +89,8 @@ module _ (v : LegsValue) (laws : KeepsLaws v) (lines : List PotentialLine) where
           ∙ ap (λ (x : Option ℕ). let y : State = record { position = t.position; via = x; room = count } in y) (sym of.1)
           ∙ ap (λ (x : ℕ). let y : State = record { position = t.position; via = t.via; room = x } in y) e
 
-  pub room-found : (position n room : ℕ) → IsState v (record { position = position; via = Some n; room = room })
-      → Fails v lines (record { position = position; via = Some n; room = room }) → RoomsPass v lines position n room
-      → FirstFailing v lines (OfSid position n) (record { position = position; via = Some n; room = room })
-  room-found position n room is fails so =
-      record {
-        is_state = is;
-        among = (refl, refl);
-        fails = fails;
-        first = λ t is_t of before.
-            let moved : lex_before (state_key_by v position (Some n) t.room) (state_key_by v position (Some n) room) ≡ true =
-            ap (λ (o : Option ℕ). lex_before (state_key_by v position o t.room) (state_key_by v position (Some n) room)) (sym of.1)
-            ∙ ap (λ (x : ℕ). lex_before (state_key_by v x t.via t.room) (state_key_by v position (Some n) room)) (sym of.0) ∙ before in
-            so t is_t of (room-before v position n t.room room moved);
-      }
-
   state-of-sid : (t : State) (n : ℕ) → IsState v t → t.via ≡ Some n → IsStateBy v t.position (Some n) t.room
   state-of-sid t n is_t e = subst (λ (o : Option ℕ). IsStateBy v t.position o t.room) e is_t
-
-  pub rooms-all : (position n top count : ℕ) → top ≡ top_room (v.shape n) → top < count → RoomsPass v lines position n count
-      → FirstFailure v lines (OfSid position n) None
-  rooms-all position n top count e h so t is_t of =
-      let is = state-of-sid t n is_t of.1 in
-      so t is_t of (omega (arith, is.3, e, h))
-
-  pub not-middle : (position n : ℕ) (b : Bool) → b ≡ (v.shape n).middle → b ≡ false → FirstFailure v lines (OfSid position n) None
-  not-middle position n b e h t is_t of =
-      let is = state-of-sid t n is_t of.1 in
-      absurd (false≢true (sym h ∙ e ∙ is.2))
-
-  pub sids-none : (position : ℕ) (sids : List ℕ) → SidsPass v lines position sids 0
-  sids-none position sids i n h = absurd (omega (arith, h))
 
   pub sids-more : (position : ℕ) (sids : List ℕ) (count n : ℕ) → slice_get sids count ≡ Some n
       → FirstFailure v lines (OfSid position n) None
@@ -215,27 +162,6 @@ module _ (v : LegsValue) (laws : KeepsLaws v) (lines : List PotentialLine) where
       → FirstFailure v lines (OfPosition position) None
   sids-all position sids count sids_are h so t is_t of = sids-all-by position sids count sids_are h so t is_t of.0 t.via refl of.1
 
-  pub positions-none : PositionsPass v lines 0
-  positions-none position h = absurd (omega (arith, h))
-
-  pub positions-more : (count : ℕ) → FirstFailure v lines (OfPosition count) None → PositionsPass v lines count → PositionsPass v lines (count + 1)
-  positions-more count here so position h =
-      elim (cases_lt position count) as (λ w. FirstFailure v lines (OfPosition position) None) [
-        | inl less ↦ so position less
-        | inr more ↦
-            let same : count ≡ position = omega (arith, h, more) in
-            subst (λ (x : ℕ). FirstFailure v lines (OfPosition x) None) same here
-      ]
-
-  pub start-found : Fails v lines start → FirstFailing v lines OfAll start
-  start-found fails =
-      record {
-        is_state = (refl, refl);
-        among = tt;
-        fails = fails;
-        first = λ t is_t of before. absurd (false≢true (sym (nothing-before (state_key v t)) ∙ before));
-      }
-
   start-is : (t : State) → IsState v t → t.via ≡ None → start ≡ t
   start-is t is_t e =
       let is = subst (λ (o : Option ℕ). IsStateBy v t.position o t.room) e is_t in
@@ -274,15 +200,3 @@ module _ (v : LegsValue) (laws : KeepsLaws v) (lines : List PotentialLine) where
         fails = found.fails;
         first = λ t is_t of before. position-found-by count s begin found so t is_t t.via s.via refl refl found.among.1 before;
       }
-
-  positions-all-by : (count : ℕ) → v.steps < count → PassesUnlisted v lines start → PositionsPass v lines count → (t : State) → IsState v t
-      → (o : Option ℕ) → t.via ≡ o
-      → PassesUnlisted v lines t
-  positions-all-by count h begin so t is_t None f = subst (PassesUnlisted v lines) (start-is t is_t f) begin
-  positions-all-by count h begin so t is_t (Some k) f =
-      let is = state-of-sid t k is_t f in
-      so t.position (omega (arith, is.0, h)) t is_t (refl, ap is_some f)
-
-  pub positions-all : (count : ℕ) → v.steps < count → PassesUnlisted v lines start → PositionsPass v lines count
-      → FirstFailure v lines OfAll None
-  positions-all count h begin so t is_t of = positions-all-by count h begin so t is_t t.via refl

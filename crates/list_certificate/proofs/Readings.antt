@@ -22,7 +22,7 @@ use Rattle.list_certificate.specs.declared.draft.Stage.{Stage}
 use Rattle.list_certificate.specs.declared.draft.Stage.TheVariants as stages
 use Rattle.list_certificate.specs.Certs.{IsWritten, IsCert}
 use Rattle.list_certificate.specs.Reading.{Cut, cut_by, cut_at, Read, nothing_read, is_behind, is_next, with_potential, with_step, before_head, after_head, in_path, before_end, with_line_at, with_line, item_in, cert_of, ended_by, ended, go_on, reads, IsItem, AreStates, Gives}
-use Rattle.list_certificate.proofs.Orders.{lex-trans}
+use Rattle.list_pack.proofs.Orders.{lex-trans}
 
 -- ---- what was read so far
 

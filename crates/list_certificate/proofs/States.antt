@@ -7,7 +7,7 @@ use Rattle.list_pack.specs.Order.{lex_before}
 use Rattle.list_pack.specs.Value.{LegsValue, KeepsLaws, sid_before, sid_key, ascends}
 use Rattle.list_pack.specs.Costs.{IsState, IsStateBy}
 use Rattle.list_pack.specs.Least.{state_key, state_key_by}
-use Rattle.list_certificate.proofs.Orders.{lex-itself, lex-trans, lex-same}
+use Rattle.list_pack.proofs.Orders.{lex-itself, lex-trans, lex-same}
 use Rattle.list_certificate.proofs.Passing.{place-in}
 
 -- a SID of a position is before those that are listed behind it

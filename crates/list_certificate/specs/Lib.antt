@@ -4,4 +4,3 @@ pub mod Tests
 pub mod Laws
 pub mod Spelling
 pub mod Reading
-pub mod Grid

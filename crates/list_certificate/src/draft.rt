@@ -13,7 +13,7 @@ use list_pack::{Legs, PathStep, Potential, State};
 use net_model::Net;
 use std::alloc::Global;
 
-/// What the next line may be.
+/// What the next line may be. (own rule)
 #[derive(Clone, Copy, Debug, PartialEq, Eq)]
 pub enum Stage {
     /// A comment or the head.
@@ -28,7 +28,7 @@ pub enum Stage {
     AtEnd,
 }
 
-/// What was read so far.
+/// What was read so far. (own rule)
 #[derive(Debug, Drop)]
 pub struct Draft {
     /// What the next line may be.
@@ -46,7 +46,7 @@ pub struct Draft {
 }
 
 impl Draft {
-    /// Nothing read.
+    /// Nothing read. (own rule)
     pub fn new(alloc: Global) -> Draft
         ensures { reading.read_value result ≡ reading.nothing_read }
     {
@@ -226,7 +226,7 @@ fn after_head<L: Legs>(
     }
 }
 
-/// What was read with a line more; none where that may not stand there.
+/// What was read with a line more; none where that may not stand there. (own rule)
 #[tactic(auto, unfolding(crate::specs::Reading::with_line))]
 pub fn with_line<L: Legs>(
     net: &Net,

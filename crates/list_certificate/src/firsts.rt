@@ -34,7 +34,7 @@ fn spot_of<L: Legs>(legs: &L, lines: &[PotentialLine], state: State) -> Spot
     }
 }
 
-/// The first line whose state does not pass, by its number.
+/// The first line whose state does not pass, by its number. (own rule)
 pub fn first_bad_line<L: Legs>(legs: &L, lines: &[PotentialLine]) -> Option<u32>
     requires { tests.AreSorted (L.seen legs.now) lines.now }
     ensures { tests.BadLine (L.seen legs.now) lines.now result }
@@ -102,7 +102,7 @@ fn first_of_position<L: Legs>(legs: &L, lines: &[PotentialLine], position: u32) 
     None
 }
 
-/// The first failing state: of those that are not listed the first that does not pass.
+/// The first failing state: of those that are not listed the first that does not pass. (own rule)
 pub fn first_failing<L: Legs>(legs: &L, lines: &[PotentialLine]) -> Option<State>
     requires { tests.AreSorted (L.seen legs.now) lines.now }
     ensures { tests.FirstFailure (L.seen legs.now) lines.now tests.OfAll result }

@@ -10,7 +10,7 @@ use crate::search::potential_at;
 use crate::types::PotentialLine;
 use list_pack::{Cost, Leg, Legs, Shape, State, is_below, move_cost, room_behind};
 
-/// A state with its SID's shape and its potential.
+/// A state with its SID's shape and its potential. (own rule)
 #[derive(Debug, Drop)]
 pub struct Spot {
     /// The state.
@@ -155,7 +155,7 @@ fn passes_ends<L: Legs>(legs: &L, lines: &[PotentialLine], spot: &Spot) -> bool
 }
 
 /// Whether a state passes: along each edge to a listed state, and along each to the end, its
-/// potential is there and falls by at most the cost.
+/// potential is there and falls by at most the cost. (own rule)
 pub fn passes<L: Legs>(legs: &L, lines: &[PotentialLine], spot: &Spot) -> bool
     requires sorted { tests.AreSorted (L.seen legs.now) lines.now }
     requires spot { tests.IsSpot (L.seen legs.now) lines.now spot.now }

@@ -13,7 +13,7 @@ use list_pack::{Legs, PathStep, Potential, State, top_room};
 use net_model::Net;
 use v6_addr::{Prefix, parse_prefix};
 
-/// A line of a certificate.
+/// A line of a certificate. (own rule)
 #[derive(Clone, Copy, Debug)]
 pub enum Item {
     /// It begins with `#`.
@@ -240,7 +240,7 @@ fn is_comment(line: &[u8]) -> bool
     }
 }
 
-/// What a line says.
+/// What a line says. (own rule)
 #[tactic(auto, unfolding(crate::specs::Reading::item_in))]
 pub fn item_of<L: Legs>(net: &Net, legs: &L, line: &[u8]) -> Item
     requires { reading.IsNetworkOf net.now (L.seen legs.now) }

@@ -9,7 +9,7 @@ use crate::types::PathLine;
 use list_pack::{Cost, Legs, PathStep, Shape, State, move_cost, room_behind};
 use v6_addr::Prefix;
 
-/// Where an edge leads, and what it costs.
+/// Where an edge leads, and what it costs. (own rule)
 #[derive(Clone, Copy, Debug, PartialEq, Eq)]
 pub struct Reached {
     /// The state at its end.
@@ -18,7 +18,7 @@ pub struct Reached {
     pub cost: Cost,
 }
 
-/// What the lines of a path cost together, as whole numbers.
+/// What the lines of a path cost together, as whole numbers. (own rule)
 #[derive(Clone, Copy, Debug, PartialEq, Eq)]
 pub struct Spent {
     /// How many containers.
@@ -159,7 +159,7 @@ fn add(spent: Spent, cost: Cost) -> Spent
 }
 
 /// What the lines of a path from the start cost; or the number of the first line that goes along no
-/// edge, or finishes where it is not the last, or does not where it is.
+/// edge, or finishes where it is not the last, or does not where it is. (own rule)
 pub fn walked<L: Legs>(legs: &L, lines: &[PathLine]) -> Result<Spent, u32>
     requires { 0 < length lines.now }
     ensures { tests.IsWalked (L.seen legs.now) lines.now result }

@@ -9,7 +9,7 @@ ghost use Rattle.list_certificate.specs.Tests.{AreSorted, place_key, key_of, Spl
 use crate::types::PotentialLine;
 use list_pack::{Cost, Legs, State};
 
-/// What the order of states goes by first: the position and the prefix of the SID.
+/// What the order of states goes by first: the position and the prefix of the SID. (own rule)
 #[derive(Clone, Copy, Debug)]
 pub struct Place {
     /// How many steps of the intent are done.
@@ -94,7 +94,7 @@ fn is_same(a: State, b: State) -> bool
     a.position == b.position && (is_same_via(a.via, b.via) && a.room == b.room)
 }
 
-/// The potential of a state by the line that lists it; none where it is not listed.
+/// The potential of a state by the line that lists it; none where it is not listed. (own rule)
 pub fn potential_at<L: Legs>(legs: &L, lines: &[PotentialLine], state: State) -> Option<Cost>
     requires sorted { AreSorted (L.seen legs.now) lines.now }
     requires state { IsState (L.seen legs.now) state }

@@ -1,7 +1,7 @@
 //! Certificates over small legs: three SIDs in each of up to three rows; and the text of one.
 
 ghost use Rattle.std.specs.Prelude.{◌≡◌, ◌*◌, ◌^◌, ◌≤◌, ◌<◌, IsTrue};
-ghost use Rattle.list_certificate.specs.Grid.{grid_len, grid_middle, is_grid_via, is_grid_end, grid_value};
+ghost use Rattle.list_pack.specs.Grid.{grid_len, grid_middle, is_grid_via, is_grid_end, grid_value};
 ghost use Rattle.list_certificate.specs.Reading.{IsNetworkOf};
 
 use crate::spelling::is_same_prefix;
@@ -64,7 +64,7 @@ fn is_end(steps: u32, position: u32, via: Option<u32>) -> bool
 }
 
 impl Legs for Grid {
-    ghost use Rattle.list_certificate.specs.Grid.{grid_value};
+    ghost use Rattle.list_pack.specs.Grid.{grid_value};
 
     ghost seen = { λ s. grid_value s.csid s.steps s.is_open };
 

@@ -76,7 +76,7 @@ pub enum Verdict {
     },
 }
 
-/// Why a text gives no certificate.
+/// Why a text gives no certificate. (own rule)
 #[derive(Clone, Copy, Debug, PartialEq, Eq, Error)]
 pub enum CertFault {
     /// A line is outside the grammar or names no state. (own rule)

@@ -6,7 +6,7 @@ ghost use Rattle.list_certificate.specs.Reading.{Cut, cut_at, number_in, digit_a
 
 use list_pack::Cost;
 
-/// A position, a SID, a room and a cost, as the words of a line say them.
+/// A position, a SID, a room and a cost, as the words of a line say them. (own rule)
 #[derive(Clone, Copy, Debug)]
 pub struct Row<'a> {
     /// How many steps of the intent are done.
@@ -19,7 +19,7 @@ pub struct Row<'a> {
     pub cost: Cost,
 }
 
-/// What stands before a mark in a text, and behind it.
+/// What stands before a mark in a text, and behind it. (own rule)
 #[derive(Clone, Copy, Debug)]
 pub struct Parts<'a> {
     /// What stands before it.
@@ -36,6 +36,7 @@ fn find(text: &[u8], mark: u8) -> Option<usize>
 }
 
 /// The parts of a text before the first of a mark and behind it; none where the mark isn't there.
+/// (own rule)
 #[tactic(auto, unfolding(crate::specs::Reading::cut_at))]
 pub fn cut(text: &[u8], mark: u8) -> Option<Parts<'_>>
     ensures value { option_map cut_value result ≡ cut_at mark text.now }
@@ -77,7 +78,7 @@ fn digits(word: &[u8]) -> Option<u32>
     Some(value)
 }
 
-/// The number of 32 bits that a word is, in decimal digits without leading zeros.
+/// The number of 32 bits that a word is, in decimal digits without leading zeros. (own rule)
 #[tactic(auto, unfolding(crate::specs::Reading::number_in))]
 pub fn number(word: &[u8]) -> Option<u32>
     ensures { result ≡ number_in word.now }
@@ -88,7 +89,7 @@ pub fn number(word: &[u8]) -> Option<u32>
     digits(word)
 }
 
-/// The five words of a line, parted by single spaces.
+/// The five words of a line, parted by single spaces. (own rule)
 #[tactic(auto, unfolding(crate::specs::Reading::row_in))]
 pub fn row_of(text: &[u8]) -> Option<Row<'_>>
     ensures { option_map row_value result ≡ row_in text.now }

@@ -12,7 +12,7 @@ use Rattle.list_encoder.specs.declared.cells.Cell.{Cell}
 use Rattle.list_pack.specs.Rooms.{top_room}
 use Rattle.list_encoder.specs.Cells.{cell_at, start_cell, state_at, IsCell, IsCellBy, AreCells, IsFirst, top_at, top_at_by}
 use Rattle.list_encoder.proofs.Rooms.{top-seven}
-use Rattle.list_encoder.proofs.Orders.{head-cases, head-less, head-same, lex-trans, lex-longer}
+use Rattle.list_pack.proofs.Orders.{head-cases, head-less, head-same, lex-trans, lex-longer}
 
 -- between an element and its place
 pub place_of : {X : Type 0} (xs : List X) (x : X) → Contains xs x → (k : ℕ) × (slice_get xs k ≡ Some x)
@@ -81,29 +81,6 @@ pub record AreCellsBefore (v : LegsValue) (position : ℕ) (cells : List Cell) :
       → IsBefore v (state_at a p) (state_at b q)
   pub few : length cells ≤ 1 + 128 * position
 
-pub cells-none : (v : LegsValue) → AreCellsBefore v 0 (start_cell ∷ [])
-cells-none v =
-    record {
-      begins = refl;
-      each = λ p n h c. absurd (omega (arith, h));
-      real = λ k cell e. real k cell e;
-      earlier = λ k n cell e f. earlier k n cell e f;
-      order = λ i j a b p q h e f. absurd (alone j b f (omega arith));
-      few = omega arith;
-    }
-  where
-    alone : (j : ℕ) (b : Cell) → slice_get (start_cell ∷ []) j ≡ Some b → 0 < j → ⊥
-    alone zero b f h = absurd (omega arith)
-    alone (suc j) b f h = none-some b f
-
-    real : (k : ℕ) (cell : Cell) → slice_get (start_cell ∷ []) k ≡ Some cell → IsCell v cell
-    real zero cell e = subst (λ (c : Cell). IsCell v c) (some-same start_cell cell e) refl
-    real (suc k) cell e = absurd (none-some cell e)
-
-    earlier : (k n : ℕ) (cell : Cell) → slice_get (start_cell ∷ []) k ≡ Some cell → cell.via ≡ Some n → cell.position < 0
-    earlier zero n cell e f = absurd (none-some n (ap (λ (c : Cell). c.via) (some-same start_cell cell e) ∙ f))
-    earlier (suc k) n cell e f = absurd (none-some cell e)
-
 -- a cell of one more position
 mapped-at : (v : LegsValue) (position k : ℕ) (cell : Cell) → slice_get (map (cell_at position) (v.sids_at position)) k ≡ Some cell
     → (n : ℕ) × (slice_get (v.sids_at position) k ≡ Some n) × (cell_at position n ≡ cell)
@@ -130,9 +107,6 @@ before-within v position n m p q h =
     head-same position position ((v.shape n).prefix.value ∷ (v.shape n).prefix.len ∷ v.node n ∷ p ∷ [])
     ((v.shape m).prefix.value ∷ (v.shape m).prefix.len ∷ v.node m ∷ q ∷ []) refl
     (lex-longer (sid_key v n) (sid_key v m) (p ∷ []) (q ∷ []) refl h)
-
-more-cells : LegsValue → ℕ → List Cell
-more-cells v position = map (cell_at position) (v.sids_at position)
 
 module _ (v : LegsValue) (laws : KeepsLaws v) (position : ℕ) (cells : List Cell) (within : position ≤ v.steps)
     (are : AreCellsBefore v position cells) where
@@ -232,18 +206,6 @@ pub cells-turn : (v : LegsValue) → KeepsLaws v → (position steps : ℕ) (sid
 cells-turn v laws position steps sids cells after e h s a are =
     subst (λ (xs : List Cell). AreCellsBefore v (position + 1) xs)
     (ap (λ (ys : List ℕ). cells ++ map (cell_at position) ys) (sym s) ∙ sym a) (cells-more v laws position cells (omega (arith, e, h)) are)
-
-pub cells-all : (v : LegsValue) → KeepsLaws v → (position steps : ℕ) (cells : List Cell) → steps ≡ v.steps → steps + 1 ≤ position
-    → AreCellsBefore v position cells → position ≤ steps + 1 → AreCells v cells
-cells-all v laws position steps cells e h are l =
-    let steps_few = laws.steps in
-    record {
-      begins = are.begins;
-      each = λ p n w c. are.each p n (omega (arith, e, h, w)) c;
-      real = are.real;
-      order = are.order;
-      few = omega (arith, are.few, steps_few, e, l);
-    }
 
 -- positions never fall along the cells
 positions-by : (v : LegsValue) (a b : Cell) (p q : ℕ) (via then : Option ℕ) → IsCellBy v a.position via

@@ -6,7 +6,7 @@ use Rattle.list_pack.specs.declared.types.State.{State}
 use Rattle.list_pack.specs.Value.{LegsValue, KeepsLaws}
 use Rattle.list_pack.specs.Costs.{Move, Edge, plus, nothing, move_cost, edge_of, last_of, cost_of, Under}
 use Rattle.list_pack.specs.Least.{Attains}
-use Rattle.list_pack.proofs.PublicLaws.{under-none, under-trans, under-plus, edge-parts, last-parts, EdgeParts, LastParts, under-behind, under-last}
+use Rattle.list_pack.proofs.PublicLaws.{under-none, under-trans, under-plus, edge-parts, last-parts, EdgeParts, under-behind, under-last}
 use Rattle.list_encoder.specs.declared.cells.Cell.{Cell}
 use Rattle.list_encoder.specs.declared.table.Link.{Link}
 use Rattle.list_encoder.specs.Cells.{cell_at, state_at, AreCells}
@@ -17,13 +17,6 @@ use Rattle.list_encoder.proofs.Tables.{link-shape, plus-nothing}
 use Rattle.list_encoder.proofs.Settling.{Tabled, tabled-all}
 
 module _ (v : LegsValue) (laws : KeepsLaws v) (cells : List Cell) (are : AreCells v cells) where
-  -- a last move is a link to the end
-  last-link : (k room : ℕ) (cell : Cell) (m : Move) (c : Cost) → slice_get cells k ≡ Some cell → LastParts v (state_at cell room) m c
-      → (link : Link) × IsLink v cells link × (link.from ≡ k) × (link.to ≡ None) × (link.sid ≡ m.sid) × (move_cost m.stays link.hops ≡ c)
-  last-link k room cell m c here parts =
-      let link : Link = record { from = k; to = None; sid = m.sid; hops = parts.hops } in
-      (link, record { cell = cell; from = here; leads = parts.finish_is }, refl, refl, refl, parts.is)
-
   -- an edge is a link to the cell of the state that it leads to
   pub edge-link : (k room : ℕ) (cell : Cell) (m : Move) (e : Edge) → slice_get cells k ≡ Some cell
       → (parts : EdgeParts v (state_at cell room) m e)

@@ -1,4 +1,3 @@
-pub mod Orders
 pub mod Celling
 pub mod Rooms
 pub mod Tables
@@ -10,4 +9,3 @@ pub mod Heading
 pub mod Pathing
 pub mod Walking
 pub mod Listings
-pub mod GridLaws

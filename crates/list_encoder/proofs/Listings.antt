@@ -17,17 +17,9 @@ use Rattle.list_encoder.specs.Cells.{cell_at, start_cell, state_at, IsCellBy, Ar
 use Rattle.list_encoder.specs.Table.{Costs, entry, AreLeast, HasFewContainers}
 use Rattle.list_encoder.specs.declared.table.TheConstants.{MOST_CONTAINERS}
 use Rattle.list_encoder.specs.Listing.{IsOfPlace, IsListed, IsTop, ListsFewContainers}
-use Rattle.list_encoder.proofs.Orders.{head-same, head-less}
+use Rattle.list_pack.proofs.Orders.{head-same, head-less}
 use Rattle.list_encoder.proofs.Celling.{some-same, place_of, top-at-few}
 use Rattle.list_encoder.proofs.Heading.{edge-some}
-
-pub listed-none : (v : LegsValue) (cells : List Cell) (t : Costs) → IsListed v cells t 0 []
-listed-none v cells t =
-    record {
-      all = λ k room cell c at top h e. absurd (omega (arith, h));
-      only = λ q c. absurd (omega (arith, c.1));
-      order = λ i j d h l. absurd (omega (arith, l));
-    }
 
 -- a place beyond which nothing more is listed
 pub listed-further : (v : LegsValue) (cells : List Cell) (t : Costs) (n m : ℕ) (ps : List Potential) → n ≤ m

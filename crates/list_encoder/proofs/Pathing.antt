@@ -20,14 +20,10 @@ use Rattle.list_encoder.specs.declared.picks.Spot.{Spot}
 use Rattle.list_encoder.specs.Cells.{cell_at, state_at, AreCells}
 use Rattle.list_encoder.specs.Table.{Costs, rest_at, LeadsTo, IsLink, AreLeast}
 use Rattle.list_encoder.specs.Picks.{IsSpot, IsTight, IsPick, Covers, link_step}
-use Rattle.list_encoder.proofs.Orders.{lex-itself, lex-not-both, lex-same, lex-longer, lex-after}
+use Rattle.list_pack.proofs.Orders.{lex-itself, lex-not-both, lex-same, lex-longer, lex-after}
 use Rattle.list_encoder.proofs.Celling.{some-same}
 use Rattle.list_encoder.proofs.Tables.{plus-nothing}
 use Rattle.list_encoder.proofs.Heading.{Behind, head-of}
-
--- the first three numbers of a path's key
-step_key : PathStep → List ℕ
-step_key p = p.prefix.value ∷ p.prefix.len ∷ cond p.stays 0 1 ∷ []
 
 turn-same : (a b : Bool) → cond {A = ℕ} a 0 1 ≡ cond b 0 1 → a ≡ b
 turn-same true true e = refl

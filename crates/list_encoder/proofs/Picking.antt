@@ -1,24 +1,22 @@
 -- The better of two picks covers what either covers.
-use Rattle.std.proofs.Common.{◌≡◌, ℕ, ◌+◌, ◌*◌, ◌<◌, ◌≤◌, inl, inr, Bool, true, false, ◌==◌, List, [], ◌∷◌, length, Option, Some, None, slice_get, refl, sym, ◌∙◌, ap, subst, arith, eqb-true}
+use Rattle.std.proofs.Common.{◌≡◌, ℕ, ◌+◌, ◌*◌, ◌<◌, ◌≤◌, inl, inr, Bool, true, false, List, [], ◌∷◌, length, Option, Some, None, slice_get, refl, sym, ◌∙◌, ap, subst, arith}
 use Rattle.std.specs.Prelude.{cond}
 use Rattle.std.specs.Option.{option_map}
-use Rattle.std.proofs.lemmas.Bool.{false≢true, cases_lt, and_parts, and_from, eq-eqb, false_from_ne_true}
+use Rattle.std.proofs.lemmas.Bool.{false≢true, cases_lt, false_from_ne_true}
 use Rattle.std.proofs.lemmas.Option.{none-some, slice_get_within}
-use Rattle.list_pack.specs.declared.types.Cost.{Cost}
 use Rattle.list_pack.specs.declared.types.Shape.{Shape}
 use Rattle.list_pack.specs.declared.types.PathStep.{PathStep}
 use Rattle.list_pack.specs.Value.{LegsValue, KeepsLaws}
 use Rattle.list_pack.specs.Rooms.{room_behind}
-use Rattle.list_pack.specs.Costs.{plus, move_cost}
 use Rattle.list_pack.specs.Least.{path_before, path_key}
 use Rattle.list_encoder.specs.declared.cells.Cell.{Cell}
 use Rattle.list_encoder.specs.declared.table.Link.{Link}
 use Rattle.list_encoder.specs.declared.picks.Pick.{Pick}
 use Rattle.list_encoder.specs.declared.picks.Spot.{Spot}
 use Rattle.list_encoder.specs.Cells.{cell_at}
-use Rattle.list_encoder.specs.Table.{Costs, rest_at, IsLink, AreInRange}
-use Rattle.list_encoder.specs.Picks.{better_of, is_sum, IsSpot, IsTight, IsPick, IsPickOrNone, Covers, link_step, CoversMoves, CoversLink, PicksMoves, PicksLink, PicksEnds, PicksLegs, PicksFirst}
-use Rattle.list_encoder.proofs.Orders.{lex-weak, lex-not-both, lex-itself}
+use Rattle.list_encoder.specs.Table.{Costs, IsLink, AreInRange}
+use Rattle.list_encoder.specs.Picks.{better_of, IsSpot, IsPick, IsPickOrNone, Covers, link_step, CoversMoves, CoversLink, PicksMoves, PicksLink, PicksEnds, PicksLegs, PicksFirst}
+use Rattle.list_pack.proofs.Orders.{lex-weak, lex-not-both}
 use Rattle.list_encoder.proofs.Celling.{some-same}
 use Rattle.list_encoder.proofs.Rooms.{behind-few}
 use Rattle.list_encoder.proofs.Tables.{to-range, link-shape}
@@ -62,21 +60,6 @@ found-both v cells t spot None b h k = k
 found-both v cells t spot (Some p) None h k = h
 found-both v cells t spot (Some p) (Some q) h k = either-pick v cells t spot p q (path_before (q.step ∷ []) (p.step ∷ [])) h k
 
--- sums of costs
-pub sum-is : (a b c : Cost) → is_sum a b c ≡ true → plus a b ≡ c
-sum-is a b c h =
-    let parts = and_parts (a.containers + b.containers == c.containers) (a.hops + b.hops == c.hops) h in
-    let e : a.containers + b.containers ≡ c.containers = eqb-true (a.containers + b.containers) c.containers parts.0 in
-    let f : a.hops + b.hops ≡ c.hops = eqb-true (a.hops + b.hops) c.hops parts.1 in
-    let step : (x : ℕ) → Cost = λ x. record { containers = x; hops = a.hops + b.hops } in
-    ap step e ∙ ap (λ (y : ℕ). record { containers = c.containers; hops = y }) f
-
-pub is-sum : (a b c : Cost) → plus a b ≡ c → is_sum a b c ≡ true
-is-sum a b c e =
-    and_from (a.containers + b.containers == c.containers) (a.hops + b.hops == c.hops)
-    (eq-eqb (a.containers + b.containers) c.containers (ap (λ (x : Cost). x.containers) e))
-    (eq-eqb (a.hops + b.hops) c.hops (ap (λ (x : Cost). x.hops) e))
-
 -- one move
 module _ (v : LegsValue) (laws : KeepsLaws v) (cells : List Cell) (t : Costs) (spot : Spot) (link : Link) (stays : Bool)
     (is : IsLink v cells link)
@@ -85,53 +68,6 @@ module _ (v : LegsValue) (laws : KeepsLaws v) (cells : List Cell) (t : Costs) (s
       → PicksMoves v cells t spot link stays None
   no-room o e f =
       record { found = tt; covers = λ left rest tight. none-some left (sym e ∙ f ∙ tight.room_is) }
-
-  pub no-rest : (left : ℕ) → room_behind stays (option_map v.shape spot.cell.via) spot.room (v.shape link.sid) ≡ Some left
-      → rest_at t link.to left ≡ None
-      → PicksMoves v cells t spot link stays None
-  no-rest left e f =
-      record {
-        found = tt;
-        covers = λ other rest tight.
-            let same : left ≡ other = some-same left other (sym e ∙ tight.room_is) in
-            none-some rest (sym f ∙ ap (λ (n : ℕ). rest_at t link.to n) same ∙ tight.rest_is);
-      }
-
-  pub no-sum : (left : ℕ) (rest : Cost) → room_behind stays (option_map v.shape spot.cell.via) spot.room (v.shape link.sid) ≡ Some left
-      → rest_at t link.to left ≡ Some rest → is_sum (move_cost stays link.hops) rest spot.cost ≡ false
-      → PicksMoves v cells t spot link stays None
-  no-sum left rest e f h =
-      record {
-        found = tt;
-        covers = λ other more tight.
-            let same : left ≡ other = some-same left other (sym e ∙ tight.room_is) in
-            let also : rest ≡ more = some-same rest more (sym f ∙ ap (λ (n : ℕ). rest_at t link.to n) same ∙ tight.rest_is) in
-            let sum : plus (move_cost stays link.hops) rest ≡ spot.cost = ap (plus (move_cost stays link.hops)) also ∙ tight.cost_is in
-            false≢true (sym h ∙ is-sum (move_cost stays link.hops) rest spot.cost sum);
-      }
-
-  pub one-pick : (pick : Pick) → pick.step ≡ link_step v link stays → pick.to ≡ link.to
-      → room_behind stays (option_map v.shape spot.cell.via) spot.room (v.shape link.sid) ≡ Some pick.room
-      → rest_at t link.to pick.room ≡ Some pick.rest
-      → is_sum (move_cost stays link.hops) pick.rest spot.cost ≡ true → PicksMoves v cells t spot link stays (Some pick)
-  one-pick pick step to e f h =
-      let tight : IsTight v t spot link stays pick.room pick.rest =
-      record { room_is = e; rest_is = f; cost_is = sum-is (move_cost stays link.hops) pick.rest spot.cost h } in
-      let stay : stays ≡ pick.step.stays = sym (ap (λ (s : PathStep). s.stays) step) in
-      record {
-        found =
-            record {
-              link = link;
-              from = from;
-              is_link = is;
-              tight = subst (λ (b : Bool). IsTight v t spot link b pick.room pick.rest) stay tight;
-              prefix_is = ap (λ (s : PathStep). s.prefix) step;
-              to_is = to;
-            };
-        covers = λ other more its.
-            subst (λ (s : PathStep). path_before (link_step v link stays ∷ []) (s ∷ []) ≡ false) (sym step)
-            (lex-itself (path_key (link_step v link stays ∷ [])));
-      }
 
 pub pick-range : (v : LegsValue) → KeepsLaws v → (cells : List Cell) (t : Costs) (spot : Spot) (link : Link) (stays : Bool) (left : ℕ)
     → IsLink v cells link
@@ -178,9 +114,6 @@ pub record EndsPicked (v : LegsValue) (cells : List Cell) (t : Costs) (spot : Sp
   pub covers : (link : Link) (i : ℕ) → link.from ≡ spot.place → link.to ≡ None → IsLink v cells link → i < count
       → slice_get sids i ≡ Some link.sid
       → CoversLink v t spot best link
-
-pub ends-begin : (v : LegsValue) (cells : List Cell) (t : Costs) (spot : Spot) (sids : List ℕ) → EndsPicked v cells t spot sids 0 None
-ends-begin v cells t spot sids = record { found = tt; covers = λ link i from to is h e. absurd (omega (arith, h)) }
 
 pub ends-pass : (v : LegsValue) (cells : List Cell) (t : Costs) (spot : Spot) (sids : List ℕ) (count sid : ℕ) (best : Option Pick)
     → IsSpot cells t spot
@@ -238,9 +171,6 @@ pub record LegsPicked (v : LegsValue) (cells : List Cell) (t : Costs) (spot : Sp
   pub found : IsPickOrNone v cells t spot best
   pub covers : (link : Link) (to : ℕ) → link.from ≡ spot.place → link.to ≡ Some to → IsLink v cells link → to < count
       → CoversLink v t spot best link
-
-pub legs-begin : (v : LegsValue) (cells : List Cell) (t : Costs) (spot : Spot) → LegsPicked v cells t spot 0 None
-legs-begin v cells t spot = record { found = tt; covers = λ link to from e is h. absurd (omega (arith, h)) }
 
 pub legs-pass : (v : LegsValue) (cells : List Cell) (t : Costs) (spot : Spot) (count : ℕ) (best : Option Pick)
     → ((link : Link) → link.from ≡ spot.place → link.to ≡ Some count → ¬ IsLink v cells link) → LegsPicked v cells t spot count best

@@ -17,7 +17,7 @@ use Rattle.list_pack.proofs.PublicLaws.{under-itself, under-trans, under-plus}
 use Rattle.list_encoder.specs.declared.cells.Cell.{Cell}
 use Rattle.list_encoder.specs.declared.table.Link.{Link}
 use Rattle.list_encoder.specs.Cells.{cell_at}
-use Rattle.list_encoder.specs.Table.{Costs, at, entry, rest_at, offer, LeadsTo, IsLink, IsSound, Passed, LinkHolds, Holds, RoomHolds, RoomRelaxed, RoomsRelaxed, Relaxed, LeavesRoom, IsShapeOf, EndsHold, EndsRelaxed, LegsHold, Keeps, LegsRelaxed, AreLinks, Gathers}
+use Rattle.list_encoder.specs.Table.{Costs, at, entry, rest_at, offer, LeadsTo, IsLink, IsSound, Passed, LinkHolds, Holds, RoomHolds, RoomRelaxed, RoomsRelaxed, Relaxed, LeavesRoom, IsShapeOf, EndsHold, EndsRelaxed, LegsHold, Keeps, LegsRelaxed, AreLinks}
 use Rattle.list_encoder.proofs.Celling.{some-same, place_of}
 use Rattle.list_encoder.proofs.Tables.{kept-passed, passed-then}
 
@@ -369,18 +369,6 @@ module _ (v : LegsValue) (cells : List Cell) (k first later end : ℕ) (t0 t : C
         are = so.are;
       }
 
-pub legs-all : (v : LegsValue) (cells : List Cell) (k first later end : ℕ) (t0 t : Costs) (listed links : List Link) (changed : Bool)
-    → length cells ≤ end
-    → LegsSoFar v cells k first later end t0 t listed links changed → LegsRelaxed v cells k first later t0 t listed links changed
-legs-all v cells k first later end t0 t listed links changed h so =
-    record {
-      sound = so.sound;
-      passed = so.passed;
-      holds = λ link to f e g l is. so.holds link to f e g (omega (arith, h, l)) is;
-      keeps = so.keeps;
-      are = so.are;
-    }
-
 -- the first cells of a position
 pub record GatheredSoFar (v : LegsValue) (cells : List Cell) (first later k : ℕ) (before after : Costs) (links : List Link) : Type 0 where
   pub sound : IsSound v cells after
@@ -389,18 +377,6 @@ pub record GatheredSoFar (v : LegsValue) (cells : List Cell) (first later k : �
   pub ends : (j : ℕ) → first ≤ j → j < k → EndsHold v cells j after
   pub legs : (j : ℕ) → first ≤ j → j < k → LegsHold v cells j first later (length cells) after links
   pub are : AreLinks v cells later links
-
-pub gathered-none : (v : LegsValue) (cells : List Cell) (first later : ℕ) (t : Costs) → IsSound v cells t
-    → GatheredSoFar v cells first later first t t []
-gathered-none v cells first later t sound =
-    record {
-      sound = sound;
-      falls = λ i. under-itself (at t i);
-      above = λ i h. refl;
-      ends = λ j h l. absurd (omega (arith, h, l));
-      legs = λ j h l. absurd (omega (arith, h, l));
-      are = λ link c. absurd (omega (arith, c.1));
-    }
 
 module _ (v : LegsValue) (cells : List Cell) (first later k : ℕ) (t0 t t1 t2 : Costs) (links more : List Link) (x y : Bool)
     (within : k < later)
@@ -434,18 +410,6 @@ module _ (v : LegsValue) (cells : List Cell) (first later k : ℕ) (t0 t t1 t2 :
             ];
         are = led.are;
       }
-
-pub gathered-all : (v : LegsValue) (cells : List Cell) (first later k : ℕ) (t0 t : Costs) (links : List Link) → later ≤ k
-    → GatheredSoFar v cells first later k t0 t links → Gathers v cells first later t0 t links
-gathered-all v cells first later k t0 t links h so =
-    record {
-      sound = so.sound;
-      falls = so.falls;
-      above = so.above;
-      ends = λ j g l. so.ends j g (omega (arith, h, l));
-      legs = λ j g l. so.legs j g (omega (arith, h, l));
-      are = so.are;
-    }
 
 pub ends-all : (v : LegsValue) → KeepsLaws v
     → (cells : List Cell) (k : ℕ) (t0 t : Costs) (sids : List ℕ) (steps count : ℕ) (changed : Bool) → steps ≡ v.steps

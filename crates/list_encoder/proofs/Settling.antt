@@ -14,7 +14,7 @@ use Rattle.list_encoder.specs.declared.table.Link.{Link}
 use Rattle.list_encoder.specs.Cells.{cell_at, IsCellBy, AreCells, IsFirst}
 use Rattle.list_encoder.specs.Table.{Costs, at, entry, rest_at, offer, LeadsTo, IsLink, IsSound, Passed, LinkHolds, Holds, Relaxed, AreLinks, Gathers, Rounded, Settled, IsOnward, HoldFrom, IsShapeOf}
 use Rattle.list_encoder.proofs.Celling.{some-same, place_of, contains_at, cell-read}
-use Rattle.list_encoder.proofs.Tables.{kept-passed, passed-then, passed-wider}
+use Rattle.list_encoder.proofs.Tables.{passed-then, passed-wider}
 use Rattle.list_encoder.proofs.Relaxing.{holds-later, rest-end, leg-stays, at-near, at-far}
 
 -- the first links of a list
@@ -23,11 +23,6 @@ pub record RoundSoFar (v : LegsValue) (cells : List Cell) (later : ℕ) (links :
   pub sound : IsSound v cells after
   pub passed : Passed later before after changed
   pub hold : changed ≡ false → (link : Link) (i : ℕ) → i < count → slice_get links i ≡ Some link → Holds v cells after link
-
-pub round-none : (v : LegsValue) (cells : List Cell) (later : ℕ) (links : List Link) (t : Costs) → IsSound v cells t
-    → RoundSoFar v cells later links 0 t t false
-round-none v cells later links t sound =
-    record { sound = sound; passed = kept-passed later t; hold = λ e link i h f. absurd (omega (arith, h)) }
 
 pub round-more : (v : LegsValue) (cells : List Cell) (later : ℕ) (links : List Link) (count : ℕ) (t0 t t1 : Costs) (changed x : Bool)
     (taken : Link)

@@ -162,9 +162,6 @@ module _ (v : LegsValue) (laws : KeepsLaws v) (cells : List Cell) where
   pub link-shape : (link : Link) → IsLink v cells link → IsShape (v.shape link.sid)
   link-shape link is = laws.shapes link.sid (leads-sid is.cell link.sid link.hops link.to is.leads).0
 
-  pub link-sid : (link : Link) → IsLink v cells link → IsSid v link.sid
-  link-sid link is = (leads-sid is.cell link.sid link.hops link.to is.leads).0
-
   pub link-hops : (link : Link) → IsLink v cells link → link.hops ≤ 1000
   link-hops link is = (leads-sid is.cell link.sid link.hops link.to is.leads).1
 

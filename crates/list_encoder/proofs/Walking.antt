@@ -30,9 +30,6 @@ pub record Walked (v : LegsValue) (cells : List Cell) (t : Costs) (begin : Spot)
   pub leads : (rest : List Move) → IsFirstLeast v (state_at spot.cell spot.room) spot.cost rest
       → IsFirstLeast v (state_at begin.cell begin.room) begin.cost (moves ++ rest)
 
-pub walked-none : (v : LegsValue) (cells : List Cell) (t : Costs) (spot : Spot) → IsSpot cells t spot → Walked v cells t spot [] spot
-walked-none v cells t spot is = record { is_spot = is; moves = []; are = refl; leads = λ rest h. h }
-
 module _ (v : LegsValue) (laws : KeepsLaws v) (cells : List Cell) (are : AreCells v cells) (t : Costs) (least : AreLeast v cells t)
     (spot : Spot)
     (is : IsSpot cells t spot) where

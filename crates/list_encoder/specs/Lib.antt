@@ -2,4 +2,3 @@ pub mod Cells
 pub mod Table
 pub mod Picks
 pub mod Listing
-pub mod Grid

@@ -12,7 +12,7 @@ use std::alloc::Global;
 /// rule)
 pub const MOST_CELLS: u32 = 6_273;
 
-/// The states of one SID at one position, or the start's.
+/// The states of one SID at one position, or the start's. (own rule)
 #[derive(Clone, Copy, Debug, PartialEq, Eq)]
 pub struct Cell {
     /// How many steps of the intent are done.
@@ -34,7 +34,8 @@ fn add_cells(cells: &mut Vec<Cell>, position: u32, sids: &[u32]) -> Result<(), N
     Ok(())
 }
 
-/// The start's cell, and then a cell for each SID of each position, in the order of states.
+/// The start's cell, and then a cell for each SID of each position, in the order of states. (own
+/// rule)
 pub fn cells_of<L: Legs>(alloc: Global, legs: &L) -> Result<Vec<Cell>, NoMemory>
     ensures { IfOk result (λ cells. AreCells (L.seen legs.now) cells.items) }
 {
@@ -51,6 +52,7 @@ pub fn cells_of<L: Legs>(alloc: Global, legs: &L) -> Result<Vec<Cell>, NoMemory>
 }
 
 /// The place of the first cell of a position or of a later one; their number where there is none.
+/// (own rule)
 pub fn first_of<L: Legs>(legs: &L, cells: &[Cell], position: u32) -> usize
     requires { AreCells (L.seen legs.now) cells.now }
     ensures { IsFirst cells.now position result }
@@ -64,7 +66,7 @@ pub fn first_of<L: Legs>(legs: &L, cells: &[Cell], position: u32) -> usize
     cells.len()
 }
 
-/// The shape of a cell's SID; none at the start.
+/// The shape of a cell's SID; none at the start. (own rule)
 pub fn shape_of<L: Legs>(legs: &L, cell: Cell) -> Option<Shape>
     requires { IsCell (L.seen legs.now) cell }
     ensures { result ≡ option_map (L.seen legs.now).shape cell.via }
@@ -75,7 +77,7 @@ pub fn shape_of<L: Legs>(legs: &L, cell: Cell) -> Option<Shape>
     }
 }
 
-/// The most room behind a cell's SID; 0 at the start.
+/// The most room behind a cell's SID; 0 at the start. (own rule)
 pub fn top_of<L: Legs>(legs: &L, cell: Cell) -> u8
     requires { IsCell (L.seen legs.now) cell }
     ensures value { result ≡ top_at (L.seen legs.now) cell }

@@ -49,7 +49,7 @@ fn list_cell<L: Legs>(
     Ok(())
 }
 
-/// The least costs of a table whose entries are the least, in the order of states.
+/// The least costs of a table whose entries are the least, in the order of states. (own rule)
 pub fn listing_of<L: Legs>(
     alloc: Global,
     legs: &L,

@@ -51,7 +51,7 @@ fn path_from<L: Legs>(
     }
 }
 
-/// The first least path from the start; empty where there is none.
+/// The first least path from the start; empty where there is none. (own rule)
 pub fn path_of<L: Legs>(
     alloc: Global,
     legs: &L,

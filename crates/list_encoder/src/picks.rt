@@ -12,7 +12,7 @@ use crate::rounds::link_into;
 use crate::table::{Link, rest_at};
 use list_pack::{Cost, Legs, PathStep, Shape, move_cost, room_behind, step_before};
 
-/// A state of a cell from which there is a path, with its least cost.
+/// A state of a cell from which there is a path, with its least cost. (own rule)
 #[derive(Clone, Copy, Debug, PartialEq, Eq)]
 pub struct Spot {
     /// The cell's place.
@@ -25,7 +25,7 @@ pub struct Spot {
     pub cost: Cost,
 }
 
-/// A tight move.
+/// A tight move. (own rule)
 #[derive(Debug, Drop)]
 pub struct Pick {
     /// The move as it is written.
@@ -176,7 +176,7 @@ fn pick_leg<L: Legs>(
     best
 }
 
-/// The first tight move from a state.
+/// The first tight move from a state. (own rule)
 pub fn first_tight<L: Legs>(
     legs: &L,
     cells: &[Cell],

@@ -154,7 +154,7 @@ fn relax_ends<L: Legs>(
     changed
 }
 
-/// The leg from a cell into another, where there is one
+/// The leg from a cell into another, where there is one. (own rule)
 pub fn link_into<L: Legs>(legs: &L, cells: &[Cell], from: usize, to: usize) -> Option<Link>
     requires from { from < length cells.now }
     requires to { to < length cells.now }
@@ -302,7 +302,8 @@ fn settle_all<L: Legs>(
     Ok(())
 }
 
-/// The least cost of a path to the end from each state of each cell, eight rooms to a cell.
+/// The least cost of a path to the end from each state of each cell, eight rooms to a cell. (own
+/// rule)
 pub fn table_of<L: Legs>(
     alloc: Global,
     legs: &L,

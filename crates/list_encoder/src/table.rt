@@ -10,6 +10,7 @@ use list_pack::{Cost, is_below};
 pub const MOST_CONTAINERS: u32 = 8 * MOST_CELLS;
 
 /// A way from the states of a cell to the end, by a finish, or to those of another cell, by a leg.
+/// (own rule)
 #[derive(Clone, Copy, Debug, PartialEq, Eq)]
 pub struct Link {
     /// The place of the cell that it starts from.
@@ -22,7 +23,7 @@ pub struct Link {
     pub hops: u32,
 }
 
-/// What is left to the end from a cell with so much room, below 8.
+/// What is left to the end from a cell with so much room, below 8. (own rule)
 pub fn entry(table: &[Option<Cost>], cell: usize, room: u8) -> Option<Cost>
     requires { 8 * cell + room < length table.now }
     ensures { result ≡ entry table.now cell room }
@@ -30,7 +31,7 @@ pub fn entry(table: &[Option<Cost>], cell: usize, room: u8) -> Option<Cost>
     table[8 * cell + room as usize]
 }
 
-/// What is left to the end behind a link, with so much room.
+/// What is left to the end behind a link, with so much room. (own rule)
 pub fn rest_at(table: &[Option<Cost>], to: Option<usize>, room: u8) -> Option<Cost>
     requires { AreInRange table.now to room }
     ensures { result ≡ rest_at table.now to room }
@@ -44,7 +45,7 @@ pub fn rest_at(table: &[Option<Cost>], to: Option<usize>, room: u8) -> Option<Co
     }
 }
 
-/// An entry is lowered to a cost where that is below it
+/// An entry is lowered to a cost where that is below it. (own rule)
 pub fn lower(table: &mut [Option<Cost>], i: usize, cost: Cost) -> bool
     requires { i < length table.old }
     ensures { Lowers table.old table.new i cost result }
@@ -59,7 +60,7 @@ pub fn lower(table: &mut [Option<Cost>], i: usize, cost: Cost) -> bool
     lowers
 }
 
-/// Whether one of two holds.
+/// Whether one of two holds. (own rule)
 pub fn either(a: bool, b: bool) -> bool
     ensures { result ≡ (a || b) }
 {

@@ -1,7 +1,7 @@
 //! The search over small legs: three SIDs in each of up to three rows.
 
 ghost use Rattle.std.specs.Prelude.{◌≡◌, ◌*◌, ◌^◌, ◌≤◌, ◌<◌};
-ghost use Rattle.list_encoder.specs.Grid.{grid_len, grid_middle, is_grid_via, is_grid_end};
+ghost use Rattle.list_pack.specs.Grid.{grid_len, grid_middle, is_grid_via, is_grid_end};
 
 use crate::solve;
 use list_pack::{Cost, Leg, Legs, Shape, Solution, State};
@@ -56,7 +56,7 @@ fn is_end(steps: u32, position: u32, via: Option<u32>) -> bool
 }
 
 impl Legs for Grid {
-    ghost use Rattle.list_encoder.specs.Grid.{grid_value};
+    ghost use Rattle.list_pack.specs.Grid.{grid_value};
 
     ghost seen = { λ s. grid_value s.csid s.steps s.is_open };
 

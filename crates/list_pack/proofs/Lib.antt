@@ -1,3 +1,4 @@
+pub mod Orders
 pub mod Rooming
 pub mod Costing
 pub mod Leasts
@@ -16,4 +17,5 @@ pub mod ValueSums
 pub mod Valued
 pub mod FlatSids
 pub mod Ruled
+pub mod GridLaws
 pub mod PublicLaws

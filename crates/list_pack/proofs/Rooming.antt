@@ -15,16 +15,6 @@ both-blocks None b h = absurd (false≢true h)
 both-blocks (Some a) None h = absurd (false≢true h)
 both-blocks (Some a) (Some b) h = (refl, refl)
 
--- a room that is at most so much of an unknown kind
-top-plain : (s : Shape) (q : ℕ) → s.csid ≡ Plain → q ≡ 0 → q ≤ top_room s
-top-plain s q e z = omega arith
-
-top-next : (s : Shape) (q : ℕ) → s.csid ≡ Next → q ≤ (128 - s.prefix.len) / 16 → q ≤ top_room s
-top-next s q e h = subst (λ (c : Csid). q ≤ top_room_by c s) (sym e) h
-
-top-replace : (s : Shape) (q : ℕ) → s.csid ≡ Replace → q ≤ csids_of s - 1 → q ≤ top_room s
-top-replace s q e h = subst (λ (c : Csid). q ≤ top_room_by c s) (sym e) h
-
 -- the first of a container has the most room, or none
 pub full-top : (c : Csid) (s : Shape) → full_room_by c s ≤ top_room_by c s
 full-top Plain s = omega arith

@@ -206,9 +206,6 @@ is-named net (p ∷ ps) all =
 
 -- ---- legal lists
 
-pub legal-empty : (net : Network) (list : List Container) → list ≡ [] → IsTrue false ↔ IsLegalList net list
-legal-empty net list e = (λ f. absurd (cc), λ legal. absurd (subst (λ (cs : List Container). IsLegal (list_in net cs)) e legal.rules))
-
 follows-legal : (net : Network) (list : List Container) → IsLegal (list_in net list) → follow_test (list_sid net) None list ≡ true
 follows-legal net [] legal = absurd legal
 follows-legal net (c ∷ cs) legal = is-follow net None (c ∷ cs) legal

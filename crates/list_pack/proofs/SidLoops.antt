@@ -1,5 +1,5 @@
 -- SIDs and blocks of a network, one by one.
-use Rattle.std.proofs.Common.{◌≡◌, ℕ, zero, suc, ◌+◌, ◌≤◌, Bool, true, false, not, ◌==◌, ◌&&◌, ◌||◌, if◌then◌else◌, List, [], ◌∷◌, length, drop, Some, None, refl, sym, ◌∙◌, ap, arith}
+use Rattle.std.proofs.Common.{◌≡◌, ℕ, zero, suc, ◌+◌, ◌≤◌, Bool, true, false, not, ◌==◌, ◌&&◌, ◌||◌, if◌then◌else◌, List, [], ◌∷◌, length, drop, Some, refl, sym, ◌∙◌, ap, arith}
 use Rattle.std.specs.List.{filter, slice_get, find, list_any}
 use Rattle.std.proofs.lemmas.Bool.{and_parts, ne_eqb}
 use Rattle.srv6_rules.specs.declared.sid.Csid.{Csid}
@@ -105,12 +105,6 @@ goers-found sids p n s at left e =
     let some : (length (s ∷ going_on (on_prefix (drop (n + 1) sids) p)) == 0) ≡ false = ne_eqb _ 0 (λ e. omega (arith, e)) in
     sym (ap (λ (ss : List SidEntry). not (length ss == 0)) all ∙ ap not some)
 
-pub goers-none : (sids : List SidEntry) (p : PrefixValue) (n : ℕ) → length sids ≤ n → GoersLeft sids p n
-    → false ≡ not (length (going_on (on_prefix sids p)) == 0)
-goers-none sids p n h left =
-    let all = left ∙ ap (λ (ss : List SidEntry). going_on (on_prefix ss p)) (drop-past sids n h) in
-    ap (λ (ss : List SidEntry). not (length ss == 0)) (sym all)
-
 abbrev pub GoingLeft : List SidEntry → PrefixValue → ℕ → Type 0
 GoingLeft sids p n = csid_among (going_on (on_prefix sids p)) ≡ csid_among (going_on (on_prefix (drop n sids) p))
 
@@ -132,11 +126,6 @@ going-found sids p n s at left e =
     ∙ either-first s.csid (csid_among (going_on (on_prefix (drop (n + 1) sids) p))) two.1 in
     sym all
 
-pub going-none : (sids : List SidEntry) (p : PrefixValue) (n : ℕ) → length sids ≤ n → GoingLeft sids p n
-    → Plain ≡ csid_among (going_on (on_prefix sids p))
-going-none sids p n h left =
-    sym (left ∙ ap (λ (ss : List SidEntry). csid_among (going_on (on_prefix ss p))) (drop-past sids n h))
-
 abbrev pub AnyLeft : List SidEntry → PrefixValue → ℕ → Type 0
 AnyLeft sids p n = csid_among (on_prefix sids p) ≡ csid_among (on_prefix (drop n sids) p)
 
@@ -152,10 +141,6 @@ any-found sids p n s at left e =
     sym (left ∙ ap (λ (ss : List SidEntry). csid_among (on_prefix ss p)) (drop-item sids n s at)
     ∙ any-take p s (drop (n + 1) sids) one.0 one.1)
 
-pub any-none : (sids : List SidEntry) (p : PrefixValue) (n : ℕ) → length sids ≤ n → AnyLeft sids p n
-    → Plain ≡ csid_among (on_prefix sids p)
-any-none sids p n h left = sym (left ∙ ap (λ (ss : List SidEntry). csid_among (on_prefix ss p)) (drop-past sids n h))
-
 -- ---- a search through a list
 
 pub find-next : {X : Type 0} (test : X → Bool) (xs : List X) (n : ℕ) (x : X) → slice_get xs n ≡ Some x
@@ -169,10 +154,6 @@ pub find-found : {X : Type 0} (test : X → Bool) (xs : List X) (n : ℕ) (x : X
 find-found test xs n x at left e =
     sym (left ∙ ap (λ ys. find test ys) (drop-item xs n x at)
     ∙ ap (λ (t : Bool). if t then Some x else find test (drop (n + 1) xs)) e)
-
-pub find-none : {X : Type 0} (test : X → Bool) (xs : List X) (n : ℕ) → length xs ≤ n → find test xs ≡ find test (drop n xs)
-    → None ≡ find test xs
-find-none test xs n h left = sym (left ∙ ap (λ ys. find test ys) (drop-past xs n h))
 
 -- ---- a test that some item passes
 

@@ -126,42 +126,9 @@ csid-of-long b w p e =
     let width : w ≡ p.len - b = omega (arith, e) in
     ap (λ (n : ℕ). field_of p.value b n) width
 
-pub packed-told : (b w behind value next total : ℕ) (left more : List PrefixValue) (p : PrefixValue) → left ≡ p ∷ more
-    → value + stacked w behind (map (csid_of b) left) ≡ total → next ≡ csid_of b p * 2 ^ behind + value
-    → next + stacked w (behind + w) (map (csid_of b) more) ≡ total
-packed-told b w behind value next total left more p e told is =
-    let all : value + (csid_of b p * 2 ^ behind + stacked w (behind + w) (map (csid_of b) more)) ≡ total =
-    ap (λ (ps : List PrefixValue). value + stacked w behind (map (csid_of b) ps)) (sym e) ∙ told in
-    ap (λ (n : ℕ). n + stacked w (behind + w) (map (csid_of b) more)) is
-    ∙ turned (csid_of b p * 2 ^ behind) value (stacked w (behind + w) (map (csid_of b) more)) ∙ all
-  where
-    turned : (x y z : ℕ) → x + y + z ≡ y + (x + z)
-    turned x y z = omega arith
-
 pub packed-long : (b w : ℕ) (left more : List PrefixValue) (p : PrefixValue) → left ≡ p ∷ more → HaveCsids b w left
     → (p.len ≡ b + w) × HaveCsids b w more
 packed-long b w left more p e long = subst (λ (ps : List PrefixValue). HaveCsids b w ps) e long
-
-pub packed-room : (w behind : ℕ) (left more : List PrefixValue) (p : PrefixValue) → left ≡ p ∷ more → behind + w * length left ≤ 128
-    → behind + w + w * length more ≤ 128
-packed-room w behind left more p e room =
-    let all : behind + w * length (p ∷ more) ≤ 128 = subst (λ (ps : List PrefixValue). behind + w * length ps ≤ 128) e room in
-    let row : w * length (p ∷ more) ≡ w + w * length more = grind arith in
-    omega (arith, all, row)
-
--- there is room for as many CSIDs as an entry has
-pub packed-start : (w : ℕ) (p : PrefixValue) (ps : List PrefixValue) → IsCsidLen w → length (p ∷ ps) ≤ csid_count w
-    → w + w * length ps ≤ 128
-packed-start w p ps (inl e) few =
-    let few_16 : length (p ∷ ps) ≤ 8 = subst (λ (n : ℕ). length (p ∷ ps) ≤ 128 / n) e few in
-    subst (λ (n : ℕ). n + n * length ps ≤ 128) (sym e) (omega (arith, few_16))
-packed-start w p ps (inr e) few =
-    let few_32 : length (p ∷ ps) ≤ 4 = subst (λ (n : ℕ). length (p ∷ ps) ≤ 128 / n) e few in
-    subst (λ (n : ℕ). n + n * length ps ≤ 128) (sym e) (omega (arith, few_32))
-
-pub csid-some : (w : ℕ) → IsCsidLen w → 0 < w
-csid-some w (inl e) = omega (arith, e)
-csid-some w (inr e) = omega (arith, e)
 
 pub packed-end : (b w value behind index : ℕ) (first : PrefixValue) (more : List PrefixValue) → IsCsidLen w
     → length (first ∷ more) ≤ csid_count w

@@ -8,9 +8,9 @@ use Rattle.list_pack.specs.declared.types.PathStep.{PathStep}
 use Rattle.list_pack.specs.Value.{LegsValue, IsSid}
 use Rattle.list_pack.specs.Costs.{Move, cost_of, start}
 use Rattle.list_pack.specs.Least.{step_of}
-use Rattle.list_pack.specs.Paths.{cost_with}
+use Rattle.list_pack.specs.Paths.{cost_with, SuitsLists}
 use Rattle.list_pack.specs.PathLists.{list_of, IsListOfPath}
-use Rattle.list_pack.specs.SidLists.{IsLegalList, prefixes_in, steps_in}
+use Rattle.list_pack.specs.SidLists.{IsLegalList, list_sid, prefixes_in, steps_in}
 
 -- each SID of the legs is one of the network, with its prefix and its node
 abbrev pub AreSidsOf : LegsValue → Network → Type 0
@@ -34,9 +34,11 @@ pub record IsPathOf (v : LegsValue) (Executes : List Container → ℕ → Type 
   pub within : hops ≤ need
   pub whole : Executes list (length (prefixes_in list)) → map (step_of v) moves ≡ steps_in list
 
--- by a relation that says that a list realizes with a need, and one that says that as many SIDs of a list are executed: each path is a
--- legal list that realizes with the path's cost, and each legal list that realizes has a path of no greater cost
+-- by a relation that says that a list realizes with a need, and one that says that as many SIDs of a list are executed: the SIDs are those
+-- of the network, in its blocks and with the flavours of their prefixes, each path is a legal list that realizes with the path's cost, and
+-- each legal list that realizes has a path of no greater cost
 pub record Means (v : LegsValue) (net : Network) (Realizes Executes : List Container → ℕ → Type 0) : Type 0 where
   pub sids : AreSidsOf v net
+  pub suits : SuitsLists v (list_sid net)
   pub lists : (moves : List Move) (c : Cost) → cost_of v start moves ≡ Some c → IsRealized net Realizes Executes (map (step_of v) moves) c
   pub paths : (list : List Container) (need : ℕ) → IsLegalList net list → Realizes list need → IsPathOf v Executes list need

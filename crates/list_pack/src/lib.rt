@@ -12,12 +12,16 @@
 //! whether a list is legal in a network, `flavour_of` how the SIDs on a prefix are compressed, and
 //! `header_bytes` how many bytes of headers a list takes.
 //!
-//! `specs/Value.antt` has legs and their laws, `specs/Rooms.antt` the rooms of containers (RFC 9800
-//! sections 4.1 and 4.2), `specs/Costs.antt` edges and costs, `specs/Least.antt` what a least cost,
-//! a good potential, the first least path and a whole solution are. `specs/SidLists.antt` has the
-//! lists of a network's prefixes and which are legal, `specs/PathLists.antt` the list of a path,
-//! `specs/Paths.antt` a path's cost by rooms and legs apart. The functions of `laws` do
-//! nothing: their contracts are the laws by which certificates are judged.
+//! `specs/Value.antt` has legs and their laws, `specs/Meaning.antt` what it is that legs mean
+//! lists, `specs/Rooms.antt` the rooms of containers (RFC 9800 sections 4.1 and 4.2),
+//! `specs/Costs.antt` edges and costs, `specs/Order.antt` the order of lists of numbers,
+//! `specs/Least.antt` what a least cost, a good potential, the first least path and a whole
+//! solution are. `specs/SidLists.antt` has the lists of a network's prefixes and which are legal,
+//! `specs/PathLists.antt` the list of a path, `specs/Paths.antt` a path's cost by rooms and legs
+//! apart; `specs/OpenContainers.antt` and `specs/SegmentValues.antt` are what the code of
+//! `is_legal` and of `values` goes by. `specs/Grid.antt` has legs for the tests of the crates
+//! above. The functions of `laws` do nothing: their contracts are the laws by which certificates
+//! are judged, and that paths are legal lists.
 #![tactic(auto)]
 
 mod costs;

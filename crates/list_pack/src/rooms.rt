@@ -50,7 +50,7 @@ fn packed_room(shape: &Shape) -> u8
 }
 
 /// The most room that there is behind a SID: 16-bit units behind a NEXT SID, CSIDs behind a REPLACE
-/// SID, 0 behind any other.
+/// SID, 0 behind any other. (RFC 9800 sections 4.1 and 4.2)
 pub fn top_room(shape: &Shape) -> u8
     requires { IsShape shape.now }
     ensures { result ≡ top_room shape.now }

@@ -79,10 +79,11 @@ pub struct Solution {
 }
 
 /// The prefixes of SIDs in a container behind its first, in the order in which they are visited.
+/// (RFC 9800 section 6)
 pub type Prefixes = Seq<Prefix>;
 
 /// 16 bytes of a segment list, by the prefixes of its SIDs: the first to be visited, and those
-/// behind it.
+/// behind it. (RFC 9800 section 6)
 #[derive(Debug, Drop)]
 pub enum Container {
     /// An address that begins with its first SID; behind it the CSIDs of the others (RFC 8754
@@ -92,5 +93,5 @@ pub enum Container {
     Packed(Prefix, Prefixes),
 }
 
-/// A list of SIDs as containers, the first to be visited first.
+/// A list of SIDs as containers, the first to be visited first. (RFC 9800 section 6)
 pub type SidList = Seq<Container>;

@@ -1,17 +1,16 @@
 -- The cost of the state that is listed first, and paths of solutions.
-use Rattle.std.proofs.Common.{◌≡◌, ℕ, zero, suc, ◌<◌, true, List, [], ◌∷◌, length, get_or, Option, Some, None, slice_get, Contains, AllPairs, refl, sym, ◌∙◌, ap, subst, arith}
+use Rattle.std.proofs.Common.{◌≡◌, ℕ, zero, suc, ◌<◌, true, List, [], ◌∷◌, length, get_or, Option, Some, slice_get, Contains, AllPairs, refl, sym, ◌∙◌, ap, subst, arith}
 use Rattle.std.specs.Option.{option_map}
 use Rattle.std.proofs.lemmas.Bool.{false≢true}
-use Rattle.std.proofs.lemmas.Option.{none-some, slice_get-get_or, slice_get_within}
+use Rattle.std.proofs.lemmas.Option.{slice_get-get_or}
 use Rattle.list_pack.specs.declared.types.Cost.{Cost}
 use Rattle.list_pack.specs.declared.types.State.{State}
 use Rattle.list_pack.specs.declared.types.PathStep.{PathStep}
 use Rattle.list_pack.specs.declared.types.Potential.{Potential}
-use Rattle.list_pack.specs.declared.types.Solution.{Solution}
 use Rattle.list_pack.specs.Order.{lex_before}
 use Rattle.list_pack.specs.Value.{LegsValue}
 use Rattle.list_pack.specs.Costs.{Move, AtMost, cost_of, Under, start}
-use Rattle.list_pack.specs.Least.{IsLeast, IsFirstLeast, state_key, IsBefore, IsListing, IsPath, IsPathOrNone, IsSolution}
+use Rattle.list_pack.specs.Least.{IsLeast, IsFirstLeast, state_key, IsBefore, IsListing, IsPath, IsPathOrNone}
 use Rattle.list_pack.specs.Paths.{cost_with}
 use Rattle.path_compiler.specs.Compiled.{cost_in}
 
@@ -68,13 +67,6 @@ costs-same v s moves c d first least =
 pub is-path : (v : LegsValue) (path : List PathStep) → 0 < length path → IsPathOrNone v path → IsPath v path
 is-path v [] h p = absurd (omega (arith, h))
 is-path v (x ∷ xs) h p = p
-
--- where there is a path, something is listed
-pub some-listed : (v : LegsValue) (s : Solution) → IsSolution v s → 0 < length s.path → 0 < length s.potentials
-some-listed v s is some =
-    let path = is-path v s.path some is.path in
-    let first = starts-with v s.potentials path.moves path.cost is.potentials path.first.cost in
-    slice_get_within s.potentials 0 (record { state = start; cost = first.0 }) first.1.is
 
 -- the cost that is read is the least
 pub cost-read : (v : LegsValue) (ps : List Potential) (moves : List Move) (c : Cost) (containers need : ℕ) → IsListing v ps

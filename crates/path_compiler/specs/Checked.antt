@@ -1,22 +1,17 @@
 -- What the verdict on a certificate says of lists.
 use Rattle.std.specs.Prelude.{◌≡◌, ℕ, List, length, Result, Ok, Err}
 use Rattle.net_model.specs.Network.{Network}
-use Rattle.net_model.specs.Flat.{flatness_of}
 use Rattle.intent_reader.specs.declared.intent.Intent.{Intent}
 use Rattle.list_pack.specs.declared.types.Container.{Container}
 use Rattle.list_pack.specs.declared.types.Solution.{Solution}
 use Rattle.list_pack.specs.Costs.{AtMost}
 use Rattle.list_pack.specs.Paths.{cost_with}
 use Rattle.list_pack.specs.SidLists.{IsLegalList}
-use Rattle.list_certificate.specs.declared.types.Cert.{Cert}
 use Rattle.list_certificate.specs.declared.types.Verdict.{Verdict}
 use Rattle.list_certificate.specs.declared.types.Verdict.TheVariants.{Least, NoList, No}
 use Rattle.list_certificate.specs.Certs.{certificate_of}
 use Rattle.list_certificate.specs.Verdicts.{IsVerdict}
-use Rattle.leg_table.specs.Realizes.{ListRealizes, ListExecutes}
 use Rattle.leg_table.specs.Value.{legs_value}
-use Rattle.path_compiler.specs.declared.certificates.CheckFault.{CheckFault}
-use Rattle.path_compiler.specs.declared.certificates.CheckFault.TheVariants as faults
 use Rattle.path_compiler.specs.declared.compiled.Compiled.{Compiled}
 use Rattle.path_compiler.specs.declared.compiled.CompileFault.{CompileFault}
 use Rattle.path_compiler.specs.declared.compiled.CompileFault.TheVariants as compile_faults
@@ -36,14 +31,6 @@ abbrev pub Says : Network → (List Container → ℕ → Type 0) → (List Cont
 Says net Realizes Executes (Least containers hops) = IsLeastPair net Realizes Executes containers hops
 Says net Realizes Executes NoList = (list : List Container) (need : ℕ) → IsLegalList net list → ¬ Realizes list need
 Says net Realizes Executes (No line why) = Unit {0}
-
--- the verdict over the strict steps of an intent; a network that is not flat is refused first
-abbrev pub CheckAnswers : Network → Intent → Cert → Result Verdict CheckFault → Type 0
-CheckAnswers net intent cert (Ok verdict) =
-    (flatness_of net ≡ Ok tt) × IsVerdict (legs_value net intent) cert verdict
-    × Says net (ListRealizes net intent) (ListExecutes net intent) verdict
-CheckAnswers net intent cert (Err (faults.NotFlat why)) = flatness_of net ≡ Err why
-CheckAnswers net intent cert (Err faults.NoMemory) = Unit {0}
 
 -- the verdict on the certificate of what the search found over the strict steps of an intent, wherever its head stands
 abbrev pub Certifies : Network → Intent → Solution → Verdict → Type 0

@@ -3,7 +3,7 @@
 use list_pack::{SidList, Solution};
 use net_model::NotFlat;
 
-/// A list of segments that an intent is compiled to.
+/// A list of segments that an intent is compiled to. (own rule)
 #[derive(Debug, Drop)]
 pub struct Compiled {
     /// The list as containers, the SID that is executed first in front.

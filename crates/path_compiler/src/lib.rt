@@ -5,9 +5,9 @@
 //! chosen, one of the fewest containers, then of the smallest need, and of those that are equal in
 //! both and all of whose SIDs are executed the first in the order of paths; so no other needs fewer
 //! header bytes. It gives that list with the bytes of its header, the hop limit that it needs, and
-//! what the search found. `checked` says what a certificate from anywhere shows. The functions of
-//! `laws` do nothing: their contracts say that the certificate of what the search found tells what
-//! was compiled.
+//! what the search found. `compile_over` does so over any legs that mean lists, and `checked_over`
+//! says what a certificate from anywhere shows over them. The functions of `laws` do nothing: their
+//! contracts say that the certificate of what the search found tells what was compiled.
 #![tactic(auto)]
 
 mod certificates;
@@ -17,6 +17,6 @@ mod lists;
 #[cfg(test)]
 mod tests;
 
-pub use certificates::{CheckFault, checked, checked_over};
+pub use certificates::checked_over;
 pub use compiled::{CompileFault, Compiled};
 pub use lists::{compile, compile_over};

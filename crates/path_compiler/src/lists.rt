@@ -123,7 +123,7 @@ pub fn compile_over<L: ListLegs>(
 /// each packet of the intent along exactly its steps, whichever equal next hop is chosen, by
 /// `compile_over` over the legs of its strict steps. `NotFlat` comes exactly where the network is
 /// not flat, before all other answers. Where there is no list, none hands over even one inner packet
-/// at one hop limit so.
+/// at one hop limit so. (own rule)
 pub fn compile(alloc: Global, net: &Net, intent: &Intent) -> Result<Compiled, CompileFault>
     requires { IsIntent net.now intent.now }
     ensures answer { CompileAnswers net.now intent.now result }

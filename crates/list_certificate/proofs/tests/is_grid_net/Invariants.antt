@@ -1,5 +1,5 @@
 use Rattle.std.proofs.Common.{ℕ, ◌<◌}
-use Rattle.list_certificate.specs.Grid.{grid_value}
+use Rattle.list_pack.specs.Grid.{grid_value}
 use Rattle.list_certificate.specs.Reading.{IsSidOf}
 use Rattle.list_certificate.proofs.tests.is_grid_net.Given as goal
 

@@ -1,4 +1,4 @@
-use Rattle.list_certificate.proofs.GridLaws.{grid-laws}
+use Rattle.list_pack.proofs.GridLaws.{grid-laws}
 use Rattle.list_certificate.proofs.tests.GridLegs.steps.Goals as goal
 
 pub returns-clause-laws : goal.returns-clause-laws

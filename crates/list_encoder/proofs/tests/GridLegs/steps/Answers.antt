@@ -1,4 +1,4 @@
-use Rattle.list_encoder.proofs.GridLaws.{grid-laws}
+use Rattle.list_pack.proofs.GridLaws.{grid-laws}
 use Rattle.list_encoder.proofs.tests.GridLegs.steps.Goals as goal
 
 pub returns-clause-laws : goal.returns-clause-laws

@@ -8,8 +8,8 @@ use Rattle.srv6_rules.specs.declared.sid.Csid.{Csid}
 use Rattle.srv6_rules.specs.declared.sid.Csid.TheVariants.{Plain, Next, Replace}
 use Rattle.list_pack.specs.declared.types.Leg.{Leg}
 use Rattle.list_pack.specs.Value.{LegsValue, KeepsLaws, IsShape, IsVia, ascends, sid_before}
-use Rattle.list_certificate.specs.Grid.{grid_len, grid_middle, grid_shape, grid_sids, is_grid_via, grid_leg, is_grid_end, grid_finish, grid_value}
-use Rattle.list_certificate.proofs.Orders.{head-less}
+use Rattle.list_pack.specs.Grid.{grid_len, grid_middle, grid_shape, grid_sids, is_grid_via, grid_leg, is_grid_end, grid_finish, grid_value}
+use Rattle.list_pack.proofs.Orders.{head-less}
 
 -- a number stands in its row
 among : (p n : ℕ) → n / 3 ≡ p → Contains (grid_sids p) n

@@ -1,7 +1,7 @@
 -- The order of lists of numbers is one.
-use Rattle.std.proofs.Common.{◌≡◌, ℕ, ◌<◌, ◌≤◌, ◌⊎◌, inl, inr, true, false, ◌&&◌, ◌==◌, List, [], ◌∷◌, ◌++◌, length, refl, sym, ◌∙◌, subst, arith, eqb-true}
+use Rattle.std.proofs.Common.{◌≡◌, ℕ, ◌<◌, ◌≤◌, ◌⊎◌, inl, inr, Bool, true, false, ◌&&◌, ◌==◌, List, [], ◌∷◌, ◌++◌, length, refl, sym, ◌∙◌, arith, eqb-true, subst}
 use Rattle.std.specs.Prelude.{nat_lt}
-use Rattle.std.proofs.lemmas.Bool.{false≢true, true≢false, or_cases, or_parts, or_left, or_right, and_parts, and_from, and_cases, ltb-true, ltb-false, lt-ltb, le-ltb, eq-eqb, eqb-false, cases_order, false_from_ne_true, or_from, and_right}
+use Rattle.std.proofs.lemmas.Bool.{false≢true, true≢false, or_cases, or_parts, or_left, or_right, and_parts, and_from, and_cases, ltb-true, ltb-false, lt-ltb, eq-eqb, eqb-false, cases_order, false_from_ne_true, le-ltb, or_from, and_right}
 use Rattle.list_pack.specs.Order.{lex_before}
 
 -- the first numbers decide, or the rest does
@@ -103,7 +103,33 @@ lex-not-both xs ys h = false_from_ne_true (lex_before ys xs) (both-before xs ys 
 pub lex-trans : (xs ys zs : List ℕ) → lex_before xs ys ≡ true → lex_before ys zs ≡ true → lex_before xs zs ≡ true
 lex-trans xs ys zs h k = lex-weak xs ys zs h (lex-not-both ys zs k)
 
--- lists of which neither is before the other are the same
+-- of two lists of one length the order is that of longer ones that begin with them
+pub lex-longer : (xs ys us ws : List ℕ) → length xs ≡ length ys → lex_before xs ys ≡ true → lex_before (xs ++ us) (ys ++ ws) ≡ true
+lex-longer [] [] us ws e h = absurd (false≢true h)
+lex-longer [] (y ∷ ys) us ws e h = absurd (omega (arith, e))
+lex-longer (x ∷ xs) [] us ws e h = absurd (false≢true h)
+lex-longer (x ∷ xs) (y ∷ ys) us ws e h =
+    elim (head-cases x y xs ys h) as (λ w. lex_before (x ∷ (xs ++ us)) (y ∷ (ys ++ ws)) ≡ true) [
+      | inl less ↦ head-less x y (xs ++ us) (ys ++ ws) less
+      | inr same ↦ head-same x y (xs ++ us) (ys ++ ws) same.0 (lex-longer xs ys us ws (omega (arith, e)) same.1)
+    ]
+
+-- where one list is not before another, what is before the one is before the other too, and what is not before the other is not before it
+pub lex-lower : (xs ys zs : List ℕ) → lex_before ys xs ≡ false → lex_before ys zs ≡ true → lex_before xs zs ≡ true
+lex-lower xs ys zs h k = by (lex_before xs zs) refl
+  where
+    by : (b : Bool) → lex_before xs zs ≡ b → lex_before xs zs ≡ true
+    by true e = e
+    by false e = absurd (false≢true (sym h ∙ lex-weak ys zs xs k e))
+
+pub lex-higher : (xs ys zs : List ℕ) → lex_before ys xs ≡ false → lex_before xs zs ≡ false → lex_before ys zs ≡ false
+lex-higher xs ys zs h k = by (lex_before ys zs) refl
+  where
+    by : (b : Bool) → lex_before ys zs ≡ b → lex_before ys zs ≡ false
+    by false e = e
+    by true e = absurd (false≢true (sym k ∙ lex-lower xs ys zs h e))
+
+-- of two lists that differ one is before the other
 pub lex-same : (xs ys : List ℕ) → lex_before xs ys ≡ false → lex_before ys xs ≡ false → xs ≡ ys
 lex-same [] [] h k = refl
 lex-same [] (y ∷ ys) h k = absurd (true≢false h)
@@ -120,17 +146,6 @@ lex-same (x ∷ xs) (y ∷ ys) h k =
             | inl also ↦ absurd (omega (arith, also, same.0))
             | inr also ↦ let rest = lex-same xs ys same.1 also.1 in let e = same.0 in cc
           ]
-    ]
-
--- of two lists of one length the order is that of longer ones that begin with them
-pub lex-longer : (xs ys us ws : List ℕ) → length xs ≡ length ys → lex_before xs ys ≡ true → lex_before (xs ++ us) (ys ++ ws) ≡ true
-lex-longer [] [] us ws e h = absurd (false≢true h)
-lex-longer [] (y ∷ ys) us ws e h = absurd (omega (arith, e))
-lex-longer (x ∷ xs) [] us ws e h = absurd (false≢true h)
-lex-longer (x ∷ xs) (y ∷ ys) us ws e h =
-    elim (head-cases x y xs ys h) as (λ w. lex_before (x ∷ (xs ++ us)) (y ∷ (ys ++ ws)) ≡ true) [
-      | inl less ↦ head-less x y (xs ++ us) (ys ++ ws) less
-      | inr same ↦ head-same x y (xs ++ us) (ys ++ ws) same.0 (lex-longer xs ys us ws (omega (arith, e)) same.1)
     ]
 
 -- behind one beginning the order is that of what follows
