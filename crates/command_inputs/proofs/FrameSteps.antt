@@ -19,7 +19,7 @@ use Rattle.command_inputs.specs.declared.packets.Next.TheVariants as nexts
 use Rattle.command_output.specs.declared.refusal.Refusal.{Refusal}
 use Rattle.command_output.specs.declared.refusal.Refusal.TheVariants as refusals
 use Rattle.command_output.specs.Answers.{ending_of_failure}
-use Rattle.command_inputs.specs.Packets.{fault_behind, fault_of, left_of, Nexts}
+use Rattle.command_inputs.specs.Packets.{fault_behind, left_of, Nexts}
 use Rattle.command_output.specs.Pieces.{Piece, Sinks, gone, WroteAll}
 use Rattle.command_output.proofs.PublicLaws.{all_longer, all_behind, all_both, all_wanting}
 use Rattle.command_output.proofs.PublicLaws.{wrote_longer, wrote_after}
@@ -127,9 +127,6 @@ module _ (whole : Reading) (now new : Reader) (fault : Option Refusal) (p : Left
   pub all_done : p.done ≡ whole.frames
   all_done = ap (λ (r : Reading). r.frames) (sym whole-end)
 
-  pub fault_at_end : fault ≡ fault_of whole
-  fault_at_end = h.1 ∙ (ap (λ (count : ℕ). fault_behind count now.rest) p.taken ∙ ap fault_of (sym whole-end))
-
 -- what the frames that are done give for one sink went out
 
 pub record LinesWent (f : Frame → List ℕ) (whole : Reading) (now : Reader) (first sink : SinkSeen) : Type 0 where
@@ -190,11 +187,6 @@ module _ (f : Frame → List Piece) (whole : Reading) (old new : Reader) (frame 
       (each-frame whole old new frame p.left h f)
       (all_longer failure (flat_map f p.left.done ++ f frame) (flat_map f (left_of new).frames) first sinks
       (all_behind failure (flat_map f p.left.done) (f frame) first mid sinks p.went wrote))
-
-pub walked_all : (f : Frame → List Piece) (whole : Reading) (now new : Reader) (fault : Option Refusal) (first sinks : Sinks)
-    → PiecesWent f whole now first sinks → Nexts now (Ok (nexts.End fault)) new → sinks ≡ gone (flat_map f whole.frames) first
-walked_all f whole now new fault first sinks p h =
-    p.went ∙ ap (λ (frames : List Frame). gone (flat_map f frames) first) (all_done whole now new fault p.left h)
 
 pub walked_wanting : (f : Frame → List Piece) (whole : Reading) (now : Reader) (first sinks : Sinks) → PiecesWent f whole now first sinks
     → WroteAll Memory (flat_map f whole.frames) first sinks

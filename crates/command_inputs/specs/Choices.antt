@@ -1,19 +1,9 @@
 -- The choices and the schedule that the words give (own rules).
-use Rattle.std.specs.Prelude.{ℕ, ◌^◌, Bool, ◌&&◌, ◌||◌, ◌==◌, not, nat_lt, if◌then◌else◌, List, [], ◌∷◌, length, slice_index, Option, Some, None}
+use Rattle.std.specs.Prelude.{ℕ, Bool, ◌==◌, not, nat_lt, if◌then◌else◌, List, [], ◌∷◌, length, Option, Some, None}
 use Rattle.std.specs.Global.{Vec}
-use Rattle.std.specs.Char.{is_ascii_digit}
 use Rattle.std.specs.List.{list_all, slice_split}
-use Rattle.std.specs.Str.Parse.{digits_value}
 use Rattle.command_inputs.specs.declared.limits.TheConstants.{MAX_CHOICES, MAX_SCHEDULE}
-
--- decimal digits, of which the first is 0 only where it is the only one
-abbrev pub is_numeral : List ℕ → Bool
-is_numeral word =
-    not (length word == 0) && (((length word == 1) || not (slice_index word 0 == 48)) && list_all is_ascii_digit word)
-
--- a number of at most 32 bits
-abbrev pub number_in : List ℕ → Option ℕ
-number_in word = if is_numeral word && nat_lt (digits_value 10 word) (2 ^ 32) then Some (digits_value 10 word) else None
+use Rattle.trace_replay.specs.Grammar.{number_in}
 
 -- each part's number, if each has one
 

@@ -1,5 +1,5 @@
 -- The judgements of files and words: what each gives, or its refusal.
-use Rattle.std.specs.Prelude.{ℕ, nat_lt, if◌then◌else◌, List, length, Option, Some, None, Result, Ok, Err}
+use Rattle.std.specs.Prelude.{ℕ, nat_lt, if◌then◌else◌, List, length, Option, Some, None, Result, Ok, Err, Bool, false, is_ok, [], ◌∷◌}
 use Rattle.net_model.specs.declared.fault.NetFault.{NetFault}
 use Rattle.net_model.specs.Network.{Network}
 use Rattle.net_model.specs.Named.{node_numbered}
@@ -27,6 +27,11 @@ network_by read = refused_as (λ fault. refusals.Net fault) read
 
 abbrev pub network_in : List ℕ → Result Network Refusal
 network_in text = if nat_lt FILE_LIMIT (length text) then Err (refusals.TooBig FILE_LIMIT) else network_by (net_in text)
+
+-- a file behind the description is asked for where the description gives a network
+abbrev pub asks_behind_network : List (List ℕ) → Bool
+asks_behind_network [] = false
+asks_behind_network (text ∷ more) = is_ok (network_in text)
 
 -- the number of the node of a name
 

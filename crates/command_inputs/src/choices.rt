@@ -1,42 +1,12 @@
 //! The choices and the schedule that the words give: numbers joined by commas.
 
 ghost use Rattle.std.specs.Prelude.{◌≡◌, ◌==◌, IfOk, map};
-ghost use Rattle.std.specs.Char.{is_ascii_digit};
 ghost use Rattle.std.specs.List.{list_all, slice_split};
-ghost use Rattle.command_inputs.specs.Choices.{choices_in, is_entry, items_of, is_numeral, number_in, numbers_up_to, schedule_in};
+ghost use Rattle.command_inputs.specs.Choices.{choices_in, is_entry, items_of, numbers_up_to, schedule_in};
 
 use crate::limits::{MAX_CHOICES, MAX_SCHEDULE};
 use std::alloc::{AllocError, Global};
-
-/// Whether all bytes are decimal digits.
-fn are_digits(bytes: &[u8]) -> bool
-    ensures { result ≡ list_all is_ascii_digit bytes.now }
-{
-    bytes.iter().all(|byte| byte.is_ascii_digit())
-}
-
-/// Whether bytes are decimal digits without a leading zero.
-fn is_numeral(bytes: &[u8]) -> bool
-    ensures { result ≡ is_numeral bytes.now }
-{
-    match bytes {
-        [] => false,
-        [first, ..] => (bytes.len() == 1 || *first != b'0') && are_digits(bytes),
-    }
-}
-
-/// The number that a word is.
-pub fn number_of(word: &str) -> Option<u32>
-    ensures { result ≡ number_in word.now }
-{
-    if !is_numeral(word.as_bytes()) {
-        return None;
-    }
-    match word.parse::<u32>() {
-        Ok(number) => Some(number),
-        Err(_) => None,
-    }
-}
+use trace_replay::number_of_word;
 
 /// The parts of a text between its commas.
 fn parts_of(alloc: Global, text: &str) -> Result<Vec<&str>, AllocError>
@@ -56,7 +26,7 @@ fn numbers_of(alloc: Global, text: &str, most: usize) -> Result<Option<Vec<u32>>
     }
     let mut numbers = Vec::new(alloc);
     for part in &parts {
-        match number_of(*part) {
+        match number_of_word(*part) {
             Some(number) => numbers.push(number)?,
             None => return Ok(None),
         }

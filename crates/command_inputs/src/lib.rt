@@ -9,7 +9,7 @@ mod judge;
 mod limits;
 mod packets;
 
-pub use choices::{choices_of, number_of, schedule_of};
+pub use choices::{choices_of, schedule_of};
 pub use judge::{
     cert_of_file, intent_of_file, intent_of_text, network_of_file, network_of_text, node_of_name,
     trace_of_file,

@@ -23,7 +23,7 @@ use Rattle.command_output.specs.declared.halt.Halt.{Halt}
 use Rattle.command_output.specs.declared.halt.Halt.TheVariants as halts
 use Rattle.command_output.specs.declared.refusal.Refusal.{Refusal}
 use Rattle.command_output.specs.declared.refusal.Refusal.TheVariants as refusals
-use Rattle.command_output.specs.Lines.{name_of_node}
+use Rattle.trace_replay.specs.Lines.{name_of_node}
 
 abbrev pub memory_fails : Failure
 memory_fails = failures.NoMemory

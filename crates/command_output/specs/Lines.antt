@@ -1,5 +1,5 @@
 -- The lines on `err`.
-use Rattle.std.specs.Prelude.{ℕ, List, [], ◌∷◌, ◌++◌, codes, slice_get, Option, Some, None, string_bytes}
+use Rattle.std.specs.Prelude.{ℕ, List, [], ◌∷◌, ◌++◌, codes, slice_get, string_bytes}
 use Rattle.std.specs.Fmt.{decimal}
 use Rattle.v6_addr.specs.Text.{prefix_text}
 use Rattle.pcap_io.specs.declared.fault.CaptureFault.{CaptureFault}
@@ -10,8 +10,6 @@ use Rattle.net_model.specs.declared.fault.TableKind.{TableKind}
 use Rattle.net_model.specs.declared.fault.NetFault.{NetFault}
 use Rattle.net_model.specs.declared.fault.NetFault.TheVariants as nets
 use Rattle.net_model.specs.Keys.{table_text, key_text}
-use Rattle.net_model.specs.declared.parts.Node.{Node}
-use Rattle.net_model.specs.declared.parts.Link.{Link}
 use Rattle.net_model.specs.Network.{Network}
 use Rattle.intent_reader.specs.declared.fault.IntentFault.{IntentFault}
 use Rattle.intent_reader.specs.declared.fault.IntentFault.TheVariants as intents
@@ -24,6 +22,7 @@ use Rattle.command_output.specs.declared.refusal.Refusal.{Refusal}
 use Rattle.command_output.specs.declared.refusal.Refusal.TheVariants as refusals
 use Rattle.command_output.specs.declared.told.Text.{Text}
 use Rattle.command_output.specs.declared.told.Text.TheVariants as texts
+use Rattle.trace_replay.specs.Lines.{name_of_link, name_of_node}
 
 -- the bytes of a text
 abbrev pub bytes_of_text : Text → List ℕ
@@ -107,14 +106,6 @@ refusal_text (refusals.BadCert line) = codes "refused 45 BadCert " ++ decimal li
 
 abbrev pub refusal_line : Refusal → List ℕ
 refusal_line refusal = line (refusal_text refusal)
-
-abbrev pub name_of_node : Option Node → List ℕ
-name_of_node None = []
-name_of_node (Some n) = n.name
-
-abbrev pub name_of_link : Option Link → List ℕ
-name_of_link None = []
-name_of_link (Some l) = l.name
 
 -- the lines of a packet of a number when it ends: how it ended, with names of links and nodes
 

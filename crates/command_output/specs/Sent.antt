@@ -6,10 +6,11 @@ use Rattle.walk_rules.specs.declared.place.Outcome.{Outcome}
 use Rattle.walk_rules.specs.declared.place.Outcome.TheVariants as outcomes
 use Rattle.walk_rules.specs.declared.place.Ended.{Ended}
 use Rattle.walk_rules.specs.declared.place.Ended.TheVariants as ends
+use Rattle.net_model.specs.declared.limits.TheConstants.{MAX_LINKS}
 
 -- what a Send names is there, and its packet is no longer than a packet can be
 abbrev pub IsWritable : Outcome → Content → Type 0
-IsWritable (outcomes.Send link) content = (link < 4096) × (length (bytes_of content) ≤ most_len)
+IsWritable (outcomes.Send link) content = (link < MAX_LINKS) × (length (bytes_of content) ≤ most_len)
 IsWritable (outcomes.Again sid how) content = ⊤
 IsWritable (outcomes.Hand sid how family) content = ⊤
 IsWritable outcomes.Local content = ⊤

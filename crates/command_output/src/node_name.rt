@@ -1,7 +1,7 @@
 //! The names of nodes in refusals.
 
-ghost use Rattle.std.specs.Prelude.{◌≡◌, ◌≤◌, length, slice_get};
-ghost use Rattle.command_output.specs.Lines.{name_of_node};
+ghost use Rattle.std.specs.Prelude.{◌≡◌, slice_get};
+ghost use Rattle.trace_replay.specs.Lines.{name_of_node};
 
 use arrayvec::ArrayString;
 use net_model::{MAX_NAME_BYTES, Net};

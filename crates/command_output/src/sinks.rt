@@ -1,6 +1,5 @@
 //! Bytes written to a sink.
 
-ghost use Rattle.std.specs.Prelude.{◌≡◌};
 ghost use Rattle.srx_edge.specs.Steps.{Wrote};
 ghost use Rattle.command_output.specs.Answers.{ending_of_step};
 

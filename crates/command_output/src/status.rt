@@ -7,11 +7,12 @@ pub enum Status {
     /// end.
     Done = 0,
     /// A file, the input, a node's name, a certificate or a trace is outside its grammar or limit,
-    /// or the network isn't flat for `compile`, `check` or `walk`.
+    /// or the network isn't flat for `compile`, `check`, `walk` or `gen N sum`.
     Refused = 1,
     /// The words are no command.
     Usage = 2,
-    /// `compile` has no list, or the list that it found is outside the intent's limits.
+    /// `compile`, `walk` or `gen N sum` finds no list, or the list that it finds is outside the
+    /// intent's limits.
     NoAnswer = 3,
     /// `check` finds a bad line, or `replay` a wrong one.
     SaysNo = 4,

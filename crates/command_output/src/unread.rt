@@ -1,7 +1,5 @@
 //! Why a packet is not read.
 
-ghost use Rattle.std.specs.Prelude.{◌≡◌};
-
 use std::fmt;
 
 /// Why the packet of a frame is not read.

@@ -5,7 +5,7 @@ use Rattle.srx_edge.specs.Edge.{file_named}
 use Rattle.srx_edge.specs.FilesRead.{FilesSeen, asked_for}
 use Rattle.srx_edge.specs.Sources.{SourceSeen}
 use Rattle.srx_edge.specs.Sinks.{SinkSeen, sent}
-use Rattle.srx_edge.specs.Steps.{Whole, How, Wrote}
+use Rattle.srx_edge.specs.Steps.{How, Wrote}
 use Rattle.net_model.specs.Network.{Network}
 use Rattle.net_model.specs.Flat.{flatness_of}
 use Rattle.net_model.specs.declared.flat.NotFlat.{NotFlat}
@@ -29,7 +29,7 @@ use Rattle.command_inputs.specs.Judgements.{network_in, intent_in, cert_in}
 use Rattle.command_output.specs.Lines.{bytes_of_text}
 use Rattle.command_output.specs.Outside.{IsFrontOf, Asks, Reads, asked_for_all, files_left_by}
 use Rattle.command_output.specs.Pieces.{Output, Stop, Never, AtFiles, At, Elsewhere, ToOut, stop_at}
-use Rattle.command_output.specs.Endings.{ending_of_status, Takes}
+use Rattle.command_output.specs.Endings.{Takes}
 use Rattle.command_output.specs.Shape.{Held, goes_on_with, texts_with, WantedOf, IsOneOf}
 use Rattle.command_output.proofs.PublicLaws.{judgement-status, each, each-map, some-map, front_whole, front_longer, front_after, asks_all, asks_fault, asks_front, refused_commands, files_fault, memory_wants, written_whole, written_cut}
 

@@ -27,7 +27,7 @@ use Rattle.command_output.specs.declared.status.Status.TheVariants as statuses
 use Rattle.command_output.specs.Halts.{flat_refusal}
 use Rattle.command_output.specs.Outputs.{refused, reported, output_of_judgement}
 use Rattle.command_inputs.specs.Judgements.{network_in, intent_in, cert_in}
-use Rattle.command_output.specs.Lines.{line, bytes_of_text}
+use Rattle.command_output.specs.Lines.{line}
 use Rattle.command_output.specs.Pieces.{Output}
 use Rattle.command_output.specs.Shape.{Shape, IsOneOf}
 use Rattle.command_output.specs.Verbs.{has_three_words}

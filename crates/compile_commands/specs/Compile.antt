@@ -1,5 +1,5 @@
 -- The command `compile`: a list for the intent of a file in the network that another describes.
-use Rattle.std.specs.Prelude.{◌≡◌, ℕ, Bool, true, false, List, [], ◌∷◌, ◌++◌, codes, Option, Result, Ok, Err, IsSomeAnd, is_ok, ⊤}
+use Rattle.std.specs.Prelude.{◌≡◌, ℕ, Bool, true, false, List, [], ◌∷◌, ◌++◌, codes, Option, Result, Ok, Err, IsSomeAnd, ⊤}
 use Rattle.std.specs.List.{All, flat_map}
 use Rattle.std.specs.Fmt.{decimal}
 use Rattle.v6_addr.specs.Text.{address_text}
@@ -20,9 +20,8 @@ use Rattle.command_output.specs.declared.halt.Failure.TheVariants as failures
 use Rattle.command_output.specs.declared.halt.Halt.{Halt}
 use Rattle.command_output.specs.declared.halt.Halt.TheVariants as halts
 use Rattle.command_output.specs.declared.refusal.Refusal.{Refusal}
-use Rattle.command_output.specs.declared.status.Status.{Status}
 use Rattle.command_output.specs.declared.status.Status.TheVariants as statuses
-use Rattle.command_inputs.specs.Judgements.{network_in, intent_in}
+use Rattle.command_inputs.specs.Judgements.{network_in, intent_in, asks_behind_network}
 use Rattle.command_output.specs.Halts.{flat_refusal}
 use Rattle.command_output.specs.Outputs.{refused, reported}
 use Rattle.command_output.specs.Lines.{line, bytes_of_text}
@@ -101,15 +100,10 @@ abbrev pub NetworkWants : Wanted → Result Network Refusal → Option (List ℕ
 NetworkWants Wants (Err refusal) intent output = output ≡ refused refusal
 NetworkWants Wants (Ok net) intent output = IsSomeAnd intent (λ text. IntentWants Wants net (intent_in net text) output)
 
--- the intent is asked for where the description gives a network
-abbrev pub asks_for_intent : List (List ℕ) → Bool
-asks_for_intent [] = false
-asks_for_intent (text ∷ more) = is_ok (network_in text)
-
 abbrev pub compile_shape : List ℕ → List ℕ → Shape
 compile_shape file intent = record {
   files = file ∷ intent ∷ [];
-  goes_on = asks_for_intent;
+  goes_on = asks_behind_network;
   reads = false;
   leaves_input = λ held. ⊤;
   lines_last = true;

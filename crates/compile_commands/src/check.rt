@@ -1,14 +1,14 @@
 //! The command `check`: the verdict on a certificate for the intent of a file in the network that
 //! another describes.
 
-ghost use Rattle.std.specs.Prelude.{◌≡◌, IfOk, string_bytes};
+ghost use Rattle.std.specs.Prelude.{◌≡◌, IfOk};
 ghost use Rattle.intent_reader.specs.Rules.{IsIntent};
 ghost use Rattle.leg_table.specs.Value.{legs_value};
 ghost use Rattle.list_certificate.specs.Certs.{IsCert};
 ghost use Rattle.list_certificate.specs.Reading.{IsNetworkOf};
 ghost use Rattle.list_certificate.specs.Spelling.{IsKnown, state_text};
 ghost use Rattle.command_output.specs.Answers.{CommandsUnread};
-ghost use Rattle.compile_commands.specs.Check.{JudgesAs, KnowsState, LegsOf, bad_line, check_shape, edge_line, least_line, no_list_line, path_line, tight_line, unlisted_line, verdict_line, verdict_status};
+ghost use Rattle.compile_commands.specs.Check.{JudgesAs, KnowsState, LegsOf, check_shape, edge_line, least_line, no_list_line, path_line, tight_line, unlisted_line, verdict_line, verdict_status};
 ghost use Rattle.command_output.specs.Lines.{bytes_of_text};
 
 use command_inputs::{cert_of_file, intent_of_file, network_of_file};

@@ -21,7 +21,6 @@ use Rattle.command_output.specs.declared.halt.Halt.{Halt}
 use Rattle.command_output.specs.declared.halt.Halt.TheVariants as halts
 use Rattle.command_output.specs.declared.status.Status.TheVariants as statuses
 use Rattle.generate_command.specs.declared.summed.Summary.{Summary}
-use Rattle.command_inputs.specs.Choices.{number_in}
 use Rattle.compile_commands.specs.Compile.{NetworkWants, hop_limit_line, none_line, too_long_line}
 use Rattle.command_output.specs.Halts.{flat_refusal}
 use Rattle.command_output.specs.Outputs.{refused, reported}
@@ -31,6 +30,7 @@ use Rattle.command_output.specs.Lines.{bytes_of_text}
 use Rattle.command_output.specs.Pieces.{Output}
 use Rattle.command_output.specs.Shape.{Shape}
 use Rattle.generate_command.specs.Summary.{summary_of}
+use Rattle.trace_replay.specs.Grammar.{number_in}
 
 -- its words: a size, and what is generated of that size
 

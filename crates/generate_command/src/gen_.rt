@@ -13,7 +13,7 @@ ghost use Rattle.command_inputs.specs.Judgements.{intent_in};
 use crate::summed::Summary;
 use crate::summing::summary;
 use base::NoMemory;
-use command_inputs::{intent_of_text, network_of_text, number_of};
+use command_inputs::{intent_of_text, network_of_text};
 use command_output::{Failure, Halt, Status, Text, Told, refusal_of_not_flat, write_all};
 use compile_commands::{line_of_hop_limit, line_of_none, line_of_too_long};
 use intent_reader::Intent;
@@ -22,6 +22,7 @@ use net_model::Net;
 use path_compiler::CompileFault;
 use srx_edge::Sink;
 use std::alloc::{AllocError, Global};
+use trace_replay::number_of_word;
 
 /// The packets of which a summary tells. (own rule)
 pub const PACKETS: u32 = 1_000;
@@ -50,7 +51,7 @@ pub enum Generated {
 pub fn size_of_word(word: &str) -> Option<Size>
     ensures { result ≡ size_in word.now }
 {
-    match number_of(word) {
+    match number_of_word(word) {
         Some(number) => Size::new(number),
         None => None,
     }

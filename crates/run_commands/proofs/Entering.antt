@@ -1,5 +1,5 @@
 -- Packets that enter, frame by frame.
-use Rattle.std.proofs.Common.{◌≡◌, ℕ, zero, suc, ◌+◌, ◌-◌, ◌^◌, ◌<◌, ◌≤◌, List, [], ◌∷◌, ◌++◌, length, get_or, Option, Some, None, Ok, Err, refl, sym, ap, ap₂, ◌∙◌, subst, append_assoc, append-nil, length-append, arith, inl, inr}
+use Rattle.std.proofs.Common.{◌≡◌, ℕ, zero, suc, ◌+◌, ◌-◌, ◌^◌, ◌<◌, ◌≤◌, List, [], ◌∷◌, ◌++◌, length, get_or, Option, Ok, refl, sym, ap, ◌∙◌, subst, append-nil, length-append, arith, inl, inr}
 use Rattle.std.specs.List.{flat_map}
 use Rattle.std.specs.Prelude.{All, OnOk, Result}
 use Rattle.std.proofs.lemmas.Grind.{flat_map-append}
@@ -21,7 +21,7 @@ use Rattle.packet_walk.proofs.PublicLaws.{rising-push}
 use Rattle.command_inputs.specs.declared.packets.Next.TheVariants as nexts
 use Rattle.command_output.specs.declared.refusal.Refusal.{Refusal}
 use Rattle.command_inputs.specs.Packets.{left_of, Nexts}
-use Rattle.run_commands.specs.Scheduled.{EntersBehind, EntersOne, HasEntered, IsInStep}
+use Rattle.run_commands.specs.Scheduled.{EntersBehind, EntersOne, HasEntered}
 use Rattle.command_inputs.proofs.PublicLaws.{Left, left_all, left_on, all_done}
 
 -- numbers that are no more than one are no more than a greater one

@@ -12,7 +12,7 @@ use Rattle.pcap_io.specs.Frames.{Reading, behind, frame_len, frames_of as frames
 use Rattle.pcap_io.proofs.PublicLaws.{frames_of-zero, frames_of-whole, frames_of-none}
 use Rattle.net_model.specs.Network.{Network}
 use Rattle.walk_rules.specs.Walk.{Step}
-use Rattle.packet_walk.specs.Schedule.{Coming, Taken, all_of, scheduled, stages_of, steps_of}
+use Rattle.packet_walk.specs.Schedule.{Coming, Taken, all_of, scheduled, steps_of}
 use Rattle.packet_walk.proofs.PublicLaws.{stages-scheduled}
 use Rattle.command_inputs.specs.declared.packets.Packets.{Packets}
 use Rattle.command_inputs.specs.declared.packets.Packets.TheVariants.{Bare, Capture}

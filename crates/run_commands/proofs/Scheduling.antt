@@ -1,5 +1,5 @@
 -- Packets one after the other, and a packet alone, as stages in the order of a schedule.
-use Rattle.std.proofs.Common.{◌≡◌, ℕ, suc, ◌+◌, ◌-◌, Bool, true, false, if◌then◌else◌, nat_eq, List, [], ◌∷◌, ◌++◌, drop, length, Option, Some, refl, sym, ap, ap₂, ◌∙◌, append_assoc, append-nil, arith}
+use Rattle.std.proofs.Common.{◌≡◌, ℕ, suc, ◌-◌, Bool, true, false, if◌then◌else◌, nat_eq, List, [], ◌∷◌, ◌++◌, drop, length, Some, refl, sym, ap, ap₂, ◌∙◌, append_assoc, append-nil, arith}
 use Rattle.std.specs.List.{flat_map}
 use Rattle.std.proofs.lemmas.Bool.{eqb-true}
 use Rattle.std.proofs.lemmas.Grind.{flat_map-append}
@@ -7,14 +7,13 @@ use Rattle.std.proofs.lemmas.List.{map-append}
 use Rattle.pcap_io.specs.declared.frame.Body.{Body}
 use Rattle.pcap_io.specs.declared.frame.Body.TheVariants as bodies
 use Rattle.pcap_io.specs.declared.frame.Frame.{Frame}
-use Rattle.srv6_rules.specs.declared.sid.Family.{Family}
 use Rattle.srv6_rules.specs.declared.sid.Family.TheVariants.{V6, V4}
 use Rattle.srv6_rules.specs.Packet.{Content, entered}
 use Rattle.net_model.specs.Network.{Network}
 use Rattle.walk_rules.specs.declared.place.Place.{Place}
 use Rattle.walk_rules.specs.Walk.{Step, walk_of, walk_on, stage_of, end_of}
 use Rattle.walk_rules.proofs.PublicLaws.{walk_of-suc}
-use Rattle.packet_walk.specs.Schedule.{Coming, Taken, steps_of, without_first, first_of, all_of, one_by_one, scheduled}
+use Rattle.packet_walk.specs.Schedule.{Coming, Taken, first_of, all_of, one_by_one, scheduled}
 use Rattle.trace_replay.specs.declared.limits.TheConstants.{STAGES}
 use Rattle.run_commands.specs.Capture.{frame_of_gave, frames_of}
 use Rattle.srx_edge.specs.Steps.{Ending}

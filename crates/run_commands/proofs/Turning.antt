@@ -1,6 +1,5 @@
 -- Packets in turns: what a packet's stage writes, and what is due after it.
-use Rattle.std.proofs.Common.{◌≡◌, ℕ, zero, suc, ◌+◌, ◌-◌, ◌≤◌, ◌<◌, List, [], ◌∷◌, ◌++◌, length, Option, Some, None, IfSome, IsSome, is_some, Ok, Err, refl, sym, ap, ◌∙◌, subst, append_assoc, append-nil, arith}
-use Rattle.std.proofs.lemmas.Bool.{false≢true}
+use Rattle.std.proofs.Common.{◌≡◌, ℕ, zero, suc, ◌-◌, ◌≤◌, ◌<◌, List, [], ◌∷◌, ◌++◌, length, Option, Some, None, IfSome, Ok, Err, refl, sym, ap, ◌∙◌, subst, append_assoc, append-nil, arith}
 use Rattle.std.specs.Prelude.{OnOk, Result, slice_index, slice_index_or}
 use Rattle.std.specs.List.{flat_map}
 use Rattle.std.proofs.lemmas.Grind.{flat_map-append}
@@ -15,21 +14,20 @@ use Rattle.walk_rules.specs.Walk.{Step, choice_at, end_of}
 use Rattle.walk_rules.proofs.PublicLaws.{stage-step, step-tells}
 use Rattle.packet_walk.specs.declared.event.Event.{Event}
 use Rattle.packet_walk.specs.declared.event.TheConstants.{STAGES}
-use Rattle.packet_walk.specs.Flight.{InFlight, Flight, IsGiven, IsInFlight, Turns, after_stage, event_of, packet_of, stage_in, staged, turned, with_packet}
-use Rattle.packet_walk.specs.Rest.{end_where, end_from, rest_of}
-use Rattle.packet_walk.specs.Schedule.{Taken, Progress, IsOf, IsTurnOf, IsNoTurn, comings_of, due, frame_of, next_of, progress, scheduled}
+use Rattle.packet_walk.specs.Flight.{InFlight, Flight, IsGiven, IsInFlight, Turns, packet_of, stage_in, staged, turned}
+use Rattle.packet_walk.specs.Rest.{end_where, rest_of}
+use Rattle.packet_walk.specs.Schedule.{Taken, Progress, IsOf, IsTurnOf, due, frame_of, next_of}
 use Rattle.packet_walk.proofs.PublicLaws.{packet-same, given-packet, turned-going, turned-net, length-turned, rest-going, rest-ended, end-going, end-ended, staged-counted}
 use Rattle.srx_edge.specs.Sinks.{SinkSeen}
-use Rattle.srx_edge.specs.Steps.{Ending, Whole, Memory, Wrote}
+use Rattle.srx_edge.specs.Steps.{Ending, Whole, Wrote}
 use Rattle.srv6_rules.specs.Packet.{Packet}
 use Rattle.command_output.specs.declared.halt.Failure.{Failure}
-use Rattle.command_output.specs.declared.halt.Failure.TheVariants as failures
 use Rattle.command_output.specs.Answers.{ending_of_failure}
 use Rattle.command_output.specs.Pieces.{Piece, ForErr, Sinks, gone, sinks_of, WroteAll}
 use Rattle.run_commands.specs.Capture.{frame_by, frame_of_gave}
-use Rattle.run_commands.specs.Scheduled.{IsInStep, line_behind, line_by, pieces_of_stage, pieces_of_stages}
+use Rattle.run_commands.specs.Scheduled.{line_behind, line_by, pieces_of_stage, pieces_of_stages}
 use Rattle.command_output.specs.Sent.{IsEnd, IsWritable}
-use Rattle.command_output.proofs.PublicLaws.{all_longer, all_behind, all_both, all_wanting, cut_at_out, line_behind_out}
+use Rattle.command_output.proofs.PublicLaws.{all_longer, all_behind, all_both, cut_at_out, line_behind_out}
 use Rattle.run_commands.proofs.Writable.{gave_writable, end_within}
 
 -- what holds, holds where a result is well
@@ -100,23 +98,12 @@ module _ (f : Flight) (packet : ℕ) (given : IsGiven f packet) (going : IfSome 
   which-going : which.0.ended ≡ None
   which-going = of-there (packet_of f packet) which.0 (λ p. p.ended ≡ None) which.1 going
 
-  pub no_event : (new : Flight) → IfSome (packet_of f packet) (λ p. Turns packet f p (Ok None) new) → ⊥
-  no_event new h =
-      let over = of-there (packet_of f packet) which.0 (λ p. Turns packet f p (Ok None) new) which.1 h in
-      absurd (false≢true (ap is_some (sym which-going) ∙ over.0))
-
   turn-wrote : (net : Network) → f.net ≡ net → (number : ℕ) (ending : Ending) (s t : Sinks)
       → WroteAll ending (pieces_of_stage f.net (next_of number f.net which.0)) s t
       → IfSome (packet_of f packet) (λ p. WroteAll ending (pieces_of_stage net (next_of number net p)) s t)
   turn-wrote net same number ending s t wrote =
       to-there (packet_of f packet) which.0 (λ p. WroteAll ending (pieces_of_stage net (next_of number net p)) s t) which.1
       (subst (λ (n : Network). WroteAll ending (pieces_of_stage n (next_of number n which.0)) s t) same wrote)
-
-  -- memory was wanting for its stage
-  pub turn-wanting : (net : Network) → f.net ≡ net → (number : ℕ) (s : Sinks)
-      → IfSome (packet_of f packet) (λ p. WroteAll Memory (pieces_of_stage net (next_of number net p)) s s)
-  turn-wanting net same number s = turn-wrote net same number Memory s s
-      (all_wanting [] (pieces_of_stage f.net (next_of number f.net which.0)) s s refl)
 
   module _ (event : Event) (new : Flight) (h : IfSome (packet_of f packet) (λ p. Turns packet f p (Ok (Some event)) new)) where
     turns : Turns packet f which.0 (Ok (Some event)) new
@@ -220,19 +207,6 @@ pub record InTurns (net : Network) (numbers : List ℕ) (whole : List Taken) (no
   pub left : done ++ due now f ≡ whole
   pub went : sinks ≡ gone (pieces_of_stages net done) first
 
--- before the first turn
-pub turns_start : (net : Network) (numbers schedule : List ℕ) (now : Progress) (f : Flight) (sinks : Sinks) → IsInStep net numbers f
-    → now ≡ progress schedule numbers 0 → ((g : Flight) → length numbers ≡ length g.packets → IsOf g now)
-    → InTurns net numbers (scheduled schedule (comings_of numbers f)) now f sinks sinks
-turns_start net numbers schedule now f sinks step is of = record {
-  same_net = step.same_net;
-  same_numbers = ap (λ (at : Progress). at.numbers) is;
-  of = of f step.each;
-  done = [];
-  left = ap (λ (at : Progress). due at f) is;
-  went = refl;
-}
-
 -- what is within a list doesn't depend on what is past its end
 within-any : (xs : List ℕ) (i d e : ℕ) → i < length xs → slice_index_or xs i d ≡ slice_index_or xs i e
 within-any [] i d e within = absurd (omega (arith, within))
@@ -250,18 +224,6 @@ frame-is numbers packet number first within is = is ∙ (within-any numbers (pac
 
 module _ (net : Network) (numbers : List ℕ) (whole : List Taken) (old new : Progress) (f : Flight) (first mid : Sinks)
     (t : InTurns net numbers whole old f first mid) where
-  -- no stage is due: all went out
-  pub turns_over : IsNoTurn old f new → mid ≡ gone (pieces_of_stages net whole) first
-  turns_over none = t.went ∙ ap (λ (stages : List Taken). gone (pieces_of_stages net stages) first)
-      (sym (append-nil t.done) ∙ (ap (λ (more : List Taken). t.done ++ more) (sym none.none) ∙ t.left))
-
-  -- memory was wanting before the next stage
-  pub turns_wanting : WroteAll Memory (pieces_of_stages net whole) first mid
-  turns_wanting = subst (λ (stages : List Taken). WroteAll Memory (pieces_of_stages net stages) first mid) t.left
-      (subst (λ (pieces : List Piece). WroteAll Memory pieces first mid)
-      (sym (flat_map-append (pieces_of_stage net) t.done (due old f)))
-      (all_wanting (pieces_of_stages net t.done) (pieces_of_stages net (due old f)) first mid t.went))
-
   -- the packet whose turn it is has a number
   pub turns_within : (packet : ℕ) → IsTurnOf old f packet new → packet - 1 < length numbers
   turns_within packet turn =
@@ -327,10 +289,3 @@ module _ (net : Network) (numbers : List ℕ) (whole : List Taken) (old new : Pr
         (all_longer failure (pieces_of_stages net (t.done ++ stage ∷ [])) (pieces_of_stages net (due new (turned packet f))) first sinks
         (subst (λ (pieces : List Piece). WroteAll (ending_of_failure failure) pieces first sinks) (sym pieces-on)
         (all_behind failure (pieces_of_stages net t.done) (pieces_of_stage net stage) first mid sinks t.went cut))))
-
-    -- fewer are due
-    pub turns_fewer : (g : Flight) → g ≡ turned packet f → length (due new g) < length (due old f)
-    turns_fewer g is-turned =
-        let e : length (due old f) ≡ suc (length (due new (turned packet f))) = ap length first-due in
-        let d : length (due new g) ≡ length (due new (turned packet f)) = ap (λ (h : Flight). length (due new h)) is-turned in
-        omega (arith, e, d)

@@ -28,10 +28,6 @@ pub record Progress (number : ℕ) (net : Network) (left whole : List Step) (fir
   pub frames : bytes ++ frames_of number left ≡ frames_of number whole
   pub ends : end_of net left ≡ end_of net whole
 
--- nothing went out yet
-pub progress_none : (number : ℕ) (net : Network) (whole : List Step) (first : SinkSeen) → Progress number net whole whole first first
-progress_none number net whole first = record { bytes = []; seen = refl; frames = refl; ends = refl }
-
 -- a link with a far end goes on
 arrives : (end : Option ℕ) (place next : Place) (link : ℕ) → arrival end place ≡ Some next → left_or_stages link end ≡ ends.Stages
 arrives None place next link h = cc

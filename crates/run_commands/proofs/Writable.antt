@@ -27,6 +27,7 @@ use Rattle.walk_rules.specs.Relation.{Treats, Treats4, Stage, IsPlace}
 use Rattle.walk_rules.specs.Walk.{far_end, left_or_stages, end_by}
 use Rattle.walk_rules.proofs.PublicLaws.{stage-member, hops-start, stage-step, step-content}
 use Rattle.command_output.specs.Sent.{IsWritable, IsEnd}
+use Rattle.net_model.specs.declared.limits.TheConstants.{MAX_LINKS}
 
 -- what holds of what came, by what else does
 pub in_ok : {T E : Type 0} → (P Q : T → Type 0) (r : Result T E) → ((t : T) → P t → Q t) → IfOk r P → IfOk r Q
@@ -119,7 +120,7 @@ within [] n l h = cc
 within (m ∷ ms) zero l h = omega arith
 within (m ∷ ms) (suc n) l h = omega (arith, within ms n l h)
 
-link-fits : (net : Network) (node n : ℕ) → Keeps net → StartsAt net.links node n → n < 4096
+link-fits : (net : Network) (node n : ℕ) → Keeps net → StartsAt net.links node n → n < MAX_LINKS
 link-fits net node n keeps there = omega (arith, within net.links n there.0 there.1, keeps.link_count)
 
 writable : (net : Network) (place : Place) (content : Content) (outcome : Outcome) (after : Content) (error : Option Packet)

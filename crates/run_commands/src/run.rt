@@ -1,7 +1,7 @@
 //! The command `run`: the packets of the input, from a node of the network that a file describes, in
 //! the order of a schedule, or one after the other.
 
-ghost use Rattle.std.specs.Prelude.{◌≡◌, ◌<◌, ◌≤◌, ◌∷◌, [], ℕ, IfOk, List, length, drop};
+ghost use Rattle.std.specs.Prelude.{◌≡◌, ◌<◌, ℕ, IfOk, List, length};
 ghost use Rattle.std.specs.List.{flat_map};
 ghost use Rattle.pcap_io.specs.Capture.{written_head_bytes};
 ghost use Rattle.pcap_io.specs.Frames.{frames_of as frames_in};
@@ -168,7 +168,7 @@ fn walk_frames<O: Sink, E: Sink>(
 }
 
 /// The same in the order of a schedule. Without one no packet is kept in memory behind its end.
-fn walk_scheduled<O: Sink, E: Sink>(
+fn walk_by_schedule<O: Sink, E: Sink>(
     alloc: Global,
     net: &Net,
     node: u32,
@@ -256,7 +256,7 @@ fn run_packets<O: Sink, E: Sink>(
         Packets::Capture(head, bytes) => {
             let behind = bytes.as_slice().split_at(HEAD_LEN).1;
             tell_unread_frames(alloc, head, behind, err)?;
-            walk_scheduled(alloc, net, node, choices, schedule, head, behind, out, err)
+            walk_by_schedule(alloc, net, node, choices, schedule, head, behind, out, err)
         }
     }
 }

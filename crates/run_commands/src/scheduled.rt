@@ -1,6 +1,6 @@
 //! Packets side by side, in turns by a schedule, written as they go.
 
-ghost use Rattle.std.specs.Prelude.{◌≡◌, ◌≤◌, ◌<◌, ◌+◌, ◌^◌, [], IfSome, None, OnOk, Option, length};
+ghost use Rattle.std.specs.Prelude.{◌≡◌, ◌<◌, ◌+◌, ◌^◌, [], IfSome, None, OnOk, Option, length};
 ghost use Rattle.icmp6_errors.specs.Answer.{error_bytes};
 ghost use Rattle.packet_walk.specs.Flight.{IsGiven, packet_of, turned};
 ghost use Rattle.packet_walk.specs.Schedule.{comings_of, next_of};

@@ -13,6 +13,7 @@ ghost use Rattle.walk_rules.specs.Laws.{TellsOfError};
 ghost use Rattle.walk_rules.specs.Relation.{IsPlace};
 ghost use Rattle.walk_rules.specs.Treatment.{step_of};
 ghost use Rattle.walk_rules.specs.Walk.{next_place as place_after, decisions, walk_of, choice_at, end_by, end_of};
+ghost use Rattle.net_model.specs.declared.limits.TheConstants.{MAX_LINKS};
 
 use base::NoMemory;
 use command_output::{Failure, write_all};
@@ -69,7 +70,7 @@ fn write_sent<O: Sink>(
     buffers: &mut Buffers,
     out: &mut O,
 ) -> Result<(), Failure>
-    requires link { link < 4096 }
+    requires link { link < MAX_LINKS }
     requires small { length (bytes_of content.now) ≤ most_len }
     ensures { Wrote (ending_of_step result)
         (written_frame_bytes number (link + 1) (bytes_of content.now))

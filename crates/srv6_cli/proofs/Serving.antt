@@ -30,15 +30,6 @@ on_whole Whole P f = f refl
 on_whole Fault P f = tt
 on_whole Memory P f = tt
 
--- only a call that never stopped ended whole
-never-whole : (stop : Stop) → ending_by stop ≡ Whole → stop ≡ Never
-never-whole Never e = refl
-never-whole AtFiles e = cc
-never-whole AtInput e = cc
-never-whole (At sink Failing) e = cc
-never-whole (At sink Wanting) e = cc
-never-whole Elsewhere e = cc
-
 -- a stop at the last line: what was done before was all that there is
 
 asks-as : (how : Option How) (wanted names : List (List ℕ)) → names ≡ wanted → AsksAs (stop_at ToErr how) wanted names

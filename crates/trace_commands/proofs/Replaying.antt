@@ -133,9 +133,6 @@ captured-bytes little bytes h =
 -- ---- so the packets of the frames are ones that entered
 
 module _ (net : Network) (node : ℕ) (choices : List ℕ) (there : node < length net.nodes) where
-  abbrev Entered : Traced → Type 0
-  Entered = IsTraced net
-
   entered-as : (number : ℕ) (family : Family) (packet : List ℕ) → number < 2 ^ 32 → AreBytes packet
       → IsTraced net (traced_as node choices number family (entered family packet))
   entered-as number family packet small h = record {

@@ -53,11 +53,6 @@ pub record Written (net : Network) (place : Option Place) (left : List Step) (wh
   pub seen : now ≡ sent bytes first
   pub text : bytes ++ fed (walk_lines net place left) ≡ whole
 
--- nothing went out yet
-pub written_none : (net : Network) (place : Option Place) (left : List Step) (first : SinkSeen)
-    → Written net place left (fed (walk_lines net place left)) first first
-written_none net place left first = record { bytes = []; seen = refl; text = refl }
-
 module _ (net : Network) (place : Option Place) (left rest : List Step) (s : Step) (whole : List ℕ) (first now later : SinkSeen)
     (begins : left ≡ s ∷ rest) (p : Written net place left whole first now) where
   abbrev stage_line : List ℕ

@@ -1,5 +1,5 @@
 -- The command `replay`: the trace of a file, run again in the network that another describes.
-use Rattle.std.specs.Prelude.{◌≡◌, ℕ, Bool, true, false, List, [], ◌∷◌, ◌++◌, codes, Option, Some, None, Result, Ok, Err, IsSomeAnd, is_ok, ⊤}
+use Rattle.std.specs.Prelude.{◌≡◌, ℕ, Bool, true, false, List, [], ◌∷◌, ◌++◌, codes, Option, Some, None, Result, Ok, Err, IsSomeAnd, ⊤}
 use Rattle.std.specs.Fmt.{decimal}
 use Rattle.net_model.specs.Network.{Network}
 use Rattle.trace_replay.specs.declared.verdict.Replayed.{Replayed}
@@ -8,7 +8,7 @@ use Rattle.srx_edge.specs.Edge.{file_named}
 use Rattle.command_output.specs.declared.refusal.Refusal.{Refusal}
 use Rattle.command_output.specs.declared.status.Status.TheVariants as statuses
 use Rattle.command_output.specs.Outputs.{reported, refused, after}
-use Rattle.command_inputs.specs.Judgements.{network_in, trace_in}
+use Rattle.command_inputs.specs.Judgements.{network_in, trace_in, asks_behind_network}
 use Rattle.command_output.specs.Pieces.{Output}
 use Rattle.command_output.specs.Shape.{Shape}
 use Rattle.command_output.specs.Verbs.{has_two_words}
@@ -43,15 +43,10 @@ abbrev pub ReplayWants : Result Network Refusal → Option (List ℕ) → Output
 ReplayWants (Err refusal) trace output = output ≡ refused refusal
 ReplayWants (Ok net) trace output = IsSomeAnd trace (λ text. output ≡ replay_output net text)
 
--- the trace is asked for where the description gives a network
-abbrev pub asks_for_trace : List (List ℕ) → Bool
-asks_for_trace [] = false
-asks_for_trace (text ∷ more) = is_ok (network_in text)
-
 abbrev pub replay_shape : List ℕ → List ℕ → Shape
 replay_shape file trace = record {
   files = file ∷ trace ∷ [];
-  goes_on = asks_for_trace;
+  goes_on = asks_behind_network;
   reads = false;
   leaves_input = λ held. ⊤;
   lines_last = true;

@@ -1,5 +1,5 @@
 -- A packet that enters as it is.
-use Rattle.std.proofs.Common.{◌≡◌, ℕ, ◌<◌, ◌≤◌, Bool, true, false, List, length, Some, None, refl, sym, ap, ◌∙◌, rules}
+use Rattle.std.proofs.Common.{◌≡◌, ℕ, ◌≤◌, Bool, true, false, List, length, Some, None, refl, sym, ap, ◌∙◌, rules}
 use Rattle.std.specs.Prelude.{nat_le, ◌==◌, ◌&&◌, if◌then◌else◌}
 use Rattle.std.proofs.lemmas.Bool.{eq-eqb, ne_eqb}
 use Rattle.std.proofs.lemmas.List.{take_all}
@@ -21,11 +21,6 @@ short-enough true b h = refl
 short-enough false b h = cc
 
 module _ (family : Family) (node : ℕ) (packet : List ℕ) where
-  pub enters-not-long : most_len < length packet → None ≡ packet_by (Some family) (Some node) (Some packet)
-  enters-not-long long =
-      let test : nat_le (length packet) most_len ≡ false = search (rules, long) in
-      sym (by-test family node packet false (ap (λ (b : Bool). b && (length (bytes_of (read_as family packet)) == length packet)) test))
-
   module _ (short : length packet ≤ most_len) where
     same-test : is_entering family packet ≡ (length (bytes_of (entered family packet)) == length packet)
     same-test =

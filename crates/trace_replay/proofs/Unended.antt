@@ -10,7 +10,7 @@ use Rattle.trace_replay.specs.declared.reading.Phase.TheVariants as phases
 use Rattle.trace_replay.specs.Laws.{walk_lines}
 use Rattle.trace_replay.specs.Lines.{head_text}
 use Rattle.trace_replay.specs.Reading.{bad_by, bad_from, bad_line, behind_head, behind_packet, but_last, last_of, lines_of, pieces_of, rest_of}
-use Rattle.trace_replay.specs.Written.{IsTraced, Traced, entry_place, fed, packet_lines, packets_lines, packets_trace, trace_head_bytes, traced_walk, unended_text}
+use Rattle.trace_replay.specs.Written.{IsTraced, Traced, entry_place, fed, packet_lines, packets_lines, trace_head_bytes, traced_walk, unended_text}
 use Rattle.trace_replay.proofs.PacketLines.{IsInner, first-line}
 use Rattle.trace_replay.proofs.Pieces.{but-last-append, last-append}
 use Rattle.trace_replay.proofs.Splitting.{IsTextLine, fed-flat, fed-parts}

@@ -39,9 +39,6 @@ unfolding head_text
 head-line = refl
 
 module _ (net : Network) (keeps : Keeps net) where
-  abbrev Inner : List ℕ → Type 0
-  Inner = IsInner net
-
   pub walk-lines-inner : (p : Traced) → IsTraced net p → All (IsInner net) (walk_lines net (Some (entry_place p)) (traced_walk net p))
   walk-lines-inner p is = walk-inner STAGES net (entry_place p) p.content p.pick 0 keeps (entry-stands net p keeps is)
 

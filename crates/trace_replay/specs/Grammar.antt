@@ -31,6 +31,10 @@ abbrev pub is_numeral : List ℕ → Bool
 is_numeral word =
     not (length word == 0) && (((length word == 1) || not (slice_index word 0 == 48)) && list_all is_ascii_digit word)
 
+-- a number of 32 bits
+abbrev pub number_in : List ℕ → Option ℕ
+number_in word = if is_numeral word && nat_lt (digits_value 10 word) (2 ^ 32) then Some (digits_value 10 word) else None
+
 -- a number that is at most another, which is below 2 ^ 32
 abbrev pub is_number : ℕ → List ℕ → Bool
 is_number most word = is_numeral word && (nat_lt (digits_value 10 word) (2 ^ 32) && nat_le (digits_value 10 word) most)

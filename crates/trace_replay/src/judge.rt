@@ -1,13 +1,10 @@
 //! The line of a stage, judged.
 
-ghost use Rattle.std.specs.Prelude.{◌≡◌, ◌<◌, ℕ, All, IfOk, Contains, length, max, string_bytes};
+ghost use Rattle.std.specs.Prelude.{◌≡◌, ◌<◌, IfOk, length, max, string_bytes};
 ghost use Rattle.std.specs.List.{find, range_with_len};
-ghost use Rattle.net_model.specs.Network.{Network};
 ghost use Rattle.walk_rules.specs.Relation.{IsPlace};
-ghost use Rattle.walk_rules.specs.Laws.{hops_at};
 ghost use Rattle.trace_replay.specs.Lines.{outcome_text};
 ghost use Rattle.trace_replay.specs.Numbered.{AreLinks, IsNumbered};
-ghost use Rattle.trace_replay.specs.Replays.{choices_at};
 ghost use Rattle.trace_replay.specs.Under.{JudgesStage, MayTake, is_under, under};
 
 use crate::print::text_of_outcome;

@@ -1,9 +1,9 @@
 //! Laws about the definitions, each the contract of a function that does nothing.
 
-ghost use Rattle.std.specs.Prelude.{◌≡◌, ◌↔◌, ◌≤◌, ◌+◌, ℕ, [], ◌∷◌, ◌++◌, All, IsSome, List, Option, Some, None, Ok, length};
+ghost use Rattle.std.specs.Prelude.{◌≡◌, ◌↔◌, ◌≤◌, ◌+◌, ℕ, [], ◌∷◌, ◌++◌, All, IsSome, List, Some, None, Ok, length};
 ghost use Rattle.net_model.specs.Keeps.{Keeps};
 ghost use Rattle.net_model.specs.Network.{Network};
-ghost use Rattle.srv6_rules.specs.Packet.{Content, Packet};
+ghost use Rattle.srv6_rules.specs.Packet.{Content};
 ghost use Rattle.trace_replay.specs.Judging.{Replays};
 ghost use Rattle.trace_replay.specs.Laws.{IsChoiceLine, IsOutcomeLine, state_behind, walk_lines};
 ghost use Rattle.trace_replay.specs.Lines.{stage_text, stages_text};

@@ -28,6 +28,7 @@ pub use laws::{
     what_is_not_finished_is_refused, what_is_written_is_accepted,
 };
 pub use limits::{STAGES, TEXT_LIMIT};
+pub use numbers::number_of_word;
 pub use print::{is_numbered, print_end, print_event, print_head, print_packet, print_stages};
 pub use reading::{Trace, TraceFault, read_trace};
 pub use verdict::{ReplayFault, Replayed, replay};

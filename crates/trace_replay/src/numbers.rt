@@ -1,9 +1,9 @@
-//! Words of lines that are numbers.
+//! Words that are numbers.
 
 ghost use Rattle.std.specs.Prelude.{◌≡◌};
 ghost use Rattle.std.specs.Char.{is_ascii_digit};
 ghost use Rattle.std.specs.List.{list_all};
-ghost use Rattle.trace_replay.specs.Grammar.{is_number, is_numeral};
+ghost use Rattle.trace_replay.specs.Grammar.{is_number, is_numeral, number_in};
 
 /// Whether all bytes are decimal digits.
 fn are_digits(bytes: &[u8]) -> bool
@@ -22,15 +22,26 @@ fn is_numeral(bytes: &[u8]) -> bool
     }
 }
 
+/// The number that a word is: one of 32 bits in decimal digits without a leading zero. (own rule)
+pub fn number_of_word(word: &str) -> Option<u32>
+    ensures { result ≡ number_in word.now }
+{
+    if !is_numeral(word.as_bytes()) {
+        return None;
+    }
+    match word.parse::<u32>() {
+        Ok(number) => Some(number),
+        Err(_) => None,
+    }
+}
+
 /// Whether a word is a number that is at most another.
+#[tactic(auto, using(crate::proofs::NumberLemmas::number_at_most, crate::proofs::NumberLemmas::number_missing))]
 pub(crate) fn is_number(most: u32, word: &str) -> bool
     ensures { result ≡ is_number most word.now }
 {
-    if !is_numeral(word.as_bytes()) {
-        return false;
-    }
-    match word.parse::<u32>() {
-        Ok(number) => number <= most,
-        Err(_) => false,
+    match number_of_word(word) {
+        Some(number) => number <= most,
+        None => false,
     }
 }

@@ -1,8 +1,7 @@
 //! The lines of a trace, written.
 
-ghost use Rattle.std.specs.Prelude.{◌≡◌, true, ◌<◌, ◌++◌, ◌∷◌, [], length, slice_get, IfOk, OnErr, OnOk, Some, string_bytes};
-ghost use Rattle.net_model.specs.Network.{Network};
-ghost use Rattle.trace_replay.specs.Lines.{again_table_text, again_text, again_through_text, drop_text, end_text, family_number, hand_table_text, hand_text, hand_through_text, head_text, hex_text, local_text, name_of_link, name_of_node, outcome_text, packet_text, prefix_of_sid, send_text, stages_text};
+ghost use Rattle.std.specs.Prelude.{◌≡◌, true, ◌<◌, ◌++◌, ◌∷◌, [], length, slice_get, IfOk, OnErr, OnOk, string_bytes};
+ghost use Rattle.trace_replay.specs.Lines.{again_table_text, again_text, again_through_text, drop_text, end_text, family_number, hand_table_text, hand_text, hand_through_text, head_text, hex_text, local_text, name_of_node, outcome_text, packet_text, send_text, stages_text};
 ghost use Rattle.trace_replay.specs.Numbered.{IsNumbered};
 
 use base::NoMemory;

@@ -1,7 +1,6 @@
 //! Traces, read.
 
-ghost use Rattle.std.specs.Prelude.{◌≡◌, ◌<◌, ◌≤◌, ◌^◌, IfOk, length, map};
-ghost use Rattle.trace_replay.specs.Grammar.{line_read};
+ghost use Rattle.std.specs.Prelude.{◌≡◌, ◌<◌, ◌≤◌, IfOk, length, map};
 ghost use Rattle.trace_replay.specs.Reading.{Reads, bad_from, behind_head, behind_packet, is_over, phase_behind, pieces_of};
 
 use crate::limits::TEXT_LIMIT;

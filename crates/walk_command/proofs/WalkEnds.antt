@@ -1,5 +1,5 @@
 -- What `walk` leaves, by where it ends.
-use Rattle.std.proofs.Common.{◌≡◌, inl, inr, ℕ, Bool, true, false, List, [], ◌∷◌, Option, None, Some, IfSome, Result, Ok, Err, refl, sym, ap, ◌∙◌, subst, ◌<◌, ◌^◌, length}
+use Rattle.std.proofs.Common.{◌≡◌, inl, inr, ℕ, true, false, List, [], ◌∷◌, Option, None, Some, IfSome, Result, Ok, Err, refl, sym, ap, ◌∙◌, subst, ◌<◌, ◌^◌, length}
 use Rattle.std.specs.Prelude.{IsSomeAnd, if◌then◌else◌}
 use Rattle.srx_edge.specs.Edge.{file_named}
 use Rattle.srx_edge.specs.FilesRead.{FilesSeen, asked_for}
@@ -20,9 +20,9 @@ use Rattle.command_output.specs.declared.status.Status.TheVariants as statuses
 use Rattle.command_output.specs.declared.told.Text.{Text}
 use Rattle.command_output.specs.declared.told.Told.{Told}
 use Rattle.command_output.specs.Answers.{ending_of_failure, JudgesFile, JudgesInput, Commands}
-use Rattle.compile_commands.specs.Compile.{CompiledWants, IntentWants, NetworkWants, asks_for_intent}
+use Rattle.compile_commands.specs.Compile.{CompiledWants, IntentWants, NetworkWants}
 use Rattle.walk_command.specs.Walk.{WalkWants, HasList, HasListIn, ReadsInput, StartsAs, no_list, walk_pieces, walk_output, walked, walk_shape}
-use Rattle.command_inputs.specs.Judgements.{network_in, intent_in}
+use Rattle.command_inputs.specs.Judgements.{network_in, intent_in, asks_behind_network}
 use Rattle.command_output.specs.Outputs.{refused, ended_by}
 use Rattle.command_output.specs.Lines.{bytes_of_text, refusal_line}
 use Rattle.command_output.specs.Outside.{outside, IsFrontOf, Asks, Reads, asked_for_all, files_left_by}
@@ -36,12 +36,12 @@ use Rattle.walk_command.proofs.WalkKeeping.{walks_keep}
 -- the names that are asked for, by the judgement of the description
 
 goes-on-ok : (net : Network) (o : Option (List ℕ)) → IsSomeAnd o (λ text. network_in text ≡ Ok net)
-    → goes_on_with asks_for_intent [] o ≡ true
+    → goes_on_with asks_behind_network [] o ≡ true
 goes-on-ok net None h = absurd h
 goes-on-ok net (Some text) h = rw h refl
 
 goes-on-refused : (refusal : Refusal) (o : Option (List ℕ)) → IsSomeAnd o (λ text. network_in text ≡ Err refusal)
-    → goes_on_with asks_for_intent [] o ≡ false
+    → goes_on_with asks_behind_network [] o ≡ false
 goes-on-refused refusal None h = absurd h
 goes-on-refused refusal (Some text) h = rw h refl
 
@@ -71,7 +71,7 @@ module _ (file intent choices schedule : List ℕ) where
 
   -- what is asked for behind the description
   abbrev behind : Held → List (List ℕ)
-  behind held = if goes_on_with asks_for_intent [] (file_named held file) then intent ∷ [] else []
+  behind held = if goes_on_with asks_behind_network [] (file_named held file) then intent ∷ [] else []
 
   -- an output that is wanted of the description's judgement, and of the input
   wants : (judged : Result Network Refusal) (Q : List ℕ → Type 0) (told : Option Held) (left : Option (List ℕ)) (output : Output)

@@ -13,11 +13,11 @@ use Rattle.net_model.specs.Network.{Network}
 use Rattle.walk_rules.specs.Walk.{choice_at}
 use Rattle.intent_reader.specs.declared.intent.Intent.{Intent}
 use Rattle.list_pack.specs.SidLists.{list_values}
-use Rattle.leg_table.specs.Realizes.{IsInner, content_lowered, encapsulation_of, encapsulated_for, HandsOver}
+use Rattle.leg_table.specs.Realizes.{IsInner, encapsulation_of, encapsulated_for, HandsOver}
 use Rattle.path_compiler.specs.declared.compiled.Compiled.{Compiled}
 use Rattle.path_compiler.specs.Compiled.{IsCompiled}
 use Rattle.trace_replay.specs.declared.limits.TheConstants.{STAGES}
-use Rattle.walk_command.specs.Walk.{IsEncapsulated, WalksKeepTo, of_content, of_encapsulating, policy_of, segment_of}
+use Rattle.walk_command.specs.Walk.{WalksKeepTo, of_content, of_encapsulating, policy_of, segment_of}
 use Rattle.walk_command.specs.declared.walk.AtHeadend.TheVariants.{Enters}
 use Rattle.walk_command.proofs.HandingOver.{hands-within}
 use Rattle.walk_command.proofs.WalkStarts.{values-count}

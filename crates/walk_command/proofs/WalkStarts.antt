@@ -1,5 +1,5 @@
 -- What the headend puts in front of packets is a policy.
-use Rattle.std.proofs.Common.{◌≡◌, ℕ, ◌^◌, ◌<◌, ◌≤◌, Bool, true, false, List, [], ◌∷◌, length, map, Result, Ok, Err, refl, sym, ap, ◌∙◌, subst, arith}
+use Rattle.std.proofs.Common.{◌≡◌, ℕ, ◌^◌, ◌<◌, ◌≤◌, true, List, [], ◌∷◌, length, map, Ok, refl, sym, ap, ◌∙◌, subst, arith}
 use Rattle.std.specs.Prelude.{nat_le, nat_lt}
 use Rattle.std.proofs.lemmas.Bool.{and_parts, leb-true, ltb-true}
 use Rattle.std.proofs.lemmas.List.{length-map}
@@ -7,25 +7,15 @@ use Rattle.v6_addr.specs.declared.address.Addr.{Addr}
 use Rattle.srv6_rules.specs.declared.policy.Policy.{Policy}
 use Rattle.srv6_rules.specs.Policies.{IsPolicy}
 use Rattle.net_model.specs.Network.{Network}
-use Rattle.net_model.specs.declared.flat.NotFlat.{NotFlat}
-use Rattle.net_model.specs.Flat.{flatness_of}
 use Rattle.intent_reader.specs.declared.intent.Intent.{Intent}
 use Rattle.intent_reader.specs.Rules.{IsIntent, is_intent}
 use Rattle.list_places.specs.Lists.{IsLegal}
 use Rattle.list_pack.specs.declared.types.Container.{Container}
 use Rattle.list_pack.specs.SidLists.{list_in, list_values}
 use Rattle.path_compiler.specs.declared.compiled.Compiled.{Compiled}
-use Rattle.path_compiler.specs.declared.compiled.CompileFault.{CompileFault}
-use Rattle.path_compiler.specs.declared.compiled.CompileFault.TheVariants as faults
-use Rattle.path_compiler.specs.Compiled.{CompileAnswers, IsCompiled}
+use Rattle.path_compiler.specs.Compiled.{IsCompiled}
 use Rattle.walk_command.specs.declared.walk.Start.TheVariants as starts
-use Rattle.command_output.specs.declared.halt.Halt.TheVariants as halts
-use Rattle.command_output.specs.declared.told.Text.{Text}
-use Rattle.command_output.specs.Halts.{flat_refusal}
-use Rattle.compile_commands.specs.Compile.{none_line, too_long_line, hop_limit_line}
-use Rattle.walk_command.specs.Walk.{WalkWants, StartsAs, policy_of, segment_of, no_list}
-use Rattle.command_output.specs.Outputs.{refused}
-use Rattle.command_output.specs.Lines.{bytes_of_text}
+use Rattle.walk_command.specs.Walk.{StartsAs, policy_of, segment_of}
 
 -- ---- the segments
 

@@ -1,9 +1,9 @@
 -- What the steps of `walk` leave of the sinks.
-use Rattle.std.proofs.Common.{◌≡◌, ℕ, List, [], ◌∷◌, ◌++◌, refl, sym, ap, ap₂, append-nil}
+use Rattle.std.proofs.Common.{◌≡◌, ℕ, List, [], ◌∷◌, ◌++◌, sym, ap, ap₂, append-nil}
 use Rattle.pcap_io.specs.declared.frame.Body.{Body}
 use Rattle.pcap_io.specs.Capture.{written_head_bytes}
 use Rattle.srx_edge.specs.Sinks.{SinkSeen, sent}
-use Rattle.srx_edge.specs.Steps.{Ending, Memory, Wrote}
+use Rattle.srx_edge.specs.Steps.{Ending, Wrote}
 use Rattle.srv6_rules.specs.declared.policy.Policy.{Policy}
 use Rattle.net_model.specs.Network.{Network}
 use Rattle.intent_reader.specs.declared.intent.Intent.{Intent}
@@ -11,12 +11,8 @@ use Rattle.command_output.specs.declared.halt.Failure.{Failure}
 use Rattle.command_output.specs.Answers.{ending_of_failure}
 use Rattle.walk_command.specs.Walk.{at_headend, ended_line, walked_by, pieces_behind_head}
 use Rattle.command_output.specs.Pieces.{Piece, ForOut, ForErr, Which, ToErr, Sinks, bytes_in_order, sinks_of, WroteAll}
-use Rattle.command_output.proofs.PublicLaws.{all_same, marked, all_longer, all_then, all_wanting, all_on_err}
+use Rattle.command_output.proofs.PublicLaws.{all_same, marked, all_longer, all_then, all_on_err}
 use Rattle.walk_command.proofs.Scheduling.{walk_alone}
-
--- memory was wanting before a step of pieces
-pub none_went : (pieces : List Piece) (sinks : Sinks) → WroteAll Memory pieces sinks sinks
-none_went pieces sinks = all_wanting [] pieces sinks sinks refl
 
 -- what comes behind the head
 pub behind_head : (ending : Ending) (more : List Piece) (o p e : SinkSeen) (new : Sinks) → p ≡ sent written_head_bytes o

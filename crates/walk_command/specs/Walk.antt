@@ -42,10 +42,10 @@ use Rattle.command_inputs.specs.declared.packets.Packets.{Packets}
 use Rattle.command_output.specs.declared.unread.Unread.TheVariants as unreads
 use Rattle.command_output.specs.declared.refusal.Refusal.{Refusal}
 use Rattle.command_output.specs.declared.status.Status.TheVariants as statuses
-use Rattle.compile_commands.specs.Compile.{CompiledWants, NetworkWants, none_line, too_long_line, hop_limit_line, asks_for_intent}
+use Rattle.compile_commands.specs.Compile.{CompiledWants, NetworkWants, none_line, too_long_line, hop_limit_line}
 use Rattle.command_output.specs.Halts.{flat_refusal}
 use Rattle.run_commands.specs.Run.{packet_pieces}
-use Rattle.command_inputs.specs.Judgements.{network_in, intent_in}
+use Rattle.command_inputs.specs.Judgements.{network_in, intent_in, asks_behind_network}
 use Rattle.command_output.specs.Outputs.{refused, after, ended_by}
 use Rattle.command_output.specs.Lines.{bytes_of_text, packet_line, unread_line}
 use Rattle.command_inputs.specs.Packets.{packets_in, reading_of, fault_of}
@@ -202,7 +202,7 @@ ReadsInput file intent held = IsSomeAnd (file_named held file) (λ text. HasList
 abbrev pub walk_shape : List ℕ → List ℕ → List ℕ → List ℕ → Shape
 walk_shape file intent choices schedule = record {
   files = file ∷ intent ∷ [];
-  goes_on = asks_for_intent;
+  goes_on = asks_behind_network;
   reads = true;
   leaves_input = λ held. ¬ ReadsInput file intent held;
   lines_last = false;

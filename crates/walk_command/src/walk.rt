@@ -1,7 +1,7 @@
 //! The command `walk`: the inner packets of the input, encapsulated at the headend of the intent of
 //! a file with the list that the intent is compiled to, in the network that another describes.
 
-ghost use Rattle.std.specs.Prelude.{◌≡◌, ◌<◌, ◌^◌, ℕ, true, IfOk, List, Ok, length, map, string_bytes};
+ghost use Rattle.std.specs.Prelude.{◌≡◌, ◌<◌, ◌^◌, ℕ, IfOk, List, Ok, length};
 ghost use Rattle.std.specs.List.{flat_map};
 ghost use Rattle.pcap_io.specs.Frames.{frames_of as frames_in};
 ghost use Rattle.srx_edge.specs.Steps.{Wrote};
@@ -392,7 +392,7 @@ fn walk_frames<O: Sink, E: Sink>(
 }
 
 /// The same in the order of a schedule. Without one no packet is kept in memory behind its end.
-fn walk_scheduled<O: Sink, E: Sink>(
+fn walk_by_schedule<O: Sink, E: Sink>(
     alloc: Global,
     net: &Net,
     intent: &Intent,
@@ -489,7 +489,7 @@ fn walk_packets<O: Sink, E: Sink>(
         Packets::Capture(head, bytes) => {
             let behind = bytes.as_slice().split_at(HEAD_LEN).1;
             tell_frames(alloc, net, intent, policy, head, behind, err)?;
-            walk_scheduled(
+            walk_by_schedule(
                 alloc, net, intent, policy, choices, schedule, head, behind, out, err,
             )
         }

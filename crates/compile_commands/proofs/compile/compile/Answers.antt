@@ -17,8 +17,8 @@ use Rattle.command_output.specs.declared.refusal.Refusal.{Refusal}
 use Rattle.command_output.specs.declared.status.Status.{Status}
 use Rattle.command_output.specs.declared.status.Status.TheVariants as statuses
 use Rattle.command_output.specs.Answers.{ending_of_failure, JudgesFile, CommandsUnread}
-use Rattle.compile_commands.specs.Compile.{AnswerWants, IntentWants, NetworkWants, asks_for_intent, compile_shape, output_of_answer, GivesOf}
-use Rattle.command_inputs.specs.Judgements.{network_in, intent_in}
+use Rattle.compile_commands.specs.Compile.{AnswerWants, IntentWants, NetworkWants, compile_shape, output_of_answer, GivesOf}
+use Rattle.command_inputs.specs.Judgements.{network_in, intent_in, asks_behind_network}
 use Rattle.command_output.specs.Outputs.{refused}
 use Rattle.command_output.specs.Lines.{bytes_of_text}
 use Rattle.command_output.specs.Outside.{IsFrontOf, Asks, Reads, asked_for_all, files_left_by}
@@ -33,12 +33,12 @@ use Rattle.compile_commands.proofs.compile.compile.Goals as goal
 -- the names that are asked for, by the judgement of the description
 
 goes-on-ok : (net : Network) (o : Option (List ℕ)) → IsSomeAnd o (λ text. network_in text ≡ Ok net)
-    → goes_on_with asks_for_intent [] o ≡ true
+    → goes_on_with asks_behind_network [] o ≡ true
 goes-on-ok net None h = absurd h
 goes-on-ok net (Some text) h = rw h refl
 
 goes-on-refused : (refusal : Refusal) (o : Option (List ℕ)) → IsSomeAnd o (λ text. network_in text ≡ Err refusal)
-    → goes_on_with asks_for_intent [] o ≡ false
+    → goes_on_with asks_behind_network [] o ≡ false
 goes-on-refused refusal None h = absurd h
 goes-on-refused refusal (Some text) h = rw h refl
 
@@ -66,7 +66,7 @@ module _ (file intent : List ℕ) where
 
   -- what is asked for behind the description
   abbrev behind : Held → List (List ℕ)
-  behind held = if goes_on_with asks_for_intent [] (file_named held file) then intent ∷ [] else []
+  behind held = if goes_on_with asks_behind_network [] (file_named held file) then intent ∷ [] else []
 
   -- an output that is wanted of the description's judgement
   wants : (judged : Result Network Refusal) (told : Option Held) (left : Option (List ℕ)) (output : Output)

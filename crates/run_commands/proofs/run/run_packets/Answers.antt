@@ -46,6 +46,6 @@ pub returns-in_ok-tell_unread_frames-in-Capture-clause-wrote : goal.returns-in_o
 returns-in_ok-tell_unread_frames-in-Capture-clause-wrote g c =
     rw c.in-Capture.is (behind_line written_head_bytes _ _ (g.O.Sink.seen c.args.out.now) (g.O.Sink.seen c.write_head.new.out)
     (g.E.Sink.seen c.args.err.now) (g.E.Sink.seen c.tell_unread_frames.new.err) c.in_ok-write_head.ensures
-    (ending_of_step c.walk_scheduled.result) _
+    (ending_of_step c.walk_by_schedule.result) _
     (rw (c.split_at.ensures.back, c.as_slice.ensures) at c.in_ok-tell_unread_frames-in-Capture.ensures)
-    (rw (c.split_at.ensures.back, c.as_slice.ensures) at c.walk_scheduled.ensures.wrote))
+    (rw (c.split_at.ensures.back, c.as_slice.ensures) at c.walk_by_schedule.ensures.wrote))

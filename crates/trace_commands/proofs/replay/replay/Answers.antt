@@ -21,8 +21,8 @@ use Rattle.command_output.specs.declared.told.Told.{Told}
 use Rattle.command_output.specs.Answers.{ending_of_failure, JudgesFile, CommandsUnread}
 use Rattle.command_output.specs.Outputs.{output_of_judgement}
 use Rattle.command_output.specs.Outputs.{reported}
-use Rattle.trace_commands.specs.Replay.{ReplayWants, asks_for_trace, replay_shape, replayed, replayed_by}
-use Rattle.command_inputs.specs.Judgements.{network_in, trace_in}
+use Rattle.trace_commands.specs.Replay.{ReplayWants, replay_shape, replayed, replayed_by}
+use Rattle.command_inputs.specs.Judgements.{network_in, trace_in, asks_behind_network}
 use Rattle.command_output.specs.Outputs.{refused, after}
 use Rattle.command_output.specs.Lines.{bytes_of_text}
 use Rattle.command_output.specs.Outside.{IsFrontOf, Asks, Reads, asked_for_all, files_left_by}
@@ -38,12 +38,12 @@ use Rattle.trace_commands.proofs.replay.replay.Goals as goal
 -- the names that are asked for, by the judgement of the description
 
 goes-on-ok : (net : Network) (o : Option (List ℕ)) → IsSomeAnd o (λ text. network_in text ≡ Ok net)
-    → goes_on_with asks_for_trace [] o ≡ true
+    → goes_on_with asks_behind_network [] o ≡ true
 goes-on-ok net None h = absurd h
 goes-on-ok net (Some text) h = rw h refl
 
 goes-on-refused : (refusal : Refusal) (o : Option (List ℕ)) → IsSomeAnd o (λ text. network_in text ≡ Err refusal)
-    → goes_on_with asks_for_trace [] o ≡ false
+    → goes_on_with asks_behind_network [] o ≡ false
 goes-on-refused refusal None h = absurd h
 goes-on-refused refusal (Some text) h = rw h refl
 
@@ -70,7 +70,7 @@ module _ (file trace : List ℕ) where
 
   -- what is asked for behind the description
   abbrev behind : Held → List (List ℕ)
-  behind held = if goes_on_with asks_for_trace [] (file_named held file) then trace ∷ [] else []
+  behind held = if goes_on_with asks_behind_network [] (file_named held file) then trace ∷ [] else []
 
   -- an output that is wanted of the description's judgement
   wants : (judged : Result Network Refusal) (told : Option Held) (left : Option (List ℕ)) (output : Output)

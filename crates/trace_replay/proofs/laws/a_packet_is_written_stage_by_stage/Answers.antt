@@ -1,4 +1,4 @@
-use Rattle.std.proofs.Common.{◌≡◌, ℕ, List, Some, None, ap, refl}
+use Rattle.std.proofs.Common.{List, Some, None, ap, refl}
 use Rattle.walk_rules.specs.Walk.{Step}
 use Rattle.walk_rules.proofs.PublicLaws.{walk_of-add_one, walk_of-none, walk_of-zero}
 use Rattle.trace_replay.specs.Laws.{walk_lines}

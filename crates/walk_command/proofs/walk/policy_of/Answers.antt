@@ -1,6 +1,5 @@
-use Rattle.std.proofs.Common.{ℕ, List, ap, ◌∙◌}
+use Rattle.std.proofs.Common.{List, ap, ◌∙◌}
 use Rattle.v6_addr.specs.declared.address.Addr.{Addr}
-use Rattle.srv6_rules.specs.declared.policy.Policy.{Policy}
 use Rattle.list_pack.specs.SidLists.{list_values}
 use Rattle.walk_command.specs.Walk.{policy_of}
 use Rattle.walk_command.proofs.WalkStarts.{addresses-of}

@@ -5,7 +5,7 @@ use Rattle.pcap_io.specs.Frames.{frames_of}
 use Rattle.command_output.specs.Answers.{ending_of_step}
 use Rattle.command_output.specs.Pieces.{sinks_of}
 use Rattle.run_commands.proofs.Scheduling.{wrote_in_order}
-use Rattle.run_commands.proofs.run.walk_scheduled.Goals as goal
+use Rattle.run_commands.proofs.run.walk_by_schedule.Goals as goal
 
 pub returns-then-is_empty-clause-wrote : goal.returns-then-is_empty-clause-wrote
 returns-then-is_empty-clause-wrote g c =

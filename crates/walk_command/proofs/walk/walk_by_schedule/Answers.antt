@@ -1,4 +1,4 @@
-use Rattle.std.proofs.Common.{◌≡◌, ◌∙◌, ℕ, List, [], length, sym}
+use Rattle.std.proofs.Common.{◌≡◌, ◌∙◌, List, [], length, sym}
 use Rattle.std.specs.List.{flat_map}
 use Rattle.std.proofs.lemmas.Bool.{eqb-true}
 use Rattle.std.proofs.lemmas.List.{nil_from_length}
@@ -10,7 +10,7 @@ use Rattle.command_output.proofs.PublicLaws.{all_same}
 use Rattle.run_commands.specs.Scheduled.{scheduled_pieces}
 use Rattle.walk_command.specs.Walk.{comings_at_headend, walked_of_frame}
 use Rattle.walk_command.proofs.Scheduling.{walk_one_by_one}
-use Rattle.walk_command.proofs.walk.walk_scheduled.Goals as goal
+use Rattle.walk_command.proofs.walk.walk_by_schedule.Goals as goal
 
 pub returns-then-is_empty-clause-wrote : goal.returns-then-is_empty-clause-wrote
 returns-then-is_empty-clause-wrote g c =

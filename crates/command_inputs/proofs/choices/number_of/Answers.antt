@@ -1,9 +1,0 @@
-use Rattle.std.proofs.Common.{◌≡◌, true, rules}
-use Rattle.command_inputs.specs.Choices.{is_numeral}
-use Rattle.command_inputs.proofs.ChoiceLemmas.{number_refused}
-use Rattle.command_inputs.proofs.choices.number_of.Goals as goal
-
-pub returns-in-Err : goal.returns-in-Err
-returns-in-Err c =
-    let digits : is_numeral c.args.word.now ≡ true = first_of (cc, search rules) in
-    number_refused _ c.args.word.now c.in-Err.field-0 digits c.in-Err.ensures.value.0
