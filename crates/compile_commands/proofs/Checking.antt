@@ -4,7 +4,10 @@ use Rattle.std.specs.Prelude.{slice_get, Contains}
 use Rattle.std.proofs.lemmas.Option.{slice_get_within, slice_get-get_or, get_or_from_slice_get}
 use Rattle.srv6_rules.specs.declared.sid.SidEntry.{SidEntry}
 use Rattle.net_model.specs.Network.{Network}
+use Rattle.net_model.specs.Rules.{IsNetwork}
+use Rattle.net_model.specs.Flat.{IsFlat}
 use Rattle.net_model.specs.Keeps.{Keeps}
+use Rattle.intent_reader.specs.Rules.{IsIntent}
 use Rattle.intent_reader.specs.declared.intent.Intent.{Intent}
 use Rattle.list_pack.specs.declared.types.Potential.{Potential}
 use Rattle.list_pack.specs.declared.types.Solution.{Solution}
@@ -24,6 +27,7 @@ use Rattle.leg_table.specs.Table.{shape_by, node_by}
 use Rattle.leg_table.specs.Value.{legs_value}
 use Rattle.leg_table.proofs.PublicLaws.{are-sids}
 use Rattle.path_compiler.specs.Checked.{Says}
+use Rattle.path_compiler.proofs.PublicLaws.{says-handing}
 use Rattle.command_output.specs.declared.told.Judgement.{Judgement}
 use Rattle.command_output.specs.declared.status.Status.{Status}
 use Rattle.command_output.specs.declared.status.Status.TheVariants as statuses
@@ -82,11 +86,12 @@ own-status (No line why) = inr (inl refl)
 
 -- a verdict's line and status are wanted of the certificate
 pub judges_as : (net : Network) (intent : Intent) (cert : Cert) (verdict : Verdict) (judgement : Judgement)
-    → IsVerdict (legs_value net intent) cert verdict → Says net (ListRealizes net intent) (ListExecutes net intent) verdict
+    → IsNetwork net → IsFlat net → IsIntent net intent → IsVerdict (legs_value net intent) cert verdict
+    → Says net (ListRealizes net intent) (ListExecutes net intent) verdict
     → bytes_of_text judgement.line ≡ verdict_line net verdict → judgement.status ≡ verdict_status verdict
     → JudgesAs net intent cert judgement
-judges_as net intent cert verdict judgement is says line status = (
-  (verdict, record { is = is; says = says }, ap₂ (λ (bytes : List ℕ) (s : Status). reported bytes [] s) line status),
+judges_as net intent cert verdict judgement network flat is_intent is says line status = (
+  (verdict, record { is = is; says = says; handing = says-handing net intent network flat is_intent verdict says }, ap₂ (λ (bytes : List ℕ) (s : Status). reported bytes [] s) line status),
   subst (IsOneOf (statuses.Done ∷ statuses.SaysNo ∷ [])) (sym status) (own-status verdict),
 )
 

@@ -16,7 +16,7 @@ use Rattle.list_pack.proofs.PublicLaws.{flat-lists, legal-flat}
 use Rattle.path_compiler.specs.declared.compiled.Compiled.{Compiled}
 use Rattle.path_compiler.specs.declared.compiled.CompileFault.{CompileFault}
 use Rattle.path_compiler.specs.declared.compiled.CompileFault.TheVariants as faults
-use Rattle.path_compiler.specs.Compiled.{CompileAnswers, IsFound, NoneHandsOver}
+use Rattle.path_compiler.specs.Compiled.{CompileAnswers, IsFound, NoLessHandsOver}
 use Rattle.leg_table.specs.Realizes.{ListRealizes, ListExecutes}
 use Rattle.leg_table.specs.Value.{legs_value}
 use Rattle.compile_commands.specs.declared.compile.Answer.{Answer}
@@ -82,7 +82,7 @@ knows_none_in net intent compiled s keeps answers is =
 pub ruleset valued = (values_kept, values_long, values_over, knows_kept, knows_long, knows_over)
 
 pub taken_gives : (net : Network) (intent : Intent) (compiled : Result Compiled CompileFault) (answer : Result Answer Halt)
-    → CompileAnswers net intent compiled → NoneHandsOver net intent compiled → Gives net intent compiled answer
+    → CompileAnswers net intent compiled → NoLessHandsOver net intent compiled → Gives net intent compiled answer
     → GivesOf net intent answer
 taken_gives net intent compiled (Ok answer) answers none gives = ((compiled, answers, none, gives.0), gives.1)
 taken_gives net intent compiled (Err (halts.Refused refusal)) answers none gives = (compiled, answers, none, gives)

@@ -40,9 +40,9 @@ use Rattle.leg_table.specs.Realizes.{ListRealizes, ListExecutes}
 use Rattle.path_compiler.specs.declared.compiled.Compiled.{Compiled}
 use Rattle.path_compiler.specs.declared.compiled.CompileFault.{CompileFault}
 use Rattle.path_compiler.specs.declared.compiled.CompileFault.TheVariants as faults
-use Rattle.path_compiler.specs.Checked.{Certifies, Says}
+use Rattle.path_compiler.specs.Checked.{Certifies, Says, SaysOfHanding}
 use Rattle.path_compiler.specs.Compiled.{CompileAnswers}
-use Rattle.path_compiler.proofs.PublicLaws.{certifies-answer, says_lists}
+use Rattle.path_compiler.proofs.PublicLaws.{certifies-answer, says-handing, says_lists}
 use Rattle.command_inputs.specs.declared.limits.TheConstants.{FILE_LIMIT}
 use Rattle.command_output.specs.declared.refusal.Refusal.{Refusal}
 use Rattle.command_output.specs.declared.refusal.Refusal.TheVariants as refusals
@@ -140,7 +140,8 @@ module _ (net : Network) (intent : Intent) (network : IsNetwork net) (is_intent 
       let says : Says net (ListRealizes net intent) (ListExecutes net intent) verdict
       = says_lists v net (ListRealizes net intent) (ListExecutes net intent) (legs-mean net intent network (flat-by flat) is_intent)
       cert verdict laws judges in
-      let wants : CertWants net intent (Ok cert) output = (verdict, record { is = judges; says = says }, told) in
+      let handing : SaysOfHanding net intent verdict = says-handing net intent network (flat-by flat) is_intent verdict says in
+      let wants : CertWants net intent (Ok cert) output = (verdict, record { is = judges; says = says; handing = handing }, told) in
       let read : FlatWants net intent (Ok tt) (Some text) output
       = subst (λ (r : Result Cert Refusal). CertWants net intent r output) (sym (cert-read s comments text laws is all parts small)) wants in
       subst (λ (r : Result (Unit {0}) NotFlat). FlatWants net intent r (Some text) output) (sym flat) read

@@ -15,7 +15,7 @@ use Rattle.list_certificate.specs.Verdicts.{IsVerdict}
 use Rattle.leg_table.specs.Realizes.{ListRealizes, ListExecutes}
 use Rattle.leg_table.specs.Table.{LegTable}
 use Rattle.leg_table.specs.Value.{legs_value}
-use Rattle.path_compiler.specs.Checked.{Says}
+use Rattle.path_compiler.specs.Checked.{Says, SaysOfHanding}
 use Rattle.srx_edge.specs.Edge.{file_named}
 use Rattle.command_output.specs.declared.told.Judgement.{Judgement}
 use Rattle.command_output.specs.declared.halt.Failure.TheVariants as failures
@@ -73,10 +73,12 @@ verdict_status NoList = statuses.Done
 verdict_status (No number why) = statuses.SaysNo
 
 -- the verdict on a certificate over the legs of the intent, and what it says of lists: with `Least` a legal list of so many containers
--- realizes the intent with this need, and no legal list that does so has fewer, or as many and a smaller need; with `NoList` none does
+-- realizes the intent with this need, and no legal list that does so has fewer, or as many and a smaller need; with `NoList` none does; and
+-- so it is of the legal lists that hand over even one inner packet
 pub record IsChecked (net : Network) (intent : Intent) (cert : Cert) (verdict : Verdict) : Type 0 where
   pub is : IsVerdict (legs_value net intent) cert verdict
   pub says : Says net (ListRealizes net intent) (ListExecutes net intent) verdict
+  pub handing : SaysOfHanding net intent verdict
 
 abbrev pub told_of : Network → Verdict → Output
 told_of net verdict = reported (verdict_line net verdict) [] (verdict_status verdict)

@@ -13,7 +13,7 @@ use Rattle.list_certificate.specs.Spelling.{IsKnown, spelled}
 use Rattle.path_compiler.specs.declared.compiled.Compiled.{Compiled}
 use Rattle.path_compiler.specs.declared.compiled.CompileFault.{CompileFault}
 use Rattle.path_compiler.specs.declared.compiled.CompileFault.TheVariants as faults
-use Rattle.path_compiler.specs.Compiled.{CompileAnswers, NoneHandsOver}
+use Rattle.path_compiler.specs.Compiled.{CompileAnswers, NoLessHandsOver}
 use Rattle.srx_edge.specs.Edge.{file_named}
 use Rattle.compile_commands.specs.declared.compile.Answer.{Answer}
 use Rattle.command_output.specs.declared.halt.Failure.TheVariants as failures
@@ -89,7 +89,7 @@ Wanted = Network → Intent → Result Compiled CompileFault → Output → Type
 
 abbrev pub CompiledWants : Wanted → Network → Intent → Output → Type 0
 CompiledWants Wants net intent output =
-    (answer : Result Compiled CompileFault) × CompileAnswers net intent answer × NoneHandsOver net intent answer
+    (answer : Result Compiled CompileFault) × CompileAnswers net intent answer × NoLessHandsOver net intent answer
     × Wants net intent answer output
 
 abbrev pub IntentWants : Wanted → Network → Result Intent Refusal → Output → Type 0

@@ -47,7 +47,7 @@ use Rattle.command_output.proofs.PublicLaws.{memory_first, pieces_whole, refused
 module _ (net : Network) (intent : Intent) where
   pub summed_lines : (s : Summary) (lines : Text) → SummaryAnswers net intent PACKETS (Ok s) → bytes_of_text lines ≡ summary_lines s
       → Generates (CompiledWants SumWants net intent) (Ok (generates.Report lines))
-  summed_lines s lines answers is = (Ok answers.0, answers.1, tt, rw (is, answers.2) refl)
+  summed_lines s lines answers is = (Ok answers.0, answers.1, answers.2, rw (is, answers.3) refl)
 
   pub summed_flat : (why : NotFlat) (refusal : Refusal) → SummaryAnswers net intent PACKETS (Err (faults.NotFlat why))
       → refusal ≡ flat_refusal net why → Generates (CompiledWants SumWants net intent) (Err (halts.Refused refusal))

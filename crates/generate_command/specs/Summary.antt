@@ -15,7 +15,7 @@ use Rattle.walk_rules.specs.Walk.{Step, end_of}
 use Rattle.intent_reader.specs.declared.intent.Intent.{Intent}
 use Rattle.path_compiler.specs.declared.compiled.Compiled.{Compiled}
 use Rattle.path_compiler.specs.declared.compiled.CompileFault.{CompileFault}
-use Rattle.path_compiler.specs.Compiled.{CompileAnswers, IsCompiled, NoneHandsOver}
+use Rattle.path_compiler.specs.Compiled.{CompileAnswers, IsCompiled, IsLeastOfAll, NoLessHandsOver}
 use Rattle.walk_command.specs.declared.walk.AtHeadend.{AtHeadend}
 use Rattle.walk_command.specs.declared.walk.AtHeadend.TheVariants.{NotRead, Dropped, Enters}
 use Rattle.generate_command.specs.declared.summed.Summary.{Summary}
@@ -91,5 +91,6 @@ summary_of net intent c packets =
 
 -- the summary of a list that the intent is compiled to, or the compiler's answer where there is none
 abbrev pub SummaryAnswers : Network → Intent → ℕ → Result Summary CompileFault → Type 0
-SummaryAnswers net intent packets (Ok s) = (c : Compiled) × IsCompiled net intent c × (s ≡ summary_of net intent c packets)
-SummaryAnswers net intent packets (Err fault) = CompileAnswers net intent (Err fault) × NoneHandsOver net intent (Err fault)
+SummaryAnswers net intent packets (Ok s) =
+    (c : Compiled) × IsCompiled net intent c × IsLeastOfAll net intent c × (s ≡ summary_of net intent c packets)
+SummaryAnswers net intent packets (Err fault) = CompileAnswers net intent (Err fault) × NoLessHandsOver net intent (Err fault)

@@ -117,10 +117,11 @@ module _ (net : Network) (intent : Intent) (network : IsNetwork net) (flat : IsF
       along-path list p.0 p.1 need legal p.2 (omega (arith, below))
       (λ n executes. sym (ap length (p.4 one some)) ∙ executes inner (need + 1) one (always one some))
 
-  -- where a list hands over even one inner packet for all choices, there is one that realizes
+  -- where a list hands over even one inner packet for all choices at a hop limit, one of as many containers realizes with a need below that
   pub hands-realizes : (list : List Container) (inner : Content) (hop : ℕ) → IsLegalList net list → 0 < hop
       → AlwaysHandsOver net intent (list_values net list) inner hop
       → (other : List Container) × (need : ℕ) × IsLegalList net other × ListRealizes net intent other need
+      × (length other ≡ length list) × (need < hop)
   hands-realizes list inner hop legal positive always =
       let p = list-path net network flat facts intent is_intent list legal inner hop positive always in
       let one : List ℕ = 0 ∷ [] in
@@ -128,7 +129,9 @@ module _ (net : Network) (intent : Intent) (network : IsNetwork net) (flat : IsF
       let path = along-path list p.0 p.1 p.1 legal p.2 (omega arith)
       (λ n executes. sym (ap length (p.4 one some)) ∙ executes inner hop one (always one some)) in
       let made = realized path.moves (cost_with (length list) path.hops) path.cost in
-      (list_of net (map (step_of v) path.moves), path.hops, made.legal, made.realizes)
+      let below = p.3 in
+      let within = path.within in
+      (list_of net (map (step_of v) path.moves), path.hops, made.legal, made.realizes, made.of_path.count, omega (arith, below, within))
 
   -- the legs mean the lists that realize the intent
   pub legs-mean : Means v net (ListRealizes net intent) (ListExecutes net intent)

@@ -114,14 +114,14 @@ pub fn a_list_that_always_hands_over_is_a_path()
 {}
 
 /// In a flat network, where a legal list hands over even one inner packet along exactly the steps
-/// for all choices at one outer hop limit, there is a legal list that realizes the intent. (own
-/// rule)
+/// for all choices at one outer hop limit, there is a legal list of as many containers that realizes
+/// the intent with a need below that hop limit. (own rule)
 pub fn a_list_that_hands_over_has_one_that_realizes()
     ensures { (net : Network) (intent : Intent) (list : List Container) (inner : Content)
         (hop : ℕ) → IsNetwork net → IsFlat net → IsIntent net intent → IsLegalList net list →
         0 < hop → AlwaysHandsOver net intent (list_values net list) inner hop →
         (other : List Container) × (need : ℕ) × IsLegalList net other
-        × ListRealizes net intent other need }
+        × ListRealizes net intent other need × (length other ≡ length list) × (need < hop) }
 {}
 
 /// The trace that comes with what stages hand over is that of the stages up to and with the first

@@ -1,6 +1,6 @@
 pub mod Costs
 pub mod Answering
 pub mod Checking
-pub mod NoneHanding
+pub mod Handing
 pub mod Certifying
 pub mod PublicLaws

@@ -1,3 +1,4 @@
 -- The lemmas that crates above may cite: each proves a clause of a public function.
 pub use Rattle.path_compiler.proofs.Checking.{says_lists}
+pub use Rattle.path_compiler.proofs.Handing.{says-handing}
 pub use Rattle.path_compiler.proofs.Certifying.{certifies-found, certifies-none, certifies-answer}

@@ -16,6 +16,7 @@ use Rattle.path_compiler.specs.declared.compiled.Compiled.{Compiled}
 use Rattle.path_compiler.specs.declared.compiled.CompileFault.{CompileFault}
 use Rattle.path_compiler.specs.declared.compiled.CompileFault.TheVariants as compile_faults
 use Rattle.path_compiler.specs.Compiled.{IsWhole}
+use Rattle.path_compiler.specs.Handing.{IsLeastOfHanding, NoneHandsOver}
 
 -- a legal list of so many containers, all of whose SIDs are executed, realizes with this need, and no legal list that realizes has fewer
 -- containers, or as many and a smaller need
@@ -31,6 +32,12 @@ abbrev pub Says : Network → (List Container → ℕ → Type 0) → (List Cont
 Says net Realizes Executes (Least containers hops) = IsLeastPair net Realizes Executes containers hops
 Says net Realizes Executes NoList = (list : List Container) (need : ℕ) → IsLegalList net list → ¬ Realizes list need
 Says net Realizes Executes (No line why) = Unit {0}
+
+-- what it says of the legal lists that hand over even one inner packet of an intent: the pair is the least of theirs too, or there are none
+abbrev pub SaysOfHanding : Network → Intent → Verdict → Type 0
+SaysOfHanding net intent (Least containers need) = IsLeastOfHanding net intent containers need
+SaysOfHanding net intent NoList = NoneHandsOver net intent
+SaysOfHanding net intent (No line why) = Unit {0}
 
 -- the verdict on the certificate of what the search found over the strict steps of an intent, wherever its head stands
 abbrev pub Certifies : Network → Intent → Solution → Verdict → Type 0

@@ -2,7 +2,6 @@
 use Rattle.std.specs.Prelude.{◌≡◌, ℕ, ◌<◌, ◌≤◌, Bool, false, List, [], length, slice_get, Option, Some, None, Result, Ok, Err}
 use Rattle.std.specs.Option.{option_map}
 use Rattle.srv6_rules.specs.Encapsulation.{header_bytes}
-use Rattle.srv6_rules.specs.Packet.{Content}
 use Rattle.net_model.specs.Network.{Network}
 use Rattle.net_model.specs.Flat.{flatness_of}
 use Rattle.intent_reader.specs.declared.intent.Intent.{Intent}
@@ -12,15 +11,16 @@ use Rattle.list_pack.specs.declared.types.Potential.{Potential}
 use Rattle.list_pack.specs.declared.types.Solution.{Solution}
 use Rattle.list_pack.specs.Costs.{AtMost}
 use Rattle.list_pack.specs.Least.{IsSolution, path_before}
-use Rattle.list_pack.specs.SidLists.{IsLegalList, list_values, prefixes_in, steps_in}
+use Rattle.list_pack.specs.SidLists.{IsLegalList, prefixes_in, steps_in}
 use Rattle.list_pack.specs.Value.{LegsValue}
 use Rattle.list_pack.specs.Paths.{cost_with}
 use Rattle.list_pack.specs.PathLists.{list_of}
-use Rattle.leg_table.specs.Realizes.{ListRealizes, ListExecutes, AlwaysHandsOver}
+use Rattle.leg_table.specs.Realizes.{ListRealizes, ListExecutes}
 use Rattle.leg_table.specs.Value.{legs_value}
 use Rattle.path_compiler.specs.declared.compiled.Compiled.{Compiled}
 use Rattle.path_compiler.specs.declared.compiled.CompileFault.{CompileFault}
 use Rattle.path_compiler.specs.declared.compiled.CompileFault.TheVariants as faults
+use Rattle.path_compiler.specs.Handing.{HandsSomeOver, IsLeastOfHanding, NoneHandsOver}
 
 abbrev pub cost_in : Potential → Cost
 cost_in q = q.cost
@@ -111,13 +111,17 @@ CompileAnswers net intent answer =
 abbrev pub IsCompiled : Network → Intent → Compiled → Type 0
 IsCompiled net intent c = IsKept (legs_value net intent) net (ListRealizes net intent) (ListExecutes net intent) intent c
 
--- where there is no list, no legal list hands over even one inner packet at one hop limit along exactly the steps for all choices
-abbrev pub NoneHandsOver : Network → Intent → Result Compiled CompileFault → Type 0
-NoneHandsOver net intent (Ok c) = Unit {0}
-NoneHandsOver net intent (Err (faults.NotFlat why)) = Unit {0}
-NoneHandsOver net intent (Err (faults.NoList s)) =
-    (list : List Container) (inner : Content) (hop : ℕ) → IsLegalList net list → 0 < hop
-    → ¬ AlwaysHandsOver net intent (list_values net list) inner hop
-NoneHandsOver net intent (Err (faults.TooLong c)) = Unit {0}
-NoneHandsOver net intent (Err (faults.HopLimit c)) = Unit {0}
-NoneHandsOver net intent (Err faults.NoMemory) = Unit {0}
+-- the chosen list is the least of the lists that hand over even one inner packet: none needs fewer header bytes, nor has fewer containers,
+-- or as many at a hop limit that is not above its need
+pub record IsLeastOfAll (net : Network) (intent : Intent) (c : Compiled) : Type 0 where
+  pub fewest : (list : List Container) (hop : ℕ) → HandsSomeOver net intent list hop → c.header ≤ header_bytes intent.reduced (length list)
+  pub least : IsLeastOfHanding net intent c.containers c.need
+
+-- what an answer says of these lists: the chosen list is the least of them, and where there is none, there are none of them
+abbrev pub NoLessHandsOver : Network → Intent → Result Compiled CompileFault → Type 0
+NoLessHandsOver net intent (Ok c) = IsLeastOfAll net intent c
+NoLessHandsOver net intent (Err (faults.NotFlat why)) = Unit {0}
+NoLessHandsOver net intent (Err (faults.NoList s)) = NoneHandsOver net intent
+NoLessHandsOver net intent (Err (faults.TooLong c)) = IsLeastOfAll net intent c
+NoLessHandsOver net intent (Err (faults.HopLimit c)) = IsLeastOfAll net intent c
+NoLessHandsOver net intent (Err faults.NoMemory) = Unit {0}

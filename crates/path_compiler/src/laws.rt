@@ -8,12 +8,13 @@ ghost use Rattle.intent_reader.specs.Rules.{IsIntent};
 ghost use Rattle.intent_reader.specs.declared.intent.Intent.{Intent};
 ghost use Rattle.list_pack.specs.declared.types.Solution.{Solution};
 ghost use Rattle.list_pack.specs.Least.{IsSolution};
+ghost use Rattle.list_certificate.specs.declared.types.Verdict.{Verdict};
 ghost use Rattle.list_certificate.specs.declared.types.Verdict.TheVariants.{Least, NoList};
 ghost use Rattle.leg_table.specs.Realizes.{ListRealizes, ListExecutes};
 ghost use Rattle.leg_table.specs.Value.{legs_value};
 ghost use Rattle.path_compiler.specs.declared.compiled.Compiled.{Compiled};
 ghost use Rattle.path_compiler.specs.declared.compiled.CompileFault.{CompileFault};
-ghost use Rattle.path_compiler.specs.Checked.{Certifies, CertifiesAnswer};
+ghost use Rattle.path_compiler.specs.Checked.{Certifies, CertifiesAnswer, Says, SaysOfHanding};
 ghost use Rattle.path_compiler.specs.Compiled.{CompileAnswers, IsFound};
 
 /// In a flat network the certificate of what the search found, wherever its head stands, is judged
@@ -31,4 +32,14 @@ pub fn a_certificate_tells_what_was_compiled()
     ensures answers { (net : Network) (intent : Intent) (answer : Result Compiled CompileFault)
         → IsNetwork net → IsIntent net intent → CompileAnswers net intent answer
         → CertifiesAnswer net intent answer }
+{}
+
+/// What a verdict says of the legal lists that realize an intent holds in a flat network of those too
+/// that hand over even one inner packet at one hop limit: `Least` gives the least pair of these, with a
+/// hop limit in the place of a need one higher, and with `NoList` there are none. (own rule)
+pub fn a_verdict_speaks_of_lists_that_hand_over()
+    ensures { (net : Network) (intent : Intent) (verdict : Verdict)
+        → IsNetwork net → IsFlat net → IsIntent net intent
+        → Says net (ListRealizes net intent) (ListExecutes net intent) verdict
+        → SaysOfHanding net intent verdict }
 {}

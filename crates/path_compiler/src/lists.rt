@@ -5,7 +5,7 @@ ghost use Rattle.std.specs.Option.{option_map};
 ghost use Rattle.net_model.specs.Flat.{flatness_of};
 ghost use Rattle.intent_reader.specs.Rules.{IsIntent};
 ghost use Rattle.list_pack.specs.Least.{IsSolution};
-ghost use Rattle.path_compiler.specs.Compiled.{AnswersOver, CompileAnswers, IsFound, IsListIn, NoneHandsOver, cost_in};
+ghost use Rattle.path_compiler.specs.Compiled.{AnswersOver, CompileAnswers, IsFound, IsListIn, NoLessHandsOver, cost_in};
 
 use crate::compiled::{CompileFault, Compiled};
 use base::NoMemory;
@@ -122,12 +122,14 @@ pub fn compile_over<L: ListLegs>(
 /// Compiles an intent that keeps the rules in a network to the least legal list of SIDs that takes
 /// each packet of the intent along exactly its steps, whichever equal next hop is chosen, by
 /// `compile_over` over the legs of its strict steps. `NotFlat` comes exactly where the network is
-/// not flat, before all other answers. Where there is no list, none hands over even one inner packet
-/// at one hop limit so. (own rule)
+/// not flat, before all other answers. Of the legal lists that hand over even one inner packet at one
+/// hop limit so, none needs fewer header bytes than the list that is found, nor has fewer containers,
+/// or as many at a hop limit that is not above its need; where none is found there are none of them.
+/// (own rule)
 pub fn compile(alloc: Global, net: &Net, intent: &Intent) -> Result<Compiled, CompileFault>
     requires { IsIntent net.now intent.now }
     ensures answer { CompileAnswers net.now intent.now result }
-    ensures none { NoneHandsOver net.now intent.now result }
+    ensures handing { NoLessHandsOver net.now intent.now result }
 {
     net.keeps_rules();
     match compilable(net) {

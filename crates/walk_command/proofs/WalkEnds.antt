@@ -215,9 +215,9 @@ module _ (file intent choices schedule : List ℕ) where
             (λ input h. (
               Ok begins.0,
               begins.1,
-              tt,
+              begins.2,
               (
-                w input h ∙ ap (λ (p : Policy). walk_output net value p choices schedule input) begins.2,
+                w input h ∙ ap (λ (p : Policy). walk_output net value p choices schedule input) begins.3,
                 λ inner is. walks_keep net value begins.0 choices inner byte begins.1 some is,
               ),
             ))

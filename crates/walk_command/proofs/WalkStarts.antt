@@ -79,6 +79,6 @@ list_fits net intent c is compiled =
 pub policy_fits : (net : Network) (intent : Intent) (policy : Policy) → IsIntent net intent
     → StartsAs net intent (Ok (starts.List policy)) → IsPolicy policy
 policy_fits net intent policy is begins =
-    subst IsPolicy (sym begins.2) (list_fits net intent begins.0 is begins.1)
+    subst IsPolicy (sym begins.3) (list_fits net intent begins.0 is begins.1)
 
 pub ruleset segments = (addresses-of)

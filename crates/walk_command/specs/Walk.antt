@@ -27,7 +27,7 @@ use Rattle.leg_table.specs.Trace.{Handed, handed_over}
 use Rattle.path_compiler.specs.declared.compiled.Compiled.{Compiled}
 use Rattle.path_compiler.specs.declared.compiled.CompileFault.{CompileFault}
 use Rattle.path_compiler.specs.declared.compiled.CompileFault.TheVariants as faults
-use Rattle.path_compiler.specs.Compiled.{IsCompiled}
+use Rattle.path_compiler.specs.Compiled.{IsCompiled, IsLeastOfAll}
 use Rattle.packet_walk.specs.Schedule.{Coming}
 use Rattle.srx_edge.specs.Edge.{file_named}
 use Rattle.walk_command.specs.declared.walk.AtHeadend.{AtHeadend}
@@ -213,7 +213,8 @@ walk_shape file intent choices schedule = record {
 
 -- how a walk starts, as its steps answer it: with the policy of a list, or there is no list, or the refusal
 abbrev pub StartsAs : Network → Intent → Result Start Halt → Type 0
-StartsAs net intent (Ok (starts.List policy)) = (c : Compiled) × IsCompiled net intent c × (policy ≡ policy_of net intent c)
+StartsAs net intent (Ok (starts.List policy)) =
+    (c : Compiled) × IsCompiled net intent c × IsLeastOfAll net intent c × (policy ≡ policy_of net intent c)
 StartsAs net intent (Ok (starts.NoList told)) =
     (choices schedule input : List ℕ) → CompiledWants (WalkWants choices schedule input) net intent (no_list (bytes_of_text told))
 StartsAs net intent (Err (halts.Refused refusal)) =
