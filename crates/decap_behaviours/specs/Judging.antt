@@ -9,7 +9,7 @@ use Rattle.srv6_rules.specs.Endpoint.{Endpoint, Exposed, Delivered, Refused}
 use Rattle.decap_behaviours.specs.declared.judge.Judged.{Judged}
 use Rattle.decap_behaviours.specs.declared.judge.Judged.TheVariants.{Expose, Deliver, Refuse}
 
--- no segment is left in a segment routing header (RFC 8986 section 4.6, RFC 9800 section 4.2)
+-- no segment is left in a segment routing header (RFC 8986 sections 4.4 to 4.8, RFC 9800 section 4.2)
 abbrev pub has_ended : SidEntry → Packet → Header → Bool
 has_ended s p h =
     if is_replace s.csid then is_at_end (compression_of s) (srh_of h.bytes) p.destination else segments_left h == 0

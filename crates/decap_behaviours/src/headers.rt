@@ -19,7 +19,7 @@ use srv6_rules::{Csid, SidEntry};
 
 /// No segment is left in the segment routing header at a place of a packet: Segments Left is 0, and
 /// with REPLACE-CSID the destination's CSID is the last of the entry at 0 or its index is 0 (RFC
-/// 8986 section 4.6, RFC 9800 section 4.2).
+/// 8986 sections 4.4 to 4.8, RFC 9800 section 4.2).
 fn has_ended(sid: &SidEntry, packet: &[u8], place: ChainPlace, header: &[u8]) -> bool
     requires suits { SuitsCompression sid.now }
     requires packet { HoldsPacket packet.now }
@@ -34,8 +34,8 @@ fn has_ended(sid: &SidEntry, packet: &[u8], place: ChainPlace, header: &[u8]) ->
 }
 
 /// Why a routing header is refused, or none where it is passed over: a segment routing header with
-/// a segment left has bad segments (RFC 8986 section 4.6), and another header with segments left is
-/// unknown (RFC 8200 section 4.4).
+/// a segment left has bad segments (RFC 8986 sections 4.4 to 4.8), and another header with segments
+/// left is unknown (RFC 8200 section 4.4).
 fn routing_fault(sid: &SidEntry, packet: &[u8], place: ChainPlace, header: &[u8]) -> Option<Fault>
     requires ends { goes_on sid.now ≡ false }
     requires suits { SuitsCompression sid.now }

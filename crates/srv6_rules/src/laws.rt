@@ -575,7 +575,7 @@ pub fn onward_is_one_step()
 /// Decapsulation changes no byte: what is exposed are the packet's bytes from the place of the
 /// packet inside on. What they read as is a content that bytes can spell and that reads back; of a
 /// packet they begin with its spelling, and bytes that do not read are kept as they are (RFC 8986
-/// section 4.6).
+/// sections 4.4 to 4.8 and 4.16.3).
 pub fn decapsulation_changes_no_byte()
     ensures exposes { (s : SidEntry) (allow : List ℕ) (p : Packet) (family : Family)
         (bytes : List ℕ) → at_sid s allow p ≡ Exposed family bytes → ExposesFrom s p family bytes }
