@@ -21,7 +21,7 @@ abbrev pub asked_for_all : List (List ℕ) → FilesSeen → FilesSeen
 asked_for_all [] files = files
 asked_for_all (name ∷ names) files = asked_for_all names (asked_for name files)
 
--- with a fault of the files the last name that was asked for is the one that failed
+-- a fault of the files is one more; which of the names that were asked for failed isn't told
 
 abbrev pub files_left_by : Stop → FilesSeen → FilesSeen
 files_left_by Never files = files

@@ -35,8 +35,8 @@ pub enum Refusal {
     BadNode,
     /// 40: the text is no trace of the network.
     BadTrace {
-        /// The first bad line, counted from 1; where `end` or a line feed is missing, the line that
-        /// lacks it.
+        /// The first bad line, counted from 1; where a line feed is missing, the line that lacks
+        /// it, and where `end` is missing, the line behind the last.
         line: u32,
     },
     /// 41: an entry's prefix lies strictly inside a SID's.

@@ -25,7 +25,7 @@ fn fault_of_header(place: ChainPlace, header: &[u8]) -> Option<Fault>
 }
 
 /// A packet at the node's own address: why it is dropped, or none where its upper layer takes it
-/// (RFC 8200 section 4.4).
+/// (RFC 8200 section 4.4, RFC 8754 section 4.3.2).
 pub fn fault_at_address(packet: &Ip6View<'_>) -> Option<Fault>
     ensures { IsFaultOf packet.now (at_address packet.now) result }
 {

@@ -1,4 +1,4 @@
--- Containers that are open: what SIDs take in them, and what may follow their last SID (RFC 9800 section 4, and own rules).
+-- Containers that are open: what SIDs take in them, and what may follow their last SID (RFC 9800 sections 6.2 to 6.4, and own rules).
 use Rattle.std.specs.Prelude.{◌≡◌, ℕ, ◌+◌, ◌≤◌, ◌==◌, Bool, true, false, ◌&&◌, nat_le, List, [], ◌∷◌, map, Option, Some, None}
 use Rattle.v6_addr.specs.Address.{PrefixValue}
 use Rattle.srv6_rules.specs.declared.sid.Csid.{Csid}

@@ -1,4 +1,4 @@
--- Segment lists of a network's SIDs: containers of their prefixes, and which lists are legal (own profile of RFC 9800 section 4).
+-- Segment lists of a network's SIDs: containers of their prefixes, and which lists are legal (own profile of RFC 9800 sections 6.2 to 6.4).
 use Rattle.std.specs.Prelude.{◌≡◌, ℕ, Bool, true, false, ◌==◌, if◌then◌else◌, length, List, [], ◌∷◌, map, slice_get, Some, All}
 use Rattle.std.specs.List.{filter, flat_map, list_any}
 use Rattle.std.specs.Option.{option_map}

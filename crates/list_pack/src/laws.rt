@@ -53,7 +53,7 @@ pub fn a_cost_is_containers_and_hops()
 {}
 
 /// A path from the start is a legal list, with the path's steps and as many containers as it costs
-/// (RFC 9800 section 4, and own rule).
+/// (RFC 9800 sections 6.2 to 6.4, and own rule).
 pub fn a_path_is_a_legal_list()
     ensures { (v : LegsValue) (net : Network) (moves : List Move) (c : Cost) →
         KeepsLaws v → SuitsLists v (list_sid net) →
@@ -62,7 +62,7 @@ pub fn a_path_is_a_legal_list()
 
 /// SIDs whose prefixes are the first of a legal list's, up to one in its last container, and whose
 /// legs lead to a finish are a path: it has the list's steps, and costs its containers and the hops
-/// of the legs (RFC 9800 section 4, and own rule).
+/// of the legs (RFC 9800 sections 6.2 to 6.4, and own rule).
 pub fn a_legal_list_is_a_path()
     ensures { (v : LegsValue) (net : Network) (list : List Container) (sids : List ℕ) (hops : ℕ) →
         KeepsLaws v → SuitsLists v (list_sid net) → IsLegal (list_in net list) →

@@ -116,8 +116,8 @@ fn container_as(asked: &Option<Block>, first: Prefix, more: Vec<Prefix>) -> Cont
 }
 
 /// The list of a path: a container for each step that opens one, of its SID and of those that stay
-/// in it; a REPLACE container where one has to follow, else a full one (RFC 9800 section 4, and own
-/// rule).
+/// in it; a REPLACE container where one has to follow, else a full one (RFC 9800 sections 6.2 to
+/// 6.4, and own rule).
 pub fn list_of(alloc: Global, net: &Net, path: &[PathStep]) -> Result<SidList, NoMemory>
     ensures { IfOk result (λ list. list ≡ paths.list_of net.now path.now) }
 {

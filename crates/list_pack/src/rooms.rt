@@ -111,7 +111,7 @@ fn new_room(from: &Shape, room: u8, next: &Shape) -> Option<u8>
 /// block and its 16-bit units are within the room, behind a REPLACE SID where it is of the same
 /// block and room is left. A new container is a REPLACE container behind a REPLACE SID without
 /// room, and the next SID is then of the same block; else it is a full one, also from the start,
-/// where no SID was executed (RFC 9800 section 4, and own rule).
+/// where no SID was executed (RFC 9800 sections 6.2 to 6.4, and own rule).
 pub fn room_behind(stays: bool, from: &Option<Shape>, room: u8, next: &Shape) -> Option<u8>
     requires { IsShape next.now }
     ensures { result ≡ room_behind stays from.now room next.now }

@@ -241,7 +241,7 @@ fn all_named(net: &Net, list: &[Container]) -> bool
 }
 
 /// Whether a list is legal in a network: its containers keep the rules of lists, and its prefixes
-/// are those of SIDs (own profile of RFC 9800 section 4).
+/// are those of SIDs (own profile of RFC 9800 sections 6.2 to 6.4).
 pub fn is_legal(net: &Net, list: &SidList) -> bool
     ensures { IsTrue result ↔ IsLegalList net.now list.now }
 {

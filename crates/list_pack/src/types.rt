@@ -31,7 +31,7 @@ pub struct Shape {
     /// The SID's prefix: the bits of its locator and function.
     pub prefix: Prefix,
     /// The number of the block that the SID's prefix lies in, if it lies in one (RFC 9800
-    /// section 4).
+    /// section 3).
     pub block: Option<u32>,
     /// How many bits the prefixes of the block share; 0 where there is no block.
     pub lbl: u8,

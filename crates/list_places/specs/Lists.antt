@@ -1,5 +1,5 @@
--- Segment lists over compressed SIDs (RFC 9800 section 4): containers of 16 bytes, each of whole SIDs or of CSIDs, their values, and which
--- lists are legal. Lengths count bits, and an address has 128.
+-- Segment lists over compressed SIDs: containers of 16 bytes, each of whole SIDs or of CSIDs, their values (RFC 9800 sections 4.1 and 4.2),
+-- and which lists are legal (sections 6.2 to 6.4). Lengths count bits, and an address has 128.
 use Rattle.std.specs.Prelude.{◌≡◌, ℕ, ◌+◌, ◌-◌, ◌≤◌, ◌==◌, if◌then◌else◌, List, [], ◌∷◌, ◌++◌, length, map, All, Option, Some, None, ◌⊎◌}
 use Rattle.v6_addr.specs.Address.{PrefixValue, IsPrefix}
 use Rattle.srv6_rules.specs.declared.sid.Csid.{Csid}
@@ -85,7 +85,7 @@ value_of (Packed s ss) = packed_value s.block (s ∷ ss)
 abbrev pub values_of : List Container → List ℕ
 values_of cs = map value_of cs
 
--- ---- legal lists, by the rules of lists alone (own profile of RFC 9800 section 4)
+-- ---- legal lists, by the rules of lists alone (own profile of RFC 9800 sections 6.2 to 6.4)
 
 -- all SIDs but the last have a flavour
 abbrev pub HaveButLast : Csid → List ListSid → Type 0

@@ -24,8 +24,8 @@ pub fn values_are_addresses()
         → All (λ a. a < 2 ^ 128) (values_of cs) }
 {}
 
-/// A legal list over SIDs of a flat network has a first place, and each place in it that is not the
-/// last has a next one (own rule).
+/// A legal list has a first place, which over SIDs of a flat network is a place of a legal list
+/// over such SIDs; and what is next to such a place is one too (own rule).
 pub fn legal_list_has_places()
     ensures some { (cs : List Container) → IsLegal cs → (x : Place) × (first_of cs ≡ Some x) }
     ensures first { (cs : List Container) (x : Place) → IsLegal cs → IsFlatList cs

@@ -90,10 +90,10 @@ fn judged<L: ListLegs>(
 /// Compiles to the least list over any legs of a flat network that mean what their lists realize:
 /// no legal list of the network that realizes it has fewer containers of 16 bytes, or as many and a
 /// smaller need, and of equal ones all of whose SIDs are executed it is the first, SID by SID (own
-/// rule; containers are those of RFC 9800 section 6, the header is that of RFC 8986 sections 5.1 and
-/// 5.2). The intent gives the form of the header and the bounds: `NoList` exactly where no legal
-/// list realizes it, else `TooLong` where the least list has more than `max_containers` containers,
-/// else `HopLimit` where its need is not below `hop_limit`.
+/// rule; containers are those of RFC 9800 sections 6.2 to 6.4, the header is that of RFC 8986
+/// sections 5.1 and 5.2). The intent gives the form of the header and the bounds: `NoList` exactly
+/// where no legal list realizes it, else `TooLong` where the least list has more than
+/// `max_containers` containers, else `HopLimit` where its need is not below `hop_limit`.
 pub fn compile_over<L: ListLegs>(
     alloc: Global,
     net: &Net,

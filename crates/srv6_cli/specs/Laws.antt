@@ -16,8 +16,9 @@ HadFault old new = (new.faults ≡ next_count old.faults) × (new.wants ≡ old.
 abbrev pub HadWant : SinkSeen → SinkSeen → Type 0
 HadWant old new = (new.wants ≡ next_count old.wants) × (new.faults ≡ old.faults) × IsTrue new.stopped
 
--- what follows in the order files, input, pieces was neither read nor written; where `out` was stopped, `err` had no
--- fault and no want, and received nothing where the command's lines stand behind all of `out`
+-- after a fault of the files the input and the sinks are as they were; after one of the input no read that did anything came,
+-- and the sinks are as they were; where `out` was stopped, `err` had no fault and no want, and received nothing where the
+-- command's lines stand behind all of `out`
 
 abbrev pub AfterFilesFault : Outside → Outside → Type 0
 AfterFilesFault old new = (new.files.faults ≡ next_count old.files.faults) × (new.input ≡ old.input) × (new.sinks ≡ old.sinks)
@@ -43,7 +44,7 @@ NoFault old new = (new.files.faults ≡ old.files.faults) × (new.input.faults �
 abbrev pub NoWant : Outside → Outside → Type 0
 NoWant old new = (new.sinks.out.wants ≡ old.sinks.out.wants) × (new.sinks.err.wants ≡ old.sinks.err.wants)
 
--- one of the four counts of faults went on by one
+-- at least one of the four counts of faults went on by one
 abbrev pub OneFault : Outside → Outside → Type 0
 OneFault old new = (new.files.faults ≡ next_count old.files.faults) ⊎ ((new.input.faults ≡ next_count old.input.faults)
     ⊎ ((new.sinks.out.faults ≡ next_count old.sinks.out.faults) ⊎ (new.sinks.err.faults ≡ next_count old.sinks.err.faults)))

@@ -13,7 +13,7 @@ use Rattle.srv6_cli.specs.Words.{Command}
 -- what a call of `serve` leaves, by its status
 pub record Serves (command : Command) (status : Status) (old new : Outside) : Type 0 where
   -- The call ended whole, or it stopped at one place, with one fault or want of memory: what comes before that place in
-  -- the order files, input, pieces was done, and nothing came after it.
+  -- the order files, input, pieces was done, and nothing that follows it there.
   pub stop : Stop
   pub ending : ending_by stop ≡ ending_of_status status
   -- What was written is one of the outputs that are wanted of what the files and the input tell: all of it, or up to the

@@ -6,8 +6,11 @@ ghost use Rattle.srv6_cli.specs.Laws.{OfServe, HadFault, HadWant, AfterFilesFaul
 
 use command_output::Status;
 
-/// Where a count of faults changed, it went on by one, what failed was not called again, and what
-/// follows it in the order files, input, pieces was neither read nor written. (own rule)
+/// Where a count of faults changed, it went on by one. After a fault of the files the input and
+/// both sinks are as they were. After one of the input no later read gave anything, and both sinks
+/// are as they were. After one of a sink no later write to it sent anything; where that is `out`,
+/// `err` had no fault and no want, and is as it was where the command's lines stand behind all of
+/// `out`. (own rule)
 pub fn a_fault_is_the_last_thing()
     ensures files { OfServe (λ command status old new.
         new.files.faults ≢ old.files.faults → AfterFilesFault old new) }
@@ -19,8 +22,9 @@ pub fn a_fault_is_the_last_thing()
         new.sinks.err.faults ≢ old.sinks.err.faults → HadFault old.sinks.err new.sinks.err) }
 {}
 
-/// Where a sink's count of wants changed, it went on by one, the sink was not written again, and
-/// what follows it in the order of pieces was not written. (own rule)
+/// Where a sink's count of wants changed, it went on by one, the sink had no fault, and no later
+/// write to it sent anything. Where it is `out`, `err` had no fault and no want, and is as it was
+/// where the command's lines stand behind all of `out`. (own rule)
 pub fn a_want_in_a_sink_is_the_last_thing()
     ensures out { OfServe (λ command status old new.
         new.sinks.out.wants ≢ old.sinks.out.wants → AfterOutWant command old new) }
@@ -28,7 +32,8 @@ pub fn a_want_in_a_sink_is_the_last_thing()
         new.sinks.err.wants ≢ old.sinks.err.wants → HadWant old.sinks.err new.sinks.err) }
 {}
 
-/// With OutsideFault one count of faults went on, and with every other status none changed; with
+/// With OutsideFault at least one of the four counts of faults went on by one (one alone by
+/// `Serves`, where the call stops at one place), and with every other status none changed; with
 /// every status but NoMemory no count of wants changed. (own rule)
 pub fn counts_go_with_their_status()
     ensures fault { OfServe (λ command status old new.

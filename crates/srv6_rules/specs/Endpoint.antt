@@ -1,6 +1,6 @@
 -- What a node does with a packet that came to one of its SIDs or to its own address: RFC 8986 sections 4.1 to 4.8, 4.13 and 4.14
 -- with the flavours of section 4.16, RFC 9800 sections 4.1 and 4.2, and the processing of RFC 8754 section 4.3.1.1, and RFC 8200
--- sections 4 and 4.4 at an address.
+-- sections 4 and 4.4 with RFC 8754 section 4.3.2 at an address.
 use Rattle.std.specs.Prelude.{◌≡◌, ◌≢◌, ◌⊎◌, ℕ, ◌+◌, ◌-◌, ◌<◌, ◌≤◌, Bool, true, false, ◌==◌, ◌&&◌, ◌||◌, not, nat_lt, nat_le, if◌then◌else◌, List, [], ◌∷◌, ◌++◌, length, take, slice_index, slice_set, All, Option, Some, None}
 use Rattle.std.specs.List.{list_any}
 use Rattle.srv6_rules.specs.declared.numbers.TheConstants.{HOP_LIMIT_AT, DESTINATION_AT}
@@ -184,7 +184,8 @@ at_end s allow p (Cut place) = Refused reasons.BadChain place.at
 abbrev pub at_sid : SidEntry → List ℕ → Packet → Endpoint
 at_sid s allow p = let c = chain_of p in over_headers (at_header s p) c.headers (at_end s allow p c.end)
 
--- a header at the node's own address, where every routing header is unknown
+-- a header at the node's own address, where every routing header is unknown, one of segment routing too (RFC 8200 section 4.4,
+-- RFC 8754 section 4.3.2)
 abbrev pub at_address_header : Header → Endpoint → Endpoint
 at_address_header h behind = at_header_by unknown_routing h behind
 

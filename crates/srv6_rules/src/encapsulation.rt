@@ -98,7 +98,7 @@ pub fn end_goes_on_to_the_next_segment()
 /// USD, has the packet inside as an upper layer, with USP without the segment routing header; and
 /// one that does, as End.DT6, exposes the inner bytes; those of a packet whose spelling was put in
 /// read as that packet. So it is too where the header was taken out on the way (RFC 8986 sections
-/// 4.1 to 4.6 and 4.16).
+/// 4.1 to 4.8 and 4.16).
 pub fn last_segment_has_the_packet_inside()
     ensures upper_layer { (s : SidEntry) → s.csid ≡ Plain
         → (allow : List ℕ) (e : Encapsulation) (inner : List ℕ) (i hop : ℕ) → s.usp ≡ false → exposes s ipv6_inside ≡ false → i + 1 ≡ length e.segments

@@ -11,10 +11,11 @@ ghost use Rattle.run_commands.specs.Capture.{frames_of};
 ghost use Rattle.run_commands.specs.Scheduled.{frames_sent};
 ghost use Rattle.walk_command.specs.Walk.{WalksKeepTo, comings_at_headend};
 
-/// An inner packet whose hop limit is at least 2, and whose outer packet is not too big, enters at
-/// the headend. Its walk, which `walk` writes, crosses and executes exactly the intent's steps, in
-/// order, up to where it first hands a packet over, whatever is chosen; and that is the inner packet
-/// with its hop limit lowered by one, and nothing else changed. (RFC 8986 sections 5.1 and 5.2)
+/// An inner packet of the intent's family whose hop limit or TTL is at least 2, and whose outer
+/// packet is not too big, enters at the headend. Its walk, which `walk` writes, crosses and
+/// executes exactly the intent's steps, in order, up to where it first hands a packet over,
+/// whatever is chosen; and that is the inner packet with its hop limit or TTL lowered by one (with
+/// IPv4 the checksum that follows too) and nothing else changed. (RFC 8986 sections 5.1 and 5.2)
 pub fn a_walk_keeps_to_the_intent()
     ensures { WalksKeepTo }
 {}
