@@ -1,7 +1,9 @@
-//! What commands read: files and words that are judged, choices, and the packets of the input.
+//! What commands read: files and words that are judged, choices and schedules, and the packets of
+//! the input.
 //!
-//! `specs/Judgements.antt` says what each file and word gives, or its refusal, and
-//! `specs/Packets.antt` which packets an input has.
+//! `specs/Judgements.antt` says what each file and word gives, or its refusal, `specs/Choices.antt`
+//! which numbers the words of choices and of a schedule give, and `specs/Packets.antt` which packets
+//! an input has.
 #![tactic(auto)]
 
 mod choices;
