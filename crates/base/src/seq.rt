@@ -20,21 +20,21 @@ impl<T> Model for Seq<T> {
 }
 
 impl<T> Seq<T> {
-    /// The items of a `Vec`, in this order.
+    /// The items of a `Vec`, in this order (own rule).
     pub fn new(items: Vec<T>) -> Seq<T>
         ensures { result ≡ items.items }
     {
         Seq { items }
     }
 
-    /// The items, in order.
+    /// The items, in order (own rule).
     pub fn as_slice(&self) -> &[T]
         ensures { result.now ≡ self.now }
     {
         self.items.as_slice()
     }
 
-    /// The items as a `Vec`.
+    /// The items as a `Vec` (own rule).
     pub fn into_vec(self) -> Vec<T>
         ensures { result.items ≡ self }
     {

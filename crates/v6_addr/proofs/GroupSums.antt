@@ -1,7 +1,6 @@
 -- groups of 16 bits and the numbers that they make
 use Rattle.std.proofs.Common.{◌≡◌, ℕ, zero, suc, ◌+◌, ◌-◌, ◌*◌, ◌^◌, ◌<◌, ◌≤◌, List, [], ◌∷◌, ◌++◌, length, get_or, take, drop, fold, replicate, Option, Some, None, sym, ◌∙◌, ap, subst, refl, arith, lit<, add-zero}
 use Rattle.std.proofs.lemmas.List.Sums.{fold_more}
-use Rattle.std.proofs.lemmas.List.{take_all}
 use Rattle.std.proofs.lemmas.Nat.{mul-add-lt, pow-add}
 use Rattle.std.proofs.Math.Nat.{pow-le-pow_right, mul_assoc}
 use Rattle.std.proofs.lemmas.List.{length-replicate}
@@ -34,14 +33,6 @@ more_groups groups value group count within so_far is_group small = record {
       ∙ sym (fold_more (λ n g. n * 2 ^ 16 + g) 0 groups count 0 within);
   bound = more_bound value group count so_far.bound small;
 }
-
-pub all_groups : (groups : List ℕ) (value count : ℕ) → count ≡ length groups → SummedGroups groups value count
-    → (value ≡ number_of_groups groups) × (value < 2 ^ (16 * length groups))
-all_groups groups value count whole so_far = (
-  so_far.same ∙ ap number_of_groups (take_all count groups (omega arith)),
-  let P : ℕ → Type 0 = λ n. value < 2 ^ (16 * n) in
-      subst P whole so_far.bound,
-)
 
 pub no_groups_yet : (groups : List ℕ) → SummedGroups groups 0 0
 unfolding number_of_groups

@@ -1,4 +1,5 @@
-/// A text that is outside the grammar of addresses, or of prefixes.
+/// A text that is outside the grammar of addresses, or of prefixes (RFC 4291 sections 2.2 and 2.3,
+/// RFC 6943 section 3.1.1, RFC 4632 section 3.1).
 #[derive(thiserror::Error, Debug, Clone, Copy, PartialEq, Eq)]
 #[error("not an address or prefix")]
 pub struct BadAddr {

@@ -17,7 +17,8 @@ pub fn longest_run_rule()
     ensures { (groups : List ℕ) → IsLongestRun groups (longest_run groups) }
 {}
 
-/// A law: the text of an address has at most 39 bytes, and is read as that address.
+/// A law: the text of an address has at most 39 bytes, and is read as that address (RFC 4291
+/// section 2.2, RFC 5952 section 4).
 pub fn address_reads_back()
     ensures read_back { (a : ℕ) → a < 2 ^ 128 → address_of_text (address_text a) ≡ Some a }
     ensures len { (a : ℕ) → length (address_text a) ≤ 39 }
@@ -30,13 +31,14 @@ pub fn prefix_grammar()
         → (prefix_of_text text ≡ Some p) ↔ IsPrefixText text p }
 {}
 
-/// A law: the text of a prefix has at most 43 bytes, and is read as that prefix.
+/// A law: the text of a prefix has at most 43 bytes, and is read as that prefix (RFC 4291 section
+/// 2.3, RFC 5952 section 4).
 pub fn prefix_reads_back()
     ensures read_back { (p : PrefixValue) → IsPrefix p → prefix_of_text (prefix_text p) ≡ Some p }
     ensures len { (p : PrefixValue) → length (prefix_text p) ≤ 43 }
 {}
 
-/// A law: a text writes one IPv4 address at most.
+/// A law: a text writes one IPv4 address at most (RFC 6943 section 3.1.1).
 pub fn address4_grammar()
     ensures { (text : List ℕ) (a b : ℕ) → IsAddress4Text text a → IsAddress4Text text b → a ≡ b }
 {}
@@ -50,7 +52,8 @@ pub fn texts4_are_read()
         → (prefix4_of_text text ≡ Some p) ↔ IsPrefix4Text text p }
 {}
 
-/// A law: the text of an IPv4 address has at most 15 bytes, and is read as that address.
+/// A law: the text of an IPv4 address has at most 15 bytes, and is read as that address (RFC 6943
+/// section 3.1.1).
 pub fn address4_reads_back()
     ensures read_back { (a : ℕ) → a < 2 ^ 128 → a % 2 ^ 96 ≡ 0
         → IsAddress4Text (address4_text a) a }
@@ -59,7 +62,8 @@ pub fn address4_reads_back()
 
 /// Laws on what prefixes hold: a prefix holds its own address, and one of 128 bits no other; what a
 /// prefix holds is held by each prefix that it lies inside; of two prefixes that hold one address
-/// the shorter holds the other's and all that the other holds, and two of one length are one.
+/// the shorter holds the other's and all that the other holds, and two of one length are one (RFC
+/// 4291 section 2.3).
 pub fn prefixes_nest()
     ensures own { (p : PrefixValue) → Holds p p.value }
     ensures whole { (p : PrefixValue) (a : ℕ) → p.len ≡ 128 → Holds p a ↔ (a ≡ p.value) }
@@ -73,7 +77,7 @@ pub fn prefixes_nest()
         → Holds p a → Holds q a → p.value ≡ q.value }
 {}
 
-/// Laws on the tests of prefixes: each is true exactly where its fact holds.
+/// Laws on the tests of prefixes: each is true exactly where its fact holds (RFC 4291 section 2.3).
 pub fn prefix_tests()
     ensures holds { (p : PrefixValue) (a : ℕ) → IsTrue (holds_address p a) ↔ Holds p a }
     ensures inside { (inner outer : PrefixValue)
@@ -81,7 +85,7 @@ pub fn prefix_tests()
 {}
 
 /// Laws on a field that is written: it is read back, each other field is as it was, the result is
-/// an address, and a prefix that ends before the field still holds it.
+/// an address, and a prefix that ends before the field still holds it (own rule).
 pub fn fields_apart()
     ensures same { (a at width v : ℕ) → at + width ≤ 128 → v < 2 ^ width
         → field_of (with_field_of a at width v) at width ≡ v }

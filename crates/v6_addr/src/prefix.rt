@@ -25,7 +25,7 @@ impl Model for Prefix {
 
 impl Prefix {
     /// The prefix of an address and a length in bits. `None` exactly where the length is above 128
-    /// or a bit past it is set.
+    /// or a bit past it is set (RFC 4291 section 2.3; that no bit past it is set is an own rule).
     pub fn new(value: Addr, len: u8) -> Option<Prefix>
         ensures is_prefix { IsSome result ↔ IsPrefix (record { value = value.value; len = len }) }
         ensures value { IfSome result (λ p. p ≡ record { value = value.value; len = len }) }
@@ -36,7 +36,7 @@ impl Prefix {
         Some(Prefix { value, len })
     }
 
-    /// The address that the prefix begins with.
+    /// The address that the prefix begins with (RFC 4291 section 2.3).
     pub fn value(&self) -> Addr
         ensures value { result.value ≡ self.now.value }
         ensures is_prefix { IsPrefix self.now }
@@ -44,7 +44,7 @@ impl Prefix {
         self.value
     }
 
-    /// The length in bits, from 0 to 128.
+    /// The length in bits, from 0 to 128 (RFC 4291 section 2.3).
     pub fn len(&self) -> u8
         ensures len { result ≡ self.now.len }
         ensures is_prefix { IsPrefix self.now }
@@ -53,7 +53,7 @@ impl Prefix {
     }
 
     /// Whether the address is in the prefix: both agree in the first bits, as many as the prefix's
-    /// length.
+    /// length (RFC 4291 section 2.3).
     pub fn holds(&self, a: Addr) -> bool
         ensures test { result ≡ holds_address self.now a.value }
         ensures fact { IsTrue result ↔ Holds self.now a.value }
@@ -63,7 +63,7 @@ impl Prefix {
     }
 
     /// Whether the prefix lies strictly inside another: it is longer, and the other holds its
-    /// address.
+    /// address (RFC 4291 section 2.3).
     pub fn inside(&self, outer: &Prefix) -> bool
         ensures test { result ≡ is_inside self.now outer.now }
         ensures fact { IsTrue result ↔ IsInside self.now outer.now }
