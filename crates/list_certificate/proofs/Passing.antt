@@ -1,6 +1,6 @@
 -- Which moves pass, and what it says of a state that all of them do.
 use Rattle.std.proofs.Common.{◌≡◌, ℕ, ◌+◌, ◌<◌, ◌≤◌, inl, inr, Bool, true, false, List, length, Option, Some, None, slice_get, Contains, get_or, sym, ◌∙◌, ap, subst, arith}
-use Rattle.std.specs.Option.{option_map, option_and_then}
+use Rattle.std.specs.Option.{option_map}
 use Rattle.std.proofs.lemmas.Bool.{cases_lt}
 use Rattle.std.proofs.lemmas.Option.{none-some, same_Some, slice_get_within, slice_get-get_or}
 use Rattle.list_pack.specs.declared.types.Cost.{Cost}
@@ -9,9 +9,9 @@ use Rattle.list_pack.specs.declared.types.Shape.{Shape}
 use Rattle.list_pack.specs.declared.types.Leg.{Leg}
 use Rattle.list_pack.specs.Value.{LegsValue, KeepsLaws}
 use Rattle.list_pack.specs.Rooms.{room_behind}
-use Rattle.list_pack.specs.Costs.{Move, Edge, plus, move_cost, room_of, edge_by, edge_of, last_of, behind, Under}
+use Rattle.list_pack.specs.Costs.{Edge, room_of, edge_of, last_of, behind, Under}
 use Rattle.list_pack.specs.Least.{IsGoodAt}
-use Rattle.list_pack.proofs.PublicLaws.{under-none, under-behind, under-last, edge-parts, edge-made, last-parts}
+use Rattle.list_pack.proofs.PublicLaws.{under-behind, under-last, edge-parts, last-parts}
 use Rattle.list_certificate.specs.declared.types.PotentialLine.{PotentialLine}
 use Rattle.list_certificate.specs.Certs.{potential_at}
 use Rattle.list_certificate.specs.Tests.{PassesMove, PassesLast, move_of, PassLegsTo, PassLegs, PassEnds}
@@ -31,27 +31,6 @@ both-stays P h k true = h
 both-stays P h k false = k
 
 module _ (v : LegsValue) (lines : List PotentialLine) (s : State) where
-  -- a move without room, or to a state that is not listed
-  pub no-room : (m : Move) → room_of v s m ≡ None → PassesMove v lines s m
-  no-room m e =
-      let none : edge_of v s m ≡ None =
-      ap (λ (o : Option ℕ). option_and_then (λ (r : ℕ). option_map (edge_by m r) (v.leg s.position s.via m.sid)) o) e in
-      subst (λ (o : Option Edge). Under (potential_at lines s) (behind o (potential_at lines))) (sym none)
-      (under-none (potential_at lines s))
-
-  by-room : (m : Move) (room : ℕ) (leg : Leg) → room_of v s m ≡ Some room → v.leg s.position s.via m.sid ≡ Some leg → (rest : Option Cost)
-      → potential_at lines (record { position = leg.to; via = Some m.sid; room = room }) ≡ rest
-      → behind (edge_of v s m) (potential_at lines) ≡ option_map (plus (move_cost m.stays leg.hops)) rest
-  by-room m room leg e f rest h =
-      ap (λ (o : Option Edge). behind o (potential_at lines)) (edge-made v s m room leg e f)
-      ∙ ap (λ (o : Option Cost). option_map (plus (move_cost m.stays leg.hops)) o) h
-
-  unlisted : (m : Move) (room : ℕ) (leg : Leg) → room_of v s m ≡ Some room → v.leg s.position s.via m.sid ≡ Some leg
-      → potential_at lines (record { position = leg.to; via = Some m.sid; room = room }) ≡ None
-      → PassesMove v lines s m
-  unlisted m room leg e f h =
-      subst (λ (o : Option Cost). Under (potential_at lines s) o) (sym (by-room m room leg e f None h)) (under-none (potential_at lines s))
-
   pub room-is : (n : ℕ) (stays : Bool) (from : Option Shape) (next : Shape) (o p : Option ℕ) → from ≡ option_map v.shape s.via
       → next ≡ v.shape n
       → o ≡ room_behind stays from s.room next → o ≡ p → room_of v s (move_of n stays) ≡ p
@@ -68,9 +47,6 @@ module _ (v : LegsValue) (lines : List PotentialLine) (s : State) where
   SomeLegsTo to sids count = (i n : ℕ) (leg : Leg) (stays : Bool) → i < count → slice_get sids i ≡ Some n
       → v.leg s.position s.via n ≡ Some leg → leg.to ≡ to
       → PassesMove v lines s (move_of n stays)
-
-  pub legs-none : (to : ℕ) (sids : List ℕ) → SomeLegsTo to sids 0
-  legs-none to sids i n leg stays h = absurd (omega (arith, h))
 
   pub legs-more : (to : ℕ) (sids : List ℕ) (count n : ℕ) → slice_get sids count ≡ Some n
       → ((leg : Leg) (stays : Bool) → v.leg s.position s.via n ≡ Some leg → leg.to ≡ to → PassesMove v lines s (move_of n stays))
@@ -99,13 +75,6 @@ module _ (v : LegsValue) (lines : List PotentialLine) (s : State) where
   LegsBelow to = (n : ℕ) (leg : Leg) (stays : Bool) → v.leg s.position s.via n ≡ Some leg → leg.to < to
       → PassesMove v lines s (move_of n stays)
 
-  pub below-more : (to : ℕ) → PassLegsTo v lines s to → LegsBelow to → LegsBelow (to + 1)
-  below-more to here so n leg stays e h =
-      elim (cases_lt leg.to to) as (λ w. PassesMove v lines s (move_of n stays)) [
-        | inl less ↦ so n leg stays e less
-        | inr more ↦ here n leg stays e (omega (arith, h, more))
-      ]
-
   pub below-all : KeepsLaws v → (to : ℕ) → v.steps < to → LegsBelow to → PassLegs v lines s
   below-all laws to h so m =
       under-behind v (potential_at lines s) (edge_of v s m) (potential_at lines) (λ e k.
@@ -117,9 +86,6 @@ module _ (v : LegsValue) (lines : List PotentialLine) (s : State) where
   -- moves to the end by some of the SIDs of the last position
   abbrev pub SomeEnds : List ℕ → ℕ → Type 0
   SomeEnds sids count = (i n : ℕ) (stays : Bool) → i < count → slice_get sids i ≡ Some n → PassesLast v lines s (move_of n stays)
-
-  pub ends-none : (sids : List ℕ) → SomeEnds sids 0
-  ends-none sids i n stays h = absurd (omega (arith, h))
 
   pub ends-more : (sids : List ℕ) (count n : ℕ) → slice_get sids count ≡ Some n
       → ((stays : Bool) → PassesLast v lines s (move_of n stays))

@@ -8,7 +8,7 @@ use Rattle.list_pack.specs.declared.types.State.{State}
 use Rattle.list_pack.specs.declared.types.PathStep.{PathStep}
 use Rattle.list_pack.specs.declared.types.Leg.{Leg}
 use Rattle.list_pack.specs.Value.{LegsValue, KeepsLaws}
-use Rattle.list_pack.specs.Costs.{Move, Edge, plus, nothing, move_cost, room_of, edge_by, edge_of, last_of, behind, cost_of, start, IsState}
+use Rattle.list_pack.specs.Costs.{Move, Edge, plus, move_cost, room_of, edge_by, edge_of, last_of, behind, cost_of, start, IsState}
 use Rattle.list_pack.specs.Least.{step_of}
 use Rattle.list_pack.proofs.PublicLaws.{edge-parts, edge-made, last-parts, last-made}
 use Rattle.list_pack.proofs.Costing.{edge-state}
@@ -159,14 +159,6 @@ plus-three a b (Some c) =
     let two : a.hops + (b.hops + c.hops) ≡ a.hops + b.hops + c.hops = omega arith in
     ap (λ (x : ℕ). let y : Cost = record { containers = x; hops = a.hops + (b.hops + c.hops) } in Some y) one
     ∙ ap (λ (x : ℕ). let y : Cost = record { containers = a.containers + b.containers + c.containers; hops = x } in Some y) two
-
-plus-none : (o : Option Cost) → option_map (plus nothing) o ≡ o
-plus-none None = refl
-plus-none (Some c) =
-    let one : 0 + c.containers ≡ c.containers = omega arith in
-    let two : 0 + c.hops ≡ c.hops = omega arith in
-    ap (λ (x : ℕ). let y : Cost = record { containers = x; hops = 0 + c.hops } in Some y) one
-    ∙ ap (λ (x : ℕ). let y : Cost = record { containers = c.containers; hops = x } in Some y) two
 
 leads-more : (v : LegsValue) (s t : State) (steps : List PathStep) (step : PathStep) (e : Edge) → Leads v s steps t → GoesAlong v t step e
     → Leads v s (steps ++ step ∷ []) e.to

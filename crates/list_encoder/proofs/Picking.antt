@@ -3,7 +3,7 @@ use Rattle.std.proofs.Common.{◌≡◌, ℕ, ◌+◌, ◌*◌, ◌<◌, ◌≤�
 use Rattle.std.specs.Prelude.{cond}
 use Rattle.std.specs.Option.{option_map}
 use Rattle.std.proofs.lemmas.Bool.{false≢true, cases_lt, false_from_ne_true}
-use Rattle.std.proofs.lemmas.Option.{none-some, slice_get_within}
+use Rattle.std.proofs.lemmas.Option.{slice_get_within}
 use Rattle.list_pack.specs.declared.types.Shape.{Shape}
 use Rattle.list_pack.specs.declared.types.PathStep.{PathStep}
 use Rattle.list_pack.specs.Value.{LegsValue, KeepsLaws}
@@ -61,14 +61,6 @@ found-both v cells t spot (Some p) None h k = h
 found-both v cells t spot (Some p) (Some q) h k = either-pick v cells t spot p q (path_before (q.step ∷ []) (p.step ∷ [])) h k
 
 -- one move
-module _ (v : LegsValue) (laws : KeepsLaws v) (cells : List Cell) (t : Costs) (spot : Spot) (link : Link) (stays : Bool)
-    (is : IsLink v cells link)
-    (from : link.from ≡ spot.place) where
-  pub no-room : (o : Option ℕ) → o ≡ None → o ≡ room_behind stays (option_map v.shape spot.cell.via) spot.room (v.shape link.sid)
-      → PicksMoves v cells t spot link stays None
-  no-room o e f =
-      record { found = tt; covers = λ left rest tight. none-some left (sym e ∙ f ∙ tight.room_is) }
-
 pub pick-range : (v : LegsValue) → KeepsLaws v → (cells : List Cell) (t : Costs) (spot : Spot) (link : Link) (stays : Bool) (left : ℕ)
     → IsLink v cells link
     → length t ≡ 8 * length cells → spot.room < 8

@@ -19,7 +19,7 @@ use Rattle.list_encoder.specs.declared.table.Link.{Link}
 use Rattle.list_encoder.specs.Cells.{cell_at}
 use Rattle.list_encoder.specs.Table.{Costs, at, entry, rest_at, offer, LeadsTo, IsLink, IsSound, Passed, LinkHolds, Holds, RoomHolds, RoomRelaxed, RoomsRelaxed, Relaxed, LeavesRoom, IsShapeOf, EndsHold, EndsRelaxed, LegsHold, Keeps, LegsRelaxed, AreLinks}
 use Rattle.list_encoder.proofs.Celling.{some-same, place_of}
-use Rattle.list_encoder.proofs.Tables.{kept-passed, passed-then}
+use Rattle.list_encoder.proofs.Tables.{passed-then}
 
 -- what is left behind a link falls where the table does
 pub rest-falls : (before after : Costs) (to : Option ℕ) (left : ℕ) → ((i : ℕ) → Under (at after i) (at before i))
@@ -195,11 +195,6 @@ pub record EndsSoFar (v : LegsValue) (cells : List Cell) (k : ℕ) (before after
   pub holds : (link : Link) (i : ℕ) → link.from ≡ k → link.to ≡ None → IsLink v cells link → i < count → slice_get sids i ≡ Some link.sid
       → Holds v cells after link
 
-pub ends-none : (v : LegsValue) (cells : List Cell) (k : ℕ) (t : Costs) (sids : List ℕ) → IsSound v cells t
-    → EndsSoFar v cells k t t sids 0 false
-ends-none v cells k t sids sound =
-    record { sound = sound; passed = kept-passed (k + 1) t; holds = λ link i f to is h e. absurd (omega (arith, h)) }
-
 pub ends-skip : (v : LegsValue) (cells : List Cell) (k : ℕ) (t0 t : Costs) (sids : List ℕ) (count sid : ℕ) (changed : Bool) (cell : Cell)
     → slice_get cells k ≡ Some cell → slice_get sids count ≡ Some sid → v.finish cell.position cell.via sid ≡ None
     → EndsSoFar v cells k t0 t sids count changed → EndsSoFar v cells k t0 t sids (count + 1) changed
@@ -252,18 +247,6 @@ pub record LegsSoFar (v : LegsValue) (cells : List Cell) (k first later end : �
   pub holds : LegsHold v cells k first later end after links
   pub keeps : Keeps listed links
   pub are : AreLinks v cells later links
-
-pub legs-none : (v : LegsValue) (cells : List Cell) (k first later : ℕ) (t : Costs) (links : List Link) → IsSound v cells t
-    → AreLinks v cells later links
-    → LegsSoFar v cells k first later first t t links links false
-legs-none v cells k first later t links sound are =
-    record {
-      sound = sound;
-      passed = kept-passed (k + 1) t;
-      holds = λ link to f e h l is. absurd (omega (arith, h, l));
-      keeps = λ link c. c;
-      are = are;
-    }
 
 near-at : (P Q : Type 0) (to later : ℕ) → to < later → P → MatchBool (nat_lt to later) P Q
 near-at P Q to later h p = subst (λ (b : Bool). MatchBool b P Q) (sym (lt-ltb to later h)) p
