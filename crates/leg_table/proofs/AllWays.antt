@@ -13,7 +13,7 @@ use Rattle.intent_reader.specs.declared.intent.Step.{Step}
 use Rattle.intent_reader.specs.declared.intent.Step.TheVariants.{Links, Function}
 use Rattle.leg_table.specs.Trace.{Crossed, Handed, after_events, handed_first, handed_over}
 use Rattle.leg_table.specs.Tasks.{meets, matches}
-use Rattle.leg_table.specs.Choices.{Crosses, Goes, Ends, AtNext, EveryWay}
+use Rattle.leg_table.specs.Choices.{Crosses, Goes, Ends, AtPlace, EveryWay}
 use Rattle.leg_table.proofs.Options.{map-some}
 use Rattle.leg_table.proofs.Choices.{then_row, then_row-later}
 use Rattle.leg_table.proofs.Handing.{handed-stage, walk-same}
@@ -86,7 +86,7 @@ module _ (net : Network) where
   next-hands : (ts : List Step) (o : Option Place) (after : Content) (choice : ℕ)
       → ((pick : ℕ → ℕ) → pick 0 ≡ choice
       → (more : ℕ) × (h : Handed) × (handed_over net (walk_of more net o after pick (0 + 1)) ≡ Some h) × (matches ts h.trace ≡ true))
-      → AtNext o (λ next. Hands next after ts)
+      → AtPlace o (λ next. Hands next after ts)
   next-hands ts None after choice all = let got = all (λ _. choice) refl in walk-none got.0 after (λ _. choice) (0 + 1) got.1 got.2
   next-hands ts (Some next) after choice all =
       λ pick. let got = all (then_row net yes choice pick) refl in (
@@ -97,14 +97,14 @@ module _ (net : Network) where
         got.3,
       )
 
-  AtNext-map : (o : Option Place) (P Q : Place → Type 0) → ((next : Place) → P next → Q next) → AtNext o P → AtNext o Q
-  AtNext-map None P Q f h = absurd h
-  AtNext-map (Some next) P Q f h = f next h
+  AtPlace-map : (o : Option Place) (P Q : Place → Type 0) → ((next : Place) → P next → Q next) → AtPlace o P → AtPlace o Q
+  AtPlace-map None P Q f h = absurd h
+  AtPlace-map (Some next) P Q f h = f next h
 
   goes-from : (place : Place) (t : Step) (ts : List Step) (choice : ℕ) (gave : Gave) (o : Outcome) → gave.outcome ≡ o
       → ((pick : ℕ → ℕ) → pick 0 ≡ choice → First place (t ∷ ts) pick gave)
       → ((next : Place) → Hands next gave.after ts → EveryWay net yes ts next gave.after)
-      → Goes o t (AtNext (next_place net place o) (λ next. EveryWay net yes ts next gave.after)) (IsTrue true)
+      → Goes o t (AtPlace (next_place net place o) (λ next. EveryWay net yes ts next gave.after)) (IsTrue true)
   goes-from place t ts choice gave (outcomes.Send link) e all ih = by_step t all
     where
       parts : (t : Step) (pick : ℕ → ℕ) → First place (t ∷ ts) pick gave
@@ -118,13 +118,13 @@ module _ (net : Network) where
           (both.0, (got.0, got.1, got.2, both.1))
 
       by_step : (t : Step) → ((pick : ℕ → ℕ) → pick 0 ≡ choice → First place (t ∷ ts) pick gave)
-          → Crosses t link (AtNext (next_place net place (outcomes.Send link)) (λ next. EveryWay net yes ts next gave.after))
+          → Crosses t link (AtPlace (next_place net place (outcomes.Send link)) (λ next. EveryWay net yes ts next gave.after))
       by_step (Function sid) all = false≢true (parts (Function sid) (λ _. choice) (all (λ _. choice) refl)).0
       by_step (Links set) all =
           let next = next_place net place (outcomes.Send link) in
           let hands = next-hands ts next gave.after choice (λ pick k. (parts (Links set) pick (all pick k)).1) in (
             (parts (Links set) (λ _. choice) (all (λ _. choice) refl)).0,
-            AtNext-map next (λ next. Hands next gave.after ts) (λ next. EveryWay net yes ts next gave.after) ih hands,
+            AtPlace-map next (λ next. Hands next gave.after ts) (λ next. EveryWay net yes ts next gave.after) ih hands,
           )
   goes-from place t ts choice gave (outcomes.Again n how) e all ih = refl
   goes-from place t ts choice gave (outcomes.Hand n how family) e all ih = refl

@@ -11,7 +11,7 @@ use Rattle.walk_rules.specs.Walk as walks
 use Rattle.walk_rules.specs.Walk.{walk_of, next_place, choice_at, decisions}
 use Rattle.intent_reader.specs.declared.intent.Step.{Step}
 use Rattle.intent_reader.specs.declared.intent.Step.TheVariants.{Links, Function}
-use Rattle.leg_table.specs.Choices.{Crosses, Goes, Ends, Rides, ForAllChoices, AtNext, seen_at, EveryWay}
+use Rattle.leg_table.specs.Choices.{Crosses, Goes, Ends, Rides, ForAllChoices, AtPlace, seen_at, EveryWay}
 
 -- what follows of the rest follows of a stage
 pub Crosses-map : (t : Step) (link : ℕ) {R Q : Type 0} → (R → Q) → Crosses t link R → Crosses t link Q
@@ -32,7 +32,7 @@ module _ (net : Network) (end : List Step → walks.Step → Bool) where
 
   next_rides : (ts : List Step) (more : ℕ) (o : Option Place) (after : Content) (pick : ℕ → ℕ) (taken : ℕ)
       → ((next : Place) → EveryWay net end ts next after → Rides end ts (walk_of (suc more) net (Some next) after pick taken))
-      → AtNext o (λ next. EveryWay net end ts next after) → Rides end ts (walk_of (suc more) net o after pick taken)
+      → AtPlace o (λ next. EveryWay net end ts next after) → Rides end ts (walk_of (suc more) net o after pick taken)
   next_rides ts more None after pick taken ih h = absurd h
   next_rides ts more (Some next) after pick taken ih h = ih next h
 
@@ -110,7 +110,7 @@ module _ (net : Network) (end : List Step → walks.Step → Bool) where
   next_every : (ts : List Step) (after : Content) (choice : ℕ) (o : Option Place)
       → ((pick : ℕ → ℕ) → pick 0 ≡ choice → (fuel : ℕ) × Rides end ts (walk_of fuel net o after pick (0 + 1)))
       → ((next : Place) → AllPicks ts next after → EveryWay net end ts next after)
-      → AtNext o (λ next. EveryWay net end ts next after)
+      → AtPlace o (λ next. EveryWay net end ts next after)
   unfolding walk_of
   next_every ts after choice None all ih = let (fuel, r) = all (λ _. choice) refl in none fuel ts r
     where
@@ -127,7 +127,7 @@ module _ (net : Network) (end : List Step → walks.Step → Bool) where
       → ((pick : ℕ → ℕ) → pick 0 ≡ choice
       → (fuel : ℕ) × Goes o t (Rides end ts (walk_of fuel net (next_place net place o) after pick (0 + decisions o))) E)
       → ((next : Place) → AllPicks ts next after → EveryWay net end ts next after)
-      → Goes o t (AtNext (next_place net place o) (λ next. EveryWay net end ts next after)) E
+      → Goes o t (AtPlace (next_place net place o) (λ next. EveryWay net end ts next after)) E
   every_from ts place after choice (outcomes.Send link) (Links set) E all ih =
       let first = all (λ _. choice) refl in (
         first.1.0,

@@ -20,10 +20,10 @@ use Rattle.intent_reader.specs.declared.intent.Step.{Step}
 use Rattle.intent_reader.specs.declared.intent.Intent.{Intent}
 use Rattle.list_pack.specs.declared.types.Leg.{Leg}
 use Rattle.leg_table.specs.Tasks.{left_after}
-use Rattle.leg_table.specs.Choices.{ForAllChoices, seen_at}
+use Rattle.leg_table.specs.Choices.{ForAllChoices, seen_at, AtPlace}
 use Rattle.leg_table.specs.Ride.{Ride, ride_of, with_hop_limit, RideEnds}
 use Rattle.leg_table.specs.Sids.{is_middle, is_last, first_address, sid_address}
-use Rattle.leg_table.specs.Leg.{place_from, is_start, leg_of, finish_of, is_again, is_hand, is_left, has_limit, stage_executes, stage_exposes, IsTaken, IsHanded, FromPlace, IsLeg, IsFinish, shifts_by, IsAddressOf, IsLastAddressOf}
+use Rattle.leg_table.specs.Leg.{place_from, is_start, leg_of, finish_of, is_again, is_hand, is_left, has_limit, stage_executes, stage_exposes, IsTaken, IsHanded, IsLeg, IsFinish, shifts_by, IsAddressOf, IsLastAddressOf}
 use Rattle.leg_table.proofs.Choices.{choices-every}
 use Rattle.leg_table.proofs.Rides.{every-ride}
 use Rattle.leg_table.proofs.FlatNets.{FlatFacts}
@@ -67,10 +67,10 @@ module _ (net : Network) (keeps : Keeps net) (intent : Intent) (is_intent : IsIn
       omega arith
 
   from-place : (via : Option ℕ) (place : Place) (P : Place → Type 0) → place_from net intent via ≡ Some place → P place
-      → FromPlace (place_from net intent via) P
-  from-place via place P e h = subst (λ o. FromPlace o P) (sym e) h
+      → AtPlace (place_from net intent via) P
+  from-place via place P e h = subst (λ o. AtPlace o P) (sym e) h
 
-  place-from : (o : Option Place) (P : Place → Type 0) → FromPlace o P → (place : Place) × (o ≡ Some place) × P place
+  place-from : (o : Option Place) (P : Place → Type 0) → AtPlace o P → (place : Place) × (o ≡ Some place) × P place
   place-from None P h = absurd h
   place-from (Some place) P h = (place, refl, h)
 

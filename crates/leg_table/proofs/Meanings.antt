@@ -1,6 +1,5 @@
 -- The paths of an intent's legs are the legal lists that realize the intent.
-use Rattle.std.proofs.Common.{◌≡◌, ℕ, ◌+◌, ◌<◌, ◌≤◌, arith, List, [], ◌∷◌, length, map, All, Option, Some, None, slice_get, Contains, refl, sym, ◌∙◌, ap, subst}
-use Rattle.std.specs.Prelude.{take}
+use Rattle.std.proofs.Common.{◌≡◌, ℕ, ◌+◌, ◌<◌, ◌≤◌, arith, List, [], ◌∷◌, length, map, All, Option, Some, None, sym, ◌∙◌, ap, subst}
 use Rattle.std.proofs.lemmas.List.{length-map}
 use Rattle.v6_addr.specs.Address.{PrefixValue}
 use Rattle.srv6_rules.specs.declared.sid.SidEntry.{SidEntry}
@@ -12,23 +11,21 @@ use Rattle.net_model.specs.Flat.{IsFlat}
 use Rattle.net_model.proofs.PublicLaws.{keeps_from_network}
 use Rattle.intent_reader.specs.Rules.{IsIntent}
 use Rattle.intent_reader.specs.declared.intent.Intent.{Intent}
-use Rattle.list_places.specs.Lists.{IsLegal}
 use Rattle.list_pack.specs.declared.types.Container.{Container}
 use Rattle.list_pack.specs.declared.types.Cost.{Cost}
 use Rattle.list_pack.specs.declared.types.PathStep.{PathStep}
-use Rattle.list_pack.specs.declared.types.Shape.{Shape}
-use Rattle.list_pack.specs.Value.{LegsValue, KeepsLaws, IsSid}
+use Rattle.list_pack.specs.Value.{LegsValue, KeepsLaws}
 use Rattle.list_pack.specs.Costs.{Move, cost_of, start}
 use Rattle.list_pack.specs.Least.{step_of}
 use Rattle.list_pack.specs.Paths.{sids_of_moves, cost_with, SuitsLists}
 use Rattle.list_pack.specs.PathLists.{list_of}
-use Rattle.list_pack.specs.SidLists.{IsSidPrefix, IsLegalList, list_sid, list_in, list_values, prefixes_in, steps_in}
+use Rattle.list_pack.specs.SidLists.{IsSidPrefix, IsLegalList, list_sid, list_values, prefixes_in, steps_in}
 use Rattle.list_pack.specs.Meaning.{AreSidsOf, IsRealized, IsPathOf, Means}
 use Rattle.list_pack.proofs.PublicLaws.{split-of, path-list}
 use Rattle.list_pack.proofs.PublicLaws as packs
-use Rattle.leg_table.specs.Realizes.{path_need, Realizes, Executes, ListRealizes, ListExecutes, AlwaysHandsOver, IsPathAlong}
+use Rattle.leg_table.specs.Realizes.{path_need, ListRealizes, ListExecutes, AlwaysHandsOver, IsPathAlong}
 use Rattle.leg_table.specs.Sids.{prefix_at}
-use Rattle.leg_table.specs.Table.{shape_by, shape_of, node_by, node_of}
+use Rattle.leg_table.specs.Table.{shape_by, node_by}
 use Rattle.leg_table.specs.Value.{legs_value}
 use Rattle.leg_table.proofs.FlatNets.{FlatFacts, flat-facts}
 use Rattle.leg_table.proofs.Inners.{some_inner, some_inner-is}

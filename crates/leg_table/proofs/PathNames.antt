@@ -1,9 +1,7 @@
 -- Paths of legs in a network, as paths of the search and along lists: their hops, SIDs and prefixes.
-use Rattle.std.proofs.Common.{◌≡◌, ℕ, zero, suc, ◌+◌, ◌≤◌, Bool, true, false, ◌&&◌, List, [], ◌∷◌, ◌++◌, length, map, All, Option, Some, None, slice_get, refl, sym, ◌∙◌, ap, subst, arith}
+use Rattle.std.proofs.Common.{◌≡◌, ℕ, zero, suc, ◌+◌, ◌≤◌, Bool, true, false, ◌&&◌, List, [], ◌∷◌, ◌++◌, length, map, All, Option, Some, None, slice_get, refl, sym, ◌∙◌, ap, arith}
 use Rattle.std.specs.Prelude.{take, if◌then◌else◌}
-use Rattle.std.specs.List.{flat_map}
 use Rattle.std.specs.Option.{option_map}
-use Rattle.std.proofs.lemmas.Bool.{and_parts}
 use Rattle.std.proofs.lemmas.List.Elements.{All-nil, All-cons}
 use Rattle.v6_addr.specs.Address.{PrefixValue}
 use Rattle.srv6_rules.specs.declared.sid.SidEntry.{SidEntry}
@@ -16,9 +14,9 @@ use Rattle.list_pack.specs.declared.types.PathStep.{PathStep}
 use Rattle.list_pack.specs.Costs.{Move}
 use Rattle.list_pack.specs.Least.{step_of}
 use Rattle.list_pack.specs.Paths.{hops_of, with_hops, sids_of_moves}
-use Rattle.list_pack.specs.SidLists.{IsSidPrefix, opens, stays, prefixes_of, prefixes_in, steps_of, steps_in}
+use Rattle.list_pack.specs.SidLists.{IsSidPrefix, stays, prefixes_of, prefixes_in, steps_of, steps_in}
 use Rattle.leg_table.specs.Leg.{leg_of, finish_of, is_start, leg_behind, finish_behind, ride_to}
-use Rattle.leg_table.specs.Realizes.{path_need, with_leg}
+use Rattle.leg_table.specs.Realizes.{path_need}
 use Rattle.leg_table.specs.Sids.{is_middle, is_last, sid_goes_on, sid_exposes, prefix_by, prefix_at}
 use Rattle.leg_table.specs.Table.{shape_by, shape_of}
 use Rattle.leg_table.specs.Value.{legs_value}
@@ -26,7 +24,7 @@ use Rattle.leg_table.specs.Value.{legs_value}
 -- ---- hops
 
 module _ (net : Network) (intent : Intent) where
-  hops-with : (o : Option Leg) (one other : ℕ → Option ℕ) → ((to : ℕ) → one to ≡ other to) → with_hops o one ≡ with_leg o other
+  hops-with : (o : Option Leg) (one other : ℕ → Option ℕ) → ((to : ℕ) → one to ≡ other to) → with_hops o one ≡ with_hops o other
   hops-with None one other same = refl
   hops-with (Some leg) one other same = ap (option_map (λ (n : ℕ). leg.hops + n)) (same leg.to)
 
@@ -90,7 +88,7 @@ module _ (net : Network) (intent : Intent) where
       rest leg (Some k) e h later = later k e
 
       by : (o : Option Leg) → leg_of net intent position via n ≡ o
-          → with_leg o (λ to. path_need net intent to (Some n) (m ∷ more)) ≡ Some need
+          → with_hops o (λ to. path_need net intent to (Some n) (m ∷ more)) ≡ Some need
           → ((leg : Leg) (k : ℕ) → path_need net intent leg.to (Some n) (m ∷ more) ≡ Some k
           → All (IsSidPrefix net) (map (prefix_at net) (m ∷ more)))
           → All (IsSidPrefix net) (map (prefix_at net) (n ∷ m ∷ more))

@@ -21,7 +21,7 @@ use Rattle.intent_reader.specs.Rules.{IsIntent}
 use Rattle.intent_reader.specs.declared.intent.Step.{Step}
 use Rattle.intent_reader.specs.declared.intent.Intent.{Intent}
 use Rattle.list_places.specs.Places as lists
-use Rattle.list_places.specs.Places.{Tunnel, active, behind_of, sids_from, next_of, StandsOn, Along}
+use Rattle.list_places.specs.Places.{Tunnel, sids_from, Along}
 use Rattle.list_places.proofs.PublicLaws.{along-exposes}
 use Rattle.list_pack.specs.SidLists.{list_sid, IsSidPrefix}
 use Rattle.leg_table.proofs.FlatNets.{FlatFacts}
@@ -30,7 +30,8 @@ use Rattle.leg_table.specs.Tasks.{matches, left_after}
 use Rattle.leg_table.specs.Ride.{Ride}
 use Rattle.leg_table.specs.Sids.{is_sid_at, is_middle, sid_goes_on, sid_exposes, hands_over, prefix_at, sid_address}
 use Rattle.leg_table.specs.Leg.{place_behind, place_from, is_start}
-use Rattle.leg_table.specs.Realizes.{with_leg, path_need}
+use Rattle.list_pack.specs.Paths.{with_hops}
+use Rattle.leg_table.specs.Realizes.{path_need}
 use Rattle.leg_table.proofs.Executions.{stage_into}
 use Rattle.leg_table.proofs.Options.{some-same}
 use Rattle.leg_table.proofs.RideFacts.{ride-facts, start-facts}
@@ -166,7 +167,7 @@ module _ (net : Network) (network : IsNetwork net) (flat : IsFlat net) (facts : 
         few = omega (arith, tail.few);
         last = let less = before-next x y g.next in omega (arith, tail.last);
         is_path =
-            ap (λ o. with_leg o (λ to. path_need net intent to (Some n) (tail.first ∷ tail.more))) leg
+            ap (λ o. with_hops o (λ to. path_need net intent to (Some n) (tail.first ∷ tail.more))) leg
             ∙ ap (option_map (λ (k : ℕ). at.next.ride.lowered + 1 + k)) tail.is_path;
         below = omega (arith, lowered, g.high, tail.below);
         executes = λ pick taken h over.

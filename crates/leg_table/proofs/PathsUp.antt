@@ -27,7 +27,8 @@ use Rattle.leg_table.specs.Tasks.{matches}
 use Rattle.leg_table.specs.Ride.{ride_of, with_hop_limit}
 use Rattle.leg_table.specs.Sids.{prefix_by, prefix_at, hands_over}
 use Rattle.leg_table.specs.Leg.{place_behind, place_from, leg_of, finish_of}
-use Rattle.leg_table.specs.Realizes.{with_leg, path_need}
+use Rattle.list_pack.specs.Paths.{with_hops}
+use Rattle.leg_table.specs.Realizes.{path_need}
 use Rattle.leg_table.proofs.Alike.{address-alike}
 use Rattle.leg_table.proofs.Options.{map-some, some-same}
 use Rattle.leg_table.proofs.RideFacts.{RideFacts, ride-facts, StartFacts, start-facts}
@@ -37,10 +38,10 @@ use Rattle.leg_table.proofs.StrictLaws.{drop-drop}
 use Rattle.leg_table.proofs.Handing.{handed-stage, handed-behind, ride-walk}
 use Rattle.leg_table.proofs.Segments.{behind-again, mid-onward, last-exposes, left-behind, behind-alone}
 
-pub with_leg-some : (o : Option Leg) (later : ℕ → Option ℕ) (need : ℕ) → with_leg o later ≡ Some need
+pub with_hops-some : (o : Option Leg) (later : ℕ → Option ℕ) (need : ℕ) → with_hops o later ≡ Some need
     → (leg : Leg) × (o ≡ Some leg) × (k : ℕ) × (later leg.to ≡ Some k) × (leg.hops + k ≡ need)
-with_leg-some None later need h = absurd (cc)
-with_leg-some (Some leg) later need h =
+with_hops-some None later need h = absurd (cc)
+with_hops-some (Some leg) later need h =
     let got = map-some (λ (n : ℕ). leg.hops + n) (later leg.to) need h in
     (leg, refl, got.0, got.1, got.2)
 
@@ -221,7 +222,7 @@ module _ (net : Network) (keeps : Keeps net) (facts : FlatFacts net) (intent : I
   path-hands [] next position via x hop p need pick taken family along names h high =
       finish-hands position via next x hop p need pick taken h family along names high
   path-hands (m ∷ more) next position via x hop p need pick taken family along names h high =
-      let got = with_leg-some (leg_of net intent position via next) (λ to. path_need net intent to (Some next) (m ∷ more)) need h in
+      let got = with_hops-some (leg_of net intent position via next) (λ to. path_need net intent to (Some next) (m ∷ more)) need h in
       let further = next-some x _ _ _ names in
       leg-hands position via next x further.0 hop p got.2 got.0 (m ∷ more) pick taken got.1 along (active-is x _ _ names) further.1
       (omega (arith, got.4, high))

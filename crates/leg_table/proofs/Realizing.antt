@@ -42,7 +42,7 @@ use Rattle.leg_table.proofs.Executions.{step-parts}
 use Rattle.leg_table.proofs.NextRides.{leg-ride, finish-ride, middle-sid, last-sid}
 use Rattle.leg_table.proofs.Handing.{hands-agree}
 use Rattle.leg_table.proofs.ListPlaces.{active-first, sids-list, flat-list, before-first}
-use Rattle.leg_table.proofs.PathsUp.{with_leg-some, Names, path-hands}
+use Rattle.leg_table.proofs.PathsUp.{with_hops-some, Names, path-hands}
 use Rattle.leg_table.proofs.Single.{path-executes}
 use Rattle.leg_table.proofs.AllWays.{yes}
 use Rattle.leg_table.proofs.AllHands.{Unbound, Hands}
@@ -89,7 +89,7 @@ path-unbound net intent keeps [] next position via need h =
     (ap sid_binds sid.1 ∙ last-unbound net sid.0 (inner_kind intent.inner) (keeps.sid next sid.0 sid.1) sid.2)
     (All-nil (λ (n : ℕ). is_binding net n ≡ false))
 path-unbound net intent keeps (m ∷ more) next position via need h =
-    let got = with_leg-some (leg_of net intent position via next) (λ to. path_need net intent to (Some next) (m ∷ more)) need h in
+    let got = with_hops-some (leg_of net intent position via next) (λ to. path_need net intent to (Some next) (m ∷ more)) need h in
     let sid = middle-sid net next (leg-ride net intent position via next got.0 got.1).1 in
     All-cons (λ (n : ℕ). is_binding net n ≡ false) next (m ∷ more) (ap sid_binds sid.1 ∙ (step-parts sid.0 sid.2).1)
     (path-unbound net intent keeps more m got.0.to (Some next) got.2 got.3)

@@ -26,7 +26,7 @@ use Rattle.intent_reader.specs.Rules.{stand_after, first_end, ends_at}
 use Rattle.intent_reader.specs.declared.intent.Step.{Step}
 use Rattle.intent_reader.specs.declared.intent.Step.TheVariants.{Links, Function}
 use Rattle.leg_table.specs.Tasks.{has_link}
-use Rattle.leg_table.specs.Choices.{Goes, Ends, AtNext, seen_at, EveryWay}
+use Rattle.leg_table.specs.Choices.{Goes, Ends, AtPlace, seen_at, EveryWay}
 use Rattle.leg_table.specs.Ride.{Ride, more_lowered, ride_on, ride_over, ride_by, ride_end, ride_of, with_hop_limit, RideEnds}
 use Rattle.leg_table.proofs.Links.{all-members, member-of_all, far_end-is, link_ends, first_end-is, step_opens}
 
@@ -158,7 +158,7 @@ module _ (net : Network) (end : List Step → walks.Step → Bool) where
     -- what is sent on any member lies in the step, and comes to where all its links end
     abbrev Sends : Packet → Type 0
     Sends q = (choice : ℕ) → IsTrue (has_link step (member_of set choice))
-        × AtNext (next_place net place (outcomes.Send (member_of set choice))) (λ next. EveryWay net end ts next (V6 q))
+        × AtPlace (next_place net place (outcomes.Send (member_of set choice))) (λ next. EveryWay net end ts next (V6 q))
 
     comes : (link : ℕ) → has_link step link ≡ true → next_place net place (outcomes.Send link) ≡ Some (arrived to place)
     comes link here = ap (λ (o : Option ℕ). arrival o place) (far_end-is (slice_get net.links link) ∙ link_ends net to step link ends here)
@@ -166,13 +166,13 @@ module _ (net : Network) (end : List Step → walks.Step → Bool) where
     sends-rides : (q : Packet) → Sends q → (list_all (has_link step) set ≡ true) × EveryWay net end ts (arrived to place) (V6 q)
     sends-rides q h =
         let all : list_all (has_link step) set ≡ true = all-members (has_link step) set (λ choice. (h choice).0) in
-        (all, subst (λ (o : Option Place). AtNext o (λ next. EveryWay net end ts next (V6 q))) (comes (member_of set 0) (h 0).0) (h 0).1)
+        (all, subst (λ (o : Option Place). AtPlace o (λ next. EveryWay net end ts next (V6 q))) (comes (member_of set 0) (h 0).0) (h 0).1)
 
     rides-sends : (q : Packet) → list_all (has_link step) set ≡ true → EveryWay net end ts (arrived to place) (V6 q) → Sends q
     rides-sends q all every =
         λ choice. let here = member-of_all (has_link step) set some all choice in (
           here,
-          subst (λ (o : Option Place). AtNext o (λ next. EveryWay net end ts next (V6 q))) (sym (comes (member_of set choice) here))
+          subst (λ (o : Option Place). AtPlace o (λ next. EveryWay net end ts next (V6 q))) (sym (comes (member_of set choice) here))
               every,
         )
 
@@ -193,7 +193,7 @@ module _ (net : Network) (end : List Step → walks.Step → Bool) where
 
     abbrev Over-every : Bool → Packet → Type 0
     Over-every lower p = (choice : ℕ) → let gave = sent net place.node set lower p choice in
-        Goes gave.outcome (Links step) (AtNext (next_place net place gave.outcome) (λ next. EveryWay net end ts next gave.after))
+        Goes gave.outcome (Links step) (AtPlace (next_place net place gave.outcome) (λ next. EveryWay net end ts next gave.after))
         (IsTrue (end (Links step ∷ ts) (seen_at place (V6 p) gave)))
 
     module _ (ih : (q : Packet) → 0 < q.hop_limit
@@ -210,7 +210,7 @@ module _ (net : Network) (end : List Step → walks.Step → Bool) where
 
       abbrev Goes-as : Packet → Gave → Type 0
       Goes-as p gave =
-          Goes gave.outcome (Links step) (AtNext (next_place net place gave.outcome) (λ next. EveryWay net end ts next gave.after))
+          Goes gave.outcome (Links step) (AtPlace (next_place net place gave.outcome) (λ next. EveryWay net end ts next gave.after))
           (IsTrue (end (Links step ∷ ts) (seen_at place (V6 p) gave)))
 
       over-true : (p : Packet)
@@ -243,7 +243,7 @@ module _ (net : Network) (end : List Step → walks.Step → Bool) where
       → ((to : ℕ) (q : Packet) → is_some (stand_after net to ts) ≡ true → 0 < q.hop_limit
       → EveryWay net end ts (arrived to place) (V6 q) ↔ RideEnds net end q (ride_of net q.destination ts (arrived to place)))
       → ((choice : ℕ) → let gave = treated net place.node w p choice in
-      Goes gave.outcome t (AtNext (next_place net place gave.outcome) (λ next. EveryWay net end ts next gave.after))
+      Goes gave.outcome t (AtPlace (next_place net place gave.outcome) (λ next. EveryWay net end ts next gave.after))
       (IsTrue (end (t ∷ ts) (seen_at place (V6 p) gave))))
       ↔ RideEnds net end p (ride_by net place (t ∷ ts) t (ride_of net p.destination ts) w)
   by_way place p t ts (Away reason) e links stands positive ih = (λ h. h 0, λ h. absurd h)
@@ -255,7 +255,7 @@ module _ (net : Network) (end : List Step → walks.Step → Bool) where
       )
   by_way place p (Function sid) ts (Over set lower) e links stands positive ih = (
     λ h. function-never net place.node set lower p sid
-        (λ gave. AtNext (next_place net place gave.outcome) (λ next. EveryWay net end ts next gave.after))
+        (λ gave. AtPlace (next_place net place gave.outcome) (λ next. EveryWay net end ts next gave.after))
         (λ gave. IsTrue (end (Function sid ∷ ts) (seen_at place (V6 p) gave))) (h 0),
     λ h. absurd h,
   )

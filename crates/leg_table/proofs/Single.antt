@@ -41,7 +41,7 @@ use Rattle.leg_table.proofs.Rides.{arrived}
 use Rattle.leg_table.proofs.NextRides.{leg-ride, finish-ride, middle-sid, last-sid}
 use Rattle.leg_table.proofs.Handing.{Free, RideWalk, ride-walk, first-stage, handed-more}
 use Rattle.leg_table.proofs.Segments.{behind-again, mid-onward, mid-low, last-exposes}
-use Rattle.leg_table.proofs.PathsUp.{with_leg-some, Names, rides-to}
+use Rattle.leg_table.proofs.PathsUp.{with_hops-some, Names, rides-to}
 
 -- a walk that hands over
 abbrev pub Hands-over : Network → Place → Content → (ℕ → ℕ) → ℕ → Handed → Type 0
@@ -285,7 +285,7 @@ module _ (net : Network) (keeps : Keeps net) (facts : FlatFacts net) (intent : I
   path-executes [] next position via x hop p need place pick taken h family along names e from hands =
       finish-executes position via next x hop p need place pick taken h e family along names from hands
   path-executes (m ∷ more) next position via x hop p need place pick taken h family along names e from hands =
-      let got = with_leg-some (leg_of net intent position via next) (λ to. path_need net intent to (Some next) (m ∷ more)) need e in
+      let got = with_hops-some (leg_of net intent position via next) (λ to. path_need net intent to (Some next) (m ∷ more)) need e in
       let further = next-some x _ _ _ names in
       subst (λ (n : ℕ). Executes (next ∷ m ∷ more) n hop h) got.4
       (leg-executes position via next x further.0 hop p got.2 got.0 (m ∷ more) place pick taken h got.1 along (active-is x _ _ names)

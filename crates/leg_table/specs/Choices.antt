@@ -46,10 +46,10 @@ abbrev pub ForAllChoices : Network → (List Step → walks.Step → Bool) → L
 ForAllChoices net end ts place content =
     (choices : List ℕ) → 0 < length choices → (fuel : ℕ) × Rides end ts (walk_of fuel net (Some place) content (choice_at choices) 0)
 
--- at the next place, which has to be there
-abbrev pub AtNext : Option Place → (Place → Type 0) → Type 0
-AtNext None P = ⊥
-AtNext (Some place) P = P place
+-- at a place, which has to be there
+abbrev pub AtPlace : Option Place → (Place → Type 0) → Type 0
+AtPlace None P = ⊥
+AtPlace (Some place) P = P place
 
 abbrev pub seen_at : Place → Content → Gave → walks.Step
 seen_at place content gave = record { place = place; before = content; gave = gave }
@@ -60,5 +60,5 @@ EveryWay net end [] place content =
     (choice : ℕ) → let gave = step_of net place content choice in Ends gave.outcome (IsTrue (end [] (seen_at place content gave)))
 EveryWay net end (t ∷ ts) place content =
     (choice : ℕ) → let gave = step_of net place content choice in
-    Goes gave.outcome t (AtNext (next_place net place gave.outcome) (λ next. EveryWay net end ts next gave.after))
+    Goes gave.outcome t (AtPlace (next_place net place gave.outcome) (λ next. EveryWay net end ts next gave.after))
     (IsTrue (end (t ∷ ts) (seen_at place content gave)))

@@ -19,7 +19,7 @@ use Rattle.intent_reader.specs.declared.intent.Step.{Step}
 use Rattle.intent_reader.specs.declared.intent.Intent.{Intent}
 use Rattle.list_pack.specs.declared.types.Leg.{Leg}
 use Rattle.leg_table.specs.Tasks.{left_after}
-use Rattle.leg_table.specs.Choices.{ForAllChoices}
+use Rattle.leg_table.specs.Choices.{ForAllChoices, AtPlace}
 use Rattle.leg_table.specs.Ride.{Ride, ride_of, with_hop_limit}
 use Rattle.leg_table.specs.Sids.{takes_step, is_sid_at, is_middle, is_last, sid_address, prefix_at}
 
@@ -151,23 +151,19 @@ IsHanded net address ts n left lowered place =
     (p : Packet) → p.destination ≡ address → IsTrue (has_packet_inside net n p) → 0 < p.hop_limit →
     (lowered < p.hop_limit) ↔ ForAllChoices net (stage_exposes net n left (p.hop_limit - lowered)) ts place (V6 p)
 
-abbrev pub FromPlace : Option Place → (Place → Type 0) → Type 0
-FromPlace None P = ⊥
-FromPlace (Some place) P = P place
-
 -- a leg: from a position, and the SID that was executed last there if one was, to a next SID that is middle, for packets to an address
 pub record IsLeg (net : Network) (intent : Intent) (address position : ℕ) (via : Option ℕ) (next : ℕ) (leg : Leg) : Type 0 where
   pub start : IsTrue (is_start net intent position via)
   pub middle : IsTrue (is_middle net next)
   pub within : leg.to ≤ length intent.steps
-  pub taken : FromPlace (place_from net intent via)
+  pub taken : AtPlace (place_from net intent via)
       (IsTaken net address (drop position intent.steps) next (length intent.steps - leg.to) leg.hops)
 
 -- a finish: to a last SID, which exposes the packet inside with no step left, for packets to an address
 pub record IsFinish (net : Network) (intent : Intent) (address position : ℕ) (via : Option ℕ) (next lowered : ℕ) : Type 0 where
   pub start : IsTrue (is_start net intent position via)
   pub last : IsTrue (is_last net intent.inner next)
-  pub handed : FromPlace (place_from net intent via) (IsHanded net address (drop position intent.steps) next 0 lowered)
+  pub handed : AtPlace (place_from net intent via) (IsHanded net address (drop position intent.steps) next 0 lowered)
 
 -- an address of a SID's prefix that is multicast exactly where the prefix's first address is
 pub record IsAddressOf (net : Network) (n address : ℕ) : Type 0 where

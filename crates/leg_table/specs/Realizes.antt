@@ -1,6 +1,5 @@
 -- Lists of segments that realize an intent, and paths of legs.
-use Rattle.std.specs.Prelude.{◌≡◌, ℕ, ◌+◌, ◌<◌, ◌≤◌, false, List, [], ◌∷◌, length, map, take, All, Option, Some, None, IsTrue}
-use Rattle.std.specs.Option.{option_map}
+use Rattle.std.specs.Prelude.{◌≡◌, ℕ, ◌<◌, ◌≤◌, false, List, [], ◌∷◌, length, map, take, All, Option, Some, None, IsTrue}
 use Rattle.srv6_rules.specs.declared.sid.Family.{Family}
 use Rattle.srv6_rules.specs.declared.sid.Family.TheVariants as families
 use Rattle.srv6_rules.specs.Packet.{Packet, Content, V6, V4, Unreadable, IsSpellable, bytes_of}
@@ -13,8 +12,8 @@ use Rattle.walk_rules.specs.declared.place.Place.{Place}
 use Rattle.walk_rules.specs.Walk.{walk_of, choice_at}
 use Rattle.intent_reader.specs.declared.intent.Intent.{Intent}
 use Rattle.list_pack.specs.declared.types.Container.{Container}
-use Rattle.list_pack.specs.declared.types.Leg.{Leg}
 use Rattle.list_pack.specs.PathLists.{before_last}
+use Rattle.list_pack.specs.Paths.{with_hops}
 use Rattle.list_pack.specs.SidLists.{prefixes_in, list_values}
 use Rattle.leg_table.specs.Trace.{Handed, handed_over}
 use Rattle.leg_table.specs.Tasks.{matches}
@@ -100,18 +99,13 @@ ListExecutes net intent list count = Executes net intent (list_values net list) 
 
 -- ---- paths of legs
 
--- the lowerings of a leg and of the path behind it
-abbrev pub with_leg : Option Leg → (ℕ → Option ℕ) → Option ℕ
-with_leg None later = None
-with_leg (Some leg) later = option_map (λ n. leg.hops + n) (later leg.to)
-
 -- the lowerings of the path of legs and a finish through these SIDs, if it is one, from a position and the SID that was
 -- executed last
 abbrev pub path_need : Network → Intent → ℕ → Option ℕ → List ℕ → Option ℕ
 path_need net intent position via [] = None
 path_need net intent position via (n ∷ []) = finish_of net intent position via n
 path_need net intent position via (n ∷ m ∷ more) =
-    with_leg (leg_of net intent position via n) (λ to. path_need net intent to (Some n) (m ∷ more))
+    with_hops (leg_of net intent position via n) (λ to. path_need net intent to (Some n) (m ∷ more))
 
 -- a path of legs and a finish from the start along a list: its SIDs are of the first prefixes of the list, up to one in the last
 -- container, and its need
