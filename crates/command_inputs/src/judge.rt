@@ -28,7 +28,7 @@ fn network_of(alloc: Global, text: &[u8]) -> Result<Net, Halt>
     Ok(read_net(alloc, text)?)
 }
 
-/// The network that a text describes, as that of a file.
+/// The network that a text describes, as that of a file. (own rule)
 #[tactic(auto, using(crate::proofs::Judging::texts))]
 pub fn network_of_text(alloc: Global, text: &[u8]) -> Result<Net, Halt>
     ensures { JudgesText network_in text.now result }
@@ -39,7 +39,7 @@ pub fn network_of_text(alloc: Global, text: &[u8]) -> Result<Net, Halt>
     network_of(alloc, text)
 }
 
-/// The network that the file of this name describes.
+/// The network that the file of this name describes. (own rule)
 #[tactic(auto, using(crate::proofs::Judging::files))]
 pub fn network_of_file<F: Files>(alloc: Global, files: &mut F, name: &str) -> Result<Net, Halt>
     ensures { JudgesFile network_in name.now result (F.seen files.old) (F.seen files.new) }
@@ -58,7 +58,7 @@ fn intent_of(alloc: Global, net: &Net, text: &[u8]) -> Result<Intent, Halt>
     Ok(read_intent(alloc, text, net)?)
 }
 
-/// The intent that a text gives in a network, as that of a file.
+/// The intent that a text gives in a network, as that of a file. (own rule)
 #[tactic(auto, using(crate::proofs::Judging::texts))]
 pub fn intent_of_text(alloc: Global, net: &Net, text: &[u8]) -> Result<Intent, Halt>
     ensures judged { JudgesText (intent_in net.now) text.now result }
@@ -70,7 +70,7 @@ pub fn intent_of_text(alloc: Global, net: &Net, text: &[u8]) -> Result<Intent, H
     intent_of(alloc, net, text)
 }
 
-/// The intent that the file of this name gives in a network.
+/// The intent that the file of this name gives in a network. (own rule)
 #[tactic(auto, using(crate::proofs::Judging::files))]
 pub fn intent_of_file<F: Files>(
     alloc: Global,
@@ -86,7 +86,7 @@ pub fn intent_of_file<F: Files>(
     intent_of(alloc, net, text.as_slice())
 }
 
-/// The certificate that the file of this name gives for legs in a network.
+/// The certificate that the file of this name gives for legs in a network. (own rule)
 #[tactic(auto, using(crate::proofs::Certificates::certificates))]
 pub fn cert_of_file<F: Files, L: Legs>(
     alloc: Global,
@@ -104,7 +104,7 @@ pub fn cert_of_file<F: Files, L: Legs>(
     Ok(read(alloc, net, legs, text.as_slice())?)
 }
 
-/// The trace that the file of this name gives for a network.
+/// The trace that the file of this name gives for a network. (own rule)
 #[tactic(auto, using(crate::proofs::Tracing::traces))]
 pub fn trace_of_file<F: Files>(
     alloc: Global,
@@ -120,7 +120,7 @@ pub fn trace_of_file<F: Files>(
     Ok(read_trace(alloc, net, text.as_slice())?)
 }
 
-/// The number of the node of this name.
+/// The number of the node of this name. (own rule)
 pub fn node_of_name(net: &Net, name: &str) -> Result<u32, Refusal>
     ensures judged { result ≡ node_in net.now name.now }
     ensures within { IfOk result (λ node. node < length net.now.nodes) }

@@ -12,7 +12,7 @@ use pcap_io::{Body, CaptureFault, CaptureHead, Frame, FrameReader, TakeFault, re
 use srx_edge::{Source, draw};
 use std::alloc::Global;
 
-/// What the input is.
+/// What the input is. (own rule)
 #[derive(Debug, Drop)]
 pub enum Packets {
     /// One bare packet, which is packet 1, and what stands behind its end.
@@ -21,7 +21,7 @@ pub enum Packets {
     Capture(CaptureHead, Seq<u8>),
 }
 
-/// What a reader of frames gives next.
+/// What a reader of frames gives next. (own rule)
 #[derive(Debug, Drop)]
 pub enum Next {
     /// A frame.
@@ -56,7 +56,7 @@ fn packets_of_bytes(bytes: Vec<u8>) -> Result<Packets, Refusal>
     }
 }
 
-/// What the input is, which is read to its end.
+/// What the input is, which is read to its end. (own rule)
 #[tactic(auto, using(crate::proofs::Judging::inputs))]
 pub fn packets_of_input<S: Source>(alloc: Global, input: &mut S) -> Result<Packets, Halt>
     ensures judged { JudgesInput packets_in result (S.seen input.old) (S.seen input.new) }
@@ -66,7 +66,7 @@ pub fn packets_of_input<S: Source>(alloc: Global, input: &mut S) -> Result<Packe
     Ok(packets_of_bytes(bytes)?)
 }
 
-/// Why a frame's packet is not read, if it isn't.
+/// Why a frame's packet is not read, if it isn't. (own rule)
 pub fn unread_of(body: &Body) -> Option<Unread>
     ensures { result ≡ unread_in body.now }
 {
@@ -89,7 +89,7 @@ fn fault_at_end(reader: &FrameReader) -> Option<Refusal>
     }
 }
 
-/// The next frame that a reader gives.
+/// The next frame that a reader gives. (own rule)
 #[tactic(auto, using(crate::proofs::FrameSteps::steps))]
 pub fn next_of(reader: &mut FrameReader) -> Result<Next, Failure>
     ensures { Nexts reader.old result reader.new }

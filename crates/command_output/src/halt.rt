@@ -11,7 +11,7 @@ use srx_edge::{DrawFault, FileFault, PourFault};
 use std::alloc::AllocError;
 use trace_replay::TraceFault;
 
-/// Why a step was not done, whatever it is given.
+/// Why a step was not done, whatever it is given. (own rule)
 #[derive(Clone, Copy, Debug)]
 pub enum Failure {
     /// A fault of the files, the input or a sink.
@@ -20,7 +20,7 @@ pub enum Failure {
     NoMemory,
 }
 
-/// Why a command ends before its end.
+/// Why a command ends before its end. (own rule)
 #[derive(Debug, Drop)]
 pub enum Halt {
     /// What was judged is refused.

@@ -12,7 +12,7 @@ use std::alloc::{AllocError, Global};
 use trace_replay::STAGES;
 use walk_rules::Ended;
 
-/// A refusal's line.
+/// A refusal's line. (own rule)
 pub fn line_of_refusal(alloc: Global, refusal: &Refusal) -> Result<String, AllocError>
     ensures { IfOk result (λ line. string_bytes line ≡ refusal_line refusal.now) }
 {
@@ -56,7 +56,7 @@ fn line_of_stages(alloc: Global, number: u32) -> Result<String, AllocError>
     format!(in alloc; "packet {number}: stopped after {STAGES} stages\n")
 }
 
-/// The line of a packet that is not read.
+/// The line of a packet that is not read. (own rule)
 #[tactic(auto, unfolding(crate::specs::Lines::unread_line))]
 pub fn line_of_unread(alloc: Global, number: u32, cause: Unread) -> Result<String, AllocError>
     ensures { IfOk result (λ line. string_bytes line ≡ unread_line number cause) }
@@ -64,7 +64,7 @@ pub fn line_of_unread(alloc: Global, number: u32, cause: Unread) -> Result<Strin
     format!(in alloc; "packet {number}: not read, {cause}\n")
 }
 
-/// The line of a packet of a number when it ends.
+/// The line of a packet of a number when it ends. (own rule)
 pub fn line_of_packet(
     alloc: Global,
     net: &Net,

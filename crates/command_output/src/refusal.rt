@@ -11,7 +11,7 @@ use pcap_io::CaptureFault;
 use std::fmt;
 use v6_addr::Prefix;
 
-/// Why a command was refused; each has a number of its own in the line on `err`.
+/// Why a command was refused; each has a number of its own in the line on `err`. (own rule)
 #[derive(Debug, Drop, PartialEq, Eq)]
 pub enum Refusal {
     /// 2: a file or the input has more than `limit` bytes.
@@ -77,7 +77,7 @@ pub enum Refusal {
     },
 }
 
-/// The refusal of a network that is not flat.
+/// The refusal of a network that is not flat. (own rule)
 pub fn refusal_of_not_flat(net: &Net, why: &NotFlat) -> Refusal
     ensures { result ≡ flat_refusal net.now why.now }
 {

@@ -6,7 +6,7 @@ ghost use Rattle.command_output.specs.Answers.{ending_of_step};
 use crate::halt::Failure;
 use srx_edge::{Sink, pour};
 
-/// Pours bytes into a sink.
+/// Pours bytes into a sink. (own rule)
 #[tactic(auto, using(crate::proofs::Writing::writing))]
 pub fn write_all<O: Sink>(sink: &mut O, bytes: &[u8]) -> Result<(), Failure>
     ensures { Wrote (ending_of_step result) bytes.now (O.seen sink.old) (O.seen sink.new) }

@@ -4,7 +4,7 @@ ghost use Rattle.std.specs.Prelude.{◌≡◌};
 
 use crate::status::Status;
 
-/// Text that the program has, or that it made.
+/// Text that the program has, or that it made. (own rule)
 #[derive(Drop)]
 pub enum Text {
     /// Text that the program has.
@@ -18,7 +18,7 @@ pub enum Text {
 impl Text {
     ghost use Rattle.command_output.specs.Lines.{bytes_of_text};
 
-    /// The text's bytes.
+    /// The text's bytes. (own rule)
     pub fn as_bytes(&self) -> &[u8]
         ensures { result.now ≡ bytes_of_text self.now }
     {
@@ -31,7 +31,7 @@ impl Text {
 }
 
 /// What a command has to write of what it judged: a line for `out`, with its line feed, and its
-/// status.
+/// status. (own rule)
 #[derive(Drop)]
 pub struct Judgement {
     /// The line.
@@ -41,7 +41,7 @@ pub struct Judgement {
 }
 
 /// What a command has to say at its end: a line for `err`, with its line feed, or nothing, and its
-/// status.
+/// status. (own rule)
 #[derive(Drop)]
 pub struct Told {
     /// The line.

@@ -2,7 +2,7 @@
 
 use std::fmt;
 
-/// Why the packet of a frame is not read.
+/// Why the packet of a frame is not read. (own rule)
 #[derive(Clone, Copy, Debug)]
 pub enum Unread {
     /// Bytes of the frame were left out of the capture.

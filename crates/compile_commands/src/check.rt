@@ -149,7 +149,7 @@ fn judgement_of_cert(
 /// Checks the certificate of a file for the intent of another in the network that a third
 /// describes. The description is judged, then the intent, then whether the network is flat, each
 /// before the next file is read; then the certificate is read over the legs of the intent's strict
-/// steps, and judged. What is written is made before any of it goes out.
+/// steps, and judged. What is written is made before any of it goes out. (own rule)
 pub fn check<F: Files, O: Sink>(
     alloc: Global,
     file: &str,

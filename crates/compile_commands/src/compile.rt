@@ -84,7 +84,7 @@ fn with_certificate(
     Ok(Text::Bytes(bytes))
 }
 
-/// The line of an intent without a list.
+/// The line of an intent without a list. (own rule)
 #[tactic(auto, unfolding(crate::specs::Compile::none_line))]
 pub fn line_of_none() -> Text
     ensures { bytes_of_text result ≡ none_line }
@@ -92,7 +92,7 @@ pub fn line_of_none() -> Text
     Text::Fixed(b"no answer NoList\n")
 }
 
-/// The line of a list with too many containers.
+/// The line of a list with too many containers. (own rule)
 #[tactic(auto, unfolding(crate::specs::Compile::too_long_line))]
 pub fn line_of_too_long(alloc: Global, containers: u32) -> Result<Text, AllocError>
     ensures { IfOk result (λ line. bytes_of_text line ≡ too_long_line containers) }
@@ -100,7 +100,7 @@ pub fn line_of_too_long(alloc: Global, containers: u32) -> Result<Text, AllocErr
     Ok(Text::Made(format!(in alloc; "no answer TooLong {containers}\n")?))
 }
 
-/// The line of a list that needs a greater hop limit.
+/// The line of a list that needs a greater hop limit. (own rule)
 #[tactic(auto, unfolding(crate::specs::Compile::hop_limit_line))]
 pub fn line_of_hop_limit(alloc: Global, need: u32) -> Result<Text, AllocError>
     ensures { IfOk result (λ line. bytes_of_text line ≡ hop_limit_line need) }
@@ -202,7 +202,7 @@ impl Answer {
 
 /// Compiles the intent of a file in the network that another describes. The description is judged,
 /// then the intent, each before the next is read; what is written is made before any of it goes
-/// out.
+/// out. (own rule)
 pub fn compile<F: Files, O: Sink>(
     alloc: Global,
     file: &str,

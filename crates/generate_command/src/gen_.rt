@@ -27,7 +27,7 @@ use trace_replay::number_of_word;
 /// The packets of which a summary tells. (own rule)
 pub const PACKETS: u32 = 1_000;
 
-/// What is generated.
+/// What is generated. (own rule)
 #[derive(Clone, Copy, Debug, PartialEq, Eq)]
 pub enum Made {
     /// The description of a network.
@@ -38,7 +38,7 @@ pub enum Made {
     Sum,
 }
 
-/// What `gen` has to write.
+/// What `gen` has to write. (own rule)
 #[derive(Drop)]
 pub enum Generated {
     /// Text for `out`.
@@ -47,7 +47,7 @@ pub enum Generated {
     NoList(Text),
 }
 
-/// The size that a word is.
+/// The size that a word is. (own rule)
 pub fn size_of_word(word: &str) -> Option<Size>
     ensures { result ≡ size_in word.now }
 {
@@ -57,7 +57,7 @@ pub fn size_of_word(word: &str) -> Option<Size>
     }
 }
 
-/// What a word asks to generate.
+/// What a word asks to generate. (own rule)
 pub fn made_of_word(word: &str) -> Option<Made>
     ensures { result ≡ made_in word.now }
 {
@@ -195,7 +195,7 @@ fn made_for(alloc: Global, size: Size, made: Made) -> Result<Generated, Halt>
 /// Writes the description of the generated network of a size, or the intent over it, or what 1,000
 /// generated packets come to that are walked through it from the intent's headend with the list
 /// that the intent is compiled to. No file is read, and no input. What is written is made before
-/// any of it goes out.
+/// any of it goes out. (own rule)
 pub fn generate<O: Sink>(alloc: Global, size: Size, made: Made, out: &mut O) -> Result<Told, Halt>
     ensures { CommandsAlone (gen_shape size made) result (O.seen out.old) (O.seen out.new) }
 {

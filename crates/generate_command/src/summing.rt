@@ -31,7 +31,7 @@ pub const MOST_PACKETS: u32 = 65_535;
 /// The choices that each walk takes. (own rule)
 const CHOICES: [u32; 2] = [0, 1];
 
-/// What walks come to.
+/// What walks come to. (own rule)
 #[derive(Clone, Copy, Debug)]
 pub struct Counts {
     /// How many of their stages send.

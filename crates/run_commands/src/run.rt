@@ -30,7 +30,7 @@ use srx_edge::{Files, Sink, Source};
 use std::alloc::Global;
 use walk_rules::{How, Place};
 
-/// Writes the capture's head.
+/// Writes the capture's head. (own rule)
 #[tactic(auto, using(command_output::proofs::PublicLaws::writing))]
 pub fn write_head<O: Sink>(alloc: Global, out: &mut O) -> Result<(), Failure>
     ensures { Wrote (ending_of_step result) written_head_bytes (O.seen out.old) (O.seen out.new) }
@@ -267,7 +267,7 @@ fn run_packets<O: Sink, E: Sink>(
 /// Decision d of each packet, counted in its sends from 0, takes the choice at d modulo the number of
 /// choices. The file is judged, then the node's name, then the input, each before the
 /// next is read. What is behind the last frame of a capture is refused once all packets were
-/// walked.
+/// walked. (own rule)
 pub fn run<F: Files, S: Source, O: Sink, E: Sink>(
     alloc: Global,
     file: &str,

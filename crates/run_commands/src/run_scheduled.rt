@@ -83,7 +83,7 @@ fn enter_frames<'a>(
 }
 
 /// Walks the packets of the frames behind a capture's head in the order of a schedule, and gives the
-/// refusal of what is behind the frames, if anything is.
+/// refusal of what is behind the frames, if anything is. (own rule)
 pub fn walk_in_turns<O: Sink, E: Sink>(
     alloc: Global,
     net: &Net,

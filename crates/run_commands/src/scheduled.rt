@@ -24,7 +24,7 @@ use srx_edge::Sink;
 use std::alloc::Global;
 use walk_rules::{Outcome, Place};
 
-/// Packets that entered, with the numbers of their frames.
+/// Packets that entered, with the numbers of their frames. (own rule)
 #[derive(Debug, Drop)]
 pub struct Entered<'a> {
     /// The packets.
@@ -34,7 +34,7 @@ pub struct Entered<'a> {
 }
 
 impl<'a> Entered<'a> {
-    /// None yet; takes no memory.
+    /// None yet; takes no memory. (own rule)
     pub fn new(alloc: Global, net: &'a Net) -> Entered<'a>
         ensures flight { result.flight ≡ record { net = net.now; error = []; packets = [] } }
         ensures numbers { result.numbers.items ≡ [] }
@@ -150,7 +150,7 @@ fn write_turn<O: Sink, E: Sink>(
     write_end(alloc, net, flight, packet, number, err)
 }
 
-/// Writes all stages of the packets that entered, in the order of a schedule.
+/// Writes all stages of the packets that entered, in the order of a schedule. (own rule)
 pub fn write_turns<O: Sink, E: Sink>(
     alloc: Global,
     net: &Net,

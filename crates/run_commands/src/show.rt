@@ -100,7 +100,7 @@ fn show_packets<O: Sink>(
 }
 
 /// Shows the headers of the packets of the input, one packet after the other. What is behind the
-/// last frame of a capture is refused once all packets were shown.
+/// last frame of a capture is refused once all packets were shown. (own rule)
 pub fn show<S: Source, O: Sink>(alloc: Global, input: &mut S, out: &mut O) -> Result<Told, Halt>
     ensures { CommandsOfInput show_shape result
         (S.seen input.old) (S.seen input.new) (O.seen out.old) (O.seen out.new) }

@@ -26,7 +26,7 @@ use std::alloc::Global;
 use trace_replay::{STAGES, an_outcome_names_what_is_there};
 use walk_rules::{Ended, Outcome, Place, ended_by, next_place};
 
-/// Room for a packet and for its frame, used again for each packet.
+/// Room for a packet and for its frame, used again for each packet. (own rule)
 #[derive(Debug, Drop)]
 pub struct Buffers {
     packet: Vec<u8>,
@@ -34,7 +34,7 @@ pub struct Buffers {
 }
 
 impl Buffers {
-    /// Empty ones; takes no memory.
+    /// Empty ones; takes no memory. (own rule)
     pub fn new(alloc: Global) -> Buffers {
         Buffers {
             packet: Vec::new(alloc),
@@ -43,7 +43,7 @@ impl Buffers {
     }
 }
 
-/// Writes the frame of a packet: its number as seconds, and microseconds.
+/// Writes the frame of a packet: its number as seconds, and microseconds. (own rule)
 #[tactic(auto, using(command_output::proofs::PublicLaws::writing))]
 pub fn write_frame<O: Sink>(
     number: u32,
@@ -111,7 +111,7 @@ fn write_outcome<O: Sink>(
     }
 }
 
-/// The decisions that an outcome takes.
+/// The decisions that an outcome takes. (own rule)
 pub fn decisions_of(outcome: &Outcome) -> usize
     ensures taken { result ≡ decisions outcome.now }
     ensures few { result ≤ 1 }
@@ -123,6 +123,7 @@ pub fn decisions_of(outcome: &Outcome) -> usize
 }
 
 /// One stage, of which what it sends can be written; the slot has the error about what it drops.
+/// (own rule)
 pub fn staged(
     alloc: Global,
     net: &Net,
@@ -153,7 +154,7 @@ pub fn staged(
 
 /// Walks a packet from a place and writes each of its frames, with its number, and that of the
 /// ICMPv6 error about it, if a node sends one. Decision d takes the choice at d modulo the number
-/// of choices. The walk ends as its last stage does, after at most 10,000 stages.
+/// of choices. The walk ends as its last stage does, after at most 10,000 stages. (own rule)
 pub fn write_walk<O: Sink>(
     alloc: Global,
     net: &Net,

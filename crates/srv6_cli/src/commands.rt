@@ -18,10 +18,10 @@ use std::alloc::{AllocError, Global};
 use trace_commands::{replay, trace};
 use walk_command::walk;
 
-/// The line that says how the program is called.
+/// The line that says how the program is called. (own rule)
 pub const USAGE: &[u8] = b"usage: srv6 compile|check|walk|run|trace|replay|show|gen\n";
 
-/// What the words ask for.
+/// What the words ask for. (own rule)
 #[derive(Debug, Drop)]
 pub enum Words<'a> {
     /// A run of the packets of the input from a node of the network that a file describes.
@@ -326,7 +326,7 @@ fn usage() -> Result<Told, Halt>
 }
 
 /// Runs the command that the words name, up to its last line. The words are those behind the
-/// program's name.
+/// program's name. (own rule)
 pub fn command<F: Files, S: Source, O: Sink, E: Sink>(
     alloc: Global,
     words: &[String],

@@ -54,7 +54,7 @@ fn judgement_of_trace(alloc: Global, net: &Net, trace: &Trace) -> Result<Judgeme
 
 /// Runs the trace of a file again in the network that another describes. The description is judged
 /// before the trace is read, and the trace before it is run. What is written is made before any of
-/// it goes out.
+/// it goes out. (own rule)
 pub fn replay<F: Files, O: Sink>(
     alloc: Global,
     file: &str,

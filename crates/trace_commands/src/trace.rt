@@ -268,7 +268,7 @@ fn write_trace<O: Sink>(
 /// that a file describes, as text. Decision d of each packet, counted in its sends from 0, takes
 /// the choice at d modulo the number of choices. The file is judged, then the node's name, then the
 /// input, each before the next is read. What is behind the last frame of a capture is refused once
-/// all packets were written, and then the trace has no last line.
+/// all packets were written, and then the trace has no last line. (own rule)
 pub fn trace<F: Files, S: Source, O: Sink>(
     alloc: Global,
     file: &str,

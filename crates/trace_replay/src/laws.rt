@@ -20,7 +20,7 @@ ghost use Rattle.walk_rules.specs.Walk.{decisions, next_place, walk_of};
 ghost use Rattle.walk_rules.specs.declared.place.Place.{Place};
 
 /// A line is right exactly where it is the line of an outcome that there is at the place, and
-/// exactly where some choice gives it.
+/// exactly where some choice gives it. (own rule)
 pub fn a_line_is_right_where_an_outcome_has_it()
     ensures outcome { (net : Network) (place : Place) (content : Content) (line : List ℕ) →
         Keeps net → IsPlace net place →
@@ -32,7 +32,7 @@ pub fn a_line_is_right_where_an_outcome_has_it()
 
 /// The lines of a walk that may have some stages are right for a packet that may have as many,
 /// whichever choices the walk took, and behind them the packet has ended; so it is with the 10,000
-/// stages that a packet may have.
+/// stages that a packet may have. (own rule)
 pub fn printed_traces_replay()
     ensures { (net : Network) (place : Place) (content : Content) →
         (pick : ℕ → ℕ) (taken left : ℕ) → Keeps net → IsPlace net place →
@@ -41,7 +41,8 @@ pub fn printed_traces_replay()
         ≡ Some states.Ended }
 {}
 
-/// Where none of some lines is wrong, the first wrong line is that of the lines behind them.
+/// Where none of some lines is wrong, the first wrong line is that of the lines behind them. (own
+/// rule)
 pub fn right_lines_are_passed()
     ensures { (net : Network) (state next : State) (n : ℕ) (lines more : List (List ℕ)) →
         state_behind net state lines ≡ Some next →
@@ -49,7 +50,8 @@ pub fn right_lines_are_passed()
 {}
 
 /// What is written of packets that entered is a trace, whose lines are those of the packets between
-/// its head and its end, and each of these is right; its counts are those of what was written.
+/// its head and its end, and each of these is right; its counts are those of what was written. (own
+/// rule)
 pub fn what_is_written_is_accepted()
     ensures lines { (net : Network) (packets : List Traced) →
         Keeps net → All (IsTraced net) packets →
@@ -64,7 +66,7 @@ pub fn what_is_written_is_accepted()
         Replays net (trace_lines net packets) (Ok (counts_written net packets)) }
 {}
 
-/// A trace that has no end is refused at the line behind its last.
+/// A trace that has no end is refused at the line behind its last. (own rule)
 pub fn what_is_not_finished_is_refused()
     ensures { (net : Network) (packets : List Traced) → Keeps net → All (IsTraced net) packets →
         bad_line net (unended_text net packets) ≡ Some (length (packets_lines net packets) + 2) }
@@ -72,7 +74,7 @@ pub fn what_is_not_finished_is_refused()
 
 /// What is written of a packet is its first line and then its walk; of a walk from a place the line
 /// of the stage there, and then the walk from the next place; of a walk to a place from which it
-/// may have no stage more the line that says so; and of one that has ended nothing.
+/// may have no stage more the line that says so; and of one that has ended nothing. (own rule)
 pub fn a_packet_is_written_stage_by_stage()
     ensures first { (net : Network) (p : Traced) → packet_trace net p
         ≡ packet_line net p ++ 10 ∷ walk_trace STAGES net (Some (entry_place p)) p.content p.pick 0 }
@@ -89,7 +91,7 @@ pub fn a_packet_is_written_stage_by_stage()
         walk_trace left net None content pick taken ≡ [] }
 {}
 
-/// What a stage's outcome names is one of the network's parts.
+/// What a stage's outcome names is one of the network's parts. (own rule)
 pub fn an_outcome_names_what_is_there()
     ensures { (net : Network) (place : Place) (content : Content) (choice : ℕ) →
         Keeps net → IsPlace net place →

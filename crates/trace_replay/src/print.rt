@@ -175,7 +175,7 @@ fn append_line(mut text: String, out: &mut Vec<u8>) -> Result<(), NoMemory>
     Ok(())
 }
 
-/// Whether the SID or the link that an outcome names is one of the network's.
+/// Whether the SID or the link that an outcome names is one of the network's. (own rule)
 pub fn is_numbered(net: &Net, outcome: &Outcome) -> bool
     ensures yes { result ≡ true → IsNumbered net.now outcome.now }
     ensures no { IsNumbered net.now outcome.now → result ≡ true }

@@ -23,7 +23,7 @@ pub(crate) enum Phase {
     Over,
 }
 
-/// Why a text is no trace.
+/// Why a text is no trace. (own rule)
 #[derive(Clone, Copy, Debug, PartialEq, Eq)]
 pub enum TraceFault {
     /// A line is bad, the first that is.
@@ -55,7 +55,7 @@ impl From<AllocError> for TraceFault {
     }
 }
 
-/// The lines of a trace, each without its line feed. Contracts see the list of them.
+/// The lines of a trace, each without its line feed. Contracts see the list of them. (own rule)
 #[derive(Debug, Drop)]
 pub struct Trace {
     lines: Vec<Seq<u8>>,
@@ -70,7 +70,7 @@ impl Model for Trace {
 }
 
 impl Trace {
-    /// The lines, in order.
+    /// The lines, in order. (own rule)
     pub fn lines(&self) -> &[Seq<u8>]
         ensures { result.now ≡ self.now }
     {

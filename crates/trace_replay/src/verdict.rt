@@ -13,7 +13,7 @@ use base::Seq;
 use net_model::Net;
 use std::alloc::Global;
 
-/// What a trace that is right has.
+/// What a trace that is right has. (own rule)
 #[derive(Clone, Copy, Debug, PartialEq, Eq)]
 pub struct Replayed {
     /// How many packets.
@@ -22,7 +22,7 @@ pub struct Replayed {
     pub lines: u32,
 }
 
-/// Why a trace is not right.
+/// Why a trace is not right. (own rule)
 #[derive(Debug, Drop)]
 pub enum ReplayFault {
     /// A line is wrong, the first that is.

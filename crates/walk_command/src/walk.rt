@@ -42,7 +42,8 @@ use srx_edge::{Files, Sink, Source};
 use std::alloc::Global;
 use walk_rules::{Ended, How, Place};
 
-/// What becomes of a frame's packet at the headend, before the first stage.
+/// What becomes of a frame's packet at the headend, before the first stage. (RFC 8986 sections 5.1
+/// and 5.2)
 #[derive(Drop)]
 pub enum AtHeadend {
     /// It is not read.
@@ -53,7 +54,7 @@ pub enum AtHeadend {
     Enters(Content),
 }
 
-/// How a walk starts.
+/// How a walk starts. (own rule)
 #[derive(Drop)]
 pub enum Start {
     /// With what the headend puts in front of packets.
@@ -62,7 +63,8 @@ pub enum Start {
     NoList(Text),
 }
 
-/// What the headend puts in front of packets: the compiled list, with the intent's fields.
+/// What the headend puts in front of packets: the compiled list, with the intent's fields. (RFC
+/// 8986 sections 5.1 and 5.2)
 #[tactic(auto, using(crate::proofs::WalkStarts::segments))]
 pub fn policy_of(
     alloc: Global,
@@ -168,7 +170,8 @@ fn entering4(alloc: Global, policy: &Policy, bytes: Vec<u8>) -> Result<AtHeadend
     encapsulated(alloc, policy, Family::V4, PktBuf::of(bytes))
 }
 
-/// What becomes of a frame's packet at the headend, for inner packets of a family.
+/// What becomes of a frame's packet at the headend, for inner packets of a family. (RFC 8986
+/// sections 5.1 and 5.2)
 pub fn at_headend(
     alloc: Global,
     policy: &Policy,
@@ -522,7 +525,7 @@ fn headend_fits(net: &Net, intent: &Intent, policy: &Policy)
 /// where there is no list nothing is written but a line, and the input is not read. Packets that
 /// are not read or that the headend drops have their lines before the first stage of any packet, by
 /// their numbers. What is behind the last frame of a capture is refused once all packets were
-/// walked.
+/// walked. (own rule)
 pub fn walk<F: Files, S: Source, O: Sink, E: Sink>(
     alloc: Global,
     file: &str,
