@@ -53,16 +53,10 @@ fn conclude<E: Sink>(alloc: Global, answer: Result<Told, Halt>, err: &mut E) -> 
 /// program's name. After a fault of the outside and after want of memory nothing more is written.
 /// (own rule)
 ///
-<<<<<<< HEAD
 /// `Serves` says what a call leaves: where it stopped, if it did, and that nothing of what follows
 /// that place in the order files, input, pieces was read or written; which output is wanted of what
 /// the files and the input tell, and how far it went out; which files were asked for; and what is
 /// left of the input. (own rule)
-=======
-/// `Serves` says what a call leaves: where it stopped, if it did, and that nothing came after that
-/// place; which output is wanted of what the files and the input tell, and how far it went out;
-/// which files were asked for; and what is left of the input.
->>>>>>> b94d2276aa113e210be9b0044c4d02473686b329
 pub fn serve<F: Files, S: Source, O: Sink, E: Sink>(
     alloc: Global,
     words: &[String],
