@@ -18,6 +18,7 @@ pub mod ListedLemmas
 pub mod JudgingLemmas
 pub mod PassesLemmas
 pub mod TableLaws
+pub mod RoomLaws
 pub mod SidLaws
 pub mod RouteSetLemmas
 pub mod NumberLemmas
