@@ -56,7 +56,7 @@ fn conclude<E: Sink>(alloc: Global, answer: Result<Told, Halt>, err: &mut E) -> 
 /// `Serves` says what a call leaves: where it stopped, if it did, and that nothing of what follows
 /// that place in the order files, input, pieces was read or written; which output is wanted of what
 /// the files and the input tell, and how far it went out; which files were asked for; and what is
-/// left of the input. (own rule)
+/// left of the input.
 pub fn serve<F: Files, S: Source, O: Sink, E: Sink>(
     alloc: Global,
     words: &[String],
