@@ -5,23 +5,24 @@ use Rattle.std.specs.Prelude.{All, OnOk, Result}
 use Rattle.std.proofs.lemmas.Grind.{flat_map-append}
 use Rattle.std.proofs.lemmas.Bool.{cases_lt}
 use Rattle.std.proofs.lemmas.List.Elements.{All-push, All-get_or, All-from_get_or}
+use Rattle.pcap_io.specs.declared.frame.Body.{Body}
+use Rattle.pcap_io.specs.declared.frame.Body.TheVariants as bodies
 use Rattle.pcap_io.specs.declared.frame.Frame.{Frame}
 use Rattle.pcap_io.specs.declared.head.CaptureHead.{CaptureHead}
 use Rattle.pcap_io.specs.declared.numbers.TheConstants.{MAX_FRAMES}
 use Rattle.pcap_io.specs.Capture.{Reader}
 use Rattle.pcap_io.specs.Frames.{Reading, frame_len, with_front, frames_of}
 use Rattle.pcap_io.proofs.PublicLaws.{frames_of-zero, frames_of-whole, frames_of-none}
-use Rattle.srv6_rules.specs.Packet.{Content}
 use Rattle.net_model.specs.Network.{Network}
-use Rattle.walk_rules.specs.declared.place.Place.{Place}
-use Rattle.packet_walk.specs.Flight.{InFlight, Flight, entered, entering}
+use Rattle.packet_walk.specs.Flight.{InFlight, Flight, entered}
 use Rattle.packet_walk.specs.Rest.{rest_of}
 use Rattle.packet_walk.specs.Schedule.{Coming, comings, comings_of}
 use Rattle.packet_walk.proofs.PublicLaws.{rising-push}
 use Rattle.command_inputs.specs.declared.packets.Next.TheVariants as nexts
 use Rattle.command_output.specs.declared.refusal.Refusal.{Refusal}
 use Rattle.command_inputs.specs.Packets.{left_of, Nexts}
-use Rattle.run_commands.specs.Scheduled.{EntersBehind, EntersOne, HasEntered}
+use Rattle.run_commands.specs.Run as run
+use Rattle.run_commands.specs.Scheduled.{IsEntered, IsInStep, coming}
 use Rattle.command_inputs.proofs.PublicLaws.{Left, left_all, left_on, all_done}
 
 -- numbers that are no more than one are no more than a greater one
@@ -38,50 +39,68 @@ comings-push net (n ∷ numbers) [] number p each = absurd (omega (arith, each))
 comings-push net (n ∷ numbers) (q ∷ packets) number p each =
     ap (λ (more : List Coming). record { number = n; steps = rest_of net q } ∷ more) (comings-push net numbers packets number p (omega (arith, each)))
 
-module _ (f : Flight) (numbers : List ℕ) (number : ℕ) where
-  -- none enters
-  pub enters_none : EntersBehind [] number numbers f numbers f
-  enters_none net last before above h = record {
+-- the packets that entered so far are these, and their frames' numbers are no more than a last one
+pub record HasEntered (net : Network) (last : ℕ) (packets : List Coming) (numbers : List ℕ) (f : Flight) : Type 0 where
+  pub in_step : IsInStep net numbers f
+  pub few : length f.packets ≤ last
+  pub below : All (λ number. number ≤ last) numbers
+  pub those : comings_of numbers f ≡ packets
+
+-- a packet that enters, by the number of its frame and its walk
+abbrev pub coming_if : Network → ℕ → Option InFlight → List Coming
+coming_if net number None = []
+coming_if net number (Some p) = coming number (rest_of net p)
+
+-- one that enters, with a number above those before it, is behind them
+module _ (net : Network) (last : ℕ) (before : List Coming) (f : Flight) (numbers : List ℕ) (number : ℕ) (above : last < number)
+    (h : HasEntered net last before numbers f) where
+  enters_none : HasEntered net number (before ++ []) numbers f
+  enters_none = record {
     in_step = h.in_step;
     few = omega (arith, h.few, above);
     below = below-more numbers last number (omega (arith, above)) h.below;
     those = h.those ∙ sym (append-nil before);
   }
 
-  -- one does
-  module _ (content : Content) (place : Place) (choices : List ℕ) where
-    abbrev p : InFlight
-    p = entering content place choices
+  enters_one : (p : InFlight) → HasEntered net number (before ++ coming number (rest_of net p)) (numbers ++ number ∷ []) (entered f p)
+  enters_one p =
+      let n : length (numbers ++ number ∷ []) ≡ length numbers + 1 = length-append numbers (number ∷ []) in
+      let m : length (f.packets ++ p ∷ []) ≡ length f.packets + 1 = length-append f.packets (p ∷ []) in
+      let each : length numbers ≡ length f.packets = h.in_step.each in
+      record {
+        in_step = record {
+          same_net = h.in_step.same_net;
+          each = omega (arith, n, m, each);
+          rising = rising-push numbers number h.in_step.rising
+              (λ k within. let l : get_or numbers k 0 ≤ last = All-get_or (λ x. x ≤ last) numbers k 0 within h.below in
+              omega (arith, l, above));
+        };
+        few = omega (arith, m, h.few, above);
+        below = All-push (λ x. x ≤ number) numbers number (below-more numbers last number (omega (arith, above)) h.below) (omega arith);
+        those = comings-push f.net numbers f.packets number p each
+            ∙ (ap (λ (all : List Coming). all ++ coming number (rest_of f.net p)) h.those
+            ∙ ap (λ (n : Network). before ++ coming number (rest_of n p)) h.in_step.same_net);
+      }
 
-    pub enters_one : EntersOne number content place choices numbers f (numbers ++ number ∷ []) (entered f p)
-    enters_one net last before above h =
-        let n : length (numbers ++ number ∷ []) ≡ length numbers + 1 = length-append numbers (number ∷ []) in
-        let m : length (f.packets ++ p ∷ []) ≡ length f.packets + 1 = length-append f.packets (p ∷ []) in
-        let each : length numbers ≡ length f.packets = h.in_step.each in
-        record {
-          in_step = record {
-            same_net = h.in_step.same_net;
-            each = omega (arith, n, m, each);
-            rising = rising-push numbers number h.in_step.rising
-                (λ k within. let l : get_or numbers k 0 ≤ last = All-get_or (λ x. x ≤ last) numbers k 0 within h.below in
-                omega (arith, l, above));
-          };
-          few = omega (arith, m, h.few, above);
-          below = All-push (λ x. x ≤ number) numbers number (below-more numbers last number (omega (arith, above)) h.below) (omega arith);
-          those = comings-push f.net numbers f.packets number p each
-              ∙ ap (λ (all : List Coming). all ++ record { number = number; steps = rest_of f.net p } ∷ []) h.those;
-        }
+  enters_as : (o : Option InFlight) (ms : List ℕ) (g : Flight) → IsEntered number o numbers f ms g
+      → HasEntered net number (before ++ coming_if net number o) ms g
+  enters_as None ms g is =
+      subst (λ (k : Flight). HasEntered net number (before ++ []) ms k) (sym is.1)
+      (subst (λ (xs : List ℕ). HasEntered net number (before ++ []) xs f) (sym is.0) enters_none)
+  enters_as (Some p) ms g is =
+      subst (λ (k : Flight). HasEntered net number (before ++ coming number (rest_of net p)) ms k) (sym is.1)
+      (subst (λ (xs : List ℕ). HasEntered net number (before ++ coming number (rest_of net p)) xs (entered f p)) (sym is.0) (enters_one p))
 
-    pub enters_as : (new : Flight) (numbers_new : List ℕ) → new ≡ entered f p → numbers_new ≡ numbers ++ number ∷ []
-        → EntersOne number content place choices numbers f numbers_new new
-    enters_as new numbers_new is ns =
-        subst (λ (g : Flight). EntersOne number content place choices numbers f numbers_new g) (sym is)
-        (subst (λ (xs : List ℕ). EntersOne number content place choices numbers f xs (entered f p)) (sym ns) enters_one)
-
--- the same packets by other words
-pub enters-same : {X E : Type 0} (r : Result X E) (one other : List Coming) (number : ℕ) (ns : List ℕ) (f : Flight) (ms : List ℕ) (g : Flight)
-    → OnOk r (EntersBehind one number ns f ms g) → one ≡ other → OnOk r (EntersBehind other number ns f ms g)
-enters-same r one other number ns f ms g enters same = subst (λ (cs : List Coming). OnOk r (EntersBehind cs number ns f ms g)) same enters
+-- what entering answers and leaves, by its clauses, of the same packet by other words
+pub entered_as : {X E : Type 0} (r : Result X E) (number : ℕ) (p : InFlight) (o : Option InFlight) (ns ms : List ℕ) (f g : Flight)
+    → OnOk r (ms ≡ ns ++ number ∷ []) → OnOk r (g ≡ entered f p) → Some p ≡ o → OnOk r (IsEntered number o ns f ms g)
+entered_as r number p o ns ms f g numbers flight same =
+    subst (λ (q : Option InFlight). OnOk r (IsEntered number q ns f ms g)) same (both r numbers flight)
+  where
+    both : {X E : Type 0} (r : Result X E) → OnOk r (ms ≡ ns ++ number ∷ []) → OnOk r (g ≡ entered f p)
+        → OnOk r (IsEntered number (Some p) ns f ms g)
+    both (Ok x) numbers flight = (numbers, flight)
+    both (Err e) numbers flight = tt
 
 -- frames are numbered from 1, and there are no more than there may be
 
@@ -134,18 +153,19 @@ module _ (packets : Frame → List Coming) (net : Network) (whole : Reading) (ol
   pub entering_room : length f.packets + 1 < 2 ^ 32
   entering_room = omega (arith, e.has.few, numbered.1)
 
-  pub entering_on : (numbers_new : List ℕ) (g : Flight) → EntersBehind (packets frame) frame.number numbers f numbers_new g
-      → Entering packets net whole new numbers_new g
-  entering_on numbers_new g enters =
+  pub entering_on : (o : Option InFlight) → packets frame ≡ coming_if net frame.number o → (numbers_new : List ℕ) (g : Flight)
+      → IsEntered frame.number o numbers f numbers_new g → Entering packets net whole new numbers_new g
+  entering_on o comes numbers_new g enters =
       let n : frame.number ≡ new.taken = numbered.0 ∙ sym h.1 in
-      let all : flat_map packets e.left.done ++ packets frame ≡ flat_map packets (e.left.done ++ frame ∷ []) =
+      let all : flat_map packets e.left.done ++ coming_if net frame.number o ≡ flat_map packets (e.left.done ++ frame ∷ []) =
       sym (flat_map-append packets e.left.done (frame ∷ [])
-      ∙ ap (λ (last : List Coming). flat_map packets e.left.done ++ last) (append-nil (packets frame))) in
+      ∙ ap (λ (last : List Coming). flat_map packets e.left.done ++ last) (append-nil (packets frame) ∙ comes)) in
       record {
         left = left_on whole old new frame e.left h;
         has = subst (λ (last : ℕ). HasEntered net last (flat_map packets (e.left.done ++ frame ∷ [])) numbers_new g) n
             (subst (λ (cs : List Coming). HasEntered net frame.number cs numbers_new g) all
-            (enters net old.taken (flat_map packets e.left.done) (omega (arith, numbered.0)) e.has));
+            (enters_as net old.taken (flat_map packets e.left.done) f numbers frame.number (omega (arith, numbered.0)) e.has o
+            numbers_new g enters));
       }
 
 pub entering_all : (packets : Frame → List Coming) (net : Network) (whole : Reading) (now new : Reader) (fault : Option Refusal)
@@ -153,3 +173,11 @@ pub entering_all : (packets : Frame → List Coming) (net : Network) (whole : Re
     → comings_of numbers f ≡ flat_map packets whole.frames
 entering_all packets net whole now new fault numbers f e h =
     e.has.those ∙ ap (flat_map packets) (all_done whole now new fault e.left h)
+
+-- a frame's packet in `run` comes as it enters
+pub run-comes : (net : Network) (node : ℕ) (choices : List ℕ) (number : ℕ) (body : Body)
+    → run.coming_by net node choices number body ≡ coming_if net number (run.entering_by node choices body)
+run-comes net node choices number (bodies.V6 packet) = refl
+run-comes net node choices number (bodies.V4 packet) = refl
+run-comes net node choices number bodies.ShortFrame = refl
+run-comes net node choices number bodies.NotIp = refl

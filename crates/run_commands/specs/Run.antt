@@ -10,7 +10,9 @@ use Rattle.srv6_rules.specs.declared.sid.Family.TheVariants.{V6, V4}
 use Rattle.srv6_rules.specs.Packet.{Content, entered}
 use Rattle.net_model.specs.Network.{Network}
 use Rattle.walk_rules.specs.declared.place.How.TheVariants.{Arrived}
+use Rattle.walk_rules.specs.declared.place.Place.{Place}
 use Rattle.walk_rules.specs.Walk.{Step, walk_of, choice_at, end_of}
+use Rattle.packet_walk.specs.Flight.{InFlight, entering}
 use Rattle.packet_walk.specs.Schedule.{Coming}
 use Rattle.srx_edge.specs.Edge.{file_named}
 use Rattle.trace_replay.specs.declared.limits.TheConstants.{STAGES}
@@ -32,10 +34,13 @@ use Rattle.command_output.specs.Verbs.{has_two_words}
 abbrev pub is_run : List ℕ → List ℕ → List ℕ → Bool
 is_run verb file node = has_two_words (codes "run") verb file node
 
--- the walk of what stands at a node as a packet of a family, as it enters there, with a list of choices
+-- where what enters at a node as a packet of a family stands
+abbrev pub entry_place : ℕ → Family → Place
+entry_place node family = record { node = node; how = Arrived 0; family = family }
+
+-- the walk of what enters there, with a list of choices
 abbrev pub walk_from : Network → ℕ → List ℕ → Family → Content → List Step
-walk_from net node choices family content =
-    walk_of STAGES net (Some (record { node = node; how = Arrived 0; family = family })) content (choice_at choices) 0
+walk_from net node choices family content = walk_of STAGES net (Some (entry_place node family)) content (choice_at choices) 0
 
 -- the list of choices where the words give none
 abbrev pub no_choices : List ℕ
@@ -89,6 +94,16 @@ coming_of_frame net node choices frame = coming_by net node choices frame.number
 -- the packets that are read
 abbrev pub comings_from : Network → ℕ → List ℕ → List Frame → List Coming
 comings_from net node choices frames = flat_map (coming_of_frame net node choices) frames
+
+-- a frame's packet as it enters, if it is read
+abbrev pub entering_by : ℕ → List ℕ → Body → Option InFlight
+entering_by node choices (bodies.V6 packet) = Some (entering (entered V6 packet) (entry_place node V6) choices)
+entering_by node choices (bodies.V4 packet) = Some (entering (entered V4 packet) (entry_place node V4) choices)
+entering_by node choices bodies.ShortFrame = None
+entering_by node choices bodies.NotIp = None
+
+abbrev pub entering_of_frame : ℕ → List ℕ → Frame → Option InFlight
+entering_of_frame node choices frame = entering_by node choices frame.body
 
 -- the head of the capture that is written, the lines of the packets that aren't read, and the stages of the others in the order of
 -- a schedule

@@ -1,15 +1,12 @@
 -- What packets send in the order of a schedule (own rules).
-use Rattle.std.specs.Prelude.{◌≡◌, ℕ, ◌<◌, ◌≤◌, List, [], ◌∷◌, ◌++◌, length, All, Option, Some, None}
+use Rattle.std.specs.Prelude.{◌≡◌, ℕ, List, [], ◌∷◌, ◌++◌, length, Option, Some, None}
 use Rattle.std.specs.List.{flat_map}
 use Rattle.std.specs.List.Sorted.{IsStrictlyIncreasing}
 use Rattle.net_model.specs.Network.{Network}
-use Rattle.srv6_rules.specs.Packet.{Content}
 use Rattle.walk_rules.specs.declared.place.Ended.{Ended}
-use Rattle.walk_rules.specs.declared.place.Place.{Place}
-use Rattle.walk_rules.specs.Walk.{Step, walk_of, choice_at, end_of}
-use Rattle.trace_replay.specs.declared.limits.TheConstants.{STAGES}
-use Rattle.packet_walk.specs.Flight.{Flight}
-use Rattle.packet_walk.specs.Schedule.{Coming, Taken, comings_of, scheduled, stages_of}
+use Rattle.walk_rules.specs.Walk.{Step, end_of}
+use Rattle.packet_walk.specs.Flight.{Flight, InFlight, entered}
+use Rattle.packet_walk.specs.Schedule.{Coming, Taken, scheduled, stages_of}
 use Rattle.run_commands.specs.Capture.{frame_of_gave}
 use Rattle.command_output.specs.Lines.{packet_line}
 use Rattle.command_output.specs.Pieces.{Piece, ForOut, ForErr}
@@ -53,20 +50,7 @@ pub record IsInStep (net : Network) (numbers : List ℕ) (f : Flight) : Type 0 w
   pub each : length numbers ≡ length f.packets
   pub rising : IsStrictlyIncreasing numbers
 
--- the packets that entered so far are these, and their frames' numbers are no more than a last one
-pub record HasEntered (net : Network) (last : ℕ) (packets : List Coming) (numbers : List ℕ) (f : Flight) : Type 0 where
-  pub in_step : IsInStep net numbers f
-  pub few : length f.packets ≤ last
-  pub below : All (λ number. number ≤ last) numbers
-  pub those : comings_of numbers f ≡ packets
-
--- these packets enter behind all that did, whose frames' numbers are lower
-abbrev pub EntersBehind : List Coming → ℕ → List ℕ → Flight → List ℕ → Flight → Type 0
-EntersBehind packets number numbers_old old numbers_new new =
-    (net : Network) (last : ℕ) (before : List Coming) → last < number → HasEntered net last before numbers_old old
-    → HasEntered net number (before ++ packets) numbers_new new
-
--- a packet enters, which walks from a place with a list of choices
-abbrev pub EntersOne : ℕ → Content → Place → List ℕ → List ℕ → Flight → List ℕ → Flight → Type 0
-EntersOne number content place choices numbers_old old numbers_new new =
-    EntersBehind (coming number (walk_of STAGES old.net (Some place) content (choice_at choices) 0)) number numbers_old old numbers_new new
+-- a packet, if there is one, entered behind the others, with the number of its frame
+abbrev pub IsEntered : ℕ → Option InFlight → List ℕ → Flight → List ℕ → Flight → Type 0
+IsEntered number None numbers_old old numbers_new new = (numbers_new ≡ numbers_old) × (new ≡ old)
+IsEntered number (Some p) numbers_old old numbers_new new = (numbers_new ≡ numbers_old ++ number ∷ []) × (new ≡ entered old p)

@@ -4,10 +4,10 @@ ghost use Rattle.std.specs.Prelude.{◌≡◌, ◌<◌, ◌+◌, ◌^◌, IfOk, 
 ghost use Rattle.pcap_io.specs.Frames.{frames_of as frames_in};
 ghost use Rattle.packet_walk.specs.Schedule.{comings_of};
 ghost use Rattle.command_output.specs.Answers.{ending_of_step};
-ghost use Rattle.run_commands.specs.Run.{coming_of_frame, comings_from};
+ghost use Rattle.run_commands.specs.Run.{comings_from, entering_of_frame};
 ghost use Rattle.command_inputs.specs.Packets.{fault_of};
 ghost use Rattle.command_output.specs.Pieces.{WroteAll, sinks_of};
-ghost use Rattle.run_commands.specs.Scheduled.{EntersBehind, IsInStep, scheduled_pieces};
+ghost use Rattle.run_commands.specs.Scheduled.{IsEntered, IsInStep, scheduled_pieces};
 
 use crate::scheduled::{Entered, write_turns};
 use base::NoMemory;
@@ -31,8 +31,8 @@ fn enter_frame<'a>(
     requires node { node < length entered.old.flight.net.nodes }
     requires choices { 0 < length choices.now }
     requires few { length entered.old.flight.packets + 1 < 2 ^ 32 }
-    ensures { OnOk result (EntersBehind
-        (coming_of_frame entered.old.flight.net node choices.now frame) frame.number
+    ensures { OnOk result (IsEntered frame.number
+        (entering_of_frame node choices.now frame)
         entered.old.numbers.items entered.old.flight
         entered.new.numbers.items entered.new.flight) }
 {

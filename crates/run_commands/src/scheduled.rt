@@ -1,8 +1,8 @@
 //! Packets side by side, in turns by a schedule, written as they go.
 
-ghost use Rattle.std.specs.Prelude.{◌≡◌, ◌<◌, ◌+◌, ◌^◌, [], IfSome, None, OnOk, Option, length};
+ghost use Rattle.std.specs.Prelude.{◌≡◌, ◌≤◌, ◌<◌, ◌+◌, ◌^◌, ◌++◌, ◌∷◌, [], IfSome, None, OnErr, OnOk, Option, length};
 ghost use Rattle.icmp6_errors.specs.Answer.{error_bytes};
-ghost use Rattle.packet_walk.specs.Flight.{IsGiven, packet_of, turned};
+ghost use Rattle.packet_walk.specs.Flight.{IsGiven, entered, entering, packet_of, turned};
 ghost use Rattle.packet_walk.specs.Schedule.{comings_of, next_of};
 ghost use Rattle.srx_edge.specs.Steps.{Wrote};
 ghost use Rattle.srv6_rules.specs.Packet.{Packet as PacketValue};
@@ -11,7 +11,7 @@ ghost use Rattle.walk_rules.specs.Relation.{IsPlace};
 ghost use Rattle.command_output.specs.Answers.{ending_of_step};
 ghost use Rattle.run_commands.specs.Capture.{frame_by};
 ghost use Rattle.command_output.specs.Pieces.{WroteAll, sinks_of};
-ghost use Rattle.run_commands.specs.Scheduled.{EntersOne, IsInStep, line_by, pieces_of_stage, scheduled_pieces};
+ghost use Rattle.run_commands.specs.Scheduled.{IsInStep, line_by, pieces_of_stage, scheduled_pieces};
 ghost use Rattle.command_output.specs.Sent.{IsEnd, IsWritable};
 
 use crate::walk::write_frame;
@@ -45,8 +45,8 @@ impl<'a> Entered<'a> {
         }
     }
 
-    /// What stands at a place enters there, with the number of its frame, which is above those of the
-    /// packets before it, and with the choices of its decisions.
+    /// What stands at a place enters there behind the packets before it, with the number of its frame,
+    /// and with the choices of its decisions (own rule). `NoMemory` leaves all as it was.
     pub fn enter(
         &mut self,
         number: u32,
@@ -57,9 +57,15 @@ impl<'a> Entered<'a> {
         requires place { IsPlace self.old.flight.net place }
         requires choices { 0 < length choices.now }
         requires few { length self.old.flight.packets + 1 < 2 ^ 32 }
-        ensures { OnOk result (EntersOne number content place choices.now
-            self.old.numbers.items self.old.flight self.new.numbers.items self.new.flight) }
+        ensures flight { OnOk result (self.new.flight
+            ≡ entered self.old.flight (entering content place choices.now)) }
+        ensures numbers { OnOk result (self.new.numbers.items
+            ≡ self.old.numbers.items ++ number ∷ []) }
+        ensures kept_flight { OnErr result (self.new.flight ≡ self.old.flight) }
+        ensures kept_numbers { OnErr result (self.new.numbers.items ≡ self.old.numbers.items) }
     {
+        // With room for the number only the flight's own room can be wanting.
+        self.numbers.reserve(1)?;
         self.flight.enter_content(content, place, choices)?;
         self.numbers.push(number)?;
         Ok(())

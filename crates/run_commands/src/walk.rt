@@ -1,6 +1,6 @@
 //! A packet's walk, written as it goes.
 
-ghost use Rattle.std.specs.Prelude.{◌≡◌, ◌≤◌, ◌<◌, ◌+◌, IfOk, IfSome, OnOk, Option, Some, length};
+ghost use Rattle.std.specs.Prelude.{◌≡◌, ◌≤◌, ◌<◌, ◌+◌, [], IfOk, IfSome, OnErr, OnOk, Option, Some, length};
 ghost use Rattle.icmp6_errors.specs.Answer.{error_bytes};
 ghost use Rattle.pcap_io.specs.Capture.{written_frame_bytes};
 ghost use Rattle.srx_edge.specs.Steps.{Wrote};
@@ -123,7 +123,7 @@ pub fn decisions_of(outcome: &Outcome) -> usize
 }
 
 /// One stage, of which what it sends can be written; the slot has the error about what it drops.
-/// (own rule)
+/// `NoMemory` leaves what stands there as it was, and the slot empty. (own rule)
 pub fn staged(
     alloc: Global,
     net: &Net,
@@ -145,6 +145,8 @@ pub fn staged(
         IfSome (place_after net.now place.now outcome) (IsPlace net.now)) }
     ensures ends { IfOk result (λ outcome. IsEnd net.now (end_by net.now place.now outcome)) }
     ensures numbered { IfOk result (IsNumbered net.now) }
+    ensures kept { OnErr result (content.new ≡ content.old) }
+    ensures empty { OnErr result (error.new.items ≡ []) }
 {
     net.keeps_rules();
     an_outcome_names_what_is_there();

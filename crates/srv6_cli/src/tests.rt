@@ -304,6 +304,10 @@ fn expect_fronts(
 
 const RUN: &[&str] = &["run", "net.toml", "A"];
 
+const RUN_MIXED: &[&str] = &["run", "net.toml", "A", "0", "2,1,2,1"];
+
+const RUN_SECOND_FIRST: &[&str] = &["run", "net.toml", "A", "0", "2,2,2,1"];
+
 const COMPILE: &[&str] = &["compile", "net.toml", "intent.toml"];
 
 const CHECK: &[&str] = &["check", "net.toml", "intent.toml", "cert"];
@@ -518,7 +522,7 @@ fn walk_without_list(rt: HostRuntime) -> Result<(), Fail> {
     Ok(())
 }
 
-/// Walks two packets, in a capture, with these words.
+/// Runs a command over two packets, in a capture.
 fn serve_two(alloc: Global, words: &[&str]) -> Result<Ran, Fail> {
     let words = words_of(alloc, words)?;
     let mut files = files_of(alloc, 0)?;
@@ -572,6 +576,60 @@ fn a_schedule_mixes_the_packets(rt: HostRuntime) -> Result<(), Fail> {
     let absent = serve_two(rt.alloc(), WALK_ABSENT)?;
     assert_eq!(rt; absent.out.as_slice(), default.out.as_slice());
     assert_eq!(rt; absent.err.as_slice(), default.err.as_slice());
+    Ok(())
+}
+
+/// Where the numbers and the microseconds of the frames stand that these two packets give, and what
+/// they are: behind a head of 24 bytes and each frame before, of 56 bytes, or 104 of an error.
+const FRAMES_MIXED: [(usize, u8); 12] = [
+    (24, 2),
+    (28, 1),
+    (80, 1),
+    (84, 1),
+    (136, 2),
+    (140, 2),
+    (192, 1),
+    (196, 2),
+    (248, 1),
+    (252, 0),
+    (352, 2),
+    (356, 0),
+];
+
+/// The same where the second packet ends first.
+const FRAMES_SECOND_FIRST: [(usize, u8); 12] = [
+    (24, 2),
+    (28, 1),
+    (80, 2),
+    (84, 2),
+    (136, 2),
+    (140, 0),
+    (240, 1),
+    (244, 1),
+    (296, 1),
+    (300, 2),
+    (352, 1),
+    (356, 0),
+];
+
+/// Each of two packets is sent over links 1 and 2 and dropped at C, which sends an error about it.
+#[test]
+fn a_schedule_mixes_the_packets_of_run(rt: HostRuntime) -> Result<(), Fail> {
+    let mixed = serve_two(rt.alloc(), RUN_MIXED)?;
+    assert_eq!(rt; mixed.status, Status::Done);
+    assert_eq!(rt; mixed.out.len(), 456);
+    let lines = "packet 1: dropped UpperLayer at C\npacket 2: dropped UpperLayer at C\n";
+    assert_eq!(rt; mixed.err.as_slice(), lines.as_bytes());
+    for (at, byte) in &FRAMES_MIXED {
+        assert_eq!(rt; mixed.out.as_slice().get(*at), Some(byte));
+    }
+    let second_first = serve_two(rt.alloc(), RUN_SECOND_FIRST)?;
+    assert_eq!(rt; second_first.out.len(), 456);
+    let lines = "packet 2: dropped UpperLayer at C\npacket 1: dropped UpperLayer at C\n";
+    assert_eq!(rt; second_first.err.as_slice(), lines.as_bytes());
+    for (at, byte) in &FRAMES_SECOND_FIRST {
+        assert_eq!(rt; second_first.out.as_slice().get(*at), Some(byte));
+    }
     Ok(())
 }
 

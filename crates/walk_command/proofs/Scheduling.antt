@@ -9,7 +9,7 @@ use Rattle.intent_reader.specs.declared.intent.Intent.{Intent}
 use Rattle.packet_walk.specs.Schedule.{Taken, one_by_one}
 use Rattle.command_output.specs.Pieces.{bytes_in_order}
 use Rattle.run_commands.specs.Scheduled.{pieces_of_stages, scheduled_pieces}
-use Rattle.run_commands.proofs.PublicLaws.{alone, frames-same, no-packet, one-same, walk-same}
+use Rattle.run_commands.proofs.PublicLaws.{alone, coming_if, frames-same, no-packet, one-same, walk-same}
 use Rattle.walk_command.specs.declared.walk.AtHeadend.{AtHeadend}
 use Rattle.walk_command.specs.declared.walk.AtHeadend.TheVariants.{NotRead, Dropped, Enters}
 use Rattle.walk_command.specs.Walk as walk
@@ -43,3 +43,10 @@ module _ (net : Network) (intent : Intent) (policy : Policy) (choices : List ℕ
       ≡ bytes_in_order (scheduled_pieces net schedule
       (walk.comings_at_headend net intent policy choices (record { number = number; body = body } ∷ [])))
   walk_alone number body schedule = alone-at number (at_headend policy intent.inner body) schedule
+
+-- a frame's packet comes as it enters
+pub walk-comes : (net : Network) (intent : Intent) (choices : List ℕ) (number : ℕ) (at : AtHeadend)
+    → walk.coming_at net intent choices number at ≡ coming_if net number (walk.entering_at intent choices at)
+walk-comes net intent choices number (NotRead cause) = refl
+walk-comes net intent choices number (Dropped reason) = refl
+walk-comes net intent choices number (Enters content) = refl

@@ -1,6 +1,6 @@
 -- The command `walk`: the inner packets of the input, encapsulated at the headend of the intent of a file with the list that
 -- the intent is compiled to, in the network that another file describes (RFC 8986 sections 5.1 and 5.2).
-use Rattle.std.specs.Prelude.{◌≡◌, ℕ, ◌+◌, ◌^◌, ◌<◌, ◌≤◌, Bool, true, false, IsTrue, if◌then◌else◌, List, [], ◌∷◌, codes, length, map, Option, Some, Result, Ok, Err, IsSomeAnd, ⊤}
+use Rattle.std.specs.Prelude.{◌≡◌, ℕ, ◌+◌, ◌^◌, ◌<◌, ◌≤◌, Bool, true, false, IsTrue, if◌then◌else◌, List, [], ◌∷◌, codes, length, map, Option, Some, None, Result, Ok, Err, IsSomeAnd, ⊤}
 use Rattle.std.specs.List.{flat_map}
 use Rattle.v6_addr.specs.declared.address.Addr.{Addr}
 use Rattle.pcap_io.specs.declared.frame.Body.{Body}
@@ -28,6 +28,7 @@ use Rattle.path_compiler.specs.declared.compiled.Compiled.{Compiled}
 use Rattle.path_compiler.specs.declared.compiled.CompileFault.{CompileFault}
 use Rattle.path_compiler.specs.declared.compiled.CompileFault.TheVariants as faults
 use Rattle.path_compiler.specs.Compiled.{IsCompiled, IsLeastOfAll}
+use Rattle.packet_walk.specs.Flight.{InFlight, entering}
 use Rattle.packet_walk.specs.Schedule.{Coming}
 use Rattle.srx_edge.specs.Edge.{file_named}
 use Rattle.walk_command.specs.declared.walk.AtHeadend.{AtHeadend}
@@ -127,6 +128,15 @@ coming_at net intent choices number (Enters content) = coming number (walk_at_he
 abbrev pub coming_of_frame : Network → Intent → Policy → List ℕ → Frame → List Coming
 coming_of_frame net intent policy choices frame =
     coming_at net intent choices frame.number (at_headend policy intent.inner frame.body)
+
+-- a frame's packet as it enters at the headend, if that encapsulates it
+abbrev pub entering_at : Intent → List ℕ → AtHeadend → Option InFlight
+entering_at intent choices (NotRead cause) = None
+entering_at intent choices (Dropped reason) = None
+entering_at intent choices (Enters content) = Some (entering content (headend_place intent) choices)
+
+abbrev pub entering_of_frame : Intent → Policy → List ℕ → Frame → Option InFlight
+entering_of_frame intent policy choices frame = entering_at intent choices (at_headend policy intent.inner frame.body)
 
 -- the packets that it encapsulates
 abbrev pub comings_at_headend : Network → Intent → Policy → List ℕ → List Frame → List Coming

@@ -20,9 +20,9 @@ pub fn a_walk_keeps_to_the_intent()
     ensures { WalksKeepTo }
 {}
 
-/// Whatever the schedule, the frames of a packet that the headend encapsulates are those of its own
-/// walk, in their order; so two schedules give each packet the same frames in the same order, and
-/// only their mixing differs. The packets are those of a capture, or the bare one. (own rule)
+/// Whatever the schedule, the frames that the stages send of a packet that the headend encapsulates
+/// are those of its own walk, in their order; so two schedules give each packet the same frames in the
+/// same order. The packets are those of a capture, or the bare one. (own rule)
 pub fn a_schedule_mixes_walks()
     ensures { (net : Network) (intent : Intent) (policy : Policy) (number : ℕ) (choices : List ℕ)
         (schedule : List ℕ) (packets : Packets) →

@@ -5,10 +5,10 @@ ghost use Rattle.pcap_io.specs.Frames.{frames_of as frames_in};
 ghost use Rattle.srv6_rules.specs.Policies.{IsPolicy};
 ghost use Rattle.packet_walk.specs.Schedule.{comings_of};
 ghost use Rattle.command_output.specs.Answers.{ending_of_step};
-ghost use Rattle.walk_command.specs.Walk.{coming_of_frame, comings_at_headend};
+ghost use Rattle.walk_command.specs.Walk.{comings_at_headend, entering_of_frame};
 ghost use Rattle.command_inputs.specs.Packets.{fault_of};
 ghost use Rattle.command_output.specs.Pieces.{WroteAll, sinks_of};
-ghost use Rattle.run_commands.specs.Scheduled.{EntersBehind, IsInStep, scheduled_pieces};
+ghost use Rattle.run_commands.specs.Scheduled.{IsEntered, IsInStep, scheduled_pieces};
 
 use crate::walk::{AtHeadend, at_headend};
 use base::NoMemory;
@@ -36,9 +36,9 @@ fn enter_frame<'a>(
     requires policy { IsPolicy policy.now }
     requires choices { 0 < length choices.now }
     requires few { length entered.old.flight.packets + 1 < 2 ^ 32 }
-    ensures { OnOk result (EntersBehind
-        (coming_of_frame entered.old.flight.net intent.now policy.now choices.now frame)
-        frame.number entered.old.numbers.items entered.old.flight
+    ensures { OnOk result (IsEntered frame.number
+        (entering_of_frame intent.now policy.now choices.now frame)
+        entered.old.numbers.items entered.old.flight
         entered.new.numbers.items entered.new.flight) }
 {
     let Frame { number, body } = frame;
