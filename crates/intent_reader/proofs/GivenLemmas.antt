@@ -19,7 +19,7 @@ same_Ok x y e = same_Some x y (ap value e)
 pub of_fault : {F X : Type 0} (fact : X → Type 0) (fault : F) → Holds fact (Err fault)
 of_fault {F = F} fact fault = record { given = λ x h. absurd (let no : ◌≡◌ {A = Result _ F} (Err fault) (Ok x) = h in cc) }
 
-pub of_value : {F X : Type 0} (fact : X → Type 0) (x : X) → fact x → Holds fact (Ok x)
+pub of_value : {F X : Type 0} (fact : X → Type 0) (x : X) → fact x → Holds {F = F} fact (Ok x)
 of_value fact x f = record { given = λ y h. subst fact (same_Ok x y h) f }
 
 pub after : {F X Y : Type 0} (fact : Y → Type 0) (r : Result X F) (next : X → Result Y F)
