@@ -45,7 +45,7 @@ module _ (net : Network) where
     abbrev steps : List Step
     steps = walk_of STAGES net (Some place) content pick 0
 
-    first-step : steps ≡ stage_of net place content (pick 0) ∷ walk_on (STAGES - 1) net (stage_of net place content (pick 0)) pick 0
+    pub first-step : steps ≡ stage_of net place content (pick 0) ∷ walk_on (STAGES - 1) net (stage_of net place content (pick 0)) pick 0
     first-step =
         let one_more : STAGES ≡ suc (STAGES - 1) = omega arith in
         ap (λ (n : ℕ). walk_of n net (Some place) content pick 0) one_more ∙ walk_of-suc (STAGES - 1) net place content pick 0
