@@ -139,7 +139,7 @@ fn count_packet(
 {
     let mut bytes = Vec::new(alloc);
     write_packet(k as u16, &mut bytes)?;
-    match at_headend(alloc, policy, intent.inner, Body::V6(Seq::new(bytes)))? {
+    match at_headend(policy, intent.inner, Body::V6(Seq::new(bytes)))? {
         AtHeadend::Enters(outer) => count_outer(alloc, net, intent, outer),
         AtHeadend::NotRead(_) | AtHeadend::Dropped(_) => Ok(Counts { frames: 0, left: 0 }),
     }

@@ -107,21 +107,8 @@ fn start_of_intent(alloc: Global, net: &Net, intent: &Intent) -> Result<Start, H
     }
 }
 
-/// What enters with the bytes of a buffer.
-fn content_of(alloc: Global, buf: &PktBuf) -> Result<Content, NoMemory>
-    ensures { IfOk result (λ content. content ≡ entered Family.V6 buf.now.bytes) }
-{
-    let bytes = buf.view().to_vec(alloc)?;
-    Ok(Content::enter(Family::V6, bytes))
-}
-
 /// A packet of a family that the headend encapsulates, or drops.
-fn encapsulated(
-    alloc: Global,
-    policy: &Policy,
-    family: Family,
-    inner: PktBuf,
-) -> Result<AtHeadend, NoMemory>
+fn encapsulated(policy: &Policy, family: Family, inner: PktBuf) -> Result<AtHeadend, NoMemory>
     requires policy { IsPolicy policy.now }
     requires packet { HoldsInner family inner.bytes }
     ensures { IfOk result (λ at.
@@ -129,10 +116,7 @@ fn encapsulated(
 {
     let mut buf = inner;
     match encap(policy, family, &mut buf) {
-        Ok(()) => {
-            let outer = content_of(alloc, &buf)?;
-            Ok(AtHeadend::Enters(outer))
-        }
+        Ok(()) => Ok(AtHeadend::Enters(Content::enter_buf(Family::V6, buf))),
         Err(EncapFault::InnerHop) => Ok(AtHeadend::Dropped(Reason::InnerHop)),
         Err(EncapFault::TooBig { .. }) => Ok(AtHeadend::Dropped(Reason::TooBig)),
         Err(EncapFault::NoMemory) => Err(NoMemory),
@@ -141,7 +125,7 @@ fn encapsulated(
 
 /// Bytes that enter the headend as an IPv6 packet, in place: what stands behind the packet's end is
 /// cut.
-fn entering(alloc: Global, policy: &Policy, bytes: Vec<u8>) -> Result<AtHeadend, NoMemory>
+fn entering(policy: &Policy, bytes: Vec<u8>) -> Result<AtHeadend, NoMemory>
     requires { IsPolicy policy.now }
     ensures { IfOk result (λ at. at ≡ of_content policy.now (entered Family.V6 bytes.items)) }
 {
@@ -152,11 +136,11 @@ fn entering(alloc: Global, policy: &Policy, bytes: Vec<u8>) -> Result<AtHeadend,
         Err(fault) => return Ok(AtHeadend::Dropped(fault.reason())),
     };
     bytes.truncate(len);
-    encapsulated(alloc, policy, Family::V6, PktBuf::of(bytes))
+    encapsulated(policy, Family::V6, PktBuf::of(bytes))
 }
 
 /// Bytes that enter the headend as an IPv4 packet, in the same way.
-fn entering4(alloc: Global, policy: &Policy, bytes: Vec<u8>) -> Result<AtHeadend, NoMemory>
+fn entering4(policy: &Policy, bytes: Vec<u8>) -> Result<AtHeadend, NoMemory>
     requires { IsPolicy policy.now }
     ensures { IfOk result (λ at. at ≡ of_content policy.now (entered Family.V4 bytes.items)) }
 {
@@ -167,23 +151,18 @@ fn entering4(alloc: Global, policy: &Policy, bytes: Vec<u8>) -> Result<AtHeadend
         Err(fault) => return Ok(AtHeadend::Dropped(fault.reason())),
     };
     bytes.truncate(len);
-    encapsulated(alloc, policy, Family::V4, PktBuf::of(bytes))
+    encapsulated(policy, Family::V4, PktBuf::of(bytes))
 }
 
 /// What becomes of a frame's packet at the headend, for inner packets of a family. (RFC 8986
 /// sections 5.1 and 5.2)
-pub fn at_headend(
-    alloc: Global,
-    policy: &Policy,
-    inner: Family,
-    body: Body,
-) -> Result<AtHeadend, NoMemory>
+pub fn at_headend(policy: &Policy, inner: Family, body: Body) -> Result<AtHeadend, NoMemory>
     requires { IsPolicy policy.now }
     ensures { IfOk result (λ at. at ≡ at_headend policy.now inner body) }
 {
     match (body, inner) {
-        (Body::V6(bytes), Family::V6) => entering(alloc, policy, bytes.into_vec()),
-        (Body::V4(bytes), Family::V4) => entering4(alloc, policy, bytes.into_vec()),
+        (Body::V6(bytes), Family::V6) => entering(policy, bytes.into_vec()),
+        (Body::V4(bytes), Family::V4) => entering4(policy, bytes.into_vec()),
         (Body::V6(_), Family::V4) | (Body::V4(_), Family::V6) => {
             Ok(AtHeadend::NotRead(Unread::WrongVersion))
         }
@@ -295,7 +274,7 @@ fn tell_frame<E: Sink>(
         (E.seen err.old) (E.seen err.new) }
 {
     let Frame { number, body } = frame;
-    let at = at_headend(alloc, policy, intent.inner, body)?;
+    let at = at_headend(policy, intent.inner, body)?;
     tell_ended(alloc, net, intent.headend, number, &at, err)
 }
 
@@ -319,7 +298,7 @@ fn walk_frame<O: Sink, E: Sink>(
         (sinks_of (O.seen out.old) (E.seen err.old)) (sinks_of (O.seen out.new) (E.seen err.new)) }
 {
     let Frame { number, body } = frame;
-    let at = at_headend(alloc, policy, intent.inner, body)?;
+    let at = at_headend(policy, intent.inner, body)?;
     walk_entered(alloc, net, intent, choices, number, at, buffers, out, err)
 }
 
@@ -445,7 +424,7 @@ fn walk_bare<O: Sink, E: Sink>(
         (reading_of (Packets.Bare packet)).frames)
         (sinks_of (O.seen out.old) (E.seen err.old)) (sinks_of (O.seen out.new) (E.seen err.new)) }
 {
-    let at = at_headend(alloc, policy, intent.inner, Body::V6(packet))?;
+    let at = at_headend(policy, intent.inner, Body::V6(packet))?;
     tell_ended(alloc, net, intent.headend, 1, &at, err)?;
     walk_entered(
         alloc,
