@@ -11,8 +11,8 @@ ghost use Rattle.policy_encap.specs.Inner.{HoldsInner};
 ghost use Rattle.intent_reader.specs.Rules.{IsIntent};
 ghost use Rattle.command_output.specs.Answers.{Commands, ending_of_step};
 ghost use Rattle.compile_commands.specs.Compile.{HasValues};
-ghost use Rattle.run_commands.specs.Run.{packet_pieces};
-ghost use Rattle.walk_command.specs.Walk.{StartsAs, at_headend, comings_at_headend, ended_line, ended_of_frame, of_content, of_encapsulating, pieces_behind_head, policy_of, walk_at_headend, walk_pieces, walk_shape, walked_by, walked_of_frame};
+ghost use Rattle.run_commands.specs.Run.{packet_pieces, pieces_of_frame, pieces_one_by_one};
+ghost use Rattle.walk_command.specs.Walk.{StartsAs, at_headend, coming_at, coming_of_frame, comings_at_headend, ended_line, ended_of_frame, of_content, of_encapsulating, pieces_behind_head, policy_of, walk_at_headend, walk_pieces, walk_shape};
 ghost use Rattle.command_output.specs.Outside.{outside};
 ghost use Rattle.command_inputs.specs.Packets.{HasHead, fault_of, reading_of};
 ghost use Rattle.command_output.specs.Pieces.{WroteAll, sinks_of};
@@ -247,7 +247,7 @@ fn walk_entered<O: Sink, E: Sink>(
     requires headend { intent.now.headend < length net.now.nodes }
     requires choices { 0 < length choices.now }
     ensures { WroteAll (ending_of_step result)
-        (walked_by net.now intent.now choices.now number at)
+        (pieces_one_by_one net.now (coming_at net.now intent.now choices.now number at))
         (sinks_of (O.seen out.old) (E.seen err.old)) (sinks_of (O.seen out.new) (E.seen err.new)) }
 {
     match at {
@@ -294,7 +294,8 @@ fn walk_frame<O: Sink, E: Sink>(
     requires policy { IsPolicy policy.now }
     requires choices { 0 < length choices.now }
     ensures { WroteAll (ending_of_step result)
-        (walked_of_frame net.now intent.now policy.now choices.now frame)
+        (pieces_one_by_one net.now
+        (coming_of_frame net.now intent.now policy.now choices.now frame))
         (sinks_of (O.seen out.old) (E.seen err.old)) (sinks_of (O.seen out.new) (E.seen err.new)) }
 {
     let Frame { number, body } = frame;
@@ -347,7 +348,8 @@ fn walk_frames<O: Sink, E: Sink>(
     ensures fault { IfOk result (λ fault.
         fault ≡ fault_of (frames_in head MAX_FRAMES 1 behind.now)) }
     ensures wrote { WroteAll (ending_of_step result)
-        (flat_map (walked_of_frame net.now intent.now policy.now choices.now)
+        (flat_map (pieces_of_frame net.now
+        (coming_of_frame net.now intent.now policy.now choices.now))
         (frames_in head MAX_FRAMES 1 behind.now).frames)
         (sinks_of (O.seen out.old) (E.seen err.old)) (sinks_of (O.seen out.new) (E.seen err.new)) }
 {
