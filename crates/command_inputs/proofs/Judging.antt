@@ -1,5 +1,5 @@
 -- What files and the input give, as they were judged.
-use Rattle.std.proofs.Common.{◌≡◌, ℕ, ◌<◌, ◌≤◌, true, false, List, [], ◌∷◌, length, nat_lt, Option, None, Some, IfSome, Result, Ok, Err, refl, sym, ap, subst, rules}
+use Rattle.std.proofs.Common.{◌≡◌, ◌∙◌, ℕ, ◌<◌, ◌≤◌, Bool, true, false, if◌then◌else◌, List, [], ◌∷◌, length, nat_lt, Option, None, Some, IfSome, Result, Ok, Err, refl, sym, ap, subst, rules}
 use Rattle.std.proofs.lemmas.Bool.{le-ltb}
 use Rattle.std.specs.Prelude.{IsSomeAnd}
 use Rattle.srx_edge.specs.Edge.{file_named}
@@ -11,6 +11,7 @@ use Rattle.pcap_io.specs.declared.fault.CaptureFault.{CaptureFault}
 use Rattle.pcap_io.specs.declared.head.CaptureHead.{CaptureHead}
 use Rattle.pcap_io.specs.Head.{head_of}
 use Rattle.net_model.specs.Network.{Network}
+use Rattle.net_model.specs.Rules.{IsNetwork}
 use Rattle.net_model.specs.declared.fault.NetFault.{NetFault}
 use Rattle.net_model.specs.declared.fault.NetFault.TheVariants as nets
 use Rattle.toml_words.specs.Reading.{Gives as ReadsAs}
@@ -77,6 +78,19 @@ network_refused nets.NoMemory text fits h = tt
 pub network_too_big : (text : List ℕ) → FILE_LIMIT < length text
     → JudgesText network_in text (Err (halts.Refused (refusals.TooBig FILE_LIMIT)))
 network_too_big text more = let many : nat_lt FILE_LIMIT (length text) ≡ true = search rules in rw many refl
+
+-- a text gives a network that keeps the rules
+abbrev pub RulesAreKept : Type 0
+RulesAreKept = (text : List ℕ) (net : Network) → net_in text ≡ Ok net → IsNetwork net
+
+pub rules-kept : RulesAreKept → (text : List ℕ) (net : Network) → network_in text ≡ Ok net → IsNetwork net
+rules-kept rules text net is = by (nat_lt FILE_LIMIT (length text)) (net_in text) refl is
+  where
+    by : (big : Bool) (read : Result Network NetFault) → net_in text ≡ read
+        → (if big then Err (refusals.TooBig FILE_LIMIT) else network_by read) ≡ Ok net → IsNetwork net
+    by true read e h = absurd (cc)
+    by false (Ok n) e h = let same : n ≡ net = cc in rules text net (e ∙ ap Ok same)
+    by false (Err fault) e h = absurd (cc)
 
 -- the same of an intent
 

@@ -48,6 +48,12 @@ bytes_for_out [] = []
 bytes_for_out (ForOut bytes ∷ more) = bytes ++ bytes_for_out more
 bytes_for_out (ForErr bytes ∷ more) = bytes_for_out more
 
+-- those that are for `err`
+abbrev pub bytes_for_err : List Piece → List ℕ
+bytes_for_err [] = []
+bytes_for_err (ForOut bytes ∷ more) = bytes_for_err more
+bytes_for_err (ForErr bytes ∷ more) = bytes ++ bytes_for_err more
+
 -- where a call stopped before its end: a fault of the files or of the input, a fault of a sink or a want of memory in it,
 -- or a want of memory elsewhere
 pub data Stop : Type 0 where

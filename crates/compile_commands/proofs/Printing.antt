@@ -13,7 +13,6 @@ use Rattle.net_model.proofs.PublicLaws.{flatness_ok, keeps_from_network}
 use Rattle.toml_words.specs.Reading.{◌>>=◌}
 use Rattle.net_words.specs.declared.intent.DescribedIntent.{DescribedIntent}
 use Rattle.net_words.specs.Intent as words
-use Rattle.net_reader.specs.Reading.{net_in}
 use Rattle.intent_reader.specs.declared.intent.Intent.{Intent}
 use Rattle.intent_reader.specs.declared.fault.IntentFault.{IntentFault}
 use Rattle.intent_reader.specs.Judging.{judged, intent_of_text}
@@ -52,9 +51,10 @@ use Rattle.command_output.specs.Outputs.{reported}
 use Rattle.compile_commands.specs.Check as checks
 use Rattle.compile_commands.specs.Check.{CertWants, FlatWants, told_of}
 use Rattle.compile_commands.specs.Compile.{AnswerWants, NetworkWants, IntentWants, HasValues, hop_limit_line, no_report, none_line, printed, report_of, too_long_line}
-use Rattle.command_inputs.specs.Judgements.{network_in, network_by, intent_in, intent_by, cert_in, cert_by}
+use Rattle.command_inputs.specs.Judgements.{network_in, intent_in, intent_by, cert_in, cert_by}
 use Rattle.command_output.specs.Pieces.{Output, bytes_for_out}
 use Rattle.compile_commands.specs.Printed.{ConfirmsAnswer, ConfirmsPrinted, CheckConfirmsCompile}
+use Rattle.command_inputs.proofs.PublicLaws.{RulesAreKept, rules-kept}
 use Rattle.compile_commands.proofs.Checking.{network_of}
 use Rattle.compile_commands.proofs.Compiling.{values_kept, values_long, values_over}
 use Rattle.compile_commands.proofs.Reporting.{report_texts, no_report_texts, report-lines, no-report-lines, report-comments, no-report-comments}
@@ -76,19 +76,6 @@ intent-of net text intent is = by (nat_lt FILE_LIMIT (length text)) (intent_of_t
         → (if big then Err (refusals.TooBig FILE_LIMIT) else intent_by read) ≡ Ok intent → IsIntent net intent
     by true read e h = absurd (cc)
     by false (Ok i) e h = let same : i ≡ intent = cc in intent-by net text intent (words.intent_in text) refl (e ∙ ap Ok same)
-    by false (Err fault) e h = absurd (cc)
-
--- a text gives a network that keeps the rules
-abbrev pub RulesAreKept : Type 0
-RulesAreKept = (text : List ℕ) (net : Network) → net_in text ≡ Ok net → IsNetwork net
-
-network-of : RulesAreKept → (text : List ℕ) (net : Network) → network_in text ≡ Ok net → IsNetwork net
-network-of rules text net is = by (nat_lt FILE_LIMIT (length text)) (net_in text) refl is
-  where
-    by : (big : Bool) (read : Result Network NetFault) → net_in text ≡ read
-        → (if big then Err (refusals.TooBig FILE_LIMIT) else network_by read) ≡ Ok net → IsNetwork net
-    by true read e h = absurd (cc)
-    by false (Ok n) e h = let same : n ≡ net = cc in rules text net (e ∙ ap Ok same)
     by false (Err fault) e h = absurd (cc)
 
 module _ (net : Network) (intent : Intent) (network : IsNetwork net) (is_intent : IsIntent net intent) where
@@ -222,7 +209,7 @@ module _ (rules : RulesAreKept) (old output : Output) (small : length (bytes_for
   by-network text (Err refusal) p is wants = (λ h. h, λ h. h)
   by-network text (Ok net) None is wants = absurd wants
   by-network text (Ok net) (Some plan) is wants =
-      by-intent net plan (intent_in net plan) (network-of rules text net is) refl wants
+      by-intent net plan (intent_in net plan) (rules-kept rules text net is) refl wants
 
   by-file : (o p : Option (List ℕ)) → IsSomeAnd o (λ text. NetworkWants AnswerWants (network_in text) p old)
       → IsSomeAnd o (λ text. checks.CheckedNetworkWants (network_in text) p (Some bytes) output)

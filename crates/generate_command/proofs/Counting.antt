@@ -13,7 +13,8 @@ use Rattle.walk_rules.specs.declared.place.Ended.TheVariants as ends
 use Rattle.walk_rules.specs.Treatment.{Gave, step_of}
 use Rattle.walk_rules.specs.Walk.{Step, walk_of, next_place, decisions, end_by, end_of}
 use Rattle.generate_command.specs.Summary.{is_send, sends, has_left, leaves, frames_in, left_in}
-use Rattle.run_commands.proofs.PublicLaws.{end_of-cons, goes_on, step_by, walk_goes_on, walk_ends}
+use Rattle.packet_walk.proofs.PublicLaws.{end_of-cons, goes_on}
+use Rattle.run_commands.proofs.PublicLaws.{step_by, walk_goes_on, walk_ends}
 
 -- how many stages of a walk send
 abbrev pub sent_in : List Step → ℕ

@@ -16,9 +16,10 @@ use intent_reader::Intent;
 use net_maker::write_packet;
 use net_model::Net;
 use node_stage::Content;
+use packet_walk::decisions_of;
 use path_compiler::{CompileFault, Compiled};
 use pcap_io::Body;
-use run_commands::{decisions_of, staged};
+use run_commands::staged;
 use srv6_rules::{Family, Policy};
 use std::alloc::Global;
 use trace_replay::STAGES;
@@ -139,7 +140,7 @@ fn count_packet(
 {
     let mut bytes = Vec::new(alloc);
     write_packet(k as u16, &mut bytes)?;
-    match at_headend(alloc, policy, intent.inner, Body::V6(Seq::new(bytes)))? {
+    match at_headend(policy, intent.inner, Body::V6(Seq::new(bytes)))? {
         AtHeadend::Enters(outer) => count_outer(alloc, net, intent, outer),
         AtHeadend::NotRead(_) | AtHeadend::Dropped(_) => Ok(Counts { frames: 0, left: 0 }),
     }

@@ -38,8 +38,8 @@ impl<'a> Model for InFlight<'a> {
         (packet_value p.content p.place p.choices.now p.decisions p.stages p.ended) };
 }
 
-/// The decisions that an outcome takes.
-fn decisions_of(outcome: &Outcome) -> u32
+/// The decisions that an outcome takes. (own rule)
+pub fn decisions_of(outcome: &Outcome) -> usize
     ensures taken { result ≡ decisions outcome.now }
     ensures few { result ≤ 1 }
 {
@@ -107,7 +107,7 @@ impl<'a> InFlight<'a> {
         requires going { self.old.ended ≡ None }
         ensures { self.new ≡ advanced net.now outcome.now self.old.content self.old }
     {
-        self.decisions += decisions_of(outcome);
+        self.decisions += decisions_of(outcome) as u32;
         self.stages += 1;
         match next_place(net, &self.place, outcome) {
             Some(next) => {

@@ -17,6 +17,7 @@ mod tests;
 
 pub use event::{Event, STAGES};
 pub use flight::Flight;
+pub use in_flight::decisions_of;
 pub use laws::{
     a_packet_takes_its_own_walk, a_schedule_gives_each_packet_its_walk, a_schedule_takes_all_steps,
     a_turn_changes_one_packet, a_turn_takes_the_next_stage, no_schedule_takes_packets_one_by_one,

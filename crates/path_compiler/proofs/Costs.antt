@@ -2,7 +2,7 @@
 use Rattle.std.proofs.Common.{◌≡◌, ℕ, zero, suc, ◌<◌, true, List, [], ◌∷◌, length, get_or, Option, Some, slice_get, Contains, AllPairs, refl, sym, ◌∙◌, ap, subst, arith}
 use Rattle.std.specs.Option.{option_map}
 use Rattle.std.proofs.lemmas.Bool.{false≢true}
-use Rattle.std.proofs.lemmas.Option.{slice_get-get_or}
+use Rattle.std.proofs.lemmas.Option.{same_Some, slice_get-get_or}
 use Rattle.list_pack.specs.declared.types.Cost.{Cost}
 use Rattle.list_pack.specs.declared.types.State.{State}
 use Rattle.list_pack.specs.declared.types.PathStep.{PathStep}
@@ -13,9 +13,6 @@ use Rattle.list_pack.specs.Costs.{Move, AtMost, cost_of, Under, start}
 use Rattle.list_pack.specs.Least.{IsLeast, IsFirstLeast, state_key, IsBefore, IsListing, IsPath, IsPathOrNone}
 use Rattle.list_pack.specs.Paths.{cost_with}
 use Rattle.path_compiler.specs.Compiled.{cost_in}
-
-pub some-same : {X : Type 0} (x y : X) → Path (Option X) (Some x) (Some y) → x ≡ y
-some-same x y h = cc
 
 -- nothing comes before the start
 none-before : (key : List ℕ) → lex_before key [] ≡ true → ⊥
@@ -76,6 +73,6 @@ cost-read v ps moves c containers need listing first read =
     let begin = starts-with v ps moves c listing first.cost in
     let least = costs-same v start moves c begin.0 first begin.1.least in
     let its : begin.0 ≡ cost_with containers need =
-    some-same begin.0 (cost_with containers need) (ap (option_map cost_in) (sym begin.1.is) ∙ read) in
+    same_Some begin.0 (cost_with containers need) (ap (option_map cost_in) (sym begin.1.is) ∙ read) in
     let same : cost_with containers need ≡ c = sym its ∙ least in
     (ap (λ (x : Cost). x.containers) same, ap (λ (x : Cost). x.hops) same)

@@ -1,8 +1,9 @@
--- The frames that a schedule gives each packet.
-use Rattle.std.proofs.Common.{◌≡◌, ℕ, zero, suc, ◌+◌, ◌<◌, false, nat_eq, List, [], ◌∷◌, ◌++◌, drop, length, map, refl, sym, ap, ◌∙◌, arith, inl, inr, subst}
-use Rattle.std.specs.Prelude.{⊤}
+-- The frames and the line that a schedule gives each packet.
+use Rattle.std.proofs.Common.{◌≡◌, ℕ, zero, suc, ◌+◌, ◌<◌, false, nat_eq, List, [], ◌∷◌, ◌++◌, drop, length, map, Some, refl, sym, ap, ◌∙◌, append-nil, arith, inl, inr, subst}
+use Rattle.std.specs.Prelude.{⊤, All}
 use Rattle.std.specs.List.{flat_map, IsDistinct, AllByRecursion}
 use Rattle.std.proofs.lemmas.Bool.{cases_lt, ne_eqb}
+use Rattle.std.proofs.lemmas.List.Elements.{All-append, All-cons, All-nil}
 use Rattle.pcap_io.specs.declared.frame.Body.{Body}
 use Rattle.pcap_io.specs.declared.frame.Body.TheVariants as bodies
 use Rattle.pcap_io.specs.declared.frame.Frame.{Frame}
@@ -10,8 +11,11 @@ use Rattle.pcap_io.specs.declared.head.CaptureHead.{CaptureHead}
 use Rattle.pcap_io.specs.declared.numbers.TheConstants.{HEAD_LEN, MAX_FRAMES}
 use Rattle.pcap_io.specs.Frames.{Reading, behind, frame_len, frames_of as frames_in}
 use Rattle.pcap_io.proofs.PublicLaws.{frames_of-zero, frames_of-whole, frames_of-none}
+use Rattle.srv6_rules.specs.declared.sid.Family.TheVariants.{V6, V4}
+use Rattle.srv6_rules.specs.Packet.{Content, entered}
 use Rattle.net_model.specs.Network.{Network}
-use Rattle.walk_rules.specs.Walk.{Step}
+use Rattle.walk_rules.specs.declared.place.Place.{Place}
+use Rattle.walk_rules.specs.Walk.{Step, walk_of, end_of}
 use Rattle.packet_walk.specs.Schedule.{Coming, Taken, all_of, scheduled, steps_of}
 use Rattle.packet_walk.proofs.PublicLaws.{stages-scheduled}
 use Rattle.command_inputs.specs.declared.packets.Packets.{Packets}
@@ -19,7 +23,11 @@ use Rattle.command_inputs.specs.declared.packets.Packets.TheVariants.{Bare, Capt
 use Rattle.run_commands.specs.Capture.{frame_of_gave, frames_of}
 use Rattle.run_commands.specs.Run as run
 use Rattle.command_inputs.specs.Packets.{reading_of}
-use Rattle.run_commands.specs.Scheduled.{coming, frame_of_stage, frames_sent}
+use Rattle.run_commands.specs.Scheduled.{coming, frame_of_stage, frames_sent, line_of_stage, line_of_walk, lines_told, pieces_of_stages}
+use Rattle.trace_replay.specs.declared.limits.TheConstants.{STAGES}
+use Rattle.command_output.specs.Lines.{packet_line}
+use Rattle.command_output.specs.Pieces.{bytes_for_err, bytes_for_out}
+use Rattle.run_commands.proofs.Scheduling.{first-step}
 
 -- the frames of all of a packet's stages are those of its walk
 frames-all : (number : ℕ) (steps : List Step) → flat_map frame_of_stage (all_of number steps) ≡ frames_of number steps
@@ -31,6 +39,44 @@ pub frames-sent : (number : ℕ) (schedule : List ℕ) (comings : List Coming) �
 frames-sent number schedule comings apart =
     ap (λ (stages : List Taken). flat_map frame_of_stage stages) (stages-scheduled number schedule comings apart)
     ∙ frames-all number (steps_of number comings)
+
+-- the bytes for `out` of the pieces of stages are their frames, and those for `err` their lines
+
+module _ (net : Network) where
+  pub out-of-stages : (stages : List Taken) → bytes_for_out (pieces_of_stages net stages) ≡ flat_map frame_of_stage stages
+  out-of-stages [] = refl
+  out-of-stages (t ∷ more) = ap (λ (bytes : List ℕ). frame_of_stage t ++ bytes) (out-of-stages more)
+
+  pub err-of-stages : (stages : List Taken) → bytes_for_err (pieces_of_stages net stages) ≡ flat_map (line_of_stage net) stages
+  err-of-stages [] = refl
+  err-of-stages (t ∷ more) = ap (λ (bytes : List ℕ). line_of_stage net t ++ bytes) (err-of-stages more)
+
+  -- the lines of all of a packet's stages are the one of its walk
+  lines-all : (number : ℕ) (steps : List Step) → flat_map (line_of_stage net) (all_of number steps) ≡ line_of_walk net number steps
+  lines-all number [] = refl
+  lines-all number (s ∷ []) = append-nil (packet_line net number (end_of net (s ∷ [])))
+  lines-all number (s ∷ t ∷ behind) = lines-all number (t ∷ behind)
+
+  pub lines-told : (number : ℕ) (schedule : List ℕ) (comings : List Coming) → IsDistinct nat_eq (map (λ (c : Coming). c.number) comings)
+      → lines_told net number (scheduled schedule comings) ≡ line_of_walk net number (steps_of number comings)
+  lines-told number schedule comings apart =
+      ap (λ (stages : List Taken). flat_map (line_of_stage net) stages) (stages-scheduled number schedule comings apart)
+      ∙ lines-all number (steps_of number comings)
+
+  -- a walk has a stage
+  pub walk-steps : (number : ℕ) (place : Place) (content : Content) (pick : ℕ → ℕ)
+      → All (λ (c : Coming). 0 < length c.steps) (coming number (walk_of STAGES net (Some place) content pick 0))
+  walk-steps number place content pick =
+      All-cons (λ (c : Coming). 0 < length c.steps) (record { number = number; steps = walk_of STAGES net (Some place) content pick 0 }) []
+      (subst (λ (steps : List Step). 0 < length steps) (sym (first-step net number place content pick)) (omega arith))
+      (All-nil (λ (c : Coming). 0 < length c.steps))
+
+-- so each packet of frames has, where each frame's packet has
+pub all-walk : (packets : Frame → List Coming) → ((frame : Frame) → All (λ (c : Coming). 0 < length c.steps) (packets frame))
+    → (frames : List Frame) → All (λ (c : Coming). 0 < length c.steps) (flat_map packets frames)
+all-walk packets each [] = All-nil (λ (c : Coming). 0 < length c.steps)
+all-walk packets each (frame ∷ more) =
+    All-append (λ (c : Coming). 0 < length c.steps) (packets frame) (flat_map packets more) (each frame) (all-walk packets each more)
 
 -- frames numbered from n on
 
@@ -85,10 +131,32 @@ run-one net node choices number (bodies.V4 packet) P none some = some _
 run-one net node choices number bodies.ShortFrame P none some = none
 run-one net node choices number bodies.NotIp P none some = none
 
+run-apart : (net : Network) (node : ℕ) (choices : List ℕ) (packets : Packets)
+    → IsDistinct nat_eq (numbers (run.comings_from net node choices (reading_of packets).frames))
+run-apart net node choices packets =
+    apart (run.coming_of_frame net node choices) (λ frame P. run-one net node choices frame.number frame.body P) 1
+    (reading_of packets).frames (are-from-packets packets)
+
 pub run-mixes : (net : Network) (node number : ℕ) (choices schedule : List ℕ) (packets : Packets)
     → let comings = run.comings_from net node choices (reading_of packets).frames in
     frames_sent number (scheduled schedule comings) ≡ frames_of number (steps_of number comings)
 run-mixes net node number choices schedule packets =
-    frames-sent number schedule (run.comings_from net node choices (reading_of packets).frames)
-    (apart (run.coming_of_frame net node choices) (λ frame P. run-one net node choices frame.number frame.body P) 1
-    (reading_of packets).frames (are-from-packets packets))
+    frames-sent number schedule (run.comings_from net node choices (reading_of packets).frames) (run-apart net node choices packets)
+
+pub run-tells : (net : Network) (node number : ℕ) (choices schedule : List ℕ) (packets : Packets)
+    → let comings = run.comings_from net node choices (reading_of packets).frames in
+    lines_told net number (scheduled schedule comings) ≡ line_of_walk net number (steps_of number comings)
+run-tells net node number choices schedule packets =
+    lines-told net number schedule (run.comings_from net node choices (reading_of packets).frames) (run-apart net node choices packets)
+
+run-steps : (net : Network) (node : ℕ) (choices : List ℕ) (number : ℕ) (body : Body)
+    → All (λ (c : Coming). 0 < length c.steps) (run.coming_by net node choices number body)
+run-steps net node choices number (bodies.V6 packet) = walk-steps net number _ (entered V6 packet) _
+run-steps net node choices number (bodies.V4 packet) = walk-steps net number _ (entered V4 packet) _
+run-steps net node choices number bodies.ShortFrame = All-nil (λ (c : Coming). 0 < length c.steps)
+run-steps net node choices number bodies.NotIp = All-nil (λ (c : Coming). 0 < length c.steps)
+
+pub run-walks : (net : Network) (node : ℕ) (choices : List ℕ) (packets : Packets)
+    → All (λ (c : Coming). 0 < length c.steps) (run.comings_from net node choices (reading_of packets).frames)
+run-walks net node choices packets =
+    all-walk (run.coming_of_frame net node choices) (λ frame. run-steps net node choices frame.number frame.body) (reading_of packets).frames

@@ -21,7 +21,7 @@ use Rattle.command_output.specs.Lines.{packet_line}
 use Rattle.command_output.specs.Pieces.{Piece, Sinks, Which, ToOut, ToErr, WroteAll, bytes_in_order}
 use Rattle.run_commands.specs.Scheduled.{coming, pieces_of_stage, pieces_of_stages, scheduled_pieces}
 use Rattle.run_commands.specs.Run as run
-use Rattle.run_commands.specs.Run.{packet_pieces, walk_from}
+use Rattle.run_commands.specs.Run.{packet_pieces, pieces_of_frame, pieces_one_by_one, walk_from}
 use Rattle.command_output.proofs.PublicLaws.{all_same, marked, bytes_in_order-append}
 
 -- a packet's frames and then its line are the pieces of its stages, one after the other
@@ -45,7 +45,7 @@ module _ (net : Network) where
     abbrev steps : List Step
     steps = walk_of STAGES net (Some place) content pick 0
 
-    first-step : steps ≡ stage_of net place content (pick 0) ∷ walk_on (STAGES - 1) net (stage_of net place content (pick 0)) pick 0
+    pub first-step : steps ≡ stage_of net place content (pick 0) ∷ walk_on (STAGES - 1) net (stage_of net place content (pick 0)) pick 0
     first-step =
         let one_more : STAGES ≡ suc (STAGES - 1) = omega arith in
         ap (λ (n : ℕ). walk_of n net (Some place) content pick 0) one_more ∙ walk_of-suc (STAGES - 1) net place content pick 0
@@ -62,15 +62,16 @@ module _ (net : Network) where
         ∙ sym (ap (λ (stages : List Taken). bytes_in_order (pieces_of_stages net stages)) (append-nil (all_of number steps)))
 
   -- packets one after the other
-  pub frames-same : (pieces : Frame → List Piece) (packets : Frame → List Coming)
-      → ((frame : Frame) → bytes_in_order (pieces frame) ≡ bytes_in_order (pieces_of_stages net (one_by_one (packets frame))))
-      → (frames : List Frame) → bytes_in_order (flat_map pieces frames) ≡ bytes_in_order (scheduled_pieces net [] (flat_map packets frames))
-  frames-same pieces packets each [] = refl
-  frames-same pieces packets each (frame ∷ more) =
+  pub frames-same : (packets : Frame → List Coming)
+      → ((frame : Frame) → bytes_in_order (pieces_of_frame net packets frame) ≡ bytes_in_order (pieces_of_stages net (one_by_one (packets frame))))
+      → (frames : List Frame) → bytes_in_order (flat_map (pieces_of_frame net packets) frames)
+      ≡ bytes_in_order (scheduled_pieces net [] (flat_map packets frames))
+  frames-same packets each [] = refl
+  frames-same packets each (frame ∷ more) =
       let one : List Taken = one_by_one (packets frame) in
       let others : List Taken = one_by_one (flat_map packets more) in
-      bytes_in_order-append (pieces frame) (flat_map pieces more)
-      ∙ (ap₂ (λ (a b : List (Which × ℕ)). a ++ b) (each frame) (frames-same pieces packets each more)
+      bytes_in_order-append (pieces_of_frame net packets frame) (flat_map (pieces_of_frame net packets) more)
+      ∙ (ap₂ (λ (a b : List (Which × ℕ)). a ++ b) (each frame) (frames-same packets each more)
       ∙ (sym (bytes_in_order-append (pieces_of_stages net one) (pieces_of_stages net others))
       ∙ ap bytes_in_order (sym (flat_map-append (pieces_of_stage net) one others)
       ∙ ap (pieces_of_stages net)
@@ -101,19 +102,20 @@ no-packet (entry ∷ schedule) = no-packet schedule
 -- the packets of `run`
 
 module _ (net : Network) (node : ℕ) (choices : List ℕ) where
-  run-same : (number : ℕ) (body : Body) → bytes_in_order (run.walked_by net node choices number body)
+  run-same : (number : ℕ) (body : Body) → bytes_in_order (pieces_one_by_one net (run.coming_by net node choices number body))
       ≡ bytes_in_order (pieces_of_stages net (one_by_one (run.coming_by net node choices number body)))
   run-same number (bodies.V6 packet) = one-same net number _ (entered V6 packet) _
   run-same number (bodies.V4 packet) = one-same net number _ (entered V4 packet) _
   run-same number bodies.ShortFrame = refl
   run-same number bodies.NotIp = refl
 
-  pub run_one_by_one : (frames : List Frame) → bytes_in_order (flat_map (run.walked_of_frame net node choices) frames)
+  pub run_one_by_one : (frames : List Frame)
+      → bytes_in_order (flat_map (pieces_of_frame net (run.coming_of_frame net node choices)) frames)
       ≡ bytes_in_order (scheduled_pieces net [] (run.comings_from net node choices frames))
-  run_one_by_one frames = frames-same net (run.walked_of_frame net node choices) (run.coming_of_frame net node choices)
-      (λ frame. run-same frame.number frame.body) frames
+  run_one_by_one frames = frames-same net (run.coming_of_frame net node choices) (λ frame. run-same frame.number frame.body) frames
 
-  pub run_alone : (number : ℕ) (packet schedule : List ℕ) → bytes_in_order (run.walked_by net node choices number (bodies.V6 packet))
+  pub run_alone : (number : ℕ) (packet schedule : List ℕ)
+      → bytes_in_order (pieces_one_by_one net (run.coming_by net node choices number (bodies.V6 packet)))
       ≡ bytes_in_order (scheduled_pieces net schedule
       (run.comings_from net node choices (record { number = number; body = bodies.V6 packet } ∷ [])))
   run_alone number packet schedule =
@@ -123,19 +125,19 @@ module _ (net : Network) (node : ℕ) (choices : List ℕ) where
 
   -- a step that wrote the packets one after the other wrote them under no schedule
   pub wrote_in_order : (frames : List Frame) (schedule : List ℕ) → length schedule ≡ 0 → (ending : Ending) (old new : Sinks)
-      → WroteAll ending (flat_map (run.walked_of_frame net node choices) frames) old new
+      → WroteAll ending (flat_map (pieces_of_frame net (run.coming_of_frame net node choices)) frames) old new
       → WroteAll ending (scheduled_pieces net schedule (run.comings_from net node choices frames)) old new
   wrote_in_order frames [] none ending old new wrote =
-      all_same (flat_map (run.walked_of_frame net node choices) frames)
+      all_same (flat_map (pieces_of_frame net (run.coming_of_frame net node choices)) frames)
       (scheduled_pieces net [] (run.comings_from net node choices frames)) old new (run_one_by_one frames) ending wrote
   wrote_in_order frames (entry ∷ schedule) none ending old new wrote = absurd (omega (arith, none))
 
   -- a step that wrote the only packet wrote it under any
   pub wrote_alone : (number : ℕ) (packet schedule : List ℕ) (ending : Ending) (old new : Sinks)
-      → WroteAll ending (run.walked_by net node choices number (bodies.V6 packet)) old new
+      → WroteAll ending (pieces_one_by_one net (run.coming_by net node choices number (bodies.V6 packet))) old new
       → WroteAll ending (scheduled_pieces net schedule
       (run.comings_from net node choices (record { number = number; body = bodies.V6 packet } ∷ []))) old new
   wrote_alone number packet schedule ending old new wrote =
-      all_same (run.walked_by net node choices number (bodies.V6 packet))
+      all_same (pieces_one_by_one net (run.coming_by net node choices number (bodies.V6 packet)))
       (scheduled_pieces net schedule (run.comings_from net node choices (record { number = number; body = bodies.V6 packet } ∷ []))) old new
       (run_alone number packet schedule) ending wrote

@@ -1,5 +1,5 @@
 -- Output while walking: what went out so far with the frames of the rest is the frames of the whole walk.
-use Rattle.std.proofs.Common.{◌≡◌, ℕ, suc, ◌+◌, Bool, true, false, is_some, List, [], ◌∷◌, ◌++◌, Option, Some, None, refl, sym, ap, ◌∙◌, append_assoc, append-nil, subst, slice_get}
+use Rattle.std.proofs.Common.{◌≡◌, ℕ, suc, ◌+◌, Bool, true, false, is_some, List, [], ◌∷◌, ◌++◌, Option, Some, None, refl, sym, ap, ◌∙◌, append_assoc, append-nil, subst}
 use Rattle.srx_edge.specs.Sinks.{SinkSeen, sent}
 use Rattle.pcap_io.specs.Capture.{written_frame_bytes}
 use Rattle.srx_edge.specs.Steps.{Ending, Wrote}
@@ -9,12 +9,12 @@ use Rattle.srv6_rules.specs.Packet.{Packet, Content}
 use Rattle.icmp6_errors.specs.Answer.{error_bytes}
 use Rattle.net_model.specs.Network.{Network}
 use Rattle.walk_rules.specs.declared.place.Place.{Place}
-use Rattle.walk_rules.specs.declared.place.Outcome.{Outcome}
 use Rattle.walk_rules.specs.declared.place.Outcome.TheVariants as outcomes
 use Rattle.walk_rules.specs.declared.place.Ended.TheVariants as ends
 use Rattle.walk_rules.specs.Treatment.{Gave, step_of}
-use Rattle.walk_rules.specs.Walk.{Step, walk_of, far_end, arrival, next_place, decisions, left_or_stages, end_by, end_of}
+use Rattle.walk_rules.specs.Walk.{Step, walk_of, next_place, decisions, end_by, end_of}
 use Rattle.walk_rules.proofs.PublicLaws.{walk_of-suc, walk_of-zero, walk_of-none}
+use Rattle.packet_walk.proofs.PublicLaws.{end_of-cons, goes_on}
 use Rattle.command_output.specs.declared.halt.Failure.{Failure}
 use Rattle.command_output.specs.declared.halt.Failure.TheVariants as failures
 use Rattle.command_output.specs.Answers.{ending_of_failure}
@@ -27,26 +27,6 @@ pub record Progress (number : ℕ) (net : Network) (left whole : List Step) (fir
   pub seen : now ≡ sent bytes first
   pub frames : bytes ++ frames_of number left ≡ frames_of number whole
   pub ends : end_of net left ≡ end_of net whole
-
--- a link with a far end goes on
-arrives : (end : Option ℕ) (place next : Place) (link : ℕ) → arrival end place ≡ Some next → left_or_stages link end ≡ ends.Stages
-arrives None place next link h = cc
-arrives (Some node) place next link h = refl
-
--- a packet that goes on hasn't ended
-pub goes_on : (net : Network) (place next : Place) (outcome : Outcome) → next_place net place outcome ≡ Some next
-    → end_by net place outcome ≡ ends.Stages
-goes_on net place next (outcomes.Again sid how) h = refl
-goes_on net place next (outcomes.Hand sid how family) h = refl
-goes_on net place next (outcomes.Send link) h = arrives (far_end (slice_get net.links link)) place next link h
-goes_on net place next outcomes.Local h = cc
-goes_on net place next (outcomes.Drop reason told) h = cc
-
--- the end of a walk that goes on after its first stage is that of the rest
-pub end_of-cons : (net : Network) (s : Step) (rest : List Step) → end_by net s.place s.gave.outcome ≡ ends.Stages
-    → end_of net (s ∷ rest) ≡ end_of net rest
-end_of-cons net s [] h = h
-end_of-cons net s (t ∷ rest) h = refl
 
 module _ (number : ℕ) (net : Network) (left whole rest : List Step) (s : Step) (first now later : SinkSeen) (begins : left ≡ s ∷ rest)
     (p : Progress number net left whole first now) where

@@ -66,20 +66,13 @@ unread_lines frames = flat_map unread_of_frame frames
 abbrev pub packet_pieces : Network → ℕ → List Step → List Piece
 packet_pieces net number steps = ForOut (frames_of number steps) ∷ ForErr (packet_line net number (end_of net steps)) ∷ []
 
--- the packet of a family that bytes are
-abbrev pub walked_as : Network → ℕ → List ℕ → ℕ → Family → List ℕ → List Piece
-walked_as net node choices number family packet =
-    packet_pieces net number (walk_from net node choices family (entered family packet))
+-- packets that are run to their ends, one after the other
+abbrev pub pieces_one_by_one : Network → List Coming → List Piece
+pieces_one_by_one net comings = flat_map (λ (c : Coming). packet_pieces net c.number c.steps) comings
 
--- the packet of a frame, if it is read
-abbrev pub walked_by : Network → ℕ → List ℕ → ℕ → Body → List Piece
-walked_by net node choices number (bodies.V6 packet) = walked_as net node choices number V6 packet
-walked_by net node choices number (bodies.V4 packet) = walked_as net node choices number V4 packet
-walked_by net node choices number bodies.ShortFrame = []
-walked_by net node choices number bodies.NotIp = []
-
-abbrev pub walked_of_frame : Network → ℕ → List ℕ → Frame → List Piece
-walked_of_frame net node choices frame = walked_by net node choices frame.number frame.body
+-- those that come with a frame
+abbrev pub pieces_of_frame : Network → (Frame → List Coming) → Frame → List Piece
+pieces_of_frame net comings frame = pieces_one_by_one net (comings frame)
 
 -- a frame's packet by its number and its walk, if it is read
 abbrev pub coming_by : Network → ℕ → List ℕ → ℕ → Body → List Coming

@@ -24,9 +24,13 @@ line_behind net number step (next ∷ more) = []
 abbrev pub frame_of_stage : Taken → List ℕ
 frame_of_stage t = frame_of_gave t.number t.step.gave
 
+-- the line behind a stage: none but behind the packet's last one
+abbrev pub line_of_stage : Network → Taken → List ℕ
+line_of_stage net t = line_behind net t.number t.step t.behind
+
 -- a stage's frame, and behind the packet's last stage its line
 abbrev pub pieces_of_stage : Network → Taken → List Piece
-pieces_of_stage net t = ForOut (frame_of_stage t) ∷ ForErr (line_behind net t.number t.step t.behind) ∷ []
+pieces_of_stage net t = ForOut (frame_of_stage t) ∷ ForErr (line_of_stage net t) ∷ []
 
 abbrev pub pieces_of_stages : Network → List Taken → List Piece
 pieces_of_stages net stages = flat_map (pieces_of_stage net) stages
@@ -38,6 +42,15 @@ scheduled_pieces net schedule comings = pieces_of_stages net (scheduled schedule
 -- the frames that stages send of the packet of a number, in order
 abbrev pub frames_sent : ℕ → List Taken → List ℕ
 frames_sent number stages = flat_map frame_of_stage (stages_of number stages)
+
+-- the lines behind stages of the packet of a number, in order
+abbrev pub lines_told : Network → ℕ → List Taken → List ℕ
+lines_told net number stages = flat_map (line_of_stage net) (stages_of number stages)
+
+-- the one line of the packet of a number whose walk has these steps: how it ends; none where there is no step
+abbrev pub line_of_walk : Network → ℕ → List Step → List ℕ
+line_of_walk net number [] = []
+line_of_walk net number (s ∷ behind) = packet_line net number (end_of net (s ∷ behind))
 
 -- the line of a packet of a number, if it has ended
 abbrev pub line_by : Network → ℕ → Option Ended → List ℕ

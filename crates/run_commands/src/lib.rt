@@ -13,4 +13,4 @@ mod walk;
 
 pub use run::write_head;
 pub use scheduled::{Entered, write_turns};
-pub use walk::{Buffers, decisions_of, staged, write_walk};
+pub use walk::{Buffers, staged, write_walk};

@@ -7,7 +7,7 @@ ghost use Rattle.pcap_io.specs.Capture.{written_head_bytes};
 ghost use Rattle.pcap_io.specs.Frames.{frames_of as frames_in};
 ghost use Rattle.srx_edge.specs.Steps.{Wrote};
 ghost use Rattle.command_output.specs.Answers.{Commands, ending_of_step};
-ghost use Rattle.run_commands.specs.Run.{comings_from, packet_pieces, packets_pieces, run_shape, unread_lines, unread_of_frame, walk_from, walked_of_frame};
+ghost use Rattle.run_commands.specs.Run.{coming_of_frame, comings_from, packet_pieces, packets_pieces, pieces_of_frame, pieces_one_by_one, run_shape, unread_lines, unread_of_frame, walk_from};
 ghost use Rattle.command_output.specs.Outside.{outside};
 ghost use Rattle.command_inputs.specs.Packets.{HasHead, fault_of, reading_of};
 ghost use Rattle.command_output.specs.Pieces.{WroteAll, sinks_of};
@@ -119,7 +119,7 @@ fn walk_frame<O: Sink, E: Sink>(
     requires node { node < length net.now.nodes }
     requires choices { 0 < length choices.now }
     ensures { WroteAll (ending_of_step result)
-        (walked_of_frame net.now node choices.now frame)
+        (pieces_one_by_one net.now (coming_of_frame net.now node choices.now frame))
         (sinks_of (O.seen out.old) (E.seen err.old)) (sinks_of (O.seen out.new) (E.seen err.new)) }
 {
     let Frame { number, body } = frame;
@@ -151,7 +151,7 @@ fn walk_frames<O: Sink, E: Sink>(
     ensures fault { IfOk result (λ fault.
         fault ≡ fault_of (frames_in head MAX_FRAMES 1 behind.now)) }
     ensures wrote { WroteAll (ending_of_step result)
-        (flat_map (walked_of_frame net.now node choices.now)
+        (flat_map (pieces_of_frame net.now (coming_of_frame net.now node choices.now))
         (frames_in head MAX_FRAMES 1 behind.now).frames)
         (sinks_of (O.seen out.old) (E.seen err.old)) (sinks_of (O.seen out.new) (E.seen err.new)) }
 {

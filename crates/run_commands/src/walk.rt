@@ -12,7 +12,7 @@ ghost use Rattle.trace_replay.specs.Numbered.{IsNumbered};
 ghost use Rattle.walk_rules.specs.Laws.{TellsOfError};
 ghost use Rattle.walk_rules.specs.Relation.{IsPlace};
 ghost use Rattle.walk_rules.specs.Treatment.{step_of};
-ghost use Rattle.walk_rules.specs.Walk.{next_place as place_after, decisions, walk_of, choice_at, end_by, end_of};
+ghost use Rattle.walk_rules.specs.Walk.{next_place as place_after, walk_of, choice_at, end_by, end_of};
 ghost use Rattle.net_model.specs.declared.limits.TheConstants.{MAX_LINKS};
 
 use base::NoMemory;
@@ -20,6 +20,7 @@ use command_output::{Failure, write_all};
 use icmp6_errors::IcmpSlot;
 use net_model::Net;
 use node_stage::{Content, stage};
+use packet_walk::decisions_of;
 use pcap_io::MAX_PACKET_LEN;
 use srx_edge::Sink;
 use std::alloc::Global;
@@ -108,17 +109,6 @@ fn write_outcome<O: Sink>(
             write_frame(number, 0, error.as_slice(), &mut buffers.frame, out)
         }
         Outcome::Again { .. } | Outcome::Hand { .. } | Outcome::Local => Ok(()),
-    }
-}
-
-/// The decisions that an outcome takes. (own rule)
-pub fn decisions_of(outcome: &Outcome) -> usize
-    ensures taken { result ≡ decisions outcome.now }
-    ensures few { result ≤ 1 }
-{
-    match outcome {
-        Outcome::Send { .. } => 1,
-        Outcome::Again { .. } | Outcome::Hand { .. } | Outcome::Local | Outcome::Drop { .. } => 0,
     }
 }
 

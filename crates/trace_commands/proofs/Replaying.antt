@@ -21,9 +21,7 @@ use Rattle.srv6_rules.specs.Packet.{entered}
 use Rattle.net_model.specs.Keeps.{Keeps}
 use Rattle.net_model.specs.Named.{node_numbered}
 use Rattle.net_model.specs.Network.{Network}
-use Rattle.net_model.specs.Rules.{IsNetwork}
 use Rattle.net_model.proofs.PublicLaws.{keeps_from_network, position_item}
-use Rattle.net_reader.specs.Reading.{net_in}
 use Rattle.trace_replay.specs.declared.verdict.Replayed.{Replayed}
 use Rattle.trace_replay.specs.Replays.{Wrong, counts_of}
 use Rattle.trace_replay.specs.Written.{IsTraced, Traced, counts_written, packets_lines, trace_lines, trace_text, unended_text}
@@ -40,11 +38,11 @@ use Rattle.command_output.specs.declared.status.Status.TheVariants as statuses
 use Rattle.trace_commands.specs.Replay.{ReplayWants, replay_output, replayed, replayed_by}
 use Rattle.trace_commands.specs.Trace.{text_by, text_of, trace_output, traced, traced_as, traced_by, traced_of, traced_of_frame}
 use Rattle.command_output.specs.Outputs.{after, ended_by, refused}
-use Rattle.command_inputs.specs.Judgements.{network_in, node_in, node_or, refused_as}
+use Rattle.command_inputs.specs.Judgements.{network_in, node_in, node_or}
 use Rattle.command_inputs.specs.Packets.{capture_by, fault_of, is_bare, packets_in, reading_of}
 use Rattle.command_output.specs.Pieces.{ForErr, ForOut, Output, Piece, bytes_for_out, gone}
 use Rattle.trace_commands.specs.Replaying.{Judged, OutReceives, ReplaysTo, UnendedTracesAreRefused, WholeTracesAreRight, right_with, trace_for_out, traced_under}
-use Rattle.command_inputs.proofs.PublicLaws.{trace-small}
+use Rattle.command_inputs.proofs.PublicLaws.{RulesAreKept, rules-kept, trace-small}
 
 -- ---- what `out` receives
 
@@ -57,22 +55,10 @@ out_receives (ForErr bytes ∷ more) old = out_receives more (record old { err =
 
 -- ---- the network and the node
 
-ok-as : {A F : Type 0} (refusal : F → Refusal) (read : Result A F) (a : A) → refused_as refusal read ≡ Ok a → read ≡ Ok a
-ok-as refusal (Ok b) a e = let same : b ≡ a = cc in ap Ok same
-ok-as refusal (Err fault) a e = absurd (let no : ⊥ = cc in no)
-
 ok-else : {A : Type 0} (too_big : Bool) (refusal : Refusal) (read : Result A Refusal) (a : A)
     → (if too_big then Err refusal else read) ≡ Ok a → read ≡ Ok a
 ok-else true refusal read a e = absurd (let no : ⊥ = cc in no)
 ok-else false refusal read a e = e
-
--- a text gives a network that keeps the rules
-abbrev pub RulesAreKept : Type 0
-RulesAreKept = (text : List ℕ) (net : Network) → net_in text ≡ Ok net → IsNetwork net
-
-described-keeps : RulesAreKept → (text : List ℕ) (net : Network) → network_in text ≡ Ok net → Keeps net
-described-keeps rules text net e = keeps_from_network net (rules text net (ok-as (λ fault. refusals.Net fault) (net_in text) net
-    (ok-else (nat_lt FILE_LIMIT (length text)) (refusals.TooBig FILE_LIMIT) (refused_as (λ fault. refusals.Net fault) (net_in text)) net e)))
 
 named-some : (found : Option ℕ) (node : ℕ) → node_or found ≡ Ok node → found ≡ Some node
 named-some None node e = absurd (let no : ⊥ = cc in no)
@@ -304,7 +290,7 @@ whole_right rules text name choices input h done fits =
       judged,
       replays text (trace_for_out text name choices input) judged.net _ judged.described
           (ap (replay_output judged.net) out
-          ∙ right-output judged.net packets (described-keeps rules text judged.net judged.described) (judged-entered choices judged h)
+          ∙ right-output judged.net packets (keeps_from_network judged.net (rules-kept rules text judged.net judged.described)) (judged-entered choices judged h)
           (subst (λ (bytes : List ℕ). length bytes ≤ FILE_LIMIT) out fits)),
     )
 
@@ -317,5 +303,5 @@ unended_refused rules text name choices input h judged ends fits =
     out-judged choices judged ∙ ap (text_by judged.net packets) fault.1 in
     replays text (trace_for_out text name choices input) judged.net _ judged.described
     (ap (replay_output judged.net) out
-    ∙ unended-output judged.net packets (described-keeps rules text judged.net judged.described) (judged-entered choices judged h)
+    ∙ unended-output judged.net packets (keeps_from_network judged.net (rules-kept rules text judged.net judged.described)) (judged-entered choices judged h)
     (subst (λ (bytes : List ℕ). length bytes ≤ FILE_LIMIT) out fits))

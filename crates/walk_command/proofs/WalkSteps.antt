@@ -9,7 +9,8 @@ use Rattle.net_model.specs.Network.{Network}
 use Rattle.intent_reader.specs.declared.intent.Intent.{Intent}
 use Rattle.command_output.specs.declared.halt.Failure.{Failure}
 use Rattle.command_output.specs.Answers.{ending_of_failure}
-use Rattle.walk_command.specs.Walk.{at_headend, ended_line, walked_by, pieces_behind_head}
+use Rattle.run_commands.specs.Run.{pieces_one_by_one}
+use Rattle.walk_command.specs.Walk.{at_headend, coming_at, ended_line, pieces_behind_head}
 use Rattle.command_output.specs.Pieces.{Piece, ForOut, ForErr, Which, ToErr, Sinks, bytes_in_order, sinks_of, WroteAll}
 use Rattle.command_output.proofs.PublicLaws.{all_same, marked, all_longer, all_then, all_on_err}
 use Rattle.walk_command.proofs.Scheduling.{walk_alone}
@@ -26,7 +27,7 @@ module _ (net : Network) (intent : Intent) (policy : Policy) (choices schedule :
   line = ended_line net intent.headend number (at_headend policy intent.inner body)
 
   abbrev walks : List Piece
-  walks = walked_by net intent choices number (at_headend policy intent.inner body)
+  walks = pieces_one_by_one net (coming_at net intent choices number (at_headend policy intent.inner body))
 
   abbrev pieces : List Piece
   pieces = pieces_behind_head net intent policy choices schedule (record { number = number; body = body } ∷ [])

@@ -45,7 +45,6 @@ use Rattle.command_output.specs.declared.refusal.Refusal.{Refusal}
 use Rattle.command_output.specs.declared.status.Status.TheVariants as statuses
 use Rattle.compile_commands.specs.Compile.{CompiledWants, NetworkWants, none_line, too_long_line, hop_limit_line}
 use Rattle.command_output.specs.Halts.{flat_refusal}
-use Rattle.run_commands.specs.Run.{packet_pieces}
 use Rattle.command_inputs.specs.Judgements.{network_in, intent_in, asks_behind_network}
 use Rattle.command_output.specs.Outputs.{refused, after, ended_by}
 use Rattle.command_output.specs.Lines.{bytes_of_text, packet_line, unread_line}
@@ -109,15 +108,6 @@ ended_of_frame net intent policy frame = ended_line net intent.headend frame.num
 -- the walk of what the headend encapsulated: it submits it to table 0
 abbrev pub walk_at_headend : Network → Intent → List ℕ → Content → List Step
 walk_at_headend net intent choices content = walk_of STAGES net (Some (headend_place intent)) content (choice_at choices) 0
-
-abbrev pub walked_by : Network → Intent → List ℕ → ℕ → AtHeadend → List Piece
-walked_by net intent choices number (NotRead cause) = []
-walked_by net intent choices number (Dropped reason) = []
-walked_by net intent choices number (Enters content) = packet_pieces net number (walk_at_headend net intent choices content)
-
-abbrev pub walked_of_frame : Network → Intent → Policy → List ℕ → Frame → List Piece
-walked_of_frame net intent policy choices frame =
-    walked_by net intent choices frame.number (at_headend policy intent.inner frame.body)
 
 -- a frame's packet by its number and its walk, if the headend encapsulates it
 abbrev pub coming_at : Network → Intent → List ℕ → ℕ → AtHeadend → List Coming

@@ -11,8 +11,8 @@ ghost use Rattle.policy_encap.specs.Inner.{HoldsInner};
 ghost use Rattle.intent_reader.specs.Rules.{IsIntent};
 ghost use Rattle.command_output.specs.Answers.{Commands, ending_of_step};
 ghost use Rattle.compile_commands.specs.Compile.{HasValues};
-ghost use Rattle.run_commands.specs.Run.{packet_pieces};
-ghost use Rattle.walk_command.specs.Walk.{StartsAs, at_headend, comings_at_headend, ended_line, ended_of_frame, of_content, of_encapsulating, pieces_behind_head, policy_of, walk_at_headend, walk_pieces, walk_shape, walked_by, walked_of_frame};
+ghost use Rattle.run_commands.specs.Run.{packet_pieces, pieces_of_frame, pieces_one_by_one};
+ghost use Rattle.walk_command.specs.Walk.{StartsAs, at_headend, coming_at, coming_of_frame, comings_at_headend, ended_line, ended_of_frame, of_content, of_encapsulating, pieces_behind_head, policy_of, walk_at_headend, walk_pieces, walk_shape};
 ghost use Rattle.command_output.specs.Outside.{outside};
 ghost use Rattle.command_inputs.specs.Packets.{HasHead, fault_of, reading_of};
 ghost use Rattle.command_output.specs.Pieces.{WroteAll, sinks_of};
@@ -107,21 +107,8 @@ fn start_of_intent(alloc: Global, net: &Net, intent: &Intent) -> Result<Start, H
     }
 }
 
-/// What enters with the bytes of a buffer.
-fn content_of(alloc: Global, buf: &PktBuf) -> Result<Content, NoMemory>
-    ensures { IfOk result (λ content. content ≡ entered Family.V6 buf.now.bytes) }
-{
-    let bytes = buf.view().to_vec(alloc)?;
-    Ok(Content::enter(Family::V6, bytes))
-}
-
 /// A packet of a family that the headend encapsulates, or drops.
-fn encapsulated(
-    alloc: Global,
-    policy: &Policy,
-    family: Family,
-    inner: PktBuf,
-) -> Result<AtHeadend, NoMemory>
+fn encapsulated(policy: &Policy, family: Family, inner: PktBuf) -> Result<AtHeadend, NoMemory>
     requires policy { IsPolicy policy.now }
     requires packet { HoldsInner family inner.bytes }
     ensures { IfOk result (λ at.
@@ -129,10 +116,7 @@ fn encapsulated(
 {
     let mut buf = inner;
     match encap(policy, family, &mut buf) {
-        Ok(()) => {
-            let outer = content_of(alloc, &buf)?;
-            Ok(AtHeadend::Enters(outer))
-        }
+        Ok(()) => Ok(AtHeadend::Enters(Content::enter_buf(Family::V6, buf))),
         Err(EncapFault::InnerHop) => Ok(AtHeadend::Dropped(Reason::InnerHop)),
         Err(EncapFault::TooBig { .. }) => Ok(AtHeadend::Dropped(Reason::TooBig)),
         Err(EncapFault::NoMemory) => Err(NoMemory),
@@ -141,7 +125,7 @@ fn encapsulated(
 
 /// Bytes that enter the headend as an IPv6 packet, in place: what stands behind the packet's end is
 /// cut.
-fn entering(alloc: Global, policy: &Policy, bytes: Vec<u8>) -> Result<AtHeadend, NoMemory>
+fn entering(policy: &Policy, bytes: Vec<u8>) -> Result<AtHeadend, NoMemory>
     requires { IsPolicy policy.now }
     ensures { IfOk result (λ at. at ≡ of_content policy.now (entered Family.V6 bytes.items)) }
 {
@@ -152,11 +136,11 @@ fn entering(alloc: Global, policy: &Policy, bytes: Vec<u8>) -> Result<AtHeadend,
         Err(fault) => return Ok(AtHeadend::Dropped(fault.reason())),
     };
     bytes.truncate(len);
-    encapsulated(alloc, policy, Family::V6, PktBuf::of(bytes))
+    encapsulated(policy, Family::V6, PktBuf::of(bytes))
 }
 
 /// Bytes that enter the headend as an IPv4 packet, in the same way.
-fn entering4(alloc: Global, policy: &Policy, bytes: Vec<u8>) -> Result<AtHeadend, NoMemory>
+fn entering4(policy: &Policy, bytes: Vec<u8>) -> Result<AtHeadend, NoMemory>
     requires { IsPolicy policy.now }
     ensures { IfOk result (λ at. at ≡ of_content policy.now (entered Family.V4 bytes.items)) }
 {
@@ -167,23 +151,18 @@ fn entering4(alloc: Global, policy: &Policy, bytes: Vec<u8>) -> Result<AtHeadend
         Err(fault) => return Ok(AtHeadend::Dropped(fault.reason())),
     };
     bytes.truncate(len);
-    encapsulated(alloc, policy, Family::V4, PktBuf::of(bytes))
+    encapsulated(policy, Family::V4, PktBuf::of(bytes))
 }
 
 /// What becomes of a frame's packet at the headend, for inner packets of a family. (RFC 8986
 /// sections 5.1 and 5.2)
-pub fn at_headend(
-    alloc: Global,
-    policy: &Policy,
-    inner: Family,
-    body: Body,
-) -> Result<AtHeadend, NoMemory>
+pub fn at_headend(policy: &Policy, inner: Family, body: Body) -> Result<AtHeadend, NoMemory>
     requires { IsPolicy policy.now }
     ensures { IfOk result (λ at. at ≡ at_headend policy.now inner body) }
 {
     match (body, inner) {
-        (Body::V6(bytes), Family::V6) => entering(alloc, policy, bytes.into_vec()),
-        (Body::V4(bytes), Family::V4) => entering4(alloc, policy, bytes.into_vec()),
+        (Body::V6(bytes), Family::V6) => entering(policy, bytes.into_vec()),
+        (Body::V4(bytes), Family::V4) => entering4(policy, bytes.into_vec()),
         (Body::V6(_), Family::V4) | (Body::V4(_), Family::V6) => {
             Ok(AtHeadend::NotRead(Unread::WrongVersion))
         }
@@ -268,7 +247,7 @@ fn walk_entered<O: Sink, E: Sink>(
     requires headend { intent.now.headend < length net.now.nodes }
     requires choices { 0 < length choices.now }
     ensures { WroteAll (ending_of_step result)
-        (walked_by net.now intent.now choices.now number at)
+        (pieces_one_by_one net.now (coming_at net.now intent.now choices.now number at))
         (sinks_of (O.seen out.old) (E.seen err.old)) (sinks_of (O.seen out.new) (E.seen err.new)) }
 {
     match at {
@@ -295,7 +274,7 @@ fn tell_frame<E: Sink>(
         (E.seen err.old) (E.seen err.new) }
 {
     let Frame { number, body } = frame;
-    let at = at_headend(alloc, policy, intent.inner, body)?;
+    let at = at_headend(policy, intent.inner, body)?;
     tell_ended(alloc, net, intent.headend, number, &at, err)
 }
 
@@ -315,11 +294,12 @@ fn walk_frame<O: Sink, E: Sink>(
     requires policy { IsPolicy policy.now }
     requires choices { 0 < length choices.now }
     ensures { WroteAll (ending_of_step result)
-        (walked_of_frame net.now intent.now policy.now choices.now frame)
+        (pieces_one_by_one net.now
+        (coming_of_frame net.now intent.now policy.now choices.now frame))
         (sinks_of (O.seen out.old) (E.seen err.old)) (sinks_of (O.seen out.new) (E.seen err.new)) }
 {
     let Frame { number, body } = frame;
-    let at = at_headend(alloc, policy, intent.inner, body)?;
+    let at = at_headend(policy, intent.inner, body)?;
     walk_entered(alloc, net, intent, choices, number, at, buffers, out, err)
 }
 
@@ -368,7 +348,8 @@ fn walk_frames<O: Sink, E: Sink>(
     ensures fault { IfOk result (λ fault.
         fault ≡ fault_of (frames_in head MAX_FRAMES 1 behind.now)) }
     ensures wrote { WroteAll (ending_of_step result)
-        (flat_map (walked_of_frame net.now intent.now policy.now choices.now)
+        (flat_map (pieces_of_frame net.now
+        (coming_of_frame net.now intent.now policy.now choices.now))
         (frames_in head MAX_FRAMES 1 behind.now).frames)
         (sinks_of (O.seen out.old) (E.seen err.old)) (sinks_of (O.seen out.new) (E.seen err.new)) }
 {
@@ -445,7 +426,7 @@ fn walk_bare<O: Sink, E: Sink>(
         (reading_of (Packets.Bare packet)).frames)
         (sinks_of (O.seen out.old) (E.seen err.old)) (sinks_of (O.seen out.new) (E.seen err.new)) }
 {
-    let at = at_headend(alloc, policy, intent.inner, Body::V6(packet))?;
+    let at = at_headend(policy, intent.inner, Body::V6(packet))?;
     tell_ended(alloc, net, intent.headend, 1, &at, err)?;
     walk_entered(
         alloc,

@@ -25,7 +25,6 @@ use walk_rules::{How, Place};
 
 /// The packet of a frame enters at the headend, if that encapsulates it.
 fn enter_frame<'a>(
-    alloc: Global,
     intent: &Intent,
     policy: &Policy,
     choices: &'a [u32],
@@ -42,7 +41,7 @@ fn enter_frame<'a>(
         entered.new.numbers.items entered.new.flight) }
 {
     let Frame { number, body } = frame;
-    match at_headend(alloc, policy, intent.inner, body)? {
+    match at_headend(policy, intent.inner, body)? {
         AtHeadend::Enters(outer) => {
             let place = Place {
                 node: intent.headend,
@@ -82,7 +81,7 @@ fn enter_frames<'a>(
     'frames: loop {
         match next_of(&mut reader) {
             Ok(Next::Frame(frame)) => {
-                enter_frame(alloc, intent, policy, choices, frame, &mut entered)?;
+                enter_frame(intent, policy, choices, frame, &mut entered)?;
             }
             Ok(Next::End(fault)) => return Ok((entered, fault)),
             Err(_) => return Err(NoMemory),

@@ -4,4 +4,4 @@ use Rattle.walk_command.proofs.HeadendSteps.{made_enters}
 use Rattle.walk_command.proofs.walk.encapsulated.Goals as goal
 
 pub returns-in-Ok : goal.returns-in-Ok
-returns-in-Ok c = ap Enters c.in_ok-outer-in-Ok.ensures ∙ made_enters _ _ c.in-Ok.ensures.answer
+returns-in-Ok c = ap Enters c.enter_buf.ensures ∙ made_enters _ _ c.in-Ok.ensures.answer

@@ -8,7 +8,8 @@ use Rattle.pcap_io.specs.Frames.{frames_of}
 use Rattle.command_output.specs.Answers.{ending_of_step}
 use Rattle.command_output.proofs.PublicLaws.{all_same}
 use Rattle.run_commands.specs.Scheduled.{scheduled_pieces}
-use Rattle.walk_command.specs.Walk.{comings_at_headend, walked_of_frame}
+use Rattle.run_commands.specs.Run.{pieces_of_frame}
+use Rattle.walk_command.specs.Walk.{coming_of_frame, comings_at_headend}
 use Rattle.walk_command.proofs.Scheduling.{walk_one_by_one}
 use Rattle.walk_command.proofs.walk.walk_by_schedule.Goals as goal
 
@@ -17,7 +18,8 @@ returns-then-is_empty-clause-wrote g c =
     let none : c.args.schedule.now ≡ [] =
     nil_from_length c.args.schedule.now (eqb-true (length c.args.schedule.now) 0 (sym c.is_empty.ensures ∙ c.if-is_empty.true)) in
     let frames : List Frame = (frames_of c.args.head MAX_FRAMES 1 c.args.behind.now).frames in
-    rw none (all_same (flat_map (walked_of_frame c.args.net.now c.args.intent.now c.args.policy.now c.args.choices.now) frames)
+    rw none (all_same (flat_map (pieces_of_frame c.args.net.now
+    (coming_of_frame c.args.net.now c.args.intent.now c.args.policy.now c.args.choices.now)) frames)
     (scheduled_pieces c.args.net.now [] (comings_at_headend c.args.net.now c.args.intent.now c.args.policy.now c.args.choices.now frames)) _ _
     (walk_one_by_one c.args.net.now c.args.intent.now c.args.policy.now c.args.choices.now frames) (ending_of_step c.walk_frames.result)
     c.walk_frames.ensures.wrote)
