@@ -6,3 +6,6 @@ mod seq;
 
 pub use no_memory::NoMemory;
 pub use seq::Seq;
+
+#[cfg(test)]
+mod tests;

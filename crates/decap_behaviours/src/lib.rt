@@ -7,5 +7,7 @@
 mod headers;
 mod judge;
 mod step;
+#[cfg(test)]
+mod tests;
 
 pub use step::decap_step;

@@ -9,6 +9,8 @@
 mod finding;
 mod headers;
 mod stepping;
+#[cfg(test)]
+mod tests;
 mod treatment;
 mod writing;
 

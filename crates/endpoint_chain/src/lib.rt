@@ -9,6 +9,8 @@ mod address;
 mod headers;
 mod outcome;
 mod removal;
+#[cfg(test)]
+mod tests;
 mod upper;
 
 pub use address::fault_at_address;

@@ -9,5 +9,7 @@ mod chain;
 mod header;
 mod packet;
 mod routing;
+#[cfg(test)]
+mod tests;
 
 pub use packet::lines_of_packet;

@@ -7,6 +7,8 @@
 mod checksum;
 mod error;
 mod message;
+#[cfg(test)]
+mod tests;
 mod unanswered;
 
 pub use error::{IcmpSlot, error_for};

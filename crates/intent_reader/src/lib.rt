@@ -22,3 +22,6 @@ pub use laws::{
 };
 pub use read::read_intent;
 pub use rules::is_intent;
+
+#[cfg(test)]
+mod tests;

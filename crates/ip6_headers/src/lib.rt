@@ -14,6 +14,8 @@ mod ip4;
 mod laws;
 mod numbers;
 mod parts;
+#[cfg(test)]
+mod tests;
 mod view;
 
 pub use areas::{Fault, item_len, options};

@@ -14,4 +14,5 @@ pub mod LineWords
 pub mod Readings
 pub mod Bounds
 pub mod PrintedRead
+pub mod GridNets
 pub mod PublicLaws

@@ -16,3 +16,6 @@ mod table;
 
 pub use solver::solve;
 pub use table::MOST_CONTAINERS;
+
+#[cfg(test)]
+mod tests;

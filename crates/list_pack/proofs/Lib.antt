@@ -17,4 +17,5 @@ pub mod ValueSums
 pub mod Valued
 pub mod FlatSids
 pub mod Ruled
+pub mod GridLaws
 pub mod PublicLaws

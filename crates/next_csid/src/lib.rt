@@ -8,5 +8,7 @@
 #![tactic(auto)]
 
 mod next;
+#[cfg(test)]
+mod tests;
 
 pub use next::{ShiftOutcome, argument, shift, shifts};

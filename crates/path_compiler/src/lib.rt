@@ -14,6 +14,8 @@ mod certificates;
 mod compiled;
 pub mod laws;
 mod lists;
+#[cfg(test)]
+mod tests;
 
 pub use certificates::checked_over;
 pub use compiled::{CompileFault, Compiled};

@@ -12,3 +12,6 @@ mod table;
 pub use fault::TableFault;
 pub use laws::{best_is_one, best_with_one_more};
 pub use table::Table;
+
+#[cfg(test)]
+mod tests;

@@ -10,6 +10,8 @@ mod area;
 mod edit;
 mod laws;
 mod numbers;
+#[cfg(test)]
+mod tests;
 mod view;
 mod write;
 
