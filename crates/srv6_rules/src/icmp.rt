@@ -5,7 +5,7 @@ ghost use Rattle.srv6_rules.specs.Chain.{ChainPlace, Header, Chain, Upper, is_ex
 ghost use Rattle.srv6_rules.specs.Checksum.{all_ones, ones_sum, word_sum, carried, pseudo_header, upper_layer_sum, Verifies};
 ghost use Rattle.srv6_rules.specs.Errors.{kind_of, IsKind, is_error_message, leads_to_error, ends_in_error, is_later_fragment, message_head, quote_of, error_checksum, error_packet};
 ghost use Rattle.srv6_rules.specs.Packet.{Packet, IsSpellable, spelling, header_len, two_bytes, four_bytes};
-ghost use Rattle.srv6_rules.specs.declared.numbers.TheConstants.{ICMPV6, ICMPV6_HEADER_LEN, IPV6_HEADER_LEN, LEAST_MTU, MOST_QUOTE_LEN};
+ghost use Rattle.srv6_rules.specs.declared.numbers.TheConstants.{ICMPV6, LEAST_MTU};
 ghost use Rattle.srv6_rules.specs.declared.icmp.IcmpKind.{IcmpKind as IcmpKindValue};
 ghost use Rattle.srv6_rules.specs.declared.icmp.IcmpKind.TheVariants.{Unreachable, TimeExceeded, Parameter};
 ghost use Rattle.srv6_rules.specs.declared.sid.Reason.{Reason as ReasonValue};
@@ -110,8 +110,8 @@ pub fn errors_fit_every_link()
         → error_packet p kind from ≡ Some q → length (spelling q) ≤ LEAST_MTU }
     ensures quote { (p q : Packet) (kind : IcmpKindValue) (from : ℕ)
         → error_packet p kind from ≡ Some q
-        → length (spelling q) ≡ IPV6_HEADER_LEN + ICMPV6_HEADER_LEN + length (quote_of p) }
-    ensures short { (p : Packet) → length (spelling p) ≤ MOST_QUOTE_LEN → quote_of p ≡ spelling p }
+        → length (spelling q) ≡ 48 + length (quote_of p) }
+    ensures short { (p : Packet) → length (spelling p) ≤ 1232 → quote_of p ≡ spelling p }
 {}
 
 /// The checksum of an error about a packet is that of the plain sums of its parts: the
@@ -120,7 +120,7 @@ pub fn error_checksum_is_of_its_parts()
     ensures { (p : Packet) (kind : IcmpKindValue) (from : ℕ) → IsSpellable p → IsKind kind
         → error_checksum p kind from
         ≡ all_ones
-        - carried (word_sum (pseudo_header from p.source (ICMPV6_HEADER_LEN + length (quote_of p)) ICMPV6)
+        - carried (word_sum (pseudo_header from p.source (8 + length (quote_of p)) ICMPV6)
         + (word_sum (message_head kind 0) + word_sum (quote_of p))) }
 {}
 

@@ -61,7 +61,7 @@ pub fn too_big_is_a_payload_above_65535()
         ↔ ((65535 < n)
         × (40 + n ≡ header_bytes reduced (length policy.segments) + length bytes)) }
     ensures made { (policy : Policy) (reduced : Bool) (inner : Family) (bytes : List ℕ)
-        → header_bytes reduced (length policy.segments) + length bytes ≤ most_len
+        → header_bytes reduced (length policy.segments) + length bytes ≤ 65575
         → pushed_by policy reduced inner bytes ≡ Outer (outer_by policy reduced inner bytes) }
 {}
 
