@@ -9,8 +9,6 @@ ghost use Rattle.srh_codec.specs.Reading.{IsRead};
 ghost use Rattle.srh_codec.specs.Writing.{header_over};
 ghost use Rattle.ip6_headers.specs.declared.chain.BadChain.{BadChain};
 
-use crate::numbers::MOST_ENTRIES;
-
 /// Bytes that begin with a header's spelling are read as that header, whatever stands behind it
 /// (RFC 8754 section 2).
 pub fn spelled_header_is_read()
@@ -27,7 +25,7 @@ pub fn written_header_is_of_its_entries()
         ≡ next_header ∷ (2 * length entries) ∷ 4 ∷ left ∷ (length entries - 1) ∷
         0 ∷ 0 ∷ 0 ∷ flat_map address_bytes entries }
     ensures spellable { (next_header left : ℕ) (entries : List ℕ) → next_header < 2 ^ 8
-        → left < 2 ^ 8 → length entries ≤ MOST_ENTRIES
+        → left < 2 ^ 8 → length entries ≤ 127
         → IsSrhSpellable (header_over next_header left entries) }
     ensures entries { (next_header left : ℕ) (entries : List ℕ)
         → entries_of (header_over next_header left entries) ≡ length entries }
