@@ -6,6 +6,3 @@ mod seq;
 
 pub use no_memory::NoMemory;
 pub use seq::Seq;
-
-#[cfg(test)]
-mod tests;

@@ -67,6 +67,3 @@ module _ (bytes : List ℕ) (h : HoldsAlone bytes) where
       let spellable = holds-spellable bytes h.holds in
       let fits = spellable.payload_len in
       omega arith
-
--- the length that a packet states
-pub ruleset lengths = (holds-payload_len)

@@ -7,7 +7,5 @@
 mod headers;
 mod judge;
 mod step;
-#[cfg(test)]
-mod tests;
 
 pub use step::decap_step;

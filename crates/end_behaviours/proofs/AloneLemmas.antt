@@ -116,6 +116,3 @@ lent-spells old new q alone ok is same =
     let long : length new ≡ length old = ap length is ∙ length-spelling q ∙ ap (λ n. 40 + n) same ∙ sym (alone-length old alone) in
     let whole = left_whole old new long in
     record { spells = (ok, whole ∙ is); long = ap length whole ∙ long }
-
--- the length that a packet states
-pub ruleset lengths = (holds-payload_len)

@@ -9,8 +9,6 @@
 mod finding;
 mod headers;
 mod stepping;
-#[cfg(test)]
-mod tests;
 mod treatment;
 mod writing;
 

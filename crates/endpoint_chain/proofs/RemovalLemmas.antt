@@ -8,7 +8,7 @@ use Rattle.srv6_rules.specs.declared.numbers.TheConstants.{NEXT_HEADER_AT}
 use Rattle.srv6_rules.specs.Packet.{Packet, IsSpellable, Spells, header_len, spelling, header_spelling, first_word, two_bytes, four_bytes, address_bytes, packet_at, stated_len}
 use Rattle.srv6_rules.specs.Chain.{ChainPlace, Header, cut_out, without, is_first}
 use Rattle.srv6_rules.proofs.PublicLaws.{length-spelling, length-two_bytes, length-four_bytes, length-address_bytes, edit-payload, without-bytes}
-use Rattle.ip6_headers.proofs.PublicLaws.{holds-spellable, holds-front, holds-payload_len}
+use Rattle.ip6_headers.proofs.PublicLaws.{holds-spellable, holds-front}
 use Rattle.endpoint_chain.specs.Outcomes.{HoldsAlone}
 use Rattle.endpoint_chain.specs.Removal.{with_payload_len}
 
@@ -173,5 +173,3 @@ module _ (bytes : List ℕ) (place : ChainPlace) (len : ℕ) (alone : HoldsAlone
       → Spells new (without p h)
   taken-out (inl first) named cut new m is at_cut length_is write = (out-spellable, write ∙ first-out first named cut m is at_cut length_is)
   taken-out (inr later) named cut new m is at_cut length_is write = (out-spellable, write ∙ later-out later named cut m is at_cut length_is)
-
-pub ruleset lengths = (holds-payload_len)

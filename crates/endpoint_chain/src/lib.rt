@@ -9,8 +9,6 @@ mod address;
 mod headers;
 mod outcome;
 mod removal;
-#[cfg(test)]
-mod tests;
 mod upper;
 
 pub use address::fault_at_address;

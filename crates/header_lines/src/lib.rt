@@ -9,7 +9,5 @@ mod chain;
 mod header;
 mod packet;
 mod routing;
-#[cfg(test)]
-mod tests;
 
 pub use packet::lines_of_packet;

@@ -7,8 +7,6 @@
 mod checksum;
 mod error;
 mod message;
-#[cfg(test)]
-mod tests;
 mod unanswered;
 
 pub use error::{IcmpSlot, error_for};

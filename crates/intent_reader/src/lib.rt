@@ -22,6 +22,3 @@ pub use laws::{
 };
 pub use read::read_intent;
 pub use rules::is_intent;
-
-#[cfg(test)]
-mod tests;

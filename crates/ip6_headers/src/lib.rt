@@ -14,8 +14,6 @@ mod ip4;
 mod laws;
 mod numbers;
 mod parts;
-#[cfg(test)]
-mod tests;
 mod view;
 
 pub use areas::{Fault, item_len, options};

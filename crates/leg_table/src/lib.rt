@@ -27,6 +27,3 @@ pub use laws::{
     what_is_handed_over_has_its_trace,
 };
 pub use strict_legs::StrictLegs;
-
-#[cfg(test)]
-mod tests;

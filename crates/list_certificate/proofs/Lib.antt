@@ -14,5 +14,4 @@ pub mod LineWords
 pub mod Readings
 pub mod Bounds
 pub mod PrintedRead
-pub mod GridNets
 pub mod PublicLaws

@@ -34,6 +34,3 @@ pub use laws::{
 pub use reader::{MAX_BYTES, read};
 pub use spelling::{append_state, print};
 pub use types::{Cert, CertFault, PathLine, PotentialLine, Verdict, Why};
-
-#[cfg(test)]
-mod tests;

@@ -16,6 +16,3 @@ mod table;
 
 pub use solver::solve;
 pub use table::MOST_CONTAINERS;
-
-#[cfg(test)]
-mod tests;

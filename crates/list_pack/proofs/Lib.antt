@@ -17,5 +17,4 @@ pub mod ValueSums
 pub mod Valued
 pub mod FlatSids
 pub mod Ruled
-pub mod GridLaws
 pub mod PublicLaws

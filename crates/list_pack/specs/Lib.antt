@@ -9,4 +9,3 @@ pub mod PathLists
 pub mod Meaning
 pub mod SegmentValues
 pub mod OpenContainers
-pub mod Grid

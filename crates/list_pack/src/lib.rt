@@ -19,9 +19,8 @@
 //! solution are. `specs/SidLists.antt` has the lists of a network's prefixes and which are legal,
 //! `specs/PathLists.antt` the list of a path, `specs/Paths.antt` a path's cost by rooms and legs
 //! apart; `specs/OpenContainers.antt` and `specs/SegmentValues.antt` are what the code of
-//! `is_legal` and of `values` goes by. `specs/Grid.antt` has legs for the tests of the crates
-//! above. The functions of `laws` do nothing: their contracts are the laws by which certificates
-//! are judged, and that paths are legal lists.
+//! `is_legal` and of `values` goes by. The functions of `laws` do nothing: their contracts are the
+//! laws by which certificates are judged, and that paths are legal lists.
 #![tactic(auto)]
 
 mod costs;
@@ -49,8 +48,3 @@ pub use segments::values;
 pub use types::{
     Container, Cost, Leg, PathStep, Potential, Prefixes, Shape, SidList, Solution, State,
 };
-
-#[cfg(test)]
-mod list_tests;
-#[cfg(test)]
-mod tests;

@@ -10,8 +10,6 @@ mod joining;
 mod numbering;
 mod parts;
 mod sids;
-#[cfg(test)]
-mod tests;
 
 pub use numbering::{Named, Numbering};
 pub use parts::join;

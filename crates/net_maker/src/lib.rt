@@ -12,8 +12,6 @@ mod packet;
 mod routes;
 mod sids;
 mod size;
-#[cfg(test)]
-mod tests;
 
 pub use intent::write_intent;
 pub use net::write_net;

@@ -17,8 +17,6 @@ mod fault;
 mod fault_places;
 mod fault_texts;
 mod flat;
-#[cfg(test)]
-mod flat_tests;
 mod judge;
 mod judge_sids;
 mod laws;
@@ -32,8 +30,6 @@ mod route_set;
 mod rules;
 mod standing;
 mod tables;
-#[cfg(test)]
-mod tests;
 
 pub use fault::{FaultPlace, Key, NetFault, TableKind};
 pub use flat::{NotFlat, compilable};

@@ -11,8 +11,6 @@
 mod laws;
 mod read;
 mod standings;
-#[cfg(test)]
-mod tests;
 
 pub use laws::{described_parts_are_in_range, networks_keep_the_rules, titles_have_their_numbers};
 pub use read::read_net;

@@ -18,8 +18,6 @@ mod prefixes;
 mod route;
 mod sid;
 mod step;
-#[cfg(test)]
-mod tests;
 mod words;
 
 pub use block::DescribedBlock;

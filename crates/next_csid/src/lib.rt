@@ -8,7 +8,5 @@
 #![tactic(auto)]
 
 mod next;
-#[cfg(test)]
-mod tests;
 
 pub use next::{ShiftOutcome, argument, shift, shifts};

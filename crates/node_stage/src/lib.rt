@@ -10,24 +10,12 @@
 mod content;
 mod endpoint;
 mod error;
-#[cfg(test)]
-mod error_tests;
 mod hops;
-#[cfg(test)]
-mod ipv4_tests;
 mod packet;
 mod packet4;
-#[cfg(test)]
-mod policy_tests;
 mod reading;
 mod sending;
-#[cfg(test)]
-mod sid_tests;
 mod staged;
-#[cfg(test)]
-mod test_net;
-#[cfg(test)]
-mod test_packets;
 mod treatment;
 
 pub use content::Content;

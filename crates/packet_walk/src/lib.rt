@@ -12,8 +12,6 @@ mod flight;
 mod in_flight;
 mod laws;
 mod schedule;
-#[cfg(test)]
-mod tests;
 
 pub use event::{Event, STAGES};
 pub use flight::Flight;

@@ -14,8 +14,6 @@ mod certificates;
 mod compiled;
 pub mod laws;
 mod lists;
-#[cfg(test)]
-mod tests;
 
 pub use certificates::checked_over;
 pub use compiled::{CompileFault, Compiled};

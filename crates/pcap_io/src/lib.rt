@@ -13,8 +13,6 @@ mod laws;
 mod numbers;
 mod read;
 mod reader;
-#[cfg(test)]
-mod tests;
 mod write;
 
 pub use capture::Capture;

@@ -5,7 +5,5 @@
 #![tactic(auto)]
 
 mod pkt_buf;
-#[cfg(test)]
-mod tests;
 
 pub use pkt_buf::PktBuf;

@@ -10,7 +10,7 @@ use Rattle.srv6_rules.specs.Packet4.{total_len, packet4_at, spelling4, ttl_lower
 use Rattle.srv6_rules.specs.Policies.{IsPolicy, encapsulation_by, inner_hop, inner_lowered_bytes, outer_by, pushed_by, encapsulated_by, TooBig}
 use Rattle.srv6_rules.proofs.PublicLaws.{two_number-below, spelling-behind, lowered-spelling, lowered4-spelling, ttl_lowered-length, round-next_header, made-fits, made-big, headend-high}
 use Rattle.policy_encap.specs.Inner.{HoldsInner}
-use Rattle.ip6_headers.proofs.PublicLaws.{holds-spellable, holds-payload_len, holds-front, holds4-spellable, holds4-byte, holds4-length, holds4-front}
+use Rattle.ip6_headers.proofs.PublicLaws.{holds-spellable, holds-payload_len, holds-front, holds4-spellable, holds4-byte, holds4-front}
 use Rattle.policy_encap.specs.Headers.{FitsOuter}
 use Rattle.policy_encap.specs.Answers.{Makes, Wants, Refuses}
 
@@ -139,6 +139,3 @@ module _ (policy : Policy) (inner : Family) (bytes : List ℕ) where
         outer = headend-high policy inner (inner_hop inner bytes) lowered (omega arith) ∙ makes.outer;
         spelled = makes.spelled;
       }
-
--- the lengths that packets state
-pub ruleset lengths = (holds-payload_len, holds4-length)

@@ -9,8 +9,6 @@ mod encapsulation;
 mod faults;
 mod headers;
 mod inner;
-#[cfg(test)]
-mod tests;
 
 pub use encapsulation::{encap, push};
 pub use faults::{EncapFault, PushFault};

@@ -12,6 +12,3 @@ mod table;
 pub use fault::TableFault;
 pub use laws::{best_is_one, best_with_one_more};
 pub use table::Table;
-
-#[cfg(test)]
-mod tests;

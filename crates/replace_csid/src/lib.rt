@@ -10,8 +10,6 @@ mod csids;
 mod judge;
 mod laws;
 mod step;
-#[cfg(test)]
-mod tests;
 
 pub use laws::header_of_a_chain_can_be_stepped_over;
 pub use step::{ReplaceOutcome, is_at_end, replace};

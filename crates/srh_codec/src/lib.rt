@@ -10,8 +10,6 @@ mod area;
 mod edit;
 mod laws;
 mod numbers;
-#[cfg(test)]
-mod tests;
 mod view;
 mod write;
 

@@ -39,6 +39,3 @@ pub use mem_source::MemSource;
 pub use output::{PourFault, Sink, SinkFault, pour};
 pub use sure_sink::SureSink;
 pub use sure_source::SureSource;
-
-#[cfg(test)]
-mod tests;

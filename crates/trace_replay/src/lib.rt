@@ -17,8 +17,6 @@ mod print;
 mod reading;
 mod stage_words;
 mod state;
-#[cfg(test)]
-mod tests;
 mod verdict;
 mod words;
 

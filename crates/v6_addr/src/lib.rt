@@ -37,6 +37,3 @@ pub use prefix4::parse_prefix4;
 pub use text::{parse_addr, parse_prefix};
 pub use text4::{parse_addr4, write_addr4};
 pub use write::{write_addr, write_prefix};
-
-#[cfg(test)]
-mod tests;

@@ -1,0 +1,339 @@
+use intent_reader::{Intent, read_intent};
+use leg_table::StrictLegs;
+use list_pack::{Leg, Legs, Shape};
+use net_model::{Net, compilable};
+use net_reader::read_net;
+use srv6_rules::Csid;
+use std::process::Abort;
+use std::test::Fail;
+
+// four nodes in a row, two links between the second and the third
+const ROW: &str = r#"
+node = [
+    { name = "A", address = "2001:db8::a" },
+    { name = "B", address = "2001:db8::b" },
+    { name = "C", address = "2001:db8::c" },
+    { name = "D", address = "2001:db8::d" },
+]
+link = [
+    { name = "ab", from = "A", to = "B" },
+    { name = "bc1", from = "B", to = "C" },
+    { name = "bc2", from = "B", to = "C" },
+    { name = "cd", from = "C", to = "D" },
+    { name = "ce", from = "D" },
+]
+route = [
+    { node = "A", prefix = "fcbb:bb00:2::/48", via = ["ab"] },
+    { node = "A", prefix = "fcbb:bb00:4::/48", via = ["ab"] },
+    { node = "B", prefix = "fcbb:bb00:4::/48", via = ["bc1", "bc2"] },
+    { node = "C", prefix = "fcbb:bb00:4::/48", via = ["cd"] },
+    { node = "D", table = 9, prefix = "::/0", via = ["ce"] },
+]
+sid = [
+    { node = "B", prefix = "fcbb:bb00:e001::/48", behaviour = "End.X", links = ["bc1"] },
+    { node = "B", prefix = "fcbb:bb00:2::/48", behaviour = "End" },
+    { node = "D", prefix = "fcbb:bb00:4::/48", behaviour = "End" },
+    { node = "D", prefix = "fcbb:bb00:f001::/48", behaviour = "End.DT6", title = "vpn", table = 9 },
+]
+"#;
+
+const ROW_INTENT: &str = r#"
+headend = "A"
+source = "2001:db8::a"
+inner = "ipv6"
+mode = "reduced"
+step = [{ links = ["ab"] }, { links = ["bc1"] }, { links = ["cd"] }, { function = "vpn" }]
+"#;
+
+// two nodes that route a SID of a third to each other, and that have a SID of one prefix
+const LOOP: &str = r#"
+node = [
+    { name = "A", address = "2001:db8::a" },
+    { name = "B", address = "2001:db8::b" },
+    { name = "C", address = "2001:db8::c" },
+]
+link = [
+    { name = "ab", from = "A", to = "B" },
+    { name = "ba", from = "B", to = "A" },
+]
+route = [
+    { node = "A", prefix = "fcbb:1::/48", via = ["ab"] },
+    { node = "B", prefix = "fcbb:1::/48", via = ["ba"] },
+]
+sid = [
+    { node = "C", prefix = "fcbb:1::/48", behaviour = "End" },
+    { node = "B", prefix = "fcbb:2::/48", behaviour = "End" },
+    { node = "A", prefix = "fcbb:2::/48", behaviour = "End" },
+    { node = "A", prefix = "fcbb:3::/48", behaviour = "End.DT6", title = "vpn", table = 7 },
+]
+"#;
+
+const LOOP_INTENT: &str = r#"
+headend = "A"
+source = "2001:db8::a"
+inner = "ipv6"
+mode = "full"
+step = [{ links = ["ab"] }, { links = ["ba"] }, { function = "vpn" }]
+"#;
+
+// the same row with a SID of each kind: at B an End with PSP, an End.X, an End.T with a table of its
+// own and one that binds a policy; at D an End, an End with USD and those that decapsulate
+const KINDS: &str = r#"
+node = [
+  { name = "A", address = "2001:db8::a" },
+  { name = "B", address = "2001:db8::b" },
+  { name = "C", address = "2001:db8::c" },
+  { name = "D", address = "2001:db8::d" },
+]
+link = [
+  { name = "ab", from = "A", to = "B" },
+  { name = "bc1", from = "B", to = "C" },
+  { name = "bc2", from = "B", to = "C" },
+  { name = "cd", from = "C", to = "D" },
+  { name = "ce", from = "D" },
+]
+route = [
+  { node = "A", prefix = "fcbb:2::/32", via = ["ab"] },
+  { node = "B", prefix = "fcbb:4::/32", via = ["bc1", "bc2"] },
+  { node = "B", table = 5, prefix = "fcbb:4::/32", via = ["bc1"] },
+  { node = "C", prefix = "fcbb:4::/32", via = ["cd"] },
+]
+policy = [{ name = "over", source = "2001:db8::b", segments = ["fcbb:4:1::"] }]
+sid = [
+  { node = "B", prefix = "fcbb:2:1::/48", behaviour = "End", flavours = ["psp"] },
+  { node = "B", prefix = "fcbb:2:2::/48", behaviour = "End.X", links = ["bc1"] },
+  { node = "B", prefix = "fcbb:2:3::/48", behaviour = "End.T", table = 5 },
+  { node = "B", prefix = "fcbb:2:4::/48", behaviour = "End.B6.Encaps", policy = "over" },
+  { node = "D", prefix = "fcbb:4:1::/48", behaviour = "End", flavours = ["psp"] },
+  { node = "D", prefix = "fcbb:4:2::/48", behaviour = "End", flavours = ["usd"], title = "usd" },
+  { node = "D", prefix = "fcbb:4:3::/48", behaviour = "End.DX6", links = ["ce"], title = "dx6" },
+  { node = "D", prefix = "fcbb:4:4::/48", behaviour = "End.DX4", links = ["ce"], title = "dx4" },
+  { node = "D", prefix = "fcbb:4:5::/48", behaviour = "End.DT6", table = 9, title = "dt6" },
+  { node = "D", prefix = "fcbb:4:6::/48", behaviour = "End.DT4", table = 9, title = "dt4" },
+  { node = "D", prefix = "fcbb:4:7::/48", behaviour = "End.DT46", table = 9, title = "dt46" },
+]
+"#;
+
+const KINDS_INTENT: &str = r#"
+headend = "A"
+source = "2001:db8::a"
+mode = "reduced"
+step = [{ links = ["ab"] }, { links = ["bc1"] }, { links = ["cd"] }, { function = "#;
+
+// a block of NEXT SIDs; 4 decapsulates
+const NEXT: &str = r#"
+block = [
+  { prefix = "fd00::/16", kind = "replace", csid = 16 },
+  { prefix = "fcbb:bb00::/32", kind = "next", csid = 16 },
+]
+node = [
+  { name = "A", address = "2001:db8::a" },
+  { name = "B", address = "2001:db8::b" },
+  { name = "C", address = "2001:db8::c" },
+  { name = "D", address = "2001:db8::d" },
+]
+link = [
+  { name = "ab", from = "A", to = "B" },
+  { name = "bc1", from = "B", to = "C" },
+  { name = "bc2", from = "B", to = "C" },
+  { name = "cd", from = "C", to = "D" },
+  { name = "ce", from = "D" },
+]
+route = [
+  { node = "A", prefix = "fcbb:bb00:2::/48", via = ["ab"] },
+  { node = "A", prefix = "fcbb:bb00:4::/48", via = ["ab"] },
+  { node = "B", prefix = "fcbb:bb00:4::/48", via = ["bc1", "bc2"] },
+  { node = "C", prefix = "fcbb:bb00:4::/48", via = ["cd"] },
+  { node = "D", table = 100, prefix = "::/0", via = ["ce"] },
+]
+sid = [
+  { node = "B", prefix = "fcbb:bb00:2::/48", behaviour = "End", csid = "next" },
+  { node = "B", prefix = "fcbb:bb00:e1::/48", behaviour = "End.X", csid = "next", links = ["bc1"] },
+  { node = "B", prefix = "fcbb:bb00:e2::/48", behaviour = "End", csid = "next", title = "mark" },
+  { node = "D", prefix = "fcbb:bb00:4::/48", behaviour = "End", csid = "next" },
+  { node = "D", prefix = "fcbb:bb00:f1::/48", behaviour = "End.DT6", title = "vpn", table = 100 },
+  { node = "D", prefix = "2001:db8:1::/48", behaviour = "End" },
+]
+"#;
+
+// the shape of a SID of a position, by its place there
+fn shape_at<L: Legs>(rt: &impl Abort, legs: &L, position: u32, place: usize) -> Shape {
+    assert!(rt; position <= legs.steps());
+    let sids = legs.sids_at(position);
+    assert!(rt; place < sids.len());
+    let sid = sids[place];
+    legs.shape(sid)
+}
+
+fn assert_sids<L: Legs>(rt: &impl Abort, legs: &L, position: u32, want: &[u32]) {
+    assert!(rt; position <= legs.steps());
+    assert!(rt; legs.sids_at(position) == want, "at {position}");
+}
+
+#[test]
+fn legs_of_a_row(rt: HostRuntime) -> Result<(), Fail> {
+    let net = read_net(rt.alloc(), ROW.as_bytes())?;
+    let intent = read_intent(rt.alloc(), ROW_INTENT.as_bytes(), &net)?;
+    assert!(rt; compilable(&net).is_ok());
+    let legs = StrictLegs::build(rt.alloc(), &net, &intent)?;
+    assert_eq!(rt; legs.steps(), 4);
+    assert_sids(&rt, &legs, 0, &[]);
+    assert_sids(&rt, &legs, 1, &[1, 0]);
+    assert_sids(&rt, &legs, 2, &[]);
+    assert_sids(&rt, &legs, 3, &[2]);
+    assert_sids(&rt, &legs, 4, &[2, 3]);
+    for (position, via, next, want) in [
+        // the path of need 4: 1 and 1 and 2 and 0 lowerings
+        (0, None, 1, Some((1, 1))),
+        (1, Some(1), 0, Some((1, 1))),
+        (1, Some(0), 2, Some((3, 2))),
+        // of two equal next hops one is outside the step
+        (1, Some(1), 2, None),
+        // no position, no SID at a later position, no SID of the position, no SID
+        (5, Some(1), 2, None),
+        (1, None, 1, None),
+        (0, Some(1), 0, None),
+        (0, None, 4, None),
+        // from and to a SID that decapsulates
+        (4, Some(3), 2, None),
+        (3, Some(2), 3, None),
+    ] {
+        let want = want.map(|(to, hops)| Leg { to, hops });
+        assert_eq!(rt;
+            legs.leg(position, via, next),
+            want,
+            "{position} {via:?} {next}"
+        );
+    }
+    for (position, via, next, want) in [
+        (3, Some(2), 3, Some(0)),
+        (1, Some(0), 3, None),
+        (3, Some(2), 2, None),
+        (4, Some(2), 3, None),
+        (5, Some(2), 3, None),
+    ] {
+        assert_eq!(rt;
+            legs.finish(position, via, next),
+            want,
+            "{position} {via:?} {next}"
+        );
+    }
+    Ok(())
+}
+
+#[test]
+fn legs_of_a_loop(rt: HostRuntime) -> Result<(), Fail> {
+    let net = read_net(rt.alloc(), LOOP.as_bytes())?;
+    let intent = read_intent(rt.alloc(), LOOP_INTENT.as_bytes(), &net)?;
+    assert!(rt; compilable(&net).is_ok());
+    let legs = StrictLegs::build(rt.alloc(), &net, &intent)?;
+    assert_sids(&rt, &legs, 0, &[2]);
+    assert_sids(&rt, &legs, 1, &[1]);
+    assert_sids(&rt, &legs, 2, &[2]);
+    assert_sids(&rt, &legs, 3, &[2, 3]);
+    // a loop; a SID of the same prefix at another node
+    assert_eq!(rt; legs.leg(0, None, 0), None);
+    assert_eq!(rt; legs.leg(0, None, 1), None);
+    assert_eq!(rt; legs.leg(0, None, 2), Some(Leg { to: 0, hops: 1 }));
+    Ok(())
+}
+
+#[test]
+fn legs_of_kinds(rt: HostRuntime) -> Result<(), Fail> {
+    let net = read_net(rt.alloc(), KINDS.as_bytes())?;
+    let text = format!(in rt.alloc(); "{KINDS_INTENT}\"dx6\" }}]\ninner = \"ipv6\"\n")?;
+    let intent = read_intent(rt.alloc(), text.as_bytes(), &net)?;
+    assert!(rt; compilable(&net).is_ok());
+    let legs = StrictLegs::build(rt.alloc(), &net, &intent)?;
+    for (position, via, next, want) in [
+        // PSP takes nothing away
+        (0, None, 0, Some((1, 1))),
+        (1, Some(0), 1, Some((1, 1))),
+        (1, Some(1), 4, Some((3, 2))),
+        // one of two equal next hops is outside the step, but in the table of End.T there is one
+        (1, Some(0), 4, None),
+        (1, Some(2), 4, Some((3, 2))),
+        // to and from a SID that binds a policy
+        (0, None, 3, None),
+        (1, Some(3), 4, None),
+        // a function counts once
+        (3, Some(4), 5, None),
+    ] {
+        let want = want.map(|(to, hops)| Leg { to, hops });
+        assert_eq!(rt;
+            legs.leg(position, via, next),
+            want,
+            "{position} {via:?} {next}"
+        );
+    }
+    let shape = shape_at(&rt, &legs, 3, 0);
+    assert_eq!(rt;
+        (shape.block, shape.lbl, shape.csid, shape.middle),
+        (None, 0, Csid::Plain, true)
+    );
+    Ok(())
+}
+
+#[test]
+fn finishes_by_family(rt: HostRuntime) -> Result<(), Fail> {
+    let net = read_net(rt.alloc(), KINDS.as_bytes())?;
+    assert!(rt; compilable(&net).is_ok());
+    for (title, next, six, four) in [
+        ("usd", 5, true, true),
+        ("dx6", 6, true, false),
+        ("dx4", 7, false, true),
+        ("dt6", 8, true, false),
+        ("dt4", 9, false, true),
+        ("dt46", 10, true, true),
+    ] {
+        for (inner, want) in [("ipv6", six), ("ipv4", four)] {
+            let text = format!(in rt.alloc();
+                "{KINDS_INTENT}\"{title}\" }}]\ninner = \"{inner}\"\n"
+            )?;
+            let intent = read_intent(rt.alloc(), text.as_bytes(), &net)?;
+            let legs = StrictLegs::build(rt.alloc(), &net, &intent)?;
+            let finish = if want { Some(0) } else { None };
+            assert_eq!(rt; legs.finish(3, Some(4), next), finish, "{title} {inner}");
+            assert_eq!(rt; legs.finish(2, Some(4), next), None, "{title} {inner}");
+            assert_eq!(rt; legs.finish(3, Some(4), 4), None, "{title} {inner}");
+        }
+    }
+    Ok(())
+}
+
+#[test]
+fn legs_of_a_block(rt: HostRuntime) -> Result<(), Fail> {
+    let net = read_net(rt.alloc(), NEXT.as_bytes())?;
+    let intent = read_intent(rt.alloc(), ROW_INTENT.as_bytes(), &net)?;
+    assert!(rt; compilable(&net).is_ok());
+    let legs = StrictLegs::build(rt.alloc(), &net, &intent)?;
+    assert_sids(&rt, &legs, 1, &[0, 1]);
+    assert_sids(&rt, &legs, 3, &[5, 3]);
+    for (position, via, next, want) in [
+        (0, None, 0, Some((1, 1))),
+        (1, Some(0), 1, Some((1, 1))),
+        (1, Some(1), 3, Some((3, 2))),
+        (1, Some(0), 3, None),
+    ] {
+        let want = want.map(|(to, hops)| Leg { to, hops });
+        assert_eq!(rt;
+            legs.leg(position, via, next),
+            want,
+            "{position} {via:?} {next}"
+        );
+    }
+    assert_eq!(rt; legs.finish(3, Some(3), 4), Some(0));
+    for (position, place, want) in [
+        (1, 0, (Some(1), 32, Csid::Next, true)),
+        (4, 2, (Some(1), 32, Csid::Plain, false)),
+        (3, 0, (None, 0, Csid::Plain, true)),
+    ] {
+        let shape = shape_at(&rt, &legs, position, place);
+        assert_eq!(rt;
+            (shape.block, shape.lbl, shape.csid, shape.middle),
+            want,
+            "{position} {place}"
+        );
+    }
+    Ok(())
+}
