@@ -115,6 +115,19 @@ fn a_file_of_the_system_is_read(rt: HostRuntime) -> Result<(), Fail> {
 }
 
 #[test]
+fn a_long_file_of_the_system_is_read_to_its_end(rt: HostRuntime) -> Result<(), Fail> {
+    // 5,000 bytes come in two reads. A limit of just so many lets them pass, one below refuses.
+    let written = vec![in rt.alloc(); 7u8; 5000]?;
+    fs::write(&rt, "long", written.as_slice())?;
+    let mut files = HostFiles::new(&rt);
+    let bytes = files.read(rt.alloc(), "long", 5000)?;
+    assert_eq!(rt; bytes.as_slice(), written.as_slice());
+    let refused = files.read(rt.alloc(), "long", 4999).err();
+    assert_eq!(rt; refused, Some(FileFault::TooBig { limit: 4999 }));
+    Ok(())
+}
+
+#[test]
 fn a_stream_of_the_system_is_drawn(rt: HostRuntime) -> Result<(), Fail> {
     fs::write(&rt, "drawn", b"four".as_slice())?;
     let mut source = HostSource::new(fs::open(&rt, "drawn")?);
