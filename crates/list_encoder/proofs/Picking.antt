@@ -20,7 +20,8 @@ use Rattle.list_pack.proofs.Orders.{lex-weak, lex-not-both}
 use Rattle.list_encoder.proofs.Celling.{some-same}
 use Rattle.list_encoder.proofs.Rooms.{behind-few}
 use Rattle.list_encoder.proofs.Tables.{to-range, link-shape}
-use Rattle.list_encoder.proofs.Relaxing.{end-one, leg-one, leg-parts, no-end, end-place}
+use Rattle.list_encoder.proofs.RelaxedRooms.{end-one, leg-one, leg-parts}
+use Rattle.list_encoder.proofs.Relaxing.{no-end, end-place}
 
 -- of two picks the first in order
 better-by : (p q : Pick) (s : PathStep) (b : Bool) → path_before (q.step ∷ []) (p.step ∷ []) ≡ b

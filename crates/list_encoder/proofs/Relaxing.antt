@@ -1,171 +1,22 @@
--- Lowering by a link room by room, by the finishes and by the legs of a cell, and by all links within a position.
-use Rattle.std.proofs.Common.{◌≡◌, ℕ, zero, suc, ◌+◌, ◌*◌, ◌<◌, ◌≤◌, inl, inr, Bool, true, false, ◌||◌, List, [], ◌∷◌, ◌++◌, length, Option, Some, None, slice_get, Contains, refl, sym, ◌∙◌, ap, subst, arith}
+-- Lowering by the finishes and by the legs of a cell, and by all links within a position.
+use Rattle.std.proofs.Common.{◌≡◌, ℕ, zero, suc, ◌+◌, ◌*◌, ◌<◌, ◌≤◌, inl, inr, Bool, false, ◌||◌, List, [], ◌∷◌, ◌++◌, length, Option, Some, None, slice_get, Contains, refl, sym, ◌∙◌, ap, subst, arith}
 use Rattle.std.specs.Prelude.{nat_lt, MatchBool}
-use Rattle.std.specs.Option.{option_map}
 use Rattle.std.proofs.lemmas.Bool.{cases_lt, lt-ltb, le-ltb}
 use Rattle.std.proofs.lemmas.List.Elements.{Contains-append_left, Contains-push, Contains-push_cases}
 use Rattle.std.proofs.lemmas.Option.{none-some, slice_get_within}
-use Rattle.list_pack.specs.declared.types.Cost.{Cost}
-use Rattle.list_pack.specs.declared.types.Leg.{Leg}
 use Rattle.list_pack.specs.declared.types.Shape.{Shape}
 use Rattle.list_pack.specs.Value.{LegsValue, KeepsLaws}
 use Rattle.list_pack.specs.Rooms.{room_behind, new_room_by}
 use Rattle.srv6_rules.specs.declared.sid.Csid.{Csid}
 use Rattle.srv6_rules.specs.declared.sid.Csid.TheVariants.{Plain, Next, Replace}
-use Rattle.list_pack.specs.Costs.{nothing, move_cost, Under}
-use Rattle.list_pack.proofs.PublicLaws.{under-itself, under-trans, under-plus}
+use Rattle.list_pack.specs.Costs.{Under}
+use Rattle.list_pack.proofs.PublicLaws.{under-itself, under-trans}
 use Rattle.list_encoder.specs.declared.cells.Cell.{Cell}
 use Rattle.list_encoder.specs.declared.table.Link.{Link}
-use Rattle.list_encoder.specs.Cells.{cell_at}
-use Rattle.list_encoder.specs.Table.{Costs, at, entry, rest_at, offer, LeadsTo, IsLink, IsSound, Passed, LinkHolds, Holds, RoomHolds, RoomRelaxed, RoomsRelaxed, Relaxed, LeavesRoom, IsShapeOf, EndsHold, EndsRelaxed, LegsHold, Keeps, LegsRelaxed, AreLinks}
+use Rattle.list_encoder.specs.Table.{Costs, at, LeadsTo, IsLink, IsSound, Passed, LinkHolds, Holds, Relaxed, EndsHold, EndsRelaxed, LegsHold, Keeps, LegsRelaxed, AreLinks}
 use Rattle.list_encoder.proofs.Celling.{some-same, place_of}
 use Rattle.list_encoder.proofs.Tables.{passed-then}
-
--- what is left behind a link falls where the table does
-pub rest-falls : (before after : Costs) (to : Option ℕ) (left : ℕ) → ((i : ℕ) → Under (at after i) (at before i))
-    → Under (rest_at after to left) (rest_at before to left)
-rest-falls before after None left h = under-itself (Some nothing)
-rest-falls before after (Some to) left h = h (8 * to + left)
-
-pub offer-falls : (stays : Bool) (hops : ℕ) (a b : Option Cost) → Under a b → Under (offer stays hops a) (offer stays hops b)
-offer-falls stays hops a b h = under-plus (move_cost stays hops) a b h
-
--- what holds of a room holds where its room is known
-room-holds : (o : Option Cost) (stays : Bool) (link : Link) (t : Costs) (p : Option ℕ) (left : ℕ) → p ≡ Some left
-    → RoomHolds o stays link t p
-    → Under o (offer stays link.hops (rest_at t link.to left))
-room-holds o stays link t p left e h = subst (λ (q : Option ℕ). RoomHolds o stays link t q) e h
-
-pub room-rooms : (v : LegsValue) (cells : List Cell) (link : Link) (stays : Bool) (room : ℕ) (p : Option ℕ) (t t1 : Costs) (x : Bool)
-    → RoomRelaxed v cells link t t1 stays room p x → LeavesRoom v cells link stays room p
-    → RoomsRelaxed v cells link stays room (room + 1) t t1 x
-room-rooms v cells link stays room p t t1 x relaxed leaves =
-    record {
-      sound = relaxed.sound;
-      passed = relaxed.passed;
-      holds = λ cell r left e l h f.
-          let same : room ≡ r = omega (arith, l, h) in
-          let g : room_behind stays (option_map v.shape cell.via) room (v.shape link.sid) ≡ Some left =
-          ap (λ (k : ℕ). room_behind stays (option_map v.shape cell.via) k (v.shape link.sid)) same ∙ f in
-          subst (λ (k : ℕ). Under (entry t1 link.from k) (offer stays link.hops (rest_at t link.to left))) same
-          (room-holds (entry t1 link.from room) stays link t p left (leaves cell e ∙ g) relaxed.holds);
-    }
-
--- some rooms, and then those that follow
-pub rooms-join : (v : LegsValue) (cells : List Cell) (link : Link) (stays : Bool) (low mid high : ℕ) (t t1 t2 : Costs) (x y : Bool)
-    → RoomsRelaxed v cells link stays low mid t t1 x → RoomsRelaxed v cells link stays mid high t1 t2 y
-    → RoomsRelaxed v cells link stays low high t t2 (x || y)
-rooms-join v cells link stays low mid high t t1 t2 x y first second =
-    record {
-      sound = second.sound;
-      passed = passed-then (link.from + 1) t t1 t2 x y first.passed second.passed;
-      holds = λ cell r left e l h f.
-          elim (cases_lt r mid) as (λ w. Under (entry t2 link.from r) (offer stays link.hops (rest_at t link.to left))) [
-            | inl less ↦
-                under-trans (entry t2 link.from r) (entry t1 link.from r) (offer stays link.hops (rest_at t link.to left))
-                (second.passed.falls _) (first.holds cell r left e l less f)
-            | inr more ↦
-                under-trans (entry t2 link.from r) (offer stays link.hops (rest_at t1 link.to left))
-                (offer stays link.hops (rest_at t link.to left)) (second.holds cell r left e more h f)
-                (offer-falls stays link.hops (rest_at t1 link.to left) (rest_at t link.to left)
-                (rest-falls t t1 link.to left first.passed.falls))
-          ];
-    }
-
-pub rooms-more : (v : LegsValue) (cells : List Cell) (link : Link) (stays : Bool) (low room : ℕ) (p : Option ℕ) (t t1 t2 : Costs)
-    (x y : Bool)
-    → RoomsRelaxed v cells link stays low room t t1 x → RoomRelaxed v cells link t1 t2 stays room p y → LeavesRoom v cells link stays room p
-    → RoomsRelaxed v cells link stays low (room + 1) t t2 (x || y)
-rooms-more v cells link stays low room p t t1 t2 x y begun relaxed leaves =
-    rooms-join v cells link stays low room (room + 1) t t1 t2 x y begun (room-rooms v cells link stays room p t1 t2 y relaxed leaves)
-
--- by a new container from each room, and in the same one
-pub ways-join : (v : LegsValue) (cells : List Cell) (link : Link) (t t1 t2 : Costs) (x y : Bool)
-    → RoomsRelaxed v cells link false 0 8 t t1 x → RoomsRelaxed v cells link true 0 8 t1 t2 y → Relaxed v cells link t t2 (x || y)
-ways-join v cells link t t1 t2 x y opened stayed =
-    record {
-      sound = stayed.sound;
-      passed = passed-then (link.from + 1) t t1 t2 x y opened.passed stayed.passed;
-      holds = holds;
-    }
-  where
-    holds : (cell : Cell) (stays : Bool) (r left : ℕ) → slice_get cells link.from ≡ Some cell → r < 8
-        → room_behind stays (option_map v.shape cell.via) r (v.shape link.sid) ≡ Some left
-        → Under (entry t2 link.from r) (offer stays link.hops (rest_at t link.to left))
-    holds cell true r left e h f =
-        under-trans (entry t2 link.from r) (offer true link.hops (rest_at t1 link.to left)) (offer true link.hops (rest_at t link.to left))
-        (stayed.holds cell r left e (omega arith) h f)
-        (offer-falls true link.hops (rest_at t1 link.to left) (rest_at t link.to left) (rest-falls t t1 link.to left opened.passed.falls))
-    holds cell false r left e h f =
-        under-trans (entry t2 link.from r) (entry t1 link.from r) (offer false link.hops (rest_at t link.to left)) (stayed.passed.falls _)
-        (opened.holds cell r left e (omega arith) h f)
-
-pub leaves : (v : LegsValue) (cells : List Cell) (link : Link) (stays : Bool) (room : ℕ) (from : Option Shape) (next : Shape) (p : Option ℕ)
-    → IsShapeOf v cells link.from from → next ≡ v.shape link.sid → p ≡ room_behind stays from room next
-    → LeavesRoom v cells link stays room p
-leaves v cells link stays room from next p is_from is_next e cell here =
-    e ∙ ap (λ (s : Option Shape). room_behind stays s room next) (is_from cell here)
-    ∙ ap (λ (s : Shape). room_behind stays (option_map v.shape cell.via) room s) is_next
-
--- what holds of a link between two tables holds in a later one that leaves what is behind the link as it was
-pub holds-later : (v : LegsValue) (cells : List Cell) (link : Link) (a b c : Costs) → LinkHolds v cells link a b
-    → ((i : ℕ) → Under (at c i) (at b i))
-    → ((left : ℕ) → rest_at c link.to left ≡ rest_at a link.to left) → Holds v cells c link
-holds-later v cells link a b c h falls same cell stays room left e l r =
-    under-trans (entry c link.from room) (entry b link.from room) (offer stays link.hops (rest_at c link.to left))
-    (falls (8 * link.from + room))
-    (subst (λ (o : Option Cost). Under (entry b link.from room) (offer stays link.hops o)) (sym (same left)) (h cell stays room left e l r))
-
-pub rest-end : (a b : Costs) (to : Option ℕ) (left : ℕ) → to ≡ None → rest_at b to left ≡ rest_at a to left
-rest-end a b to left e = ap (λ (o : Option ℕ). rest_at b o left) e ∙ sym (ap (λ (o : Option ℕ). rest_at a o left) e)
-
-pub rest-far : (later : ℕ) (a b : Costs) (to : Option ℕ) (j left : ℕ) → ((i : ℕ) → 8 * later ≤ i → at b i ≡ at a i) → to ≡ Some j
-    → later ≤ j
-    → rest_at b to left ≡ rest_at a to left
-rest-far later a b to j left above e h =
-    ap (λ (o : Option ℕ). rest_at b o left) e ∙ above (8 * j + left) (omega (arith, h)) ∙ sym (ap (λ (o : Option ℕ). rest_at a o left) e)
-
-pub link-same : (a b : Link) → a.from ≡ b.from → a.to ≡ b.to → a.sid ≡ b.sid → a.hops ≡ b.hops → a ≡ b
-link-same a b e f g h =
-    ap (λ (x : ℕ). let l : Link = record { from = x; to = a.to; sid = a.sid; hops = a.hops } in l) e
-    ∙ ap (λ (x : Option ℕ). let l : Link = record { from = b.from; to = x; sid = a.sid; hops = a.hops } in l) f
-    ∙ ap (λ (x : ℕ). let l : Link = record { from = b.from; to = b.to; sid = x; hops = a.hops } in l) g
-    ∙ ap (λ (x : ℕ). let l : Link = record { from = b.from; to = b.to; sid = b.sid; hops = x } in l) h
-
--- a finish is one, and so is a leg into a cell
-pub end-one : (v : LegsValue) (cells : List Cell) (a b : Link) (cell : Cell) → slice_get cells a.from ≡ Some cell
-    → v.finish cell.position cell.via a.sid ≡ Some a.hops
-    → a.to ≡ None → b.from ≡ a.from → b.to ≡ None → b.sid ≡ a.sid → IsLink v cells b → a ≡ b
-end-one v cells a b cell here is to from to_b sid is_b =
-    let same : is_b.cell ≡ cell = some-same is_b.cell cell (sym is_b.from ∙ ap (slice_get cells) from ∙ here) in
-    let leads : v.finish is_b.cell.position is_b.cell.via b.sid ≡ Some b.hops =
-    subst (λ (o : Option ℕ). LeadsTo v cells is_b.cell b.sid b.hops o) to_b is_b.leads in
-    let there : v.finish cell.position cell.via a.sid ≡ Some b.hops =
-    ap (λ (n : ℕ). v.finish cell.position cell.via n) (sym sid)
-    ∙ ap (λ (c : Cell). v.finish c.position c.via b.sid) (sym same) ∙ leads in
-    let hops : a.hops ≡ b.hops = some-same a.hops b.hops (sym is ∙ there) in
-    link-same a b (sym from) (to ∙ sym to_b) (sym sid) hops
-
-pub leg-parts : (v : LegsValue) (cells : List Cell) (b : Link) (to : ℕ) → b.to ≡ Some to → (is : IsLink v cells b)
-    → LeadsTo v cells is.cell b.sid b.hops (Some to)
-leg-parts v cells b to e is = subst (λ (o : Option ℕ). LeadsTo v cells is.cell b.sid b.hops o) e is.leads
-
-pub leg-one : (v : LegsValue) (cells : List Cell) (a b : Link) (to : ℕ) → a.to ≡ Some to → b.from ≡ a.from → b.to ≡ Some to
-    → IsLink v cells a → IsLink v cells b
-    → a ≡ b
-leg-one v cells a b to to_a from to_b is_a is_b =
-    let leads = leg-parts v cells a to to_a is_a in
-    let also = leg-parts v cells b to to_b is_b in
-    let cell : is_a.cell ≡ is_b.cell = some-same is_a.cell is_b.cell (sym is_a.from ∙ ap (slice_get cells) (sym from) ∙ is_b.from) in
-    let at : cell_at leads.0 a.sid ≡ cell_at also.0 b.sid = some-same (cell_at leads.0 a.sid) (cell_at also.0 b.sid)
-    (sym leads.1 ∙ also.1) in
-    let sid : a.sid ≡ b.sid = some-same a.sid b.sid (ap (λ (c : Cell). c.via) at) in
-    let first : Leg = record { to = leads.0; hops = a.hops } in
-    let second : Leg = record { to = also.0; hops = b.hops } in
-    let leg : v.leg is_a.cell.position is_a.cell.via a.sid ≡ Some second =
-    ap (λ (c : Cell). v.leg c.position c.via a.sid) cell ∙ ap (λ (n : ℕ). v.leg is_b.cell.position is_b.cell.via n) sid ∙ also.2 in
-    let hops : a.hops ≡ b.hops = ap (λ (l : Leg). l.hops) (some-same first second (sym leads.2 ∙ leg)) in
-    link-same a b (sym from) (to_a ∙ sym to_b) sid hops
+use Rattle.list_encoder.proofs.RelaxedRooms.{holds-later, rest-end, rest-far, end-one, leg-one}
 
 -- without a finish there is no link to the end
 pub no-end : (v : LegsValue) (cells : List Cell) (link : Link) (k : ℕ) (cell : Cell) → slice_get cells k ≡ Some cell → link.from ≡ k

@@ -15,7 +15,8 @@ use Rattle.list_encoder.specs.Cells.{cell_at, IsCellBy, AreCells, IsFirst}
 use Rattle.list_encoder.specs.Table.{Costs, at, entry, rest_at, offer, LeadsTo, IsLink, IsSound, Passed, LinkHolds, Holds, Relaxed, AreLinks, Gathers, Rounded, Settled, IsOnward, HoldFrom, IsShapeOf}
 use Rattle.list_encoder.proofs.Celling.{some-same, place_of, contains_at, cell-read}
 use Rattle.list_encoder.proofs.Tables.{passed-then, passed-wider}
-use Rattle.list_encoder.proofs.Relaxing.{holds-later, rest-end, leg-stays, at-near, at-far}
+use Rattle.list_encoder.proofs.RelaxedRooms.{holds-later, rest-end}
+use Rattle.list_encoder.proofs.Relaxing.{leg-stays, at-near, at-far}
 
 -- the first links of a list
 pub record RoundSoFar (v : LegsValue) (cells : List Cell) (later : ℕ) (links : List Link) (count : ℕ) (before after : Costs)

@@ -18,7 +18,7 @@ use Rattle.list_encoder.specs.Table.{Costs, rest_at, AreLeast}
 use Rattle.list_encoder.specs.Picks.{IsSpot, PicksFirst}
 use Rattle.list_encoder.proofs.Rooms.{behind-few, stay-less, open-few}
 use Rattle.list_encoder.proofs.Tables.{link-shape}
-use Rattle.list_encoder.proofs.Relaxing.{leg-parts}
+use Rattle.list_encoder.proofs.RelaxedRooms.{leg-parts}
 use Rattle.list_encoder.proofs.Heading.{head-of}
 use Rattle.list_encoder.proofs.Pathing.{pick_move, first-least, FirstBehind}
 

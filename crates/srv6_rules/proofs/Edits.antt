@@ -3,7 +3,8 @@ use Rattle.std.proofs.Common.{◌≡◌, ℕ, ◌+◌, ◌-◌, List, ◌∷◌,
 use Rattle.std.proofs.lemmas.List.{append_assoc, take_at, drop_at, length-append, length-set, set-append_right}
 use Rattle.srv6_rules.specs.Packet.{Packet, spelling, header_spelling, first_word, two_bytes, four_bytes, address_bytes}
 use Rattle.srv6_rules.proofs.Bytes.{length-two_bytes, length-four_bytes, length-address_bytes}
-use Rattle.srv6_rules.proofs.Packets.{laid, drop4-laid, drop8-laid, drop24-laid, drop40-laid, six-laid, spelling-laid_alone, length-header_spelling}
+use Rattle.srv6_rules.proofs.PacketWords.{laid, drop4-laid, drop8-laid, drop24-laid, drop40-laid, six-laid}
+use Rattle.srv6_rules.proofs.Packets.{spelling-laid_alone, length-header_spelling}
 
 -- ---- bytes that are laid out, with a part changed
 

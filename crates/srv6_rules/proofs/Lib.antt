@@ -1,6 +1,8 @@
 pub mod Bytes
+pub mod PacketWords
 pub mod Packets
 pub mod Packets4
+pub mod TimesToLive
 pub mod Contents
 pub mod Edits
 pub mod Headers
@@ -8,10 +10,16 @@ pub mod Chains
 pub mod AreaItems
 pub mod Reached
 pub mod Treatments
+pub mod HeadersAtSids
 pub mod BehaviourLaws
 pub mod Endpoints
+pub mod EndpointSteps
+pub mod FlavourSteps
 pub mod Flavours
 pub mod Encapsulations
+pub mod EncapsulatedSteps
+pub mod EncapsulationForms
+pub mod CutPackets
 pub mod Without
 pub mod Checksums
 pub mod ErrorLaws

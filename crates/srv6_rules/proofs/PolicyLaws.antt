@@ -14,7 +14,8 @@ use Rattle.srv6_rules.specs.Behaviours.{ipv6_inside}
 use Rattle.srv6_rules.specs.Encapsulation.{Encapsulation, segment_list, has_segment_routing, outer, pushed, header_bytes, IsSpellableEncapsulation}
 use Rattle.srv6_rules.specs.Policies.{encapsulation_by, outer_by, inner_kind, routing_header, pushed_round, most_payload, Outer, TooBig, InnerHop, unless_too_big, headend_by, pushed_by}
 use Rattle.srv6_rules.proofs.Packets.{length-spelling}
-use Rattle.srv6_rules.proofs.Encapsulations.{length-outer, at_segment-spellable}
+use Rattle.srv6_rules.proofs.Encapsulations.{length-outer}
+use Rattle.srv6_rules.proofs.EncapsulationForms.{at_segment-spellable}
 
 -- ---- a header's first byte, which names what stands behind it
 

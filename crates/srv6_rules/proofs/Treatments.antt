@@ -1,18 +1,17 @@
 -- What comes of a header by its kind: passed over, refused at a place, or stepped over.
-use Rattle.std.proofs.Common.{◌≡◌, ℕ, ◌+◌, ◌<◌, ◌≤◌, Bool, true, false, ◌==◌, ◌&&◌, not, if◌then◌else◌, length, refl, sym, ap, subst, ◌∙◌, ◌⊎◌, arith, inl, inr}
+use Rattle.std.proofs.Common.{◌≡◌, ℕ, ◌+◌, ◌<◌, ◌≤◌, Bool, true, false, ◌==◌, ◌&&◌, if◌then◌else◌, length, refl, sym, ap, subst, ◌∙◌, ◌⊎◌, arith, inl, inr}
 use Rattle.std.specs.Prelude.{Option, Some, None}
 use Rattle.std.proofs.lemmas.Bool.{cases_Bool, eq-eqb, ne_eqb, eqb-true}
 use Rattle.srv6_rules.specs.declared.sid.Reason.{Reason}
 use Rattle.srv6_rules.specs.declared.sid.Reason.TheVariants as reasons
 use Rattle.srv6_rules.specs.declared.sid.SidEntry.{SidEntry}
-use Rattle.srv6_rules.specs.declared.sid.Csid.TheVariants as csids
 use Rattle.srv6_rules.specs.Behaviours.{goes_on}
 use Rattle.srv6_rules.specs.Packet.{Packet}
 use Rattle.srv6_rules.specs.Srh.{srh_of, segments_left_at, routing_type_at}
 use Rattle.srv6_rules.specs.Areas.{Fault, options_fault}
 use Rattle.srv6_rules.specs.Chain.{Header, LiesIn, StandsIn, hop_by_hop, routing, fragment, destination_options, is_first, segments_left, is_segment_routing}
 use Rattle.srv6_rules.specs.CompressedSteps.{ReplaceStep, Moved, AtEnd, Dropped, compression_of, is_replace, is_at_end, replace_step}
-use Rattle.srv6_rules.specs.Endpoint.{Endpoint, Refused, unless_fault, next_segment, next_csid, shifts_at, is_options, at_whole_segments, at_packed_segments, by_replace_step, at_segment_routing, unknown_routing, at_header_by, at_sid_routing, at_header, at_address_header, outcome_without, after_step, after_last, leaves_none, IsPassed, IsTakenOut, IsSkipped, Decides, TakesWhole}
+use Rattle.srv6_rules.specs.Endpoint.{Endpoint, Refused, unless_fault, next_segment, is_options, at_whole_segments, at_packed_segments, by_replace_step, at_segment_routing, unknown_routing, at_header_by, at_sid_routing, outcome_without, after_step, after_last, leaves_none, IsPassed, Decides}
 use Rattle.srv6_rules.proofs.SteppedPackets.{step-at_end, at_end-none}
 use Rattle.srv6_rules.proofs.AreaItems.{options_fault-within}
 
@@ -149,7 +148,7 @@ pub unknown-refused : (h : Header) (rest : Endpoint) → 0 < segments_left h
     → unknown_routing h rest ≡ Refused reasons.UnknownRouting (h.place.at + routing_type_at)
 unknown-refused h rest left = let e : (segments_left h == 0) ≡ false = ne_eqb (segments_left h) 0 (omega arith) in rw e refl
 
-unknown-either : (h : Header) → IsPassed unknown_routing h ⊎ Decides unknown_routing h
+pub unknown-either : (h : Header) → IsPassed unknown_routing h ⊎ Decides unknown_routing h
 unknown-either h = elim (cases_Bool (segments_left h == 0)) [
   | inl none ↦ inl (λ rest. rw none refl)
   | inr some ↦ inr (λ one two. rw some refl)
@@ -157,7 +156,7 @@ unknown-either h = elim (cases_Bool (segments_left h == 0)) [
 
 -- ---- segment routing headers at a SID
 
-pops-not : (h : Header) (psp : Bool) (x : Endpoint) → 1 < segments_left h
+pub pops-not : (h : Header) (psp : Bool) (x : Endpoint) → 1 < segments_left h
     → (if psp && leaves_none (srh_of h.bytes) then outcome_without h x else x) ≡ x
 pops-not h false x more = refl
 pops-not h true x more = let e : (segments_left h == 1) ≡ false = ne_eqb (segments_left h) 1 (omega arith) in rw e refl
@@ -167,7 +166,7 @@ module _ (s : SidEntry) (p : Packet) (h : Header) where
       → at_sid_routing s p h rest ≡ at_segment_routing s p h rest
   sid-known rest is = rw is refl
 
-  sid-unknown : (rest : Endpoint) → is_segment_routing h ≡ false → at_sid_routing s p h rest ≡ unknown_routing h rest
+  pub sid-unknown : (rest : Endpoint) → is_segment_routing h ≡ false → at_sid_routing s p h rest ≡ unknown_routing h rest
   sid-unknown rest other = rw other refl
 
   pub known-whole : (rest : Endpoint) → is_replace s.csid ≡ false → at_segment_routing s p h rest ≡ at_whole_segments s p h rest
@@ -239,7 +238,7 @@ module _ (s : SidEntry) (p : Packet) (h : Header) where
     ]
   ]
 
-  known-either : EndsOr (at_segment_routing s p h)
+  pub known-either : EndsOr (at_segment_routing s p h)
   known-either = elim (cases_Bool (is_replace s.csid)) [
     | inl packed ↦ elim packed-either [
       | inl end ↦ inl (λ rest. known-packed rest packed ∙ end.0 rest, end.1)
@@ -252,7 +251,7 @@ module _ (s : SidEntry) (p : Packet) (h : Header) where
   ]
 
   -- any other is passed over or decides
-  other-either : is_segment_routing h ≡ false → IsPassed (at_sid_routing s p) h ⊎ Decides (at_sid_routing s p) h
+  pub other-either : is_segment_routing h ≡ false → IsPassed (at_sid_routing s p) h ⊎ Decides (at_sid_routing s p) h
   other-either other = elim (unknown-either h) [
     | inl passed ↦ inl (λ rest. sid-unknown rest other ∙ passed rest)
     | inr decides ↦ inr (λ one two. sid-unknown one other ∙ decides one two ∙ sym (sid-unknown two other))
@@ -263,185 +262,3 @@ module _ (s : SidEntry) (p : Packet) (h : Header) where
     | inl e ↦ eqb-true h.place.kind routing e
     | inr e ↦ let no : is_segment_routing h ≡ false = rw e refl in cc
   ]
-
--- ---- a header at a SID
-
-module _ (s : SidEntry) (p : Packet) (h : Header) where
-  -- where the SID does not shift, and at options, the header is what its kind makes it
-  pub at_header-unshifted : (rest : Endpoint) → shifts_at s p ≡ false → at_header s p h rest ≡ at_header_by (at_sid_routing s p) h rest
-  at_header-unshifted rest not = rw not refl
-
-  at_header-by : (rest : Endpoint) → (shifts_at s p && not (is_options h)) ≡ false
-      → at_header s p h rest ≡ at_header_by (at_sid_routing s p) h rest
-  at_header-by rest not = rw not refl
-
-  -- a SID shifts at a header that has no options
-  pub at_header-shifts : (rest : Endpoint) → shifts_at s p ≡ true → is_options h ≡ false → at_header s p h rest ≡ next_csid s p
-  at_header-shifts rest is other = rw (is, other) refl
-
-  pub at_header-options : (rest : Endpoint) → is_options h ≡ true → at_header s p h rest ≡ at_header_by (at_sid_routing s p) h rest
-  at_header-options rest is = at_header-by rest (none (shifts_at s p) (is_options h) is)
-    where
-      none : (a b : Bool) → b ≡ true → (a && not b) ≡ false
-      none true true e = refl
-      none false true e = refl
-      none true false e = cc
-      none false false e = cc
-
-  shifts-decides : (shifts_at s p && not (is_options h)) ≡ true → Decides (at_header s p) h
-  shifts-decides is = λ one two. rw is refl
-
-  -- what is so of a packet that is shifted, of those behind where the header is passed over, of each refusal in the packet, and of
-  -- what is done with a routing header, is so of what comes of the header
-  pub header-by : (P : Endpoint → Type 0) (rest : Endpoint) → LiesIn p h → StandsIn p h.place
-      → (shifts_at s p ≡ true → P (next_csid s p))
-      → (IsPassed (at_header s p) h → P rest)
-      → ((reason : Reason) (at : ℕ) → at ≤ h.place.at + length h.bytes → P (Refused reason at))
-      → (shifts_at s p ≡ false → ((x : Endpoint) → at_header s p h x ≡ at_sid_routing s p h x) → P (at_sid_routing s p h rest))
-      → P (at_header s p h rest)
-  header-by P rest lies stands shift more refused routed = elim (cases_Bool (shifts_at s p)) [
-    | inl is ↦ elim (cases_Bool (is_options h)) [
-      | inl options ↦ subst P (sym (at_header-options rest options))
-          (by-kind (at_sid_routing s p) h p P rest lies stands (λ passed. more (λ x. at_header-options x options ∙ passed x)) refused
-          (λ other same. cc))
-      | inr other ↦ subst P (sym (at_header-shifts rest is other)) (shift is)
-    ]
-    | inr stays ↦ subst P (sym (at_header-unshifted rest stays))
-        (by-kind (at_sid_routing s p) h p P rest lies stands (λ passed. more (λ x. at_header-unshifted x stays ∙ passed x)) refused
-        (λ other same. routed stays (λ x. at_header-unshifted x stays ∙ same x)))
-  ]
-
-  -- a routing header where the SID does not shift
-  pub at_header-routing : (rest : Endpoint) → shifts_at s p ≡ false → h.place.kind ≡ routing → at_header s p h rest ≡ at_sid_routing s p h rest
-  at_header-routing rest not kind = at_header-unshifted rest not ∙ routing-by (at_sid_routing s p) h rest kind
-
-  -- a segment routing header there
-  pub at_header-known : (rest : Endpoint) → shifts_at s p ≡ false → is_segment_routing h ≡ true
-      → at_header s p h rest ≡ at_segment_routing s p h rest
-  at_header-known rest not is = at_header-routing rest not (routing-kind s p h is) ∙ sid-known s p h rest is
-
-  pub at_header-packed : (rest : Endpoint) → is_replace s.csid ≡ true → shifts_at s p ≡ false → is_segment_routing h ≡ true
-      → at_header s p h rest ≡ at_packed_segments s p h rest
-  at_header-packed rest packed not is = at_header-known rest not is ∙ known-packed s p h rest packed
-
-  pub at_header-whole : (rest : Endpoint) → TakesWhole s p → is_segment_routing h ≡ true
-      → at_header s p h rest ≡ at_whole_segments s p h rest
-  at_header-whole rest takes is = at_header-known rest takes.unshifted is ∙ known-whole s p h rest takes.whole
-
-  -- one with no segments left is passed over, or with USP taken out
-  pub at_header-last : (rest : Endpoint) → TakesWhole s p → is_segment_routing h ≡ true → segments_left h ≡ 0
-      → at_header s p h rest ≡ after_last s h rest
-  at_header-last rest takes is none =
-      at_header-whole rest takes is ∙ whole-last s p h rest (eq-eqb (segments_left h) 0 none)
-
-  taken_out : s.usp ≡ true → is_segment_routing h ≡ true → segments_left h ≡ 0
-      → ((rest : Endpoint) → at_header s p h rest ≡ after_last s h rest) → IsTakenOut s p h
-  taken_out usp is none same =
-      record { usp = usp; routing = is; none_left = none; taken_out = λ rest. same rest ∙ last-out s p h rest usp }
-
-  pub at_header-taken_out : TakesWhole s p → s.usp ≡ true → is_segment_routing h ≡ true → segments_left h ≡ 0 → IsTakenOut s p h
-  at_header-taken_out takes usp is none = taken_out usp is none (λ rest. at_header-last rest takes is none)
-
-  -- at its end it is skipped, whether there is USP or not
-  pub end-skipped : is_segment_routing h ≡ true → segments_left h ≡ 0
-      → ((rest : Endpoint) → at_header s p h rest ≡ after_last s h rest) → IsSkipped s p h
-  end-skipped is none same = elim (cases_Bool s.usp) [
-    | inl usp ↦ inr (taken_out usp is none same)
-    | inr no_usp ↦ inl (λ rest. same rest ∙ last-stays s p h rest no_usp)
-  ]
-
-  skipped-routing : ((rest : Endpoint) → at_header s p h rest ≡ at_sid_routing s p h rest)
-      → IsSkipped s p h ⊎ Decides (at_header s p) h
-  skipped-routing same = elim (cases_Bool (is_segment_routing h)) [
-    | inl is ↦ elim (known-either s p h) [
-      | inl end ↦ inl (end-skipped is end.1 (λ rest. same rest ∙ sid-known s p h rest is ∙ end.0 rest))
-      | inr decides ↦ inr (λ one two. same one ∙ sid-known s p h one is ∙ decides one two
-          ∙ sym (same two ∙ sid-known s p h two is))
-    ]
-    | inr other ↦ elim (other-either s p h other) [
-      | inl passed ↦ inl (inl (λ rest. same rest ∙ passed rest))
-      | inr decides ↦ inr (λ one two. same one ∙ decides one two ∙ sym (same two))
-    ]
-  ]
-
-  -- a header is passed over or taken out at a SID, or decides what comes of the packet
-  pub at_header-skipped : IsSkipped s p h ⊎ Decides (at_header s p) h
-  at_header-skipped = elim (cases_Bool (shifts_at s p && not (is_options h))) [
-    | inl is ↦ inr (shifts-decides is)
-    | inr stays ↦ elim (kind-either (at_sid_routing s p) h) [
-      | inl passed ↦ inl (inl (λ rest. at_header-by rest stays ∙ passed rest))
-      | inr (inl decides) ↦ inr (λ one two. at_header-by one stays ∙ decides one two ∙ sym (at_header-by two stays))
-      | inr (inr same) ↦ skipped-routing (λ rest. at_header-by rest stays ∙ same rest)
-    ]
-  ]
-
-  -- a header is passed over at a SID without USP, or decides what comes of the packet
-  pub at_header-either : s.usp ≡ false → IsPassed (at_header s p) h ⊎ Decides (at_header s p) h
-  at_header-either no_usp = elim at_header-skipped [
-    | inl (inl passed) ↦ inl passed
-    | inl (inr out) ↦ let usp = out.usp in cc
-    | inr decides ↦ inr decides
-  ]
-
-  pub at_header-passed : TakesWhole s p → s.usp ≡ false → h.place.kind ≡ routing → segments_left h ≡ 0 → IsPassed (at_header s p) h
-  at_header-passed takes no_usp kind none = λ rest. elim (cases_Bool (is_segment_routing h)) [
-    | inl is ↦ at_header-last rest takes is none ∙ last-stays s p h rest no_usp
-    | inr other ↦ at_header-routing rest takes.unshifted kind ∙ sid-unknown s p h rest other ∙ unknown-passed h none rest
-  ]
-
-  pub at_header-passed_other : shifts_at s p ≡ false → h.place.kind ≡ routing → is_segment_routing h ≡ false → segments_left h ≡ 0
-      → IsPassed (at_header s p) h
-  at_header-passed_other not kind other none = λ rest. at_header-routing rest not kind ∙ sid-unknown s p h rest other
-      ∙ unknown-passed h none rest
-
-  -- a segment routing header with segments left is stepped over at a SID that goes on, and refused at another
-  pub at_header-after_step : (rest : Endpoint) → TakesWhole s p → is_segment_routing h ≡ true → 0 < segments_left h → goes_on s ≡ true
-      → at_header s p h rest ≡ after_step s h (next_segment p h.place.at (srh_of h.bytes))
-  at_header-after_step rest takes is left goes =
-      at_header-whole rest takes is ∙ whole-steps s p h rest (ne_eqb (segments_left h) 0 (omega arith)) goes
-
-  -- without PSP that is all, and with it too where segments are left behind
-  pub at_header-steps : (rest : Endpoint) → TakesWhole s p → is_segment_routing h ≡ true → 0 < segments_left h → goes_on s ≡ true
-      → (s.psp ≡ false) ⊎ (1 < segments_left h)
-      → at_header s p h rest ≡ next_segment p h.place.at (srh_of h.bytes)
-  at_header-steps rest takes is left goes stays = at_header-after_step rest takes is left goes ∙ elim stays [
-    | inl no_psp ↦ rw no_psp refl
-    | inr more ↦ pops-not h s.psp (next_segment p h.place.at (srh_of h.bytes)) more
-  ]
-
-  -- with PSP the header is taken out where Segments Left becomes 0
-  pub at_header-pops : (rest : Endpoint) → TakesWhole s p → is_segment_routing h ≡ true → segments_left h ≡ 1 → goes_on s ≡ true
-      → s.psp ≡ true
-      → at_header s p h rest ≡ outcome_without h (next_segment p h.place.at (srh_of h.bytes))
-  at_header-pops rest takes is one goes psp =
-      at_header-after_step rest takes is (omega arith) goes
-      ∙ rw (psp, eq-eqb (segments_left h) 1 one) refl
-
-  pub at_header-refuses : (rest : Endpoint) → TakesWhole s p → is_segment_routing h ≡ true → 0 < segments_left h → goes_on s ≡ false
-      → at_header s p h rest ≡ Refused reasons.BadSegments (h.place.at + segments_left_at)
-  at_header-refuses rest takes is left stays =
-      at_header-whole rest takes is ∙ whole-refuses s p h rest (ne_eqb (segments_left h) 0 (omega arith)) stays
-
-  -- any other routing header with segments left is refused
-  pub at_header-unknown : (rest : Endpoint) → shifts_at s p ≡ false → h.place.kind ≡ routing → is_segment_routing h ≡ false
-      → 0 < segments_left h
-      → at_header s p h rest ≡ Refused reasons.UnknownRouting (h.place.at + routing_type_at)
-  at_header-unknown rest not kind other left =
-      at_header-routing rest not kind ∙ sid-unknown s p h rest other ∙ unknown-refused h rest left
-
--- a plain SID takes whole segments at each packet
-pub plain-whole : (s : SidEntry) (p : Packet) → s.csid ≡ csids.Plain → TakesWhole s p
-plain-whole s p plain = record { whole = rw plain refl; unshifted = rw plain refl }
-
--- ---- at an address
-
--- a header is passed over at an address, or decides what comes of the packet
-pub at_address_header-either : (h : Header) → IsPassed at_address_header h ⊎ Decides at_address_header h
-at_address_header-either h = by-either unknown_routing h (unknown-either h)
-
-pub at_address_header-passed : (h : Header) → h.place.kind ≡ routing → segments_left h ≡ 0 → IsPassed at_address_header h
-at_address_header-passed h kind none = λ rest. routing-by unknown_routing h rest kind ∙ unknown-passed h none rest
-
-pub at_address_header-refuses : (h : Header) (rest : Endpoint) → h.place.kind ≡ routing → 0 < segments_left h
-    → at_address_header h rest ≡ Refused reasons.UnknownRouting (h.place.at + routing_type_at)
-at_address_header-refuses h rest kind left = routing-by unknown_routing h rest kind ∙ unknown-refused h rest left

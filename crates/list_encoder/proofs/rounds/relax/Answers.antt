@@ -1,6 +1,6 @@
 use Rattle.std.proofs.Common.{◌||◌, Bool, false, sym, ◌∙◌, ap, subst}
 use Rattle.list_encoder.specs.Table.{Relaxed}
-use Rattle.list_encoder.proofs.Relaxing.{room-rooms, rooms-join, ways-join, leaves}
+use Rattle.list_encoder.proofs.RelaxedRooms.{room-rooms, rooms-join, ways-join, leaves}
 use Rattle.list_encoder.proofs.rounds.relax.Goals as goal
 
 pub returns : goal.returns

@@ -1,6 +1,7 @@
 use Rattle.std.proofs.Common.{◌+◌, ◌≤◌, Bool, false, sym, ◌∙◌, subst, arith}
 use Rattle.list_encoder.specs.Table.{RoomsRelaxed}
-use Rattle.list_encoder.proofs.Relaxing.{rooms-more, leaves, opened-same}
+use Rattle.list_encoder.proofs.RelaxedRooms.{rooms-more, leaves}
+use Rattle.list_encoder.proofs.Relaxing.{opened-same}
 use Rattle.list_encoder.proofs.rounds.relax_opens.Goals as goal
 
 pub loop-room-preserved : goal.loop-room-preserved

@@ -1,6 +1,6 @@
 use Rattle.std.proofs.Common.{◌+◌, Bool, true, sym, subst}
 use Rattle.list_encoder.specs.Table.{RoomsRelaxed}
-use Rattle.list_encoder.proofs.Relaxing.{rooms-more, leaves}
+use Rattle.list_encoder.proofs.RelaxedRooms.{rooms-more, leaves}
 use Rattle.list_encoder.proofs.rounds.relax_stays.Goals as goal
 
 pub loop-room-preserved : goal.loop-room-preserved

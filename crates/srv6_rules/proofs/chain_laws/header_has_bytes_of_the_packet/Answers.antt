@@ -1,5 +1,5 @@
 use Rattle.srv6_rules.proofs.Chains.{lies-at, lies-spelled, lies-stated, lies-bytes}
-use Rattle.srv6_rules.proofs.Flavours.{as_in-lies}
+use Rattle.srv6_rules.proofs.FlavourSteps.{as_in-lies}
 use Rattle.srv6_rules.proofs.chain_laws.header_has_bytes_of_the_packet.Goals as goal
 
 pub returns-clause-each : goal.returns-clause-each

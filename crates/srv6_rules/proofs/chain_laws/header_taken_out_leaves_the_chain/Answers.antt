@@ -1,4 +1,5 @@
-use Rattle.srv6_rules.proofs.Without.{without-others, without-length, without-behind, without-front, without-spellable, without-first_chain, without-later_chain, chain_at-split}
+use Rattle.srv6_rules.proofs.CutPackets.{without-first_chain, chain_at-split}
+use Rattle.srv6_rules.proofs.Without.{without-others, without-length, without-behind, without-front, without-spellable, without-later_chain}
 use Rattle.srv6_rules.proofs.chain_laws.header_taken_out_leaves_the_chain.Goals as goal
 
 pub returns-clause-others : goal.returns-clause-others

@@ -2,7 +2,8 @@ use Rattle.std.proofs.Common.{refl}
 use Rattle.srv6_rules.specs.Packet.{spelling}
 use Rattle.srv6_rules.specs.Encapsulation.{inner_lowered}
 use Rattle.srv6_rules.proofs.Packets.{content_of-spelling_alone}
-use Rattle.srv6_rules.proofs.Encapsulations.{at_segment-exposed, encapsulated-spellable, length-encapsulated, lowered-spellable, lowered-spelling}
+use Rattle.srv6_rules.proofs.EncapsulatedSteps.{at_segment-exposed}
+use Rattle.srv6_rules.proofs.EncapsulationForms.{encapsulated-spellable, length-encapsulated, lowered-spellable, lowered-spelling}
 use Rattle.srv6_rules.proofs.encapsulation.encapsulation_lowers_and_keeps_the_packet.Goals as goal
 
 pub returns-clause-lowered : goal.returns-clause-lowered

@@ -1,4 +1,4 @@
-use Rattle.srv6_rules.proofs.Encapsulations.{at_segment-hop_limit, at_segment-onward, at_segment-psp}
+use Rattle.srv6_rules.proofs.EncapsulatedSteps.{at_segment-hop_limit, at_segment-onward, at_segment-psp}
 use Rattle.srv6_rules.proofs.encapsulation.end_goes_on_to_the_next_segment.Goals as goal
 
 pub returns-clause-onward : goal.returns-clause-onward

@@ -1,5 +1,6 @@
 use Rattle.std.proofs.Common.{refl}
-use Rattle.srv6_rules.proofs.Encapsulations.{header_bytes-more, header_bytes-reduced, length-at_segment, length-outer}
+use Rattle.srv6_rules.proofs.Encapsulations.{length-outer}
+use Rattle.srv6_rules.proofs.EncapsulationForms.{header_bytes-more, header_bytes-reduced, length-at_segment}
 use Rattle.srv6_rules.proofs.encapsulation.headers_have_their_bytes.Goals as goal
 
 pub returns-clause-length : goal.returns-clause-length

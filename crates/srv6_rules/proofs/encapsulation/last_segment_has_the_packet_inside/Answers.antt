@@ -1,5 +1,5 @@
 use Rattle.srv6_rules.proofs.Packets.{content_of-spelling_alone}
-use Rattle.srv6_rules.proofs.Encapsulations.{at_segment-exposed, at_segment-upper_layer, at_segment-usp, bare-exposed, bare-upper_layer}
+use Rattle.srv6_rules.proofs.EncapsulatedSteps.{at_segment-exposed, at_segment-upper_layer, at_segment-usp, bare-exposed, bare-upper_layer}
 use Rattle.srv6_rules.proofs.encapsulation.last_segment_has_the_packet_inside.Goals as goal
 
 pub returns-clause-upper_layer : goal.returns-clause-upper_layer

@@ -1,4 +1,4 @@
-use Rattle.srv6_rules.proofs.Encapsulations.{at_segment-spellable}
+use Rattle.srv6_rules.proofs.EncapsulationForms.{at_segment-spellable}
 use Rattle.srv6_rules.proofs.encapsulation.outer_packet_can_be_spelled.Goals as goal
 
 pub returns : goal.returns

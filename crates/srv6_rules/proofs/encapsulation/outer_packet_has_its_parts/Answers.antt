@@ -1,4 +1,4 @@
-use Rattle.srv6_rules.proofs.Encapsulations.{header-bytes, outer-with_header, outer-without_header}
+use Rattle.srv6_rules.proofs.EncapsulationForms.{header-bytes, outer-with_header, outer-without_header}
 use Rattle.srv6_rules.proofs.encapsulation.outer_packet_has_its_parts.Goals as goal
 
 pub returns-clause-with_header : goal.returns-clause-with_header

@@ -1,4 +1,5 @@
-use Rattle.srv6_rules.proofs.Encapsulations.{list-at, list-full, list-one, list-reduced}
+use Rattle.srv6_rules.proofs.Encapsulations.{list-at}
+use Rattle.srv6_rules.proofs.EncapsulationForms.{list-full, list-one, list-reduced}
 use Rattle.srv6_rules.proofs.encapsulation.segment_list_begins_with_the_last.Goals as goal
 
 pub returns-clause-entry : goal.returns-clause-entry

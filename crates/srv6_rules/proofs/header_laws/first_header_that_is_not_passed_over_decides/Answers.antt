@@ -1,6 +1,6 @@
 use Rattle.srv6_rules.specs.Endpoint.{IsPassed, IsSkipped, Decides, at_header}
 use Rattle.srv6_rules.proofs.Reached.{first-there, over-decides}
-use Rattle.srv6_rules.proofs.Treatments.{at_header-either, at_header-skipped, at_address_header-either}
+use Rattle.srv6_rules.proofs.HeadersAtSids.{at_header-either, at_header-skipped, at_address_header-either}
 use Rattle.srv6_rules.proofs.header_laws.first_header_that_is_not_passed_over_decides.Goals as goal
 
 pub returns-clause-at_sid : goal.returns-clause-at_sid

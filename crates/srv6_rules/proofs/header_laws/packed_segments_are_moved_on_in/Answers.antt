@@ -1,4 +1,4 @@
-use Rattle.srv6_rules.proofs.Endpoints.{at_sid-moves}
+use Rattle.srv6_rules.proofs.EndpointSteps.{at_sid-moves}
 use Rattle.srv6_rules.proofs.header_laws.packed_segments_are_moved_on_in.Goals as goal
 
 pub returns : goal.returns

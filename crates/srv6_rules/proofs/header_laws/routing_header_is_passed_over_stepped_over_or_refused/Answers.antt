@@ -1,4 +1,4 @@
-use Rattle.srv6_rules.proofs.Treatments.{at_header-passed, at_header-passed_other, at_header-taken_out, at_header-pops, at_header-steps, at_header-refuses, at_header-unknown, at_address_header-passed, at_address_header-refuses}
+use Rattle.srv6_rules.proofs.HeadersAtSids.{at_header-passed, at_header-passed_other, at_header-taken_out, at_header-pops, at_header-steps, at_header-refuses, at_header-unknown, at_address_header-passed, at_address_header-refuses}
 use Rattle.srv6_rules.proofs.header_laws.routing_header_is_passed_over_stepped_over_or_refused.Goals as goal
 
 pub returns-clause-passed : goal.returns-clause-passed

@@ -1,5 +1,6 @@
-use Rattle.srv6_rules.proofs.Treatments.{at_header-shifts, at_header-options, plain-whole}
-use Rattle.srv6_rules.proofs.Endpoints.{at_sid-shifted, upper-shifts}
+use Rattle.srv6_rules.proofs.HeadersAtSids.{at_header-shifts, at_header-options, plain-whole}
+use Rattle.srv6_rules.proofs.Endpoints.{upper-shifts}
+use Rattle.srv6_rules.proofs.EndpointSteps.{at_sid-shifted}
 use Rattle.srv6_rules.proofs.header_laws.sid_shifts_at_the_first_header_without_options.Goals as goal
 
 pub returns-clause-shifts : goal.returns-clause-shifts

@@ -1,4 +1,4 @@
-use Rattle.srv6_rules.proofs.Packets4.{lowered4-checksum, lowered4-other, lowered4-spellable, lowered4-sum, lowered4-verifies, ttl_lowered-front, ttl_lowered-length, ttl_lowered-ttl}
+use Rattle.srv6_rules.proofs.TimesToLive.{lowered4-checksum, lowered4-other, lowered4-spellable, lowered4-sum, lowered4-verifies, ttl_lowered-front, ttl_lowered-length, ttl_lowered-ttl}
 use Rattle.srv6_rules.proofs.ip4.lower_ttl_keeps_the_checksum_right.Goals as goal
 
 pub returns-clause-ttl : goal.returns-clause-ttl

@@ -1,4 +1,4 @@
-use Rattle.srv6_rules.proofs.Endpoints.{at_sid-exposes, at_sid-exposed_packet, at_sid-exposed_packet4, at_sid-content, at_sid-exposed_back}
+use Rattle.srv6_rules.proofs.EndpointSteps.{at_sid-exposes, at_sid-exposed_packet, at_sid-exposed_packet4, at_sid-content, at_sid-exposed_back}
 use Rattle.srv6_rules.proofs.Contents.{read_as-unreadable}
 use Rattle.srv6_rules.proofs.sid_laws.decapsulation_changes_no_byte.Goals as goal
 

@@ -1,5 +1,5 @@
 use Rattle.srv6_rules.proofs.Flavours.{at_sid-delivered_fields, at_sid-delivered_spellable}
-use Rattle.srv6_rules.proofs.Endpoints.{at_sid-delivered, at_address-delivered, at_address-not_onward, at_address-not_exposed}
+use Rattle.srv6_rules.proofs.EndpointSteps.{at_sid-delivered, at_address-delivered, at_address-not_onward, at_address-not_exposed}
 use Rattle.srv6_rules.proofs.sid_laws.delivered_packet_is_as_it_was.Goals as goal
 
 pub returns-clause-at_sid : goal.returns-clause-at_sid

@@ -1,4 +1,4 @@
-use Rattle.srv6_rules.proofs.Endpoints.{at_sid-place, at_address-place}
+use Rattle.srv6_rules.proofs.EndpointSteps.{at_sid-place, at_address-place}
 use Rattle.srv6_rules.proofs.sid_laws.fault_has_its_place_in_the_packet.Goals as goal
 
 pub returns-clause-at_sid : goal.returns-clause-at_sid

@@ -1,4 +1,4 @@
-use Rattle.srv6_rules.proofs.Endpoints.{at_sid-steps, at_sid-bytes, at_sid-steps_psp}
+use Rattle.srv6_rules.proofs.EndpointSteps.{at_sid-steps, at_sid-bytes, at_sid-steps_psp}
 use Rattle.srv6_rules.proofs.sid_laws.onward_is_one_step.Goals as goal
 
 pub returns-clause-step : goal.returns-clause-step
