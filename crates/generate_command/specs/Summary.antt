@@ -16,8 +16,8 @@ use Rattle.intent_reader.specs.declared.intent.Intent.{Intent}
 use Rattle.path_compiler.specs.declared.compiled.Compiled.{Compiled}
 use Rattle.path_compiler.specs.declared.compiled.CompileFault.{CompileFault}
 use Rattle.path_compiler.specs.Compiled.{CompileAnswers, IsCompiled, IsLeastOfAll, NoLessHandsOver}
-use Rattle.walk_command.specs.declared.walk.AtHeadend.{AtHeadend}
-use Rattle.walk_command.specs.declared.walk.AtHeadend.TheVariants.{NotRead, Dropped, Enters}
+use Rattle.walk_command.specs.declared.headend.AtHeadend.{AtHeadend}
+use Rattle.walk_command.specs.declared.headend.AtHeadend.TheVariants.{NotRead, Dropped, Enters}
 use Rattle.generate_command.specs.declared.summed.Summary.{Summary}
 use Rattle.walk_command.specs.Walk.{at_headend, policy_of, walk_at_headend}
 

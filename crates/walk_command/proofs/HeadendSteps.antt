@@ -14,7 +14,7 @@ use Rattle.ip6_headers.specs.Reading.{HoldsPacket}
 use Rattle.ip6_headers.proofs.PublicLaws.{holds-spellable, holds-payload_len, holds-front}
 use Rattle.policy_encap.specs.Inner.{HoldsInner}
 use Rattle.policy_encap.specs.Answers.{Makes}
-use Rattle.walk_command.specs.declared.walk.AtHeadend.TheVariants.{Enters}
+use Rattle.walk_command.specs.declared.headend.AtHeadend.TheVariants.{Enters}
 use Rattle.walk_command.specs.Walk.{of_content, of_encapsulating}
 
 pub made_enters : (wanted : Encapsulating) (bytes : List ℕ) → Makes wanted bytes → Enters (entered families.V6 bytes) ≡ of_encapsulating wanted

@@ -18,7 +18,7 @@ use Rattle.ip6_headers.specs.Reading.{unreadable}
 use Rattle.ip6_headers.specs.Reading4.{HoldsPacket4, reason_of}
 use Rattle.ip6_headers.proofs.PublicLaws.{holds4-spellable, holds4-length, holds4-front}
 use Rattle.policy_encap.specs.Inner.{HoldsInner}
-use Rattle.walk_command.specs.declared.walk.AtHeadend.TheVariants.{Dropped}
+use Rattle.walk_command.specs.declared.headend.AtHeadend.TheVariants.{Dropped}
 use Rattle.walk_command.specs.Walk.{of_content, of_encapsulating}
 
 -- bytes that read as a packet hold it

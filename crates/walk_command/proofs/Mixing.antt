@@ -13,8 +13,8 @@ use Rattle.command_inputs.specs.Packets.{reading_of}
 use Rattle.run_commands.specs.Capture.{frames_of}
 use Rattle.run_commands.specs.Scheduled.{coming, frames_sent, line_of_walk, lines_told}
 use Rattle.run_commands.proofs.PublicLaws.{all-walk, apart, are-from-packets, frames-sent, lines-told, numbers, walk-steps}
-use Rattle.walk_command.specs.declared.walk.AtHeadend.{AtHeadend}
-use Rattle.walk_command.specs.declared.walk.AtHeadend.TheVariants.{NotRead, Dropped, Enters}
+use Rattle.walk_command.specs.declared.headend.AtHeadend.{AtHeadend}
+use Rattle.walk_command.specs.declared.headend.AtHeadend.TheVariants.{NotRead, Dropped, Enters}
 use Rattle.walk_command.specs.Walk as walk
 use Rattle.walk_command.specs.Walk.{at_headend}
 

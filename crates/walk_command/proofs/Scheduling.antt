@@ -11,8 +11,8 @@ use Rattle.command_output.specs.Pieces.{bytes_in_order}
 use Rattle.run_commands.specs.Run.{pieces_of_frame, pieces_one_by_one}
 use Rattle.run_commands.specs.Scheduled.{pieces_of_stages, scheduled_pieces}
 use Rattle.run_commands.proofs.PublicLaws.{alone, coming_if, frames-same, no-packet, one-same, walk-same}
-use Rattle.walk_command.specs.declared.walk.AtHeadend.{AtHeadend}
-use Rattle.walk_command.specs.declared.walk.AtHeadend.TheVariants.{NotRead, Dropped, Enters}
+use Rattle.walk_command.specs.declared.headend.AtHeadend.{AtHeadend}
+use Rattle.walk_command.specs.declared.headend.AtHeadend.TheVariants.{NotRead, Dropped, Enters}
 use Rattle.walk_command.specs.Walk as walk
 use Rattle.walk_command.specs.Walk.{at_headend, walk_at_headend}
 

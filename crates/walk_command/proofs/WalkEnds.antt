@@ -9,7 +9,7 @@ use Rattle.srx_edge.specs.Steps.{How}
 use Rattle.srv6_rules.specs.declared.policy.Policy.{Policy}
 use Rattle.net_model.specs.Network.{Network}
 use Rattle.intent_reader.specs.declared.intent.Intent.{Intent}
-use Rattle.walk_command.specs.declared.walk.Start.TheVariants as starts
+use Rattle.walk_command.specs.declared.start.Start.TheVariants as starts
 use Rattle.command_output.specs.declared.halt.Failure.{Failure}
 use Rattle.command_output.specs.declared.halt.Failure.TheVariants as failures
 use Rattle.command_output.specs.declared.halt.Halt.{Halt}

@@ -18,7 +18,7 @@ use Rattle.path_compiler.specs.declared.compiled.Compiled.{Compiled}
 use Rattle.path_compiler.specs.Compiled.{IsCompiled}
 use Rattle.trace_replay.specs.declared.limits.TheConstants.{STAGES}
 use Rattle.walk_command.specs.Walk.{WalksKeepTo, of_content, of_encapsulating, policy_of, segment_of}
-use Rattle.walk_command.specs.declared.walk.AtHeadend.TheVariants.{Enters}
+use Rattle.walk_command.specs.declared.headend.AtHeadend.TheVariants.{Enters}
 use Rattle.walk_command.proofs.HandingOver.{hands-within}
 use Rattle.walk_command.proofs.WalkStarts.{values-count}
 

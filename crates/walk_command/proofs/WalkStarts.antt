@@ -14,7 +14,7 @@ use Rattle.list_pack.specs.declared.types.Container.{Container}
 use Rattle.list_pack.specs.SidLists.{list_in, list_values}
 use Rattle.path_compiler.specs.declared.compiled.Compiled.{Compiled}
 use Rattle.path_compiler.specs.Compiled.{IsCompiled}
-use Rattle.walk_command.specs.declared.walk.Start.TheVariants as starts
+use Rattle.walk_command.specs.declared.start.Start.TheVariants as starts
 use Rattle.walk_command.specs.Walk.{StartsAs, policy_of, segment_of}
 
 -- ---- the segments

@@ -31,10 +31,10 @@ use Rattle.path_compiler.specs.Compiled.{IsCompiled, IsLeastOfAll}
 use Rattle.packet_walk.specs.Flight.{InFlight, entering}
 use Rattle.packet_walk.specs.Schedule.{Coming}
 use Rattle.srx_edge.specs.Edge.{file_named}
-use Rattle.walk_command.specs.declared.walk.AtHeadend.{AtHeadend}
-use Rattle.walk_command.specs.declared.walk.AtHeadend.TheVariants.{NotRead, Dropped, Enters}
-use Rattle.walk_command.specs.declared.walk.Start.{Start}
-use Rattle.walk_command.specs.declared.walk.Start.TheVariants as starts
+use Rattle.walk_command.specs.declared.headend.AtHeadend.{AtHeadend}
+use Rattle.walk_command.specs.declared.headend.AtHeadend.TheVariants.{NotRead, Dropped, Enters}
+use Rattle.walk_command.specs.declared.start.Start.{Start}
+use Rattle.walk_command.specs.declared.start.Start.TheVariants as starts
 use Rattle.command_output.specs.declared.halt.Failure.TheVariants as failures
 use Rattle.command_output.specs.declared.halt.Halt.{Halt}
 use Rattle.command_output.specs.declared.halt.Halt.TheVariants as halts

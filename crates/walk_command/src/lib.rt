@@ -3,8 +3,11 @@
 //! `specs/Walk.antt` has its words, its shape and its output, and what a walk keeps to.
 #![tactic(auto)]
 
+pub mod headend;
 pub mod laws;
+pub mod start;
 pub mod walk;
 mod walk_scheduled;
 
-pub use walk::{AtHeadend, at_headend, policy_of};
+pub use headend::{AtHeadend, at_headend};
+pub use start::policy_of;

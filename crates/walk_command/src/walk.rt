@@ -1,177 +1,36 @@
 //! The command `walk`: the inner packets of the input, encapsulated at the headend of the intent of
 //! a file with the list that the intent is compiled to, in the network that another describes.
 
-ghost use Rattle.std.specs.Prelude.{◌≡◌, ◌<◌, ◌^◌, ℕ, IfOk, List, Ok, length};
+ghost use Rattle.std.specs.Prelude.{◌≡◌, ◌<◌, ℕ, IfOk, List, length};
 ghost use Rattle.std.specs.List.{flat_map};
 ghost use Rattle.pcap_io.specs.Frames.{frames_of as frames_in};
 ghost use Rattle.srx_edge.specs.Steps.{Wrote};
-ghost use Rattle.srv6_rules.specs.Packet.{entered};
-ghost use Rattle.srv6_rules.specs.Policies.{IsPolicy, encapsulated_by};
-ghost use Rattle.policy_encap.specs.Inner.{HoldsInner};
-ghost use Rattle.intent_reader.specs.Rules.{IsIntent};
+ghost use Rattle.srv6_rules.specs.Policies.{IsPolicy};
 ghost use Rattle.command_output.specs.Answers.{Commands, ending_of_step};
-ghost use Rattle.compile_commands.specs.Compile.{HasValues};
 ghost use Rattle.run_commands.specs.Run.{packet_pieces, pieces_of_frame, pieces_one_by_one};
-ghost use Rattle.walk_command.specs.Walk.{StartsAs, at_headend, coming_at, coming_of_frame, comings_at_headend, ended_line, ended_of_frame, of_content, of_encapsulating, pieces_behind_head, policy_of, walk_at_headend, walk_pieces, walk_shape};
+ghost use Rattle.walk_command.specs.Walk.{coming_at, coming_of_frame, comings_at_headend, ended_line, ended_of_frame, pieces_behind_head, walk_at_headend, walk_pieces, walk_shape};
 ghost use Rattle.command_output.specs.Outside.{outside};
 ghost use Rattle.command_inputs.specs.Packets.{HasHead, fault_of, reading_of};
 ghost use Rattle.command_output.specs.Pieces.{WroteAll, sinks_of};
 ghost use Rattle.run_commands.specs.Scheduled.{scheduled_pieces};
 
+use crate::headend::{AtHeadend, at_headend};
+use crate::start::{Start, headend_fits, hop_limit_fits, start_of_intent};
 use crate::walk_scheduled::walk_in_turns;
-use base::{NoMemory, Seq};
+use base::Seq;
 use command_inputs::{Next, Packets, intent_of_file, network_of_file, next_of, packets_of_input};
 use command_output::{
-    Failure, Halt, Refusal, Status, Text, Told, Unread, line_of_packet, line_of_unread,
-    refusal_of_not_flat, write_all,
+    Failure, Halt, Refusal, Status, Text, Told, line_of_packet, line_of_unread, write_all,
 };
-use compile_commands::{line_of_hop_limit, line_of_none, line_of_too_long};
 use intent_reader::Intent;
-use ip6_headers::{Ip4View, Ip6View};
-use list_pack::values;
 use net_model::Net;
 use node_stage::Content;
-use path_compiler::{CompileFault, Compiled};
 use pcap_io::{Body, CaptureHead, Frame, FrameReader, HEAD_LEN, MAX_FRAMES};
-use pkt_buf::PktBuf;
-use policy_encap::{EncapFault, encap};
 use run_commands::{Buffers, write_head, write_walk};
-use srv6_rules::numbers::{IPV6_HEADER_LEN, MOST_LEN};
-use srv6_rules::{Family, Policy, Reason};
+use srv6_rules::{Family, Policy};
 use srx_edge::{Files, Sink, Source};
 use std::alloc::Global;
 use walk_rules::{Ended, How, Place};
-
-/// What becomes of a frame's packet at the headend, before the first stage. (RFC 8986 sections 5.1
-/// and 5.2)
-#[derive(Drop)]
-pub enum AtHeadend {
-    /// It is not read.
-    NotRead(Unread),
-    /// It is dropped.
-    Dropped(Reason),
-    /// It is encapsulated, and this is the outer packet.
-    Enters(Content),
-}
-
-/// How a walk starts. (own rule)
-#[derive(Drop)]
-pub enum Start {
-    /// With what the headend puts in front of packets.
-    List(Policy),
-    /// There is no list; the line says why.
-    NoList(Text),
-}
-
-/// What the headend puts in front of packets: the compiled list, with the intent's fields. (RFC
-/// 8986 sections 5.1 and 5.2)
-#[tactic(auto, using(crate::proofs::WalkStarts::segments))]
-pub fn policy_of(
-    alloc: Global,
-    net: &Net,
-    intent: &Intent,
-    compiled: &Compiled,
-) -> Result<Policy, NoMemory>
-    requires { HasValues net.now compiled.now }
-    ensures { IfOk result (λ policy. policy ≡ policy_of net.now intent.now compiled.now) }
-{
-    let segments = values(alloc, net, &compiled.list)?;
-    Ok(Policy {
-        source: intent.source,
-        segments: Seq::new(segments),
-        traffic_class: intent.traffic_class,
-        flow_label: intent.flow_label,
-        hop_limit: intent.hop_limit,
-        reduced: intent.reduced,
-    })
-}
-
-/// How a walk starts for an intent: with the list that it is compiled to, if there is one.
-#[tactic(auto, using(compile_commands::proofs::PublicLaws::valued))]
-fn start_of_intent(alloc: Global, net: &Net, intent: &Intent) -> Result<Start, Halt>
-    requires { IsIntent net.now intent.now }
-    ensures { StartsAs net.now intent.now result }
-{
-    net.keeps_rules();
-    match path_compiler::compile(alloc, net, intent) {
-        Ok(list) => Ok(Start::List(policy_of(alloc, net, intent, &list)?)),
-        Err(CompileFault::NotFlat(why)) => Err(Halt::Refused(refusal_of_not_flat(net, &why))),
-        Err(CompileFault::NoList { .. }) => Ok(Start::NoList(line_of_none())),
-        Err(CompileFault::TooLong { found }) => {
-            Ok(Start::NoList(line_of_too_long(alloc, found.containers)?))
-        }
-        Err(CompileFault::HopLimit { found }) => {
-            Ok(Start::NoList(line_of_hop_limit(alloc, found.need)?))
-        }
-        Err(CompileFault::NoMemory) => Err(Halt::Failed(Failure::NoMemory)),
-    }
-}
-
-/// A packet of a family that the headend encapsulates, or drops.
-fn encapsulated(policy: &Policy, family: Family, inner: PktBuf) -> Result<AtHeadend, NoMemory>
-    requires policy { IsPolicy policy.now }
-    requires packet { HoldsInner family inner.bytes }
-    ensures { IfOk result (λ at.
-        at ≡ of_encapsulating (encapsulated_by policy.now family inner.bytes)) }
-{
-    let mut buf = inner;
-    match encap(policy, family, &mut buf) {
-        Ok(()) => Ok(AtHeadend::Enters(Content::enter_buf(Family::V6, buf))),
-        Err(EncapFault::InnerHop) => Ok(AtHeadend::Dropped(Reason::InnerHop)),
-        Err(EncapFault::TooBig { .. }) => Ok(AtHeadend::Dropped(Reason::TooBig)),
-        Err(EncapFault::NoMemory) => Err(NoMemory),
-    }
-}
-
-/// Bytes that enter the headend as an IPv6 packet, in place: what stands behind the packet's end is
-/// cut.
-fn entering(policy: &Policy, bytes: Vec<u8>) -> Result<AtHeadend, NoMemory>
-    requires { IsPolicy policy.now }
-    ensures { IfOk result (λ at. at ≡ of_content policy.now (entered Family.V6 bytes.items)) }
-{
-    let mut bytes = bytes;
-    bytes.truncate(MOST_LEN);
-    let len = match Ip6View::read(bytes.as_slice()) {
-        Ok(view) => IPV6_HEADER_LEN + usize::from(view.payload_len()),
-        Err(fault) => return Ok(AtHeadend::Dropped(fault.reason())),
-    };
-    bytes.truncate(len);
-    encapsulated(policy, Family::V6, PktBuf::of(bytes))
-}
-
-/// Bytes that enter the headend as an IPv4 packet, in the same way.
-fn entering4(policy: &Policy, bytes: Vec<u8>) -> Result<AtHeadend, NoMemory>
-    requires { IsPolicy policy.now }
-    ensures { IfOk result (λ at. at ≡ of_content policy.now (entered Family.V4 bytes.items)) }
-{
-    let mut bytes = bytes;
-    bytes.truncate(MOST_LEN);
-    let len = match Ip4View::read(bytes.as_slice()) {
-        Ok(view) => usize::from(view.total_len()),
-        Err(fault) => return Ok(AtHeadend::Dropped(fault.reason())),
-    };
-    bytes.truncate(len);
-    encapsulated(policy, Family::V4, PktBuf::of(bytes))
-}
-
-/// What becomes of a frame's packet at the headend, for inner packets of a family. (RFC 8986
-/// sections 5.1 and 5.2)
-pub fn at_headend(policy: &Policy, inner: Family, body: Body) -> Result<AtHeadend, NoMemory>
-    requires { IsPolicy policy.now }
-    ensures { IfOk result (λ at. at ≡ at_headend policy.now inner body) }
-{
-    match (body, inner) {
-        (Body::V6(bytes), Family::V6) => entering(policy, bytes.into_vec()),
-        (Body::V4(bytes), Family::V4) => entering4(policy, bytes.into_vec()),
-        (Body::V6(_), Family::V4) | (Body::V4(_), Family::V6) => {
-            Ok(AtHeadend::NotRead(Unread::WrongVersion))
-        }
-        (Body::ShortFrame, Family::V6 | Family::V4) => {
-            Ok(AtHeadend::NotRead(Unread::ShortFrame))
-        }
-        (Body::NotIp, Family::V6 | Family::V4) => Ok(AtHeadend::NotRead(Unread::NotIp)),
-    }
-}
 
 /// Writes the line of a packet that ends at the headend.
 #[tactic(auto, using(command_output::proofs::PublicLaws::writing))]
@@ -478,25 +337,6 @@ fn walk_packets<O: Sink, E: Sink>(
             )
         }
     }
-}
-
-/// A hop limit is a byte.
-fn hop_limit_fits(hop_limit: u8)
-    ensures { hop_limit < 2 ^ 8 }
-{
-    let _ = hop_limit;
-}
-
-/// The headend is there, and what is compiled makes a policy.
-fn headend_fits(net: &Net, intent: &Intent, policy: &Policy)
-    requires intent { IsIntent net.now intent.now }
-    requires policy { StartsAs net.now intent.now (Ok (Start.List policy.now)) }
-    ensures headend { intent.now.headend < length net.now.nodes }
-    ensures policy { IsPolicy policy.now }
-{
-    let _ = net;
-    let _ = intent;
-    let _ = policy;
 }
 
 /// Walks the inner packets of the input, in the order of a schedule as `run` does, from the headend of

@@ -10,7 +10,7 @@ ghost use Rattle.command_inputs.specs.Packets.{fault_of};
 ghost use Rattle.command_output.specs.Pieces.{WroteAll, sinks_of};
 ghost use Rattle.run_commands.specs.Scheduled.{IsEntered, IsInStep, scheduled_pieces};
 
-use crate::walk::{AtHeadend, at_headend};
+use crate::headend::{AtHeadend, at_headend};
 use base::NoMemory;
 use command_inputs::{Next, next_of};
 use command_output::{Failure, Refusal};

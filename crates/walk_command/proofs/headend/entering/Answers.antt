@@ -1,10 +1,10 @@
 use Rattle.std.proofs.Common.{◌≡◌, ◌+◌, ap, ◌∙◌, sym, subst, refl, IfOk, take}
 use Rattle.pkt_buf.specs.BufferView.{Buffer}
 use Rattle.srv6_rules.specs.Packet.{header_len, content_of}
-use Rattle.walk_command.specs.declared.walk.AtHeadend.{AtHeadend}
+use Rattle.walk_command.specs.declared.headend.AtHeadend.{AtHeadend}
 use Rattle.walk_command.specs.Walk.{of_content}
 use Rattle.walk_command.proofs.HeadendSteps.{cut_inner, cut_enters}
-use Rattle.walk_command.proofs.walk.entering.Goals as goal
+use Rattle.walk_command.proofs.headend.entering.Goals as goal
 
 pub encapsulated-requires-clause-packet : goal.encapsulated-requires-clause-packet
 encapsulated-requires-clause-packet c =

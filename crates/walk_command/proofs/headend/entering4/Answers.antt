@@ -2,11 +2,11 @@ use Rattle.std.proofs.Common.{◌≡◌, ap, ◌∙◌, sym, subst, refl, IfOk, 
 use Rattle.pkt_buf.specs.BufferView.{Buffer}
 use Rattle.srv6_rules.specs.Packet.{content4_by}
 use Rattle.srv6_rules.specs.Packet4.{read4}
-use Rattle.walk_command.specs.declared.walk.AtHeadend.{AtHeadend}
-use Rattle.walk_command.specs.declared.walk.AtHeadend.TheVariants.{Dropped}
+use Rattle.walk_command.specs.declared.headend.AtHeadend.{AtHeadend}
+use Rattle.walk_command.specs.declared.headend.AtHeadend.TheVariants.{Dropped}
 use Rattle.walk_command.specs.Walk.{of_content}
 use Rattle.walk_command.proofs.HeadendSteps4.{dropped4, cut_inner4, cut_enters4}
-use Rattle.walk_command.proofs.walk.entering4.Goals as goal
+use Rattle.walk_command.proofs.headend.entering4.Goals as goal
 
 pub returns-in-Err : goal.returns-in-Err
 returns-in-Err c =

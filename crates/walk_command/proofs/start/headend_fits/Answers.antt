@@ -1,5 +1,5 @@
 use Rattle.walk_command.proofs.WalkStarts.{intent_bounds, policy_fits}
-use Rattle.walk_command.proofs.walk.headend_fits.Goals as goal
+use Rattle.walk_command.proofs.start.headend_fits.Goals as goal
 
 pub returns-clause-headend : goal.returns-clause-headend
 returns-clause-headend c = (intent_bounds c.args.net.now c.args.intent.now c.requires.intent).0

@@ -3,7 +3,7 @@ use Rattle.v6_addr.specs.declared.address.Addr.{Addr}
 use Rattle.list_pack.specs.SidLists.{list_values}
 use Rattle.walk_command.specs.Walk.{policy_of}
 use Rattle.walk_command.proofs.WalkStarts.{addresses-of}
-use Rattle.walk_command.proofs.walk.policy_of.Goals as goal
+use Rattle.walk_command.proofs.start.policy_of.Goals as goal
 
 pub returns : goal.returns
 returns c =

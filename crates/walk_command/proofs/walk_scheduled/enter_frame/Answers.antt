@@ -2,7 +2,7 @@ use Rattle.std.proofs.Common.{◌≡◌, ◌∙◌, sym, ap}
 use Rattle.packet_walk.specs.Flight.{entering}
 use Rattle.leg_table.specs.Realizes.{headend_place}
 use Rattle.run_commands.proofs.PublicLaws.{entered_as}
-use Rattle.walk_command.specs.declared.walk.AtHeadend.TheVariants.{Enters}
+use Rattle.walk_command.specs.declared.headend.AtHeadend.TheVariants.{Enters}
 use Rattle.walk_command.specs.Walk.{at_headend, entering_at, entering_of_frame}
 use Rattle.walk_command.proofs.walk_scheduled.enter_frame.Goals as goal
 
