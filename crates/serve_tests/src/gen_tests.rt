@@ -1,44 +1,19 @@
 //! What `gen` writes, and that it is of one piece: a summary of the texts that it writes has the
 //! numbers that it writes.
 
-use super::{MOST_PACKETS, Status, Summary, serve, summary};
+use crate::outside::{NONE, Ran, serve_over};
 use intent_reader::read_intent;
 use net_reader::read_net;
-use srx_edge::{MemFiles, MemSink, MemSource};
+use srv6_cli::{MOST_PACKETS, Status, Summary, summary};
+use srx_edge::{MemFiles, MemSource};
 use std::alloc::Global;
 use std::test::Fail;
 
-/// What came of a command.
-#[derive(Drop)]
-struct Ran {
-    status: Status,
-    out: Vec<u8>,
-    err: Vec<u8>,
-}
-
 /// Runs `gen` with two words, no file, and an input whose first read fails.
 fn serve_gen(alloc: Global, size: &str, made: &str) -> Result<Ran, Fail> {
-    let mut words = Vec::new(alloc);
-    for word in ["gen", size, made] {
-        words.push(String::from_str(alloc, word)?)?;
-    }
-    let mut files = MemFiles::new(alloc, &[1])?;
-    let mut input = MemSource::new(alloc, b"", &[1])?;
-    let mut out = MemSink::new(alloc, &[])?;
-    let mut err = MemSink::new(alloc, &[])?;
-    let status = serve(
-        alloc,
-        words.as_slice(),
-        &mut files,
-        &mut input,
-        &mut out,
-        &mut err,
-    );
-    Ok(Ran {
-        status,
-        out: out.held().to_vec(alloc)?,
-        err: err.held().to_vec(alloc)?,
-    })
+    let files = MemFiles::new(alloc, &[1])?;
+    let input = MemSource::new(alloc, b"", &[1])?;
+    serve_over(alloc, &["gen", size, made], files, input, &NONE)
 }
 
 /// Three lowerings up to End.X over `a3`: at n1, at n2's own SID and at End.X, or one at End.X of each

@@ -15,8 +15,3 @@ pub use command_output::{NodeName, Refusal, Status};
 pub use generate_command::{MOST_PACKETS, Summary, summary};
 pub use top::serve;
 pub use trace_replay::STAGES;
-
-#[cfg(test)]
-mod gen_tests;
-#[cfg(test)]
-mod tests;
