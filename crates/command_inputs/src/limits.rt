@@ -1,7 +1,9 @@
 //! The limits, each of which the definitions cite.
 
-/// The most bytes of a file. (own rule)
-pub const FILE_LIMIT: usize = 4_194_304;
+use net_model::MAX_TEXT_BYTES;
+
+/// The most bytes of a file: those of a text. (own rule)
+pub const FILE_LIMIT: usize = MAX_TEXT_BYTES;
 
 /// The most bytes of the input. (own rule)
 pub const INPUT_LIMIT: usize = 67_108_864;

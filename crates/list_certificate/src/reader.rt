@@ -10,11 +10,11 @@ use crate::types::{Cert, CertFault};
 use crate::words::cut;
 use base::Seq;
 use list_pack::Legs;
-use net_model::Net;
+use net_model::{MAX_TEXT_BYTES, Net};
 use std::alloc::Global;
 
-/// The most bytes of a certificate: 4 MiB. (own rule)
-pub const MAX_BYTES: usize = 4_194_304;
+/// The most bytes of a certificate: those of a text, 4 MiB. (own rule)
+pub const MAX_BYTES: usize = MAX_TEXT_BYTES;
 
 // the certificate of what was read, where nothing follows its end
 fn finished(draft: Draft, line: u32, last: &[u8]) -> Result<Cert, CertFault>

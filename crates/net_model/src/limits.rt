@@ -31,6 +31,9 @@ pub const LAST_TABLE: u32 = 65535;
 /// Blocks of SIDs of a description (own rule).
 pub const MAX_BLOCKS: usize = 64;
 
+/// Bytes of a text: a description, an intent, a certificate or a trace (own rule).
+pub const MAX_TEXT_BYTES: usize = 4_194_304;
+
 /// The bits that a block's length is a multiple of, and those of the shortest block (own rule).
 pub const BLOCK_UNIT: u8 = 16;
 
