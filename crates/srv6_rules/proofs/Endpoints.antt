@@ -25,10 +25,10 @@ use Rattle.srv6_rules.proofs.SteppedPackets.{step-at_end, at_end-none, step-plac
 
 -- ---- what is so of each outcome at a SID
 
-record GoesOn (s : SidEntry) (p q : Packet) : Type 0 where
-  whole : TakesWhole s p → s.usp ≡ false → StepsWithPsp s p q
-  packed : is_replace s.csid ≡ true → s.usp ≡ false → MovesWithPsp s p q
-  shift : shifts_at s p ≡ true → q ≡ shifted (compression_of s) p
+pub record GoesOn (s : SidEntry) (p q : Packet) : Type 0 where
+  pub whole : TakesWhole s p → s.usp ≡ false → StepsWithPsp s p q
+  pub packed : is_replace s.csid ≡ true → s.usp ≡ false → MovesWithPsp s p q
+  pub shift : shifts_at s p ≡ true → q ≡ shifted (compression_of s) p
 
 abbrev pub AtSid : SidEntry → Packet → Endpoint → Type 0
 AtSid s p (Onward q) = GoesOn s p q
