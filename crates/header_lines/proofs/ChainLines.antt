@@ -1,11 +1,11 @@
 -- The lines of a packet's chain, from each place of it on.
 use Rattle.std.proofs.Common.{◌≡◌, ℕ, ◌+◌, ◌-◌, ◌≤◌, Bool, true, false, ◌==◌, List, [], ◌++◌, length, take, drop, sym, ap, ◌∙◌, arith, append_assoc, append-nil}
 use Rattle.std.specs.Prelude.{if◌then◌else◌}
-use Rattle.std.proofs.lemmas.List.{drop-drop, length-drop}
+use Rattle.std.proofs.lemmas.List.{length-drop}
 use Rattle.srv6_rules.specs.Packet.{Packet, header_len, spelling}
 use Rattle.srv6_rules.specs.Chain as chains
 use Rattle.srv6_rules.specs.Chain.{Header, is_whole, extension_bytes, behind_in, start_of, chain_of, chain_at, from_place}
-use Rattle.srv6_rules.proofs.PublicLaws.{chain_of-start, length-spelling, spelling-behind}
+use Rattle.srv6_rules.proofs.PublicLaws.{chain_of-start, length-spelling, spelled-from}
 use Rattle.ip6_headers.specs.Stepping.{IsHeader}
 use Rattle.header_lines.specs.Lines.{bad_chain_line, chain_lines, header_lines, upper_line}
 
@@ -25,15 +25,6 @@ shown-start p bytes first q spelled start =
       behind = omega arith;
       within = omega arith;
     }
-
--- behind the IPv6 header a packet's bytes are those of its payload
-pub behind-header : (p : Packet) (bytes : List ℕ) → bytes ≡ spelling p → drop header_len bytes ≡ p.payload
-behind-header p bytes spelled = ap (drop 40) spelled ∙ spelling-behind p
-
-from-bytes : (p : Packet) (bytes : List ℕ) (at : ℕ) → bytes ≡ spelling p → 40 ≤ at → drop at bytes ≡ from_place p at
-from-bytes p bytes at spelled start =
-    let sum : 40 + (at - 40) ≡ at = omega arith in
-    ap (λ n. drop n bytes) (sym sum) ∙ sym (drop-drop (at - 40) 40 bytes) ∙ ap (drop (at - 40)) (behind-header p bytes spelled)
 
 module _ (p : Packet) (bytes first now new : List ℕ) (q : chains.ChainPlace) (spelled : bytes ≡ spelling p)
     (shown : IsShown p bytes first now q) where
@@ -58,7 +49,7 @@ module _ (p : Packet) (bytes first now new : List ℕ) (q : chains.ChainPlace) (
         ≡ first ++ chain_lines p (chain_of p)
     shown-header =
         ap (λ xs. now ++ (header_lines (record { place = q; bytes = take len xs })
-        ++ (if q.kind == 44 then [] else chain_lines p (chain_at p next)))) (from-bytes p bytes q.at spelled shown.behind)
+        ++ (if q.kind == 44 then [] else chain_lines p (chain_at p next)))) (spelled-from p bytes q.at spelled shown.behind)
         ∙ (ap (λ c. now ++ chain_lines p c) (sym is) ∙ shown.same)
 
     shown-by : (last : Bool) → (q.kind == 44) ≡ last

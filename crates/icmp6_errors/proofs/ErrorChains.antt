@@ -1,11 +1,11 @@
 -- Whether a packet is itself an error, from each place of its chain on.
 use Rattle.std.proofs.Common.{◌≡◌, ℕ, ◌+◌, ◌-◌, ◌≤◌, true, false, not, ◌&&◌, ◌==◌, List, [], length, take, drop, slice_get, sym, ap, ◌∙◌, arith}
-use Rattle.std.proofs.lemmas.List.{drop-drop, length-drop}
+use Rattle.std.proofs.lemmas.List.{length-drop}
 use Rattle.srv6_rules.specs.Packet.{Packet, header_len, spelling}
 use Rattle.srv6_rules.specs.Chain as chains
 use Rattle.srv6_rules.specs.Chain.{is_extension, extension_bytes, behind_in, start_of, chain_at, from_place}
 use Rattle.srv6_rules.specs.Errors.{is_error_message, is_error_type, is_later_fragment, leads_to_error}
-use Rattle.srv6_rules.proofs.PublicLaws.{length-spelling, spelling-behind, error-start, error-behind}
+use Rattle.srv6_rules.proofs.PublicLaws.{length-spelling, spelled-from, error-start, error-behind}
 use Rattle.ip6_headers.specs.Stepping.{IsHeader}
 
 -- the question of a packet's bytes is that of its chain from a place on
@@ -24,24 +24,12 @@ asked-start p bytes q spelled start =
       within = omega arith;
     }
 
--- the bytes from a place on are the packet's from there on
-pub from-bytes : (p : Packet) (bytes : List ℕ) (at : ℕ) → bytes ≡ spelling p → 40 ≤ at → drop at bytes ≡ from_place p at
-from-bytes p bytes at spelled start =
-    let sum : 40 + (at - 40) ≡ at = omega arith in
-    ap (drop at) spelled
-    ∙ ap (λ n. drop n (spelling p)) (sym sum)
-    ∙ sym (drop-drop (at - 40) 40 (spelling p))
-    ∙ ap (drop (at - 40)) (spelling-behind p)
-
-pub behind-header : (p : Packet) (bytes : List ℕ) → bytes ≡ spelling p → drop header_len bytes ≡ p.payload
-behind-header p bytes spelled = ap (drop 40) spelled ∙ spelling-behind p
-
 module _ (p : Packet) (bytes : List ℕ) (q : chains.ChainPlace) (spelled : bytes ≡ spelling p) (asked : IsAsked p bytes q) where
   pub asked-upper : chain_at p q ≡ record { headers = []; end = chains.Upper q }
       → is_error_message p ≡ ((q.kind == 58) && is_error_type (slice_get (drop q.at bytes) 0))
   asked-upper is =
       asked.same ∙ ap (leads_to_error p) is
-      ∙ ap (λ xs. (q.kind == 58) && is_error_type (slice_get xs 0)) (sym (from-bytes p bytes q.at spelled asked.behind))
+      ∙ ap (λ xs. (q.kind == 58) && is_error_type (slice_get xs 0)) (sym (spelled-from p bytes q.at spelled asked.behind))
 
   pub asked-cut : chain_at p q ≡ record { headers = []; end = chains.Cut q } → is_error_message p ≡ false
   asked-cut is = asked.same ∙ ap (leads_to_error p) is
@@ -55,7 +43,7 @@ module _ (p : Packet) (bytes : List ℕ) (q : chains.ChainPlace) (spelled : byte
         asked.same ∙ ap (leads_to_error p) is
         ∙ error-behind p (record { place = q; bytes = take len (from_place p q.at) }) (chain_at p next)
         ∙ ap (λ xs. not (is_later_fragment (record { place = q; bytes = take len xs })) && leads_to_error p (chain_at p next))
-        (sym (from-bytes p bytes q.at spelled asked.behind))
+        (sym (spelled-from p bytes q.at spelled asked.behind))
 
     pub asked-later : is_later_fragment (record { place = q; bytes = take len (drop q.at bytes) }) ≡ true → is_error_message p ≡ false
     asked-later later = asked-header ∙ ap (λ b. not b && leads_to_error p (chain_at p next)) later

@@ -1,7 +1,8 @@
 -- Where the fields stand in a packet's spelling, and what an edit of a field does to the bytes.
-use Rattle.std.proofs.Common.{◌≡◌, ℕ, ◌+◌, ◌-◌, List, ◌∷◌, ◌++◌, length, take, drop, slice_index, slice_set, refl, sym, ap, ◌∙◌, arith}
-use Rattle.std.proofs.lemmas.List.{append_assoc, take_at, drop_at, length-append, length-set, set-append_right}
-use Rattle.srv6_rules.specs.Packet.{Packet, spelling, header_spelling, first_word, two_bytes, four_bytes, address_bytes}
+use Rattle.std.proofs.Common.{◌≡◌, ℕ, ◌+◌, ◌-◌, ◌≤◌, List, ◌∷◌, ◌++◌, length, take, drop, slice_index, slice_set, refl, sym, ap, ◌∙◌, arith}
+use Rattle.std.proofs.lemmas.List.{append_assoc, take_at, drop_at, drop-drop, length-append, length-set, set-append_right}
+use Rattle.srv6_rules.specs.Packet.{Packet, header_len, spelling, header_spelling, first_word, two_bytes, four_bytes, address_bytes}
+use Rattle.srv6_rules.specs.Chain.{from_place}
 use Rattle.srv6_rules.proofs.Bytes.{length-two_bytes, length-four_bytes, length-address_bytes}
 use Rattle.srv6_rules.proofs.PacketWords.{laid, drop4-laid, drop8-laid, drop24-laid, drop40-laid, six-laid}
 use Rattle.srv6_rules.proofs.Packets.{spelling-laid_alone, length-header_spelling}
@@ -78,6 +79,16 @@ spelling-destination p =
 
 pub spelling-behind : (p : Packet) → drop 40 (spelling p) ≡ p.payload
 spelling-behind p = drop_at (header_spelling p) p.payload 40 (length-header_spelling p)
+
+-- behind the IPv6 header a packet's bytes are those of its payload
+pub spelled-payload : (p : Packet) (bytes : List ℕ) → bytes ≡ spelling p → drop header_len bytes ≡ p.payload
+spelled-payload p bytes spelled = ap (drop 40) spelled ∙ spelling-behind p
+
+-- the bytes from a place on are the packet's from there on
+pub spelled-from : (p : Packet) (bytes : List ℕ) (at : ℕ) → bytes ≡ spelling p → 40 ≤ at → drop at bytes ≡ from_place p at
+spelled-from p bytes at spelled start =
+    let sum : 40 + (at - 40) ≡ at = omega arith in
+    ap (λ n. drop n bytes) (sym sum) ∙ sym (drop-drop (at - 40) 40 bytes) ∙ ap (drop (at - 40)) (spelled-payload p bytes spelled)
 
 -- ---- an edit of a field is an edit of its bytes
 

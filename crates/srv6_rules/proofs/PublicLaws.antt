@@ -4,7 +4,7 @@ pub use Rattle.srv6_rules.proofs.Packets.{content_of-spelling, content_of-spelli
 pub use Rattle.srv6_rules.proofs.Packets4.{read4-spelling, read4-alone, read4-version, read4-short, read4-header, read4-total, read4-cut, read4-whole, reads4-spellable, reads4-spelled, spells4-value}
 pub use Rattle.srv6_rules.proofs.TimesToLive.{ttl_lowered-ttl, ttl_lowered-length, ttl_lowered-other, ttl_lowered-front, ttl_lowered-all, lowered4-spelling, lowered4-spellable, lowered4-checksum, lowered4-other, lowered4-sum, lowered4-verifies}
 pub use Rattle.srv6_rules.proofs.Contents.{content_of-never4, read_as-is_content, read_as-bytes_of, read_as-spelled, read_as-spelled4, read_as-unreadable, read_as-family6, read_as-family4, entered-is_content, entered-back}
-pub use Rattle.srv6_rules.proofs.Edits.{spelling-behind, edit-hop_limit, edit-destination, edit-payload}
+pub use Rattle.srv6_rules.proofs.Edits.{spelling-behind, spelled-payload, spelled-from, edit-hop_limit, edit-destination, edit-payload}
 pub use Rattle.srv6_rules.proofs.Headers.{srh_of-spelling, srh_of-spellable, srh_spelling-srh_of, entry-at, length-entries}
 pub use Rattle.srv6_rules.proofs.Chains.{chain_of-start, chain_at-goes_on, chain_at-upper, chain_at-cut, chain_at-header, chain_at-lies, chain_at-follow, chain_at-stand, chain_at-ends, chain_at-upper_stands, chain_at-spelled, follow-ascends, follow-chain, start-stands, behind-stands, extension_bytes-least, header_in-lies, lies-at, lies-spelled, lies-bytes, lies-stated}
 pub use Rattle.srv6_rules.proofs.CutPackets.{without-first_chain, chain_at-split, chain_at-lowered}

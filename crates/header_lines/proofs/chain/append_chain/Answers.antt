@@ -4,7 +4,8 @@ use Rattle.std.proofs.lemmas.Result.{on_ok_weaker}
 use Rattle.ip6_headers.specs.declared.chain.ChainStep.{ChainStep}
 use Rattle.ip6_headers.specs.Stepping.{IsStep, begun, place_view}
 use Rattle.header_lines.specs.Lines.{header_lines, upper_line}
-use Rattle.header_lines.proofs.ChainLines.{behind-header, shown-behind, shown-cut, shown-fragment, shown-start, shown-upper}
+use Rattle.srv6_rules.proofs.PublicLaws.{spelled-payload}
+use Rattle.header_lines.proofs.ChainLines.{shown-behind, shown-cut, shown-fragment, shown-start, shown-upper}
 use Rattle.header_lines.proofs.chain.append_chain.Goals as goal
 
 pub headers-init : goal.headers-init
@@ -17,7 +18,7 @@ returns-then-place-eq-FRAGMENT c =
     let bytes = c.bytes-bytes.result.now in
     let q = place_view c.headers.place in
     let len = c.in-Ok-Header.len in
-    let is = c.in-Ok-Header.ensures.chain p c.headers.invariant.behind (behind-header p bytes c.bytes-bytes.ensures)
+    let is = c.in-Ok-Header.ensures.chain p c.headers.invariant.behind (spelled-payload p bytes c.bytes-bytes.ensures)
     ∙ ap (λ (s : ChainStep). begun p q (Ok s)) c.in-Ok-Header.field-0-is in
     let header : c.split_at-in-Ok-Header.result.0.now ≡ take len (drop q.at bytes) =
     c.split_at-in-Ok-Header.ensures.front ∙ ap (take len) c.split_at.ensures.back in
@@ -33,7 +34,7 @@ headers-preserved c =
     let bytes = c.bytes-bytes.result.now in
     let q = place_view c.headers.place in
     let len = c.in-Ok-Header.len in
-    let is = c.in-Ok-Header.ensures.chain p c.headers.invariant.behind (behind-header p bytes c.bytes-bytes.ensures)
+    let is = c.in-Ok-Header.ensures.chain p c.headers.invariant.behind (spelled-payload p bytes c.bytes-bytes.ensures)
     ∙ ap (λ (s : ChainStep). begun p q (Ok s)) c.in-Ok-Header.field-0-is in
     let header : c.split_at-in-Ok-Header.result.0.now ≡ take len (drop q.at bytes) =
     c.split_at-in-Ok-Header.ensures.front ∙ ap (take len) c.split_at.ensures.back in
@@ -50,7 +51,7 @@ returns-in-Ok-Upper c =
     let p = c.args.packet.now in
     let bytes = c.bytes-bytes.result.now in
     let q = place_view c.headers.place in
-    let is = c.in-Ok-Upper.ensures.chain p c.headers.invariant.behind (behind-header p bytes c.bytes-bytes.ensures)
+    let is = c.in-Ok-Upper.ensures.chain p c.headers.invariant.behind (spelled-payload p bytes c.bytes-bytes.ensures)
     ∙ ap (λ (s : ChainStep). begun p q (Ok s)) c.in-Ok-Upper.field-0-is in
     on_ok_weaker c.append_upper.result
     (λ (added : string_bytes c.append_upper.new.out
@@ -65,7 +66,7 @@ returns-in-Err c =
     let p = c.args.packet.now in
     let bytes = c.bytes-bytes.result.now in
     let q = place_view c.headers.place in
-    let is = c.in-Err.ensures.chain p c.headers.invariant.behind (behind-header p bytes c.bytes-bytes.ensures) in
+    let is = c.in-Err.ensures.chain p c.headers.invariant.behind (spelled-payload p bytes c.bytes-bytes.ensures) in
     on_ok_weaker c.append_bad_chain.result
     (shown-cut p bytes (string_bytes c.args.out.now) (string_bytes c.headers.out) (string_bytes c.append_bad_chain.new.out) q
     c.bytes-bytes.ensures c.headers.invariant is) c.append_bad_chain.ensures

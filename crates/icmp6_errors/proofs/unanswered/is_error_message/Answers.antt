@@ -3,7 +3,8 @@ use Rattle.std.proofs.lemmas.Bool.{eq-eqb, ne_eqb}
 use Rattle.srv6_rules.specs.Errors.{is_error_type, is_later_fragment}
 use Rattle.ip6_headers.specs.declared.chain.ChainStep.{ChainStep}
 use Rattle.ip6_headers.specs.Stepping.{IsStep, place_view, begun}
-use Rattle.icmp6_errors.proofs.ErrorChains.{asked-start, asked-upper, asked-cut, asked-later, asked-behind, behind-header}
+use Rattle.srv6_rules.proofs.PublicLaws.{spelled-payload}
+use Rattle.icmp6_errors.proofs.ErrorChains.{asked-start, asked-upper, asked-cut, asked-later, asked-behind}
 use Rattle.icmp6_errors.proofs.unanswered.is_error_message.Goals as goal
 
 pub headers-init : goal.headers-init
@@ -17,7 +18,7 @@ returns-then-is_later_fragment c =
     let bytes = c.bytes-bytes.result.now in
     let q = place_view c.headers.place in
     let len = c.in-Ok-Header.len in
-    let is = c.in-Ok-Header.ensures.chain p c.headers.invariant.behind (behind-header p bytes c.bytes-bytes.ensures)
+    let is = c.in-Ok-Header.ensures.chain p c.headers.invariant.behind (spelled-payload p bytes c.bytes-bytes.ensures)
     ∙ ap (λ (s : ChainStep). begun p q (Ok s)) c.in-Ok-Header.field-0-is in
     let header : c.split_at-in-Ok-Header.result.0.now ≡ take len (drop q.at bytes) =
     c.split_at-in-Ok-Header.ensures.front ∙ ap (take len) c.split_at.ensures.back in
@@ -31,7 +32,7 @@ headers-preserved c =
     let bytes = c.bytes-bytes.result.now in
     let q = place_view c.headers.place in
     let len = c.in-Ok-Header.len in
-    let is = c.in-Ok-Header.ensures.chain p c.headers.invariant.behind (behind-header p bytes c.bytes-bytes.ensures)
+    let is = c.in-Ok-Header.ensures.chain p c.headers.invariant.behind (spelled-payload p bytes c.bytes-bytes.ensures)
     ∙ ap (λ (s : ChainStep). begun p q (Ok s)) c.in-Ok-Header.field-0-is in
     let header : c.split_at-in-Ok-Header.result.0.now ≡ take len (drop q.at bytes) =
     c.split_at-in-Ok-Header.ensures.front ∙ ap (take len) c.split_at.ensures.back in
@@ -46,7 +47,7 @@ returns-then-place-eq-ICMPV6 c =
     let p = c.args.packet.now in
     let bytes = c.bytes-bytes.result.now in
     let q = place_view c.headers.place in
-    let is = c.in-Ok-Upper.ensures.chain p c.headers.invariant.behind (behind-header p bytes c.bytes-bytes.ensures)
+    let is = c.in-Ok-Upper.ensures.chain p c.headers.invariant.behind (spelled-payload p bytes c.bytes-bytes.ensures)
     ∙ ap (λ (s : ChainStep). begun p q (Ok s)) c.in-Ok-Upper.field-0-is in
     let whole = asked-upper p bytes q c.bytes-bytes.ensures c.headers.invariant is in
     let named = eq-eqb q.kind 58 c.if-place-eq-ICMPV6.true in
@@ -58,7 +59,7 @@ returns-else-place-eq-ICMPV6 c =
     let p = c.args.packet.now in
     let bytes = c.bytes-bytes.result.now in
     let q = place_view c.headers.place in
-    let is = c.in-Ok-Upper.ensures.chain p c.headers.invariant.behind (behind-header p bytes c.bytes-bytes.ensures)
+    let is = c.in-Ok-Upper.ensures.chain p c.headers.invariant.behind (spelled-payload p bytes c.bytes-bytes.ensures)
     ∙ ap (λ (s : ChainStep). begun p q (Ok s)) c.in-Ok-Upper.field-0-is in
     let whole = asked-upper p bytes q c.bytes-bytes.ensures c.headers.invariant is in
     let other = ne_eqb q.kind 58 c.if-place-eq-ICMPV6.false in
@@ -69,5 +70,5 @@ returns-in-Err c =
     let p = c.args.packet.now in
     let bytes = c.bytes-bytes.result.now in
     let q = place_view c.headers.place in
-    let is = c.in-Err.ensures.chain p c.headers.invariant.behind (behind-header p bytes c.bytes-bytes.ensures) in
+    let is = c.in-Err.ensures.chain p c.headers.invariant.behind (spelled-payload p bytes c.bytes-bytes.ensures) in
     sym (asked-cut p bytes q c.bytes-bytes.ensures c.headers.invariant is)
