@@ -1,18 +1,25 @@
 //! Two packets of a capture, one after the other and in the turns of a schedule.
 
-use crate::outside::{NONE, PACKET, Ran, WALK, files_of, serve_over};
+use crate::outside::{NONE, Ran, WALK, files_of, serve_over};
 use srv6_cli::Status;
 use srx_edge::MemSource;
 use std::alloc::Global;
+use std::process::Abort;
 use std::test::Fail;
 
-/// A capture's head: lowest byte first, microseconds, raw IP.
-const CAPTURE_HEAD: [u8; 24] = [
+/// A capture of two packets to the SID of C, with nothing behind their headers.
+const CAPTURE: [u8; 136] = [
+    // lowest byte first, version 2.4, microseconds, raw IP
     0xd4, 0xc3, 0xb2, 0xa1, 2, 0, 4, 0, 0, 0, 0, 0, 0, 0, 0, 0, 0, 0, 4, 0, 101, 0, 0, 0,
+    // a frame of 40 bytes, and a packet from 2001:db8:1::1 with hop limit 64 and next header 59
+    0, 0, 0, 0, 0, 0, 0, 0, 40, 0, 0, 0, 40, 0, 0, 0, //
+    0x60, 0, 0, 0, 0, 0, 59, 64, 0x20, 0x01, 0x0d, 0xb8, 0, 1, 0, 0, 0, 0, 0, 0, 0, 0, 0, 1, //
+    0xfc, 0xbb, 0xbb, 0x00, 0xf0, 0x01, 0, 0, 0, 0, 0, 0, 0, 0, 0, 0, //
+    // the same once more
+    0, 0, 0, 0, 0, 0, 0, 0, 40, 0, 0, 0, 40, 0, 0, 0, //
+    0x60, 0, 0, 0, 0, 0, 59, 64, 0x20, 0x01, 0x0d, 0xb8, 0, 1, 0, 0, 0, 0, 0, 0, 0, 0, 0, 1, //
+    0xfc, 0xbb, 0xbb, 0x00, 0xf0, 0x01, 0, 0, 0, 0, 0, 0, 0, 0, 0, 0,
 ];
-
-/// The numbers in front of a frame of 40 bytes.
-const FRAME_HEAD: [u8; 16] = [0, 0, 0, 0, 0, 0, 0, 0, 40, 0, 0, 0, 40, 0, 0, 0];
 
 const RUN_MIXED: &[&str] = &["run", "net.toml", "A", "0", "2,1,2,1"];
 
@@ -26,17 +33,24 @@ const WALK_ABSENT: &[&str] = &["walk", "net.toml", "enough.toml", "0", "9"];
 
 /// Runs a command over two packets, in a capture.
 fn serve_two(alloc: Global, words: &[&str]) -> Result<Ran, Fail> {
-    let mut capture = CAPTURE_HEAD.to_vec(alloc)?;
-    capture.extend_from_slice(&FRAME_HEAD)?;
-    capture.extend_from_slice(&PACKET)?;
-    capture.extend_from_slice(&FRAME_HEAD)?;
-    capture.extend_from_slice(&PACKET)?;
-    let input = MemSource::new(alloc, capture.as_slice(), &[])?;
+    let input = MemSource::new(alloc, &CAPTURE, &[])?;
     serve_over(alloc, words, files_of(alloc, 0)?, input, &NONE)
 }
 
-/// Each of two packets is sent over two links with 40 bytes more, handed over at C and sent on. The
-/// frames' numbers stand behind a head of 24 bytes and each frame before, of 96 bytes, or at last 56.
+/// These bytes stand at these places.
+fn has_bytes(rt: &impl Abort, out: &[u8], bytes: &[(usize, u8)]) {
+    for (at, byte) in bytes {
+        assert_eq!(rt; out.get(*at), Some(byte));
+    }
+}
+
+/// Where the numbers of the frames stand that `walk` gives of two packets, and what they are: behind
+/// a head of 24 bytes and each frame before, of 96 bytes, or at last 56.
+const WALKED_MIXED: [(usize, u8); 6] = [(24, 2), (120, 1), (216, 2), (312, 1), (408, 1), (464, 2)];
+
+const WALKED_PAIRED: [(usize, u8); 4] = [(24, 1), (120, 1), (216, 2), (312, 2)];
+
+/// Each of two packets is sent over two links with 40 bytes more, handed over at C and sent on.
 #[test]
 fn a_schedule_mixes_the_packets(rt: HostRuntime) -> Result<(), Fail> {
     let default = serve_two(rt.alloc(), WALK)?;
@@ -47,18 +61,10 @@ fn a_schedule_mixes_the_packets(rt: HostRuntime) -> Result<(), Fail> {
     let mixed = serve_two(rt.alloc(), WALK_MIXED)?;
     assert_eq!(rt; mixed.out.len(), 520);
     assert_eq!(rt; mixed.err.as_slice(), lines.as_bytes());
-    assert_eq!(rt; mixed.out.as_slice().get(24), Some(&2));
-    assert_eq!(rt; mixed.out.as_slice().get(120), Some(&1));
-    assert_eq!(rt; mixed.out.as_slice().get(216), Some(&2));
-    assert_eq!(rt; mixed.out.as_slice().get(312), Some(&1));
-    assert_eq!(rt; mixed.out.as_slice().get(408), Some(&1));
-    assert_eq!(rt; mixed.out.as_slice().get(464), Some(&2));
+    has_bytes(&rt, mixed.out.as_slice(), &WALKED_MIXED);
     let paired = serve_two(rt.alloc(), WALK_PAIRED)?;
     assert_eq!(rt; paired.err.as_slice(), lines.as_bytes());
-    assert_eq!(rt; paired.out.as_slice().get(24), Some(&1));
-    assert_eq!(rt; paired.out.as_slice().get(120), Some(&1));
-    assert_eq!(rt; paired.out.as_slice().get(216), Some(&2));
-    assert_eq!(rt; paired.out.as_slice().get(312), Some(&2));
+    has_bytes(&rt, paired.out.as_slice(), &WALKED_PAIRED);
     let absent = serve_two(rt.alloc(), WALK_ABSENT)?;
     assert_eq!(rt; absent.out.as_slice(), default.out.as_slice());
     assert_eq!(rt; absent.err.as_slice(), default.err.as_slice());
@@ -106,15 +112,11 @@ fn a_schedule_mixes_the_packets_of_run(rt: HostRuntime) -> Result<(), Fail> {
     assert_eq!(rt; mixed.out.len(), 456);
     let lines = "packet 1: dropped UpperLayer at C\npacket 2: dropped UpperLayer at C\n";
     assert_eq!(rt; mixed.err.as_slice(), lines.as_bytes());
-    for (at, byte) in &FRAMES_MIXED {
-        assert_eq!(rt; mixed.out.as_slice().get(*at), Some(byte));
-    }
+    has_bytes(&rt, mixed.out.as_slice(), &FRAMES_MIXED);
     let second_first = serve_two(rt.alloc(), RUN_SECOND_FIRST)?;
     assert_eq!(rt; second_first.out.len(), 456);
     let lines = "packet 2: dropped UpperLayer at C\npacket 1: dropped UpperLayer at C\n";
     assert_eq!(rt; second_first.err.as_slice(), lines.as_bytes());
-    for (at, byte) in &FRAMES_SECOND_FIRST {
-        assert_eq!(rt; second_first.out.as_slice().get(*at), Some(byte));
-    }
+    has_bytes(&rt, second_first.out.as_slice(), &FRAMES_SECOND_FIRST);
     Ok(())
 }
