@@ -194,8 +194,8 @@ pub fn serve_words(alloc: Global, words: &[&str], faults: &Faults) -> Result<Ran
     serve_over(alloc, words, files, input, faults)
 }
 
-/// Over one packet.
+/// The words of `run` from A, one packet after the other.
 pub const RUN: &[&str] = &["run", "net.toml", "A"];
 
-/// Over one packet, with the list.
+/// The words of `walk` for the intent whose hop limit is enough, one packet after the other.
 pub const WALK: &[&str] = &["walk", "net.toml", "enough.toml", "0"];
