@@ -8,8 +8,8 @@ use Rattle.list_pack.specs.Value.{LegsValue}
 use Rattle.list_certificate.specs.declared.types.Cert.{Cert}
 use Rattle.list_certificate.specs.declared.types.CertFault.{CertFault}
 use Rattle.list_certificate.specs.declared.types.CertFault.TheVariants as certs
-use Rattle.list_certificate.specs.Reading.{Gives, read_of}
-use Rattle.command_inputs.specs.declared.limits.TheConstants.{FILE_LIMIT}
+use Rattle.list_certificate.specs.Reading.{GivesCertificate, read_of}
+use Rattle.net_model.specs.declared.limits.TheConstants.{MAX_TEXT_BYTES}
 use Rattle.command_output.specs.declared.refusal.Refusal.TheVariants as refusals
 use Rattle.command_output.specs.Answers.{JudgesFile}
 use Rattle.command_output.specs.Halts.{halt_of_cert}
@@ -18,22 +18,22 @@ use Rattle.command_inputs.proofs.Judging.{judged-text, asks-one}
 
 -- a text within the limit that was read as a certificate, or has a bad line
 
-cert-small : (net : Network) (v : LegsValue) (text : List ℕ) (read : Result Cert ℕ) → length text ≤ FILE_LIMIT → read_of net v text ≡ read
+cert-small : (net : Network) (v : LegsValue) (text : List ℕ) (read : Result Cert ℕ) → length text ≤ MAX_TEXT_BYTES → read_of net v text ≡ read
     → cert_in net v text ≡ cert_by read
 cert-small net v text read fits is =
-    let small : nat_lt FILE_LIMIT (length text) ≡ false = le-ltb FILE_LIMIT (length text) fits in
+    let small : nat_lt MAX_TEXT_BYTES (length text) ≡ false = le-ltb MAX_TEXT_BYTES (length text) fits in
     rw small (ap cert_by is)
 
-pub cert_judged : (net : Network) (v : LegsValue) (cert : Cert) (text name : List ℕ) (old new : FilesSeen) → length text ≤ FILE_LIMIT
+pub cert_judged : (net : Network) (v : LegsValue) (cert : Cert) (text name : List ℕ) (old new : FilesSeen) → length text ≤ MAX_TEXT_BYTES
     → IfSome old.told (λ files. file_named files name ≡ Some text) → new ≡ asked_for name old
-    → Gives (Ok cert) (read_of net v text)
+    → GivesCertificate (Ok cert) (read_of net v text)
     → JudgesFile (cert_in net v) name (Ok cert) old new
 cert_judged net v cert text name old new fits reads seen h =
     (judged-text (cert_in net v) (Ok cert) text name old.told reads (cert-small net v text (Ok cert) fits h), seen)
 
-pub cert_refused : (net : Network) (v : LegsValue) (fault : CertFault) (text name : List ℕ) (old new : FilesSeen) → length text ≤ FILE_LIMIT
+pub cert_refused : (net : Network) (v : LegsValue) (fault : CertFault) (text name : List ℕ) (old new : FilesSeen) → length text ≤ MAX_TEXT_BYTES
     → IfSome old.told (λ files. file_named files name ≡ Some text) → new ≡ asked_for name old
-    → Gives (Err fault) (read_of net v text)
+    → GivesCertificate (Err fault) (read_of net v text)
     → JudgesFile (cert_in net v) name (Err (halt_of_cert fault)) old new
 cert_refused net v (certs.BadCert line) text name old new fits reads seen h =
     (judged-text (cert_in net v) (Err (refusals.BadCert line)) text name old.told reads (cert-small net v text (Err line) fits h), seen)

@@ -21,7 +21,8 @@ use Rattle.intent_reader.specs.declared.fault.IntentFault.{IntentFault}
 use Rattle.intent_reader.specs.declared.fault.IntentFault.TheVariants as intents
 use Rattle.intent_reader.specs.Reading.{Gives as ReadsIntentAs}
 use Rattle.intent_reader.specs.Judging.{intent_of_text}
-use Rattle.command_inputs.specs.declared.limits.TheConstants.{FILE_LIMIT, INPUT_LIMIT}
+use Rattle.command_inputs.specs.declared.limits.TheConstants.{MAX_INPUT_BYTES}
+use Rattle.net_model.specs.declared.limits.TheConstants.{MAX_TEXT_BYTES}
 use Rattle.command_inputs.specs.declared.packets.Packets.{Packets}
 use Rattle.command_inputs.specs.declared.packets.Packets.TheVariants.{Bare, Capture}
 use Rattle.command_output.specs.declared.halt.Failure.TheVariants as failures
@@ -49,17 +50,17 @@ asks-one name old new seen = record { names = name ∷ []; front = record { rest
 
 -- a text within the limit that was read as the description of a network, or has a fault
 
-net-small : (text : List ℕ) (read : Result Network NetFault) → length text ≤ FILE_LIMIT → net_in text ≡ read
+net-small : (text : List ℕ) (read : Result Network NetFault) → length text ≤ MAX_TEXT_BYTES → net_in text ≡ read
     → network_in text ≡ network_by read
 net-small text read fits is =
-    let small : nat_lt FILE_LIMIT (length text) ≡ false = le-ltb FILE_LIMIT (length text) fits in
+    let small : nat_lt MAX_TEXT_BYTES (length text) ≡ false = le-ltb MAX_TEXT_BYTES (length text) fits in
     rw small (ap network_by is)
 
-pub network_judged : (net : Network) (text : List ℕ) → length text ≤ FILE_LIMIT → ReadsAs (λ n. n) (Ok net) (net_in text)
+pub network_judged : (net : Network) (text : List ℕ) → length text ≤ MAX_TEXT_BYTES → ReadsAs (λ n. n) (Ok net) (net_in text)
     → JudgesText network_in text (Ok net)
 network_judged net text fits h = net-small text (Ok net) fits h
 
-pub network_refused : (fault : NetFault) (text : List ℕ) → length text ≤ FILE_LIMIT → ReadsAs (λ (n : Network). n) (Err fault) (net_in text)
+pub network_refused : (fault : NetFault) (text : List ℕ) → length text ≤ MAX_TEXT_BYTES → ReadsAs (λ (n : Network). n) (Err fault) (net_in text)
     → JudgesText network_in text (Err (halt_of_net fault))
 network_refused nets.NotToml text fits h = net-small text (Err nets.NotToml) fits (h (λ e. cc))
 network_refused (nets.MissingKey table item key) text fits h = net-small text (Err (nets.MissingKey table item key)) fits (h (λ e. cc))
@@ -75,37 +76,37 @@ network_refused (nets.DoublePrefix table item) text fits h = net-small text (Err
 network_refused (nets.Limit table item what value) text fits h = net-small text (Err (nets.Limit table item what value)) fits (h (λ e. cc))
 network_refused nets.NoMemory text fits h = tt
 
-pub network_too_big : (text : List ℕ) → FILE_LIMIT < length text
-    → JudgesText network_in text (Err (halts.Refused (refusals.TooBig FILE_LIMIT)))
-network_too_big text more = let many : nat_lt FILE_LIMIT (length text) ≡ true = search rules in rw many refl
+pub network_too_big : (text : List ℕ) → MAX_TEXT_BYTES < length text
+    → JudgesText network_in text (Err (halts.Refused (refusals.TooBig MAX_TEXT_BYTES)))
+network_too_big text more = let many : nat_lt MAX_TEXT_BYTES (length text) ≡ true = search rules in rw many refl
 
 -- a text gives a network that keeps the rules
 abbrev pub RulesAreKept : Type 0
 RulesAreKept = (text : List ℕ) (net : Network) → net_in text ≡ Ok net → IsNetwork net
 
 pub rules-kept : RulesAreKept → (text : List ℕ) (net : Network) → network_in text ≡ Ok net → IsNetwork net
-rules-kept rules text net is = by (nat_lt FILE_LIMIT (length text)) (net_in text) refl is
+rules-kept rules text net is = by (nat_lt MAX_TEXT_BYTES (length text)) (net_in text) refl is
   where
     by : (big : Bool) (read : Result Network NetFault) → net_in text ≡ read
-        → (if big then Err (refusals.TooBig FILE_LIMIT) else network_by read) ≡ Ok net → IsNetwork net
+        → (if big then Err (refusals.TooBig MAX_TEXT_BYTES) else network_by read) ≡ Ok net → IsNetwork net
     by true read e h = absurd (cc)
     by false (Ok n) e h = let same : n ≡ net = cc in rules text net (e ∙ ap Ok same)
     by false (Err fault) e h = absurd (cc)
 
 -- the same of an intent
 
-intent-small : (net : Network) (text : List ℕ) (read : Result Intent IntentFault) → length text ≤ FILE_LIMIT
+intent-small : (net : Network) (text : List ℕ) (read : Result Intent IntentFault) → length text ≤ MAX_TEXT_BYTES
     → intent_of_text net text ≡ read
     → intent_in net text ≡ intent_by read
 intent-small net text read fits is =
-    let small : nat_lt FILE_LIMIT (length text) ≡ false = le-ltb FILE_LIMIT (length text) fits in
+    let small : nat_lt MAX_TEXT_BYTES (length text) ≡ false = le-ltb MAX_TEXT_BYTES (length text) fits in
     rw small (ap intent_by is)
 
-pub intent_judged : (net : Network) (intent : Intent) (text : List ℕ) → length text ≤ FILE_LIMIT
+pub intent_judged : (net : Network) (intent : Intent) (text : List ℕ) → length text ≤ MAX_TEXT_BYTES
     → ReadsIntentAs (λ i. i) (Ok intent) (intent_of_text net text) → JudgesText (intent_in net) text (Ok intent)
 intent_judged net intent text fits h = intent-small net text (Ok intent) fits h
 
-pub intent_refused : (net : Network) (fault : IntentFault) (text : List ℕ) → length text ≤ FILE_LIMIT
+pub intent_refused : (net : Network) (fault : IntentFault) (text : List ℕ) → length text ≤ MAX_TEXT_BYTES
     → ReadsIntentAs (λ (i : Intent). i) (Err fault) (intent_of_text net text)
     → JudgesText (intent_in net) text (Err (halt_of_intent fault))
 intent_refused net (intents.Text fault) text fits h = intent-small net text (Err (intents.Text fault)) fits (h (λ e. cc))
@@ -116,9 +117,9 @@ intent_refused net intents.NotFunctionLast text fits h = intent-small net text (
 intent_refused net (intents.DoubleLink step) text fits h = intent-small net text (Err (intents.DoubleLink step)) fits (h (λ e. cc))
 intent_refused net intents.NoMemory text fits h = tt
 
-pub intent_too_big : (net : Network) (text : List ℕ) → FILE_LIMIT < length text
-    → JudgesText (intent_in net) text (Err (halts.Refused (refusals.TooBig FILE_LIMIT)))
-intent_too_big net text more = let many : nat_lt FILE_LIMIT (length text) ≡ true = search rules in rw many refl
+pub intent_too_big : (net : Network) (text : List ℕ) → MAX_TEXT_BYTES < length text
+    → JudgesText (intent_in net) text (Err (halts.Refused (refusals.TooBig MAX_TEXT_BYTES)))
+intent_too_big net text more = let many : nat_lt MAX_TEXT_BYTES (length text) ≡ true = search rules in rw many refl
 
 pub ruleset texts = (network_judged, network_refused, network_too_big, intent_judged, intent_refused, intent_too_big)
 
@@ -136,23 +137,23 @@ pub ruleset files = (judged_file)
 
 -- what the input is
 
-pub packets_in-bare : (input : List ℕ) → length input ≤ INPUT_LIMIT → is_bare input ≡ true → packets_in input ≡ Ok (Bare input)
+pub packets_in-bare : (input : List ℕ) → length input ≤ MAX_INPUT_BYTES → is_bare input ≡ true → packets_in input ≡ Ok (Bare input)
 packets_in-bare input h bare =
-    let small : nat_lt INPUT_LIMIT (length input) ≡ false = le-ltb INPUT_LIMIT (length input) h in
+    let small : nat_lt MAX_INPUT_BYTES (length input) ≡ false = le-ltb MAX_INPUT_BYTES (length input) h in
     rw (small, bare) refl
 
-pub packets_in-capture : (input : List ℕ) (head : CaptureHead) → length input ≤ INPUT_LIMIT → is_bare input ≡ false
+pub packets_in-capture : (input : List ℕ) (head : CaptureHead) → length input ≤ MAX_INPUT_BYTES → is_bare input ≡ false
     → Ok head ≡ head_of input
     → packets_in input ≡ Ok (Capture head input)
 packets_in-capture input head h bare is =
-    let small : nat_lt INPUT_LIMIT (length input) ≡ false = le-ltb INPUT_LIMIT (length input) h in
+    let small : nat_lt MAX_INPUT_BYTES (length input) ≡ false = le-ltb MAX_INPUT_BYTES (length input) h in
     rw (small, bare, ← is) refl
 
-pub packets_in-fault : (input : List ℕ) (fault : CaptureFault) → length input ≤ INPUT_LIMIT → is_bare input ≡ false
+pub packets_in-fault : (input : List ℕ) (fault : CaptureFault) → length input ≤ MAX_INPUT_BYTES → is_bare input ≡ false
     → Err fault ≡ head_of input
     → packets_in input ≡ Err (refusals.Capture fault)
 packets_in-fault input fault h bare is =
-    let small : nat_lt INPUT_LIMIT (length input) ≡ false = le-ltb INPUT_LIMIT (length input) h in
+    let small : nat_lt MAX_INPUT_BYTES (length input) ≡ false = le-ltb MAX_INPUT_BYTES (length input) h in
     rw (small, bare, ← is) refl
 
 pub ruleset contents = (packets_in-bare, packets_in-capture, packets_in-fault)
@@ -174,12 +175,12 @@ pub packets_refused : (refusal : Refusal) (bytes : List ℕ) (old new : SourceSe
     → packets_in bytes ≡ Err refusal → JudgesInput packets_in (Err (halt_of_refusal refusal)) old new
 packets_refused refusal bytes old new all seen is = (drawn (Err refusal) bytes old.left all is, ap (λ (s : SourceSeen). s.faults) seen)
 
-too-much : (left : Option (List ℕ)) → IfSome left (λ input. INPUT_LIMIT < length input)
-    → IfSome left (λ input. packets_in input ≡ Err (refusals.TooBig INPUT_LIMIT))
+too-much : (left : Option (List ℕ)) → IfSome left (λ input. MAX_INPUT_BYTES < length input)
+    → IfSome left (λ input. packets_in input ≡ Err (refusals.TooBig MAX_INPUT_BYTES))
 too-much None more = tt
-too-much (Some input) more = let many : nat_lt INPUT_LIMIT (length input) ≡ true = search rules in rw many refl
+too-much (Some input) more = let many : nat_lt MAX_INPUT_BYTES (length input) ≡ true = search rules in rw many refl
 
-pub input_not_drawn : (fault : DrawFault) (old new : SourceSeen) → Draws INPUT_LIMIT (Err fault) old new
+pub input_not_drawn : (fault : DrawFault) (old new : SourceSeen) → Draws MAX_INPUT_BYTES (Err fault) old new
     → JudgesInput packets_in (Err (halt_of_draw fault)) old new
 input_not_drawn draws.Failed old new h = (ap (λ (s : SourceSeen). s.faults) h.seen, ap (λ (s : SourceSeen). s.stopped) h.seen)
 input_not_drawn (draws.TooBig most) old new h =

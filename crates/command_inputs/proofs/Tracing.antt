@@ -7,7 +7,7 @@ use Rattle.net_model.specs.Network.{Network}
 use Rattle.trace_replay.specs.declared.reading.TraceFault.{TraceFault}
 use Rattle.trace_replay.specs.declared.reading.TraceFault.TheVariants as faults
 use Rattle.trace_replay.specs.Reading.{Reads, bad_line}
-use Rattle.command_inputs.specs.declared.limits.TheConstants.{FILE_LIMIT}
+use Rattle.net_model.specs.declared.limits.TheConstants.{MAX_TEXT_BYTES}
 use Rattle.command_output.specs.declared.refusal.Refusal.{Refusal}
 use Rattle.command_output.specs.declared.refusal.Refusal.TheVariants as refusals
 use Rattle.command_output.specs.Answers.{JudgesFile}
@@ -17,13 +17,13 @@ use Rattle.command_inputs.proofs.Judging.{judged-text, asks-one}
 
 -- a text within the limit that is a trace, or has a bad line
 
-pub trace-small : (net : Network) (text : List ℕ) (bad : Option ℕ) (read : Result (List (List ℕ)) Refusal) → length text ≤ FILE_LIMIT
+pub trace-small : (net : Network) (text : List ℕ) (bad : Option ℕ) (read : Result (List (List ℕ)) Refusal) → length text ≤ MAX_TEXT_BYTES
     → bad_line net text ≡ bad → trace_by text bad ≡ read → trace_in net text ≡ read
 trace-small net text bad read fits is by =
-    let small : nat_lt FILE_LIMIT (length text) ≡ false = le-ltb FILE_LIMIT (length text) fits in
+    let small : nat_lt MAX_TEXT_BYTES (length text) ≡ false = le-ltb MAX_TEXT_BYTES (length text) fits in
     rw small (ap (trace_by text) is ∙ by)
 
-pub trace_judged : (net : Network) (lines : List (List ℕ)) (text name : List ℕ) (old new : FilesSeen) → length text ≤ FILE_LIMIT
+pub trace_judged : (net : Network) (lines : List (List ℕ)) (text name : List ℕ) (old new : FilesSeen) → length text ≤ MAX_TEXT_BYTES
     → IfSome old.told (λ files. file_named files name ≡ Some text) → new ≡ asked_for name old
     → Reads net text (Ok lines)
     → JudgesFile (trace_in net) name (Ok lines) old new
@@ -33,7 +33,7 @@ trace_judged net lines text name old new fits reads seen h = (
   seen,
 )
 
-pub trace_refused : (net : Network) (fault : TraceFault) (text name : List ℕ) (old new : FilesSeen) → length text ≤ FILE_LIMIT
+pub trace_refused : (net : Network) (fault : TraceFault) (text name : List ℕ) (old new : FilesSeen) → length text ≤ MAX_TEXT_BYTES
     → IfSome old.told (λ files. file_named files name ≡ Some text) → new ≡ asked_for name old
     → Reads net text (Err fault)
     → JudgesFile (trace_in net) name (Err (halt_of_trace fault)) old new

@@ -11,7 +11,7 @@ use Rattle.list_pack.specs.Value.{LegsValue}
 use Rattle.list_certificate.specs.declared.types.Cert.{Cert}
 use Rattle.list_certificate.specs.Reading.{read_of}
 use Rattle.trace_replay.specs.Reading.{bad_line, lines_of}
-use Rattle.command_inputs.specs.declared.limits.TheConstants.{FILE_LIMIT}
+use Rattle.net_model.specs.declared.limits.TheConstants.{MAX_TEXT_BYTES}
 use Rattle.command_output.specs.declared.refusal.Refusal.{Refusal}
 use Rattle.command_output.specs.declared.refusal.Refusal.TheVariants as refusals
 
@@ -26,7 +26,7 @@ abbrev pub network_by : Result Network NetFault → Result Network Refusal
 network_by read = refused_as (λ fault. refusals.Net fault) read
 
 abbrev pub network_in : List ℕ → Result Network Refusal
-network_in text = if nat_lt FILE_LIMIT (length text) then Err (refusals.TooBig FILE_LIMIT) else network_by (net_in text)
+network_in text = if nat_lt MAX_TEXT_BYTES (length text) then Err (refusals.TooBig MAX_TEXT_BYTES) else network_by (net_in text)
 
 -- a file behind the description is asked for where the description gives a network
 abbrev pub asks_behind_network : List (List ℕ) → Bool
@@ -49,7 +49,7 @@ intent_by read = refused_as (λ fault. refusals.Intent fault) read
 
 abbrev pub intent_in : Network → List ℕ → Result Intent Refusal
 intent_in net text =
-    if nat_lt FILE_LIMIT (length text) then Err (refusals.TooBig FILE_LIMIT) else intent_by (intent_of_text net text)
+    if nat_lt MAX_TEXT_BYTES (length text) then Err (refusals.TooBig MAX_TEXT_BYTES) else intent_by (intent_of_text net text)
 
 -- the certificate that a text spells for legs in a network, or its first bad line
 
@@ -58,7 +58,7 @@ cert_by read = refused_as (λ line. refusals.BadCert line) read
 
 abbrev pub cert_in : Network → LegsValue → List ℕ → Result Cert Refusal
 cert_in net legs text =
-    if nat_lt FILE_LIMIT (length text) then Err (refusals.TooBig FILE_LIMIT) else cert_by (read_of net legs text)
+    if nat_lt MAX_TEXT_BYTES (length text) then Err (refusals.TooBig MAX_TEXT_BYTES) else cert_by (read_of net legs text)
 
 -- the lines of the trace that a text is for a network, or its first bad line
 
@@ -68,4 +68,4 @@ trace_by text (Some line) = Err (refusals.BadTrace line)
 
 abbrev pub trace_in : Network → List ℕ → Result (List (List ℕ)) Refusal
 trace_in net text =
-    if nat_lt FILE_LIMIT (length text) then Err (refusals.TooBig FILE_LIMIT) else trace_by text (bad_line net text)
+    if nat_lt MAX_TEXT_BYTES (length text) then Err (refusals.TooBig MAX_TEXT_BYTES) else trace_by text (bad_line net text)

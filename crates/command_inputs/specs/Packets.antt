@@ -11,7 +11,7 @@ use Rattle.pcap_io.specs.Frames.{Reading, with_front, frames_of}
 use Rattle.pcap_io.specs.Head.{head_of}
 use Rattle.command_output.specs.declared.halt.Failure.{Failure}
 use Rattle.command_output.specs.declared.halt.Failure.TheVariants as failures
-use Rattle.command_inputs.specs.declared.limits.TheConstants.{INPUT_LIMIT}
+use Rattle.command_inputs.specs.declared.limits.TheConstants.{MAX_INPUT_BYTES}
 use Rattle.command_inputs.specs.declared.packets.Next.{Next}
 use Rattle.command_inputs.specs.declared.packets.Next.TheVariants as nexts
 use Rattle.command_inputs.specs.declared.packets.Packets.{Packets}
@@ -32,7 +32,7 @@ capture_by (Err fault) input = Err (refusals.Capture fault)
 
 abbrev pub packets_in : List ℕ → Result Packets Refusal
 packets_in input =
-    if nat_lt INPUT_LIMIT (length input) then Err (refusals.TooBig INPUT_LIMIT)
+    if nat_lt MAX_INPUT_BYTES (length input) then Err (refusals.TooBig MAX_INPUT_BYTES)
     else if is_bare input then Ok (Bare input)
     else capture_by (head_of input) input
 

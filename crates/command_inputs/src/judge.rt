@@ -8,12 +8,11 @@ ghost use Rattle.command_output.specs.Answers.{JudgesFile, JudgesText};
 ghost use Rattle.command_inputs.specs.Judgements.{network_in, node_in, intent_in, cert_in, trace_in};
 ghost use Rattle.trace_replay.specs.Reading.{IsTrace};
 
-use crate::limits::FILE_LIMIT;
 use command_output::{Halt, Refusal};
 use intent_reader::{Intent, read_intent};
 use list_certificate::{Cert, read};
 use list_pack::Legs;
-use net_model::Net;
+use net_model::{MAX_TEXT_BYTES, Net};
 use net_reader::read_net;
 use srx_edge::Files;
 use std::alloc::Global;
@@ -22,7 +21,7 @@ use trace_replay::{Trace, read_trace};
 /// The network that a text within the limit describes.
 #[tactic(auto, using(crate::proofs::Judging::texts))]
 fn network_of(alloc: Global, text: &[u8]) -> Result<Net, Halt>
-    requires { length text.now ≤ FILE_LIMIT }
+    requires { length text.now ≤ MAX_TEXT_BYTES }
     ensures { JudgesText network_in text.now result }
 {
     Ok(read_net(alloc, text)?)
@@ -33,8 +32,10 @@ fn network_of(alloc: Global, text: &[u8]) -> Result<Net, Halt>
 pub fn network_of_text(alloc: Global, text: &[u8]) -> Result<Net, Halt>
     ensures { JudgesText network_in text.now result }
 {
-    if text.len() > FILE_LIMIT {
-        return Err(Halt::Refused(Refusal::TooBig { limit: FILE_LIMIT }));
+    if text.len() > MAX_TEXT_BYTES {
+        return Err(Halt::Refused(Refusal::TooBig {
+            limit: MAX_TEXT_BYTES,
+        }));
     }
     network_of(alloc, text)
 }
@@ -44,14 +45,14 @@ pub fn network_of_text(alloc: Global, text: &[u8]) -> Result<Net, Halt>
 pub fn network_of_file<F: Files>(alloc: Global, files: &mut F, name: &str) -> Result<Net, Halt>
     ensures { JudgesFile network_in name.now result (F.seen files.old) (F.seen files.new) }
 {
-    let text = files.read(alloc, name, FILE_LIMIT)?;
+    let text = files.read(alloc, name, MAX_TEXT_BYTES)?;
     network_of(alloc, text.as_slice())
 }
 
 /// The intent that a text within the limit gives in a network.
 #[tactic(auto, using(crate::proofs::Judging::texts))]
 fn intent_of(alloc: Global, net: &Net, text: &[u8]) -> Result<Intent, Halt>
-    requires { length text.now ≤ FILE_LIMIT }
+    requires { length text.now ≤ MAX_TEXT_BYTES }
     ensures judged { JudgesText (intent_in net.now) text.now result }
     ensures keeps { IfOk result (IsIntent net.now) }
 {
@@ -64,8 +65,10 @@ pub fn intent_of_text(alloc: Global, net: &Net, text: &[u8]) -> Result<Intent, H
     ensures judged { JudgesText (intent_in net.now) text.now result }
     ensures keeps { IfOk result (IsIntent net.now) }
 {
-    if text.len() > FILE_LIMIT {
-        return Err(Halt::Refused(Refusal::TooBig { limit: FILE_LIMIT }));
+    if text.len() > MAX_TEXT_BYTES {
+        return Err(Halt::Refused(Refusal::TooBig {
+            limit: MAX_TEXT_BYTES,
+        }));
     }
     intent_of(alloc, net, text)
 }
@@ -82,7 +85,7 @@ pub fn intent_of_file<F: Files>(
         (F.seen files.old) (F.seen files.new) }
     ensures keeps { IfOk result (IsIntent net.now) }
 {
-    let text = files.read(alloc, name, FILE_LIMIT)?;
+    let text = files.read(alloc, name, MAX_TEXT_BYTES)?;
     intent_of(alloc, net, text.as_slice())
 }
 
@@ -100,7 +103,7 @@ pub fn cert_of_file<F: Files, L: Legs>(
         (F.seen files.old) (F.seen files.new) }
     ensures cert { IfOk result (IsCert (L.seen legs.now)) }
 {
-    let text = files.read(alloc, name, FILE_LIMIT)?;
+    let text = files.read(alloc, name, MAX_TEXT_BYTES)?;
     Ok(read(alloc, net, legs, text.as_slice())?)
 }
 
@@ -116,7 +119,7 @@ pub fn trace_of_file<F: Files>(
         (F.seen files.old) (F.seen files.new) }
     ensures trace { IfOk result (IsTrace net.now) }
 {
-    let text = files.read(alloc, name, FILE_LIMIT)?;
+    let text = files.read(alloc, name, MAX_TEXT_BYTES)?;
     Ok(read_trace(alloc, net, text.as_slice())?)
 }
 

@@ -16,5 +16,5 @@ pub use judge::{
     cert_of_file, intent_of_file, intent_of_text, network_of_file, network_of_text, node_of_name,
     trace_of_file,
 };
-pub use limits::{FILE_LIMIT, INPUT_LIMIT, MAX_CHOICES, MAX_SCHEDULE};
+pub use limits::{MAX_CHOICES, MAX_INPUT_BYTES, MAX_SCHEDULE};
 pub use packets::{Next, Packets, next_of, packets_of_input, unread_of};

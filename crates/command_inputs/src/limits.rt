@@ -1,12 +1,7 @@
 //! The limits, each of which the definitions cite.
 
-use net_model::MAX_TEXT_BYTES;
-
-/// The most bytes of a file: those of a text. (own rule)
-pub const FILE_LIMIT: usize = MAX_TEXT_BYTES;
-
 /// The most bytes of the input. (own rule)
-pub const INPUT_LIMIT: usize = 67_108_864;
+pub const MAX_INPUT_BYTES: usize = 67_108_864;
 
 /// The most choices that the words give. (own rule)
 pub const MAX_CHOICES: usize = 4_096;

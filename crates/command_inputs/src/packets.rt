@@ -5,7 +5,7 @@ ghost use Rattle.pcap_io.specs.Capture.{IsDone};
 ghost use Rattle.command_output.specs.Answers.{JudgesInput};
 ghost use Rattle.command_inputs.specs.Packets.{HasHead, Nexts, fault_behind, is_bare, packets_in, unread_in};
 
-use crate::limits::INPUT_LIMIT;
+use crate::limits::MAX_INPUT_BYTES;
 use base::Seq;
 use command_output::{Failure, Halt, Refusal, Unread};
 use pcap_io::{Body, CaptureFault, CaptureHead, Frame, FrameReader, TakeFault, read_head};
@@ -43,7 +43,7 @@ fn begins_as_ipv6(input: &[u8]) -> bool
 /// What these bytes are.
 #[tactic(auto, using(crate::proofs::Judging::contents))]
 fn packets_of_bytes(bytes: Vec<u8>) -> Result<Packets, Refusal>
-    requires { length bytes.items ≤ INPUT_LIMIT }
+    requires { length bytes.items ≤ MAX_INPUT_BYTES }
     ensures judged { packets_in bytes.items ≡ result }
     ensures head { IfOk result HasHead }
 {
@@ -62,7 +62,7 @@ pub fn packets_of_input<S: Source>(alloc: Global, input: &mut S) -> Result<Packe
     ensures judged { JudgesInput packets_in result (S.seen input.old) (S.seen input.new) }
     ensures head { IfOk result HasHead }
 {
-    let bytes = draw(alloc, input, INPUT_LIMIT)?;
+    let bytes = draw(alloc, input, MAX_INPUT_BYTES)?;
     Ok(packets_of_bytes(bytes)?)
 }
 

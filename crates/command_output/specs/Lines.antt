@@ -15,7 +15,7 @@ use Rattle.intent_reader.specs.declared.fault.IntentFault.{IntentFault}
 use Rattle.intent_reader.specs.declared.fault.IntentFault.TheVariants as intents
 use Rattle.walk_rules.specs.declared.place.Ended.{Ended}
 use Rattle.walk_rules.specs.declared.place.Ended.TheVariants as ends
-use Rattle.trace_replay.specs.declared.limits.TheConstants.{STAGES}
+use Rattle.walk_rules.specs.declared.limits.TheConstants.{MAX_STAGES}
 use Rattle.command_output.specs.declared.unread.Unread.{Unread}
 use Rattle.command_output.specs.declared.unread.Unread.TheVariants as unreads
 use Rattle.command_output.specs.declared.refusal.Refusal.{Refusal}
@@ -120,7 +120,7 @@ dropped_line number reason name =
     codes "packet " ++ (decimal number ++ (codes ": dropped " ++ (reason_name reason ++ (codes " at " ++ (name ++ 10 ∷ [])))))
 
 unfoldable pub stages_line : ℕ → List ℕ
-stages_line number = codes "packet " ++ (decimal number ++ (codes ": stopped after " ++ (decimal STAGES ++ (codes " stages" ++ 10 ∷ []))))
+stages_line number = codes "packet " ++ (decimal number ++ (codes ": stopped after " ++ (decimal MAX_STAGES ++ (codes " stages" ++ 10 ∷ []))))
 
 abbrev pub packet_line : Network → ℕ → Ended → List ℕ
 packet_line net number (ends.Left link) = left_line number (name_of_link (slice_get net.links link))

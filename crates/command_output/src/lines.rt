@@ -9,8 +9,7 @@ use crate::unread::Unread;
 use net_model::{Name, Net};
 use srv6_rules::Reason;
 use std::alloc::{AllocError, Global};
-use trace_replay::STAGES;
-use walk_rules::Ended;
+use walk_rules::{Ended, MAX_STAGES};
 
 /// A refusal's line. (own rule)
 pub fn line_of_refusal(alloc: Global, refusal: &Refusal) -> Result<String, AllocError>
@@ -53,7 +52,7 @@ fn line_of_dropped(
 fn line_of_stages(alloc: Global, number: u32) -> Result<String, AllocError>
     ensures { IfOk result (λ line. string_bytes line ≡ stages_line number) }
 {
-    format!(in alloc; "packet {number}: stopped after {STAGES} stages\n")
+    format!(in alloc; "packet {number}: stopped after {MAX_STAGES} stages\n")
 }
 
 /// The line of a packet that is not read. (own rule)

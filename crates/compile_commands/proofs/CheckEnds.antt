@@ -40,8 +40,8 @@ both None P Q R f p q = tt
 both (Some held) P Q R f p q = f held p q
 
 -- a text that is there is judged so
-abbrev Gives : {A : Type 0} → (List ℕ → Result A Refusal) → Result A Refusal → Option (List ℕ) → Type 0
-Gives judge judged o = IsSomeAnd o (λ text. judge text ≡ judged)
+abbrev GivesText : {A : Type 0} → (List ℕ → Result A Refusal) → Result A Refusal → Option (List ℕ) → Type 0
+GivesText judge judged o = IsSomeAnd o (λ text. judge text ≡ judged)
 
 -- the network is not flat
 
@@ -66,22 +66,22 @@ module _ (file intent cert : List ℕ) where
   abbrev after_file : Option (List ℕ) → Option (List ℕ) → List (List ℕ)
   after_file o p = if goes_on_with asks_for_next [] o then intent ∷ behind o p else []
 
-  names-refused : (refusal : Refusal) (o p : Option (List ℕ)) → Gives network_in (Err refusal) o → names o p ≡ file ∷ []
+  names-refused : (refusal : Refusal) (o p : Option (List ℕ)) → GivesText network_in (Err refusal) o → names o p ≡ file ∷ []
   names-refused refusal None p h = absurd h
   names-refused refusal (Some text) p h = rw h refl
 
-  names-net : (net : Network) (o p : Option (List ℕ)) → Gives network_in (Ok net) o → names o p ≡ file ∷ intent ∷ behind o p
+  names-net : (net : Network) (o p : Option (List ℕ)) → GivesText network_in (Ok net) o → names o p ≡ file ∷ intent ∷ behind o p
   names-net net None p h = absurd h
   names-net net (Some text) p h = rw h refl
 
-  behind-refused : (net : Network) (refusal : Refusal) (o p : Option (List ℕ)) → Gives network_in (Ok net) o
-      → Gives (intent_in net) (Err refusal) p → behind o p ≡ []
+  behind-refused : (net : Network) (refusal : Refusal) (o p : Option (List ℕ)) → GivesText network_in (Ok net) o
+      → GivesText (intent_in net) (Err refusal) p → behind o p ≡ []
   behind-refused net refusal None p h i = absurd h
   behind-refused net refusal (Some text) None h i = absurd i
   behind-refused net refusal (Some text) (Some more) h i = rw (h, i) refl
 
-  behind-flat : (net : Network) (value : Intent) (o p : Option (List ℕ)) → Gives network_in (Ok net) o
-      → Gives (intent_in net) (Ok value) p → behind o p ≡ (if is_ok (flatness_of net) then cert ∷ [] else [])
+  behind-flat : (net : Network) (value : Intent) (o p : Option (List ℕ)) → GivesText network_in (Ok net) o
+      → GivesText (intent_in net) (Ok value) p → behind o p ≡ (if is_ok (flatness_of net) then cert ∷ [] else [])
   behind-flat net value None p h i = absurd h
   behind-flat net value (Some text) None h i = absurd i
   behind-flat net value (Some text) (Some more) h i = rw (h, i) refl
@@ -90,13 +90,13 @@ module _ (file intent cert : List ℕ) where
   names_in held = names (file_named held file) (file_named held intent)
 
   abbrev GivesNet : Result Network Refusal → Held → Type 0
-  GivesNet judged held = Gives network_in judged (file_named held file)
+  GivesNet judged held = GivesText network_in judged (file_named held file)
 
   abbrev GivesIntent : Network → Result Intent Refusal → Held → Type 0
-  GivesIntent net judged held = Gives (intent_in net) judged (file_named held intent)
+  GivesIntent net judged held = GivesText (intent_in net) judged (file_named held intent)
 
   abbrev GivesCert : Network → Intent → Result Cert Refusal → Held → Type 0
-  GivesCert net value judged held = Gives (cert_in net (legs_value net value)) judged (file_named held cert)
+  GivesCert net value judged held = GivesText (cert_in net (legs_value net value)) judged (file_named held cert)
 
   -- an output that is wanted of what is told
 

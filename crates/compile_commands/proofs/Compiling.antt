@@ -24,7 +24,7 @@ use Rattle.command_output.specs.declared.halt.Failure.TheVariants as failures
 use Rattle.command_output.specs.declared.halt.Halt.{Halt}
 use Rattle.command_output.specs.declared.halt.Halt.TheVariants as halts
 use Rattle.compile_commands.proofs.Checking.{knows_states}
-use Rattle.compile_commands.specs.Compile.{HasValues, KnowsStates, Gives, GivesOf, container_line, numbers_lines, report_of}
+use Rattle.compile_commands.specs.Compile.{HasValues, KnowsStates, GivesAnswer, GivesOf, container_line, numbers_lines, report_of}
 
 -- the lines of containers are those of their values, and the numbers' lines are behind them
 
@@ -82,7 +82,7 @@ knows_none_in net intent compiled s keeps answers is =
 pub ruleset valued = (values_kept, values_long, values_over, knows_kept, knows_long, knows_over)
 
 pub taken_gives : (net : Network) (intent : Intent) (compiled : Result Compiled CompileFault) (answer : Result Answer Halt)
-    → CompileAnswers net intent compiled → NoLessHandsOver net intent compiled → Gives net intent compiled answer
+    → CompileAnswers net intent compiled → NoLessHandsOver net intent compiled → GivesAnswer net intent compiled answer
     → GivesOf net intent answer
 taken_gives net intent compiled (Ok answer) answers none gives = ((compiled, answers, none, gives.0), gives.1)
 taken_gives net intent compiled (Err (halts.Refused refusal)) answers none gives = (compiled, answers, none, gives)

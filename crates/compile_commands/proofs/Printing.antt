@@ -42,7 +42,7 @@ use Rattle.path_compiler.specs.declared.compiled.CompileFault.TheVariants as fau
 use Rattle.path_compiler.specs.Checked.{Certifies, Says, SaysOfHanding}
 use Rattle.path_compiler.specs.Compiled.{CompileAnswers}
 use Rattle.path_compiler.proofs.PublicLaws.{certifies-answer, says-handing, says_lists}
-use Rattle.command_inputs.specs.declared.limits.TheConstants.{FILE_LIMIT}
+use Rattle.net_model.specs.declared.limits.TheConstants.{MAX_TEXT_BYTES}
 use Rattle.command_output.specs.declared.refusal.Refusal.{Refusal}
 use Rattle.command_output.specs.declared.refusal.Refusal.TheVariants as refusals
 use Rattle.command_output.specs.declared.status.Status.{Status}
@@ -70,10 +70,10 @@ intent-by net text intent (Err fault) is h =
     let none = subst (λ (r : Result DescribedIntent NetFault). ◌>>=◌ (of_text r) (judged net) ≡ Ok intent) is h in absurd (cc)
 
 intent-of : (net : Network) (text : List ℕ) (intent : Intent) → intent_in net text ≡ Ok intent → IsIntent net intent
-intent-of net text intent is = by (nat_lt FILE_LIMIT (length text)) (intent_of_text net text) refl is
+intent-of net text intent is = by (nat_lt MAX_TEXT_BYTES (length text)) (intent_of_text net text) refl is
   where
     by : (big : Bool) (read : Result Intent IntentFault) → intent_of_text net text ≡ read
-        → (if big then Err (refusals.TooBig FILE_LIMIT) else intent_by read) ≡ Ok intent → IsIntent net intent
+        → (if big then Err (refusals.TooBig MAX_TEXT_BYTES) else intent_by read) ≡ Ok intent → IsIntent net intent
     by true read e h = absurd (cc)
     by false (Ok i) e h = let same : i ≡ intent = cc in intent-by net text intent (words.intent_in text) refl (e ∙ ap Ok same)
     by false (Err fault) e h = absurd (cc)
@@ -90,10 +90,10 @@ module _ (net : Network) (intent : Intent) (network : IsNetwork net) (is_intent 
 
   -- the text is read as the certificate of the solution
   cert-read : (s : Solution) (comments : List (List ℕ)) (text : List ℕ) → KeepsLaws v → IsSolution v s → All IsComment comments
-      → text ≡ lines_text comments ++ spelled net s → length text ≤ FILE_LIMIT
+      → text ≡ lines_text comments ++ spelled net s → length text ≤ MAX_TEXT_BYTES
       → cert_in net v text ≡ Ok (certificate_of (1 + length comments) s)
   cert-read s comments text laws is all parts small =
-      let fits : nat_lt FILE_LIMIT (length text) ≡ false = le-ltb FILE_LIMIT (length text) small in
+      let fits : nat_lt MAX_TEXT_BYTES (length text) ≡ false = le-ltb MAX_TEXT_BYTES (length text) small in
       let read : read_of net v text ≡ Ok (certificate_of (1 + length comments) s)
       = ap (read_of net v) parts
       ∙ what-is-read net v comments s network laws (network_of net intent (keeps_from_network net network)) is all in
@@ -102,7 +102,7 @@ module _ (net : Network) (intent : Intent) (network : IsNetwork net) (is_intent 
   -- so the verdict is the one that it certifies
   told-by : (s : Solution) (comments : List (List ℕ)) (text : List ℕ) (verdict : Verdict) (output : Output) → flatness_of net ≡ Ok tt
       → IsSolution v s → Certifies net intent s verdict → All IsComment comments
-      → text ≡ lines_text comments ++ spelled net s → length text ≤ FILE_LIMIT
+      → text ≡ lines_text comments ++ spelled net s → length text ≤ MAX_TEXT_BYTES
       → FlatWants net intent (flatness_of net) (Some text) output → output ≡ told_of net verdict
   told-by s comments text verdict output flat is certifies all parts small wants =
       let laws = laws-of flat in
@@ -118,7 +118,7 @@ module _ (net : Network) (intent : Intent) (network : IsNetwork net) (is_intent 
   -- and that verdict is wanted
   told-back : (s : Solution) (comments : List (List ℕ)) (text : List ℕ) (verdict : Verdict) (output : Output) → flatness_of net ≡ Ok tt
       → IsSolution v s → Certifies net intent s verdict → All IsComment comments
-      → text ≡ lines_text comments ++ spelled net s → length text ≤ FILE_LIMIT
+      → text ≡ lines_text comments ++ spelled net s → length text ≤ MAX_TEXT_BYTES
       → output ≡ told_of net verdict → FlatWants net intent (flatness_of net) (Some text) output
   told-back s comments text verdict output flat is certifies all parts small told =
       let laws = laws-of flat in
@@ -141,7 +141,7 @@ module _ (net : Network) (intent : Intent) (network : IsNetwork net) (is_intent 
       ap (λ (o : Output). bytes_for_out o.pieces) is ∙ append-nil (report ++ spelled net s)
       ∙ ap (λ (bytes : List ℕ). bytes ++ spelled net s) lines
 
-  module _ (old output : Output) (small : length (bytes_for_out old.pieces) ≤ FILE_LIMIT) where
+  module _ (old output : Output) (small : length (bytes_for_out old.pieces) ≤ MAX_TEXT_BYTES) where
     -- what `check` wants of what was printed
     abbrev Checks : Type 0
     Checks = FlatWants net intent (flatness_of net) (Some (bytes_for_out old.pieces)) output
@@ -189,7 +189,7 @@ module _ (net : Network) (intent : Intent) (network : IsNetwork net) (is_intent 
 
 -- by the judgements of the description and the intent
 
-module _ (rules : RulesAreKept) (old output : Output) (small : length (bytes_for_out old.pieces) ≤ FILE_LIMIT) where
+module _ (rules : RulesAreKept) (old output : Output) (small : length (bytes_for_out old.pieces) ≤ MAX_TEXT_BYTES) where
   abbrev bytes : List ℕ
   bytes = bytes_for_out old.pieces
 

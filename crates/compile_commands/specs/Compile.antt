@@ -125,8 +125,8 @@ GivesWanted Wants (Err (halts.Failed failures.Fault)) = ⊥
 GivesWanted Wants (Err (halts.Failed failures.NoMemory)) = ⊤
 
 -- what the compiler's answer has
-abbrev pub Gives : Network → Intent → Result Compiled CompileFault → Result Answer Halt → Type 0
-Gives net intent compiled answer = GivesWanted (AnswerWants net intent compiled) answer
+abbrev pub GivesAnswer : Network → Intent → Result Compiled CompileFault → Result Answer Halt → Type 0
+GivesAnswer net intent compiled answer = GivesWanted (AnswerWants net intent compiled) answer
 
 -- what an intent has in a network
 abbrev pub GivesOf : Network → Intent → Result Answer Halt → Type 0

@@ -6,7 +6,7 @@ use Rattle.path_compiler.specs.declared.compiled.Compiled.{Compiled}
 use Rattle.path_compiler.specs.declared.compiled.CompileFault.{CompileFault}
 use Rattle.path_compiler.specs.declared.compiled.CompileFault.TheVariants as faults
 use Rattle.srx_edge.specs.Edge.{file_named}
-use Rattle.command_inputs.specs.declared.limits.TheConstants.{FILE_LIMIT}
+use Rattle.net_model.specs.declared.limits.TheConstants.{MAX_TEXT_BYTES}
 use Rattle.command_output.specs.declared.status.Status.TheVariants as statuses
 use Rattle.compile_commands.specs.Check.{check_shape, least_line, no_list_line}
 use Rattle.compile_commands.specs.Compile.{AnswerWants, NetworkWants, compile_shape}
@@ -22,7 +22,7 @@ pub record HoldsPrinted (old new : Held) (file intent cert : List ℕ) (printed 
   pub described : file_named new file ≡ file_named old file
   pub intended : file_named new intent ≡ file_named old intent
   pub certified : file_named new cert ≡ Some (bytes_for_out printed.pieces)
-  pub small : length (bytes_for_out printed.pieces) ≤ FILE_LIMIT
+  pub small : length (bytes_for_out printed.pieces) ≤ MAX_TEXT_BYTES
 
 -- the output of `check` by the compiler's answer: `least` with the list's containers and need, also where the list is over a bound of the
 -- intent; `none` where there is none; a network that is not flat is refused by both commands

@@ -117,7 +117,7 @@ struct Answer {
 
 impl Answer {
     ghost use Rattle.command_output.specs.Outputs.{reported};
-    ghost use Rattle.compile_commands.specs.Compile.{no_report, output_of_answer, Gives, GivesOf};
+    ghost use Rattle.compile_commands.specs.Compile.{no_report, output_of_answer, GivesAnswer, GivesOf};
 
     /// The answer of a list that was found.
     fn of_list(
@@ -167,7 +167,7 @@ impl Answer {
         requires network { IsNetwork net.now }
         requires facts { Keeps net.now }
         requires answers { CompileAnswers net.now intent.now compiled.now }
-        ensures { Gives net.now intent.now compiled.now result }
+        ensures { GivesAnswer net.now intent.now compiled.now result }
     {
         match compiled {
             Ok(list) => {

@@ -10,18 +10,18 @@ use Rattle.srv6_rules.specs.Endpoint.{Endpoint, Exposed, Delivered, Refused, at_
 use Rattle.srv6_rules.proofs.PublicLaws.{at_sid-place}
 use Rattle.ip6_headers.proofs.PublicLaws.{holds-spellable, holds-front, holds-payload_len}
 use Rattle.endpoint_chain.specs.Outcomes.{HoldsAlone, Leaves}
-use Rattle.decap_behaviours.specs.declared.judge.Judged.{Judged}
-use Rattle.decap_behaviours.specs.Judging.{IsJudged, IsWithin}
+use Rattle.decap_behaviours.specs.declared.judge.Exposure.{Exposure}
+use Rattle.decap_behaviours.specs.Judging.{IsExposure, IsWithin}
 
 -- what is judged of one outcome is judged of one that is the same
-pub judged-at : (p : Packet) (e f : Endpoint) (judged : Judged) → e ≡ f → IsJudged p f judged → IsJudged p e judged
-judged-at p e f judged same is = let P : Endpoint → Type 0 = λ x. IsJudged p x judged in subst P (sym same) is
+pub judged-at : (p : Packet) (e f : Endpoint) (judged : Exposure) → e ≡ f → IsExposure p f judged → IsExposure p e judged
+judged-at p e f judged same is = let P : Endpoint → Type 0 = λ x. IsExposure p x judged in subst P (sym same) is
 
 -- and of a packet in bytes, of the packet in bytes that are the same
-pub judged-in : (s : SidEntry) (allow one two : List ℕ) (judged : Judged) → one ≡ two
-    → IsJudged (packet_at one) (at_sid s allow (packet_at one)) judged → IsJudged (packet_at two) (at_sid s allow (packet_at two)) judged
+pub judged-in : (s : SidEntry) (allow one two : List ℕ) (judged : Exposure) → one ≡ two
+    → IsExposure (packet_at one) (at_sid s allow (packet_at one)) judged → IsExposure (packet_at two) (at_sid s allow (packet_at two)) judged
 judged-in s allow one two judged same is =
-    let P : List ℕ → Type 0 = λ xs. IsJudged (packet_at xs) (at_sid s allow (packet_at xs)) judged in subst P same is
+    let P : List ℕ → Type 0 = λ xs. IsExposure (packet_at xs) (at_sid s allow (packet_at xs)) judged in subst P same is
 
 module _ (bytes : List ℕ) (h : HoldsAlone bytes) where
   payload-alone : (packet_at bytes).payload ≡ drop header_len bytes

@@ -6,8 +6,8 @@ use Rattle.srv6_rules.specs.Srh.{srh_of}
 use Rattle.srv6_rules.specs.Chain.{Header, from_place, segments_left}
 use Rattle.srv6_rules.specs.CompressedSteps.{compression_of, is_at_end, is_replace}
 use Rattle.srv6_rules.specs.Endpoint.{Endpoint, Exposed, Delivered, Refused}
-use Rattle.decap_behaviours.specs.declared.judge.Judged.{Judged}
-use Rattle.decap_behaviours.specs.declared.judge.Judged.TheVariants.{Expose, Deliver, Refuse}
+use Rattle.decap_behaviours.specs.declared.judge.Exposure.{Exposure}
+use Rattle.decap_behaviours.specs.declared.judge.Exposure.TheVariants.{Expose, Deliver, Refuse}
 
 -- no segment is left in a segment routing header (RFC 8986 sections 4.4 to 4.8, RFC 9800 section 4.2)
 abbrev pub has_ended : SidEntry → Packet → Header → Bool
@@ -20,7 +20,7 @@ pub record IsWithin (p : Packet) (at : ℕ) : Type 0 where
   pub within : at ≤ header_len + length p.payload
 
 -- what is judged of a packet is what comes of it, and what is exposed stands in the packet
-abbrev pub IsJudged : Packet → Endpoint → Judged → Type 0
-IsJudged p e (Expose family at) = (e ≡ Exposed family (from_place p at)) × IsWithin p at
-IsJudged p e Deliver = e ≡ Delivered p
-IsJudged p e (Refuse fault) = e ≡ Refused fault.reason fault.at
+abbrev pub IsExposure : Packet → Endpoint → Exposure → Type 0
+IsExposure p e (Expose family at) = (e ≡ Exposed family (from_place p at)) × IsWithin p at
+IsExposure p e Deliver = e ≡ Delivered p
+IsExposure p e (Refuse fault) = e ≡ Refused fault.reason fault.at

@@ -7,7 +7,7 @@ ghost use Rattle.srv6_rules.specs.CompressedSteps.{SuitsCompression, is_next};
 ghost use Rattle.srv6_rules.specs.Endpoint.{at_sid};
 ghost use Rattle.endpoint_chain.specs.Outcomes.{ComesOf, HoldsAlone};
 
-use crate::judge::{Judged, judge};
+use crate::judge::{Exposure, judge};
 use endpoint_chain::EndOutcome;
 use pkt_buf::PktBuf;
 use srv6_rules::SidEntry;
@@ -36,11 +36,11 @@ pub fn decap_step(sid: &SidEntry, allow: &[u8], buf: &mut PktBuf) -> EndOutcome
         buf.new.bytes result }
 {
     match judge(sid, allow, buf.view()) {
-        Judged::Expose { family, at } => {
+        Exposure::Expose { family, at } => {
             buf.drop_front(at);
             EndOutcome::Hand { family }
         }
-        Judged::Deliver => EndOutcome::Local,
-        Judged::Refuse { fault } => EndOutcome::dropped(fault),
+        Exposure::Deliver => EndOutcome::Local,
+        Exposure::Refuse { fault } => EndOutcome::dropped(fault),
     }
 }

@@ -2,7 +2,7 @@
 use Rattle.std.proofs.Common.{◌≡◌, ◌≢◌, ℕ, zero, suc, ◌+◌, ◌-◌, ◌<◌, ◌≤◌, Bool, true, false, ◌==◌, ◌&&◌, ◌||◌, not, if◌then◌else◌, [], length, slice_index, refl, sym, ap, subst, ◌∙◌, arith, inl, inr}
 use Rattle.std.specs.Prelude.{Option, Some, None, IfSome}
 use Rattle.std.proofs.lemmas.Bool.{cases_Bool, and_parts, eq-eqb, eqb-false, eqb-true, ne_eqb}
-use Rattle.srv6_rules.specs.declared.numbers.TheConstants.{MOST_LEN}
+use Rattle.srv6_rules.specs.declared.numbers.TheConstants.{MAX_PACKET_LEN}
 use Rattle.srv6_rules.specs.declared.sid.Family.TheVariants.{V6}
 use Rattle.srv6_rules.specs.declared.sid.Reason.{Reason}
 use Rattle.srv6_rules.specs.declared.sid.Reason.TheVariants.{UnknownRouting, LateHopByHop, Fragment}
@@ -182,8 +182,8 @@ some_left : (n : ℕ) → (n ≡ 0 → ⊥) → 0 < n
 some_left zero none = absurd (none refl)
 some_left (suc n) none = omega arith
 
-pub unknown-near : (h : Header) (fault : Option Fault) → 8 ≤ length h.bytes → h.place.at + length h.bytes ≤ MOST_LEN
-    → IsHeaderFault (unknown_routing h) fault → IfSome fault (λ f. f.at ≤ MOST_LEN)
+pub unknown-near : (h : Header) (fault : Option Fault) → 8 ≤ length h.bytes → h.place.at + length h.bytes ≤ MAX_PACKET_LEN
+    → IsHeaderFault (unknown_routing h) fault → IfSome fault (λ f. f.at ≤ MAX_PACKET_LEN)
 unknown-near h None least fits is = tt
 unknown-near h (Some f) least fits is = elim (cases_Bool (segments_left h == 0)) [
   | inl none ↦
@@ -198,17 +198,17 @@ unknown-near h (Some f) least fits is = elim (cases_Bool (segments_left h == 0))
 ]
 
 module _ (route : Header → Endpoint → Endpoint) (p : Packet) (h : Header) (f : Fault) (lies : LiesIn p h) (stands : StandsIn p h.place)
-    (fits : h.place.at + length h.bytes ≤ MOST_LEN)
+    (fits : h.place.at + length h.bytes ≤ MAX_PACKET_LEN)
     (is : at_header_by route h some_outcome ≡ Refused f.reason f.at) where
   options-near : (found : Option areas.Fault) → options_fault h ≡ found → unless_fault found some_outcome ≡ Refused f.reason f.at
-      → f.at ≤ MOST_LEN
+      → f.at ≤ MAX_PACKET_LEN
   options-near None e bad = cc
   options-near (Some g) e bad =
       let within = options_fault-within p h g lies e in
       let at = refused-at g.reason f.reason g.at f.at bad in
       omega arith
 
-  hop_by_hop-near : h.place.kind ≡ hop_by_hop → f.at ≤ MOST_LEN
+  hop_by_hop-near : h.place.kind ≡ hop_by_hop → f.at ≤ MAX_PACKET_LEN
   hop_by_hop-near kind = elim (cases_Bool (is_first h.place)) [
     | inl first ↦ let bad : some_outcome ≡ Refused f.reason f.at = sym (first-passed route h kind first some_outcome) ∙ is in cc
     | inr late ↦
@@ -218,7 +218,7 @@ module _ (route : Header → Endpoint → Endpoint) (p : Packet) (h : Header) (f
   ]
 
   kind-near : (a b c d : Bool) → (h.place.kind == hop_by_hop) ≡ a → (h.place.kind == routing) ≡ b → (h.place.kind == fragment) ≡ c
-      → (h.place.kind == destination_options) ≡ d → (a || (b || (c || d))) ≡ true → h.place.kind ≢ routing → f.at ≤ MOST_LEN
+      → (h.place.kind == destination_options) ≡ d → (a || (b || (c || d))) ≡ true → h.place.kind ≢ routing → f.at ≤ MAX_PACKET_LEN
   kind-near true b c d ea eb ec ed some other = hop_by_hop-near (eqb-true h.place.kind hop_by_hop ea)
   kind-near false true c d ea eb ec ed some other = absurd (other (eqb-true h.place.kind routing eb))
   kind-near false false true d ea eb ec ed some other =
@@ -231,8 +231,8 @@ module _ (route : Header → Endpoint → Endpoint) (p : Packet) (h : Header) (f
   kind-near false false false false ea eb ec ed some other = cc
 
 pub other-near : (route : Header → Endpoint → Endpoint) (p : Packet) (h : Header) (fault : Option Fault) → LiesIn p h
-    → StandsIn p h.place → h.place.at + length h.bytes ≤ MOST_LEN → h.place.kind ≢ routing
-    → IsHeaderFault (at_header_by route h) fault → IfSome fault (λ f. f.at ≤ MOST_LEN)
+    → StandsIn p h.place → h.place.at + length h.bytes ≤ MAX_PACKET_LEN → h.place.kind ≢ routing
+    → IsHeaderFault (at_header_by route h) fault → IfSome fault (λ f. f.at ≤ MAX_PACKET_LEN)
 other-near route p h None lies stands fits other is = tt
 other-near route p h (Some f) lies stands fits other is =
     kind-near route p h f lies stands fits (is some_outcome) (h.place.kind == hop_by_hop) (h.place.kind == routing)

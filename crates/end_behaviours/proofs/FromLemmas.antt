@@ -1,7 +1,7 @@
 -- What comes of a packet from a place of its chain on.
 use Rattle.std.proofs.Common.{◌≡◌, ℕ, ◌+◌, ◌-◌, ◌≤◌, true, false, List, length, take, drop, refl, sym, ap, subst, ◌∙◌, arith}
 use Rattle.std.proofs.lemmas.List.{length-drop}
-use Rattle.srv6_rules.specs.declared.numbers.TheConstants.{MOST_LEN}
+use Rattle.srv6_rules.specs.declared.numbers.TheConstants.{MAX_PACKET_LEN}
 use Rattle.srv6_rules.specs.declared.sid.Reason.TheVariants.{BadChain}
 use Rattle.srv6_rules.specs.declared.sid.SidEntry.{SidEntry}
 use Rattle.srv6_rules.specs.Packet.{Packet, header_len, packet_at}
@@ -88,7 +88,7 @@ pub from-within : (p : Packet) (first : ℕ) (place : ChainPlace) → StandsIn p
 from-within p first place stands later = record { behind = stands.behind_header; within = stands.within; later = later }
 
 -- places are below the longest packet's length
-pub place-most : (bytes : List ℕ) (at : ℕ) → HoldsPacket bytes → at ≤ header_len + length (packet_at bytes).payload → at ≤ MOST_LEN
+pub place-most : (bytes : List ℕ) (at : ℕ) → HoldsPacket bytes → at ≤ header_len + length (packet_at bytes).payload → at ≤ MAX_PACKET_LEN
 place-most bytes at holds within =
     let short = (holds-spellable bytes holds).payload_len in
     omega arith
@@ -96,7 +96,7 @@ place-most bytes at holds within =
 -- a chain that is cut there
 pub cut-found : (s : SidEntry) (allow bytes : List ℕ) (start place : ChainPlace) (rest : List ℕ) → HoldsAlone bytes
     → Reached s allow (packet_at bytes) start place rest → is_extension place.kind ≡ true → is_whole place.kind rest ≡ false
-    → (at_sid_from s allow (packet_at bytes) start ≡ Refused BadChain place.at) × (place.at ≤ MOST_LEN)
+    → (at_sid_from s allow (packet_at bytes) start ≡ Refused BadChain place.at) × (place.at ≤ MAX_PACKET_LEN)
 cut-found s allow bytes start place rest alone r is cut =
     let p : Packet = packet_at bytes in (
       comes-cut (at_header s p) (at_end s allow p) p (at_sid_from s allow p start) place rest r.comes is cut,

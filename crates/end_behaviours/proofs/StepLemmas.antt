@@ -4,7 +4,7 @@ use Rattle.std.specs.Prelude.{Some, None}
 use Rattle.std.proofs.lemmas.Bool.{cases_Bool, and_parts, eqb-true, eqb-false, eq-eqb, ne_eqb}
 use Rattle.std.proofs.lemmas.List.{length-set}
 use Rattle.srv6_rules.specs.declared.compression.Compression.{Compression}
-use Rattle.srv6_rules.specs.declared.numbers.TheConstants.{MOST_LEN}
+use Rattle.srv6_rules.specs.declared.numbers.TheConstants.{MAX_PACKET_LEN}
 use Rattle.srv6_rules.specs.declared.sid.Csid.{Csid}
 use Rattle.srv6_rules.specs.declared.sid.Csid.TheVariants as csids
 use Rattle.srv6_rules.specs.declared.sid.Reason.{Reason}
@@ -27,8 +27,8 @@ use Rattle.endpoint_chain.specs.Outcomes.{ComesOf, HoldsAlone, Leaves}
 use Rattle.endpoint_chain.specs.declared.outcome.EndOutcome.{EndOutcome}
 use Rattle.endpoint_chain.proofs.PublicLaws.{alone-spelled, alone-spellable, alone-length}
 use Rattle.end_behaviours.specs.Finding.{LiesAt, header_of, is_last}
-use Rattle.end_behaviours.specs.declared.stepping.Judged.{Judged}
-use Rattle.end_behaviours.specs.Stepping.{IsJudged, move_to}
+use Rattle.end_behaviours.specs.declared.stepping.SegmentStep.{SegmentStep}
+use Rattle.end_behaviours.specs.Stepping.{IsSegmentStep, move_to}
 use Rattle.end_behaviours.proofs.AloneLemmas.{Rewritten, header-written, lent-spells, move-written, moved-spellable, spelled-alone}
 
 pub comes-same : (e f : Endpoint) (old new : List ℕ) (outcome : EndOutcome) → e ≡ f → ComesOf f old new outcome
@@ -70,11 +70,11 @@ shifted-in c k old lent new kind same is =
     let Q : List ℕ → Type 0 = λ xs. IsShifted c xs new in
     subst Q same (subst P kind is)
 
-pub judged-in : (old seen : List ℕ) (place : ChainPlace) (len : ℕ) (judged : Judged) → seen ≡ old
-    → IsJudged (packet_at seen) place.at (srh_of (header_of (packet_at seen) place len).bytes) judged
-    → IsJudged (packet_at old) place.at (srh_of (header_of (packet_at old) place len).bytes) judged
+pub judged-in : (old seen : List ℕ) (place : ChainPlace) (len : ℕ) (judged : SegmentStep) → seen ≡ old
+    → IsSegmentStep (packet_at seen) place.at (srh_of (header_of (packet_at seen) place len).bytes) judged
+    → IsSegmentStep (packet_at old) place.at (srh_of (header_of (packet_at old) place len).bytes) judged
 judged-in old seen place len judged same is =
-    let P : List ℕ → Type 0 = λ xs. IsJudged (packet_at xs) place.at (srh_of (header_of (packet_at xs) place len).bytes) judged in
+    let P : List ℕ → Type 0 = λ xs. IsSegmentStep (packet_at xs) place.at (srh_of (header_of (packet_at xs) place len).bytes) judged in
     subst P same is
 
 -- ---- the shift
@@ -230,7 +230,7 @@ module _ (s : SidEntry) (old new : List ℕ) (place : ChainPlace) (len : ℕ) (s
 
 pub judged-tlv : (p : Packet) (h : Header) (srh : Srh) (f : Fault) → LiesIn p h → length p.payload < 2 ^ 16 → nat_le p.hop_limit 1 ≡ false
     → srh ≡ srh_of h.bytes → has_bad_segments srh ≡ false → tlvs_fault h.place.at srh ≡ Some f
-    → (next_segment p h.place.at (srh_of h.bytes) ≡ Refused f.reason f.at) × (f.at ≤ MOST_LEN)
+    → (next_segment p h.place.at (srh_of h.bytes) ≡ Refused f.reason f.at) × (f.at ≤ MAX_PACKET_LEN)
 judged-tlv p h srh f lies short low is fine bad =
     let within = lies.within in
     let P : Srh → Type 0 = λ s. has_bad_segments s ≡ false in

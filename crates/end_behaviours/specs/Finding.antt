@@ -1,6 +1,6 @@
 -- What decides what comes of a packet at a SID, before anything is written.
 use Rattle.std.specs.Prelude.{◌≡◌, ℕ, ◌+◌, ◌-◌, ◌≤◌, Bool, true, false, ◌==◌, if◌then◌else◌, List, length, take, Option, Some, None}
-use Rattle.srv6_rules.specs.declared.numbers.TheConstants.{MOST_LEN}
+use Rattle.srv6_rules.specs.declared.numbers.TheConstants.{MAX_PACKET_LEN}
 use Rattle.srv6_rules.specs.declared.sid.SidEntry.{SidEntry}
 use Rattle.srv6_rules.specs.Packet.{Packet, header_len}
 use Rattle.srv6_rules.specs.Srh.{srh_of}
@@ -59,7 +59,7 @@ IsFound s p first rest e (Step place len) = IsStep s p first e (place_view place
 IsFound s p first rest e (Last place next) = IsLast p first rest e (place_view place) (place_view next)
 IsFound s p first rest e (Expose family at) = (e ≡ Exposed family (from_place p at)) × IsWithin p first at
 IsFound s p first rest e Deliver = e ≡ Delivered p
-IsFound s p first rest e (Refuse fault) = (e ≡ Refused fault.reason fault.at) × (fault.at ≤ MOST_LEN)
+IsFound s p first rest e (Refuse fault) = (e ≡ Refused fault.reason fault.at) × (fault.at ≤ MAX_PACKET_LEN)
 
 -- what is found at a header, whatever comes of the packet behind it; none where it is passed over
 abbrev pub IsFoundAt : SidEntry → Packet → Header → Option Found → Type 0

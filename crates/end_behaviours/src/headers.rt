@@ -15,7 +15,7 @@ use endpoint_chain::{header_fault, unknown_routing_fault};
 use ip6_headers::{ChainPlace, Fault};
 use replace_csid::is_at_end;
 use srv6_rules::numbers::{
-    DESTINATION_OPTIONS, HOP_BY_HOP, MOST_LEN, ROUTING, ROUTING_TYPE_AT, SEGMENT_ROUTING,
+    DESTINATION_OPTIONS, HOP_BY_HOP, MAX_PACKET_LEN, ROUTING, ROUTING_TYPE_AT, SEGMENT_ROUTING,
     SEGMENTS_LEFT_AT,
 };
 use srv6_rules::{Csid, Family, SidEntry};
@@ -56,7 +56,7 @@ fn is_last(sid: &SidEntry, bytes: &[u8], place: ChainPlace, header: &[u8]) -> bo
 /// A header that a fault refuses, or none where it is passed over.
 fn refused(fault: Option<Fault>) -> Option<Found>
     ensures { (s : SidValue) (p : Packet) (h : Header)
-        → IsHeaderFault (at_header s p h) fault → IfSome fault (λ f. f.at ≤ MOST_LEN)
+        → IsHeaderFault (at_header s p h) fault → IfSome fault (λ f. f.at ≤ MAX_PACKET_LEN)
         → IsFoundAt s p h result }
 {
     match fault {

@@ -8,7 +8,7 @@ ghost use Rattle.srv6_rules.specs.Srh.{srh_of};
 ghost use Rattle.ip6_headers.specs.Reading.{HoldsPacket};
 ghost use Rattle.ip6_headers.specs.Stepping.{header_at, place_view};
 ghost use Rattle.end_behaviours.specs.Finding.{LiesAt, header_of};
-ghost use Rattle.end_behaviours.specs.Stepping.{IsJudged};
+ghost use Rattle.end_behaviours.specs.Stepping.{IsSegmentStep};
 
 use endpoint_chain::bad_segments;
 use ip6_headers::{ChainPlace, Fault, Ip6View};
@@ -20,7 +20,7 @@ use v6_addr::Addr;
 /// The step over a segment routing header: Segments Left and the destination behind it, or why the
 /// packet is dropped.
 #[derive(Clone, Copy, Debug)]
-pub(crate) enum Judged {
+pub(crate) enum SegmentStep {
     Advance { left: u8, destination: Addr },
     Refuse { fault: Fault },
 }
@@ -35,43 +35,43 @@ fn has_bad_segments(srh: &SrhView<'_>) -> bool
 
 /// The step over the segment routing header at a place, with segments left: the hop limit is
 /// judged, then the segments, then the type-length-value area (RFC 8754 section 4.3.1.1).
-fn judge_step(packet: &Ip6View<'_>, place: ChainPlace, header: &[u8]) -> Judged
+fn judge_step(packet: &Ip6View<'_>, place: ChainPlace, header: &[u8]) -> SegmentStep
     requires routing { place.kind ≡ ROUTING }
     requires lies { LiesIn packet.now (header_at place header.now) }
     requires left { 0 < segments_left (header_at place header.now) }
-    ensures { IsJudged packet.now place.at (srh_of header.now) result }
+    ensures { IsSegmentStep packet.now place.at (srh_of header.now) result }
 {
     packet.keeps_rules();
     let Ok(srh) = SrhView::read(header) else {
         unreachable!();
     };
     if packet.hop_limit() <= 1 {
-        return Judged::Refuse {
+        return SegmentStep::Refuse {
             fault: Fault::of(Reason::HopLimit),
         };
     }
     if has_bad_segments(&srh) {
-        return Judged::Refuse {
+        return SegmentStep::Refuse {
             fault: bad_segments(place.at),
         };
     }
     if let Err(fault) = tlvs(&srh, place.at) {
-        return Judged::Refuse { fault };
+        return SegmentStep::Refuse { fault };
     }
     let left = srh.segments_left() - 1;
-    Judged::Advance {
+    SegmentStep::Advance {
         left,
         destination: srh.entry(usize::from(left)),
     }
 }
 
 /// The same in a packet's bytes, of the header of so many bytes at a place.
-pub(crate) fn judge_bytes(bytes: &[u8], place: ChainPlace, len: usize) -> Judged
+pub(crate) fn judge_bytes(bytes: &[u8], place: ChainPlace, len: usize) -> SegmentStep
     requires packet { HoldsPacket bytes.now }
     requires header { LiesAt (packet_at bytes.now) place.at (place_view place) len }
     requires left { 0 < segments_left
         (header_of (packet_at bytes.now) (place_view place) len) }
-    ensures { IsJudged (packet_at bytes.now) place.at
+    ensures { IsSegmentStep (packet_at bytes.now) place.at
         (srh_of (header_of (packet_at bytes.now) (place_view place) len).bytes) result }
 {
     let packet = Ip6View::over(bytes);

@@ -14,13 +14,13 @@ ghost use Rattle.ip6_headers.specs.Stepping.{place_view};
 ghost use Rattle.end_behaviours.specs.Finding.{LiesAt, header_of, is_last};
 ghost use Rattle.end_behaviours.specs.Stepping.{Reaches, Remains, move_to};
 
-use crate::stepping::{Judged, judge_bytes};
+use crate::stepping::{SegmentStep, judge_bytes};
 use endpoint_chain::{EndOutcome, take_out};
 use ip6_headers::{ChainPlace, Ip6Edit, Ip6View};
 use next_csid::{ShiftOutcome, shift};
 use pkt_buf::PktBuf;
 use replace_csid::{ReplaceOutcome, replace};
-use srv6_rules::numbers::{MOST_LEN, NEXT_HEADER_AT, SEGMENTS_LEFT_AT};
+use srv6_rules::numbers::{MAX_PACKET_LEN, NEXT_HEADER_AT, SEGMENTS_LEFT_AT};
 use srv6_rules::{Csid, Reason, SidEntry};
 use v6_addr::Addr;
 
@@ -46,7 +46,7 @@ pub(crate) fn shift_on(sid: &SidEntry, buf: &mut PktBuf) -> EndOutcome
 fn write_step(bytes: &mut [u8], at: usize, left: u8, destination: Addr)
     requires packet { HoldsPacket bytes.old }
     requires within { at + SEGMENTS_LEFT_AT < length bytes.old }
-    requires place { at ≤ MOST_LEN }
+    requires place { at ≤ MAX_PACKET_LEN }
     requires hop_limit { 1 ≤ (packet_at bytes.old).hop_limit }
     ensures { bytes.new ≡ with_move bytes.old at (move_to left destination.value) }
 {
@@ -91,12 +91,12 @@ fn step_whole(sid: &SidEntry, buf: &mut PktBuf, place: ChainPlace, len: usize) -
     ensures reaches { Reaches place.at buf.new.bytes result }
 {
     match judge_bytes(buf.view(), place, len) {
-        Judged::Advance { left, destination } => {
+        SegmentStep::Advance { left, destination } => {
             write_step(buf.view_mut(), place.at, left, destination);
             pop(sid, left == 0, buf, place, len);
             EndOutcome::On
         }
-        Judged::Refuse { fault } => EndOutcome::dropped(fault),
+        SegmentStep::Refuse { fault } => EndOutcome::dropped(fault),
     }
 }
 

@@ -8,14 +8,14 @@ ghost use Rattle.ip6_headers.specs.Stepping.{header_at};
 
 use crate::headers::{cut_fault, header_fault, unknown_routing_fault};
 use ip6_headers::{ChainPlace, Fault, Ip6View, Stands, stands_at};
-use srv6_rules::numbers::{EXTENSION_UNIT, MOST_LEN, ROUTING};
+use srv6_rules::numbers::{EXTENSION_UNIT, MAX_PACKET_LEN, ROUTING};
 
 /// Why a header is refused at the node's own address, where every routing header is unknown, or
 /// none where it is passed over (RFC 8200 section 4).
 fn fault_of_header(place: ChainPlace, header: &[u8]) -> Option<Fault>
     requires extension { is_extension place.kind ≡ true }
     requires least { EXTENSION_UNIT ≤ length header.now }
-    requires fits { place.at + length header.now ≤ MOST_LEN }
+    requires fits { place.at + length header.now ≤ MAX_PACKET_LEN }
     ensures { IsHeaderFault (at_address_header (header_at place header.now)) result }
 {
     if place.kind == ROUTING {

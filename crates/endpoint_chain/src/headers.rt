@@ -9,7 +9,7 @@ ghost use Rattle.ip6_headers.specs.Stepping.{header_at};
 use ip6_headers::{ChainPlace, Fault, options};
 use srv6_rules::Reason;
 use srv6_rules::numbers::{
-    DESTINATION_OPTIONS, EXTENSION_UNIT, HOP_BY_HOP, MOST_LEN, NEXT_HEADER_AT, ROUTING,
+    DESTINATION_OPTIONS, EXTENSION_UNIT, HOP_BY_HOP, MAX_PACKET_LEN, NEXT_HEADER_AT, ROUTING,
     ROUTING_TYPE_AT, SEGMENTS_LEFT_AT,
 };
 
@@ -20,7 +20,7 @@ pub fn header_fault(place: ChainPlace, header: &[u8]) -> Option<Fault>
     requires extension { is_extension place.kind ≡ true }
     requires other { place.kind ≢ ROUTING }
     requires least { EXTENSION_UNIT ≤ length header.now }
-    requires fits { place.at + length header.now ≤ MOST_LEN }
+    requires fits { place.at + length header.now ≤ MAX_PACKET_LEN }
     ensures { (route : Header → Endpoint → Endpoint)
         → IsHeaderFault (at_header_by route (header_at place header.now)) result }
 {
@@ -49,7 +49,7 @@ pub fn header_fault(place: ChainPlace, header: &[u8]) -> Option<Fault>
 /// (RFC 8200 section 4.4).
 pub fn unknown_routing_fault(place: ChainPlace, header: &[u8]) -> Option<Fault>
     requires least { EXTENSION_UNIT ≤ length header.now }
-    requires fits { place.at + length header.now ≤ MOST_LEN }
+    requires fits { place.at + length header.now ≤ MAX_PACKET_LEN }
     ensures { IsHeaderFault (unknown_routing (header_at place header.now)) result }
 {
     if header[SEGMENTS_LEFT_AT] == 0 {
@@ -65,7 +65,7 @@ pub fn unknown_routing_fault(place: ChainPlace, header: &[u8]) -> Option<Fault>
 /// none may be, which is a fault in Segments Left (RFC 8754 section 4.3.1.1, RFC 8986 sections 4.1
 /// and 4.4 to 4.8).
 pub fn bad_segments(at: usize) -> Fault
-    requires { at ≤ MOST_LEN }
+    requires { at ≤ MAX_PACKET_LEN }
     ensures { result ≡ record { reason = Reason.BadSegments; at = at + SEGMENTS_LEFT_AT } }
 {
     Fault {

@@ -7,7 +7,7 @@ use crate::packets::{is_whole, is_whole4};
 use base::Seq;
 use pkt_buf::PktBuf;
 use policy_encap::{EncapFault, PushFault, encap, push};
-use srv6_rules::numbers::MOST_LEN;
+use srv6_rules::numbers::MAX_PACKET_LEN;
 use srv6_rules::{Family, Policy};
 use std::alloc::{AllocError, Global};
 use std::process::Abort;
@@ -91,8 +91,8 @@ fn joined(alloc: Global, a: &[u8], b: &[u8]) -> Result<Vec<u8>, AllocError> {
 
 /// A packet of so many bytes of 0, with none spare in front.
 fn zeros(alloc: Global, n: usize) -> Result<PktBuf, AllocError>
-    requires { n ≤ MOST_LEN }
-    ensures { IfOk result (λ buf. length buf.bytes ≤ MOST_LEN) }
+    requires { n ≤ MAX_PACKET_LEN }
+    ensures { IfOk result (λ buf. length buf.bytes ≤ MAX_PACKET_LEN) }
 {
     let mut bytes = Vec::new(alloc);
     bytes.resize(n, 0)?;

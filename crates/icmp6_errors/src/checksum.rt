@@ -4,13 +4,13 @@ ghost use Rattle.std.specs.Prelude.{◌≡◌, ◌-◌, ◌*◌, ◌≤◌, leng
 ghost use Rattle.srv6_rules.specs.Packet.{address_bytes};
 ghost use Rattle.srv6_rules.specs.Checksum.{all_ones, carried, pseudo_header, word_sum};
 
-use srv6_rules::numbers::{ICMPV6, LEAST_MTU};
+use srv6_rules::numbers::{ICMPV6, MIN_MTU};
 use v6_addr::Addr;
 
 /// The sum of the words of bytes; an odd last byte is the high one of its word (RFC 1071 section
 /// 1).
 pub(crate) fn word_sum(bytes: &[u8]) -> u32
-    requires { length bytes.now ≤ LEAST_MTU }
+    requires { length bytes.now ≤ MIN_MTU }
     ensures sum { result ≡ word_sum bytes.now }
     ensures most { result ≤ 65535 * length bytes.now }
 {

@@ -13,17 +13,17 @@ use arrayvec::ArrayVec;
 use ip6_headers::Ip6View;
 use srv6_rules::IcmpKind;
 use srv6_rules::numbers::{
-    ICMPV6, ICMPV6_HEADER_LEN, ICMPV6_HOP_LIMIT, IPV6_HEADER_LEN, IPV6_VERSION, LEAST_MTU,
-    MOST_QUOTE_LEN,
+    ICMPV6, ICMPV6_HEADER_LEN, ICMPV6_HOP_LIMIT, IPV6_HEADER_LEN, IPV6_VERSION, MAX_QUOTE_LEN,
+    MIN_MTU,
 };
 use v6_addr::Addr;
 
 /// Room for an ICMPv6 error, which is at most 1,280 bytes long (RFC 4443 section 3).
-pub type IcmpSlot = ArrayVec<u8, LEAST_MTU>;
+pub type IcmpSlot = ArrayVec<u8, MIN_MTU>;
 
 /// Appends bytes.
 fn append(out: &mut IcmpSlot, bytes: &[u8])
-    requires { array_vec_len out.old + length bytes.now ≤ LEAST_MTU }
+    requires { array_vec_len out.old + length bytes.now ≤ MIN_MTU }
     ensures { out.new.items ≡ out.old.items ++ bytes.now }
 {
     out.try_extend_from_slice(bytes).unwrap();
@@ -31,7 +31,7 @@ fn append(out: &mut IcmpSlot, bytes: &[u8])
 
 /// Appends the IPv6 header in front of an ICMPv6 message of a length (RFC 8200 section 3).
 fn append_header(out: &mut IcmpSlot, source: Addr, destination: Addr, len: u16)
-    requires { array_vec_len out.old + IPV6_HEADER_LEN ≤ LEAST_MTU }
+    requires { array_vec_len out.old + IPV6_HEADER_LEN ≤ MIN_MTU }
     ensures bytes { (message : List ℕ) → length message ≡ len
         → out.new.items
         ≡ out.old.items ++ header_spelling (icmp_packet source.value destination.value message) }
@@ -51,7 +51,7 @@ fn write_error(packet: &Ip6View<'_>, kind: &IcmpKind, from: Addr, out: &mut Icmp
     ensures { out.new.items ≡ spelling (error_about packet.now kind.now from.value) }
 {
     let bytes = packet.bytes();
-    let quote = bytes.split_at(MOST_QUOTE_LEN.min(bytes.len())).0;
+    let quote = bytes.split_at(MAX_QUOTE_LEN.min(bytes.len())).0;
     let len = (ICMPV6_HEADER_LEN + quote.len()) as u16;
     let to = packet.source();
     let sum = pseudo_sum(from, to, len) + word_sum(&message_head(kind, 0)) + word_sum(quote);

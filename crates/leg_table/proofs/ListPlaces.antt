@@ -18,7 +18,7 @@ use Rattle.net_model.specs.Keeps.{Keeps, IsBlockOf}
 use Rattle.net_model.proofs.PublicLaws.{block_of-is}
 use Rattle.list_places.specs.Lists as lists
 use Rattle.list_places.specs.Lists.{ListSid, SidBlock, IsFlatSid, SuitsBlock, IsFlatList, IsFlatContainer, block_len, sids_in}
-use Rattle.list_places.specs.Places.{Place, InFull, InPacked, Tunnel, active, behind_of, destination_of, sids_from, entered, next_of, first_of, IsPlace, Along}
+use Rattle.list_places.specs.Places.{ListPlace, InFull, InPacked, Tunnel, active, behind_of, destination_of, sids_from, entered, next_of, first_of, IsPlace, Along}
 use Rattle.list_places.proofs.PublicLaws.{along-holds, destination-holds, sids-next, sids-last}
 use Rattle.list_pack.specs.declared.types.Container.{Container}
 use Rattle.list_pack.specs.declared.types.Container.TheVariants as containers
@@ -34,34 +34,34 @@ heads a b xs ys e = (cc, cc)
 
 -- ---- what is active, and what follows
 
-pub active-first : (x : Place) → (ss : List ListSid) × (sids_from x ≡ active x ∷ ss)
+pub active-first : (x : ListPlace) → (ss : List ListSid) × (sids_from x ≡ active x ∷ ss)
 active-first (InFull s ss cs) = (ss ++ sids_in cs, refl)
 active-first (InPacked bs s ss cs) = (ss ++ sids_in cs, refl)
 
-pub active-is : (x : Place) (s : ListSid) (ss : List ListSid) → sids_from x ≡ s ∷ ss → active x ≡ s
+pub active-is : (x : ListPlace) (s : ListSid) (ss : List ListSid) → sids_from x ≡ s ∷ ss → active x ≡ s
 active-is x s ss e = let first = active-first x in (heads (active x) s first.0 ss (sym first.1 ∙ e)).0
 
-pub next-none : (x : Place) (s : ListSid) → sids_from x ≡ s ∷ [] → next_of x ≡ None
+pub next-none : (x : ListPlace) (s : ListSid) → sids_from x ≡ s ∷ [] → next_of x ≡ None
 next-none x s e = by_next (next_of x) refl
   where
-    by_next : (o : Option Place) → next_of x ≡ o → next_of x ≡ None
+    by_next : (o : Option ListPlace) → next_of x ≡ o → next_of x ≡ None
     by_next None f = f
     by_next (Some y) f =
         let first = active-first y in
         let rest = (heads (active x) s (sids_from y) [] (sym (sids-next x y f) ∙ e)).1 in
         absurd (cc (first.1, rest))
 
-pub next-some : (x : Place) (s t : ListSid) (ts : List ListSid) → sids_from x ≡ s ∷ t ∷ ts
-    → (y : Place) × (next_of x ≡ Some y) × (sids_from y ≡ t ∷ ts)
+pub next-some : (x : ListPlace) (s t : ListSid) (ts : List ListSid) → sids_from x ≡ s ∷ t ∷ ts
+    → (y : ListPlace) × (next_of x ≡ Some y) × (sids_from y ≡ t ∷ ts)
 next-some x s t ts e = by_next (next_of x) refl
   where
-    by_next : (o : Option Place) → next_of x ≡ o → (y : Place) × (next_of x ≡ Some y) × (sids_from y ≡ t ∷ ts)
+    by_next : (o : Option ListPlace) → next_of x ≡ o → (y : ListPlace) × (next_of x ≡ Some y) × (sids_from y ≡ t ∷ ts)
     by_next None f = let rest = (heads (active x) s [] (t ∷ ts) (sym (sids-last x f) ∙ e)).1 in absurd (cc)
     by_next (Some y) f = (y, f, (heads (active x) s (sids_from y) (t ∷ ts) (sym (sids-next x y f) ∙ e)).1)
 
 -- ---- how many SIDs stand before the last container
 
-to-place : (P : Place → Type 0) (x y : Place) → Some x ≡ Some y → P x → P y
+to-place : (P : ListPlace → Type 0) (x y : ListPlace) → Some x ≡ Some y → P x → P y
 to-place P x y e h = subst P (some-same x y e) h
 
 abbrev pub before_in : List lists.Container → ℕ
@@ -73,11 +73,11 @@ abbrev pub before_by : ℕ → List lists.Container → ℕ
 before_by n [] = 0
 before_by n (c ∷ cs) = n + before_in (c ∷ cs)
 
-abbrev pub before_from : Place → ℕ
+abbrev pub before_from : ListPlace → ℕ
 before_from (InFull s ss cs) = before_by (length (s ∷ ss)) cs
 before_from (InPacked bs s ss cs) = before_by (length (s ∷ ss)) cs
 
-pub before-last : (x : Place) → behind_of x ≡ [] → before_from x ≡ 0
+pub before-last : (x : ListPlace) → behind_of x ≡ [] → before_from x ≡ 0
 before-last (InFull s ss []) e = refl
 before-last (InFull s ss (c ∷ cs)) e = absurd (cc)
 before-last (InPacked bs s ss []) e = refl
@@ -94,7 +94,7 @@ step-less n [] = omega arith
 step-less n (c ∷ cs) = omega arith
 
 -- a step lowers it by at most one
-pub before-next : (x y : Place) → next_of x ≡ Some y → before_from x ≤ suc (before_from y)
+pub before-next : (x y : ListPlace) → next_of x ≡ Some y → before_from x ≤ suc (before_from y)
 before-next (InFull s [] []) y e = absurd (cc)
 before-next (InFull s [] (c ∷ cs)) y e =
     to-place (λ z. before_by 1 (c ∷ cs) ≤ suc (before_from z)) (entered c cs) y e (let f = before-entered c cs in omega arith)
@@ -140,7 +140,7 @@ packed-long s b flat own kind =
     by len (inl short) = omega (arith, len, short)
     by len (inr long) = omega (arith, len, long)
 
-kind-at : (net : Network) → Keeps net → (x : Place) (p : PrefixValue) → IsPlace x → active x ≡ list_sid net p → IsFlatSid (list_sid net p)
+kind-at : (net : Network) → Keeps net → (x : ListPlace) (p : PrefixValue) → IsPlace x → active x ≡ list_sid net p → IsFlatSid (list_sid net p)
     → is_multicast (destination_of x) ≡ is_multicast p.value
 kind-at net keeps (InFull s [] cs) p is same flat =
     ap is_multicast (container-one (block_len s.block) s.prefix ∙ ap (λ (t : ListSid). t.prefix.value) same)
@@ -157,7 +157,7 @@ kind-at net keeps (InPacked bs s ss cs) p is same flat =
     multicast-same p (destination_of (InPacked bs s ss cs)) (omega (arith, long)) held
 
 -- a packet at a place of a SID's prefix has an address of the SID as its destination
-pub address-at : (net : Network) → Keeps net → FlatFacts net → (t : Tunnel) (x : Place) (hop : ℕ) (q : Packet) (n : ℕ) (s : SidEntry)
+pub address-at : (net : Network) → Keeps net → FlatFacts net → (t : Tunnel) (x : ListPlace) (hop : ℕ) (q : Packet) (n : ℕ) (s : SidEntry)
     → Along t x hop q → slice_get net.sids n ≡ Some s → active x ≡ list_sid net s.prefix → IsAddressOf net n q.destination
 address-at net keeps facts t x hop q n s along there same =
     let to = ap (λ (r : Packet). r.destination) along.packet in
@@ -202,7 +202,7 @@ list-before net (c ∷ d ∷ more) =
     omega arith
 
 -- as many stand before a list's last container at its first place
-pub before-first : (net : Network) (list : List Container) (x : Place) → first_of (list_in net list) ≡ Some x
+pub before-first : (net : Network) (list : List Container) (x : ListPlace) → first_of (list_in net list) ≡ Some x
     → before_from x ≡ before_last list
 before-first net [] x e = absurd (cc)
 before-first net (c ∷ list) x e =

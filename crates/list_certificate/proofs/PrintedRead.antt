@@ -22,8 +22,8 @@ use Rattle.list_certificate.specs.declared.types.PathLine.{PathLine}
 use Rattle.list_certificate.specs.declared.types.Cert.{Cert}
 use Rattle.list_certificate.specs.declared.item.Item.{Item}
 use Rattle.list_certificate.specs.declared.item.Item.TheVariants as items
-use Rattle.list_certificate.specs.declared.draft.Stage.{Stage}
-use Rattle.list_certificate.specs.declared.draft.Stage.TheVariants as stages
+use Rattle.list_certificate.specs.declared.draft.Progress.{Progress}
+use Rattle.list_certificate.specs.declared.draft.Progress.TheVariants as stages
 use Rattle.list_certificate.specs.Certs.{potential_lines, path_lines, none_line, way_count, certificate_of}
 use Rattle.list_certificate.specs.Spelling.{potential_text, step_text, none_text, way_text, head_text, end_text, spelled}
 use Rattle.list_certificate.specs.Reading.{IsNetworkOf, Read, nothing_read, is_behind, is_next, with_line, item_in, go_on, reads, read_of, cert_of, ended_by}
@@ -88,7 +88,7 @@ module _ (net : Network) (v : LegsValue) where
       ∙ ap (λ (x : ℕ). reads net v (slice_split is_feed rest) x nothing_read) same
 
   -- what was read between the head and the end
-  abbrev read_so : Stage → ℕ → List PotentialLine → List PathLine → Option ℕ → Read
+  abbrev read_so : Progress → ℕ → List PotentialLine → List PathLine → Option ℕ → Read
   read_so stage head potentials path none =
       record { stage = stage; head = head; potentials = potentials; path = path; none = none; end = 0 }
 
@@ -142,7 +142,7 @@ module _ (net : Network) (v : LegsValue) where
       (append_assoc path (line ∷ []) (path_lines (n + 1) ps))
 
   ended-at : (r : Read) (n : ℕ) → r.stage ≡ stages.AtEnd → reads net v (slice_split is_feed []) n r ≡ Ok (cert_of r)
-  ended-at r n at = ap (λ (s : Stage). ended_by s r n []) at
+  ended-at r n at = ap (λ (s : Progress). ended_by s r n []) at
 
   with-end-in : (head n : ℕ) (ls : List PotentialLine) (path : List PathLine)
       → with_line v (read_so stages.InPath head ls path None) n items.End

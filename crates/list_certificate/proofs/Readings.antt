@@ -18,15 +18,15 @@ use Rattle.list_certificate.specs.declared.types.Cert.{Cert}
 use Rattle.list_certificate.specs.declared.types.CertFault.{CertFault}
 use Rattle.list_certificate.specs.declared.item.Item.{Item}
 use Rattle.list_certificate.specs.declared.item.Item.TheVariants as items
-use Rattle.list_certificate.specs.declared.draft.Stage.{Stage}
-use Rattle.list_certificate.specs.declared.draft.Stage.TheVariants as stages
+use Rattle.list_certificate.specs.declared.draft.Progress.{Progress}
+use Rattle.list_certificate.specs.declared.draft.Progress.TheVariants as stages
 use Rattle.list_certificate.specs.Certs.{IsWritten, IsCert}
-use Rattle.list_certificate.specs.Reading.{Cut, cut_by, cut_at, Read, nothing_read, is_behind, is_next, with_potential, with_step, before_head, after_head, in_path, before_end, with_line_at, with_line, item_in, cert_of, ended_by, ended, go_on, reads, IsItem, AreStates, Gives}
+use Rattle.list_certificate.specs.Reading.{Cut, cut_by, cut_at, Read, nothing_read, is_behind, is_next, with_potential, with_step, before_head, after_head, in_path, before_end, with_line_at, with_line, item_in, cert_of, ended_by, ended, go_on, reads, IsItem, AreStates, GivesCertificate}
 use Rattle.list_pack.proofs.Orders.{lex-trans}
 
 -- ---- what was read so far
 
-abbrev pub IsWay : Stage → Option ℕ → List PathLine → Type 0
+abbrev pub IsWay : Progress → Option ℕ → List PathLine → Type 0
 IsWay stages.BeforeHead none path = (none ≡ None) × (path ≡ [])
 IsWay stages.AfterHead none path = (none ≡ None) × (path ≡ [])
 IsWay stages.InPath none path = (none ≡ None) × (0 < length path)
@@ -118,7 +118,7 @@ written-none None path e h = absurd (false≢true h)
 written-none (Some line) path e h = e
 
 module _ (v : LegsValue) (r next : Read) (line : ℕ) (is : IsRead v r) where
-  abbrev Way : Stage → Type 0
+  abbrev Way : Progress → Type 0
   Way stage = IsWay stage r.none r.path
 
   read-before : (item : Item) → Way stages.BeforeHead → before_head r line item ≡ Some next → IsRead v next
@@ -172,7 +172,7 @@ module _ (v : LegsValue) (r next : Read) (line : ℕ) (is : IsRead v r) where
   read-end items.Head way e = absurd (none-some next e)
   read-end items.Other way e = absurd (none-some next e)
 
-  read-at : (item : Item) (stage : Stage) → r.stage ≡ stage → IsItem v item → with_line_at v stage r line item ≡ Some next
+  read-at : (item : Item) (stage : Progress) → r.stage ≡ stage → IsItem v item → with_line_at v stage r line item ≡ Some next
       → IsRead v next
   read-at item stages.BeforeHead at state e = read-before item (subst Way at is.way) e
   read-at item stages.AfterHead at state e = read-after item at (subst Way at is.way) state e
@@ -192,13 +192,13 @@ read-cert v r is at =
       order = λ i j d h k.
           is.order i j (get_or r.potentials i d) (get_or r.potentials j d) (slice_get-get_or r.potentials i d (omega (arith, h, k)))
           (slice_get-get_or r.potentials j d k) h;
-      written = subst (λ (s : Stage). IsWay s r.none r.path) at is.way;
+      written = subst (λ (s : Progress). IsWay s r.none r.path) at is.way;
     }
 
 err-ok : {A B : Type 0} (e : B) (a : A) → ◌≡◌ {A = Result A B} (Err e) (Ok a) → ⊥
 err-ok e a h = cc
 
-pub ended-cert : (v : LegsValue) (r : Read) (line : ℕ) (last : List ℕ) (cert : Cert) (stage : Stage) → IsRead v r → r.stage ≡ stage
+pub ended-cert : (v : LegsValue) (r : Read) (line : ℕ) (last : List ℕ) (cert : Cert) (stage : Progress) → IsRead v r → r.stage ≡ stage
     → ended_by stage r line last ≡ Ok cert
     → IsCert v cert
 ended-cert v r line [] cert stages.AtEnd is at e =
@@ -211,7 +211,7 @@ ended-cert v r line last cert stages.InPath is at e = absurd (err-ok line cert e
 ended-cert v r line last cert stages.BeforeEnd is at e = absurd (err-ok line cert e)
 
 pub given-cert : (v : LegsValue) (r : Read) (line : ℕ) (last : List ℕ) (result : Result Cert CertFault) → IsRead v r
-    → Gives result (ended r line last)
+    → GivesCertificate result (ended r line last)
     → IfOk result (IsCert v)
 given-cert v r line last (Ok cert) is e = ended-cert v r line last cert r.stage is refl e
 given-cert v r line last (Err fault) is e = tt

@@ -28,8 +28,8 @@ use Rattle.list_certificate.specs.declared.draft.Draft.{Draft}
 use Rattle.list_certificate.specs.declared.draft.Key.{Key}
 use Rattle.list_certificate.specs.declared.types.CertFault.{CertFault}
 use Rattle.list_certificate.specs.declared.types.CertFault.TheVariants as faults
-use Rattle.list_certificate.specs.declared.draft.Stage.{Stage}
-use Rattle.list_certificate.specs.declared.draft.Stage.TheVariants as stages
+use Rattle.list_certificate.specs.declared.draft.Progress.{Progress}
+use Rattle.list_certificate.specs.declared.draft.Progress.TheVariants as stages
 use Rattle.list_certificate.specs.Spelling.{is_shared, name_by}
 
 -- the network is that of the legs: their SIDs are SIDs of it, with its prefixes and nodes
@@ -176,7 +176,7 @@ item_in net v line =
 
 -- what was read so far: the next line may be one before the head, a potential, a step, or the end, or nothing may follow
 pub record Read : Type 0 where
-  pub stage : Stage
+  pub stage : Progress
   pub head : ℕ
   pub potentials : List PotentialLine
   pub path : List PathLine
@@ -238,7 +238,7 @@ before_head r line (items.Listed q) = None
 before_head r line items.NoPath = None
 before_head r line items.Other = None
 
-abbrev pub with_line_at : LegsValue → Stage → Read → ℕ → Item → Option Read
+abbrev pub with_line_at : LegsValue → Progress → Read → ℕ → Item → Option Read
 with_line_at v stages.BeforeHead r line item = before_head r line item
 with_line_at v stages.AfterHead r line item = after_head v r line item
 with_line_at v stages.InPath r line item = in_path r line item
@@ -253,7 +253,7 @@ with_line v r line item = with_line_at v r.stage r line item
 abbrev pub cert_of : Read → Cert
 cert_of r = record { head = r.head; potentials = r.potentials; path = r.path; none = r.none; end = r.end }
 
-abbrev pub ended_by : Stage → Read → ℕ → List ℕ → Result Cert ℕ
+abbrev pub ended_by : Progress → Read → ℕ → List ℕ → Result Cert ℕ
 ended_by stages.AtEnd r line [] = Ok (cert_of r)
 ended_by stages.AtEnd r line (b ∷ bs) = Err line
 ended_by stages.BeforeHead r line last = Err line
@@ -314,6 +314,6 @@ abbrev pub Refuses : CertFault → Result Cert ℕ → Type 0
 Refuses (faults.BadCert line) read = read ≡ Err line
 Refuses faults.NoMemory read = Unit {0}
 
-abbrev pub Gives : Result Cert CertFault → Result Cert ℕ → Type 0
-Gives (Ok cert) read = read ≡ Ok cert
-Gives (Err fault) read = Refuses fault read
+abbrev pub GivesCertificate : Result Cert CertFault → Result Cert ℕ → Type 0
+GivesCertificate (Ok cert) read = read ≡ Ok cert
+GivesCertificate (Err fault) read = Refuses fault read

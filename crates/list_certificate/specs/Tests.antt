@@ -11,7 +11,7 @@ use Rattle.list_pack.specs.Value.{LegsValue}
 use Rattle.list_pack.specs.Costs.{Move, Edge, plus, edge_of, last_of, cost_of, behind, Under, start, IsState}
 use Rattle.list_pack.specs.Least.{IsGoodAt, IsBefore, step_of}
 use Rattle.list_certificate.specs.declared.types.PotentialLine.{PotentialLine}
-use Rattle.list_certificate.specs.declared.search.Place.{Place}
+use Rattle.list_certificate.specs.declared.search.StateKey.{StateKey}
 use Rattle.list_certificate.specs.declared.good.Spot.{Spot}
 use Rattle.list_certificate.specs.declared.path.Reached.{Reached}
 use Rattle.list_certificate.specs.declared.path.Spent.{Spent}
@@ -32,7 +32,7 @@ place_key_by v position (Some n) = position ∷ (v.shape n).prefix.value ∷ (v.
 abbrev pub place_key : LegsValue → State → List ℕ
 place_key v s = place_key_by v s.position s.via
 
-abbrev pub key_of : Option Place → List ℕ
+abbrev pub key_of : Option StateKey → List ℕ
 key_of None = []
 key_of (Some p) = p.position ∷ p.value ∷ p.len ∷ []
 

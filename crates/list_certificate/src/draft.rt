@@ -15,7 +15,7 @@ use std::alloc::Global;
 
 /// What the next line may be. (own rule)
 #[derive(Clone, Copy, Debug, PartialEq, Eq)]
-pub enum Stage {
+pub enum Progress {
     /// A comment or the head.
     BeforeHead,
     /// A potential, a step of the path, or that there is none.
@@ -32,7 +32,7 @@ pub enum Stage {
 #[derive(Debug, Drop)]
 pub struct Draft {
     /// What the next line may be.
-    pub stage: Stage,
+    pub stage: Progress,
     /// The line of the head, 0 before it.
     pub head: u32,
     /// The potentials.
@@ -51,7 +51,7 @@ impl Draft {
         ensures { reading.read_value result ≡ reading.nothing_read }
     {
         Draft {
-            stage: Stage::BeforeHead,
+            stage: Progress::BeforeHead,
             head: 0,
             potentials: Vec::new(alloc),
             path: Vec::new(alloc),
@@ -140,7 +140,7 @@ fn before_head(draft: Draft, line: u32, item: Item) -> Option<Draft>
     match item {
         Item::Comment => Some(draft),
         Item::Head => Some(Draft {
-            stage: Stage::AfterHead,
+            stage: Progress::AfterHead,
             head: line,
             ..draft
         }),
@@ -154,7 +154,7 @@ fn before_end(draft: Draft, line: u32, item: Item) -> Option<Draft>
 {
     match item {
         Item::End => Some(Draft {
-            stage: Stage::AtEnd,
+            stage: Progress::AtEnd,
             end: line,
             ..draft
         }),
@@ -169,7 +169,7 @@ fn with_step(mut draft: Draft, line: u32, step: PathStep) -> Result<Draft, NoMem
         ≡ reading.with_step (reading.read_value draft) line step) }
 {
     draft.path.push(PathLine { step, line })?;
-    draft.stage = Stage::InPath;
+    draft.stage = Progress::InPath;
     Ok(draft)
 }
 
@@ -218,7 +218,7 @@ fn after_head<L: Legs>(
         }
         Item::Step(step) => Ok(Some(with_step(draft, line, step)?)),
         Item::NoPath => Ok(Some(Draft {
-            stage: Stage::BeforeEnd,
+            stage: Progress::BeforeEnd,
             none: Some(line),
             ..draft
         })),
@@ -242,10 +242,10 @@ pub fn with_line<L: Legs>(
         ≡ reading.with_line (L.seen legs.now) (reading.read_value draft) line item) }
 {
     match draft.stage {
-        Stage::BeforeHead => Ok(before_head(draft, line, item)),
-        Stage::AfterHead => after_head(net, legs, draft, line, item),
-        Stage::InPath => in_path(draft, line, item),
-        Stage::BeforeEnd => Ok(before_end(draft, line, item)),
-        Stage::AtEnd => Ok(None),
+        Progress::BeforeHead => Ok(before_head(draft, line, item)),
+        Progress::AfterHead => after_head(net, legs, draft, line, item),
+        Progress::InPath => in_path(draft, line, item),
+        Progress::BeforeEnd => Ok(before_end(draft, line, item)),
+        Progress::AtEnd => Ok(None),
     }
 }

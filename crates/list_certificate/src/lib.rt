@@ -31,6 +31,6 @@ pub use laws::{
     a_certificate_has_one_verdict, a_certificate_that_is_least_is_least, a_solution_is_good,
     what_is_printed_is_read_back,
 };
-pub use reader::{MAX_BYTES, read};
+pub use reader::read;
 pub use spelling::{append_state, print};
 pub use types::{Cert, CertFault, PathLine, PotentialLine, Verdict, Why};

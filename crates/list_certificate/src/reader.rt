@@ -4,7 +4,7 @@ ghost use Rattle.std.specs.Prelude.{◌≡◌, ◌≤◌, length, IfOk};
 ghost use Rattle.list_certificate.specs.Certs.{IsCert};
 ghost use Rattle.list_certificate.specs.Reading as reading;
 
-use crate::draft::{Draft, Stage, with_line};
+use crate::draft::{Draft, Progress, with_line};
 use crate::item::item_of;
 use crate::types::{Cert, CertFault};
 use crate::words::cut;
@@ -13,23 +13,23 @@ use list_pack::Legs;
 use net_model::{MAX_TEXT_BYTES, Net};
 use std::alloc::Global;
 
-/// The most bytes of a certificate: those of a text, 4 MiB. (own rule)
-pub const MAX_BYTES: usize = MAX_TEXT_BYTES;
-
 // the certificate of what was read, where nothing follows its end
 fn finished(draft: Draft, line: u32, last: &[u8]) -> Result<Cert, CertFault>
     ensures { reading.Gives result (reading.ended (reading.read_value draft) line last.now) }
 {
     match draft.stage {
-        Stage::AtEnd if last.is_empty() => Ok(Cert {
+        Progress::AtEnd if last.is_empty() => Ok(Cert {
             head: draft.head,
             potentials: Seq::new(draft.potentials),
             path: Seq::new(draft.path),
             none: draft.none,
             end: draft.end,
         }),
-        Stage::BeforeHead | Stage::AfterHead | Stage::InPath | Stage::BeforeEnd | Stage::AtEnd =>
-            Err(CertFault::BadCert { line }),
+        Progress::BeforeHead
+        | Progress::AfterHead
+        | Progress::InPath
+        | Progress::BeforeEnd
+        | Progress::AtEnd => Err(CertFault::BadCert { line }),
     }
 }
 
@@ -42,7 +42,7 @@ fn finished(draft: Draft, line: u32, last: &[u8]) -> Result<Cert, CertFault>
 /// last. `NoMemory` says nothing about the text. (own rule)
 pub fn read<L: Legs>(alloc: Global, net: &Net, legs: &L, text: &[u8]) -> Result<Cert, CertFault>
     requires net { reading.IsNetworkOf net.now (L.seen legs.now) }
-    requires few { length text.now ≤ MAX_BYTES }
+    requires few { length text.now ≤ MAX_TEXT_BYTES }
     ensures value { reading.Gives result (reading.read_of net.now (L.seen legs.now) text.now) }
     ensures cert { IfOk result (IsCert (L.seen legs.now)) }
 {

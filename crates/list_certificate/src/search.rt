@@ -11,7 +11,7 @@ use list_pack::{Cost, Legs, State};
 
 /// What the order of states goes by first: the position and the prefix of the SID. (own rule)
 #[derive(Clone, Copy, Debug)]
-pub struct Place {
+pub struct StateKey {
     /// How many steps of the intent are done.
     pub position: u32,
     /// The address that the prefix begins with.
@@ -21,7 +21,7 @@ pub struct Place {
 }
 
 // the place of a state; none at the start
-fn place_of<L: Legs>(legs: &L, state: State) -> Option<Place>
+fn place_of<L: Legs>(legs: &L, state: State) -> Option<StateKey>
     requires { IsState (L.seen legs.now) state }
     ensures { key_of result ≡ place_key (L.seen legs.now) state }
 {
@@ -29,7 +29,7 @@ fn place_of<L: Legs>(legs: &L, state: State) -> Option<Place>
         None => None,
         Some(n) => {
             let prefix = legs.shape(n).prefix;
-            Some(Place {
+            Some(StateKey {
                 position: state.position,
                 value: prefix.value().value,
                 len: prefix.len(),
@@ -39,7 +39,7 @@ fn place_of<L: Legs>(legs: &L, state: State) -> Option<Place>
 }
 
 // a place comes before another; that of the start comes before all others
-fn is_before(a: Option<Place>, b: Option<Place>) -> bool
+fn is_before(a: Option<StateKey>, b: Option<StateKey>) -> bool
     ensures { result ≡ lex_before (key_of a) (key_of b) }
 {
     match (a, b) {
@@ -58,7 +58,7 @@ fn is_before(a: Option<Place>, b: Option<Place>) -> bool
 }
 
 // how many lines stand before a place
-fn first_at<L: Legs>(legs: &L, lines: &[PotentialLine], place: Option<Place>) -> usize
+fn first_at<L: Legs>(legs: &L, lines: &[PotentialLine], place: Option<StateKey>) -> usize
     requires { AreSorted (L.seen legs.now) lines.now }
     ensures splits { Splits (L.seen legs.now) lines.now (key_of place) result result }
     ensures within { result ≤ length lines.now }

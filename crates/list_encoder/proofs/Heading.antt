@@ -9,10 +9,10 @@ use Rattle.list_pack.specs.Costs.{Move, Edge, AtMost, plus, nothing, move_cost, 
 use Rattle.list_pack.specs.Least.{IsLeast}
 use Rattle.list_pack.proofs.PublicLaws.{at_most-both, edge-parts, last-parts, attained}
 use Rattle.list_encoder.specs.declared.cells.Cell.{Cell}
-use Rattle.list_encoder.specs.declared.table.Link.{Link}
+use Rattle.list_encoder.specs.declared.table.CellEdge.{CellEdge}
 use Rattle.list_encoder.specs.declared.picks.Spot.{Spot}
 use Rattle.list_encoder.specs.Cells.{cell_at, state_at, AreCells}
-use Rattle.list_encoder.specs.Table.{Costs, entry, IsLink, AreLeast}
+use Rattle.list_encoder.specs.Table.{Costs, entry, IsCellEdge, AreLeast}
 use Rattle.list_encoder.specs.Picks.{IsSpot, IsTight}
 use Rattle.list_encoder.proofs.Celling.{some-same}
 use Rattle.list_encoder.proofs.Rooms.{behind-few}
@@ -25,9 +25,9 @@ Behind v cells left more rest None = more ≡ []
 Behind v cells left more rest (Some j) = (cell : Cell) × (slice_get cells j ≡ Some cell) × (cost_of v (state_at cell left) more ≡ Some rest)
 
 pub record Head (v : LegsValue) (cells : List Cell) (t : Costs) (spot : Spot) (n : Move) (more : List Move) : Type 0 where
-  pub link : Link
+  pub link : CellEdge
   pub from : link.from ≡ spot.place
-  pub is_link : IsLink v cells link
+  pub is_link : IsCellEdge v cells link
   pub sid : link.sid ≡ n.sid
   pub left : ℕ
   pub rest : Cost
@@ -77,7 +77,7 @@ module _ (v : LegsValue) (laws : KeepsLaws v) (cells : List Cell) (are : AreCell
       → Head v cells t spot n []
   head-last spot n is h =
       let parts = last-parts v (state_at spot.cell spot.room) n spot.cost h in
-      let link : Link = record { from = spot.place; to = None; sid = n.sid; hops = parts.hops } in
+      let link : CellEdge = record { from = spot.place; to = None; sid = n.sid; hops = parts.hops } in
       record {
         link = link;
         from = refl;
@@ -95,8 +95,8 @@ module _ (v : LegsValue) (laws : KeepsLaws v) (cells : List Cell) (are : AreCell
   head-edge spot n e more d is h cost sum =
       let parts = edge-parts v (state_at spot.cell spot.room) n e h in
       let there = edge-link v laws cells are spot.place spot.room spot.cell n e is.here parts in
-      let link : Link = record { from = spot.place; to = Some there.0; sid = n.sid; hops = parts.leg.hops } in
-      let is_link : IsLink v cells link = record { cell = spot.cell; from = is.here; leads = (parts.leg.to, there.1, parts.leg_is) } in
+      let link : CellEdge = record { from = spot.place; to = Some there.0; sid = n.sid; hops = parts.leg.hops } in
+      let is_link : IsCellEdge v cells link = record { cell = spot.cell; from = is.here; leads = (parts.leg.to, there.1, parts.leg_is) } in
       let to : State = state_at (cell_at parts.leg.to n.sid) parts.room in
       let few = behind-few n.stays (option_map v.shape spot.cell.via) (v.shape n.sid) spot.room parts.room
       (link-shape v laws cells link is_link) is.few

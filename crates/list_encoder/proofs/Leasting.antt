@@ -8,9 +8,9 @@ use Rattle.list_pack.specs.Costs.{Move, Edge, plus, nothing, move_cost, edge_of,
 use Rattle.list_pack.specs.Least.{Attains}
 use Rattle.list_pack.proofs.PublicLaws.{under-none, under-trans, under-plus, edge-parts, last-parts, EdgeParts, under-behind, under-last}
 use Rattle.list_encoder.specs.declared.cells.Cell.{Cell}
-use Rattle.list_encoder.specs.declared.table.Link.{Link}
+use Rattle.list_encoder.specs.declared.table.CellEdge.{CellEdge}
 use Rattle.list_encoder.specs.Cells.{cell_at, state_at, AreCells}
-use Rattle.list_encoder.specs.Table.{Costs, entry, offer, IsLink, IsSound, HoldFrom, AreLeast}
+use Rattle.list_encoder.specs.Table.{Costs, entry, offer, IsCellEdge, IsSound, HoldFrom, AreLeast}
 use Rattle.list_encoder.proofs.Celling.{place_of}
 use Rattle.list_encoder.proofs.Rooms.{behind-few}
 use Rattle.list_encoder.proofs.Tables.{link-shape, plus-nothing}
@@ -31,8 +31,8 @@ module _ (v : LegsValue) (laws : KeepsLaws v) (cells : List Cell) (are : AreCell
         → Under (entry t k room) (Some c)
     under-end k room cell m c here l h =
         let parts = last-parts v (state_at cell room) m c h in
-        let link : Link = record { from = k; to = None; sid = m.sid; hops = parts.hops } in
-        let is : IsLink v cells link = record { cell = cell; from = here; leads = parts.finish_is } in
+        let link : CellEdge = record { from = k; to = None; sid = m.sid; hops = parts.hops } in
+        let is : IsCellEdge v cells link = record { cell = cell; from = here; leads = parts.finish_is } in
         let bound = hold link (omega arith) is cell m.stays room parts.room here l parts.room_is in
         let same : plus (move_cost m.stays parts.hops) nothing ≡ c = plus-nothing (move_cost m.stays parts.hops) ∙ parts.is in
         subst (λ (d : Cost). Under (entry t k room) (Some d)) same bound
@@ -46,8 +46,8 @@ module _ (v : LegsValue) (laws : KeepsLaws v) (cells : List Cell) (are : AreCell
         under-behind v (entry t k room) (edge_of v (state_at cell room) m) (λ (s : State). cost_of v s (n ∷ more)) (λ e h.
         let parts = edge-parts v (state_at cell room) m e h in
         let there = edge-link k room cell m e here parts in
-        let link : Link = record { from = k; to = Some there.0; sid = m.sid; hops = parts.leg.hops } in
-        let is : IsLink v cells link = record { cell = cell; from = here; leads = (parts.leg.to, there.1, parts.leg_is) } in
+        let link : CellEdge = record { from = k; to = Some there.0; sid = m.sid; hops = parts.leg.hops } in
+        let is : IsCellEdge v cells link = record { cell = cell; from = here; leads = (parts.leg.to, there.1, parts.leg_is) } in
         let few = behind-few m.stays (option_map v.shape cell.via) (v.shape m.sid) room parts.room (link-shape v laws cells link is) l
         parts.room_is in
         let first = hold link (omega arith) is cell m.stays room parts.room here l parts.room_is in

@@ -15,7 +15,7 @@ use Rattle.list_pack.proofs.PublicLaws.{edge-parts, last-parts}
 use Rattle.list_encoder.specs.declared.cells.Cell.{Cell}
 use Rattle.list_encoder.specs.Cells.{cell_at, start_cell, state_at, IsCellBy, AreCells, top_at, top_at_by}
 use Rattle.list_encoder.specs.Table.{Costs, entry, AreLeast, HasFewContainers}
-use Rattle.list_encoder.specs.declared.table.TheConstants.{MOST_CONTAINERS}
+use Rattle.list_encoder.specs.declared.table.TheConstants.{MAX_PATH_CONTAINERS}
 use Rattle.list_encoder.specs.Listing.{IsOfPlace, IsListed, IsTop, ListsFewContainers}
 use Rattle.list_pack.proofs.Orders.{head-same, head-less}
 use Rattle.list_encoder.proofs.Celling.{some-same, place_of, top-at-few}
@@ -244,5 +244,5 @@ module _ (v : LegsValue) (laws : KeepsLaws v) (cells : List Cell) (are : AreCell
 pub lists-few : (v : LegsValue) (cells : List Cell) (t : Costs) (n : ℕ) (ps : List Potential) → HasFewContainers t
     → IsListed v cells t n ps → ListsFewContainers ps
 lists-few v cells t n ps few listed =
-    All-weaker (Contains ps) (λ (p : Potential). p.cost.containers ≤ MOST_CONTAINERS)
+    All-weaker (Contains ps) (λ (p : Potential). p.cost.containers ≤ MAX_PATH_CONTAINERS)
     (λ q c. let place = listed.only q c in few (8 * place.k + place.room) q.cost place.cost) ps (All-contains_itself ps)

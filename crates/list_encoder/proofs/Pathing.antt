@@ -14,11 +14,11 @@ use Rattle.list_pack.specs.Costs.{Move, plus, nothing, move_cost, edge_by, last_
 use Rattle.list_pack.specs.Least.{IsFirstLeast, step_of, path_key, path_before}
 use Rattle.list_pack.proofs.PublicLaws.{edge-made, last-made, attained}
 use Rattle.list_encoder.specs.declared.cells.Cell.{Cell}
-use Rattle.list_encoder.specs.declared.table.Link.{Link}
+use Rattle.list_encoder.specs.declared.table.CellEdge.{CellEdge}
 use Rattle.list_encoder.specs.declared.picks.Pick.{Pick}
 use Rattle.list_encoder.specs.declared.picks.Spot.{Spot}
 use Rattle.list_encoder.specs.Cells.{cell_at, state_at, AreCells}
-use Rattle.list_encoder.specs.Table.{Costs, rest_at, LeadsTo, IsLink, AreLeast}
+use Rattle.list_encoder.specs.Table.{Costs, rest_at, LeadsTo, IsCellEdge, AreLeast}
 use Rattle.list_encoder.specs.Picks.{IsSpot, IsTight, IsPick, Covers, link_step}
 use Rattle.list_pack.proofs.Orders.{lex-itself, lex-not-both, lex-same, lex-longer, lex-after}
 use Rattle.list_encoder.proofs.Celling.{some-same}
@@ -55,7 +55,7 @@ not-before p q ps qs h rest =
     ]
 
 -- links from one cell
-same-cell : (v : LegsValue) (cells : List Cell) (a b : Link) (is_a : IsLink v cells a) (is_b : IsLink v cells b) → a.from ≡ b.from
+same-cell : (v : LegsValue) (cells : List Cell) (a b : CellEdge) (is_a : IsCellEdge v cells a) (is_b : IsCellEdge v cells b) → a.from ≡ b.from
     → is_a.cell ≡ is_b.cell
 same-cell v cells a b is_a is_b e = some-same is_a.cell is_b.cell (sym is_a.from ∙ ap (slice_get cells) e ∙ is_b.from)
 
@@ -66,7 +66,7 @@ comes-by v cells cell sid hops None h =
 comes-by v cells cell sid hops (Some to) h =
     or_left (is_some (v.leg cell.position cell.via sid)) (is_some (v.finish cell.position cell.via sid)) (ap is_some h.2)
 
-pub sids-same : (v : LegsValue) → KeepsLaws v → (cells : List Cell) (a b : Link) → IsLink v cells a → IsLink v cells b → a.from ≡ b.from
+pub sids-same : (v : LegsValue) → KeepsLaws v → (cells : List Cell) (a b : CellEdge) → IsCellEdge v cells a → IsCellEdge v cells b → a.from ≡ b.from
     → (v.shape a.sid).prefix ≡ (v.shape b.sid).prefix → a.sid ≡ b.sid
 sids-same v laws cells a b is_a is_b from e =
     let cell = same-cell v cells a b is_a is_b from in
@@ -98,13 +98,13 @@ FirstBehind v cells pick rest (Some j) = (cell : Cell) × (slice_get cells j ≡
 module _ (v : LegsValue) (laws : KeepsLaws v) (cells : List Cell) (are : AreCells v cells) (t : Costs) (least : AreLeast v cells t)
     (spot : Spot)
     (is : IsSpot cells t spot) (pick : Pick) (picked : IsPick v cells t spot pick)
-    (covers : (link : Link) → link.from ≡ spot.place → IsLink v cells link
+    (covers : (link : CellEdge) → link.from ≡ spot.place → IsCellEdge v cells link
     → (stays : Bool) (left : ℕ) (rest : Cost) → IsTight v t spot link stays left rest → Covers (Some pick) (link_step v link stays)) where
   pick-step : pick.step ≡ link_step v picked.link pick.step.stays
   pick-step = ap (λ (x : PrefixValue). let s : PathStep = record { stays = pick.step.stays; prefix = x } in s) picked.prefix_is
 
   -- what a link leads to, from the picked link's cell
-  leads-here : (link : Link) (to : Option ℕ) (is_link : IsLink v cells link) → link.from ≡ spot.place → link.to ≡ to
+  leads-here : (link : CellEdge) (to : Option ℕ) (is_link : IsCellEdge v cells link) → link.from ≡ spot.place → link.to ≡ to
       → LeadsTo v cells picked.is_link.cell link.sid link.hops to
   leads-here link to is_link from e =
       subst (λ (c : Cell). LeadsTo v cells c link.sid link.hops to)
@@ -112,7 +112,7 @@ module _ (v : LegsValue) (laws : KeepsLaws v) (cells : List Cell) (are : AreCell
       (subst (λ (o : Option ℕ). LeadsTo v cells is_link.cell link.sid link.hops o) e is_link.leads)
 
   -- two tight moves of one SID leave the same room
-  lefts-same : (a : Link) (stays : Bool) (left : ℕ) (d : Cost) → a.sid ≡ picked.link.sid → stays ≡ pick.step.stays
+  lefts-same : (a : CellEdge) (stays : Bool) (left : ℕ) (d : Cost) → a.sid ≡ picked.link.sid → stays ≡ pick.step.stays
       → IsTight v t spot a stays left d
       → left ≡ pick.room
   lefts-same a stays left d sid same tight =
@@ -120,7 +120,7 @@ module _ (v : LegsValue) (laws : KeepsLaws v) (cells : List Cell) (are : AreCell
       ∙ ap (λ (n : ℕ). room_behind stays (option_map v.shape spot.cell.via) spot.room (v.shape n)) sid
       ∙ ap (λ (b : Bool). room_behind b (option_map v.shape spot.cell.via) spot.room (v.shape picked.link.sid)) same ∙ picked.tight.room_is)
 
-  end-nothing : (a : Link) (stays : Bool) (left : ℕ) (d : Cost) → a.to ≡ None → IsTight v t spot a stays left d
+  end-nothing : (a : CellEdge) (stays : Bool) (left : ℕ) (d : Cost) → a.to ≡ None → IsTight v t spot a stays left d
       → plus (move_cost stays a.hops) nothing ≡ spot.cost
   end-nothing a stays left d e tight =
       let same : nothing ≡ d = some-same nothing d (sym (ap (λ (o : Option ℕ). rest_at t o left) e) ∙ tight.rest_is) in
@@ -130,7 +130,7 @@ module _ (v : LegsValue) (laws : KeepsLaws v) (cells : List Cell) (are : AreCell
   picked-cost stays same = ap (λ (b : Bool). plus (move_cost b picked.link.hops) pick.rest) same ∙ picked.tight.cost_is
 
   -- two legs of one SID from one cell
-  legs-same : (link : Link) (i j : ℕ) (a b : Cell) (is_link : IsLink v cells link) → link.from ≡ spot.place → link.to ≡ Some i
+  legs-same : (link : CellEdge) (i j : ℕ) (a b : Cell) (is_link : IsCellEdge v cells link) → link.from ≡ spot.place → link.to ≡ Some i
       → picked.link.to ≡ Some j
       → link.sid ≡ picked.link.sid → slice_get cells i ≡ Some a → slice_get cells j ≡ Some b → (a ≡ b) × (link.hops ≡ picked.link.hops)
   legs-same link i j a b is_link from e f sid at_a at_b =
@@ -147,9 +147,9 @@ module _ (v : LegsValue) (laws : KeepsLaws v) (cells : List Cell) (are : AreCell
       ap (λ (l : Leg). cell_at l.to link.sid) leg ∙ ap (cell_at also.0) sid in
       (is_a ∙ places ∙ is_b, ap (λ (l : Leg). l.hops) leg)
 
-  compare-legs : (link : Link) (stays : Bool) (left : ℕ) (d : Cost) (more rest : List Move) (i j : ℕ) → link.to ≡ Some i
+  compare-legs : (link : CellEdge) (stays : Bool) (left : ℕ) (d : Cost) (more rest : List Move) (i j : ℕ) → link.to ≡ Some i
       → picked.link.to ≡ Some j
-      → link.from ≡ spot.place → IsLink v cells link → link.sid ≡ picked.link.sid → stays ≡ pick.step.stays
+      → link.from ≡ spot.place → IsCellEdge v cells link → link.sid ≡ picked.link.sid → stays ≡ pick.step.stays
       → IsTight v t spot link stays left d
       → Behind v cells left more d (Some i) → FirstBehind v cells pick rest (Some j)
       → path_before (map (step_of v) more) (map (step_of v) rest) ≡ false
@@ -170,9 +170,9 @@ module _ (v : LegsValue) (laws : KeepsLaws v) (cells : List Cell) (are : AreCell
       ∙ ap (λ (x : Cost). Some x) is_rest in
       first.2.first more its
 
-  compare : (link : Link) (stays : Bool) (left : ℕ) (d : Cost) (more rest : List Move) (to into : Option ℕ) → link.to ≡ to
+  compare : (link : CellEdge) (stays : Bool) (left : ℕ) (d : Cost) (more rest : List Move) (to into : Option ℕ) → link.to ≡ to
       → picked.link.to ≡ into
-      → link.from ≡ spot.place → IsLink v cells link → link.sid ≡ picked.link.sid → stays ≡ pick.step.stays
+      → link.from ≡ spot.place → IsCellEdge v cells link → link.sid ≡ picked.link.sid → stays ≡ pick.step.stays
       → IsTight v t spot link stays left d
       → Behind v cells left more d to → FirstBehind v cells pick rest into
       → path_before (map (step_of v) more) (map (step_of v) rest) ≡ false

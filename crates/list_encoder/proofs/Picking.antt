@@ -10,12 +10,12 @@ use Rattle.list_pack.specs.Value.{LegsValue, KeepsLaws}
 use Rattle.list_pack.specs.Rooms.{room_behind}
 use Rattle.list_pack.specs.Least.{path_before, path_key}
 use Rattle.list_encoder.specs.declared.cells.Cell.{Cell}
-use Rattle.list_encoder.specs.declared.table.Link.{Link}
+use Rattle.list_encoder.specs.declared.table.CellEdge.{CellEdge}
 use Rattle.list_encoder.specs.declared.picks.Pick.{Pick}
 use Rattle.list_encoder.specs.declared.picks.Spot.{Spot}
 use Rattle.list_encoder.specs.Cells.{cell_at}
-use Rattle.list_encoder.specs.Table.{Costs, IsLink, AreInRange}
-use Rattle.list_encoder.specs.Picks.{better_of, IsSpot, IsPick, IsPickOrNone, Covers, link_step, CoversMoves, CoversLink, PicksMoves, PicksLink, PicksEnds, PicksLegs, PicksFirst}
+use Rattle.list_encoder.specs.Table.{Costs, IsCellEdge, AreInRange}
+use Rattle.list_encoder.specs.Picks.{better_of, IsSpot, IsPick, IsPickOrNone, Covers, link_step, CoversMoves, CoversEdge, PicksMoves, PicksEdge, PicksEnds, PicksLegs, PicksFirst}
 use Rattle.list_pack.proofs.Orders.{lex-weak, lex-not-both}
 use Rattle.list_encoder.proofs.Celling.{some-same}
 use Rattle.list_encoder.proofs.Rooms.{behind-few}
@@ -62,8 +62,8 @@ found-both v cells t spot (Some p) None h k = h
 found-both v cells t spot (Some p) (Some q) h k = either-pick v cells t spot p q (path_before (q.step ∷ []) (p.step ∷ [])) h k
 
 -- one move
-pub pick-range : (v : LegsValue) → KeepsLaws v → (cells : List Cell) (t : Costs) (spot : Spot) (link : Link) (stays : Bool) (left : ℕ)
-    → IsLink v cells link
+pub pick-range : (v : LegsValue) → KeepsLaws v → (cells : List Cell) (t : Costs) (spot : Spot) (link : CellEdge) (stays : Bool) (left : ℕ)
+    → IsCellEdge v cells link
     → length t ≡ 8 * length cells → spot.room < 8
     → room_behind stays (option_map v.shape spot.cell.via) spot.room (v.shape link.sid) ≡ Some left
     → AreInRange t link.to left
@@ -71,9 +71,9 @@ pick-range v laws cells t spot link stays left is long few e =
     to-range v laws cells t is.cell link.sid link.hops left link.to long is.leads
     (behind-few stays (option_map v.shape spot.cell.via) (v.shape link.sid) spot.room left (link-shape v laws cells link is) few e)
 
-pub both-moves : (v : LegsValue) (cells : List Cell) (t : Costs) (spot : Spot) (link : Link) (a b : Option Pick)
+pub both-moves : (v : LegsValue) (cells : List Cell) (t : Costs) (spot : Spot) (link : CellEdge) (a b : Option Pick)
     → PicksMoves v cells t spot link true a
-    → PicksMoves v cells t spot link false b → PicksLink v cells t spot link (better_of a b)
+    → PicksMoves v cells t spot link false b → PicksEdge v cells t spot link (better_of a b)
 both-moves v cells t spot link a b h k =
     record { found = found-both v cells t spot a b h.found k.found; covers = covers }
   where
@@ -81,12 +81,12 @@ both-moves v cells t spot link a b h k =
     covers true left rest tight = covers-left a b (link_step v link true) (h.covers left rest tight)
     covers false left rest tight = covers-right a b (link_step v link false) (k.covers left rest tight)
 
-pub link-kept : (v : LegsValue) (t : Costs) (spot : Spot) (a b : Option Pick) (link : Link) → CoversLink v t spot a link
-    → CoversLink v t spot (better_of a b) link
+pub link-kept : (v : LegsValue) (t : Costs) (spot : Spot) (a b : Option Pick) (link : CellEdge) → CoversEdge v t spot a link
+    → CoversEdge v t spot (better_of a b) link
 link-kept v t spot a b link h stays left rest tight = covers-left a b (link_step v link stays) (h stays left rest tight)
 
-pub link-added : (v : LegsValue) (t : Costs) (spot : Spot) (a b : Option Pick) (link : Link) → CoversLink v t spot b link
-    → CoversLink v t spot (better_of a b) link
+pub link-added : (v : LegsValue) (t : Costs) (spot : Spot) (a b : Option Pick) (link : CellEdge) → CoversEdge v t spot b link
+    → CoversEdge v t spot (better_of a b) link
 link-added v t spot a b link h stays left rest tight = covers-right a b (link_step v link stays) (h stays left rest tight)
 
 pub picks-first : (v : LegsValue) (cells : List Cell) (t : Costs) (spot : Spot) (a b : Option Pick) → PicksEnds v cells t spot a
@@ -95,8 +95,8 @@ pub picks-first : (v : LegsValue) (cells : List Cell) (t : Costs) (spot : Spot) 
 picks-first v cells t spot a b h k =
     record { found = found-both v cells t spot a b h.found k.found; covers = λ link from is. by link from is link.to refl }
   where
-    by : (link : Link) → link.from ≡ spot.place → IsLink v cells link → (to : Option ℕ) → link.to ≡ to
-        → CoversLink v t spot (better_of a b) link
+    by : (link : CellEdge) → link.from ≡ spot.place → IsCellEdge v cells link → (to : Option ℕ) → link.to ≡ to
+        → CoversEdge v t spot (better_of a b) link
     by link from is None e = link-kept v t spot a b link (h.covers link from e is)
     by link from is (Some to) e = link-added v t spot a b link (k.covers link to from e is)
 
@@ -104,9 +104,9 @@ picks-first v cells t spot a b h k =
 pub record EndsPicked (v : LegsValue) (cells : List Cell) (t : Costs) (spot : Spot) (sids : List ℕ) (count : ℕ) (best : Option Pick) :
     Type 0 where
   pub found : IsPickOrNone v cells t spot best
-  pub covers : (link : Link) (i : ℕ) → link.from ≡ spot.place → link.to ≡ None → IsLink v cells link → i < count
+  pub covers : (link : CellEdge) (i : ℕ) → link.from ≡ spot.place → link.to ≡ None → IsCellEdge v cells link → i < count
       → slice_get sids i ≡ Some link.sid
-      → CoversLink v t spot best link
+      → CoversEdge v t spot best link
 
 pub ends-pass : (v : LegsValue) (cells : List Cell) (t : Costs) (spot : Spot) (sids : List ℕ) (count sid : ℕ) (best : Option Pick)
     → IsSpot cells t spot
@@ -116,7 +116,7 @@ ends-pass v cells t spot sids count sid best is_spot here none so =
     record {
       found = so.found;
       covers = λ link i from to is h e.
-          elim (cases_lt i count) as (λ w. CoversLink v t spot best link) [
+          elim (cases_lt i count) as (λ w. CoversEdge v t spot best link) [
             | inl less ↦ so.covers link i from to is less e
             | inr more ↦
                 let same : i ≡ count = omega (arith, h, more) in
@@ -127,22 +127,22 @@ ends-pass v cells t spot sids count sid best is_spot here none so =
     }
 
 pub ends-add : (v : LegsValue) (cells : List Cell) (t : Costs) (spot : Spot) (sids : List ℕ) (count : ℕ) (best other : Option Pick)
-    (taken : Link)
+    (taken : CellEdge)
     → IsSpot cells t spot → slice_get sids count ≡ Some taken.sid → taken.from ≡ spot.place → taken.to ≡ None
     → v.finish spot.cell.position spot.cell.via taken.sid ≡ Some taken.hops → EndsPicked v cells t spot sids count best
-    → PicksLink v cells t spot taken other → EndsPicked v cells t spot sids (count + 1) (better_of best other)
+    → PicksEdge v cells t spot taken other → EndsPicked v cells t spot sids (count + 1) (better_of best other)
 ends-add v cells t spot sids count best other taken is_spot here at none finish so picks =
     record {
       found = found-both v cells t spot best other so.found picks.found;
       covers = λ link i from to is h e.
-          elim (cases_lt i count) as (λ w. CoversLink v t spot (better_of best other) link) [
+          elim (cases_lt i count) as (λ w. CoversEdge v t spot (better_of best other) link) [
             | inl less ↦ link-kept v t spot best other link (so.covers link i from to is less e)
             | inr more ↦
                 let same : i ≡ count = omega (arith, h, more) in
                 let is_sid : link.sid ≡ taken.sid = some-same link.sid taken.sid (sym e ∙ ap (slice_get sids) same ∙ here) in
                 let it : taken ≡ link =
                 end-one v cells taken link spot.cell (ap (slice_get cells) at ∙ is_spot.here) finish none (from ∙ sym at) to is_sid is in
-                link-added v t spot best other link (subst (λ (l : Link). CoversLink v t spot other l) it picks.covers)
+                link-added v t spot best other link (subst (λ (l : CellEdge). CoversEdge v t spot other l) it picks.covers)
           ];
     }
 
@@ -162,17 +162,17 @@ ends-picked v laws cells t spot sids steps count best e is h so =
 -- the legs from a cell into the first cells
 pub record LegsPicked (v : LegsValue) (cells : List Cell) (t : Costs) (spot : Spot) (count : ℕ) (best : Option Pick) : Type 0 where
   pub found : IsPickOrNone v cells t spot best
-  pub covers : (link : Link) (to : ℕ) → link.from ≡ spot.place → link.to ≡ Some to → IsLink v cells link → to < count
-      → CoversLink v t spot best link
+  pub covers : (link : CellEdge) (to : ℕ) → link.from ≡ spot.place → link.to ≡ Some to → IsCellEdge v cells link → to < count
+      → CoversEdge v t spot best link
 
 pub legs-pass : (v : LegsValue) (cells : List Cell) (t : Costs) (spot : Spot) (count : ℕ) (best : Option Pick)
-    → ((link : Link) → link.from ≡ spot.place → link.to ≡ Some count → ¬ IsLink v cells link) → LegsPicked v cells t spot count best
+    → ((link : CellEdge) → link.from ≡ spot.place → link.to ≡ Some count → ¬ IsCellEdge v cells link) → LegsPicked v cells t spot count best
     → LegsPicked v cells t spot (count + 1) best
 legs-pass v cells t spot count best none so =
     record {
       found = so.found;
       covers = λ link to from e is h.
-          elim (cases_lt to count) as (λ w. CoversLink v t spot best link) [
+          elim (cases_lt to count) as (λ w. CoversEdge v t spot best link) [
             | inl less ↦ so.covers link to from e is less
             | inr more ↦
                 let same : to ≡ count = omega (arith, h, more) in
@@ -180,20 +180,20 @@ legs-pass v cells t spot count best none so =
           ];
     }
 
-pub legs-add : (v : LegsValue) (cells : List Cell) (t : Costs) (spot : Spot) (count : ℕ) (best other : Option Pick) (taken : Link)
-    → IsLink v cells taken
-    → taken.from ≡ spot.place → taken.to ≡ Some count → LegsPicked v cells t spot count best → PicksLink v cells t spot taken other
+pub legs-add : (v : LegsValue) (cells : List Cell) (t : Costs) (spot : Spot) (count : ℕ) (best other : Option Pick) (taken : CellEdge)
+    → IsCellEdge v cells taken
+    → taken.from ≡ spot.place → taken.to ≡ Some count → LegsPicked v cells t spot count best → PicksEdge v cells t spot taken other
     → LegsPicked v cells t spot (count + 1) (better_of best other)
 legs-add v cells t spot count best other taken is_taken at into so picks =
     record {
       found = found-both v cells t spot best other so.found picks.found;
       covers = λ link to from e is h.
-          elim (cases_lt to count) as (λ w. CoversLink v t spot (better_of best other) link) [
+          elim (cases_lt to count) as (λ w. CoversEdge v t spot (better_of best other) link) [
             | inl less ↦ link-kept v t spot best other link (so.covers link to from e is less)
             | inr more ↦
                 let same : count ≡ to = omega (arith, h, more) in
                 let it : taken ≡ link = leg-one v cells taken link to (into ∙ ap (λ (n : ℕ). Some n) same) (from ∙ sym at) e is_taken is in
-                link-added v t spot best other link (subst (λ (l : Link). CoversLink v t spot other l) it picks.covers)
+                link-added v t spot best other link (subst (λ (l : CellEdge). CoversEdge v t spot other l) it picks.covers)
           ];
     }
 

@@ -10,9 +10,9 @@ use Rattle.list_pack.specs.Rooms.{room_behind}
 use Rattle.list_pack.specs.Costs.{nothing, move_cost, Under}
 use Rattle.list_pack.proofs.PublicLaws.{under-itself, under-trans, under-plus}
 use Rattle.list_encoder.specs.declared.cells.Cell.{Cell}
-use Rattle.list_encoder.specs.declared.table.Link.{Link}
+use Rattle.list_encoder.specs.declared.table.CellEdge.{CellEdge}
 use Rattle.list_encoder.specs.Cells.{cell_at}
-use Rattle.list_encoder.specs.Table.{Costs, at, entry, rest_at, offer, LeadsTo, IsLink, LinkHolds, Holds, RoomHolds, RoomRelaxed, RoomsRelaxed, Relaxed, LeavesRoom, IsShapeOf}
+use Rattle.list_encoder.specs.Table.{Costs, at, entry, rest_at, offer, LeadsTo, IsCellEdge, EdgeHolds, Holds, RoomHolds, RoomRelaxed, RoomsRelaxed, Relaxed, LeavesRoom, IsShapeOf}
 use Rattle.list_encoder.proofs.Celling.{some-same}
 use Rattle.list_encoder.proofs.Tables.{passed-then}
 
@@ -26,12 +26,12 @@ pub offer-falls : (stays : Bool) (hops : ℕ) (a b : Option Cost) → Under a b 
 offer-falls stays hops a b h = under-plus (move_cost stays hops) a b h
 
 -- what holds of a room holds where its room is known
-room-holds : (o : Option Cost) (stays : Bool) (link : Link) (t : Costs) (p : Option ℕ) (left : ℕ) → p ≡ Some left
+room-holds : (o : Option Cost) (stays : Bool) (link : CellEdge) (t : Costs) (p : Option ℕ) (left : ℕ) → p ≡ Some left
     → RoomHolds o stays link t p
     → Under o (offer stays link.hops (rest_at t link.to left))
 room-holds o stays link t p left e h = subst (λ (q : Option ℕ). RoomHolds o stays link t q) e h
 
-pub room-rooms : (v : LegsValue) (cells : List Cell) (link : Link) (stays : Bool) (room : ℕ) (p : Option ℕ) (t t1 : Costs) (x : Bool)
+pub room-rooms : (v : LegsValue) (cells : List Cell) (link : CellEdge) (stays : Bool) (room : ℕ) (p : Option ℕ) (t t1 : Costs) (x : Bool)
     → RoomRelaxed v cells link t t1 stays room p x → LeavesRoom v cells link stays room p
     → RoomsRelaxed v cells link stays room (room + 1) t t1 x
 room-rooms v cells link stays room p t t1 x relaxed leaves =
@@ -47,7 +47,7 @@ room-rooms v cells link stays room p t t1 x relaxed leaves =
     }
 
 -- some rooms, and then those that follow
-pub rooms-join : (v : LegsValue) (cells : List Cell) (link : Link) (stays : Bool) (low mid high : ℕ) (t t1 t2 : Costs) (x y : Bool)
+pub rooms-join : (v : LegsValue) (cells : List Cell) (link : CellEdge) (stays : Bool) (low mid high : ℕ) (t t1 t2 : Costs) (x y : Bool)
     → RoomsRelaxed v cells link stays low mid t t1 x → RoomsRelaxed v cells link stays mid high t1 t2 y
     → RoomsRelaxed v cells link stays low high t t2 (x || y)
 rooms-join v cells link stays low mid high t t1 t2 x y first second =
@@ -67,7 +67,7 @@ rooms-join v cells link stays low mid high t t1 t2 x y first second =
           ];
     }
 
-pub rooms-more : (v : LegsValue) (cells : List Cell) (link : Link) (stays : Bool) (low room : ℕ) (p : Option ℕ) (t t1 t2 : Costs)
+pub rooms-more : (v : LegsValue) (cells : List Cell) (link : CellEdge) (stays : Bool) (low room : ℕ) (p : Option ℕ) (t t1 t2 : Costs)
     (x y : Bool)
     → RoomsRelaxed v cells link stays low room t t1 x → RoomRelaxed v cells link t1 t2 stays room p y → LeavesRoom v cells link stays room p
     → RoomsRelaxed v cells link stays low (room + 1) t t2 (x || y)
@@ -75,7 +75,7 @@ rooms-more v cells link stays low room p t t1 t2 x y begun relaxed leaves =
     rooms-join v cells link stays low room (room + 1) t t1 t2 x y begun (room-rooms v cells link stays room p t1 t2 y relaxed leaves)
 
 -- by a new container from each room, and in the same one
-pub ways-join : (v : LegsValue) (cells : List Cell) (link : Link) (t t1 t2 : Costs) (x y : Bool)
+pub ways-join : (v : LegsValue) (cells : List Cell) (link : CellEdge) (t t1 t2 : Costs) (x y : Bool)
     → RoomsRelaxed v cells link false 0 8 t t1 x → RoomsRelaxed v cells link true 0 8 t1 t2 y → Relaxed v cells link t t2 (x || y)
 ways-join v cells link t t1 t2 x y opened stayed =
     record {
@@ -95,7 +95,7 @@ ways-join v cells link t t1 t2 x y opened stayed =
         under-trans (entry t2 link.from r) (entry t1 link.from r) (offer false link.hops (rest_at t link.to left)) (stayed.passed.falls _)
         (opened.holds cell r left e (omega arith) h f)
 
-pub leaves : (v : LegsValue) (cells : List Cell) (link : Link) (stays : Bool) (room : ℕ) (from : Option Shape) (next : Shape) (p : Option ℕ)
+pub leaves : (v : LegsValue) (cells : List Cell) (link : CellEdge) (stays : Bool) (room : ℕ) (from : Option Shape) (next : Shape) (p : Option ℕ)
     → IsShapeOf v cells link.from from → next ≡ v.shape link.sid → p ≡ room_behind stays from room next
     → LeavesRoom v cells link stays room p
 leaves v cells link stays room from next p is_from is_next e cell here =
@@ -103,7 +103,7 @@ leaves v cells link stays room from next p is_from is_next e cell here =
     ∙ ap (λ (s : Shape). room_behind stays (option_map v.shape cell.via) room s) is_next
 
 -- what holds of a link between two tables holds in a later one that leaves what is behind the link as it was
-pub holds-later : (v : LegsValue) (cells : List Cell) (link : Link) (a b c : Costs) → LinkHolds v cells link a b
+pub holds-later : (v : LegsValue) (cells : List Cell) (link : CellEdge) (a b c : Costs) → EdgeHolds v cells link a b
     → ((i : ℕ) → Under (at c i) (at b i))
     → ((left : ℕ) → rest_at c link.to left ≡ rest_at a link.to left) → Holds v cells c link
 holds-later v cells link a b c h falls same cell stays room left e l r =
@@ -120,17 +120,17 @@ pub rest-far : (later : ℕ) (a b : Costs) (to : Option ℕ) (j left : ℕ) → 
 rest-far later a b to j left above e h =
     ap (λ (o : Option ℕ). rest_at b o left) e ∙ above (8 * j + left) (omega (arith, h)) ∙ sym (ap (λ (o : Option ℕ). rest_at a o left) e)
 
-pub link-same : (a b : Link) → a.from ≡ b.from → a.to ≡ b.to → a.sid ≡ b.sid → a.hops ≡ b.hops → a ≡ b
+pub link-same : (a b : CellEdge) → a.from ≡ b.from → a.to ≡ b.to → a.sid ≡ b.sid → a.hops ≡ b.hops → a ≡ b
 link-same a b e f g h =
-    ap (λ (x : ℕ). let l : Link = record { from = x; to = a.to; sid = a.sid; hops = a.hops } in l) e
-    ∙ ap (λ (x : Option ℕ). let l : Link = record { from = b.from; to = x; sid = a.sid; hops = a.hops } in l) f
-    ∙ ap (λ (x : ℕ). let l : Link = record { from = b.from; to = b.to; sid = x; hops = a.hops } in l) g
-    ∙ ap (λ (x : ℕ). let l : Link = record { from = b.from; to = b.to; sid = b.sid; hops = x } in l) h
+    ap (λ (x : ℕ). let l : CellEdge = record { from = x; to = a.to; sid = a.sid; hops = a.hops } in l) e
+    ∙ ap (λ (x : Option ℕ). let l : CellEdge = record { from = b.from; to = x; sid = a.sid; hops = a.hops } in l) f
+    ∙ ap (λ (x : ℕ). let l : CellEdge = record { from = b.from; to = b.to; sid = x; hops = a.hops } in l) g
+    ∙ ap (λ (x : ℕ). let l : CellEdge = record { from = b.from; to = b.to; sid = b.sid; hops = x } in l) h
 
 -- a finish is one, and so is a leg into a cell
-pub end-one : (v : LegsValue) (cells : List Cell) (a b : Link) (cell : Cell) → slice_get cells a.from ≡ Some cell
+pub end-one : (v : LegsValue) (cells : List Cell) (a b : CellEdge) (cell : Cell) → slice_get cells a.from ≡ Some cell
     → v.finish cell.position cell.via a.sid ≡ Some a.hops
-    → a.to ≡ None → b.from ≡ a.from → b.to ≡ None → b.sid ≡ a.sid → IsLink v cells b → a ≡ b
+    → a.to ≡ None → b.from ≡ a.from → b.to ≡ None → b.sid ≡ a.sid → IsCellEdge v cells b → a ≡ b
 end-one v cells a b cell here is to from to_b sid is_b =
     let same : is_b.cell ≡ cell = some-same is_b.cell cell (sym is_b.from ∙ ap (slice_get cells) from ∙ here) in
     let leads : v.finish is_b.cell.position is_b.cell.via b.sid ≡ Some b.hops =
@@ -141,12 +141,12 @@ end-one v cells a b cell here is to from to_b sid is_b =
     let hops : a.hops ≡ b.hops = some-same a.hops b.hops (sym is ∙ there) in
     link-same a b (sym from) (to ∙ sym to_b) (sym sid) hops
 
-pub leg-parts : (v : LegsValue) (cells : List Cell) (b : Link) (to : ℕ) → b.to ≡ Some to → (is : IsLink v cells b)
+pub leg-parts : (v : LegsValue) (cells : List Cell) (b : CellEdge) (to : ℕ) → b.to ≡ Some to → (is : IsCellEdge v cells b)
     → LeadsTo v cells is.cell b.sid b.hops (Some to)
 leg-parts v cells b to e is = subst (λ (o : Option ℕ). LeadsTo v cells is.cell b.sid b.hops o) e is.leads
 
-pub leg-one : (v : LegsValue) (cells : List Cell) (a b : Link) (to : ℕ) → a.to ≡ Some to → b.from ≡ a.from → b.to ≡ Some to
-    → IsLink v cells a → IsLink v cells b
+pub leg-one : (v : LegsValue) (cells : List Cell) (a b : CellEdge) (to : ℕ) → a.to ≡ Some to → b.from ≡ a.from → b.to ≡ Some to
+    → IsCellEdge v cells a → IsCellEdge v cells b
     → a ≡ b
 leg-one v cells a b to to_a from to_b is_a is_b =
     let leads = leg-parts v cells a to to_a is_a in

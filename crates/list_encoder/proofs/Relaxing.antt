@@ -12,16 +12,16 @@ use Rattle.srv6_rules.specs.declared.sid.Csid.TheVariants.{Plain, Next, Replace}
 use Rattle.list_pack.specs.Costs.{Under}
 use Rattle.list_pack.proofs.PublicLaws.{under-itself, under-trans}
 use Rattle.list_encoder.specs.declared.cells.Cell.{Cell}
-use Rattle.list_encoder.specs.declared.table.Link.{Link}
-use Rattle.list_encoder.specs.Table.{Costs, at, LeadsTo, IsLink, IsSound, Passed, LinkHolds, Holds, Relaxed, EndsHold, EndsRelaxed, LegsHold, Keeps, LegsRelaxed, AreLinks}
+use Rattle.list_encoder.specs.declared.table.CellEdge.{CellEdge}
+use Rattle.list_encoder.specs.Table.{Costs, at, LeadsTo, IsCellEdge, IsSound, Passed, EdgeHolds, Holds, Relaxed, EndsHold, EndsRelaxed, LegsHold, Keeps, LegsRelaxed, AreCellEdges}
 use Rattle.list_encoder.proofs.Celling.{some-same, place_of}
 use Rattle.list_encoder.proofs.Tables.{passed-then}
 use Rattle.list_encoder.proofs.RelaxedRooms.{holds-later, rest-end, rest-far, end-one, leg-one}
 
 -- without a finish there is no link to the end
-pub no-end : (v : LegsValue) (cells : List Cell) (link : Link) (k : ℕ) (cell : Cell) → slice_get cells k ≡ Some cell → link.from ≡ k
+pub no-end : (v : LegsValue) (cells : List Cell) (link : CellEdge) (k : ℕ) (cell : Cell) → slice_get cells k ≡ Some cell → link.from ≡ k
     → link.to ≡ None
-    → IsLink v cells link → v.finish cell.position cell.via link.sid ≡ None → ⊥
+    → IsCellEdge v cells link → v.finish cell.position cell.via link.sid ≡ None → ⊥
 no-end v cells link k cell here f to is none =
     let is_cell : is.cell ≡ cell = some-same is.cell cell (sym is.from ∙ ap (slice_get cells) f ∙ here) in
     let leads : v.finish is.cell.position is.cell.via link.sid ≡ Some link.hops =
@@ -29,9 +29,9 @@ no-end v cells link k cell here f to is none =
     none-some link.hops (sym none ∙ ap (λ (c : Cell). v.finish c.position c.via link.sid) (sym is_cell) ∙ leads)
 
 -- each finish is to a SID of the last position
-pub end-place : (v : LegsValue) → KeepsLaws v → (cells : List Cell) (link : Link) (sids : List ℕ) (steps : ℕ) → steps ≡ v.steps
+pub end-place : (v : LegsValue) → KeepsLaws v → (cells : List Cell) (link : CellEdge) (sids : List ℕ) (steps : ℕ) → steps ≡ v.steps
     → sids ≡ v.sids_at steps
-    → link.to ≡ None → IsLink v cells link → (i : ℕ) × (slice_get sids i ≡ Some link.sid)
+    → link.to ≡ None → IsCellEdge v cells link → (i : ℕ) × (slice_get sids i ≡ Some link.sid)
 end-place v laws cells link sids steps e is to is_link =
     let leads : v.finish is_link.cell.position is_link.cell.via link.sid ≡ Some link.hops =
     subst (λ (o : Option ℕ). LeadsTo v cells is_link.cell link.sid link.hops o) to is_link.leads in
@@ -43,7 +43,7 @@ pub record EndsSoFar (v : LegsValue) (cells : List Cell) (k : ℕ) (before after
     Type 0 where
   pub sound : IsSound v cells after
   pub passed : Passed (k + 1) before after changed
-  pub holds : (link : Link) (i : ℕ) → link.from ≡ k → link.to ≡ None → IsLink v cells link → i < count → slice_get sids i ≡ Some link.sid
+  pub holds : (link : CellEdge) (i : ℕ) → link.from ≡ k → link.to ≡ None → IsCellEdge v cells link → i < count → slice_get sids i ≡ Some link.sid
       → Holds v cells after link
 
 pub ends-skip : (v : LegsValue) (cells : List Cell) (k : ℕ) (t0 t : Costs) (sids : List ℕ) (count sid : ℕ) (changed : Bool) (cell : Cell)
@@ -64,7 +64,7 @@ ends-skip v cells k t0 t sids count sid changed cell here at none so =
     }
 
 pub ends-more : (v : LegsValue) (cells : List Cell) (k : ℕ) (t0 t t1 : Costs) (sids : List ℕ) (count : ℕ) (changed x : Bool) (cell : Cell)
-    (taken : Link)
+    (taken : CellEdge)
     → slice_get cells k ≡ Some cell → slice_get sids count ≡ Some taken.sid → taken.from ≡ k → taken.to ≡ None
     → v.finish cell.position cell.via taken.sid ≡ Some taken.hops → EndsSoFar v cells k t0 t sids count changed
     → Relaxed v cells taken t t1 x
@@ -83,21 +83,21 @@ ends-more v cells k t0 t t1 sids count changed x cell taken here there from none
                 let is_sid : link.sid ≡ taken.sid = some-same link.sid taken.sid (sym e ∙ ap (slice_get sids) same ∙ there) in
                 let it : taken ≡ link =
                 end-one v cells taken link cell (ap (slice_get cells) from ∙ here) finish none (f ∙ sym from) to is_sid is in
-                holds-later v cells link t t1 t1 (subst (λ (l : Link). LinkHolds v cells l t t1) it relaxed.holds)
+                holds-later v cells link t t1 t1 (subst (λ (l : CellEdge). EdgeHolds v cells l t t1) it relaxed.holds)
                 (λ j. under-itself (at t1 j))
                 (λ left. rest-end t t1 link.to left to)
           ];
     }
 
 -- the legs from a cell into the first cells
-pub record LegsSoFar (v : LegsValue) (cells : List Cell) (k first later end : ℕ) (before after : Costs) (listed links : List Link)
+pub record LegsSoFar (v : LegsValue) (cells : List Cell) (k first later end : ℕ) (before after : Costs) (listed links : List CellEdge)
     (changed : Bool)
     : Type 0 where
   pub sound : IsSound v cells after
   pub passed : Passed (k + 1) before after changed
   pub holds : LegsHold v cells k first later end after links
   pub keeps : Keeps listed links
-  pub are : AreLinks v cells later links
+  pub are : AreCellEdges v cells later links
 
 near-at : (P Q : Type 0) (to later : ℕ) → to < later → P → MatchBool (nat_lt to later) P Q
 near-at P Q to later h p = subst (λ (b : Bool). MatchBool b P Q) (sym (lt-ltb to later h)) p
@@ -112,7 +112,7 @@ pub at-far : (P Q : Type 0) (to later : ℕ) → later ≤ to → MatchBool (nat
 at-far P Q to later h m = subst (λ (b : Bool). MatchBool b P Q) (le-ltb to later h) m
 
 -- what is known of a leg stays so in a later table, with more links listed
-pub leg-stays : (v : LegsValue) (cells : List Cell) (k later to : ℕ) (t t1 : Costs) (links more : List Link) (link : Link) → k < later
+pub leg-stays : (v : LegsValue) (cells : List Cell) (k later to : ℕ) (t t1 : Costs) (links more : List CellEdge) (link : CellEdge) → k < later
     → ((i : ℕ) → Under (at t1 i) (at t i)) → ((i : ℕ) → 8 * later ≤ i → at t1 i ≡ at t i) → Keeps links more → link.to ≡ Some to
     → MatchBool (nat_lt to later) (Contains links link) (Holds v cells t link)
     → MatchBool (nat_lt to later) (Contains more link) (Holds v cells t1 link)
@@ -127,10 +127,10 @@ leg-stays v cells k later to t t1 links more link within falls above keeps e m =
           (λ left. rest-far later t t1 link.to to left above e far))
     ]
 
-module _ (v : LegsValue) (cells : List Cell) (k first later end : ℕ) (t0 t : Costs) (listed links : List Link) (changed : Bool)
+module _ (v : LegsValue) (cells : List Cell) (k first later end : ℕ) (t0 t : Costs) (listed links : List CellEdge) (changed : Bool)
     (within : k < later)
     (so : LegsSoFar v cells k first later end t0 t listed links changed) where
-  pub legs-skip : ((link : Link) → link.from ≡ k → link.to ≡ Some end → ¬ IsLink v cells link)
+  pub legs-skip : ((link : CellEdge) → link.from ≡ k → link.to ≡ Some end → ¬ IsCellEdge v cells link)
       → LegsSoFar v cells k first later (end + 1) t0 t listed links changed
   legs-skip none =
       record {
@@ -148,10 +148,10 @@ module _ (v : LegsValue) (cells : List Cell) (k first later end : ℕ) (t0 t : C
       }
 
   -- a leg within the position is listed
-  pub legs-list : (taken : Link) → IsLink v cells taken → taken.from ≡ k → taken.to ≡ Some end → end < later
+  pub legs-list : (taken : CellEdge) → IsCellEdge v cells taken → taken.from ≡ k → taken.to ≡ Some end → end < later
       → LegsSoFar v cells k first later (end + 1) t0 t listed (links ++ taken ∷ []) changed
   legs-list taken is_taken from to near =
-      let more : List Link = links ++ taken ∷ [] in
+      let more : List CellEdge = links ++ taken ∷ [] in
       let keeps : Keeps links more = λ link c. Contains-append_left links (taken ∷ []) link c in
       record {
         sound = so.sound;
@@ -166,18 +166,18 @@ module _ (v : LegsValue) (cells : List Cell) (k first later end : ℕ) (t0 t : C
                   let it : taken ≡ link =
                   leg-one v cells taken link j (to ∙ ap (λ (n : ℕ). Some n) same) (f ∙ sym from) e is_taken is in
                   near-at (Contains more link) (Holds v cells t link) j later (omega (arith, near, same))
-                  (subst (λ (x : Link). Contains more x) it (Contains-push links taken))
+                  (subst (λ (x : CellEdge). Contains more x) it (Contains-push links taken))
             ];
         keeps = λ link c. keeps link (so.keeps link c);
         are = λ link c.
-            elim (Contains-push_cases links taken link c) as (λ w. IsLink v cells link × (link.from < later)) [
+            elim (Contains-push_cases links taken link c) as (λ w. IsCellEdge v cells link × (link.from < later)) [
               | inl old ↦ so.are link old
-              | inr new ↦ subst (λ (x : Link). IsLink v cells x × (x.from < later)) new (is_taken, omega (arith, from, within))
+              | inr new ↦ subst (λ (x : CellEdge). IsCellEdge v cells x × (x.from < later)) new (is_taken, omega (arith, from, within))
             ];
       }
 
   -- by a leg to a later position the costs are lowered
-  pub legs-more : (taken : Link) (t1 : Costs) (x : Bool) → IsLink v cells taken → taken.from ≡ k → taken.to ≡ Some end → later ≤ end
+  pub legs-more : (taken : CellEdge) (t1 : Costs) (x : Bool) → IsCellEdge v cells taken → taken.from ≡ k → taken.to ≡ Some end → later ≤ end
       → Relaxed v cells taken t t1 x → LegsSoFar v cells k first later (end + 1) t0 t1 listed links (changed || x)
   legs-more taken t1 x is_taken from to far relaxed =
       let passed : Passed (k + 1) t t1 x = subst (λ (n : ℕ). Passed (n + 1) t t1 x) from relaxed.passed in
@@ -195,7 +195,7 @@ module _ (v : LegsValue) (cells : List Cell) (k first later end : ℕ) (t0 t : C
                   leg-one v cells taken link j (to ∙ ap (λ (n : ℕ). Some n) same) (f ∙ sym from) e is_taken is in
                   let beyond : later ≤ j = omega (arith, far, same) in
                   far-at (Contains links link) (Holds v cells t1 link) j later beyond
-                  (holds-later v cells link t t1 t1 (subst (λ (y : Link). LinkHolds v cells y t t1) it relaxed.holds)
+                  (holds-later v cells link t t1 t1 (subst (λ (y : CellEdge). EdgeHolds v cells y t t1) it relaxed.holds)
                   (λ i. under-itself (at t1 i))
                   (λ left. rest-far later t t1 link.to j left above e beyond))
             ];
@@ -204,15 +204,15 @@ module _ (v : LegsValue) (cells : List Cell) (k first later end : ℕ) (t0 t : C
       }
 
 -- the first cells of a position
-pub record GatheredSoFar (v : LegsValue) (cells : List Cell) (first later k : ℕ) (before after : Costs) (links : List Link) : Type 0 where
+pub record GatheredSoFar (v : LegsValue) (cells : List Cell) (first later k : ℕ) (before after : Costs) (links : List CellEdge) : Type 0 where
   pub sound : IsSound v cells after
   pub falls : (i : ℕ) → Under (at after i) (at before i)
   pub above : (i : ℕ) → 8 * later ≤ i → at after i ≡ at before i
   pub ends : (j : ℕ) → first ≤ j → j < k → EndsHold v cells j after
   pub legs : (j : ℕ) → first ≤ j → j < k → LegsHold v cells j first later (length cells) after links
-  pub are : AreLinks v cells later links
+  pub are : AreCellEdges v cells later links
 
-module _ (v : LegsValue) (cells : List Cell) (first later k : ℕ) (t0 t t1 t2 : Costs) (links more : List Link) (x y : Bool)
+module _ (v : LegsValue) (cells : List Cell) (first later k : ℕ) (t0 t t1 t2 : Costs) (links more : List CellEdge) (x y : Bool)
     (within : k < later)
     (so : GatheredSoFar v cells first later k t0 t links) (ended : EndsRelaxed v cells k t t1 x)
     (led : LegsRelaxed v cells k first later t1 t2 links more y) where

@@ -10,23 +10,23 @@ use Rattle.list_pack.specs.Value.{LegsValue, KeepsLaws}
 use Rattle.list_pack.specs.Costs.{Under}
 use Rattle.list_pack.proofs.PublicLaws.{under-trans}
 use Rattle.list_encoder.specs.declared.cells.Cell.{Cell}
-use Rattle.list_encoder.specs.declared.table.Link.{Link}
+use Rattle.list_encoder.specs.declared.table.CellEdge.{CellEdge}
 use Rattle.list_encoder.specs.Cells.{cell_at, IsCellBy, AreCells, IsFirst}
-use Rattle.list_encoder.specs.Table.{Costs, at, entry, rest_at, offer, LeadsTo, IsLink, IsSound, Passed, LinkHolds, Holds, Relaxed, AreLinks, Gathers, Rounded, Settled, IsOnward, HoldFrom, IsShapeOf}
+use Rattle.list_encoder.specs.Table.{Costs, at, entry, rest_at, offer, LeadsTo, IsCellEdge, IsSound, Passed, EdgeHolds, Holds, Relaxed, AreCellEdges, Gathers, Rounded, Settled, IsOnward, HoldFrom, IsShapeOf}
 use Rattle.list_encoder.proofs.Celling.{some-same, place_of, contains_at, cell-read}
 use Rattle.list_encoder.proofs.Tables.{passed-then, passed-wider}
 use Rattle.list_encoder.proofs.RelaxedRooms.{holds-later, rest-end}
 use Rattle.list_encoder.proofs.Relaxing.{leg-stays, at-near, at-far}
 
 -- the first links of a list
-pub record RoundSoFar (v : LegsValue) (cells : List Cell) (later : ℕ) (links : List Link) (count : ℕ) (before after : Costs)
+pub record RoundSoFar (v : LegsValue) (cells : List Cell) (later : ℕ) (links : List CellEdge) (count : ℕ) (before after : Costs)
     (changed : Bool) : Type 0 where
   pub sound : IsSound v cells after
   pub passed : Passed later before after changed
-  pub hold : changed ≡ false → (link : Link) (i : ℕ) → i < count → slice_get links i ≡ Some link → Holds v cells after link
+  pub hold : changed ≡ false → (link : CellEdge) (i : ℕ) → i < count → slice_get links i ≡ Some link → Holds v cells after link
 
-pub round-more : (v : LegsValue) (cells : List Cell) (later : ℕ) (links : List Link) (count : ℕ) (t0 t t1 : Costs) (changed x : Bool)
-    (taken : Link)
+pub round-more : (v : LegsValue) (cells : List Cell) (later : ℕ) (links : List CellEdge) (count : ℕ) (t0 t t1 : Costs) (changed x : Bool)
+    (taken : CellEdge)
     → slice_get links count ≡ Some taken → taken.from < later → RoundSoFar v cells later links count t0 t changed
     → Relaxed v cells taken t t1 x
     → RoundSoFar v cells later links (count + 1) t0 t1 (changed || x)
@@ -43,12 +43,12 @@ round-more v cells later links count t0 t t1 changed x taken here from so relaxe
             | inr more ↦
                 let found : i ≡ count = omega (arith, h, more) in
                 let it : taken ≡ link = some-same taken link (sym here ∙ ap (slice_get links) (sym found) ∙ f) in
-                subst (λ (s : Costs). LinkHolds v cells link s t1) (sym same)
-                (subst (λ (l : Link). LinkHolds v cells l t t1) it relaxed.holds)
+                subst (λ (s : Costs). EdgeHolds v cells link s t1) (sym same)
+                (subst (λ (l : CellEdge). EdgeHolds v cells l t t1) it relaxed.holds)
           ];
     }
 
-pub round-all : (v : LegsValue) (cells : List Cell) (later : ℕ) (links : List Link) (count : ℕ) (t0 t : Costs) (changed : Bool)
+pub round-all : (v : LegsValue) (cells : List Cell) (later : ℕ) (links : List CellEdge) (count : ℕ) (t0 t : Costs) (changed : Bool)
     → length links ≤ count
     → RoundSoFar v cells later links count t0 t changed → Rounded v cells later links t0 t changed
 round-all v cells later links count t0 t changed h so =
@@ -62,7 +62,7 @@ round-all v cells later links count t0 t changed h so =
     }
 
 -- a round leaves what was gathered
-pub gathers-round : (v : LegsValue) (cells : List Cell) (first later : ℕ) (t0 t t1 : Costs) (links : List Link) (x : Bool)
+pub gathers-round : (v : LegsValue) (cells : List Cell) (first later : ℕ) (t0 t t1 : Costs) (links : List CellEdge) (x : Bool)
     → Gathers v cells first later t0 t links → Rounded v cells later links t t1 x → Gathers v cells first later t0 t1 links
 gathers-round v cells first later t0 t t1 links x g r =
     record {
@@ -77,9 +77,9 @@ gathers-round v cells first later t0 t t1 links x g r =
     }
 
 -- where a round changed nothing, the links of a position hold
-link-settles : (v : LegsValue) (cells : List Cell) (first later : ℕ) (t0 t t1 : Costs) (links : List Link)
+link-settles : (v : LegsValue) (cells : List Cell) (first later : ℕ) (t0 t t1 : Costs) (links : List CellEdge)
     → Gathers v cells first later t0 t1 links
-    → Rounded v cells later links t t1 false → (link : Link) → first ≤ link.from → link.from < later → IsLink v cells link
+    → Rounded v cells later links t t1 false → (link : CellEdge) → first ≤ link.from → link.from < later → IsCellEdge v cells link
     → (to : Option ℕ) → link.to ≡ to → IsOnward first to → Holds v cells t1 link
 link-settles v cells first later t0 t t1 links g r link h l is None e on = g.ends link.from h l link refl e is
 link-settles v cells first later t0 t t1 links g r link h l is (Some to) e on =
@@ -91,7 +91,7 @@ link-settles v cells first later t0 t t1 links g r link h l is (Some to) e on =
       | inr far ↦ at-far (Contains links link) (Holds v cells t1 link) to later far known
     ]
 
-pub settles : (v : LegsValue) (cells : List Cell) (first later : ℕ) (t0 t t1 : Costs) (links : List Link)
+pub settles : (v : LegsValue) (cells : List Cell) (first later : ℕ) (t0 t t1 : Costs) (links : List CellEdge)
     → Gathers v cells first later t0 t links
     → Rounded v cells later links t t1 false → Settled v cells first later t0 t1
 settles v cells first later t0 t t1 links g r =
@@ -116,9 +116,9 @@ onward-by v laws cells position first is cell h sid hops (Some to) leads =
       | inr more ↦ more
     ]
 
-pub onward : (v : LegsValue) → KeepsLaws v → (cells : List Cell) (position first : ℕ) → IsFirst cells position first → (link : Link)
+pub onward : (v : LegsValue) → KeepsLaws v → (cells : List Cell) (position first : ℕ) → IsFirst cells position first → (link : CellEdge)
     → first ≤ link.from
-    → IsLink v cells link → IsOnward first link.to
+    → IsCellEdge v cells link → IsOnward first link.to
 onward v laws cells position first is link h is_link =
     onward-by v laws cells position first is is_link.cell (is.later link.from is_link.cell h is_link.from) link.sid link.hops link.to
     is_link.leads
@@ -135,7 +135,7 @@ rest-onward later a b None left above on = refl
 rest-onward later a b (Some j) left above on = above (8 * j + left) (omega (arith, on))
 
 -- what holds of a link from a later position stays so
-later-stays : (v : LegsValue) (cells : List Cell) (later : ℕ) (a b : Costs) (link : Link) → later ≤ link.from → IsOnward later link.to
+later-stays : (v : LegsValue) (cells : List Cell) (later : ℕ) (a b : Costs) (link : CellEdge) → later ≤ link.from → IsOnward later link.to
     → ((i : ℕ) → 8 * later ≤ i → at b i ≡ at a i) → Holds v cells a link → Holds v cells b link
 later-stays v cells later a b link h on above holds cell stays room left e l r =
     let here : entry b link.from room ≡ entry a link.from room = above (8 * link.from + room) (omega (arith, h)) in
@@ -197,16 +197,16 @@ tabled-all v cells p later t e so link h is_link =
       | inr more ↦ so.hold link more is_link
     ]
 
-pub link-read : (links : List Link) (k : ℕ) → k < length links
+pub link-read : (links : List CellEdge) (k : ℕ) → k < length links
     → slice_get links k ≡ Some (get_or links k (record { from = 0; to = None; sid = 0; hops = 0 }))
 link-read links k h = slice_get-get_or links k (record { from = 0; to = None; sid = 0; hops = 0 }) h
 
-pub link-among : (links : List Link) (k : ℕ) → k < length links
+pub link-among : (links : List CellEdge) (k : ℕ) → k < length links
     → Contains links (get_or links k (record { from = 0; to = None; sid = 0; hops = 0 }))
 link-among links k h = contains_at links (get_or links k (record { from = 0; to = None; sid = 0; hops = 0 })) k (link-read links k h)
 
 -- the cell that a listed link starts from
-pub from-read : (v : LegsValue) (cells : List Cell) (later : ℕ) (links : List Link) (k : ℕ) → AreLinks v cells later links
+pub from-read : (v : LegsValue) (cells : List Cell) (later : ℕ) (links : List CellEdge) (k : ℕ) → AreCellEdges v cells later links
     → k < length links
     → (get_or links k (record { from = 0; to = None; sid = 0; hops = 0 })).from < length cells
 from-read v cells later links k are h =

@@ -14,10 +14,10 @@ use Rattle.list_pack.specs.Costs.{Move, plus, nothing, move_cost, Under, edge_by
 use Rattle.list_pack.specs.Least.{Attains}
 use Rattle.list_pack.proofs.PublicLaws.{under-itself, under-trans, edge-made, last-made, attained}
 use Rattle.list_encoder.specs.declared.cells.Cell.{Cell}
-use Rattle.list_encoder.specs.declared.table.Link.{Link}
-use Rattle.list_encoder.specs.declared.cells.TheConstants.{MOST_CELLS}
+use Rattle.list_encoder.specs.declared.table.CellEdge.{CellEdge}
+use Rattle.list_encoder.specs.declared.cells.TheConstants.{MAX_CELLS}
 use Rattle.list_encoder.specs.Cells.{cell_at, state_at, AreCells}
-use Rattle.list_encoder.specs.Table.{Costs, at, entry, rest_at, offer, LeadsTo, IsLink, filled, IsBounded, IsSound, Improves, IsLowered, IsKept, Lowers, rank, total, Passed, RoomHolds, RoomRelaxed, LeavesRoom, HasFewContainers, AreInRange}
+use Rattle.list_encoder.specs.Table.{Costs, at, entry, rest_at, offer, LeadsTo, IsCellEdge, filled, IsBounded, IsSound, Improves, IsLowered, IsKept, Lowers, rank, total, Passed, RoomHolds, RoomRelaxed, LeavesRoom, HasFewContainers, AreInRange}
 use Rattle.list_encoder.proofs.Rooms.{stay-less, open-few, behind-few}
 
 -- a cost that is below another, or of few containers and hops
@@ -159,10 +159,10 @@ module _ (v : LegsValue) (laws : KeepsLaws v) (cells : List Cell) where
       let is = laws.leg cell.position cell.via sid (record { to = h.0; hops = hops }) h.2 in
       ((h.0, is.within, is.is_next), is.hops)
 
-  pub link-shape : (link : Link) → IsLink v cells link → IsShape (v.shape link.sid)
+  pub link-shape : (link : CellEdge) → IsCellEdge v cells link → IsShape (v.shape link.sid)
   link-shape link is = laws.shapes link.sid (leads-sid is.cell link.sid link.hops link.to is.leads).0
 
-  pub link-hops : (link : Link) → IsLink v cells link → link.hops ≤ 1000
+  pub link-hops : (link : CellEdge) → IsCellEdge v cells link → link.hops ≤ 1000
   link-hops link is = (leads-sid is.cell link.sid link.hops link.to is.leads).1
 
   pub to-range : (t : Costs) (cell : Cell) (sid hops left : ℕ) (to : Option ℕ) → length t ≡ 8 * length cells
@@ -174,7 +174,7 @@ module _ (v : LegsValue) (laws : KeepsLaws v) (cells : List Cell) where
       let p : 8 * to + left < 8 * length cells = place-within to left (length cells) w l in
       omega (arith, p, long)
 
-  pub link-range : (t : Costs) (link : Link) (left : ℕ) → IsSound v cells t → IsLink v cells link → left < 8 → AreInRange t link.to left
+  pub link-range : (t : Costs) (link : CellEdge) (left : ℕ) → IsSound v cells t → IsCellEdge v cells link → left < 8 → AreInRange t link.to left
   link-range t link left sound is h = to-range t is.cell link.sid link.hops left link.to sound.long is.leads h
 
   rest-bounded : (t : Costs) (to : Option ℕ) (left : ℕ) (d : Cost) → IsSound v cells t → left < 8 → rest_at t to left ≡ Some d
@@ -184,7 +184,7 @@ module _ (v : LegsValue) (laws : KeepsLaws v) (cells : List Cell) where
       subst (λ (x : Cost). IsBounded (filled t) left x) same (bounded-nothing (filled t) left)
   rest-bounded t (Some to) left d sound h e = sound.bounded to left d h e
 
-  bounded-behind : (n left room hops : ℕ) (stays : Bool) (d : Cost) (o : Option ℕ) (link : Link) → IsLink v cells link → link.hops ≡ hops
+  bounded-behind : (n left room hops : ℕ) (stays : Bool) (d : Cost) (o : Option ℕ) (link : CellEdge) → IsCellEdge v cells link → link.hops ≡ hops
       → room < 8
       → room_behind stays (option_map v.shape o) room (v.shape link.sid) ≡ Some left → IsBounded n left d
       → IsBounded (n + 1) room (plus (move_cost stays hops) d)
@@ -282,7 +282,7 @@ module _ (v : LegsValue) (laws : KeepsLaws v) (cells : List Cell) where
     sound-set =
         record { long = length-set t (8 * k + room) (Some c) ∙ sound.long; attained = attained-at; bounded = bounded-at }
 
-  costs-few : (t : Costs) (room : ℕ) (c : Cost) → IsSound v cells t → length cells ≤ MOST_CELLS → room < 8 → IsBounded (filled t + 1) room c
+  costs-few : (t : Costs) (room : ℕ) (c : Cost) → IsSound v cells t → length cells ≤ MAX_CELLS → room < 8 → IsBounded (filled t + 1) room c
       → (c.containers < 1000000) × (c.hops < 1000000000)
   costs-few t room c sound few low bounded =
       let many : filled t ≤ length t = count_by-le-length is_some t in
@@ -291,7 +291,7 @@ module _ (v : LegsValue) (laws : KeepsLaws v) (cells : List Cell) where
       let hops : c.hops < 1000000000 = omega (arith, bounded.hops, containers, low) in
       (omega (arith, containers), hops)
 
-  pub sound-few : (t : Costs) → length cells ≤ MOST_CELLS → IsSound v cells t → HasFewContainers t
+  pub sound-few : (t : Costs) → length cells ≤ MAX_CELLS → IsSound v cells t → HasFewContainers t
   sound-few t few sound i c e =
       let place : 8 * (i / 8) + i % 8 ≡ i = omega arith in
       let bound = (sound.bounded (i / 8) (i % 8) c (omega arith) (ap (at t) place ∙ e)).containers in
@@ -299,7 +299,7 @@ module _ (v : LegsValue) (laws : KeepsLaws v) (cells : List Cell) where
       omega (arith, bound, many, sound.long, few)
 
   -- lowering a room of a link's first cell by what is left behind the link
-  module _ (are : AreCells v cells) (t : Costs) (link : Link) (stays : Bool) (room : ℕ) (o : Option ℕ) (left : ℕ) (is : IsLink v cells link)
+  module _ (are : AreCells v cells) (t : Costs) (link : CellEdge) (stays : Bool) (room : ℕ) (o : Option ℕ) (left : ℕ) (is : IsCellEdge v cells link)
       (sound : IsSound v cells t) (low : room < 8) (leaves : LeavesRoom v cells link stays room o) (some : o ≡ Some left) where
     pub room-is : room_behind stays (option_map v.shape is.cell.via) room (v.shape link.sid) ≡ Some left
     room-is = sym (leaves is.cell is.from) ∙ some

@@ -1,7 +1,7 @@
 -- Cells: the start, and the SIDs of all positions.
 use Rattle.std.specs.Prelude.{◌≡◌, ℕ, ◌<◌, ◌≤◌, List, length, slice_get, Option, Some, None, Contains}
 use Rattle.list_encoder.specs.declared.cells.Cell.{Cell}
-use Rattle.list_encoder.specs.declared.cells.TheConstants.{MOST_CELLS}
+use Rattle.list_encoder.specs.declared.cells.TheConstants.{MAX_CELLS}
 use Rattle.list_pack.specs.declared.types.State.{State}
 use Rattle.list_pack.specs.Value.{LegsValue}
 use Rattle.list_pack.specs.Rooms.{top_room}
@@ -39,7 +39,7 @@ pub record AreCells (v : LegsValue) (cells : List Cell) : Type 0 where
   pub real : (k : ℕ) (cell : Cell) → slice_get cells k ≡ Some cell → IsCell v cell
   pub order : (i j : ℕ) (a b : Cell) (p q : ℕ) → i < j → slice_get cells i ≡ Some a → slice_get cells j ≡ Some b
       → IsBefore v (state_at a p) (state_at b q)
-  pub few : length cells ≤ MOST_CELLS
+  pub few : length cells ≤ MAX_CELLS
 
 -- the place of the first cell of a position or of a later one
 pub record IsFirst (cells : List Cell) (position k : ℕ) : Type 0 where

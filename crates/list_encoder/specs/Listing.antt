@@ -5,7 +5,7 @@ use Rattle.list_pack.specs.declared.types.Potential.{Potential}
 use Rattle.list_pack.specs.Value.{LegsValue}
 use Rattle.list_pack.specs.Least.{IsBefore}
 use Rattle.list_encoder.specs.declared.cells.Cell.{Cell}
-use Rattle.list_encoder.specs.declared.table.TheConstants.{MOST_CONTAINERS}
+use Rattle.list_encoder.specs.declared.table.TheConstants.{MAX_PATH_CONTAINERS}
 use Rattle.list_encoder.specs.Cells.{state_at, top_at}
 use Rattle.list_encoder.specs.Table.{Costs, entry}
 
@@ -29,7 +29,7 @@ pub record IsListed (v : LegsValue) (cells : List Cell) (t : Costs) (n : ℕ) (p
 
 -- no cost that is listed has more containers than there are states
 abbrev pub ListsFewContainers : List Potential → Type 0
-ListsFewContainers ps = All (λ (p : Potential). p.cost.containers ≤ MOST_CONTAINERS) ps
+ListsFewContainers ps = All (λ (p : Potential). p.cost.containers ≤ MAX_PATH_CONTAINERS) ps
 
 -- the most room behind a cell's SID
 abbrev pub IsTop : LegsValue → List Cell → ℕ → ℕ → Type 0

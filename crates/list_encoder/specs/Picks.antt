@@ -8,10 +8,10 @@ use Rattle.list_pack.specs.Rooms.{room_behind}
 use Rattle.list_pack.specs.Costs.{plus, move_cost}
 use Rattle.list_pack.specs.Least.{path_before}
 use Rattle.list_encoder.specs.declared.cells.Cell.{Cell}
-use Rattle.list_encoder.specs.declared.table.Link.{Link}
+use Rattle.list_encoder.specs.declared.table.CellEdge.{CellEdge}
 use Rattle.list_encoder.specs.declared.picks.Pick.{Pick}
 use Rattle.list_encoder.specs.declared.picks.Spot.{Spot}
-use Rattle.list_encoder.specs.Table.{Costs, entry, rest_at, IsLink}
+use Rattle.list_encoder.specs.Table.{Costs, entry, rest_at, IsCellEdge}
 
 -- where a tight move is taken, the one that comes first
 abbrev pub better_of : Option Pick → Option Pick → Option Pick
@@ -29,15 +29,15 @@ pub record IsSpot (cells : List Cell) (t : Costs) (spot : Spot) : Type 0 where
   pub is : entry t spot.place spot.room ≡ Some spot.cost
 
 -- a move by a link is tight: its cost with what is left behind it is what is left in front of it
-pub record IsTight (v : LegsValue) (t : Costs) (spot : Spot) (link : Link) (stays : Bool) (left : ℕ) (rest : Cost) : Type 0 where
+pub record IsTight (v : LegsValue) (t : Costs) (spot : Spot) (link : CellEdge) (stays : Bool) (left : ℕ) (rest : Cost) : Type 0 where
   pub room_is : room_behind stays (option_map v.shape spot.cell.via) spot.room (v.shape link.sid) ≡ Some left
   pub rest_is : rest_at t link.to left ≡ Some rest
   pub cost_is : plus (move_cost stays link.hops) rest ≡ spot.cost
 
 pub record IsPick (v : LegsValue) (cells : List Cell) (t : Costs) (spot : Spot) (pick : Pick) : Type 0 where
-  pub link : Link
+  pub link : CellEdge
   pub from : link.from ≡ spot.place
-  pub is_link : IsLink v cells link
+  pub is_link : IsCellEdge v cells link
   pub tight : IsTight v t spot link pick.step.stays pick.room pick.rest
   pub prefix_is : pick.step.prefix ≡ (v.shape link.sid).prefix
   pub to_is : pick.to ≡ link.to
@@ -51,38 +51,38 @@ abbrev pub Covers : Option Pick → PathStep → Type 0
 Covers None step = ⊥
 Covers (Some p) step = path_before (step ∷ []) (p.step ∷ []) ≡ false
 
-abbrev pub link_step : LegsValue → Link → Bool → PathStep
+abbrev pub link_step : LegsValue → CellEdge → Bool → PathStep
 link_step v link stays = record { stays = stays; prefix = (v.shape link.sid).prefix }
 
 -- the tight moves by a link that stay, or those that don't
-abbrev pub CoversMoves : LegsValue → Costs → Spot → Option Pick → Link → Bool → Type 0
+abbrev pub CoversMoves : LegsValue → Costs → Spot → Option Pick → CellEdge → Bool → Type 0
 CoversMoves v t spot best link stays =
     (left : ℕ) (rest : Cost) → IsTight v t spot link stays left rest → Covers best (link_step v link stays)
 
 -- all tight moves by a link
-abbrev pub CoversLink : LegsValue → Costs → Spot → Option Pick → Link → Type 0
-CoversLink v t spot best link = (stays : Bool) → CoversMoves v t spot best link stays
+abbrev pub CoversEdge : LegsValue → Costs → Spot → Option Pick → CellEdge → Type 0
+CoversEdge v t spot best link = (stays : Bool) → CoversMoves v t spot best link stays
 
-pub record PicksMoves (v : LegsValue) (cells : List Cell) (t : Costs) (spot : Spot) (link : Link) (stays : Bool) (best : Option Pick) :
+pub record PicksMoves (v : LegsValue) (cells : List Cell) (t : Costs) (spot : Spot) (link : CellEdge) (stays : Bool) (best : Option Pick) :
     Type 0 where
   pub found : IsPickOrNone v cells t spot best
   pub covers : CoversMoves v t spot best link stays
 
-pub record PicksLink (v : LegsValue) (cells : List Cell) (t : Costs) (spot : Spot) (link : Link) (best : Option Pick) : Type 0 where
+pub record PicksEdge (v : LegsValue) (cells : List Cell) (t : Costs) (spot : Spot) (link : CellEdge) (best : Option Pick) : Type 0 where
   pub found : IsPickOrNone v cells t spot best
-  pub covers : CoversLink v t spot best link
+  pub covers : CoversEdge v t spot best link
 
 -- of all finishes from the cell
 pub record PicksEnds (v : LegsValue) (cells : List Cell) (t : Costs) (spot : Spot) (best : Option Pick) : Type 0 where
   pub found : IsPickOrNone v cells t spot best
-  pub covers : (link : Link) → link.from ≡ spot.place → link.to ≡ None → IsLink v cells link → CoversLink v t spot best link
+  pub covers : (link : CellEdge) → link.from ≡ spot.place → link.to ≡ None → IsCellEdge v cells link → CoversEdge v t spot best link
 
 -- of all legs from the cell
 pub record PicksLegs (v : LegsValue) (cells : List Cell) (t : Costs) (spot : Spot) (best : Option Pick) : Type 0 where
   pub found : IsPickOrNone v cells t spot best
-  pub covers : (link : Link) (to : ℕ) → link.from ≡ spot.place → link.to ≡ Some to → IsLink v cells link → CoversLink v t spot best link
+  pub covers : (link : CellEdge) (to : ℕ) → link.from ≡ spot.place → link.to ≡ Some to → IsCellEdge v cells link → CoversEdge v t spot best link
 
 -- of all links from the cell
 pub record PicksFirst (v : LegsValue) (cells : List Cell) (t : Costs) (spot : Spot) (best : Option Pick) : Type 0 where
   pub found : IsPickOrNone v cells t spot best
-  pub covers : (link : Link) → link.from ≡ spot.place → IsLink v cells link → CoversLink v t spot best link
+  pub covers : (link : CellEdge) → link.from ≡ spot.place → IsCellEdge v cells link → CoversEdge v t spot best link

@@ -8,8 +8,8 @@ use Rattle.list_pack.specs.Rooms.{room_behind}
 use Rattle.list_pack.specs.Costs.{Below, plus, nothing, move_cost, Under}
 use Rattle.list_pack.specs.Least.{Attains, IsLeast}
 use Rattle.list_encoder.specs.declared.cells.Cell.{Cell}
-use Rattle.list_encoder.specs.declared.table.Link.{Link}
-use Rattle.list_encoder.specs.declared.table.TheConstants.{MOST_CONTAINERS}
+use Rattle.list_encoder.specs.declared.table.CellEdge.{CellEdge}
+use Rattle.list_encoder.specs.declared.table.TheConstants.{MAX_PATH_CONTAINERS}
 use Rattle.list_encoder.specs.Cells.{cell_at, state_at}
 
 abbrev pub Costs : Type 0
@@ -36,7 +36,7 @@ LeadsTo v cells cell sid hops (Some to) =
     (position : ℕ) × (slice_get cells to ≡ Some (cell_at position sid))
     × (v.leg cell.position cell.via sid ≡ Some (record { to = position; hops = hops }))
 
-pub record IsLink (v : LegsValue) (cells : List Cell) (link : Link) : Type 0 where
+pub record IsCellEdge (v : LegsValue) (cells : List Cell) (link : CellEdge) : Type 0 where
   pub cell : Cell
   pub from : slice_get cells link.from ≡ Some cell
   pub leads : LeadsTo v cells cell link.sid link.hops link.to
@@ -89,34 +89,34 @@ pub record Passed (cell : ℕ) (before after : Costs) (changed : Bool) : Type 0 
   pub smaller : changed ≡ true → total after < total before
 
 -- the cost of a link, with what is left behind it in one table, bounds what is left in front of it in another
-abbrev pub LinkHolds : LegsValue → List Cell → Link → Costs → Costs → Type 0
-LinkHolds v cells link before after =
+abbrev pub EdgeHolds : LegsValue → List Cell → CellEdge → Costs → Costs → Type 0
+EdgeHolds v cells link before after =
     (cell : Cell) (stays : Bool) (room left : ℕ) → slice_get cells link.from ≡ Some cell → room < 8
     → room_behind stays (option_map v.shape cell.via) room (v.shape link.sid) ≡ Some left
     → Under (entry after link.from room) (offer stays link.hops (rest_at before link.to left))
 
-abbrev pub Holds : LegsValue → List Cell → Costs → Link → Type 0
-Holds v cells t link = LinkHolds v cells link t t
+abbrev pub Holds : LegsValue → List Cell → Costs → CellEdge → Type 0
+Holds v cells t link = EdgeHolds v cells link t t
 
 -- one room of a link
-abbrev pub RoomHolds : Option Cost → Bool → Link → Costs → Option ℕ → Type 0
+abbrev pub RoomHolds : Option Cost → Bool → CellEdge → Costs → Option ℕ → Type 0
 RoomHolds o stays link before None = Unit {0}
 RoomHolds o stays link before (Some left) = Under o (offer stays link.hops (rest_at before link.to left))
 
 -- what lowering a table by a link gives
-pub record Relaxed (v : LegsValue) (cells : List Cell) (link : Link) (before after : Costs) (changed : Bool) : Type 0 where
+pub record Relaxed (v : LegsValue) (cells : List Cell) (link : CellEdge) (before after : Costs) (changed : Bool) : Type 0 where
   pub sound : IsSound v cells after
   pub passed : Passed (link.from + 1) before after changed
-  pub holds : LinkHolds v cells link before after
+  pub holds : EdgeHolds v cells link before after
 
-pub record RoomRelaxed (v : LegsValue) (cells : List Cell) (link : Link) (before after : Costs) (stays : Bool) (room : ℕ) (left : Option ℕ)
+pub record RoomRelaxed (v : LegsValue) (cells : List Cell) (link : CellEdge) (before after : Costs) (stays : Bool) (room : ℕ) (left : Option ℕ)
     (changed : Bool) : Type 0 where
   pub sound : IsSound v cells after
   pub passed : Passed (link.from + 1) before after changed
   pub holds : RoomHolds (entry after link.from room) stays link before left
 
 -- the rooms from one on and before another of a link's first cell, where the link stays in the container, or where it opens one
-pub record RoomsRelaxed (v : LegsValue) (cells : List Cell) (link : Link) (stays : Bool) (low high : ℕ) (before after : Costs)
+pub record RoomsRelaxed (v : LegsValue) (cells : List Cell) (link : CellEdge) (stays : Bool) (low high : ℕ) (before after : Costs)
     (changed : Bool) : Type 0 where
   pub sound : IsSound v cells after
   pub passed : Passed (link.from + 1) before after changed
@@ -126,11 +126,11 @@ pub record RoomsRelaxed (v : LegsValue) (cells : List Cell) (link : Link) (stays
 
 -- all links from a cell on hold
 abbrev pub HoldFrom : LegsValue → List Cell → Costs → ℕ → Type 0
-HoldFrom v cells t cell = (link : Link) → cell ≤ link.from → IsLink v cells link → Holds v cells t link
+HoldFrom v cells t cell = (link : CellEdge) → cell ≤ link.from → IsCellEdge v cells link → Holds v cells t link
 
 -- links within a position, each from a cell before a given one
-abbrev pub AreLinks : LegsValue → List Cell → ℕ → List Link → Type 0
-AreLinks v cells cell links = (link : Link) → Contains links link → IsLink v cells link × (link.from < cell)
+abbrev pub AreCellEdges : LegsValue → List Cell → ℕ → List CellEdge → Type 0
+AreCellEdges v cells cell links = (link : CellEdge) → Contains links link → IsCellEdge v cells link × (link.from < cell)
 
 -- each entry is the least cost of a path from its state
 abbrev pub AreLeast : LegsValue → List Cell → Costs → Type 0
@@ -138,7 +138,7 @@ AreLeast v cells t = (k room : ℕ) (cell : Cell) → slice_get cells k ≡ Some
 
 -- no entry has more containers than there are states
 abbrev pub HasFewContainers : Costs → Type 0
-HasFewContainers t = (i : ℕ) (c : Cost) → at t i ≡ Some c → c.containers ≤ MOST_CONTAINERS
+HasFewContainers t = (i : ℕ) (c : Cost) → at t i ≡ Some c → c.containers ≤ MAX_PATH_CONTAINERS
 
 -- the places of a cell's costs are within the table
 abbrev pub AreInRange : Costs → Option ℕ → ℕ → Type 0
@@ -146,7 +146,7 @@ AreInRange t None room = Unit {0}
 AreInRange t (Some cell) room = 8 * cell + room < length t
 
 -- the room behind a link's SID, from a room behind its first cell's
-abbrev pub LeavesRoom : LegsValue → List Cell → Link → Bool → ℕ → Option ℕ → Type 0
+abbrev pub LeavesRoom : LegsValue → List Cell → CellEdge → Bool → ℕ → Option ℕ → Type 0
 LeavesRoom v cells link stays room left =
     (cell : Cell) → slice_get cells link.from ≡ Some cell → left ≡ room_behind stays (option_map v.shape cell.via) room (v.shape link.sid)
 
@@ -156,7 +156,7 @@ IsShapeOf v cells k shape = (cell : Cell) → slice_get cells k ≡ Some cell �
 
 -- the finishes from a cell
 abbrev pub EndsHold : LegsValue → List Cell → ℕ → Costs → Type 0
-EndsHold v cells k t = (link : Link) → link.from ≡ k → link.to ≡ None → IsLink v cells link → Holds v cells t link
+EndsHold v cells k t = (link : CellEdge) → link.from ≡ k → link.to ≡ None → IsCellEdge v cells link → Holds v cells t link
 
 pub record EndsRelaxed (v : LegsValue) (cells : List Cell) (k : ℕ) (before after : Costs) (changed : Bool) : Type 0 where
   pub sound : IsSound v cells after
@@ -164,43 +164,43 @@ pub record EndsRelaxed (v : LegsValue) (cells : List Cell) (k : ℕ) (before aft
   pub holds : EndsHold v cells k after
 
 -- the leg from a cell into another, where there is one
-abbrev pub IsLinkInto : LegsValue → List Cell → ℕ → ℕ → Option Link → Type 0
-IsLinkInto v cells from to (Some link) = IsLink v cells link × (link.from ≡ from) × (link.to ≡ Some to)
-IsLinkInto v cells from to None = (link : Link) → link.from ≡ from → link.to ≡ Some to → ¬ IsLink v cells link
+abbrev pub IsEdgeInto : LegsValue → List Cell → ℕ → ℕ → Option CellEdge → Type 0
+IsEdgeInto v cells from to (Some link) = IsCellEdge v cells link × (link.from ≡ from) × (link.to ≡ Some to)
+IsEdgeInto v cells from to None = (link : CellEdge) → link.from ≡ from → link.to ≡ Some to → ¬ IsCellEdge v cells link
 
 -- the legs from a cell into the cells from one on and before another: those to later positions hold, the others are listed
-abbrev pub LegsHold : LegsValue → List Cell → ℕ → ℕ → ℕ → ℕ → Costs → List Link → Type 0
+abbrev pub LegsHold : LegsValue → List Cell → ℕ → ℕ → ℕ → ℕ → Costs → List CellEdge → Type 0
 LegsHold v cells k first later end t links =
-    (link : Link) (to : ℕ) → link.from ≡ k → link.to ≡ Some to → first ≤ to → to < end → IsLink v cells link
+    (link : CellEdge) (to : ℕ) → link.from ≡ k → link.to ≡ Some to → first ≤ to → to < end → IsCellEdge v cells link
     → MatchBool (nat_lt to later) (Contains links link) (Holds v cells t link)
 
-abbrev pub Keeps : List Link → List Link → Type 0
-Keeps before after = (link : Link) → Contains before link → Contains after link
+abbrev pub Keeps : List CellEdge → List CellEdge → Type 0
+Keeps before after = (link : CellEdge) → Contains before link → Contains after link
 
-pub record LegsRelaxed (v : LegsValue) (cells : List Cell) (k first later : ℕ) (before after : Costs) (listed links : List Link)
+pub record LegsRelaxed (v : LegsValue) (cells : List Cell) (k first later : ℕ) (before after : Costs) (listed links : List CellEdge)
     (changed : Bool)
     : Type 0 where
   pub sound : IsSound v cells after
   pub passed : Passed (k + 1) before after changed
   pub holds : LegsHold v cells k first later (length cells) after links
   pub keeps : Keeps listed links
-  pub are : AreLinks v cells later links
+  pub are : AreCellEdges v cells later links
 
 -- the cells from one on and before another
-pub record Gathers (v : LegsValue) (cells : List Cell) (first later : ℕ) (before after : Costs) (links : List Link) : Type 0 where
+pub record Gathers (v : LegsValue) (cells : List Cell) (first later : ℕ) (before after : Costs) (links : List CellEdge) : Type 0 where
   pub sound : IsSound v cells after
   pub falls : (i : ℕ) → Under (at after i) (at before i)
   pub above : (i : ℕ) → 8 * later ≤ i → at after i ≡ at before i
   pub ends : (k : ℕ) → first ≤ k → k < later → EndsHold v cells k after
   pub legs : (k : ℕ) → first ≤ k → k < later → LegsHold v cells k first later (length cells) after links
-  pub are : AreLinks v cells later links
+  pub are : AreCellEdges v cells later links
 
 -- where nothing changed, all links hold
-pub record Rounded (v : LegsValue) (cells : List Cell) (later : ℕ) (links : List Link) (before after : Costs) (changed : Bool) : Type 0
+pub record Rounded (v : LegsValue) (cells : List Cell) (later : ℕ) (links : List CellEdge) (before after : Costs) (changed : Bool) : Type 0
   where
     pub sound : IsSound v cells after
     pub passed : Passed later before after changed
-    pub hold : changed ≡ false → (link : Link) → Contains links link → Holds v cells after link
+    pub hold : changed ≡ false → (link : CellEdge) → Contains links link → Holds v cells after link
 
 -- a link to the end, or to a cell from one on
 abbrev pub IsOnward : ℕ → Option ℕ → Type 0
@@ -210,5 +210,5 @@ IsOnward cell (Some to) = cell ≤ to
 pub record Settled (v : LegsValue) (cells : List Cell) (first later : ℕ) (before after : Costs) : Type 0 where
   pub sound : IsSound v cells after
   pub above : (i : ℕ) → 8 * later ≤ i → at after i ≡ at before i
-  pub holds : (link : Link) → first ≤ link.from → link.from < later → IsLink v cells link → IsOnward first link.to
+  pub holds : (link : CellEdge) → first ≤ link.from → link.from < later → IsCellEdge v cells link → IsOnward first link.to
       → Holds v cells after link

@@ -10,7 +10,7 @@ use std::alloc::Global;
 
 /// The most cells that there are: the start's, and those of 128 SIDs at each of 49 positions. (own
 /// rule)
-pub const MOST_CELLS: u32 = 6_273;
+pub const MAX_CELLS: u32 = 6_273;
 
 /// The states of one SID at one position, or the start's. (own rule)
 #[derive(Clone, Copy, Debug, PartialEq, Eq)]

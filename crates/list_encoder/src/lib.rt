@@ -15,4 +15,4 @@ mod solver;
 mod table;
 
 pub use solver::solve;
-pub use table::MOST_CONTAINERS;
+pub use table::MAX_PATH_CONTAINERS;

@@ -4,12 +4,12 @@
 ghost use Rattle.std.specs.Prelude.{◌≡◌, ◌*◌, length};
 ghost use Rattle.std.specs.Option.{option_map};
 ghost use Rattle.list_encoder.specs.Cells.{AreCells};
-ghost use Rattle.list_encoder.specs.Table.{IsLink};
-ghost use Rattle.list_encoder.specs.Picks.{better_of, is_sum, IsSpot, PicksMoves, PicksLink, PicksEnds, PicksLegs, PicksFirst};
+ghost use Rattle.list_encoder.specs.Table.{IsCellEdge};
+ghost use Rattle.list_encoder.specs.Picks.{better_of, is_sum, IsSpot, PicksMoves, PicksEdge, PicksEnds, PicksLegs, PicksFirst};
 
 use crate::cells::{Cell, shape_of};
 use crate::rounds::link_into;
-use crate::table::{Link, rest_at};
+use crate::table::{CellEdge, rest_at};
 use list_pack::{Cost, Legs, PathStep, Shape, move_cost, room_behind, step_before};
 
 /// A state of a cell from which there is a path, with its least cost. (own rule)
@@ -73,14 +73,14 @@ fn pick_move<L: Legs>(
     table: &[Option<Cost>],
     from: &Option<Shape>,
     spot: Spot,
-    link: Link,
+    link: CellEdge,
     stays: bool,
 ) -> Option<Pick>
     requires cells { AreCells (L.seen legs.now) cells.now }
     requires long { length table.now ≡ 8 * length cells.now }
     requires spot { IsSpot cells.now table.now spot }
     requires from { from.now ≡ option_map (L.seen legs.now).shape spot.cell.via }
-    requires link { IsLink (L.seen legs.now) cells.now link }
+    requires link { IsCellEdge (L.seen legs.now) cells.now link }
     requires place { link.from ≡ spot.place }
     ensures { PicksMoves (L.seen legs.now) cells.now table.now spot link stays result }
 {
@@ -109,15 +109,15 @@ fn pick_link<L: Legs>(
     table: &[Option<Cost>],
     from: &Option<Shape>,
     spot: Spot,
-    link: Link,
+    link: CellEdge,
 ) -> Option<Pick>
     requires cells { AreCells (L.seen legs.now) cells.now }
     requires long { length table.now ≡ 8 * length cells.now }
     requires spot { IsSpot cells.now table.now spot }
     requires from { from.now ≡ option_map (L.seen legs.now).shape spot.cell.via }
-    requires link { IsLink (L.seen legs.now) cells.now link }
+    requires link { IsCellEdge (L.seen legs.now) cells.now link }
     requires place { link.from ≡ spot.place }
-    ensures { PicksLink (L.seen legs.now) cells.now table.now spot link result }
+    ensures { PicksEdge (L.seen legs.now) cells.now table.now spot link result }
 {
     let stays = pick_move(legs, cells, table, from, spot, link, true);
     let opens = pick_move(legs, cells, table, from, spot, link, false);
@@ -141,7 +141,7 @@ fn pick_end<L: Legs>(
     let mut best = None;
     for sid in legs.sids_at(legs.steps()) {
         if let Some(hops) = legs.finish(spot.cell.position, spot.cell.via, *sid) {
-            let link = Link {
+            let link = CellEdge {
                 from: spot.place,
                 to: None,
                 sid: *sid,

@@ -6,7 +6,7 @@ ghost use Rattle.list_encoder.specs.Cells.{AreCells};
 ghost use Rattle.list_encoder.specs.Table as tables;
 
 use crate::cells::{Cell, first_of, shape_of};
-use crate::table::{Link, either, lower, rest_at};
+use crate::table::{CellEdge, either, lower, rest_at};
 use base::NoMemory;
 use list_pack::{Cost, Legs, Shape, move_cost, plus, room_behind};
 use std::alloc::Global;
@@ -16,14 +16,14 @@ fn relax_room<L: Legs>(
     legs: &L,
     cells: &[Cell],
     table: &mut [Option<Cost>],
-    link: Link,
+    link: CellEdge,
     stays: bool,
     room: u8,
     left: Option<u8>,
 ) -> bool
     requires laws { KeepsLaws (L.seen legs.now) }
     requires cells { AreCells (L.seen legs.now) cells.now }
-    requires link { tables.IsLink (L.seen legs.now) cells.now link }
+    requires link { tables.IsCellEdge (L.seen legs.now) cells.now link }
     requires sound { tables.IsSound (L.seen legs.now) cells.now table.old }
     requires room { room < 8 }
     requires left { tables.LeavesRoom (L.seen legs.now) cells.now link stays room left }
@@ -48,11 +48,11 @@ fn relax_stays<L: Legs>(
     table: &mut [Option<Cost>],
     from: &Option<Shape>,
     next: &Shape,
-    link: Link,
+    link: CellEdge,
 ) -> bool
     requires laws { KeepsLaws (L.seen legs.now) }
     requires cells { AreCells (L.seen legs.now) cells.now }
-    requires link { tables.IsLink (L.seen legs.now) cells.now link }
+    requires link { tables.IsCellEdge (L.seen legs.now) cells.now link }
     requires from { tables.IsShapeOf (L.seen legs.now) cells.now link.from from.now }
     requires next { next.now ≡ (L.seen legs.now).shape link.sid }
     requires sound { tables.IsSound (L.seen legs.now) cells.now table.old }
@@ -79,11 +79,11 @@ fn relax_opens<L: Legs>(
     table: &mut [Option<Cost>],
     from: &Option<Shape>,
     next: &Shape,
-    link: Link,
+    link: CellEdge,
 ) -> bool
     requires laws { KeepsLaws (L.seen legs.now) }
     requires cells { AreCells (L.seen legs.now) cells.now }
-    requires link { tables.IsLink (L.seen legs.now) cells.now link }
+    requires link { tables.IsCellEdge (L.seen legs.now) cells.now link }
     requires from { tables.IsShapeOf (L.seen legs.now) cells.now link.from from.now }
     requires next { next.now ≡ (L.seen legs.now).shape link.sid }
     requires sound { tables.IsSound (L.seen legs.now) cells.now table.old }
@@ -105,10 +105,10 @@ fn relax<L: Legs>(
     cells: &[Cell],
     table: &mut [Option<Cost>],
     from: &Option<Shape>,
-    link: Link,
+    link: CellEdge,
 ) -> bool
     requires cells { AreCells (L.seen legs.now) cells.now }
-    requires link { tables.IsLink (L.seen legs.now) cells.now link }
+    requires link { tables.IsCellEdge (L.seen legs.now) cells.now link }
     requires from { tables.IsShapeOf (L.seen legs.now) cells.now link.from from.now }
     requires sound { tables.IsSound (L.seen legs.now) cells.now table.old }
     ensures { tables.Relaxed (L.seen legs.now) cells.now link table.old table.new result }
@@ -141,7 +141,7 @@ fn relax_ends<L: Legs>(
     let mut changed = false;
     for sid in legs.sids_at(legs.steps()) {
         if let Some(hops) = legs.finish(cell.position, cell.via, *sid) {
-            let link = Link {
+            let link = CellEdge {
                 from: k,
                 to: None,
                 sid: *sid,
@@ -155,10 +155,10 @@ fn relax_ends<L: Legs>(
 }
 
 /// The leg from a cell into another, where there is one. (own rule)
-pub fn link_into<L: Legs>(legs: &L, cells: &[Cell], from: usize, to: usize) -> Option<Link>
+pub fn link_into<L: Legs>(legs: &L, cells: &[Cell], from: usize, to: usize) -> Option<CellEdge>
     requires from { from < length cells.now }
     requires to { to < length cells.now }
-    ensures { tables.IsLinkInto (L.seen legs.now) cells.now from to result }
+    ensures { tables.IsEdgeInto (L.seen legs.now) cells.now from to result }
 {
     let cell = cells[from];
     let other = cells[to];
@@ -167,7 +167,7 @@ pub fn link_into<L: Legs>(legs: &L, cells: &[Cell], from: usize, to: usize) -> O
     if leg.to != other.position {
         return None;
     }
-    Some(Link {
+    Some(CellEdge {
         from,
         to: Some(to),
         sid,
@@ -185,14 +185,14 @@ fn relax_legs<L: Legs>(
     k: usize,
     first: usize,
     later: usize,
-    links: &mut Vec<Link>,
+    links: &mut Vec<CellEdge>,
 ) -> Result<bool, NoMemory>
     requires cells { AreCells (L.seen legs.now) cells.now }
     requires within { k < later }
     requires later { later ≤ length cells.now }
     requires from { tables.IsShapeOf (L.seen legs.now) cells.now k from.now }
     requires sound { tables.IsSound (L.seen legs.now) cells.now table.old }
-    requires links { tables.AreLinks (L.seen legs.now) cells.now later links.old.items }
+    requires links { tables.AreCellEdges (L.seen legs.now) cells.now later links.old.items }
     ensures { IfOk result (λ changed. tables.LegsRelaxed (L.seen legs.now) cells.now k first later
         table.old table.new links.old.items links.new.items changed) }
 {
@@ -219,7 +219,7 @@ fn gather<L: Legs>(
     table: &mut [Option<Cost>],
     first: usize,
     later: usize,
-) -> Result<Vec<Link>, NoMemory>
+) -> Result<Vec<CellEdge>, NoMemory>
     requires cells { AreCells (L.seen legs.now) cells.now }
     requires first { first ≤ later }
     requires later { later ≤ length cells.now }
@@ -241,11 +241,11 @@ fn round<L: Legs>(
     legs: &L,
     cells: &[Cell],
     table: &mut [Option<Cost>],
-    links: &[Link],
+    links: &[CellEdge],
     later: usize,
 ) -> bool
     requires cells { AreCells (L.seen legs.now) cells.now }
-    requires links { tables.AreLinks (L.seen legs.now) cells.now later links.now }
+    requires links { tables.AreCellEdges (L.seen legs.now) cells.now later links.now }
     requires sound { tables.IsSound (L.seen legs.now) cells.now table.old }
     ensures { tables.Rounded (L.seen legs.now) cells.now later links.now table.old table.new
         result }

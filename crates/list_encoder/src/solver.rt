@@ -14,7 +14,7 @@ use std::alloc::Global;
 
 /// What a search over legs finds: the states from which a path leads to the end, each once and in
 /// order, with the least cost of a path; and of all least paths from the start the first, empty
-/// exactly where there is none. No cost has more than `MOST_CONTAINERS` containers. Only want of
+/// exactly where there is none. No cost has more than `MAX_PATH_CONTAINERS` containers. Only want of
 /// memory is an error. (own rule)
 pub fn solve<L: Legs>(alloc: Global, legs: &L) -> Result<Solution, NoMemory>
     ensures solution { IfOk result (IsSolution (L.seen legs.now)) }

@@ -3,16 +3,16 @@
 ghost use Rattle.std.specs.Prelude.{◌≡◌, ◌+◌, ◌*◌, ◌<◌, ◌||◌, length, Some};
 ghost use Rattle.list_encoder.specs.Table.{entry, rest_at, Lowers, AreInRange};
 
-use crate::cells::MOST_CELLS;
+use crate::cells::MAX_CELLS;
 use list_pack::{Cost, is_below};
 
 /// The most containers of a least list: one for each state, eight to a cell. (own rule)
-pub const MOST_CONTAINERS: u32 = 8 * MOST_CELLS;
+pub const MAX_PATH_CONTAINERS: u32 = 8 * MAX_CELLS;
 
 /// A way from the states of a cell to the end, by a finish, or to those of another cell, by a leg.
 /// (own rule)
 #[derive(Clone, Copy, Debug, PartialEq, Eq)]
-pub struct Link {
+pub struct CellEdge {
     /// The place of the cell that it starts from.
     pub from: usize,
     /// The place of the cell that it leads to; none at the end.

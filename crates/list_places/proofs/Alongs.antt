@@ -14,7 +14,7 @@ use Rattle.srv6_rules.specs.Srh.{segments_left_at}
 use Rattle.srv6_rules.specs.Endpoint.{Onward, Exposed, Delivered, Refused, is_allowed, at_sid}
 use Rattle.srv6_rules.specs.Policies.{inner_kind}
 use Rattle.list_places.specs.Lists.{SidBlock, ListSid, Container, Full, Packed, sids_in}
-use Rattle.list_places.specs.Places.{Place, InFull, InPacked, Tunnel, form, active, behind_of, sids_from, first_of, next_of, inner_at, may_lack, stays_routed, at_the_end, StandsOn, IsPlace, Along}
+use Rattle.list_places.specs.Places.{ListPlace, InFull, InPacked, Tunnel, form, active, behind_of, sids_from, first_of, next_of, inner_at, may_lack, stays_routed, at_the_end, StandsOn, IsPlace, Along}
 use Rattle.list_places.specs.Executions.{Execution, IsSent, Executes, StandInOrder, after_next}
 use Rattle.list_places.proofs.Sids.{full-block}
 use Rattle.list_places.proofs.Starts.{destination-holds}
@@ -25,11 +25,11 @@ use Rattle.list_places.proofs.Lasts.{as_active, ends-last, ends-plain, refuses-b
 
 -- ---- one packet
 
-pub along-hop : (t : Tunnel) (x : Place) (hop : ℕ) (p : Packet) → Along t x hop p → p.hop_limit ≡ hop
+pub along-hop : (t : Tunnel) (x : ListPlace) (hop : ℕ) (p : Packet) → Along t x hop p → p.hop_limit ≡ hop
 along-hop t x hop p a = ap (λ (q : Packet). q.hop_limit) a.packet
 
 -- sends lower the hop limit alone, and the place stays
-pub along-sent : (t : Tunnel) (x : Place) (hop n : ℕ) (p : Packet) → Along t x hop p → Along t x n (record p { hop_limit = n })
+pub along-sent : (t : Tunnel) (x : ListPlace) (hop n : ℕ) (p : Packet) → Along t x hop p → Along t x n (record p { hop_limit = n })
 along-sent t x hop n p a = record {
   routed = a.routed;
   packet = ap (λ (q : Packet). record q { hop_limit = n }) a.packet;
@@ -39,7 +39,7 @@ along-sent t x hop n p a = record {
 }
 
 -- the packet that is made for the next place stands there
-pub along-next : (t : Tunnel) (x y : Place) (hop n : ℕ) (p : Packet) (psp : Bool) → (a : Along t x hop p) → next_of x ≡ Some y
+pub along-next : (t : Tunnel) (x y : ListPlace) (hop n : ℕ) (p : Packet) (psp : Bool) → (a : Along t x hop p) → next_of x ≡ Some y
     → Along t y n (form t y (stays_routed psp x y a.routed) n)
 along-next t x y hop n p psp a to = record {
   routed = stays_routed psp x y a.routed;
@@ -49,63 +49,63 @@ along-next t x y hop n p psp a to = record {
   lacking = next-lacking psp x y a.routed to a.lacking;
 }
 
-leads-along : (e : SidEntry) (allow : List ℕ) (t : Tunnel) (x y : Place) (hop : ℕ) (p : Packet) → (a : Along t x hop p)
+leads-along : (e : SidEntry) (allow : List ℕ) (t : Tunnel) (x y : ListPlace) (hop : ℕ) (p : Packet) → (a : Along t x hop p)
     → StandsOn e (active x) → goes_on e ≡ true → next_of x ≡ Some y → Leads e allow t x y a.routed
 leads-along e allow t x y hop p a on goes to =
     leads-next e allow t x y a.routed goes (as_active e (active x) on goes) a.place a.listed a.lacking to
 
 -- the destination lies in the active SID's prefix
-pub along-holds : (t : Tunnel) (x : Place) (hop : ℕ) (p : Packet) → Along t x hop p → Holds (active x).prefix p.destination
+pub along-holds : (t : Tunnel) (x : ListPlace) (hop : ℕ) (p : Packet) → Along t x hop p → Holds (active x).prefix p.destination
 along-holds t x hop p a =
     let P : ℕ → Type 0 = λ d. Holds (active x).prefix d in
     subst P (sym (ap (λ (q : Packet). q.destination) a.packet)) (destination-holds x a.place)
 
 -- a SID that goes on makes the packet at the next place
-pub along-onward : (e : SidEntry) (allow : List ℕ) (t : Tunnel) (x y : Place) (hop : ℕ) (p : Packet) → (a : Along t x hop p)
+pub along-onward : (e : SidEntry) (allow : List ℕ) (t : Tunnel) (x y : ListPlace) (hop : ℕ) (p : Packet) → (a : Along t x hop p)
     → StandsOn e (active x) → goes_on e ≡ true → next_of x ≡ Some y → 1 < hop
     → at_sid e allow p ≡ Onward (form t y (stays_routed e.psp x y a.routed) (hop - 1))
 along-onward e allow t x y hop p a on goes to high =
     ap (at_sid e allow) a.packet ∙ (leads-along e allow t x y hop p a on goes to).onward hop high
 
-pub along-tired : (e : SidEntry) (allow : List ℕ) (t : Tunnel) (x y : Place) (hop : ℕ) (p : Packet) → Along t x hop p
+pub along-tired : (e : SidEntry) (allow : List ℕ) (t : Tunnel) (x y : ListPlace) (hop : ℕ) (p : Packet) → Along t x hop p
     → StandsOn e (active x) → goes_on e ≡ true → next_of x ≡ Some y → hop ≤ 1 → at_sid e allow p ≡ Refused reasons.HopLimit 0
 along-tired e allow t x y hop p a on goes to low =
     ap (at_sid e allow) a.packet ∙ (leads-along e allow t x y hop p a on goes to).tired hop low
 
 -- where no segment is left
-pub along-last : (e : SidEntry) (allow : List ℕ) (t : Tunnel) (x : Place) (hop : ℕ) (p : Packet) → (a : Along t x hop p)
+pub along-last : (e : SidEntry) (allow : List ℕ) (t : Tunnel) (x : ListPlace) (hop : ℕ) (p : Packet) → (a : Along t x hop p)
     → StandsOn e (active x) → next_of x ≡ None → at_sid e allow p ≡ at_the_end e allow t x a.routed hop
 along-last e allow t x hop p a on last =
     ap (at_sid e allow) a.packet ∙ ends-last e allow t x a.routed hop on a.place a.listed last
 
-pub along-plain : (e : SidEntry) (allow : List ℕ) (t : Tunnel) (x : Place) (hop : ℕ) (p : Packet) → (a : Along t x hop p)
+pub along-plain : (e : SidEntry) (allow : List ℕ) (t : Tunnel) (x : ListPlace) (hop : ℕ) (p : Packet) → (a : Along t x hop p)
     → e.csid ≡ Plain → behind_of x ≡ [] → at_sid e allow p ≡ at_the_end e allow t x a.routed hop
 along-plain e allow t x hop p a plain last =
     ap (at_sid e allow) a.packet ∙ ends-plain e allow t x a.routed hop plain last
 
 -- the packet inside is exposed there
-pub along-exposed : (e : SidEntry) (allow : List ℕ) (t : Tunnel) (x : Place) (hop : ℕ) (p : Packet) → Along t x hop p
+pub along-exposed : (e : SidEntry) (allow : List ℕ) (t : Tunnel) (x : ListPlace) (hop : ℕ) (p : Packet) → Along t x hop p
     → StandsOn e (active x) → next_of x ≡ None → exposes e (inner_kind t.inner) ≡ true → at_sid e allow p ≡ Exposed t.inner t.bytes
 along-exposed e allow t x hop p a on last shows = along-last e allow t x hop p a on last ∙ rw shows refl
 
-pub along-exposed_plain : (e : SidEntry) (allow : List ℕ) (t : Tunnel) (x : Place) (hop : ℕ) (p : Packet) → Along t x hop p
+pub along-exposed_plain : (e : SidEntry) (allow : List ℕ) (t : Tunnel) (x : ListPlace) (hop : ℕ) (p : Packet) → Along t x hop p
     → e.csid ≡ Plain → behind_of x ≡ [] → exposes e (inner_kind t.inner) ≡ true → at_sid e allow p ≡ Exposed t.inner t.bytes
 along-exposed_plain e allow t x hop p a plain last shows = along-plain e allow t x hop p a plain last ∙ rw shows refl
 
 -- a SID that does not go on refuses it before
-pub along-before : (e : SidEntry) (allow : List ℕ) (t : Tunnel) (x : Place) (hop : ℕ) (p : Packet) (c : Container) (cs : List Container)
+pub along-before : (e : SidEntry) (allow : List ℕ) (t : Tunnel) (x : ListPlace) (hop : ℕ) (p : Packet) (c : Container) (cs : List Container)
     → Along t x hop p → StandsOn e (active x) → goes_on e ≡ false → behind_of x ≡ c ∷ cs
     → at_sid e allow p ≡ Refused reasons.BadSegments (header_len + segments_left_at)
 along-before e allow t x hop p c cs a on stays more =
     ap (at_sid e allow) a.packet ∙ refuses-before e allow t x a.routed hop c cs stays on a.lacking more
 
-pub along-packed : (e : SidEntry) (allow : List ℕ) (t : Tunnel) (x : Place) (hop : ℕ) (p : Packet) → Along t x hop p
+pub along-packed : (e : SidEntry) (allow : List ℕ) (t : Tunnel) (x : ListPlace) (hop : ℕ) (p : Packet) → Along t x hop p
     → StandsOn e (active x) → goes_on e ≡ false → e.csid ≡ Replace → may_lack x ≡ false
     → at_sid e allow p ≡ Refused reasons.BadSegments (header_len + segments_left_at)
 along-packed e allow t x hop p a on stays replace needs =
     ap (at_sid e allow) a.packet ∙ refuses-in e allow t x a.routed hop stays replace on a.place a.listed a.lacking needs
 
-pub along-only_last : (e : SidEntry) (allow : List ℕ) (t : Tunnel) (x : Place) (hop : ℕ) (p : Packet) (family : Family) (bytes : List ℕ)
+pub along-only_last : (e : SidEntry) (allow : List ℕ) (t : Tunnel) (x : ListPlace) (hop : ℕ) (p : Packet) (family : Family) (bytes : List ℕ)
     → Along t x hop p → StandsOn e (active x) → at_sid e allow p ≡ Exposed family bytes → behind_of x ≡ []
 along-only_last e allow t x hop p family bytes a on shows =
     exposed-in_last e allow t x a.routed hop family bytes on a.place a.listed a.lacking (sym (ap (at_sid e allow) a.packet) ∙ shows)
@@ -116,7 +116,7 @@ refused_not : (reason : Reason) (at : ℕ) (q : Packet) → Refused reason at �
 refused_not reason at q e = cc
 
 -- nothing goes on where no segment is left
-end_not : (e : SidEntry) (allow : List ℕ) (t : Tunnel) (x : Place) (routed : Bool) (hop : ℕ) (q : Packet)
+end_not : (e : SidEntry) (allow : List ℕ) (t : Tunnel) (x : ListPlace) (routed : Bool) (hop : ℕ) (q : Packet)
     → at_the_end e allow t x routed hop ≡ Onward q → ⊥
 end_not e allow t x routed hop q is = by (exposes e (inner_kind t.inner)) (is_allowed allow (inner_kind t.inner)) is
   where
@@ -129,7 +129,7 @@ end_not e allow t x routed hop q is = by (exposes e (inner_kind t.inner)) (is_al
     by false false is = cc
 
 -- a SID of REPLACE-CSID stands where the header may lack at the last SID alone
-last_replace : (e : SidEntry) (x : Place) → IsPlace x → StandsOn e (active x) → e.csid ≡ Replace → may_lack x ≡ true → next_of x ≡ None
+last_replace : (e : SidEntry) (x : ListPlace) → IsPlace x → StandsOn e (active x) → e.csid ≡ Replace → may_lack x ≡ true → next_of x ≡ None
 last_replace e (InFull s [] []) is on replace lacks = refl
 last_replace e (InFull s (u ∷ us) []) is on replace lacks =
     let (b, own, kind) = full-block s u us is.container is.flat in
@@ -152,7 +152,7 @@ last_replace e (InPacked bs s [] (c ∷ cs)) is on replace lacks = cc
 last_replace e (InPacked bs s (u ∷ us) cs) is on replace lacks = cc
 
 -- one that does not go on lets nothing go on
-stays_not : (e : SidEntry) (allow : List ℕ) (t : Tunnel) (x : Place) (hop : ℕ) (p q : Packet) → Along t x hop p → StandsOn e (active x)
+stays_not : (e : SidEntry) (allow : List ℕ) (t : Tunnel) (x : ListPlace) (hop : ℕ) (p q : Packet) → Along t x hop p → StandsOn e (active x)
     → goes_on e ≡ false → at_sid e allow p ≡ Onward q → ⊥
 stays_not e allow t x hop p q a on stays is = by (behind_of x) refl
   where
@@ -172,8 +172,8 @@ stays_not e allow t x hop p q a on stays is = by (behind_of x) refl
         (sym (along-before e allow t x hop p c cs a on stays more) ∙ is)
 
 -- so a packet that goes on stands at the next place
-pub along-only : (e : SidEntry) (allow : List ℕ) (t : Tunnel) (x : Place) (hop : ℕ) (p q : Packet) → Along t x hop p → StandsOn e (active x)
-    → at_sid e allow p ≡ Onward q → (1 < hop) × (y : Place) × (next_of x ≡ Some y) × Along t y (hop - 1) q
+pub along-only : (e : SidEntry) (allow : List ℕ) (t : Tunnel) (x : ListPlace) (hop : ℕ) (p q : Packet) → Along t x hop p → StandsOn e (active x)
+    → at_sid e allow p ≡ Onward q → (1 < hop) × (y : ListPlace) × (next_of x ≡ Some y) × Along t y (hop - 1) q
 along-only e allow t x hop p q a on is = elim (cases_Bool (goes_on e)) [
   | inl goes ↦ by goes (next_of x) refl
   | inr stays ↦ absurd (stays_not e allow t x hop p q a on stays is)
@@ -182,8 +182,8 @@ along-only e allow t x hop p q a on is = elim (cases_Bool (goes_on e)) [
     same_packet : (m : Packet) → Onward m ≡ Onward q → m ≡ q
     same_packet m e = cc
 
-    by : goes_on e ≡ true → (o : Option Place) → next_of x ≡ o
-        → (1 < hop) × (y : Place) × (next_of x ≡ Some y) × Along t y (hop - 1) q
+    by : goes_on e ≡ true → (o : Option ListPlace) → next_of x ≡ o
+        → (1 < hop) × (y : ListPlace) × (next_of x ≡ Some y) × Along t y (hop - 1) q
     by goes None last = absurd (end_not e allow t x a.routed hop q (sym (along-last e allow t x hop p a on last) ∙ is))
     by goes (Some y) to = elim (cases_lt 1 hop) [
       | inl high ↦
@@ -195,7 +195,7 @@ along-only e allow t x hop p q a on is = elim (cases_Bool (goes_on e)) [
 -- ---- a packet that is exposed
 
 -- in the last container it came of the packet inside
-exposed_end : (e : SidEntry) (allow : List ℕ) (t : Tunnel) (x : Place) (hop : ℕ) (p : Packet) (family : Family) (bytes : List ℕ)
+exposed_end : (e : SidEntry) (allow : List ℕ) (t : Tunnel) (x : ListPlace) (hop : ℕ) (p : Packet) (family : Family) (bytes : List ℕ)
     → (a : Along t x hop p) → StandsOn e (active x) → at_sid e allow p ≡ Exposed family bytes
     → at_sid e allow p ≡ at_the_end e allow t x a.routed hop
 exposed_end e allow t x hop p family bytes a on shows = by e.csid refl
@@ -206,7 +206,7 @@ exposed_end e allow t x hop p family bytes a on shows = by e.csid refl
     onward : (q : Packet) → Onward q ≡ Exposed family bytes → ⊥
     onward q e = cc
 
-    goes : goes_on e ≡ true → (o : Option Place) → next_of x ≡ o → at_sid e allow p ≡ at_the_end e allow t x a.routed hop
+    goes : goes_on e ≡ true → (o : Option ListPlace) → next_of x ≡ o → at_sid e allow p ≡ at_the_end e allow t x a.routed hop
     goes is None last = along-last e allow t x hop p a on last
     goes is (Some y) to = absurd (elim (cases_lt 1 hop) [
       | inl high ↦ onward _ (sym (along-onward e allow t x y hop p a on is to high) ∙ shows)
@@ -226,7 +226,7 @@ exposed_end e allow t x hop p family bytes a on shows = by e.csid refl
     ]
 
 -- what is exposed is the packet inside, in the last container
-pub along-exposes : (e : SidEntry) (allow : List ℕ) (t : Tunnel) (x : Place) (hop : ℕ) (p : Packet) (family : Family) (bytes : List ℕ)
+pub along-exposes : (e : SidEntry) (allow : List ℕ) (t : Tunnel) (x : ListPlace) (hop : ℕ) (p : Packet) (family : Family) (bytes : List ℕ)
     → Along t x hop p → StandsOn e (active x) → at_sid e allow p ≡ Exposed family bytes
     → (behind_of x ≡ []) × (exposes e (inner_kind t.inner) ≡ true) × (family ≡ t.inner) × (bytes ≡ t.bytes)
 along-exposes e allow t x hop p family bytes a on shows =
@@ -246,12 +246,12 @@ along-exposes e allow t x hop p family bytes a on shows =
 
 -- ---- the SIDs of the list, one after the other
 
-pub sids-first : (cs : List Container) (x : Place) → first_of cs ≡ Some x → sids_from x ≡ sids_in cs
+pub sids-first : (cs : List Container) (x : ListPlace) → first_of cs ≡ Some x → sids_from x ≡ sids_in cs
 sids-first [] x e = cc
 sids-first (Full f fs ∷ cs) x e = to-place (λ y. sids_from y ≡ sids_in (Full f fs ∷ cs)) (InFull f fs cs) x e refl
 sids-first (Packed f fs ∷ cs) x e = to-place (λ y. sids_from y ≡ sids_in (Packed f fs ∷ cs)) (InPacked [] f fs cs) x e refl
 
-pub sids-next : (x y : Place) → next_of x ≡ Some y → sids_from x ≡ active x ∷ sids_from y
+pub sids-next : (x y : ListPlace) → next_of x ≡ Some y → sids_from x ≡ active x ∷ sids_from y
 sids-next (InFull s [] cs) y e = ap (λ xs. s ∷ xs) (sym (sids-first cs y e))
 sids-next (InFull s (u ∷ us) cs) y e =
     to-place (λ z. sids_from (InFull s (u ∷ us) cs) ≡ s ∷ sids_from z) (InFull u us cs) y e refl
@@ -259,7 +259,7 @@ sids-next (InPacked bs s [] cs) y e = ap (λ xs. s ∷ xs) (sym (sids-first cs y
 sids-next (InPacked bs s (u ∷ us) cs) y e =
     to-place (λ z. sids_from (InPacked bs s (u ∷ us) cs) ≡ s ∷ sids_from z) (InPacked (bs ++ s ∷ []) u us cs) y e refl
 
-pub sids-last : (x : Place) → next_of x ≡ None → sids_from x ≡ active x ∷ []
+pub sids-last : (x : ListPlace) → next_of x ≡ None → sids_from x ≡ active x ∷ []
 sids-last (InFull s [] []) e = refl
 sids-last (InFull s [] (c ∷ cs)) e = cc
 sids-last (InFull s (u ∷ us) cs) e = cc
@@ -267,19 +267,19 @@ sids-last (InPacked bs s [] []) e = refl
 sids-last (InPacked bs s [] (c ∷ cs)) e = cc
 sids-last (InPacked bs s (u ∷ us) cs) e = cc
 
-active-first : (x : Place) → (ss : List ListSid) × (sids_from x ≡ active x ∷ ss)
+active-first : (x : ListPlace) → (ss : List ListSid) × (sids_from x ≡ active x ∷ ss)
 active-first (InFull s ss cs) = (ss ++ sids_in cs, refl)
 active-first (InPacked bs s ss cs) = (ss ++ sids_in cs, refl)
 
 -- ---- rows of executions
 
-sent-along : (t : Tunnel) (x : Place) (p q : Packet) → Along t x p.hop_limit p → IsSent p q → Along t x q.hop_limit q
+sent-along : (t : Tunnel) (x : ListPlace) (p q : Packet) → Along t x p.hop_limit p → IsSent p q → Along t x q.hop_limit q
 sent-along t x p q a sent =
     subst (λ (m : Packet). Along t x q.hop_limit m) (sym sent.others) (along-sent t x p.hop_limit q.hop_limit p a)
 
-pub row-along : (t : Tunnel) (x : Place) (p q : Packet) (es : List Execution) → Along t x p.hop_limit p → StandInOrder es (sids_from x)
+pub row-along : (t : Tunnel) (x : ListPlace) (p q : Packet) (es : List Execution) → Along t x p.hop_limit p → StandInOrder es (sids_from x)
     → Executes p es q
-    → (z : Place) × (after_next (length es) x ≡ Some z) × Along t z q.hop_limit q × (q.hop_limit + length es ≤ p.hop_limit)
+    → (z : ListPlace) × (after_next (length es) x ≡ Some z) × Along t z q.hop_limit q × (q.hop_limit + length es ≤ p.hop_limit)
 row-along t x p q [] a stand run =
     let less = run.hop_limit in
     (x, refl, sent-along t x p q a run, omega arith)

@@ -8,7 +8,7 @@ use Rattle.srv6_rules.specs.declared.sid.Csid.TheVariants.{Plain, Next, Replace}
 use Rattle.srv6_rules.specs.Compressed.{csid_count}
 use Rattle.srv6_rules.specs.CompressedSteps.{is_replace}
 use Rattle.list_places.specs.Lists.{SidBlock, ListSid, Container, Full, Packed, csid_len_in, last_of, values_of, value_of, packed_value, IsFull, IsPacked, asked_behind, asked_behind_packed, Follow, IsFlatSid, IsFlatContainer, IsFlatList}
-use Rattle.list_places.specs.Places.{Place, InFull, InPacked, entered, next_of, may_lack, stays_routed, IsPlace, IsListed}
+use Rattle.list_places.specs.Places.{ListPlace, InFull, InPacked, entered, next_of, may_lack, stays_routed, IsPlace, IsListed}
 use Rattle.list_places.proofs.Sids.{all_right, block_of, full-rest}
 use Rattle.list_places.proofs.Entries.{listed_behind}
 use Rattle.list_places.proofs.Packs.{flat_own}
@@ -99,10 +99,10 @@ entered-place o (Packed f fs) cs follow flat kinds =
 some_same : {X : Type 0} (x y : X) → Some x ≡ Some y → x ≡ y
 some_same x y e = cc
 
-pub to-place : (P : Place → Type 0) (x y : Place) → Some x ≡ Some y → P x → P y
+pub to-place : (P : ListPlace → Type 0) (x y : ListPlace) → Some x ≡ Some y → P x → P y
 to-place P x y e p = subst P (some_same x y e) p
 
-pub next-place : (x y : Place) → IsPlace x → next_of x ≡ Some y → IsPlace y
+pub next-place : (x y : ListPlace) → IsPlace x → next_of x ≡ Some y → IsPlace y
 next-place (InFull s [] []) y is e = cc
 next-place (InFull s [] (c ∷ cs)) y is e =
     to-place IsPlace (entered c cs) y e
@@ -148,7 +148,7 @@ entered-listed (Full f fs) cs entries front split all =
 entered-listed (Packed f fs) cs entries front split all =
     record { front = front; split = listed_behind entries front (Packed f fs) cs split; addresses = all }
 
-pub next-listed : (x y : Place) (entries : List ℕ) → IsPlace x → IsListed x entries → next_of x ≡ Some y → IsListed y entries
+pub next-listed : (x y : ListPlace) (entries : List ℕ) → IsPlace x → IsListed x entries → next_of x ≡ Some y → IsListed y entries
 next-listed (InFull s [] []) y entries is listed e = cc
 next-listed (InFull s [] (c ∷ cs)) y entries is listed e =
     to-place (λ z. IsListed z entries) (entered c cs) y e (entered-listed c cs entries listed.front listed.split listed.addresses)
@@ -173,7 +173,7 @@ next-listed (InPacked bs s (t ∷ ts) cs) y entries is listed e =
     })
 
 -- the header lacks only where it may
-pub next-lacking : (psp : Bool) (x y : Place) (routed : Bool) → next_of x ≡ Some y → (routed ≡ false → may_lack x ≡ true)
+pub next-lacking : (psp : Bool) (x y : ListPlace) (routed : Bool) → next_of x ≡ Some y → (routed ≡ false → may_lack x ≡ true)
     → stays_routed psp x y routed ≡ false → may_lack y ≡ true
 next-lacking psp (InFull s (t ∷ ts) cs) y routed e lacking out =
     to-place (λ z. may_lack z ≡ true) (InFull t ts cs) y e (same cs (lacking out))

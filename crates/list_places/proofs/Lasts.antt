@@ -14,7 +14,7 @@ use Rattle.srv6_rules.specs.CompressedSteps.{compression_of, is_replace, shifts,
 use Rattle.srv6_rules.specs.Endpoint.{Onward, Exposed, Delivered, Refused, is_allowed, at_sid}
 use Rattle.srv6_rules.specs.Policies.{inner_kind}
 use Rattle.list_places.specs.Lists.{ListSid, Container, compression, full_value, packed_value, IsFlatSid}
-use Rattle.list_places.specs.Places.{Place, InFull, InPacked, Tunnel, header_with, on_way, form, active, behind_of, next_of, entered, destination_of, may_lack, inner_at, at_the_end, StandsOn, IsPlace, IsInPacked, IsListed}
+use Rattle.list_places.specs.Places.{ListPlace, InFull, InPacked, Tunnel, header_with, on_way, form, active, behind_of, next_of, entered, destination_of, may_lack, inner_at, at_the_end, StandsOn, IsPlace, IsInPacked, IsListed}
 use Rattle.list_places.proofs.Advances.{there}
 use Rattle.list_places.proofs.Entries.{long_enough}
 use Rattle.list_places.proofs.Goings.{list_of, still-one, still-plain}
@@ -67,7 +67,7 @@ ends-in_packed e allow t bs s routed hop on is listed = by routed
       | inr whole ↦ ends-whole e allow t hop (destination_of (InPacked bs s [] [])) still whole
     ]
 
-pub ends-last : (e : SidEntry) (allow : List ℕ) (t : Tunnel) (x : Place) (routed : Bool) (hop : ℕ) → StandsOn e (active x) → IsPlace x
+pub ends-last : (e : SidEntry) (allow : List ℕ) (t : Tunnel) (x : ListPlace) (routed : Bool) (hop : ℕ) → StandsOn e (active x) → IsPlace x
     → IsListed x (list_of t) → next_of x ≡ None → at_sid e allow (form t x routed hop) ≡ at_the_end e allow t x routed hop
 ends-last e allow t (InFull s [] []) routed hop on is listed last =
     ends-full e allow t s routed hop on (All-head IsFlatSid s [] is.flat)
@@ -79,7 +79,7 @@ ends-last e allow t (InPacked bs s (u ∷ us) cs) routed hop on is listed last =
 
 -- ---- a SID that is not compressed, anywhere in the last container
 
-pub ends-plain : (e : SidEntry) (allow : List ℕ) (t : Tunnel) (x : Place) (routed : Bool) (hop : ℕ) → e.csid ≡ Plain → behind_of x ≡ []
+pub ends-plain : (e : SidEntry) (allow : List ℕ) (t : Tunnel) (x : ListPlace) (routed : Bool) (hop : ℕ) → e.csid ≡ Plain → behind_of x ≡ []
     → at_sid e allow (form t x routed hop) ≡ at_the_end e allow t x routed hop
 ends-plain e allow t x routed hop plain last =
     let n : length (behind_of x) ≡ 0 = ap length last in
@@ -101,7 +101,7 @@ ends-plain e allow t x routed hop plain last =
 -- ---- a SID that does not go on
 
 -- the header is there before the last container
-needs-before : (x : Place) (c : Container) (cs : List Container) → behind_of x ≡ c ∷ cs → may_lack x ≡ false
+needs-before : (x : ListPlace) (c : Container) (cs : List Container) → behind_of x ≡ c ∷ cs → may_lack x ≡ false
 needs-before (InFull s ss []) c cs e = cc
 needs-before (InFull s ss (d ∷ ds)) c cs e = refl
 needs-before (InPacked bs s [] []) c cs e = cc
@@ -112,7 +112,7 @@ pub is_there : (routed needs : Bool) → (routed ≡ false → needs ≡ true) �
 is_there true needs lacking never = refl
 is_there false needs lacking never = sym never ∙ lacking refl
 
-pub refuses-before : (e : SidEntry) (allow : List ℕ) (t : Tunnel) (x : Place) (routed : Bool) (hop : ℕ) (c : Container)
+pub refuses-before : (e : SidEntry) (allow : List ℕ) (t : Tunnel) (x : ListPlace) (routed : Bool) (hop : ℕ) (c : Container)
     (cs : List Container) → goes_on e ≡ false → StandsOn e (active x) → (routed ≡ false → may_lack x ≡ true) → behind_of x ≡ c ∷ cs
     → at_sid e allow (form t x routed hop) ≡ Refused reasons.BadSegments (header_len + segments_left_at)
 refuses-before e allow t x routed hop c cs stays on lacking more =
@@ -130,14 +130,14 @@ refuses-before e allow t x routed hop c cs stays on lacking more =
     ]
 
 -- one of REPLACE-CSID at a CSID that is not the last
-pub refuses-in : (e : SidEntry) (allow : List ℕ) (t : Tunnel) (x : Place) (routed : Bool) (hop : ℕ) → goes_on e ≡ false → e.csid ≡ Replace
+pub refuses-in : (e : SidEntry) (allow : List ℕ) (t : Tunnel) (x : ListPlace) (routed : Bool) (hop : ℕ) → goes_on e ≡ false → e.csid ≡ Replace
     → StandsOn e (active x) → IsPlace x → IsListed x (list_of t) → (routed ≡ false → may_lack x ≡ true) → may_lack x ≡ false
     → at_sid e allow (form t x routed hop) ≡ Refused reasons.BadSegments (header_len + segments_left_at)
 refuses-in e allow t (InFull s ss []) routed hop stays replace on is listed lacking needs = cc
 refuses-in e allow t (InFull s ss (c ∷ cs)) routed hop stays replace on is listed lacking needs =
     refuses-before e allow t (InFull s ss (c ∷ cs)) routed hop c cs stays on lacking refl
 refuses-in e allow t (InPacked bs s ss cs) routed hop stays replace on is listed lacking needs =
-    let x : Place = InPacked bs s ss cs in
+    let x : ListPlace = InPacked bs s ss cs in
     let d : ℕ = destination_of x in
     let routed_is = is_there routed (may_lack x) lacking needs in
     ap (λ b. at_sid e allow (form t x b hop)) routed_is
@@ -154,7 +154,7 @@ as_active e s on goes =
     ∙ ap (λ n. record { kind = s.csid; prefix_len = n; block_len = e.block_len }) len
     ∙ ap (λ n. record { kind = s.csid; prefix_len = s.prefix.len; block_len = n }) on.block_len
 
-some_next : (x : Place) (c : Container) (cs : List Container) → behind_of x ≡ c ∷ cs → (y : Place) × (next_of x ≡ Some y)
+some_next : (x : ListPlace) (c : Container) (cs : List Container) → behind_of x ≡ c ∷ cs → (y : ListPlace) × (next_of x ≡ Some y)
 some_next (InFull s [] []) c cs e = cc
 some_next (InFull s [] (d ∷ ds)) c cs e = (entered d ds, refl)
 some_next (InFull s (u ∷ us) ds) c cs e = (InFull u us ds, refl)
@@ -162,7 +162,7 @@ some_next (InPacked bs s [] []) c cs e = cc
 some_next (InPacked bs s [] (d ∷ ds)) c cs e = (entered d ds, refl)
 some_next (InPacked bs s (u ∷ us) ds) c cs e = (InPacked (bs ++ s ∷ []) u us ds, refl)
 
-leads-never_exposed : (e : SidEntry) (allow : List ℕ) (t : Tunnel) (x y : Place) (routed : Bool) (hop : ℕ) (family : Family)
+leads-never_exposed : (e : SidEntry) (allow : List ℕ) (t : Tunnel) (x y : ListPlace) (routed : Bool) (hop : ℕ) (family : Family)
     (bytes : List ℕ) → Leads e allow t x y routed → at_sid e allow (form t x routed hop) ≡ Exposed family bytes → ⊥
 leads-never_exposed e allow t x y routed hop family bytes leads shows = elim (cases_lt 1 hop) [
   | inl high ↦ onward_not (form t y _ (hop - 1)) (sym (leads.onward hop high) ∙ shows)
@@ -176,7 +176,7 @@ leads-never_exposed e allow t x y routed hop family bytes leads shows = elim (ca
     refused_not e = cc
 
 -- a packet is exposed in the last container only
-pub exposed-in_last : (e : SidEntry) (allow : List ℕ) (t : Tunnel) (x : Place) (routed : Bool) (hop : ℕ) (family : Family) (bytes : List ℕ)
+pub exposed-in_last : (e : SidEntry) (allow : List ℕ) (t : Tunnel) (x : ListPlace) (routed : Bool) (hop : ℕ) (family : Family) (bytes : List ℕ)
     → StandsOn e (active x) → IsPlace x → IsListed x (list_of t) → (routed ≡ false → may_lack x ≡ true)
     → at_sid e allow (form t x routed hop) ≡ Exposed family bytes → behind_of x ≡ []
 exposed-in_last e allow t x routed hop family bytes on is listed lacking shows = by (behind_of x) refl

@@ -11,7 +11,7 @@ use Rattle.srv6_rules.specs.Compressed.{csid_count}
 use Rattle.srv6_rules.specs.CompressedSteps.{compression_of, is_replace, shifts}
 use Rattle.srv6_rules.specs.Endpoint.{Onward, Refused, at_sid}
 use Rattle.list_places.specs.Lists.{SidBlock, ListSid, Container, Full, Packed, compression, csid_len, full_value, packed_value, values_of, asked_behind, asked_behind_packed, HaveButLast, IsFlatSid, IsFlatContainer}
-use Rattle.list_places.specs.Places.{Place, InFull, InPacked, Tunnel, on_way, form, active, next_of, entered, destination_of, may_lack, stays_routed, IsPlace, IsInFull, IsInPacked, IsListed}
+use Rattle.list_places.specs.Places.{ListPlace, InFull, InPacked, Tunnel, on_way, form, active, next_of, entered, destination_of, may_lack, stays_routed, IsPlace, IsInFull, IsInPacked, IsListed}
 use Rattle.list_places.proofs.Sids.{in_block, full-one}
 use Rattle.list_places.proofs.Advances.{tired-whole}
 use Rattle.list_places.proofs.Goings.{list_of, AreAddresses, still-one, still-plain, onward-shift, tired-shift, whole-to_full, onward-to_packed, tired-to_packed}
@@ -20,7 +20,7 @@ use Rattle.list_places.proofs.Follows.{asked-some, asked-none, asked-packed, ask
 
 -- what a SID does with the packet at a place that has a next one: with a hop limit above 1 it makes the packet at that one, and refuses a
 -- lower one
-pub record Leads (e : SidEntry) (allow : List ℕ) (t : Tunnel) (x y : Place) (routed : Bool) : Type 0 where
+pub record Leads (e : SidEntry) (allow : List ℕ) (t : Tunnel) (x y : ListPlace) (routed : Bool) : Type 0 where
   pub onward : (hop : ℕ) → 1 < hop
       → at_sid e allow (form t x routed hop) ≡ Onward (form t y (stays_routed e.psp x y routed) (hop - 1))
   pub tired : (hop : ℕ) → hop ≤ 1 → at_sid e allow (form t x routed hop) ≡ Refused reasons.HopLimit 0
@@ -34,7 +34,7 @@ module _ (e : SidEntry) (allow : List ℕ) (t : Tunnel) (goes : goes_on e ≡ tr
   }
 
   -- by a whole entry, from any place
-  leads-whole : (x : Place) (f : ListSid) (fs : List ListSid) (cs : List Container) (rest : List ℕ)
+  leads-whole : (x : ListPlace) (f : ListSid) (fs : List ListSid) (cs : List Container) (rest : List ℕ)
       → ((hop : ℕ) → form t x true hop ≡ on_way t true (suc (length cs)) hop (destination_of x))
       → ((psp : Bool) → stays_routed psp x (InFull f fs cs) true ≡ not (psp && may_lack (InFull f fs cs)))
       → shifts (compression_of e) (destination_of x) ≡ false → is_replace e.csid ≡ false
@@ -146,11 +146,11 @@ is_there false needs lacking never = contra needs (lacking refl) never
     contra : (b : Bool) → b ≡ true → b ≡ false → false ≡ true
     contra b yes_it_is is_not = sym is_not ∙ yes_it_is
 
-leads-to : (e : SidEntry) (allow : List ℕ) (t : Tunnel) (x z y : Place) (routed : Bool) → Some z ≡ Some y → routed ≡ true
+leads-to : (e : SidEntry) (allow : List ℕ) (t : Tunnel) (x z y : ListPlace) (routed : Bool) → Some z ≡ Some y → routed ≡ true
     → Leads e allow t x z true → Leads e allow t x y routed
 leads-to e allow t x z y routed to there leads =
     let P : Bool → Type 0 = λ b. Leads e allow t x y b in
-    let Q : Place → Type 0 = λ p. Leads e allow t x p true in
+    let Q : ListPlace → Type 0 = λ p. Leads e allow t x p true in
     subst P (sym there) (to-place Q z y to leads)
 
 -- all but the last CSIDs of a REPLACE container go on by REPLACE-CSID
@@ -163,7 +163,7 @@ replace-first bs s u us cs is = by bs is.container.replace
     by (x ∷ []) have = have.1.0
     by (x ∷ y ∷ ys) have = by (y ∷ ys) have.1
 
-pub leads-next : (e : SidEntry) (allow : List ℕ) (t : Tunnel) (x y : Place) (routed : Bool) → goes_on e ≡ true
+pub leads-next : (e : SidEntry) (allow : List ℕ) (t : Tunnel) (x y : ListPlace) (routed : Bool) → goes_on e ≡ true
     → compression_of e ≡ compression (active x) → IsPlace x → IsListed x (list_of t) → (routed ≡ false → may_lack x ≡ true)
     → next_of x ≡ Some y → Leads e allow t x y routed
 leads-next e allow t (InFull s [] []) y routed goes c is listed lacking to = cc

@@ -13,7 +13,7 @@ use Rattle.srv6_rules.specs.Encapsulation.{Encapsulation, segment_list, has_segm
 use Rattle.srv6_rules.specs.Policies.{pushed_round}
 use Rattle.srv6_rules.proofs.PublicLaws.{entry-address}
 use Rattle.list_places.specs.Lists.{SidBlock, ListSid, Container, Full, Packed, last_of, prefix_of, full_value, packed_value, value_of, values_of, IsPacked, asked_behind, asked_behind_packed, Follow, IsLegal, IsFlatSid, IsFlatContainer, IsFlatList}
-use Rattle.list_places.specs.Places.{Place, InFull, InPacked, Tunnel, on_way, form, entered, first_of, active, destination_of, may_lack, IsPlace, IsListed, Along}
+use Rattle.list_places.specs.Places.{ListPlace, InFull, InPacked, Tunnel, on_way, form, entered, first_of, active, destination_of, may_lack, IsPlace, IsListed, Along}
 use Rattle.list_places.proofs.Sids.{replace_sid, full-address, full-holds}
 use Rattle.list_places.proofs.Follows.{asked-packed, asked-kind, enter-full, enter-packed, entered-place}
 use Rattle.list_places.proofs.Packs.{packed-holds}
@@ -88,13 +88,13 @@ legal-addresses (c ∷ cs) legal flat = follow-addresses None (c ∷ cs) legal f
 
 -- ---- the first place
 
-pub first-place : (cs : List Container) (x : Place) → IsLegal cs → IsFlatList cs → first_of cs ≡ Some x → IsPlace x
+pub first-place : (cs : List Container) (x : ListPlace) → IsLegal cs → IsFlatList cs → first_of cs ≡ Some x → IsPlace x
 first-place [] x legal flat e = absurd legal
 first-place (c ∷ cs) x legal flat e =
     let same : entered c cs ≡ x = cc in
     subst IsPlace same (entered-place None c cs legal flat none_asked)
 
-pub first-some : (cs : List Container) → IsLegal cs → (x : Place) × (first_of cs ≡ Some x)
+pub first-some : (cs : List Container) → IsLegal cs → (x : ListPlace) × (first_of cs ≡ Some x)
 first-some [] legal = absurd legal
 first-some (c ∷ cs) legal = (entered c cs, refl)
 
@@ -155,7 +155,7 @@ first-packet e inner bytes hop f fs cs made =
     let to : ℕ → ℕ → Packet = λ n d. on_way t (has_segment_routing e) n hop d in
     ap (to (length e.segments - 1)) (ap (λ xs. slice_index xs 0) made) ∙ ap (λ n. to n (full_value f fs)) left
 
-pub starts-first : (e : Encapsulation) (inner : Family) (bytes : List ℕ) (hop : ℕ) (cs : List Container) (x : Place) → IsLegal cs
+pub starts-first : (e : Encapsulation) (inner : Family) (bytes : List ℕ) (hop : ℕ) (cs : List Container) (x : ListPlace) → IsLegal cs
     → IsFlatList cs → e.segments ≡ values_of cs → first_of cs ≡ Some x
     → Along (record { encapsulation = e; inner = inner; bytes = bytes }) x hop (pushed_round e inner bytes hop)
 starts-first e inner bytes hop [] x legal flat made first = absurd legal
@@ -164,7 +164,7 @@ starts-first e inner bytes hop (Full f fs ∷ cs) x legal flat made first =
     let same : InFull f fs cs ≡ x = cc in
     let t : Tunnel = record { encapsulation = e; inner = inner; bytes = bytes } in
     let many : length e.segments ≡ suc (length cs) = ap length made ∙ length-map (Full f fs ∷ cs) value_of in
-    let P : Place → Type 0 = λ y. Along t y hop (pushed_round e inner bytes hop) in
+    let P : ListPlace → Type 0 = λ y. Along t y hop (pushed_round e inner bytes hop) in
     subst P same (record {
       routed = has_segment_routing e;
       packet = first-packet e inner bytes hop f fs cs made;
@@ -175,6 +175,6 @@ starts-first e inner bytes hop (Full f fs ∷ cs) x legal flat made first =
 
 -- ---- the destination
 
-pub destination-holds : (x : Place) → IsPlace x → Holds (active x).prefix (destination_of x)
+pub destination-holds : (x : ListPlace) → IsPlace x → Holds (active x).prefix (destination_of x)
 destination-holds (InFull s ss cs) is = full-holds s ss is.container is.flat
 destination-holds (InPacked bs s ss cs) is = packed-holds bs s ss cs is

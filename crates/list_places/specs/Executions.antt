@@ -5,7 +5,7 @@ use Rattle.srv6_rules.specs.declared.sid.SidEntry.{SidEntry}
 use Rattle.srv6_rules.specs.Packet.{Packet}
 use Rattle.srv6_rules.specs.Endpoint.{Onward, at_sid}
 use Rattle.list_places.specs.Lists.{ListSid}
-use Rattle.list_places.specs.Places.{Place, destination_of, next_of, StandsOn}
+use Rattle.list_places.specs.Places.{ListPlace, destination_of, next_of, StandsOn}
 
 -- a SID that is executed, and the upper layers that its node takes
 pub record Execution : Type 0 where
@@ -30,12 +30,12 @@ StandInOrder (x ∷ xs) [] = Unit {0}
 StandInOrder (x ∷ xs) (s ∷ ss) = StandsOn x.sid s × StandInOrder xs ss
 
 -- the place so many SIDs behind a place
-abbrev pub after_next : ℕ → Place → Option Place
+abbrev pub after_next : ℕ → ListPlace → Option ListPlace
 after_next zero x = Some x
 after_next (suc n) x = option_and_then (after_next n) (next_of x)
 
 -- the destinations at a place and at those that follow it, of at most so many
-abbrev pub destinations_from : ℕ → Option Place → List ℕ
+abbrev pub destinations_from : ℕ → Option ListPlace → List ℕ
 destinations_from zero x = []
 destinations_from (suc n) None = []
 destinations_from (suc n) (Some x) = destination_of x ∷ destinations_from n (next_of x)

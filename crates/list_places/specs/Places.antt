@@ -19,49 +19,49 @@ use Rattle.list_places.specs.Lists.{SidBlock, ListSid, Container, Full, Packed, 
 
 -- a place is what is left of a list: the active SID, those behind it in its container, and the containers behind; in a REPLACE container
 -- also the SIDs before it
-pub data Place : Type 0 where
-  InFull : ListSid → List ListSid → List Container → Place
-  InPacked : List ListSid → ListSid → List ListSid → List Container → Place
+pub data ListPlace : Type 0 where
+  InFull : ListSid → List ListSid → List Container → ListPlace
+  InPacked : List ListSid → ListSid → List ListSid → List Container → ListPlace
 
 -- the SID that the destination is an address of
-abbrev pub active : Place → ListSid
+abbrev pub active : ListPlace → ListSid
 active (InFull s ss cs) = s
 active (InPacked bs s ss cs) = s
 
 -- the containers behind the active SID's: as many segments are left
-abbrev pub behind_of : Place → List Container
+abbrev pub behind_of : ListPlace → List Container
 behind_of (InFull s ss cs) = cs
 behind_of (InPacked bs s ss cs) = cs
 
 -- the active SID and all that are visited behind it
-abbrev pub sids_from : Place → List ListSid
+abbrev pub sids_from : ListPlace → List ListSid
 sids_from (InFull s ss cs) = (s ∷ ss) ++ sids_in cs
 sids_from (InPacked bs s ss cs) = (s ∷ ss) ++ sids_in cs
 
 -- the place of a container's first SID
-abbrev pub entered : Container → List Container → Place
+abbrev pub entered : Container → List Container → ListPlace
 entered (Full s ss) cs = InFull s ss cs
 entered (Packed s ss) cs = InPacked [] s ss cs
 
 -- the first place of a list
-abbrev pub first_of : List Container → Option Place
+abbrev pub first_of : List Container → Option ListPlace
 first_of [] = None
 first_of (c ∷ cs) = Some (entered c cs)
 
 -- the place of the next SID, none behind the last
-abbrev pub next_of : Place → Option Place
+abbrev pub next_of : ListPlace → Option ListPlace
 next_of (InFull s (t ∷ ts) cs) = Some (InFull t ts cs)
 next_of (InFull s [] cs) = first_of cs
 next_of (InPacked bs s (t ∷ ts) cs) = Some (InPacked (bs ++ s ∷ []) t ts cs)
 next_of (InPacked bs s [] cs) = first_of cs
 
 -- the destination: what is left of a full container's value, and in a REPLACE container the SID's value and its index
-abbrev pub destination_of : Place → ℕ
+abbrev pub destination_of : ListPlace → ℕ
 destination_of (InFull s ss cs) = full_value s ss
 destination_of (InPacked bs s ss cs) = s.prefix.value + index_behind (compression s) (length bs)
 
 -- the segment routing header may lack in the last container, but in a REPLACE container, where it is read, only at the last SID
-abbrev pub may_lack : Place → Bool
+abbrev pub may_lack : ListPlace → Bool
 may_lack (InFull s ss []) = true
 may_lack (InFull s ss (c ∷ cs)) = false
 may_lack (InPacked bs s [] []) = true
@@ -69,7 +69,7 @@ may_lack (InPacked bs s [] (c ∷ cs)) = false
 may_lack (InPacked bs s (t ∷ ts) cs) = false
 
 -- a further SID follows in a full container: NEXT-CSID shifts there
-abbrev pub shifts_in : Place → Bool
+abbrev pub shifts_in : ListPlace → Bool
 shifts_in (InFull s [] cs) = false
 shifts_in (InFull s (t ∷ ts) cs) = true
 shifts_in (InPacked bs s ss cs) = false
@@ -105,12 +105,12 @@ inner_at t routed =
     if routed then header_len + SEGMENT_LIST_AT + SEGMENT_LEN * length (segment_list t.encapsulation) else header_len
 
 -- the packet at a place: Segments Left counts the containers behind
-abbrev pub form : Tunnel → Place → Bool → ℕ → Packet
+abbrev pub form : Tunnel → ListPlace → Bool → ℕ → Packet
 form t x routed hop = on_way t routed (length (behind_of x)) hop (destination_of x)
 
 -- whether the segment routing header is there behind the step from a place to the next: a shift leaves it, and another step takes it out
 -- with PSP where it may lack there (RFC 8986 section 4.16.1)
-abbrev pub stays_routed : Bool → Place → Place → Bool → Bool
+abbrev pub stays_routed : Bool → ListPlace → ListPlace → Bool → Bool
 stays_routed psp x y routed = if shifts_in x then routed else not (psp && may_lack y)
 
 -- ---- the rules of lists at a place
@@ -133,17 +133,17 @@ pub record IsInPacked (bs : List ListSid) (s : ListSid) (ss : List ListSid) (cs 
   pub flat_behind : IsFlatList cs
 
 -- a place in a legal list over SIDs of a flat network
-abbrev pub IsPlace : Place → Type 0
+abbrev pub IsPlace : ListPlace → Type 0
 IsPlace (InFull s ss cs) = IsInFull s ss cs
 IsPlace (InPacked bs s ss cs) = IsInPacked bs s ss cs
 
 -- a REPLACE container's own value is read at its SIDs
-abbrev pub own_of : Place → List ℕ
+abbrev pub own_of : ListPlace → List ℕ
 own_of (InFull s ss cs) = []
 own_of (InPacked bs s ss cs) = packed_value s.block (bs ++ s ∷ ss) ∷ []
 
 -- the entries of a segment list at a place: the containers behind, the last of them first, the place's own, and those in front
-pub record IsListed (x : Place) (entries : List ℕ) : Type 0 where
+pub record IsListed (x : ListPlace) (entries : List ℕ) : Type 0 where
   pub front : List ℕ
   pub split : entries ≡ reverse (values_of (behind_of x)) ++ (own_of x ++ front)
   pub addresses : All (λ a. a < 2 ^ 128) entries
@@ -158,14 +158,14 @@ pub record StandsOn (e : SidEntry) (s : ListSid) : Type 0 where
   pub next : e.csid ≡ Next → goes_on e ≡ true
 
 -- what comes of the packet where no segment is left: the packet inside is exposed, or it is the upper layer, with USP without the header
-abbrev pub at_the_end : SidEntry → List ℕ → Tunnel → Place → Bool → ℕ → Endpoint
+abbrev pub at_the_end : SidEntry → List ℕ → Tunnel → ListPlace → Bool → ℕ → Endpoint
 at_the_end e allow t x routed hop =
     if exposes e (inner_kind t.inner) then Exposed t.inner t.bytes
     else if is_allowed allow (inner_kind t.inner) then Delivered (form t x (routed && not e.usp) hop)
     else Refused reasons.UpperLayer (inner_at t routed)
 
 -- a packet of a tunnel with a hop limit stands at a place of its list
-pub record Along (t : Tunnel) (x : Place) (hop : ℕ) (p : Packet) : Type 0 where
+pub record Along (t : Tunnel) (x : ListPlace) (hop : ℕ) (p : Packet) : Type 0 where
   pub routed : Bool
   pub packet : p ≡ form t x routed hop
   pub place : IsPlace x

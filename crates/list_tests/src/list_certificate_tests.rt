@@ -8,11 +8,11 @@ ghost use Rattle.list_tests.specs.Grid.{grid_value};
 use crate::grid::{Grid, prefix_of};
 use base::Seq;
 use list_certificate::{
-    CertFault, MAX_BYTES, Verdict, Why, a_certificate_that_is_least_is_least, a_solution_is_good,
+    CertFault, Verdict, Why, a_certificate_that_is_least_is_least, a_solution_is_good,
     append_state, check, print, read,
 };
 use list_pack::{Solution, State};
-use net_model::{Name, Net, NetParts, Node, TypeList, are_in_range};
+use net_model::{MAX_TEXT_BYTES, Name, Net, NetParts, Node, TypeList, are_in_range};
 use srv6_rules::{Behaviour, Csid, LinkSet, SidEntry};
 use std::alloc::{AllocError, Global};
 use std::process::Abort;
@@ -127,7 +127,7 @@ fn judged(
         is_open,
     };
     assert!(rt; is_grid_net(net, &grid));
-    assert!(rt; text.len() <= MAX_BYTES);
+    assert!(rt; text.len() <= MAX_TEXT_BYTES);
     let cert = read(alloc, net, &grid, text.as_bytes())?;
     Ok(check(&grid, &cert))
 }

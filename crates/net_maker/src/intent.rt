@@ -1,7 +1,7 @@
 //! The intent over a generated network.
 
 ghost use Rattle.std.specs.Prelude.{◌≡◌, ◌++◌, ◌≤◌, IfOk, OnErr, OnOk, string_bytes};
-ghost use Rattle.net_maker.specs.declared.size.TheConstants.{MOST};
+ghost use Rattle.net_maker.specs.declared.size.TheConstants.{MAX_NODES};
 ghost use Rattle.net_maker.specs.Intents.{function_table, intent_text, root_keys, step_table, step_tables};
 
 use crate::size::Size;
@@ -39,7 +39,7 @@ fn append_step(i: u32, out: &mut String) -> Result<(), AllocError>
 
 /// Appends the tables of the steps of links.
 fn append_steps(n: u32, out: &mut String) -> Result<(), AllocError>
-    requires { n ≤ MOST }
+    requires { n ≤ MAX_NODES }
     ensures { OnOk result (string_bytes out.new ≡ string_bytes out.old ++ step_tables n) }
 {
     for i in 1..=n {

@@ -16,4 +16,4 @@ mod size;
 pub use intent::write_intent;
 pub use net::write_net;
 pub use packet::write_packet;
-pub use size::{LEAST, MOST, Size};
+pub use size::{MAX_NODES, MIN_NODES, Size};

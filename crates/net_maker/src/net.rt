@@ -1,7 +1,7 @@
 //! The description of a generated network.
 
 ghost use Rattle.std.specs.Prelude.{◌≡◌, ◌++◌, ◌≤◌, IfOk, OnErr, OnOk, flat_map, string_bytes};
-ghost use Rattle.net_maker.specs.declared.size.TheConstants.{MOST};
+ghost use Rattle.net_maker.specs.declared.size.TheConstants.{MAX_NODES};
 ghost use Rattle.net_maker.specs.Networks.{all_link_tables, block_table, chain_tables, link_table, link_tables, net_text, node_table, node_tables, out_table};
 
 use crate::routes::append_routes;
@@ -31,7 +31,7 @@ fn append_node(i: u32, out: &mut String) -> Result<(), AllocError>
 
 /// Appends the tables of the nodes, of which n is the last.
 fn append_nodes(n: u32, out: &mut String) -> Result<(), AllocError>
-    requires { n ≤ MOST }
+    requires { n ≤ MAX_NODES }
     ensures { OnOk result (string_bytes out.new ≡ string_bytes out.old ++ node_tables n) }
 {
     for i in 0..=n {
@@ -73,7 +73,7 @@ fn append_out(n: u32, out: &mut String) -> Result<(), AllocError>
 
 /// Appends the tables of the links from node to node.
 fn append_chain(n: u32, out: &mut String) -> Result<(), AllocError>
-    requires { n ≤ MOST }
+    requires { n ≤ MAX_NODES }
     ensures { OnOk result (string_bytes out.new ≡ string_bytes out.old ++ chain_tables n) }
 {
     for i in 1..=n {

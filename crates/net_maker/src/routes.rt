@@ -2,7 +2,7 @@
 
 ghost use Rattle.std.specs.Prelude.{◌≡◌, ◌++◌, ◌<◌, ◌≤◌, OnOk, string_bytes};
 ghost use Rattle.net_maker.specs.Networks.{last_route_table, route_table, route_tables, routes_in_block, routes_of};
-ghost use Rattle.net_maker.specs.declared.size.TheConstants.{MOST};
+ghost use Rattle.net_maker.specs.declared.size.TheConstants.{MAX_NODES};
 
 use crate::size::Size;
 use std::alloc::AllocError;
@@ -10,7 +10,7 @@ use std::alloc::AllocError;
 /// Appends the table of node i's route to node j.
 #[tactic(auto, unfolding(crate::specs::Networks::route_table))]
 fn append_route(i: u32, j: u32, out: &mut String) -> Result<(), AllocError>
-    requires { i < MOST }
+    requires { i < MAX_NODES }
     ensures { OnOk result (string_bytes out.new ≡ string_bytes out.old ++ route_table i j) }
 {
     let next = i + 1;
@@ -22,7 +22,7 @@ fn append_route(i: u32, j: u32, out: &mut String) -> Result<(), AllocError>
 
 /// Appends the tables of node i's routes to the nodes behind it, of which n is the last.
 fn append_routes_of(n: u32, i: u32, out: &mut String) -> Result<(), AllocError>
-    requires { i < MOST }
+    requires { i < MAX_NODES }
     ensures { OnOk result (string_bytes out.new ≡ string_bytes out.old ++ routes_of n i) }
 {
     for j in i + 1..=n {
@@ -45,7 +45,7 @@ fn append_last_route(n: u32, out: &mut String) -> Result<(), AllocError>
 /// Appends the tables of all nodes' routes in the block.
 fn append_routes_in_block(n: u32, out: &mut String) -> Result<(), AllocError>
     requires least { 1 ≤ n }
-    requires most { n ≤ MOST }
+    requires most { n ≤ MAX_NODES }
     ensures { OnOk result (string_bytes out.new ≡ string_bytes out.old ++ routes_in_block n) }
 {
     for i in 0..n {

@@ -2,7 +2,7 @@
 
 ghost use Rattle.std.specs.Prelude.{◌≡◌, ◌++◌, ◌<◌, ◌≤◌, OnOk, string_bytes};
 ghost use Rattle.net_maker.specs.Networks.{end_table, end_tables, end_x_table, end_x_tables, sid_tables, vpn_table};
-ghost use Rattle.net_maker.specs.declared.size.TheConstants.{MOST};
+ghost use Rattle.net_maker.specs.declared.size.TheConstants.{MAX_NODES};
 
 use crate::size::Size;
 use std::alloc::AllocError;
@@ -21,7 +21,7 @@ fn append_end(i: u32, out: &mut String) -> Result<(), AllocError>
 /// Appends the table of node i's SID through the first link to the next node.
 #[tactic(auto, unfolding(crate::specs::Networks::end_x_table))]
 fn append_end_x(i: u32, out: &mut String) -> Result<(), AllocError>
-    requires { i < MOST }
+    requires { i < MAX_NODES }
     ensures { OnOk result (string_bytes out.new ≡ string_bytes out.old ++ end_x_table i) }
 {
     let csid = 0xe000 + i;
@@ -45,7 +45,7 @@ fn append_vpn(n: u32, out: &mut String) -> Result<(), AllocError>
 
 /// Appends the tables of the nodes' own SIDs, but for the first node, which has none.
 fn append_ends(n: u32, out: &mut String) -> Result<(), AllocError>
-    requires { n ≤ MOST }
+    requires { n ≤ MAX_NODES }
     ensures { OnOk result (string_bytes out.new ≡ string_bytes out.old ++ end_tables n) }
 {
     for i in 1..=n {
@@ -57,7 +57,7 @@ fn append_ends(n: u32, out: &mut String) -> Result<(), AllocError>
 /// Appends the tables of the nodes' SIDs through links, but for the last node, which has none.
 fn append_end_xs(n: u32, out: &mut String) -> Result<(), AllocError>
     requires least { 1 ≤ n }
-    requires most { n ≤ MOST }
+    requires most { n ≤ MAX_NODES }
     ensures { OnOk result (string_bytes out.new ≡ string_bytes out.old ++ end_x_tables n) }
 {
     for i in 0..n {

@@ -6,10 +6,10 @@ ghost use Rattle.net_maker.specs.Words.{IsSize, is_size};
 use std::marker::Model;
 
 /// The least size: 2. (own rule)
-pub const LEAST: u32 = 2;
+pub const MIN_NODES: u32 = 2;
 
 /// The greatest size: 47. (own rule)
-pub const MOST: u32 = 47;
+pub const MAX_NODES: u32 = 47;
 
 /// The size of a generated network, from 2 to 47: the number of its last node, of which the first
 /// has number 0. (own rule)
@@ -36,7 +36,7 @@ impl Size {
         ensures fact { IsSome result ↔ IsSize last }
         ensures value { IfSome result (λ s. s ≡ last) }
     {
-        if last < LEAST || MOST < last {
+        if last < MIN_NODES || MAX_NODES < last {
             return None;
         }
         Some(Size { last })

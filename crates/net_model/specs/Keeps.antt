@@ -8,7 +8,8 @@ use Rattle.srv6_rules.specs.declared.sid.Csid.TheVariants as csids
 use Rattle.srv6_rules.specs.declared.sid.Family.{Family}
 use Rattle.srv6_rules.specs.declared.sid.Family.TheVariants as families
 use Rattle.srv6_rules.specs.Behaviours.{behaviour_goes_on, behaviour_takes_links, behaviour_table, behaviour_policy, behaviour_takes_flavours}
-use Rattle.net_model.specs.declared.limits.TheConstants.{MAX_BLOCKS, MAX_NODES, MAX_LINKS, MAX_ROUTES, MAX_POLICIES, MAX_SEGMENTS, MAX_SIDS, MAX_SIDS_OF_NODE, MAX_LINKS_OF_SET, MAX_ALLOWED_TYPES, MAX_BLOCK_LEN, MAX_IPV4_PREFIX_LEN, BLOCK_UNIT, SHORT_CSID, LONG_CSID, LAST_TABLE, LAST_OCTET, LAST_FLOW_LABEL}
+use Rattle.net_model.specs.declared.limits.TheConstants.{MAX_BLOCKS, MAX_NODES, MAX_LINKS, MAX_ROUTES, MAX_POLICIES, MAX_SIDS, MAX_SIDS_OF_NODE, MAX_LINKS_OF_SET, MAX_ALLOWED_TYPES, MAX_BLOCK_LEN, MAX_IPV4_PREFIX_LEN, BLOCK_UNIT, SHORT_CSID, LONG_CSID, LAST_TABLE, LAST_OCTET, LAST_FLOW_LABEL}
+use Rattle.srv6_rules.specs.declared.numbers.TheConstants.{MAX_SEGMENTS}
 use Rattle.net_model.specs.declared.parts.Block.{Block}
 use Rattle.net_model.specs.declared.parts.BlockKind.TheVariants.{Next, Replace}
 use Rattle.net_model.specs.declared.parts.NamedPolicy.{NamedPolicy}

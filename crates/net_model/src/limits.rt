@@ -46,9 +46,6 @@ pub const MAX_IPV4_PREFIX_LEN: u8 = 32;
 /// Policies of a description (own rule).
 pub const MAX_POLICIES: usize = 256;
 
-/// Segments of a policy (own rule).
-pub const MAX_SEGMENTS: usize = 127;
-
 /// The bits of a short compressed SID (own rule).
 pub const SHORT_CSID: u32 = 16;
 

@@ -7,8 +7,7 @@ ghost use Rattle.net_model.specs.Rules.{block_len_of, is_name, is_segment, keeps
 ghost use Rattle.net_model.specs.Judging.{few, block_in_range, link_in_range, route_in_range, policy_in_range, sid_in_range, are_numbers, InRange};
 
 use crate::limits::{
-    MAX_BLOCKS, MAX_LINKS, MAX_LINKS_OF_SET, MAX_NODES, MAX_POLICIES, MAX_ROUTES, MAX_SEGMENTS,
-    MAX_SIDS,
+    MAX_BLOCKS, MAX_LINKS, MAX_LINKS_OF_SET, MAX_NODES, MAX_POLICIES, MAX_ROUTES, MAX_SIDS,
 };
 use crate::parts::{Block, Link, NamedPolicy, NetParts, Node, Route};
 use crate::rules::{
@@ -16,6 +15,7 @@ use crate::rules::{
     is_prefix, is_prefix_of, is_table, is_title, keeps_outer, suits_table,
 };
 use srv6_rules::SidEntry;
+use srv6_rules::numbers::MAX_SEGMENTS;
 use v6_addr::Addr;
 
 fn block_in_range(b: &Block) -> bool

@@ -17,9 +17,10 @@ ghost use Rattle.net_model.specs.Rules.{same_sid};
 use crate::limits::{
     BLOCK_UNIT, LAST_FLOW_LABEL, LAST_OCTET, LAST_TABLE, LONG_CSID, MAX_ALLOWED_TYPES,
     MAX_BLOCK_LEN, MAX_BLOCKS, MAX_IPV4_PREFIX_LEN, MAX_LINKS, MAX_LINKS_OF_SET, MAX_NAME_BYTES,
-    MAX_NODES, MAX_POLICIES, MAX_ROUTES, MAX_SEGMENTS, MAX_SIDS, MAX_SIDS_OF_NODE, SHORT_CSID,
+    MAX_NODES, MAX_POLICIES, MAX_ROUTES, MAX_SIDS, MAX_SIDS_OF_NODE, SHORT_CSID,
 };
 use crate::parts::{Block, BlockKind, Link, Name, NamedPolicy, NetParts, Node, Route};
+use srv6_rules::numbers::MAX_SEGMENTS;
 use srv6_rules::{Csid, Family, SidEntry};
 use v6_addr::{Addr, Prefix};
 

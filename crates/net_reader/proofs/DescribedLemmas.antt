@@ -18,7 +18,8 @@ use Rattle.net_model.specs.declared.fault.Key.TheVariants as keys
 use Rattle.net_model.specs.declared.fault.TableKind.TheVariants as tables
 use Rattle.net_model.specs.declared.fault.NetFault.{NetFault}
 use Rattle.net_model.specs.declared.fault.NetFault.TheVariants as faults
-use Rattle.net_model.specs.declared.limits.TheConstants.{MAX_BLOCKS, MAX_NODES, MAX_LINKS, MAX_ROUTES, MAX_POLICIES, MAX_SIDS, MAX_ALLOWED_TYPES, MAX_LINKS_OF_SET, MAX_SEGMENTS, LAST_TABLE, LAST_OCTET, LAST_FLOW_LABEL, DEFAULT_HOP_LIMIT}
+use Rattle.net_model.specs.declared.limits.TheConstants.{MAX_BLOCKS, MAX_NODES, MAX_LINKS, MAX_ROUTES, MAX_POLICIES, MAX_SIDS, MAX_ALLOWED_TYPES, MAX_LINKS_OF_SET, LAST_TABLE, LAST_OCTET, LAST_FLOW_LABEL, DEFAULT_HOP_LIMIT}
+use Rattle.srv6_rules.specs.declared.numbers.TheConstants.{MAX_SEGMENTS}
 use Rattle.net_model.specs.Rules.{is_name, is_address, is_prefix, is_prefix_of, is_csid_len, is_segment, is_table, keeps_node}
 use Rattle.net_model.specs.Judging.{block_in_range, policy_in_range}
 use Rattle.toml_words.specs.Tree.{text_in, name_in, addr_of_value, addr_in, prefix_in, word_in, integer_in, number_in, given, array_of, list_in, needed, optional, only, items_at}

@@ -8,7 +8,8 @@ use Rattle.net_model.specs.declared.fault.Key.TheVariants as keys
 use Rattle.net_model.specs.declared.fault.TableKind.TheVariants as tables
 use Rattle.net_model.specs.declared.fault.NetFault.{NetFault}
 use Rattle.net_model.specs.declared.fault.NetFault.TheVariants as faults
-use Rattle.net_model.specs.declared.limits.TheConstants.{MAX_BLOCKS, MAX_NODES, MAX_LINKS, MAX_ROUTES, MAX_POLICIES, MAX_SIDS, MAX_ALLOWED_TYPES, MAX_LINKS_OF_SET, MAX_SEGMENTS, LAST_TABLE, LAST_OCTET, LAST_FLOW_LABEL, DEFAULT_HOP_LIMIT}
+use Rattle.net_model.specs.declared.limits.TheConstants.{MAX_BLOCKS, MAX_NODES, MAX_LINKS, MAX_ROUTES, MAX_POLICIES, MAX_SIDS, MAX_ALLOWED_TYPES, MAX_LINKS_OF_SET, LAST_TABLE, LAST_OCTET, LAST_FLOW_LABEL, DEFAULT_HOP_LIMIT}
+use Rattle.srv6_rules.specs.declared.numbers.TheConstants.{MAX_SEGMENTS}
 use Rattle.v6_addr.specs.Address.{PrefixValue}
 use Rattle.srv6_rules.specs.declared.sid.Csid.TheVariants.{Plain}
 use Rattle.toml_words.specs.Reading.{◌>>=◌, or_fault, document_of}

@@ -129,7 +129,7 @@ pub fn describe_intent(alloc: Global, root: &Table) -> Result<DescribedIntent, N
 
 /// What an intent's text says, or its first fault (own rules): `NotToml` exactly where the bytes
 /// are not UTF-8 or not TOML, and else as `describe_intent`. `NoMemory` may come at any time.
-pub fn read_intent(alloc: Global, text: &[u8]) -> Result<DescribedIntent, NetFault>
+pub fn read_intent_words(alloc: Global, text: &[u8]) -> Result<DescribedIntent, NetFault>
     ensures { Gives (λ i. i) result (intent_in text.now) }
 {
     let root = document(alloc, text)?;

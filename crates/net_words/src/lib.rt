@@ -1,6 +1,6 @@
 //! What a description and an intent say, or their first fault of shape.
 //!
-//! `read_description` and `read_intent` read a text: first as TOML, and then its tree, table by
+//! `read_description` and `read_intent_words` read a text: first as TOML, and then its tree, table by
 //! table, item by item and key by key, in one written order. What they give holds names as texts:
 //! whether a name is known, and whether parts fit one another, is judged later. `specs/` has the
 //! same order as functions on the tree, and each call here gives exactly what they give.
@@ -22,7 +22,7 @@ mod words;
 
 pub use block::DescribedBlock;
 pub use description::{Description, describe, read_description};
-pub use intent::{DescribedIntent, Mode, describe_intent, read_intent};
+pub use intent::{DescribedIntent, Mode, describe_intent, read_intent_words};
 pub use limits::{DEFAULT_CONTAINERS, MAX_CONTAINERS, MAX_STEPS};
 pub use link::DescribedLink;
 pub use node::DescribedNode;

@@ -10,9 +10,8 @@ ghost use Rattle.net_words.specs.Description.{policy_of};
 
 use crate::numbers::octet_at;
 use base::Seq;
-use net_model::{
-    DEFAULT_HOP_LIMIT, FaultPlace, Key, LAST_FLOW_LABEL, MAX_SEGMENTS, Name, NetFault,
-};
+use net_model::{DEFAULT_HOP_LIMIT, FaultPlace, Key, LAST_FLOW_LABEL, Name, NetFault};
+use srv6_rules::numbers::MAX_SEGMENTS;
 use std::alloc::Global;
 use toml::Table;
 use toml_words::{Describes, needed, needed_list, only, optional_number};

@@ -11,7 +11,7 @@ use Rattle.srv6_rules.specs.declared.sid.SidEntry.{SidEntry}
 use Rattle.srv6_rules.specs.CompressedSteps.{is_next}
 use Rattle.srv6_rules.specs.Endpoint.{Endpoint, Onward, Delivered, at_sid}
 use Rattle.srv6_rules.specs.Packet.{Packet, Content, V6, Spells, content_of, packet_at, spelling}
-use Rattle.srv6_rules.specs.declared.numbers.TheConstants.{MOST_LEN}
+use Rattle.srv6_rules.specs.declared.numbers.TheConstants.{MAX_PACKET_LEN}
 use Rattle.srv6_rules.proofs.PublicLaws.{length-spelling}
 use Rattle.net_model.specs.Network.{Network}
 use Rattle.net_model.specs.Keeps.{Keeps}
@@ -43,7 +43,7 @@ pub comes-here : (e : Endpoint) (old new : List ℕ) (outcome : EndOutcome) → 
 comes-here e old new outcome is h = let P : EndOutcome → Type 0 = λ o. ComesOf e old new o in subst P is h
 
 -- bytes that spell a packet are no more than a packet can have
-pub spells-most : (bytes : List ℕ) (p : Packet) → Spells bytes p → length bytes ≤ MOST_LEN
+pub spells-most : (bytes : List ℕ) (p : Packet) → Spells bytes p → length bytes ≤ MAX_PACKET_LEN
 spells-most bytes p h =
     let fits = h.0.payload_len in
     omega (arith, ap length h.1, length-spelling p)

@@ -9,7 +9,7 @@ use Rattle.walk_rules.specs.declared.place.Place.{Place}
 use Rattle.walk_rules.specs.Treatment.{Gave, dropped, error_of, step_of}
 use Rattle.walk_rules.specs.declared.place.Outcome.{Outcome}
 use Rattle.walk_rules.specs.Laws.{TellsOfError}
-use Rattle.walk_rules.specs.Relation.{IsPlace, Stage}
+use Rattle.walk_rules.specs.Relation.{IsPlace, IsStage}
 use Rattle.walk_rules.specs.Walk.{next_place}
 use Rattle.walk_rules.proofs.PublicLaws.{stage-step, step-place, step-tells}
 use Rattle.node_stage.specs.declared.error.Told.{Told}
@@ -17,9 +17,9 @@ use Rattle.node_stage.specs.Staging.{Tells, dropped_from}
 
 stage_of_relation : (net : Network) (place : Place) (content : Content) (choice : ℕ) (gave : Gave) → Keeps net → IsPlace net place
     → gave ≡ step_of net place content choice
-    → Stage net place content gave.outcome gave.after gave.error
+    → IsStage net place content gave.outcome gave.after gave.error
 stage_of_relation net place content choice gave keeps is e =
-    let P : Gave → Type 0 = λ g. Stage net place content g.outcome g.after g.error in
+    let P : Gave → Type 0 = λ g. IsStage net place content g.outcome g.after g.error in
     subst P (sym e) (stage-step net place content choice keeps is)
 
 by_next : (net : Network) (o : Option Place) → ((next : Place) → o ≡ Some next → IsPlace net next) → IfSome o (IsPlace net)
@@ -64,7 +64,7 @@ module _ (net : Network) (place : Place) (content : Content) (choice : ℕ) (tol
   pub told_tells : Tells told slot step → TellsOfError told.outcome step.error
   told_tells h = subst (λ (o : Outcome). TellsOfError o step.error) (sym h.0) (step-tells net place content choice)
 
-  pub told_relation : Keeps net → IsPlace net place → Tells told slot step → Stage net place content told.outcome told.after step.error
+  pub told_relation : Keeps net → IsPlace net place → Tells told slot step → IsStage net place content told.outcome told.after step.error
   told_relation keeps is h = stage_of_relation net place content choice gave keeps is (gave_is told slot step h)
 
   pub told_place : Keeps net → IsPlace net place → Tells told slot step → IfSome (next_place net place told.outcome) (IsPlace net)

@@ -30,7 +30,7 @@ use walk_rules::{Outcome, exposed_from, onward_from};
 /// The longest header that a policy puts in front of a packet, in bytes: an IPv6 header of 40, and a
 /// segment routing header of 8 and 127 entries of 16 (RFC 8200 section 3, RFC 8754 section 2; that a
 /// policy has at most 127 segments is an own rule).
-const MOST_OUTER_LEN: usize = 2080;
+const MAX_OUTER_LEN: usize = 2080;
 
 /// At the node's own address.
 pub(crate) fn treated_at_address(packet: Packet) -> Staged
@@ -148,7 +148,7 @@ fn bound_at_sid(
         (at_sid entry.now allow.now packet)) }
 {
     packet.keeps_rules();
-    let Ok(mut bytes) = PktBuf::new(alloc, MOST_OUTER_LEN, packet.bytes()) else {
+    let Ok(mut bytes) = PktBuf::new(alloc, MAX_OUTER_LEN, packet.bytes()) else {
         return Err(Content::of(packet));
     };
     let outcome = end_step(entry, allow, &mut bytes);

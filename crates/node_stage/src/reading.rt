@@ -10,7 +10,7 @@ use crate::packet4::Packet4;
 use ip6_headers::{read_fault, read_fault4};
 use pkt_buf::PktBuf;
 use srv6_rules::Family;
-use srv6_rules::numbers::MOST_LEN;
+use srv6_rules::numbers::MAX_PACKET_LEN;
 
 impl Content {
     /// How bytes read as IPv6, in place: what stands behind the packet's end is cut (RFC 8200
@@ -50,7 +50,7 @@ impl Content {
     pub fn enter_buf(family: Family, mut buf: PktBuf) -> Content
         ensures { result ≡ entered family buf.bytes }
     {
-        let len = MOST_LEN.min(buf.len());
+        let len = MAX_PACKET_LEN.min(buf.len());
         buf.truncate(len);
         Content::read_as(family, buf)
     }

@@ -4,7 +4,7 @@ ghost use Rattle.std.specs.Prelude.{◌≡◌, ◌<◌, [], length, IfOk, IfSome
 ghost use Rattle.srv6_rules.specs.Packet.{V6};
 ghost use Rattle.icmp6_errors.specs.Answer.{error_bytes};
 ghost use Rattle.walk_rules.specs.Laws.{TellsOfError};
-ghost use Rattle.walk_rules.specs.Relation.{IsPlace, Stage};
+ghost use Rattle.walk_rules.specs.Relation.{IsPlace, IsStage};
 ghost use Rattle.walk_rules.specs.Treatment.{step_of, treated, treated4};
 ghost use Rattle.walk_rules.specs.Walk.{next_place};
 ghost use Rattle.walk_rules.specs.Way.{IsWayFrom, way_in};
@@ -139,7 +139,7 @@ pub fn stage(
     ensures tells { IfOk result (λ outcome.
         TellsOfError outcome (step_of net.now place.now content.old choice).error) }
     ensures relation { IfOk result (λ outcome.
-        Stage net.now place.now content.old outcome content.new
+        IsStage net.now place.now content.old outcome content.new
         (step_of net.now place.now content.old choice).error) }
 
     // Where the packet stands next is a place too.

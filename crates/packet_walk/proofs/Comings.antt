@@ -9,7 +9,7 @@ use Rattle.std.proofs.lemmas.List.Kept.{AllPairs-from_increasing}
 use Rattle.std.proofs.lemmas.Map.Made.{IsDistinct-from_AllPairs}
 use Rattle.net_model.specs.Network.{Network}
 use Rattle.walk_rules.specs.declared.place.Ended.{Ended}
-use Rattle.walk_rules.specs.Walk.{Step}
+use Rattle.walk_rules.specs.Walk.{Stage}
 use Rattle.packet_walk.specs.Flight.{InFlight, Flight, IsCounted, stage_in, staged, packet_of}
 use Rattle.packet_walk.specs.Rest.{rest_of}
 use Rattle.packet_walk.specs.Schedule.{Coming, Taken, steps_of, without_first, all_of, one_by_one, scheduled, stages_of, comings, comings_of, frame_of}
@@ -72,7 +72,7 @@ module _ (net : Network) where
     without-at q later (number ∷ numbers) [] k entry each there is below = absurd (omega (arith, each))
     without-at q later (number ∷ numbers) (r ∷ packets) zero entry each there is below =
         without-head entry (at number r) (comings net numbers packets) (eq-eqb entry number is)
-        ∙ ap (λ (steps : List Step). record { number = number; steps = steps } ∷ comings net numbers packets)
+        ∙ ap (λ (steps : List Stage). record { number = number; steps = steps } ∷ comings net numbers packets)
         (ap (λ x. drop 1 (rest_of net x)) (some-is r p there) ∙ sym later)
     without-at q later (number ∷ numbers) (r ∷ packets) (suc k) entry each there is below =
         without-tail entry (at number r) (comings net numbers packets)
@@ -96,7 +96,7 @@ module _ (net : Network) where
       ∙ out-none numbers packets (λ i r there. none (suc i) r there)
 
   -- where those before it have ended, the next stage of the packet at a place is due first
-  pub out-at : (p q : InFlight) (s : Step) → rest_of net p ≡ s ∷ rest_of net q
+  pub out-at : (p q : InFlight) (s : Stage) → rest_of net p ≡ s ∷ rest_of net q
       → (numbers : List ℕ) (packets : List InFlight) (k : ℕ) → length numbers ≡ length packets → slice_get packets k ≡ Some p
       → ((i : ℕ) (r : InFlight) → i < k → slice_get packets i ≡ Some r → rest_of net r ≡ [])
       → one_by_one (comings net numbers packets)
@@ -123,7 +123,7 @@ over-where net p (Some end) is some = rest-ended net p end is
 pub rest-over : (net : Network) (p : InFlight) → IsSome p.ended → rest_of net p ≡ []
 rest-over net p some = over-where net p p.ended refl some
 
-cons≢nil : (s : Step) (more : List Step) → s ∷ more ≡ [] → ⊥
+cons≢nil : (s : Stage) (more : List Stage) → s ∷ more ≡ [] → ⊥
 cons≢nil s more e = cc
 
 ended-where : (net : Network) (p : InFlight) (e : Option Ended) → p.ended ≡ e → IsCounted p → rest_of net p ≡ [] → IsSome e

@@ -3,28 +3,28 @@ use Rattle.std.proofs.Common.{◌≡◌, ℕ, zero, suc, ◌<◌, Bool, true, fa
 use Rattle.std.proofs.lemmas.Bool.{eqb-true, eqb-false}
 use Rattle.net_model.specs.Network.{Network}
 use Rattle.walk_rules.specs.declared.place.Ended.{Ended}
-use Rattle.walk_rules.specs.Walk.{Step}
-use Rattle.packet_walk.specs.declared.event.TheConstants.{STAGES}
+use Rattle.walk_rules.specs.Walk.{Stage}
+use Rattle.walk_rules.specs.declared.limits.TheConstants.{MAX_STAGES}
 use Rattle.packet_walk.specs.Flight.{InFlight, Flight, IsCounted, stage_in, staged, packet_of, turned, entered}
 use Rattle.packet_walk.specs.Rest.{rest_of, Move, Enter, Turn, given_where, given_by, given_to, turns_of, turned_times}
 use Rattle.packet_walk.proofs.Packets.{packet-behind, turned-net, turned-other, turned-ended, turned-staged}
 use Rattle.packet_walk.proofs.Rests.{rest-going, rest-ended, staged-counted}
 
 -- what moves are to give a packet
-abbrev Gives : ℕ → List Move → Flight → InFlight → Type 0
-Gives number moves f p = given_to number f moves ≡ take (turns_of number moves) (rest_of f.net p)
+abbrev GivesFlight : ℕ → List Move → Flight → InFlight → Type 0
+GivesFlight number moves f p = given_to number f moves ≡ take (turns_of number moves) (rest_of f.net p)
 
 module _ (number : ℕ) (more : List Move) (f : Flight) (p : InFlight) (there : packet_of f number ≡ Some p) where
   abbrev n : ℕ
   n = turns_of number more
 
   -- its turn, in flight
-  turn-going : p.ended ≡ None → p.stages < STAGES → Gives number more (turned number f) (staged f.net p)
+  turn-going : p.ended ≡ None → p.stages < MAX_STAGES → GivesFlight number more (turned number f) (staged f.net p)
       → given_by f.net (packet_of f number) ++ given_to number (turned number f) more ≡ take (suc n) (rest_of f.net p)
   turn-going going left later =
       ap (λ (o : Option InFlight). given_by f.net o ++ given_to number (turned number f) more) there
       ∙ (ap (λ (e : Option Ended). given_where f.net p e ++ given_to number (turned number f) more) going
-      ∙ (ap (λ (rest : List Step). stage_in f.net p ∷ rest)
+      ∙ (ap (λ (rest : List Stage). stage_in f.net p ∷ rest)
       (later ∙ ap (λ (net : Network). take n (rest_of net (staged f.net p))) (turned-net number f))
       ∙ ap (take (suc n)) (sym (rest-going f.net p going left))))
 
@@ -33,7 +33,7 @@ module _ (number : ℕ) (more : List Move) (f : Flight) (p : InFlight) (there : 
   none-left zero end is = refl
   none-left (suc m) end is = ap (take (suc m)) (rest-ended f.net p end is)
 
-  turn-ended : (end : Ended) → p.ended ≡ Some end → Gives number more (turned number f) p
+  turn-ended : (end : Ended) → p.ended ≡ Some end → GivesFlight number more (turned number f) p
       → given_by f.net (packet_of f number) ++ given_to number (turned number f) more ≡ take (suc n) (rest_of f.net p)
   turn-ended end is later =
       ap (λ (o : Option InFlight). given_by f.net o ++ given_to number (turned number f) more) there
@@ -56,7 +56,7 @@ module _ (number : ℕ) (more : List Move) (f : Flight) (p : InFlight) (there : 
 -- its turn, by what moves give it from any flight on
 given-mine : (number : ℕ) (more : List Move) (f : Flight) (p : InFlight) (e : Option Ended) → p.ended ≡ e → packet_of f number ≡ Some p
     → IsCounted p
-    → ((g : Flight) (q : InFlight) → packet_of g number ≡ Some q → IsCounted q → Gives number more g q)
+    → ((g : Flight) (q : InFlight) → packet_of g number ≡ Some q → IsCounted q → GivesFlight number more g q)
     → given_by f.net (packet_of f number) ++ given_to number (turned number f) more ≡ take (suc (turns_of number more)) (rest_of f.net p)
 given-mine number more f p None is there counted later =
     turn-going number more f p there is (counted.left is)
@@ -66,7 +66,7 @@ given-mine number more f p (Some end) is there counted later =
     (later (turned number f) p (ap (λ (g : Flight). packet_of g number) (turned-ended number f p end there is) ∙ there) counted)
 
 pub given-to : (number : ℕ) (moves : List Move) (f : Flight) (p : InFlight) → packet_of f number ≡ Some p → IsCounted p
-    → Gives number moves f p
+    → GivesFlight number moves f p
 given-to number [] f p there counted = refl
 given-to number (Enter q ∷ more) f p there counted =
     given-to number more (entered f q) p (packet-behind f.packets (q ∷ []) number p there) counted

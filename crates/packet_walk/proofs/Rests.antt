@@ -8,51 +8,51 @@ use Rattle.walk_rules.specs.declared.place.Ended.TheVariants as ends
 use Rattle.walk_rules.specs.declared.place.Outcome.{Outcome}
 use Rattle.walk_rules.specs.declared.place.Outcome.TheVariants as outcomes
 use Rattle.walk_rules.specs.declared.place.Place.{Place}
-use Rattle.walk_rules.specs.Walk.{Step, walk_of, choice_at, far_end, arrival, next_place, decisions, left_or_stages, end_by, end_of}
+use Rattle.walk_rules.specs.Walk.{Stage, walk_of, choice_at, far_end, arrival, next_place, decisions, left_or_stages, end_by, end_of}
 use Rattle.walk_rules.proofs.PublicLaws.{walk_of-suc, walk_of-zero, walk_of-none}
-use Rattle.packet_walk.specs.declared.event.TheConstants.{STAGES}
+use Rattle.walk_rules.specs.declared.limits.TheConstants.{MAX_STAGES}
 use Rattle.packet_walk.specs.Flight.{InFlight, IsCounted, entering, stage_in, place_from, ended_after, advanced, staged}
 use Rattle.packet_walk.specs.Rest.{place_where, rest_of, end_where, end_from}
 
 -- a packet that goes on walks on from there, if it has stages left
 module _ (net : Network) (used : ℕ) (end : Ended) (content : Content) (pick : ℕ → ℕ) (taken : ℕ) where
-  abbrev from : Option Place → List Step
-  from place = walk_of (STAGES - used) net place content pick taken
+  abbrev from : Option Place → List Stage
+  from place = walk_of (MAX_STAGES - used) net place content pick taken
 
-  used-up : (one other : Option Place) → STAGES ≤ used → from one ≡ from other
+  used-up : (one other : Option Place) → MAX_STAGES ≤ used → from one ≡ from other
   used-up one other all =
-      let none : STAGES - used ≡ 0 = omega (arith, all) in
+      let none : MAX_STAGES - used ≡ 0 = omega (arith, all) in
       ap (λ (n : ℕ). walk_of n net one content pick taken) none
       ∙ (walk_of-zero net one content pick taken ∙ sym (walk_of-zero net other content pick taken))
       ∙ ap (λ (n : ℕ). walk_of n net other content pick taken) (sym none)
 
-  from-test : (next : Place) (b : Bool) → nat_lt used STAGES ≡ b
+  from-test : (next : Place) (b : Bool) → nat_lt used MAX_STAGES ≡ b
       → from (Some next) ≡ from (place_where next (if b then None else Some ends.Stages))
   from-test next true is = refl
-  from-test next false is = used-up (Some next) None (ltb-false used STAGES is)
+  from-test next false is = used-up (Some next) None (ltb-false used MAX_STAGES is)
 
   from-next : (place : Place) (next : Option Place) → from next ≡ from (place_where (place_from place next) (ended_after used end next))
   from-next place None = refl
-  from-next place (Some next) = from-test next (nat_lt used STAGES) refl
+  from-next place (Some next) = from-test next (nat_lt used MAX_STAGES) refl
 
-pub rest-going : (net : Network) (p : InFlight) → p.ended ≡ None → p.stages < STAGES
+pub rest-going : (net : Network) (p : InFlight) → p.ended ≡ None → p.stages < MAX_STAGES
     → rest_of net p ≡ stage_in net p ∷ rest_of net (staged net p)
 rest-going net p going left =
-    let s : Step = stage_in net p in
+    let s : Stage = stage_in net p in
     let pick : ℕ → ℕ = choice_at p.choices in
     let next : Option Place = next_place net p.place s.gave.outcome in
     let taken : ℕ = p.decisions + decisions s.gave.outcome in
-    let one_more : STAGES - p.stages ≡ suc (STAGES - (p.stages + 1)) = omega (arith, left) in
-    ap (λ (e : Option Ended). walk_of (STAGES - p.stages) net (place_where p.place e) p.content pick p.decisions) going
+    let one_more : MAX_STAGES - p.stages ≡ suc (MAX_STAGES - (p.stages + 1)) = omega (arith, left) in
+    ap (λ (e : Option Ended). walk_of (MAX_STAGES - p.stages) net (place_where p.place e) p.content pick p.decisions) going
     ∙ (ap (λ (n : ℕ). walk_of n net (Some p.place) p.content pick p.decisions) one_more
-    ∙ (walk_of-suc (STAGES - (p.stages + 1)) net p.place p.content pick p.decisions
-    ∙ ap (λ (rest : List Step). s ∷ rest)
+    ∙ (walk_of-suc (MAX_STAGES - (p.stages + 1)) net p.place p.content pick p.decisions
+    ∙ ap (λ (rest : List Stage). s ∷ rest)
     (from-next net (p.stages + 1) (end_by net p.place s.gave.outcome) s.gave.after pick taken p.place next)))
 
 pub rest-ended : (net : Network) (p : InFlight) (end : Ended) → p.ended ≡ Some end → rest_of net p ≡ []
 rest-ended net p end is =
-    ap (λ (e : Option Ended). walk_of (STAGES - p.stages) net (place_where p.place e) p.content (choice_at p.choices) p.decisions) is
-    ∙ walk_of-none (STAGES - p.stages) net p.content (choice_at p.choices) p.decisions
+    ap (λ (e : Option Ended). walk_of (MAX_STAGES - p.stages) net (place_where p.place e) p.content (choice_at p.choices) p.decisions) is
+    ∙ walk_of-none (MAX_STAGES - p.stages) net p.content (choice_at p.choices) p.decisions
 
 -- a link with a far end goes on
 arrives : (end : Option ℕ) (place next : Place) (link : ℕ) → arrival end place ≡ Some next → left_or_stages link end ≡ ends.Stages
@@ -69,31 +69,31 @@ goes_on net place next outcomes.Local h = cc
 goes_on net place next (outcomes.Drop reason told) h = cc
 
 -- the end of a walk that goes on after its first stage is that of the rest
-pub end_of-cons : (net : Network) (s : Step) (rest : List Step) → end_by net s.place s.gave.outcome ≡ ends.Stages
+pub end_of-cons : (net : Network) (s : Stage) (rest : List Stage) → end_by net s.place s.gave.outcome ≡ ends.Stages
     → end_of net (s ∷ rest) ≡ end_of net rest
 end_of-cons net s [] h = h
 end_of-cons net s (t ∷ rest) h = refl
 
 -- how a packet ends after a stage is how the stage and the rest after it end
 
-module _ (net : Network) (s : Step) (rest : List Step) (used : ℕ) where
-  ends-test : (b : Bool) → nat_lt used STAGES ≡ b → end_by net s.place s.gave.outcome ≡ ends.Stages
-      → (nat_lt used STAGES ≡ false → rest ≡ [])
+module _ (net : Network) (s : Stage) (rest : List Stage) (used : ℕ) where
+  ends-test : (b : Bool) → nat_lt used MAX_STAGES ≡ b → end_by net s.place s.gave.outcome ≡ ends.Stages
+      → (nat_lt used MAX_STAGES ≡ false → rest ≡ [])
       → end_where (end_of net rest) (if b then None else Some ends.Stages) ≡ end_of net (s ∷ rest)
   ends-test true is goes over = sym (end_of-cons net s rest goes)
   ends-test false is goes over =
       sym (end_of-cons net s rest goes ∙ ap (end_of net) (over is))
 
   ends-next : (next : Option Place) → next_place net s.place s.gave.outcome ≡ next → (next ≡ None → rest ≡ [])
-      → (nat_lt used STAGES ≡ false → rest ≡ [])
+      → (nat_lt used MAX_STAGES ≡ false → rest ≡ [])
       → end_where (end_of net rest) (ended_after used (end_by net s.place s.gave.outcome) next) ≡ end_of net (s ∷ rest)
-  ends-next None is stops over = sym (ap (λ (more : List Step). end_of net (s ∷ more)) (stops refl))
-  ends-next (Some next) is stops over = ends-test (nat_lt used STAGES) refl (goes_on net s.place next s.gave.outcome is) over
+  ends-next None is stops over = sym (ap (λ (more : List Stage). end_of net (s ∷ more)) (stops refl))
+  ends-next (Some next) is stops over = ends-test (nat_lt used MAX_STAGES) refl (goes_on net s.place next s.gave.outcome is) over
 
-pub end-going : (net : Network) (p : InFlight) → p.ended ≡ None → p.stages < STAGES → end_from net (staged net p) ≡ end_from net p
+pub end-going : (net : Network) (p : InFlight) → p.ended ≡ None → p.stages < MAX_STAGES → end_from net (staged net p) ≡ end_from net p
 end-going net p going left =
-    let s : Step = stage_in net p in
-    let rest : List Step = rest_of net (staged net p) in
+    let s : Stage = stage_in net p in
+    let rest : List Stage = rest_of net (staged net p) in
     let pick : ℕ → ℕ = choice_at p.choices in
     let taken : ℕ = p.decisions + decisions s.gave.outcome in
     let next : Option Place = next_place net p.place s.gave.outcome in
@@ -101,12 +101,12 @@ end-going net p going left =
     let used : ℕ = p.stages + 1 in
     let stops : next ≡ None → rest ≡ [] = λ none.
     sym (from-next net used end s.gave.after pick taken p.place next)
-    ∙ (ap (λ (o : Option Place). walk_of (STAGES - used) net o s.gave.after pick taken) none
-    ∙ walk_of-none (STAGES - used) net s.gave.after pick taken) in
-    let over : nat_lt used STAGES ≡ false → rest ≡ [] = λ is.
+    ∙ (ap (λ (o : Option Place). walk_of (MAX_STAGES - used) net o s.gave.after pick taken) none
+    ∙ walk_of-none (MAX_STAGES - used) net s.gave.after pick taken) in
+    let over : nat_lt used MAX_STAGES ≡ false → rest ≡ [] = λ is.
     used-up net used end s.gave.after pick taken (place_where (place_from p.place next) (ended_after used end next)) None
-    (ltb-false used STAGES is)
-    ∙ walk_of-none (STAGES - used) net s.gave.after pick taken in
+    (ltb-false used MAX_STAGES is)
+    ∙ walk_of-none (MAX_STAGES - used) net s.gave.after pick taken in
     ends-next net s rest used next refl stops over
     ∙ (ap (end_of net) (sym (rest-going net p going left))
     ∙ ap (end_where (end_of net (rest_of net p))) (sym going))
@@ -123,19 +123,19 @@ few-decisions (outcomes.Send link) = omega arith
 few-decisions outcomes.Local = omega arith
 few-decisions (outcomes.Drop reason told) = omega arith
 
-left-test : (used : ℕ) (b : Bool) → nat_lt used STAGES ≡ b → (if b then None else Some ends.Stages) ≡ None → used < STAGES
-left-test used true is going = ltb-true used STAGES is
+left-test : (used : ℕ) (b : Bool) → nat_lt used MAX_STAGES ≡ b → (if b then None else Some ends.Stages) ≡ None → used < MAX_STAGES
+left-test used true is going = ltb-true used MAX_STAGES is
 left-test used false is going = cc
 
-left-next : (used : ℕ) (end : Ended) (next : Option Place) → ended_after used end next ≡ None → used < STAGES
+left-next : (used : ℕ) (end : Ended) (next : Option Place) → ended_after used end next ≡ None → used < MAX_STAGES
 left-next used end None going = cc
-left-next used end (Some next) going = left-test used (nat_lt used STAGES) refl going
+left-next used end (Some next) going = left-test used (nat_lt used MAX_STAGES) refl going
 
 pub advanced-counted : (net : Network) (outcome : Outcome) (after : Content) (p : InFlight) → p.ended ≡ None → IsCounted p
     → IsCounted (advanced net outcome after p)
 advanced-counted net outcome after p going counted =
     let few : decisions outcome ≤ 1 = few-decisions outcome in
-    let left : p.stages < STAGES = counted.left going in
+    let left : p.stages < MAX_STAGES = counted.left going in
     record {
       choices = counted.choices;
       decisions = omega (arith, few, counted.decisions);
@@ -145,7 +145,7 @@ advanced-counted net outcome after p going counted =
 
 pub staged-counted : (net : Network) (p : InFlight) → p.ended ≡ None → IsCounted p → IsCounted (staged net p)
 staged-counted net p going counted =
-    let s : Step = stage_in net p in advanced-counted net s.gave.outcome s.gave.after p going counted
+    let s : Stage = stage_in net p in advanced-counted net s.gave.outcome s.gave.after p going counted
 
 pub entering-counted : (content : Content) (place : Place) (choices : List ℕ) → 0 < length choices
     → IsCounted (entering content place choices)

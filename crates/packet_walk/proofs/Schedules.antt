@@ -6,7 +6,7 @@ use Rattle.std.proofs.lemmas.List.{map-append}
 use Rattle.std.proofs.lemmas.List.Elements.{filter-append}
 use Rattle.std.proofs.lemmas.List.Sums.{sum_by-cons}
 use Rattle.std.proofs.lemmas.Map.Keys.{IsDistinct-head, IsDistinct-tail}
-use Rattle.walk_rules.specs.Walk.{Step}
+use Rattle.walk_rules.specs.Walk.{Stage}
 use Rattle.packet_walk.specs.Schedule.{Coming, Taken, steps_of, without_first, first_of, all_of, one_by_one, scheduled, stages_of, steps_in}
 
 pub by-test : (b : Bool) (P : Type 0) → (b ≡ true → P) → (b ≡ false → P) → P
@@ -28,7 +28,7 @@ numbers_of comings = map (λ c. c.number) comings
 
 -- a packet's own stages are all of the stages of its number, and none of another's
 
-stages-all : (number : ℕ) (steps : List Step) → stages_of number (all_of number steps) ≡ all_of number steps
+stages-all : (number : ℕ) (steps : List Stage) → stages_of number (all_of number steps) ≡ all_of number steps
 stages-all number [] = refl
 stages-all number (s ∷ behind) =
     let t : Taken = record { number = number; step = s; behind = behind } in
@@ -36,11 +36,11 @@ stages-all number (s ∷ behind) =
     (eq-eqb number number refl)
     ∙ ap (λ ts. t ∷ ts) (stages-all number behind)
 
-stages-same : (number other : ℕ) (steps : List Step) → number ≡ other → stages_of number (all_of other steps) ≡ all_of number steps
+stages-same : (number other : ℕ) (steps : List Stage) → number ≡ other → stages_of number (all_of other steps) ≡ all_of number steps
 stages-same number other steps same =
     subst (λ m. stages_of number (all_of m steps) ≡ all_of number steps) same (stages-all number steps)
 
-stages-other : (number other : ℕ) (steps : List Step) → nat_eq number other ≡ false → stages_of number (all_of other steps) ≡ []
+stages-other : (number other : ℕ) (steps : List Stage) → nat_eq number other ≡ false → stages_of number (all_of other steps) ≡ []
 stages-other number other [] apart = refl
 stages-other number other (s ∷ behind) apart =
     let t : Taken = record { number = other; step = s; behind = behind } in
@@ -82,21 +82,21 @@ stages-out number (c ∷ more) distinct =
 
 -- an entry of a packet, and one of another
 
-stages-first : (number : ℕ) (steps : List Step) → stages_of number (first_of number steps) ≡ first_of number steps
+stages-first : (number : ℕ) (steps : List Stage) → stages_of number (first_of number steps) ≡ first_of number steps
 stages-first number [] = refl
 stages-first number (s ∷ behind) =
     if-true (nat_eq number number) (record { number = number; step = s; behind = behind } ∷ []) [] (eq-eqb number number refl)
 
-first-same : (number entry : ℕ) (steps : List Step) → number ≡ entry → stages_of number (first_of entry steps) ≡ first_of number steps
+first-same : (number entry : ℕ) (steps : List Stage) → number ≡ entry → stages_of number (first_of entry steps) ≡ first_of number steps
 first-same number entry steps same =
     subst (λ m. stages_of number (first_of m steps) ≡ first_of number steps) same (stages-first number steps)
 
-first-other : (number entry : ℕ) (steps : List Step) → nat_eq number entry ≡ false → stages_of number (first_of entry steps) ≡ []
+first-other : (number entry : ℕ) (steps : List Stage) → nat_eq number entry ≡ false → stages_of number (first_of entry steps) ≡ []
 first-other number entry [] apart = refl
 first-other number entry (s ∷ behind) apart =
     if-false (nat_eq number entry) (record { number = entry; step = s; behind = behind } ∷ []) [] apart
 
-first-rest : (number : ℕ) (steps : List Step) → first_of number steps ++ all_of number (drop 1 steps) ≡ all_of number steps
+first-rest : (number : ℕ) (steps : List Stage) → first_of number steps ++ all_of number (drop 1 steps) ≡ all_of number steps
 first-rest number [] = refl
 first-rest number (s ∷ behind) = refl
 
@@ -156,7 +156,7 @@ without-none entry (c ∷ more) none =
     by-test (nat_eq entry c.number) (without_first entry (c ∷ more) ≡ c ∷ more)
     (λ is. let gone : c.steps ≡ [] = sym (steps-head entry c more is) ∙ none in
     without-head entry c more is
-    ∙ ap (λ (steps : List Step). record { number = c.number; steps = steps } ∷ more) (ap (drop 1) gone ∙ sym gone))
+    ∙ ap (λ (steps : List Stage). record { number = c.number; steps = steps } ∷ more) (ap (drop 1) gone ∙ sym gone))
     (λ is. without-tail entry c more is
     ∙ ap (λ cs. c ∷ cs) (without-none entry more (sym (steps-tail entry c more is) ∙ none)))
 
@@ -188,7 +188,7 @@ stages-scheduled number (entry ∷ schedule) comings distinct =
     (λ is. ap₂ (λ ts us. ts ++ us) (first-other number entry (steps_of entry comings) is) later
     ∙ ap (all_of number) (steps-other number entry comings is))
 
-pub step-all : (number : ℕ) (steps : List Step) → map (λ (t : Taken). t.step) (all_of number steps) ≡ steps
+pub step-all : (number : ℕ) (steps : List Stage) → map (λ (t : Taken). t.step) (all_of number steps) ≡ steps
 step-all number [] = refl
 step-all number (s ∷ behind) = ap (λ steps. s ∷ steps) (step-all number behind)
 
@@ -212,11 +212,11 @@ steps_count comings = sum_by (λ (c : Coming). length c.steps) comings
 count-cons : (c : Coming) (more : List Coming) → steps_count (c ∷ more) ≡ length c.steps + steps_count more
 count-cons c more = sum_by-cons (λ (c : Coming). length c.steps) c more
 
-length-all : (number : ℕ) (steps : List Step) → length (all_of number steps) ≡ length steps
+length-all : (number : ℕ) (steps : List Stage) → length (all_of number steps) ≡ length steps
 length-all number [] = refl
 length-all number (s ∷ behind) = ap suc (length-all number behind)
 
-length-first : (number : ℕ) (steps : List Step) → length (first_of number steps) + length (drop 1 steps) ≡ length steps
+length-first : (number : ℕ) (steps : List Stage) → length (first_of number steps) + length (drop 1 steps) ≡ length steps
 length-first number [] = refl
 length-first number (s ∷ behind) = omega arith
 

@@ -3,7 +3,7 @@ use Rattle.std.proofs.Common.{◌≡◌, ℕ, suc, ◌+◌, ◌-◌, ◌<◌, �
 use Rattle.std.proofs.lemmas.Bool.{false≢true}
 use Rattle.net_model.specs.Network.{Network}
 use Rattle.walk_rules.specs.declared.place.Ended.{Ended}
-use Rattle.packet_walk.specs.declared.event.TheConstants.{STAGES}
+use Rattle.walk_rules.specs.declared.limits.TheConstants.{MAX_STAGES}
 use Rattle.packet_walk.specs.declared.event.Event.{Event}
 use Rattle.packet_walk.specs.Flight.{InFlight, Flight, IsCounted, IsGiven, IsInFlight, Turns, packet_of, after_stage, staged, turned}
 use Rattle.packet_walk.specs.Rest.{end_from, turned_times}
@@ -93,11 +93,11 @@ module _ (number : ℕ) (first now : Flight) (w : Walking number first now) wher
     }
 
     -- fewer stages are left
-    pub walking-less : STAGES - stages_of (packet_of later number) < STAGES - stages_of (packet_of now number)
+    pub walking-less : MAX_STAGES - stages_of (packet_of later number) < MAX_STAGES - stages_of (packet_of now number)
     walking-less =
         let new : stages_of (packet_of later number) ≡ p.stages + 1 = ap stages_of later-there in
         let old : stages_of (packet_of now number) ≡ p.stages = ap stages_of w.there in
-        let left : p.stages < STAGES = w.counted.left going in
+        let left : p.stages < MAX_STAGES = w.counted.left going in
         omega (arith, new, old, left)
 
   -- what a turn of it answers, as it has not ended

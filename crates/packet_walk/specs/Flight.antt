@@ -9,9 +9,9 @@ use Rattle.walk_rules.specs.declared.place.Ended.TheVariants as ends
 use Rattle.walk_rules.specs.declared.place.Outcome.{Outcome}
 use Rattle.walk_rules.specs.declared.place.Place.{Place}
 use Rattle.walk_rules.specs.Relation.{IsPlace}
-use Rattle.walk_rules.specs.Walk.{Step, stage_of, choice_at, decisions, next_place, end_by}
+use Rattle.walk_rules.specs.Walk.{Stage, stage_of, choice_at, decisions, next_place, end_by}
 use Rattle.packet_walk.specs.declared.event.Event.{Event}
-use Rattle.packet_walk.specs.declared.event.TheConstants.{STAGES}
+use Rattle.walk_rules.specs.declared.limits.TheConstants.{MAX_STAGES}
 
 -- a packet in flight: what stands there and where, its list of choices, the decisions that it has taken, the stages that it has used,
 -- and how it ended, if it has; a packet that ended stands where its last stage left it
@@ -35,7 +35,7 @@ entering content place choices =
     record { content = content; place = place; choices = choices; decisions = 0; stages = 0; ended = None }
 
 -- the stage that a packet takes next: where it stands, of what stands there, under the choice of its next decision
-abbrev pub stage_in : Network → InFlight → Step
+abbrev pub stage_in : Network → InFlight → Stage
 stage_in net p = stage_of net p.place p.content (choice_at p.choices p.decisions)
 
 -- where a packet stands after a stage: where it goes on, if it does, and else where it stood
@@ -46,7 +46,7 @@ place_from place (Some next) = next
 -- how a packet has ended after so many stages: as the last one ended it where it doesn't go on, and else where all its stages are used
 abbrev pub ended_after : ℕ → Ended → Option Place → Option Ended
 ended_after used end None = Some end
-ended_after used end (Some next) = if nat_lt used STAGES then None else Some ends.Stages
+ended_after used end (Some next) = if nat_lt used MAX_STAGES then None else Some ends.Stages
 
 -- a packet after a stage of an outcome, which left a content
 abbrev pub advanced : Network → Outcome → Content → InFlight → InFlight
@@ -113,7 +113,7 @@ pub record IsGiven (f : Flight) (number : ℕ) : Type 0 where
   pub last : number ≤ length f.packets
 
 -- the event of a stage of the packet of a number
-abbrev pub event_of : ℕ → Step → Event
+abbrev pub event_of : ℕ → Stage → Event
 event_of number s = record { packet = number; node = s.place.node; outcome = s.gave.outcome }
 
 -- what entering answers and leaves
@@ -138,8 +138,8 @@ Turns number old p (Err why) new = (p.ended ≡ None) × (new ≡ without_error 
 pub record IsCounted (p : InFlight) : Type 0 where
   pub choices : 0 < length p.choices
   pub decisions : p.decisions ≤ p.stages
-  pub stages : p.stages ≤ STAGES
-  pub left : p.ended ≡ None → p.stages < STAGES
+  pub stages : p.stages ≤ MAX_STAGES
+  pub left : p.ended ≡ None → p.stages < MAX_STAGES
 
 -- what is so of each packet in flight in a network
 pub record IsInFlight (net : Network) (p : InFlight) : Type 0 where

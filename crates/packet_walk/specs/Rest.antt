@@ -4,8 +4,8 @@ use Rattle.base.specs.declared.no_memory.NoMemory.{NoMemory}
 use Rattle.net_model.specs.Network.{Network}
 use Rattle.walk_rules.specs.declared.place.Ended.{Ended}
 use Rattle.walk_rules.specs.declared.place.Place.{Place}
-use Rattle.walk_rules.specs.Walk.{Step, walk_of, choice_at, end_of}
-use Rattle.packet_walk.specs.declared.event.TheConstants.{STAGES}
+use Rattle.walk_rules.specs.Walk.{Stage, walk_of, choice_at, end_of}
+use Rattle.walk_rules.specs.declared.limits.TheConstants.{MAX_STAGES}
 use Rattle.packet_walk.specs.Flight.{InFlight, Flight, stage_in, packet_of, turned, entered, without_error}
 
 -- where a packet goes on, if it has not ended
@@ -14,9 +14,9 @@ place_where place None = Some place
 place_where place (Some end) = None
 
 -- the rest of a packet's walk: the stages that it may take yet
-abbrev pub rest_of : Network → InFlight → List Step
+abbrev pub rest_of : Network → InFlight → List Stage
 rest_of net p =
-    walk_of (STAGES - p.stages) net (place_where p.place p.ended) p.content (choice_at p.choices) p.decisions
+    walk_of (MAX_STAGES - p.stages) net (place_where p.place p.ended) p.content (choice_at p.choices) p.decisions
 
 -- how a packet ends: as it has, or else as the rest of its walk does
 
@@ -42,21 +42,21 @@ moved_all f (move ∷ more) = moved_all (moved f move) more
 
 -- the stage that a turn gives a packet, if there is one in flight
 
-abbrev pub given_where : Network → InFlight → Option Ended → List Step
+abbrev pub given_where : Network → InFlight → Option Ended → List Stage
 given_where net p None = stage_in net p ∷ []
 given_where net p (Some end) = []
 
-abbrev pub given_by : Network → Option InFlight → List Step
+abbrev pub given_by : Network → Option InFlight → List Stage
 given_by net None = []
 given_by net (Some p) = given_where net p p.ended
 
 -- the stages that moves give the packet of a number
 
-abbrev pub given_in : ℕ → Flight → Move → List Step
+abbrev pub given_in : ℕ → Flight → Move → List Stage
 given_in number f (Enter p) = []
 given_in number f (Turn other) = if nat_eq other number then given_by f.net (packet_of f number) else []
 
-abbrev pub given_to : ℕ → Flight → List Move → List Step
+abbrev pub given_to : ℕ → Flight → List Move → List Stage
 given_to number f [] = []
 given_to number f (move ∷ more) = given_in number f move ++ given_to number (moved f move) more
 
@@ -77,7 +77,7 @@ turned_times number n f = moved_all f (replicate n (Turn number))
 -- a flight is as after some turns of the packet of a number
 pub record HasTurned (number : ℕ) (old new : Flight) : Type 0 where
   pub times : ℕ
-  pub few : times ≤ STAGES
+  pub few : times ≤ MAX_STAGES
   pub is : new ≡ turned_times number times old
 
 -- a flight is so but for the last error, which is gone, and the packet is in flight yet

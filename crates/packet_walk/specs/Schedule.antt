@@ -3,24 +3,24 @@
 -- the order of their numbers. (own rule)
 use Rattle.std.specs.Prelude.{◌≡◌, ℕ, zero, suc, ◌≤◌, if◌then◌else◌, nat_eq, List, [], ◌∷◌, ◌++◌, length, map, drop, filter, flat_map, slice_index, Option, Some, None, IfSome, IsSome}
 use Rattle.net_model.specs.Network.{Network}
-use Rattle.walk_rules.specs.Walk.{Step}
+use Rattle.walk_rules.specs.Walk.{Stage}
 use Rattle.packet_walk.specs.Flight.{InFlight, Flight, IsGiven, stage_in, staged, packet_of, turned}
 use Rattle.packet_walk.specs.Rest.{rest_of}
 
 -- a packet by the number of its frame, and the steps of its walk that are still to come: it is in flight while there are some
 pub record Coming : Type 0 where
   pub number : ℕ
-  pub steps : List Step
+  pub steps : List Stage
 
 -- a stage that a packet takes: the packet's number, the step, and the steps of its walk behind it; where there are none it is the
 -- packet's last
 pub record Taken : Type 0 where
   pub number : ℕ
-  pub step : Step
-  pub behind : List Step
+  pub step : Stage
+  pub behind : List Stage
 
 -- the steps still to come of the packet of a number; none where there is no such packet
-abbrev pub steps_of : ℕ → List Coming → List Step
+abbrev pub steps_of : ℕ → List Coming → List Stage
 steps_of number [] = []
 steps_of number (c ∷ more) = if nat_eq number c.number then c.steps else steps_of number more
 
@@ -31,12 +31,12 @@ without_first number (c ∷ more) =
     if nat_eq number c.number then record { number = c.number; steps = drop 1 c.steps } ∷ more else c ∷ without_first number more
 
 -- the first of a packet's steps, if there is one
-abbrev pub first_of : ℕ → List Step → List Taken
+abbrev pub first_of : ℕ → List Stage → List Taken
 first_of number [] = []
 first_of number (s ∷ behind) = record { number = number; step = s; behind = behind } ∷ []
 
 -- all of a packet's steps, to its end
-abbrev pub all_of : ℕ → List Step → List Taken
+abbrev pub all_of : ℕ → List Stage → List Taken
 all_of number [] = []
 all_of number (s ∷ behind) = record { number = number; step = s; behind = behind } ∷ all_of number behind
 
@@ -55,7 +55,7 @@ scheduled (entry ∷ schedule) comings =
 abbrev pub stages_of : ℕ → List Taken → List Taken
 stages_of number stages = filter (λ t. nat_eq number t.number) stages
 
-abbrev pub steps_in : ℕ → List Taken → List Step
+abbrev pub steps_in : ℕ → List Taken → List Stage
 steps_in number stages = map (λ t. t.step) (stages_of number stages)
 
 -- the packets of a flight, by the numbers of their frames

@@ -2,9 +2,6 @@
 
 use walk_rules::Outcome;
 
-/// The most stages of a packet: 10,000 (own rule).
-pub const STAGES: u32 = walk_rules::STAGES;
-
 /// One stage of a packet in flight (own rule).
 #[derive(Clone, Copy, Debug, PartialEq, Eq)]
 pub struct Event {

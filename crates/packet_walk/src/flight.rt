@@ -14,7 +14,7 @@ use icmp6_errors::IcmpSlot;
 use net_model::Net;
 use node_stage::Content;
 use pkt_buf::PktBuf;
-use srv6_rules::numbers::LEAST_MTU;
+use srv6_rules::numbers::MIN_MTU;
 use std::alloc::Global;
 use std::marker::Model;
 use walk_rules::{Ended, Outcome, Place};
@@ -158,7 +158,7 @@ impl<'a> Flight<'a> {
     /// the first. They are at most 1,280 (RFC 4443 section 2.4).
     pub fn error(&self) -> &[u8]
         ensures bytes { result.now ≡ self.now.error }
-        ensures short { length result.now ≤ LEAST_MTU }
+        ensures short { length result.now ≤ MIN_MTU }
     {
         self.error.as_slice()
     }

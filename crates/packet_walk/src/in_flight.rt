@@ -7,14 +7,13 @@ ghost use Rattle.walk_rules.specs.Relation.{IsPlace};
 ghost use Rattle.walk_rules.specs.Walk.{choice_at, decisions};
 ghost use Rattle.packet_walk.specs.Flight.{IsCounted, IsInFlight, StagesAs, advanced, entering, stage_in, staged};
 
-use crate::event::STAGES;
 use base::NoMemory;
 use icmp6_errors::IcmpSlot;
 use net_model::Net;
 use node_stage::{Content, stage};
 use std::alloc::Global;
 use std::marker::Model;
-use walk_rules::{Ended, Outcome, Place, ended_by, next_place};
+use walk_rules::{Ended, MAX_STAGES, Outcome, Place, ended_by, next_place};
 
 /// A packet in flight.
 #[derive(Debug, Drop)]
@@ -23,7 +22,7 @@ pub(crate) struct InFlight<'a> {
     place: Place,
     choices: &'a [u32],
     decisions: u32,
-    stages: u32,
+    stages: usize,
     ended: Option<Ended>,
 }
 
@@ -112,7 +111,7 @@ impl<'a> InFlight<'a> {
         match next_place(net, &self.place, outcome) {
             Some(next) => {
                 self.place = next;
-                if self.stages >= STAGES {
+                if self.stages >= MAX_STAGES {
                     self.ended = Some(Ended::Stages);
                 }
             }

@@ -12,8 +12,6 @@ ghost use Rattle.packet_walk.specs.Flight.{Flight, InFlight, IsCounted, entered,
 ghost use Rattle.packet_walk.specs.Rest.{Move, end_from, given_to, rest_of, turns_of};
 ghost use Rattle.packet_walk.specs.Schedule.{Coming, all_of, comings_of, frame_of, scheduled, stages_of, steps_in, steps_of};
 
-use crate::event::STAGES;
-
 /// The rest of a packet's walk is its next stage, and then the rest of the walk after it, and both
 /// end alike; of a packet that has ended there is none. The rest of one that enters is its walk of at
 /// most 10,000 stages (own rule).
@@ -27,7 +25,7 @@ pub fn a_turn_takes_the_next_stage()
     ensures over_end { (net : Network) (p : InFlight) (end : Ended) → p.ended ≡ Some end →
         end_from net p ≡ end }
     ensures first { (net : Network) (content : Content) (place : Place) (choices : List ℕ) →
-        let walk = walk_of STAGES net (Some place) content (choice_at choices) 0 in
+        let walk = walk_of MAX_STAGES net (Some place) content (choice_at choices) 0 in
         let p = entering content place choices in
         (rest_of net p ≡ walk) × (end_from net p ≡ end_of net walk) }
 {}
@@ -54,7 +52,7 @@ pub fn a_packet_takes_its_own_walk()
         packet_of f number ≡ Some (entering content place choices) →
         given_to number f moves
         ≡ take (turns_of number moves)
-        (walk_of STAGES f.net (Some place) content (choice_at choices) 0) }
+        (walk_of MAX_STAGES f.net (Some place) content (choice_at choices) 0) }
 {}
 
 /// Whatever the schedule, a packet takes all the steps of its walk that were still to come, in their

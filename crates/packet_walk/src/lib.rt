@@ -13,7 +13,7 @@ mod in_flight;
 mod laws;
 mod schedule;
 
-pub use event::{Event, STAGES};
+pub use event::Event;
 pub use flight::Flight;
 pub use in_flight::decisions_of;
 pub use laws::{

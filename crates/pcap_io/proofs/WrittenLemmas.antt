@@ -5,7 +5,8 @@ use Rattle.std.proofs.lemmas.Bool.{le-ltb}
 use Rattle.std.proofs.lemmas.List.{append-nil}
 use Rattle.pcap_io.specs.declared.frame.Frame.{Frame}
 use Rattle.pcap_io.specs.declared.head.LinkType.TheVariants as links
-use Rattle.pcap_io.specs.declared.numbers.TheConstants.{HEAD_LEN, MAX_FRAMES, MAX_PACKET_LEN, SNAPLEN}
+use Rattle.pcap_io.specs.declared.numbers.TheConstants.{HEAD_LEN, MAX_FRAMES, SNAPLEN}
+use Rattle.srv6_rules.specs.declared.numbers.TheConstants.{MAX_PACKET_LEN}
 use Rattle.pcap_io.specs.Head.{Unread, FitsHead, head_of}
 use Rattle.pcap_io.specs.Frames.{Spelled, Fits, HoldsNoFrame, frame_bytes, frame_len, by_version, packet_in, body_of, with_front, numbered_from, frames_of}
 use Rattle.pcap_io.specs.Capture.{capture_with, capture_behind, capture_of, written_head, written_head_bytes, written_frame, written_frame_bytes}

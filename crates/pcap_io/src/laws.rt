@@ -3,7 +3,8 @@
 ghost use Rattle.std.specs.Prelude.{◌≡◌, ◌<◌, ◌≤◌, ◌+◌, ◌^◌, ℕ, suc, Bool, List, [], ◌∷◌, ◌++◌, length, drop, All, Ok, None};
 ghost use Rattle.std.specs.List.{flat_map};
 ghost use Rattle.pcap_io.specs.declared.head.CaptureHead.{CaptureHead};
-ghost use Rattle.pcap_io.specs.declared.numbers.TheConstants.{HEAD_LEN, MAX_FRAMES, MAX_PACKET_LEN};
+ghost use Rattle.pcap_io.specs.declared.numbers.TheConstants.{HEAD_LEN, MAX_FRAMES};
+ghost use Rattle.srv6_rules.specs.declared.numbers.TheConstants.{MAX_PACKET_LEN};
 ghost use Rattle.pcap_io.specs.Head.{Unread, FitsHead, head_bytes, head_of};
 ghost use Rattle.pcap_io.specs.Frames.{Spelled, Fits, Reading, Splits, HoldsNoFrame, frame_bytes, frame_len, behind, by_version, with_front, numbered_from, frames_of};
 ghost use Rattle.pcap_io.specs.Capture.{written_head, written_head_bytes, written_frame_bytes, capture_of};

@@ -23,7 +23,7 @@ pub use laws::{
     frames_are_spelled, heads_are_spelled, no_frame_is_spelled_there, spelled_frames_are_read,
     spelled_heads_are_read, written_captures_are_read,
 };
-pub use numbers::{HEAD_LEN, MAX_FRAMES, MAX_PACKET_LEN, SNAPLEN};
+pub use numbers::{HEAD_LEN, MAX_FRAMES, SNAPLEN};
 pub use read::read_capture;
 pub use reader::FrameReader;
 pub use write::{write_frame, write_head};

@@ -12,10 +12,6 @@ pub const HEAD_LEN: usize = 24;
 /// Frames of a capture that are read. (own rule)
 pub const MAX_FRAMES: u32 = 65536;
 
-/// The longest packet that is written, in bytes: an IPv6 header and the greatest payload (RFC 8200
-/// section 3).
-pub const MAX_PACKET_LEN: usize = 65575;
-
 /// The longest frame that the head says that is written, in bytes. (own rule)
 pub const SNAPLEN: u32 = 262_144;
 

@@ -4,9 +4,10 @@ ghost use Rattle.std.specs.Prelude.{◌≡◌, ◌++◌, ◌≤◌, true, length
 ghost use Rattle.pcap_io.specs.Capture.{written_head_bytes, written_frame_bytes};
 ghost use Rattle.pcap_io.specs.Frames.{numbers_of_frame};
 
-use crate::numbers::{HEAD_LEN, MAJOR, MAX_PACKET_LEN, MICROS_MAGIC, MINOR, RAW_IP, SNAPLEN};
+use crate::numbers::{HEAD_LEN, MAJOR, MICROS_MAGIC, MINOR, RAW_IP, SNAPLEN};
 use base::NoMemory;
 use byteorder::{ByteOrder, LittleEndian};
+use srv6_rules::numbers::MAX_PACKET_LEN;
 
 /// The head that is written.
 #[tactic(auto, unfolding(crate::specs::Capture::written_head_bytes, crate::specs::Head::head_bytes, crate::specs::Numbers::number_bytes))]

@@ -3,7 +3,7 @@
 ghost use Rattle.std.specs.Prelude.{◌≡◌, ◌+◌, ◌-◌, ◌<◌, ◌≤◌, ◌++◌, [], length, take, drop, replicate, slice_set, IfOk, OnOk, OnErr};
 
 use base::NoMemory;
-use srv6_rules::numbers::MOST_LEN;
+use srv6_rules::numbers::MAX_PACKET_LEN;
 use std::alloc::Global;
 use std::marker::Model;
 
@@ -32,7 +32,7 @@ impl PktBuf {
 
     /// Bytes with so many spare ones in front (own rule).
     pub fn new(alloc: Global, front: usize, bytes: &[u8]) -> Result<PktBuf, NoMemory>
-        requires { length bytes.now ≤ MOST_LEN }
+        requires { length bytes.now ≤ MAX_PACKET_LEN }
         ensures { IfOk result (λ b. b ≡ record { bytes = bytes.now; front = front }) }
     {
         let mut held = Vec::new(alloc);

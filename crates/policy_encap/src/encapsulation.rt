@@ -9,12 +9,10 @@ ghost use Rattle.policy_encap.specs.declared.faults.PushFault.TheVariants as pus
 ghost use Rattle.policy_encap.specs.declared.faults.EncapFault.TheVariants as encapsulating;
 
 use crate::faults::{EncapFault, PushFault};
-use crate::headers::{
-    MOST_PAYLOAD_LEN, bytes_fit, front_len, outer_fits, payload_len, put_headers,
-};
+use crate::headers::{MAX_PAYLOAD_LEN, bytes_fit, front_len, outer_fits, payload_len, put_headers};
 use crate::inner::{inner_hop, inner_len, lower};
 use pkt_buf::PktBuf;
-use srv6_rules::numbers::MOST_LEN;
+use srv6_rules::numbers::MAX_PACKET_LEN;
 use srv6_rules::{Family, Policy};
 
 /// Puts a policy's header in front of the bytes of a packet of a family, in the reduced form
@@ -31,7 +29,7 @@ pub fn push(
     buf: &mut PktBuf,
 ) -> Result<(), PushFault>
     requires policy { IsPolicy policy.now }
-    requires packet { length buf.old.bytes ≤ MOST_LEN }
+    requires packet { length buf.old.bytes ≤ MAX_PACKET_LEN }
     ensures answer { IsPushed (pushed_by policy.now reduced inner buf.old.bytes)
         buf.old.bytes buf.new.bytes result }
     ensures memory { IfErr result (λ fault. fault ≡ pushing.NoMemory
@@ -42,7 +40,7 @@ pub fn push(
     ensures err { OnErr result (buf.new ≡ buf.old) }
 {
     let length = payload_len(policy, reduced, buf.len());
-    if length > MOST_PAYLOAD_LEN {
+    if length > MAX_PAYLOAD_LEN {
         return Err(PushFault::TooBig {
             length: length as u32,
         });
@@ -79,7 +77,7 @@ pub fn encap(policy: &Policy, inner: Family, buf: &mut PktBuf) -> Result<(), Enc
     }
     let inner_len = inner_len(inner, buf.view());
     let length = payload_len(policy, policy.reduced, inner_len);
-    if length > MOST_PAYLOAD_LEN {
+    if length > MAX_PAYLOAD_LEN {
         return Err(EncapFault::TooBig {
             length: length as u32,
         });

@@ -10,15 +10,16 @@ ghost use Rattle.srh_codec.specs.Writing.{header_over, numbers_of};
 ghost use Rattle.policy_encap.specs.Headers.{FitsOuter, framed, listed, routing_bytes};
 
 use pkt_buf::PktBuf;
-use srh_codec::{MOST_ENTRIES, SrhParts, write_srh};
+use srh_codec::{SrhParts, write_srh};
 use srv6_rules::numbers::{
-    IPV4_INSIDE, IPV6_HEADER_LEN, IPV6_INSIDE, MOST_LEN, ROUTING, SEGMENT_LEN, SEGMENT_LIST_AT,
+    IPV4_INSIDE, IPV6_HEADER_LEN, IPV6_INSIDE, MAX_PACKET_LEN, MAX_SEGMENTS, ROUTING, SEGMENT_LEN,
+    SEGMENT_LIST_AT,
 };
 use srv6_rules::{Family, Policy};
 use v6_addr::Addr;
 
 /// The greatest payload length: 65,535 (RFC 8200 section 3).
-pub(crate) const MOST_PAYLOAD_LEN: usize = MOST_LEN - IPV6_HEADER_LEN;
+pub(crate) const MAX_PAYLOAD_LEN: usize = MAX_PACKET_LEN - IPV6_HEADER_LEN;
 
 /// The value that names a packet of a family inside a packet.
 fn inner_kind(inner: Family) -> u8
@@ -46,7 +47,7 @@ fn listed(policy: &Policy, reduced: bool) -> &[Addr]
 
 /// The length of the segment routing header; there is none over no segments.
 fn routing_len(listed: &[Addr]) -> usize
-    requires { length listed.now ≤ MOST_ENTRIES }
+    requires { length listed.now ≤ MAX_SEGMENTS }
     ensures { result ≡ routing_bytes listed.now }
 {
     if listed.is_empty() {
@@ -59,8 +60,8 @@ fn routing_len(listed: &[Addr]) -> usize
 /// The payload length of the outer packet round so many bytes.
 pub(crate) fn payload_len(policy: &Policy, reduced: bool, inner_len: usize) -> usize
     requires policy { IsPolicy policy.now }
-    requires inner { inner_len ≤ MOST_LEN }
-    ensures most { result ≤ SEGMENT_LIST_AT + SEGMENT_LEN * MOST_ENTRIES + inner_len }
+    requires inner { inner_len ≤ MAX_PACKET_LEN }
+    ensures most { result ≤ SEGMENT_LIST_AT + SEGMENT_LEN * MAX_SEGMENTS + inner_len }
     ensures value { (inner : FamilyValue) (bytes : List ℕ) → length bytes ≡ inner_len
         → result ≡ length (outer_by policy.now reduced inner bytes).payload }
 {
@@ -79,7 +80,7 @@ pub(crate) fn front_len(policy: &Policy, reduced: bool) -> usize
 fn put_outer(buf: &mut PktBuf, policy: &Policy, next_header: u8)
     requires policy { IsPolicy policy.now }
     requires room { IPV6_HEADER_LEN ≤ buf.old.front }
-    requires fits { length buf.old.bytes ≤ MOST_PAYLOAD_LEN }
+    requires fits { length buf.old.bytes ≤ MAX_PAYLOAD_LEN }
     ensures { buf.new ≡ record {
       bytes = spelling (framed policy.now next_header buf.old.bytes);
       front = buf.old.front - IPV6_HEADER_LEN;
@@ -99,13 +100,13 @@ fn put_outer(buf: &mut PktBuf, policy: &Policy, next_header: u8)
 /// at the front of bytes (RFC 8754 sections 2 and 4.1).
 fn write_routing(out: &mut [u8], listed: &[Addr], next_header: u8, segments_left: u8)
     requires some { 0 < length listed.now }
-    requires most { length listed.now ≤ MOST_ENTRIES }
+    requires most { length listed.now ≤ MAX_SEGMENTS }
     requires room { routing_bytes listed.now ≤ length out.old }
     ensures { out.new
         ≡ srh_spelling (header_over next_header segments_left (reverse (numbers_of listed.now)))
         ++ drop (routing_bytes listed.now) out.old }
 {
-    let mut room = [Addr { value: 0 }; MOST_ENTRIES];
+    let mut room = [Addr { value: 0 }; MAX_SEGMENTS];
     let (entries, _) = room.split_at_mut(listed.len());
     entries.copy_from_slice(listed);
     entries.reverse();
@@ -121,7 +122,7 @@ fn write_routing(out: &mut [u8], listed: &[Addr], next_header: u8, segments_left
 /// Puts that header in front of a packet.
 fn put_routing(buf: &mut PktBuf, listed: &[Addr], next_header: u8, segments_left: u8)
     requires some { 0 < length listed.now }
-    requires most { length listed.now ≤ MOST_ENTRIES }
+    requires most { length listed.now ≤ MAX_SEGMENTS }
     requires room { routing_bytes listed.now ≤ buf.old.front }
     ensures { buf.new ≡ record {
       bytes = srh_spelling
@@ -139,7 +140,7 @@ pub(crate) fn put_headers(buf: &mut PktBuf, policy: &Policy, reduced: bool, inne
     requires policy { IsPolicy policy.now }
     requires room { header_bytes reduced (length policy.now.segments) ≤ buf.old.front }
     requires fits { length (outer_by policy.now reduced inner buf.old.bytes).payload
-        ≤ MOST_PAYLOAD_LEN }
+        ≤ MAX_PAYLOAD_LEN }
     ensures { buf.new ≡ record {
       bytes = spelling (outer_by policy.now reduced inner buf.old.bytes);
       front = buf.old.front - header_bytes reduced (length policy.now.segments);

@@ -6,13 +6,13 @@ ghost use Rattle.policy_encap.specs.Inner.{HoldsInner};
 
 use ip6_headers::lower_ttl;
 use srv6_rules::Family;
-use srv6_rules::numbers::{HOP_LIMIT_AT, MOST_LEN, TTL_AT};
+use srv6_rules::numbers::{HOP_LIMIT_AT, MAX_PACKET_LEN, TTL_AT};
 
 /// How many the bytes of a packet are.
 pub(crate) fn inner_len(inner: Family, bytes: &[u8]) -> usize
     requires { HoldsInner inner bytes.now }
     ensures len { result ≡ length bytes.now }
-    ensures most { result ≤ MOST_LEN }
+    ensures most { result ≤ MAX_PACKET_LEN }
 {
     bytes.len()
 }

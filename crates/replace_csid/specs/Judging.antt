@@ -4,14 +4,14 @@ use Rattle.srv6_rules.specs.Packet.{Packet}
 use Rattle.srv6_rules.specs.CompressedSteps.{Move, ReplaceStep, Moved, AtEnd, Dropped, moved}
 use Rattle.ip6_headers.specs.Items.{fault_of}
 use Rattle.replace_csid.specs.declared.judge.Step.{Step}
-use Rattle.replace_csid.specs.declared.judge.Judged.{Judged}
-use Rattle.replace_csid.specs.declared.judge.Judged.TheVariants as judgements
+use Rattle.replace_csid.specs.declared.judge.ListMove.{ListMove}
+use Rattle.replace_csid.specs.declared.judge.ListMove.TheVariants as judgements
 
 abbrev pub step_view : Step → Move
 step_view s = record { segments_left = s.segments_left; destination = s.destination.value; ended = s.end }
 
 -- what is judged is what comes of the header, and a move's hop limit can be lowered
-abbrev pub IsJudged : Packet → ℕ → ReplaceStep → Judged → Type 0
-IsJudged p at step (judgements.Move s) = (step ≡ Moved (moved p at (step_view s)) s.end) × (1 < p.hop_limit)
-IsJudged p at step judgements.End = step ≡ AtEnd
-IsJudged p at step (judgements.Refuse fault) = step ≡ Dropped (fault_of fault)
+abbrev pub IsListMove : Packet → ℕ → ReplaceStep → ListMove → Type 0
+IsListMove p at step (judgements.Move s) = (step ≡ Moved (moved p at (step_view s)) s.end) × (1 < p.hop_limit)
+IsListMove p at step judgements.End = step ≡ AtEnd
+IsListMove p at step (judgements.Refuse fault) = step ≡ Dropped (fault_of fault)

@@ -5,12 +5,12 @@ ghost use Rattle.srv6_rules.specs.Srh.{entries_of};
 ghost use Rattle.srv6_rules.specs.Compressed.{csid_count};
 ghost use Rattle.srv6_rules.specs.CompressedSteps.{IsReplace, csid_len_of, has_bad_list, is_ended, move_of, replace_step, segments_fault, to_csid, to_entry};
 ghost use Rattle.ip6_headers.specs.Items.{fault_of};
-ghost use Rattle.replace_csid.specs.Judging.{IsJudged, step_view};
+ghost use Rattle.replace_csid.specs.Judging.{IsListMove, step_view};
 
 use crate::csids::{index_in, is_ended, lacks_entry, listed_csid, replaced};
 use ip6_headers::{Fault, Ip6View};
 use srh_codec::{SrhView, tlvs};
-use srv6_rules::numbers::{MOST_LEN, SEGMENTS_LEFT_AT};
+use srv6_rules::numbers::{MAX_PACKET_LEN, SEGMENTS_LEFT_AT};
 use srv6_rules::{Compression, Reason};
 use v6_addr::Addr;
 
@@ -24,7 +24,7 @@ pub(crate) struct Step {
 
 /// What is done at a segment routing header.
 #[derive(Clone, Copy, Debug)]
-pub(crate) enum Judged {
+pub(crate) enum ListMove {
     Move { step: Step },
     End,
     Refuse { fault: Fault },
@@ -32,7 +32,7 @@ pub(crate) enum Judged {
 
 /// The segments of the header at a place are out of range, which is a fault in Segments Left.
 fn segments_fault(at: usize) -> Fault
-    requires { at ≤ MOST_LEN }
+    requires { at ≤ MAX_PACKET_LEN }
     ensures { fault_of result ≡ segments_fault at }
 {
     Fault {
@@ -123,34 +123,34 @@ pub(crate) fn judge(
     packet: &Ip6View<'_>,
     at: usize,
     srh: &SrhView<'_>,
-) -> Judged
+) -> ListMove
     requires replace { IsReplace compression }
-    requires place { at ≤ MOST_LEN }
-    ensures { IsJudged packet.now at (replace_step compression packet.now at srh.now) result }
+    requires place { at ≤ MAX_PACKET_LEN }
+    ensures { IsListMove packet.now at (replace_step compression packet.now at srh.now) result }
 {
     let destination = packet.destination();
     if lacks_entry(compression, srh, destination) {
-        return Judged::Refuse {
+        return ListMove::Refuse {
             fault: segments_fault(at),
         };
     }
     if is_ended(compression, srh, srh.segments_left(), destination) {
-        return Judged::End;
+        return ListMove::End;
     }
     if packet.hop_limit() <= 1 {
-        return Judged::Refuse {
+        return ListMove::Refuse {
             fault: Fault::of(Reason::HopLimit),
         };
     }
     if has_bad_list(compression, srh, destination) {
-        return Judged::Refuse {
+        return ListMove::Refuse {
             fault: segments_fault(at),
         };
     }
     if let Err(fault) = tlvs(srh, at) {
-        return Judged::Refuse { fault };
+        return ListMove::Refuse { fault };
     }
-    Judged::Move {
+    ListMove::Move {
         step: step_from(compression, srh, destination),
     }
 }

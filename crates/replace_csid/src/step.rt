@@ -6,11 +6,11 @@ ghost use Rattle.srv6_rules.specs.Srh.{srh_of};
 ghost use Rattle.srv6_rules.specs.Chain.{from_place, is_whole, routing};
 ghost use Rattle.srv6_rules.specs.CompressedSteps.{IsReplace, is_at_end, moved};
 ghost use Rattle.ip6_headers.specs.Reading.{HoldsPacket};
-ghost use Rattle.replace_csid.specs.Judging.{IsJudged, step_view};
+ghost use Rattle.replace_csid.specs.Judging.{IsListMove, step_view};
 ghost use Rattle.replace_csid.specs.Replacing.{IsReplaced, step_at, with_move};
 
 use crate::csids::{is_ended, lacks_entry};
-use crate::judge::{Judged, Step, judge};
+use crate::judge::{ListMove, Step, judge};
 use ip6_headers::{Ip6Edit, Ip6View};
 use srh_codec::SrhView;
 use srv6_rules::numbers::{IPV6_HEADER_LEN, SEGMENTS_LEFT_AT};
@@ -50,12 +50,12 @@ fn header_at<'a>(packet: &Ip6View<'a>, at: usize) -> SrhView<'a>
 }
 
 /// Judges the packet's segment routing header at a place.
-fn judge_bytes(compression: Compression, at: usize, bytes: &[u8]) -> Judged
+fn judge_bytes(compression: Compression, at: usize, bytes: &[u8]) -> ListMove
     requires packet { HoldsPacket bytes.now }
     requires replace { IsReplace compression }
     requires behind { header_len ≤ at }
     requires whole { is_whole routing (from_place (packet_at bytes.now) at) ≡ true }
-    ensures { IsJudged (packet_at bytes.now) at (step_at compression bytes.now at) result }
+    ensures { IsListMove (packet_at bytes.now) at (step_at compression bytes.now at) result }
 {
     let packet = Ip6View::over(bytes);
     let srh = header_at(&packet, at);
@@ -119,12 +119,12 @@ pub fn replace(compression: Compression, at: usize, bytes: &mut [u8]) -> Replace
     ensures { IsReplaced compression at bytes.old bytes.new result }
 {
     match judge_bytes(compression, at, bytes) {
-        Judged::Move { step } => {
+        ListMove::Move { step } => {
             write_step(bytes, at, step);
             ReplaceOutcome::Moved { end: step.end }
         }
-        Judged::End => ReplaceOutcome::End,
-        Judged::Refuse { fault } => ReplaceOutcome::Drop {
+        ListMove::End => ReplaceOutcome::End,
+        ListMove::Refuse { fault } => ReplaceOutcome::Drop {
             reason: fault.reason,
             at: fault.at,
         },

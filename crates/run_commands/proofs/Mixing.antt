@@ -15,7 +15,7 @@ use Rattle.srv6_rules.specs.declared.sid.Family.TheVariants.{V6, V4}
 use Rattle.srv6_rules.specs.Packet.{Content, entered}
 use Rattle.net_model.specs.Network.{Network}
 use Rattle.walk_rules.specs.declared.place.Place.{Place}
-use Rattle.walk_rules.specs.Walk.{Step, walk_of, end_of}
+use Rattle.walk_rules.specs.Walk.{Stage, walk_of, end_of}
 use Rattle.packet_walk.specs.Schedule.{Coming, Taken, all_of, scheduled, steps_of}
 use Rattle.packet_walk.proofs.PublicLaws.{stages-scheduled}
 use Rattle.command_inputs.specs.declared.packets.Packets.{Packets}
@@ -24,13 +24,13 @@ use Rattle.run_commands.specs.Capture.{frame_of_gave, frames_of}
 use Rattle.run_commands.specs.Run as run
 use Rattle.command_inputs.specs.Packets.{reading_of}
 use Rattle.run_commands.specs.Scheduled.{coming, frame_of_stage, frames_sent, line_of_stage, line_of_walk, lines_told, pieces_of_stages}
-use Rattle.trace_replay.specs.declared.limits.TheConstants.{STAGES}
+use Rattle.walk_rules.specs.declared.limits.TheConstants.{MAX_STAGES}
 use Rattle.command_output.specs.Lines.{packet_line}
 use Rattle.command_output.specs.Pieces.{bytes_for_err, bytes_for_out}
 use Rattle.run_commands.proofs.Scheduling.{first-step}
 
 -- the frames of all of a packet's stages are those of its walk
-frames-all : (number : ℕ) (steps : List Step) → flat_map frame_of_stage (all_of number steps) ≡ frames_of number steps
+frames-all : (number : ℕ) (steps : List Stage) → flat_map frame_of_stage (all_of number steps) ≡ frames_of number steps
 frames-all number [] = refl
 frames-all number (s ∷ behind) = ap (λ (bytes : List ℕ). frame_of_gave number s.gave ++ bytes) (frames-all number behind)
 
@@ -52,7 +52,7 @@ module _ (net : Network) where
   err-of-stages (t ∷ more) = ap (λ (bytes : List ℕ). line_of_stage net t ++ bytes) (err-of-stages more)
 
   -- the lines of all of a packet's stages are the one of its walk
-  lines-all : (number : ℕ) (steps : List Step) → flat_map (line_of_stage net) (all_of number steps) ≡ line_of_walk net number steps
+  lines-all : (number : ℕ) (steps : List Stage) → flat_map (line_of_stage net) (all_of number steps) ≡ line_of_walk net number steps
   lines-all number [] = refl
   lines-all number (s ∷ []) = append-nil (packet_line net number (end_of net (s ∷ [])))
   lines-all number (s ∷ t ∷ behind) = lines-all number (t ∷ behind)
@@ -65,10 +65,10 @@ module _ (net : Network) where
 
   -- a walk has a stage
   pub walk-steps : (number : ℕ) (place : Place) (content : Content) (pick : ℕ → ℕ)
-      → All (λ (c : Coming). 0 < length c.steps) (coming number (walk_of STAGES net (Some place) content pick 0))
+      → All (λ (c : Coming). 0 < length c.steps) (coming number (walk_of MAX_STAGES net (Some place) content pick 0))
   walk-steps number place content pick =
-      All-cons (λ (c : Coming). 0 < length c.steps) (record { number = number; steps = walk_of STAGES net (Some place) content pick 0 }) []
-      (subst (λ (steps : List Step). 0 < length steps) (sym (first-step net number place content pick)) (omega arith))
+      All-cons (λ (c : Coming). 0 < length c.steps) (record { number = number; steps = walk_of MAX_STAGES net (Some place) content pick 0 }) []
+      (subst (λ (steps : List Stage). 0 < length steps) (sym (first-step net number place content pick)) (omega arith))
       (All-nil (λ (c : Coming). 0 < length c.steps))
 
 -- so each packet of frames has, where each frame's packet has
@@ -100,7 +100,7 @@ are-from-packets (Capture head input) = are-from head MAX_FRAMES 1 (drop HEAD_LE
 -- so the packets of frames differ in their numbers, where each frame has one at most
 
 abbrev pub IsOne : (Frame → List Coming) → Type 1
-IsOne packets = (frame : Frame) (P : List Coming → Type 0) → P [] → ((steps : List Step) → P (coming frame.number steps)) → P (packets frame)
+IsOne packets = (frame : Frame) (P : List Coming → Type 0) → P [] → ((steps : List Stage) → P (coming frame.number steps)) → P (packets frame)
 
 abbrev pub numbers : List Coming → List ℕ
 numbers comings = map (λ (c : Coming). c.number) comings
@@ -125,7 +125,7 @@ module _ (packets : Frame → List Coming) (one : IsOne packets) where
 -- of the packets of `run`
 
 run-one : (net : Network) (node : ℕ) (choices : List ℕ) (number : ℕ) (body : Body) (P : List Coming → Type 0)
-    → P [] → ((steps : List Step) → P (coming number steps)) → P (run.coming_by net node choices number body)
+    → P [] → ((steps : List Stage) → P (coming number steps)) → P (run.coming_by net node choices number body)
 run-one net node choices number (bodies.V6 packet) P none some = some _
 run-one net node choices number (bodies.V4 packet) P none some = some _
 run-one net node choices number bodies.ShortFrame P none some = none

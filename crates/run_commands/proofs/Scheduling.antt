@@ -11,10 +11,10 @@ use Rattle.srv6_rules.specs.declared.sid.Family.TheVariants.{V6, V4}
 use Rattle.srv6_rules.specs.Packet.{Content, entered}
 use Rattle.net_model.specs.Network.{Network}
 use Rattle.walk_rules.specs.declared.place.Place.{Place}
-use Rattle.walk_rules.specs.Walk.{Step, walk_of, walk_on, stage_of, end_of}
+use Rattle.walk_rules.specs.Walk.{Stage, walk_of, walk_on, stage_of, end_of}
 use Rattle.walk_rules.proofs.PublicLaws.{walk_of-suc}
 use Rattle.packet_walk.specs.Schedule.{Coming, Taken, first_of, all_of, one_by_one, scheduled}
-use Rattle.trace_replay.specs.declared.limits.TheConstants.{STAGES}
+use Rattle.walk_rules.specs.declared.limits.TheConstants.{MAX_STAGES}
 use Rattle.run_commands.specs.Capture.{frame_of_gave, frames_of}
 use Rattle.srx_edge.specs.Steps.{Ending}
 use Rattle.command_output.specs.Lines.{packet_line}
@@ -27,7 +27,7 @@ use Rattle.command_output.proofs.PublicLaws.{all_same, marked, bytes_in_order-ap
 -- a packet's frames and then its line are the pieces of its stages, one after the other
 
 module _ (net : Network) where
-  packet-same : (number : ℕ) (s : Step) (more : List Step)
+  packet-same : (number : ℕ) (s : Stage) (more : List Stage)
       → bytes_in_order (packet_pieces net number (s ∷ more)) ≡ bytes_in_order (pieces_of_stages net (all_of number (s ∷ more)))
   packet-same number s [] =
       ap (λ (frame : List ℕ). marked ToOut frame ++ (marked ToErr (packet_line net number (end_of net (s ∷ []))) ++ []))
@@ -42,20 +42,20 @@ module _ (net : Network) where
   -- a packet of a walk, which has a stage
 
   module _ (number : ℕ) (place : Place) (content : Content) (pick : ℕ → ℕ) where
-    abbrev steps : List Step
-    steps = walk_of STAGES net (Some place) content pick 0
+    abbrev steps : List Stage
+    steps = walk_of MAX_STAGES net (Some place) content pick 0
 
-    pub first-step : steps ≡ stage_of net place content (pick 0) ∷ walk_on (STAGES - 1) net (stage_of net place content (pick 0)) pick 0
+    pub first-step : steps ≡ stage_of net place content (pick 0) ∷ walk_on (MAX_STAGES - 1) net (stage_of net place content (pick 0)) pick 0
     first-step =
-        let one_more : STAGES ≡ suc (STAGES - 1) = omega arith in
-        ap (λ (n : ℕ). walk_of n net (Some place) content pick 0) one_more ∙ walk_of-suc (STAGES - 1) net place content pick 0
+        let one_more : MAX_STAGES ≡ suc (MAX_STAGES - 1) = omega arith in
+        ap (λ (n : ℕ). walk_of n net (Some place) content pick 0) one_more ∙ walk_of-suc (MAX_STAGES - 1) net place content pick 0
 
     pub walk-same : bytes_in_order (packet_pieces net number steps) ≡ bytes_in_order (pieces_of_stages net (all_of number steps))
     walk-same =
-        ap (λ (all : List Step). bytes_in_order (packet_pieces net number all)) first-step
+        ap (λ (all : List Stage). bytes_in_order (packet_pieces net number all)) first-step
         ∙ (packet-same number (stage_of net place content (pick 0))
-        (walk_on (STAGES - 1) net (stage_of net place content (pick 0)) pick 0)
-        ∙ sym (ap (λ (all : List Step). bytes_in_order (pieces_of_stages net (all_of number all))) first-step))
+        (walk_on (MAX_STAGES - 1) net (stage_of net place content (pick 0)) pick 0)
+        ∙ sym (ap (λ (all : List Stage). bytes_in_order (pieces_of_stages net (all_of number all))) first-step))
 
     pub one-same : bytes_in_order (packet_pieces net number steps) ≡ bytes_in_order (pieces_of_stages net (one_by_one (coming number steps)))
     one-same = walk-same
@@ -80,8 +80,8 @@ module _ (net : Network) where
 -- one packet takes its stages in their order, whatever the schedule
 
 module _ (number : ℕ) where
-  by-entry : (entry : ℕ) (schedule : List ℕ) (steps : List Step)
-      → ((left : List Step) → scheduled schedule (coming number left) ≡ all_of number left)
+  by-entry : (entry : ℕ) (schedule : List ℕ) (steps : List Stage)
+      → ((left : List Stage) → scheduled schedule (coming number left) ≡ all_of number left)
       → (b : Bool) → nat_eq entry number ≡ b
       → first_of entry (if b then steps else []) ++ scheduled schedule (if b then coming number (drop 1 steps) else coming number steps)
       ≡ all_of number steps
@@ -91,7 +91,7 @@ module _ (number : ℕ) where
       ap₂ (λ (n : ℕ) (more : List Taken). record { number = n; step = s; behind = behind } ∷ more) same (alone behind)
   by-entry entry schedule steps alone false is = alone steps
 
-  pub alone : (schedule : List ℕ) (steps : List Step) → scheduled schedule (coming number steps) ≡ all_of number steps
+  pub alone : (schedule : List ℕ) (steps : List Stage) → scheduled schedule (coming number steps) ≡ all_of number steps
   alone [] steps = append-nil (all_of number steps)
   alone (entry ∷ schedule) steps = by-entry entry schedule steps (alone schedule) (nat_eq entry number) refl
 

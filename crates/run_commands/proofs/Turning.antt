@@ -10,10 +10,10 @@ use Rattle.walk_rules.specs.declared.place.Ended.{Ended}
 use Rattle.walk_rules.specs.declared.place.Outcome.{Outcome}
 use Rattle.walk_rules.specs.Laws.{TellsOfError}
 use Rattle.walk_rules.specs.Treatment.{step_of}
-use Rattle.walk_rules.specs.Walk.{Step, choice_at, end_of}
+use Rattle.walk_rules.specs.Walk.{Stage, choice_at, end_of}
 use Rattle.walk_rules.proofs.PublicLaws.{stage-step, step-tells}
 use Rattle.packet_walk.specs.declared.event.Event.{Event}
-use Rattle.packet_walk.specs.declared.event.TheConstants.{STAGES}
+use Rattle.walk_rules.specs.declared.limits.TheConstants.{MAX_STAGES}
 use Rattle.packet_walk.specs.Flight.{InFlight, Flight, IsGiven, IsInFlight, Turns, packet_of, stage_in, staged, turned}
 use Rattle.packet_walk.specs.Rest.{end_where, rest_of}
 use Rattle.packet_walk.specs.Schedule.{Taken, Progress, IsOf, IsTurnOf, due, frame_of, next_of}
@@ -44,7 +44,7 @@ to-there o x P there h = subst (λ (p : Option _). IfSome p P) (sym there) h
 
 -- a packet in flight takes its next stage
 module _ (net : Network) (p : InFlight) (keeps : Keeps net) (is : IsInFlight net p) (going : p.ended ≡ None) where
-  abbrev step : Step
+  abbrev step : Stage
   step = stage_in net p
 
   abbrev after : InFlight
@@ -59,7 +59,7 @@ module _ (net : Network) (p : InFlight) (keeps : Keeps net) (is : IsInFlight net
   stage-tells : TellsOfError step.gave.outcome step.gave.error
   stage-tells = step-tells net p.place p.content choice
 
-  left : p.stages < STAGES
+  left : p.stages < MAX_STAGES
   left = is.counted.left going
 
   -- it ends as its last step does
@@ -68,7 +68,7 @@ module _ (net : Network) (p : InFlight) (keeps : Keeps net) (is : IsInFlight net
       sym (end-ended net after end over)
       ∙ (end-going net p going left
       ∙ (ap (end_where (end_of net (rest_of net p))) going
-      ∙ ap (end_of net) (rest-going net p going left ∙ ap (λ (rest : List Step). step ∷ rest) (rest-ended net after end over))))
+      ∙ ap (end_of net) (rest-going net p going left ∙ ap (λ (rest : List Stage). step ∷ rest) (rest-ended net after end over))))
 
   line-where : (number : ℕ) (e : Option Ended) → after.ended ≡ e → line_behind net number step (rest_of net after) ≡ line_by net number e
   line-where number None on =

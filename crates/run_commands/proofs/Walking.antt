@@ -12,7 +12,7 @@ use Rattle.walk_rules.specs.declared.place.Place.{Place}
 use Rattle.walk_rules.specs.declared.place.Outcome.TheVariants as outcomes
 use Rattle.walk_rules.specs.declared.place.Ended.TheVariants as ends
 use Rattle.walk_rules.specs.Treatment.{Gave, step_of}
-use Rattle.walk_rules.specs.Walk.{Step, walk_of, next_place, decisions, end_by, end_of}
+use Rattle.walk_rules.specs.Walk.{Stage, walk_of, next_place, decisions, end_by, end_of}
 use Rattle.walk_rules.proofs.PublicLaws.{walk_of-suc, walk_of-zero, walk_of-none}
 use Rattle.packet_walk.proofs.PublicLaws.{end_of-cons, goes_on}
 use Rattle.command_output.specs.declared.halt.Failure.{Failure}
@@ -22,18 +22,18 @@ use Rattle.run_commands.specs.Capture.{frames_of, frame_by, frame_of_gave}
 use Rattle.command_output.proofs.PublicLaws.{wrote_longer, wrote_after, wanted_after}
 
 -- of a whole walk some stages are left: what went out before is a front of its frames, and its end is theirs
-pub record Progress (number : ℕ) (net : Network) (left whole : List Step) (first now : SinkSeen) : Type 0 where
+pub record Progress (number : ℕ) (net : Network) (left whole : List Stage) (first now : SinkSeen) : Type 0 where
   pub bytes : List ℕ
   pub seen : now ≡ sent bytes first
   pub frames : bytes ++ frames_of number left ≡ frames_of number whole
   pub ends : end_of net left ≡ end_of net whole
 
-module _ (number : ℕ) (net : Network) (left whole rest : List Step) (s : Step) (first now later : SinkSeen) (begins : left ≡ s ∷ rest)
+module _ (number : ℕ) (net : Network) (left whole rest : List Stage) (s : Stage) (first now later : SinkSeen) (begins : left ≡ s ∷ rest)
     (p : Progress number net left whole first now) where
   -- what went out, and then the stage's frames and those of the rest
   frames-on : (p.bytes ++ frame_of_gave number s.gave) ++ frames_of number rest ≡ frames_of number whole
   frames-on = append_assoc p.bytes (frame_of_gave number s.gave) (frames_of number rest)
-      ∙ (ap (λ (steps : List Step). p.bytes ++ frames_of number steps) (sym begins) ∙ p.frames)
+      ∙ (ap (λ (steps : List Stage). p.bytes ++ frames_of number steps) (sym begins) ∙ p.frames)
 
   -- after a stage whose frames went out
   pub progress_on : end_by net s.place s.gave.outcome ≡ ends.Stages → later ≡ sent (frame_of_gave number s.gave) now
@@ -53,7 +53,7 @@ module _ (number : ℕ) (net : Network) (left whole rest : List Step) (s : Step)
       (wrote_after failure p.bytes (frame_of_gave number s.gave) first now later p.seen wrote))
 
 -- memory was wanting before a stage
-pub progress_wants : (number : ℕ) (net : Network) (left whole : List Step) (first now : SinkSeen)
+pub progress_wants : (number : ℕ) (net : Network) (left whole : List Stage) (first now : SinkSeen)
     → Progress number net left whole first now
     → Wrote (ending_of_failure failures.NoMemory) (frames_of number whole) first now
 progress_wants number net left whole first now p =
@@ -62,16 +62,16 @@ progress_wants number net left whole first now p =
 
 -- no stage is left: all went out, and the walk ended as the last stage did
 
-pub progress_stops : (number : ℕ) (net : Network) (left whole : List Step) (first now : SinkSeen) → left ≡ []
+pub progress_stops : (number : ℕ) (net : Network) (left whole : List Stage) (first now : SinkSeen) → left ≡ []
     → Progress number net left whole first now
     → (now ≡ sent (frames_of number whole) first) × (ends.Stages ≡ end_of net whole)
 progress_stops number net left whole first now none p = (
   p.seen ∙ ap (λ (bytes : List ℕ). sent bytes first)
-      (sym (append-nil p.bytes) ∙ (ap (λ (steps : List Step). p.bytes ++ frames_of number steps) (sym none) ∙ p.frames)),
+      (sym (append-nil p.bytes) ∙ (ap (λ (steps : List Stage). p.bytes ++ frames_of number steps) (sym none) ∙ p.frames)),
   ap (end_of net) (sym none) ∙ p.ends,
 )
 
-pub progress_ends : (number : ℕ) (net : Network) (left whole : List Step) (s : Step) (first now later : SinkSeen) → left ≡ s ∷ []
+pub progress_ends : (number : ℕ) (net : Network) (left whole : List Stage) (s : Stage) (first now later : SinkSeen) → left ≡ s ∷ []
     → Progress number net left whole first now
     → later ≡ sent (frame_of_gave number s.gave) now
     → (later ≡ sent (frames_of number whole) first) × (end_by net s.place s.gave.outcome ≡ end_of net whole)
@@ -86,7 +86,7 @@ progress_ends number net left whole s first now later last p went = (
 
 module _ (net : Network) (all more : ℕ) (place : Place) (content : Content) (pick : ℕ → ℕ) (taken : ℕ) (gave : Gave) (is : all ≡ suc more)
     (gives : step_of net place content (pick taken) ≡ gave) where
-  abbrev pub step_by : Step
+  abbrev pub step_by : Stage
   step_by = record { place = place; before = content; gave = gave }
 
   pub walk_begins : walk_of all net (Some place) content pick taken
@@ -106,7 +106,7 @@ module _ (net : Network) (all more : ℕ) (place : Place) (content : Content) (p
   pub walk_ends : next_place net place gave.outcome ≡ None → walk_of all net (Some place) content pick taken ≡ step_by ∷ []
   walk_ends stops = walk_begins
       ∙ ap (λ (o : Option Place). step_by ∷ walk_of more net o gave.after pick (taken + decisions gave.outcome)) stops
-      ∙ ap (λ (steps : List Step). step_by ∷ steps) (walk_of-none more net gave.after pick (taken + decisions gave.outcome))
+      ∙ ap (λ (steps : List Stage). step_by ∷ steps) (walk_of-none more net gave.after pick (taken + decisions gave.outcome))
 
 pub walk_is_over : (net : Network) (left : ℕ) (place : Option Place) (content : Content) (pick : ℕ → ℕ) (taken : ℕ) → left ≡ 0
     → walk_of left net place content pick taken ≡ []
@@ -116,7 +116,7 @@ walk_is_over net left place content pick taken is =
 -- a stage of the loop, by what it gave
 
 module _ (number : ℕ) (net : Network) (all more : ℕ) (place : Place) (content : Content) (pick : ℕ → ℕ) (taken : ℕ) (gave : Gave)
-    (whole : List Step)
+    (whole : List Stage)
     (first now later : SinkSeen) (is : all ≡ suc more) (gives : step_of net place content (pick taken) ≡ gave)
     (p : Progress number net (walk_of all net (Some place) content pick taken) whole first now) where
   pub staged_on : (next : Place) → next_place net place gave.outcome ≡ Some next → later ≡ sent (frame_of_gave number gave) now

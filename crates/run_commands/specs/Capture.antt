@@ -6,7 +6,7 @@ use Rattle.srv6_rules.specs.Packet.{Packet, Content, bytes_of, spelling}
 use Rattle.walk_rules.specs.declared.place.Outcome.{Outcome}
 use Rattle.walk_rules.specs.declared.place.Outcome.TheVariants as outcomes
 use Rattle.walk_rules.specs.Treatment.{Gave}
-use Rattle.walk_rules.specs.Walk.{Step}
+use Rattle.walk_rules.specs.Walk.{Stage}
 
 -- the frame of an ICMPv6 error, if one is sent: its microseconds are 0
 abbrev pub frame_of_error : ℕ → Option Packet → List ℕ
@@ -26,5 +26,5 @@ abbrev pub frame_of_gave : ℕ → Gave → List ℕ
 frame_of_gave number gave = frame_by number gave.outcome gave.after gave.error
 
 -- the frames of a packet's walk
-abbrev pub frames_of : ℕ → List Step → List ℕ
+abbrev pub frames_of : ℕ → List Stage → List ℕ
 frames_of number steps = flat_map (λ step. frame_of_gave number step.gave) steps

@@ -11,11 +11,11 @@ use Rattle.srv6_rules.specs.Packet.{Content, entered}
 use Rattle.net_model.specs.Network.{Network}
 use Rattle.walk_rules.specs.declared.place.How.TheVariants.{Arrived}
 use Rattle.walk_rules.specs.declared.place.Place.{Place}
-use Rattle.walk_rules.specs.Walk.{Step, walk_of, choice_at, end_of}
+use Rattle.walk_rules.specs.Walk.{Stage, walk_of, choice_at, end_of}
 use Rattle.packet_walk.specs.Flight.{InFlight, entering}
 use Rattle.packet_walk.specs.Schedule.{Coming}
 use Rattle.srx_edge.specs.Edge.{file_named}
-use Rattle.trace_replay.specs.declared.limits.TheConstants.{STAGES}
+use Rattle.walk_rules.specs.declared.limits.TheConstants.{MAX_STAGES}
 use Rattle.command_inputs.specs.declared.packets.Packets.{Packets}
 use Rattle.command_output.specs.declared.unread.Unread.{Unread}
 use Rattle.command_output.specs.declared.refusal.Refusal.{Refusal}
@@ -39,8 +39,8 @@ abbrev pub entry_place : ℕ → Family → Place
 entry_place node family = record { node = node; how = Arrived 0; family = family }
 
 -- the walk of what enters there, with a list of choices
-abbrev pub walk_from : Network → ℕ → List ℕ → Family → Content → List Step
-walk_from net node choices family content = walk_of STAGES net (Some (entry_place node family)) content (choice_at choices) 0
+abbrev pub walk_from : Network → ℕ → List ℕ → Family → Content → List Stage
+walk_from net node choices family content = walk_of MAX_STAGES net (Some (entry_place node family)) content (choice_at choices) 0
 
 -- the list of choices where the words give none
 abbrev pub no_choices : List ℕ
@@ -63,7 +63,7 @@ abbrev pub unread_lines : List Frame → List ℕ
 unread_lines frames = flat_map unread_of_frame frames
 
 -- a packet of a number that is run to its end: the frames of its walk, and then its line
-abbrev pub packet_pieces : Network → ℕ → List Step → List Piece
+abbrev pub packet_pieces : Network → ℕ → List Stage → List Piece
 packet_pieces net number steps = ForOut (frames_of number steps) ∷ ForErr (packet_line net number (end_of net steps)) ∷ []
 
 -- packets that are run to their ends, one after the other

@@ -4,7 +4,7 @@ use Rattle.std.specs.List.{flat_map}
 use Rattle.std.specs.List.Sorted.{IsStrictlyIncreasing}
 use Rattle.net_model.specs.Network.{Network}
 use Rattle.walk_rules.specs.declared.place.Ended.{Ended}
-use Rattle.walk_rules.specs.Walk.{Step, end_of}
+use Rattle.walk_rules.specs.Walk.{Stage, end_of}
 use Rattle.packet_walk.specs.Flight.{Flight, InFlight, entered}
 use Rattle.packet_walk.specs.Schedule.{Coming, Taken, scheduled, stages_of}
 use Rattle.run_commands.specs.Capture.{frame_of_gave}
@@ -12,11 +12,11 @@ use Rattle.command_output.specs.Lines.{packet_line}
 use Rattle.command_output.specs.Pieces.{Piece, ForOut, ForErr}
 
 -- one packet by the number of its frame and its walk
-abbrev pub coming : ℕ → List Step → List Coming
+abbrev pub coming : ℕ → List Stage → List Coming
 coming number steps = record { number = number; steps = steps } ∷ []
 
 -- the line of a packet of a number whose walk ends with a step; none where there are more behind it
-abbrev pub line_behind : Network → ℕ → Step → List Step → List ℕ
+abbrev pub line_behind : Network → ℕ → Stage → List Stage → List ℕ
 line_behind net number step [] = packet_line net number (end_of net (step ∷ []))
 line_behind net number step (next ∷ more) = []
 
@@ -48,7 +48,7 @@ abbrev pub lines_told : Network → ℕ → List Taken → List ℕ
 lines_told net number stages = flat_map (line_of_stage net) (stages_of number stages)
 
 -- the one line of the packet of a number whose walk has these steps: how it ends; none where there is no step
-abbrev pub line_of_walk : Network → ℕ → List Step → List ℕ
+abbrev pub line_of_walk : Network → ℕ → List Stage → List ℕ
 line_of_walk net number [] = []
 line_of_walk net number (s ∷ behind) = packet_line net number (end_of net (s ∷ behind))
 

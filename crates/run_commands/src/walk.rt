@@ -21,11 +21,11 @@ use icmp6_errors::IcmpSlot;
 use net_model::Net;
 use node_stage::{Content, stage};
 use packet_walk::decisions_of;
-use pcap_io::MAX_PACKET_LEN;
+use srv6_rules::numbers::MAX_PACKET_LEN;
 use srx_edge::Sink;
 use std::alloc::Global;
-use trace_replay::{STAGES, an_outcome_names_what_is_there};
-use walk_rules::{Ended, Outcome, Place, ended_by, next_place};
+use trace_replay::an_outcome_names_what_is_there;
+use walk_rules::{Ended, MAX_STAGES, Outcome, Place, ended_by, next_place};
 
 /// Room for a packet and for its frame, used again for each packet. (own rule)
 #[derive(Debug, Drop)]
@@ -160,17 +160,17 @@ pub fn write_walk<O: Sink>(
     requires place { IsPlace net.now start }
     requires choices { 0 < length choices.now }
     ensures ended { IfOk result (λ ended. ended ≡ end_of net.now
-        (walk_of STAGES net.now (Some start) content (choice_at choices.now) 0)) }
+        (walk_of MAX_STAGES net.now (Some start) content (choice_at choices.now) 0)) }
     ensures within { IfOk result (IsEnd net.now) }
     ensures wrote { Wrote (ending_of_step result)
-        (frames_of number (walk_of STAGES net.now (Some start) content (choice_at choices.now) 0))
+        (frames_of number (walk_of MAX_STAGES net.now (Some start) content (choice_at choices.now) 0))
         (O.seen out.old) (O.seen out.new) }
 {
     let mut content = content;
     let mut place = start;
     let mut error = IcmpSlot::new();
     let mut taken = 0;
-    for used in 0..STAGES {
+    for used in 0..MAX_STAGES {
         let choice = choices[taken % choices.len()];
         let outcome = staged(alloc, net, &place, &mut content, choice, &mut error)?;
         write_outcome(number, &outcome, &content, &error, buffers, out)?;

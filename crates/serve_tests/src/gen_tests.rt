@@ -4,7 +4,7 @@
 use crate::outside::{NONE, Ran, serve_over};
 use intent_reader::read_intent;
 use net_reader::read_net;
-use srv6_cli::{MOST_PACKETS, Status, Summary, summary};
+use srv6_cli::{MAX_PACKETS, Status, Summary, summary};
 use srx_edge::{MemFiles, MemSource};
 use std::alloc::Global;
 use std::test::Fail;
@@ -133,9 +133,9 @@ fn packets_of_another_family_have_no_walk(rt: HostRuntime) -> Result<(), Fail> {
     }
     let net = read_net(alloc, bytes.as_bytes())?;
     let intent = read_intent(alloc, OF_IPV4.as_bytes(), &net)?;
-    match summary(alloc, &net, &intent, MOST_PACKETS) {
+    match summary(alloc, &net, &intent, MAX_PACKETS) {
         Ok(summed) => {
-            assert_eq!(&rt; summed.packets, MOST_PACKETS);
+            assert_eq!(&rt; summed.packets, MAX_PACKETS);
             assert_eq!(&rt; (summed.frames, summed.left), (0, 0));
         }
         Err(_) => panic!(&rt; "not compiled"),

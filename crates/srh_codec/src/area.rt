@@ -8,7 +8,7 @@ ghost use Rattle.ip6_headers.specs.Items.{first_fault};
 use crate::view::SrhView;
 use ip6_headers::{Fault, item_len};
 use srv6_rules::Reason;
-use srv6_rules::numbers::{HMAC, MOST_LEN, SEGMENT_LEN, SEGMENT_LIST_AT};
+use srv6_rules::numbers::{HMAC, MAX_PACKET_LEN, SEGMENT_LEN, SEGMENT_LIST_AT};
 
 /// Looks at the items of an area that begins at a place.
 fn items(area: &[u8], start: usize) -> Result<(), Fault>
@@ -43,7 +43,7 @@ fn items(area: &[u8], start: usize) -> Result<(), Fault>
 /// rule; RFC 8754 section 2.1).
 pub fn tlvs(srh: &SrhView<'_>, at: usize) -> Result<(), Fault>
     requires entry { srh.now.last_entry < entries_of srh.now }
-    requires place { at ≤ MOST_LEN }
+    requires place { at ≤ MAX_PACKET_LEN }
     ensures { first_fault result ≡ tlvs_fault at srh.now }
 {
     let start = SEGMENT_LIST_AT + SEGMENT_LEN * (usize::from(srh.last_entry()) + 1);

@@ -9,13 +9,11 @@
 mod area;
 mod edit;
 mod laws;
-mod numbers;
 mod view;
 mod write;
 
 pub use area::tlvs;
 pub use edit::SrhEdit;
 pub use laws::{spelled_header_is_read, written_header_is_of_its_entries};
-pub use numbers::MOST_ENTRIES;
 pub use view::SrhView;
 pub use write::{SrhParts, write_srh};

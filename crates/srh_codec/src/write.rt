@@ -5,9 +5,8 @@ ghost use Rattle.srv6_rules.specs.Packet.{address_bytes};
 ghost use Rattle.srv6_rules.specs.Srh.{srh_spelling};
 ghost use Rattle.srh_codec.specs.Writing.{numbers_of, header_of_parts};
 
-use crate::numbers::MOST_ENTRIES;
 use byteorder::{BigEndian, ByteOrder};
-use srv6_rules::numbers::{SEGMENT_LEN, SEGMENT_LIST_AT, SEGMENT_ROUTING};
+use srv6_rules::numbers::{MAX_SEGMENTS, SEGMENT_LEN, SEGMENT_LIST_AT, SEGMENT_ROUTING};
 use v6_addr::Addr;
 
 /// What is said of a segment routing header that has no flags, no tag and no type-length-value
@@ -38,7 +37,7 @@ fn write_entries(out: &mut [u8], entries: &[Addr])
 /// Entry is the last entry's place, and flags and tag are 0 (RFC 8754 sections 2 and 4.1).
 pub fn write_srh(out: &mut [u8], parts: &SrhParts<'_>)
     requires some { 0 < length parts.now.entries.now }
-    requires most { length parts.now.entries.now ≤ MOST_ENTRIES }
+    requires most { length parts.now.entries.now ≤ MAX_SEGMENTS }
     requires room { length out.old
         ≡ SEGMENT_LIST_AT + SEGMENT_LEN * length parts.now.entries.now }
     ensures { out.new ≡ srh_spelling (header_of_parts parts.now) }

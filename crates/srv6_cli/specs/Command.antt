@@ -4,7 +4,7 @@ use Rattle.std.specs.declared.alloc.Global.{Global}
 use Rattle.command_output.specs.declared.halt.Halt.{Halt}
 use Rattle.command_output.specs.declared.status.Status.TheVariants as statuses
 use Rattle.command_output.specs.declared.told.Told.{Told}
-use Rattle.generate_command.specs.declared.gen_.Made.{Made}
+use Rattle.generate_commands.specs.declared.gen_.Made.{Made}
 use Rattle.srv6_cli.specs.declared.commands.Words.{Words}
 use Rattle.srv6_cli.specs.declared.commands.Words.TheVariants as words
 use Rattle.command_inputs.specs.Choices.{choices_in, schedule_in}
@@ -16,11 +16,11 @@ use Rattle.srv6_cli.specs.Words as commands
 use Rattle.run_commands.specs.Run.{is_run, no_choices, no_schedule, run_shape}
 use Rattle.compile_commands.specs.Compile.{is_compile, compile_shape}
 use Rattle.compile_commands.specs.Check.{is_check, check_shape}
-use Rattle.walk_command.specs.Walk.{is_walk, walk_shape}
+use Rattle.walk_commands.specs.Walk.{is_walk, walk_shape}
 use Rattle.trace_commands.specs.Trace.{is_trace, trace_shape}
 use Rattle.trace_commands.specs.Replay.{is_replay, replay_shape}
 use Rattle.run_commands.specs.Show.{is_show, show_shape}
-use Rattle.generate_command.specs.Gen.{gen_shape, is_gen, made_in, size_in}
+use Rattle.generate_commands.specs.Gen.{gen_shape, is_gen, made_in, size_in}
 
 abbrev pub command_of_one : List ℕ → Command
 command_of_one verb = if is_show verb then commands.Show else commands.Unknown

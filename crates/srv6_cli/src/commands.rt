@@ -4,19 +4,19 @@ ghost use Rattle.std.specs.Prelude.{◌≡◌, IfOk};
 ghost use Rattle.command_output.specs.Answers.{Commands};
 ghost use Rattle.srv6_cli.specs.Command.{UsageTold, HasChoices, command_of, command_of_five, command_of_four, command_of_three, command_seen, gen_with, run_with, shape_of, trace_with, walk_with, words_of};
 ghost use Rattle.command_inputs.specs.Choices.{choices_in, items_of};
-ghost use Rattle.generate_command.specs.Gen.{made_in, size_in};
+ghost use Rattle.generate_commands.specs.Gen.{made_in, size_in};
 ghost use Rattle.command_output.specs.Outside.{outside};
 
 use command_inputs::{choices_of, schedule_of};
 use command_output::{Halt, Status, Text, Told};
 use compile_commands::{check, compile};
-use generate_command::{Made, generate, made_of_word, size_of_word};
+use generate_commands::{Made, generate, made_of_word, size_of_word};
 use net_maker::Size;
 use run_commands::{run, show};
 use srx_edge::{Files, Sink, Source};
 use std::alloc::{AllocError, Global};
 use trace_commands::{replay, trace};
-use walk_command::walk;
+use walk_commands::walk;
 
 /// The line that says how the program is called. (own rule)
 pub const USAGE: &[u8] = b"usage: srv6 compile|check|walk|run|trace|replay|show|gen\n";

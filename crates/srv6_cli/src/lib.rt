@@ -10,8 +10,7 @@ mod commands;
 pub mod laws;
 mod top;
 
-pub use command_inputs::{FILE_LIMIT, INPUT_LIMIT};
+pub use command_inputs::MAX_INPUT_BYTES;
 pub use command_output::{NodeName, Refusal, Status};
-pub use generate_command::{MOST_PACKETS, Summary, summary};
+pub use generate_commands::{MAX_PACKETS, Summary, summary};
 pub use top::serve;
-pub use trace_replay::STAGES;

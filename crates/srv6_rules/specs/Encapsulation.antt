@@ -1,7 +1,7 @@
 -- Encapsulation of a packet behind an outer IPv6 header and a segment list: H.Encaps and its reduced form (RFC 8986
 -- sections 5.1 and 5.2, RFC 8754 sections 2, 4.1 and 4.1.1).
 use Rattle.std.specs.Prelude.{ℕ, ◌+◌, ◌-◌, ◌*◌, ◌^◌, ◌<◌, ◌≤◌, Bool, not, ◌||◌, nat_lt, if◌then◌else◌, List, ◌++◌, length, drop, reverse, slice_index, flat_map, All}
-use Rattle.srv6_rules.specs.declared.numbers.TheConstants.{MOST_SEGMENTS, NEXT_HEADER_AT}
+use Rattle.srv6_rules.specs.declared.numbers.TheConstants.{MAX_SEGMENTS, NEXT_HEADER_AT}
 use Rattle.srv6_rules.specs.Packet.{Packet, header_len, spelling, address_bytes}
 use Rattle.srv6_rules.specs.Srh.{Srh, srh_spelling}
 use Rattle.srv6_rules.specs.Chain.{ChainPlace, Header, routing}
@@ -114,5 +114,5 @@ pub record IsSpellableEncapsulation (e : Encapsulation) : Type 0 where
   pub flow_label : e.flow_label < 2 ^ 20
   pub source : e.source < 2 ^ 128
   pub some : 0 < length e.segments
-  pub most : length e.segments ≤ MOST_SEGMENTS
+  pub most : length e.segments ≤ MAX_SEGMENTS
   pub segments : All (λ a. a < 2 ^ 128) e.segments

@@ -2,7 +2,7 @@
 use Rattle.std.specs.Prelude.{ℕ, ◌/◌, ◌^◌, ◌<◌, Bool, false, not, ◌==◌, ◌&&◌, ◌||◌, nat_lt, if◌then◌else◌, List, ◌∷◌, ◌++◌, take, drop, slice_get, Option, Some, None}
 use Rattle.std.specs.List.{list_any}
 use Rattle.v6_addr.specs.Kinds.{is_unspecified, is_multicast}
-use Rattle.srv6_rules.specs.declared.numbers.TheConstants.{ICMPV6, ICMPV6_HOP_LIMIT, MOST_QUOTE_LEN, DESTINATION_UNREACHABLE, TIME_EXCEEDED, PARAMETER_PROBLEM, FIRST_INFORMATIONAL, REDIRECT, WRONG_FIELD, WRONG_NEXT_HEADER, UNKNOWN_OPTION, WRONG_UPPER_LAYER, FRAGMENT_OFFSET_AT, FRAGMENT_OFFSET_UNIT}
+use Rattle.srv6_rules.specs.declared.numbers.TheConstants.{ICMPV6, ICMPV6_HOP_LIMIT, MAX_QUOTE_LEN, DESTINATION_UNREACHABLE, TIME_EXCEEDED, PARAMETER_PROBLEM, FIRST_INFORMATIONAL, REDIRECT, WRONG_FIELD, WRONG_NEXT_HEADER, UNKNOWN_OPTION, WRONG_UPPER_LAYER, FRAGMENT_OFFSET_AT, FRAGMENT_OFFSET_UNIT}
 use Rattle.srv6_rules.specs.declared.icmp.IcmpKind.{IcmpKind}
 use Rattle.srv6_rules.specs.declared.icmp.IcmpKind.TheVariants.{Unreachable, TimeExceeded, Parameter}
 use Rattle.srv6_rules.specs.declared.sid.Reason.{Reason}
@@ -99,7 +99,7 @@ message_head kind checksum = type_of kind ∷ code_of kind ∷ (two_bytes checks
 
 -- as many of the packet's bytes as fit
 abbrev pub quote_of : Packet → List ℕ
-quote_of p = take MOST_QUOTE_LEN (spelling p)
+quote_of p = take MAX_QUOTE_LEN (spelling p)
 
 -- the packet that carries an ICMPv6 message
 abbrev pub icmp_packet : ℕ → ℕ → List ℕ → Packet

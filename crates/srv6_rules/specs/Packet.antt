@@ -1,7 +1,7 @@
 -- IPv6 packets as values, their one spelling, and how bytes are read (RFC 8200 section 3).
 use Rattle.std.specs.Prelude.{◌≡◌, ℕ, ◌+◌, ◌*◌, ◌/◌, ◌%◌, ◌^◌, ◌<◌, ◌==◌, nat_lt, if◌then◌else◌, List, ◌∷◌, ◌++◌, length, take, drop, slice_index, All, Result, Ok, Err}
 use Rattle.byteorder.specs.Endian.{big_number, big_bytes}
-use Rattle.srv6_rules.specs.declared.numbers.TheConstants.{IPV6_HEADER_LEN, MOST_LEN, IPV6_VERSION, PAYLOAD_LEN_AT, NEXT_HEADER_AT, HOP_LIMIT_AT, SOURCE_AT, DESTINATION_AT}
+use Rattle.srv6_rules.specs.declared.numbers.TheConstants.{IPV6_HEADER_LEN, MAX_PACKET_LEN, IPV6_VERSION, PAYLOAD_LEN_AT, NEXT_HEADER_AT, HOP_LIMIT_AT, SOURCE_AT, DESTINATION_AT}
 use Rattle.srv6_rules.specs.declared.sid.Family.{Family}
 use Rattle.srv6_rules.specs.declared.sid.Family.TheVariants as families
 use Rattle.srv6_rules.specs.declared.sid.Reason.{Reason}
@@ -30,7 +30,7 @@ header_len = IPV6_HEADER_LEN
 
 -- the longest packet in bytes: a header and the greatest payload length
 abbrev pub most_len : ℕ
-most_len = MOST_LEN
+most_len = MAX_PACKET_LEN
 
 -- the 2, 4 or 16 bytes of a number, the highest first
 unfoldable pub two_bytes : ℕ → List ℕ

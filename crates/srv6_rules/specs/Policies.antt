@@ -2,7 +2,7 @@
 -- there (RFC 8986 sections 4.13, 4.14, 5.1 and 5.2).
 use Rattle.std.specs.Prelude.{ℕ, ◌-◌, ◌^◌, ◌<◌, ◌≤◌, Bool, nat_le, nat_lt, if◌then◌else◌, List, ◌++◌, length, map}
 use Rattle.v6_addr.specs.declared.address.Addr.{Addr}
-use Rattle.srv6_rules.specs.declared.numbers.TheConstants.{MOST_SEGMENTS}
+use Rattle.srv6_rules.specs.declared.numbers.TheConstants.{MAX_SEGMENTS}
 use Rattle.srv6_rules.specs.declared.policy.Policy.{Policy}
 use Rattle.srv6_rules.specs.declared.sid.Family.{Family}
 use Rattle.srv6_rules.specs.declared.sid.Family.TheVariants.{V6, V4}
@@ -16,7 +16,7 @@ use Rattle.srv6_rules.specs.Encapsulation.{Encapsulation, has_segment_routing, s
 -- the policies that headers are made of: at least one segment and at most 127 (own rule), and a flow label of 20 bits
 pub record IsPolicy (policy : Policy) : Type 0 where
   pub some : 0 < length policy.segments
-  pub most : length policy.segments ≤ MOST_SEGMENTS
+  pub most : length policy.segments ≤ MAX_SEGMENTS
   pub flow_label : policy.flow_label < 2 ^ 20
 
 -- what a policy encapsulates with, in the full or the reduced form

@@ -5,7 +5,7 @@ ghost use Rattle.srv6_rules.specs.Chain.{ChainPlace, Header, Chain, Upper, is_ex
 ghost use Rattle.srv6_rules.specs.Checksum.{all_ones, ones_sum, word_sum, carried, pseudo_header, upper_layer_sum, Verifies};
 ghost use Rattle.srv6_rules.specs.Errors.{kind_of, IsKind, is_error_message, leads_to_error, ends_in_error, is_later_fragment, message_head, quote_of, error_checksum, error_packet};
 ghost use Rattle.srv6_rules.specs.Packet.{Packet, IsSpellable, spelling, header_len, two_bytes, four_bytes};
-ghost use Rattle.srv6_rules.specs.declared.numbers.TheConstants.{ICMPV6, LEAST_MTU};
+ghost use Rattle.srv6_rules.specs.declared.numbers.TheConstants.{ICMPV6, MIN_MTU};
 ghost use Rattle.srv6_rules.specs.declared.icmp.IcmpKind.{IcmpKind as IcmpKindValue};
 ghost use Rattle.srv6_rules.specs.declared.icmp.IcmpKind.TheVariants.{Unreachable, TimeExceeded, Parameter};
 ghost use Rattle.srv6_rules.specs.declared.sid.Reason.{Reason as ReasonValue};
@@ -107,7 +107,7 @@ pub fn errors_are_not_answered()
 /// 3).
 pub fn errors_fit_every_link()
     ensures most { (p q : Packet) (kind : IcmpKindValue) (from : ℕ)
-        → error_packet p kind from ≡ Some q → length (spelling q) ≤ LEAST_MTU }
+        → error_packet p kind from ≡ Some q → length (spelling q) ≤ MIN_MTU }
     ensures quote { (p q : Packet) (kind : IcmpKindValue) (from : ℕ)
         → error_packet p kind from ≡ Some q
         → length (spelling q) ≡ 48 + length (quote_of p) }

@@ -6,7 +6,7 @@ pub const IPV6_HEADER_LEN: usize = 40;
 
 /// The longest IPv6 packet: a header and a payload of 65,535 bytes, the greatest that its payload
 /// length can state (RFC 8200 section 3).
-pub const MOST_LEN: usize = 65575;
+pub const MAX_PACKET_LEN: usize = 65575;
 
 /// The version in the first half byte of an IPv6 header: 6 (RFC 8200 section 3).
 pub const IPV6_VERSION: u8 = 6;
@@ -80,7 +80,7 @@ pub const SEGMENT_LEN: usize = 16;
 /// The most segments that are put in front of a packet: 127. Their entries take 254 units of 8
 /// bytes, and those of 128 would not fit the header's length (RFC 8754 section 2; that the reduced
 /// form has no more is an own rule).
-pub const MOST_SEGMENTS: usize = 127;
+pub const MAX_SEGMENTS: usize = 127;
 
 /// The place of the options in a Hop-by-Hop or Destination Options header: 2 (RFC 8200 section
 /// 4.2).
@@ -104,7 +104,7 @@ pub const FRAGMENT_OFFSET_AT: usize = 2;
 pub const FRAGMENT_OFFSET_UNIT: u16 = 8;
 
 /// The least size of packets that every link carries, in bytes: 1,280 (RFC 8200 section 5).
-pub const LEAST_MTU: usize = 1280;
+pub const MIN_MTU: usize = 1280;
 
 /// The next header that names ICMPv6: 58 (RFC 4443 section 2.1).
 pub const ICMPV6: u8 = 58;
@@ -114,7 +114,7 @@ pub const ICMPV6_HEADER_LEN: usize = 8;
 
 /// The most bytes that an ICMPv6 error quotes of a packet, so that the error goes over every link:
 /// 1,232 (RFC 4443 section 3).
-pub const MOST_QUOTE_LEN: usize = LEAST_MTU - IPV6_HEADER_LEN - ICMPV6_HEADER_LEN;
+pub const MAX_QUOTE_LEN: usize = MIN_MTU - IPV6_HEADER_LEN - ICMPV6_HEADER_LEN;
 
 /// The hop limit of an ICMPv6 error: 64 (own rule).
 pub const ICMPV6_HOP_LIMIT: u8 = 64;

@@ -29,7 +29,8 @@ use Rattle.trace_replay.proofs.PublicLaws.{unended-bad, written-counts, written-
 use Rattle.srx_edge.specs.Edge.{file_named}
 use Rattle.srx_edge.specs.Sinks.{sent}
 use Rattle.srx_edge.proofs.PublicLaws.{sent_both}
-use Rattle.command_inputs.specs.declared.limits.TheConstants.{FILE_LIMIT, INPUT_LIMIT}
+use Rattle.command_inputs.specs.declared.limits.TheConstants.{MAX_INPUT_BYTES}
+use Rattle.net_model.specs.declared.limits.TheConstants.{MAX_TEXT_BYTES}
 use Rattle.command_inputs.specs.declared.packets.Packets.{Packets}
 use Rattle.command_inputs.specs.declared.packets.Packets.TheVariants.{Bare, Capture}
 use Rattle.command_output.specs.declared.refusal.Refusal.{Refusal}
@@ -187,7 +188,7 @@ module _ (net : Network) (node : ℕ) (choices : List ℕ) (there : node < lengt
 
   in-input : (input : List ℕ) (packets : Packets) → AreBytes input → packets_in input ≡ Ok packets → InBytes packets
   in-input input packets h e = in-input-by (is_bare input) input packets h
-      (ok-else (nat_lt INPUT_LIMIT (length input)) (refusals.TooBig INPUT_LIMIT)
+      (ok-else (nat_lt MAX_INPUT_BYTES (length input)) (refusals.TooBig MAX_INPUT_BYTES)
       (if is_bare input then Ok (Bare input) else capture_by (head_of input) input) packets e)
 
 judged-entered : {text name input : List ℕ} (choices : List ℕ) (judged : Judged text name input) → AreBytes input
@@ -261,7 +262,7 @@ replays text bytes net output is says = λ file name held input given first seco
     (λ h. same.0 h ∙ says, λ h. same.1 (h ∙ sym says))
 
 right-output : (net : Network) (packets : List Traced) → Keeps net → All (IsTraced net) packets
-    → length (trace_text net packets) ≤ FILE_LIMIT
+    → length (trace_text net packets) ≤ MAX_TEXT_BYTES
     → replay_output net (trace_text net packets) ≡ right_with (counts_written net packets)
 right-output net packets keeps each fits =
     let read = trace-small net (trace_text net packets) None (Ok (trace_lines net packets)) fits (written-good net keeps packets each)
@@ -271,7 +272,7 @@ right-output net packets keeps each fits =
     ∙ ap (λ (counts : Replayed). replayed_by counts None) (sym (written-counts net keeps packets each)))
 
 unended-output : (net : Network) (packets : List Traced) → Keeps net → All (IsTraced net) packets
-    → length (unended_text net packets) ≤ FILE_LIMIT
+    → length (unended_text net packets) ≤ MAX_TEXT_BYTES
     → replay_output net (unended_text net packets) ≡ refused (refusals.BadTrace (length (packets_lines net packets) + 2))
 unended-output net packets keeps each fits =
     let bad = length (packets_lines net packets) + 2 in
@@ -291,7 +292,7 @@ whole_right rules text name choices input h done fits =
       replays text (trace_for_out text name choices input) judged.net _ judged.described
           (ap (replay_output judged.net) out
           ∙ right-output judged.net packets (keeps_from_network judged.net (rules-kept rules text judged.net judged.described)) (judged-entered choices judged h)
-          (subst (λ (bytes : List ℕ). length bytes ≤ FILE_LIMIT) out fits)),
+          (subst (λ (bytes : List ℕ). length bytes ≤ MAX_TEXT_BYTES) out fits)),
     )
 
 pub unended_refused : RulesAreKept → UnendedTracesAreRefused
@@ -304,4 +305,4 @@ unended_refused rules text name choices input h judged ends fits =
     replays text (trace_for_out text name choices input) judged.net _ judged.described
     (ap (replay_output judged.net) out
     ∙ unended-output judged.net packets (keeps_from_network judged.net (rules-kept rules text judged.net judged.described)) (judged-entered choices judged h)
-    (subst (λ (bytes : List ℕ). length bytes ≤ FILE_LIMIT) out fits))
+    (subst (λ (bytes : List ℕ). length bytes ≤ MAX_TEXT_BYTES) out fits))

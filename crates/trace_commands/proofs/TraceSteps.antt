@@ -12,7 +12,7 @@ use Rattle.srv6_rules.specs.Packet.{Content}
 use Rattle.net_model.specs.Network.{Network}
 use Rattle.walk_rules.specs.declared.place.Place.{Place}
 use Rattle.walk_rules.specs.Treatment.{Gave, step_of}
-use Rattle.walk_rules.specs.Walk.{Step, walk_of, next_place, decisions}
+use Rattle.walk_rules.specs.Walk.{Stage, walk_of, next_place, decisions}
 use Rattle.trace_replay.specs.Laws.{walk_lines}
 use Rattle.trace_replay.specs.Lines.{stage_text, stages_text}
 use Rattle.trace_replay.specs.Written.{Traced, fed, packet_trace, packets_trace, trace_end_bytes, unended_text}
@@ -48,12 +48,12 @@ line_longer failure text more old new h = subst (λ (bytes : List ℕ). Wrote (e
     (append_assoc text (10 ∷ []) more) (wrote_longer failure (line text) more old new h)
 
 -- of a text the lines of these stages from a place are left: what went out before is its front
-pub record Written (net : Network) (place : Option Place) (left : List Step) (whole : List ℕ) (first now : SinkSeen) : Type 0 where
+pub record Written (net : Network) (place : Option Place) (left : List Stage) (whole : List ℕ) (first now : SinkSeen) : Type 0 where
   pub bytes : List ℕ
   pub seen : now ≡ sent bytes first
   pub text : bytes ++ fed (walk_lines net place left) ≡ whole
 
-module _ (net : Network) (place : Option Place) (left rest : List Step) (s : Step) (whole : List ℕ) (first now later : SinkSeen)
+module _ (net : Network) (place : Option Place) (left rest : List Stage) (s : Stage) (whole : List ℕ) (first now later : SinkSeen)
     (begins : left ≡ s ∷ rest) (p : Written net place left whole first now) where
   abbrev stage_line : List ℕ
   stage_line = line (stage_text net s.gave)
@@ -65,7 +65,7 @@ module _ (net : Network) (place : Option Place) (left rest : List Step) (s : Ste
   lines-on : (p.bytes ++ stage_line) ++ fed (walk_lines net next rest) ≡ whole
   lines-on = append_assoc p.bytes stage_line (fed (walk_lines net next rest))
       ∙ (ap (λ (bytes : List ℕ). p.bytes ++ bytes) (append_assoc (stage_text net s.gave) (10 ∷ []) (fed (walk_lines net next rest)))
-      ∙ (ap (λ (steps : List Step). p.bytes ++ fed (walk_lines net place steps)) (sym begins) ∙ p.text))
+      ∙ (ap (λ (steps : List Stage). p.bytes ++ fed (walk_lines net place steps)) (sym begins) ∙ p.text))
 
   -- after a stage whose line went out
   pub stage_on : later ≡ sent stage_line now → Written net next rest whole first later
@@ -83,7 +83,7 @@ module _ (net : Network) (place : Option Place) (left rest : List Step) (s : Ste
       (wrote_after failure p.bytes stage_line first now later p.seen wrote))
 
 -- memory was wanting before a stage
-pub written_wants : (net : Network) (place : Option Place) (left : List Step) (whole : List ℕ) (first now : SinkSeen)
+pub written_wants : (net : Network) (place : Option Place) (left : List Stage) (whole : List ℕ) (first now : SinkSeen)
     → Written net place left whole first now
     → Wrote (ending_of_failure failures.NoMemory) whole first now
 written_wants net place left whole first now p =
@@ -95,13 +95,13 @@ pub written_all : (net : Network) (whole : List ℕ) (first now : SinkSeen) → 
 written_all net whole first now p = p.seen ∙ ap (λ (bytes : List ℕ). sent bytes first) (sym (append-nil p.bytes) ∙ p.text)
 
 -- or it could go on, which one more line says
-pub written_stopped : (ending : Ending) (net : Network) (place : Place) (left : List Step) (whole : List ℕ)
+pub written_stopped : (ending : Ending) (net : Network) (place : Place) (left : List Stage) (whole : List ℕ)
     (first now later : SinkSeen) → left ≡ []
     → Written net (Some place) left whole first now → Wrote ending (line stages_text) now later
     → Wrote ending whole first later
 written_stopped ending net place left whole first now later none p wrote =
     let last : p.bytes ++ line stages_text ≡ whole =
-    ap (λ (steps : List Step). p.bytes ++ fed (walk_lines net (Some place) steps)) (sym none) ∙ p.text in
+    ap (λ (steps : List Stage). p.bytes ++ fed (walk_lines net (Some place) steps)) (sym none) ∙ p.text in
     subst (λ (bytes : List ℕ). Wrote ending bytes first later) last
     (wrote_then ending p.bytes (line stages_text) first now later p.seen wrote)
 

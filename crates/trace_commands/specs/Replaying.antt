@@ -5,7 +5,7 @@ use Rattle.trace_replay.specs.declared.verdict.Replayed.{Replayed}
 use Rattle.trace_replay.specs.Written.{Traced, counts_written, packets_lines}
 use Rattle.srx_edge.specs.Edge.{file_named}
 use Rattle.srx_edge.specs.Sinks.{sent}
-use Rattle.command_inputs.specs.declared.limits.TheConstants.{FILE_LIMIT}
+use Rattle.net_model.specs.declared.limits.TheConstants.{MAX_TEXT_BYTES}
 use Rattle.command_inputs.specs.declared.packets.Packets.{Packets}
 use Rattle.command_output.specs.declared.refusal.Refusal.TheVariants as refusals
 use Rattle.command_output.specs.declared.status.Status.TheVariants as statuses
@@ -52,7 +52,7 @@ right_with counts = reported (right_line counts.packets counts.lines) [] statuse
 abbrev pub WholeTracesAreRight : Type 0
 WholeTracesAreRight = (text name choices input : List ℕ) → All (λ byte. byte < 2 ^ 8) input
     → (trace_output text name choices input).status ≡ statuses.Done
-    → length (trace_for_out text name choices input) ≤ FILE_LIMIT
+    → length (trace_for_out text name choices input) ≤ MAX_TEXT_BYTES
     → (judged : Judged text name input)
     × ReplaysTo text (trace_for_out text name choices input) (right_with (counts_written judged.net (traced_under choices judged)))
 
@@ -62,6 +62,6 @@ abbrev pub UnendedTracesAreRefused : Type 0
 UnendedTracesAreRefused = (text name choices input : List ℕ) → All (λ byte. byte < 2 ^ 8) input
     → (judged : Judged text name input)
     → (trace_output text name choices input).status ≡ statuses.Refused
-    → length (trace_for_out text name choices input) ≤ FILE_LIMIT
+    → length (trace_for_out text name choices input) ≤ MAX_TEXT_BYTES
     → ReplaysTo text (trace_for_out text name choices input)
     (refused (refusals.BadTrace (length (packets_lines judged.net (traced_under choices judged)) + 2)))

@@ -26,8 +26,8 @@ use run_commands::staged;
 use srv6_rules::Family;
 use srx_edge::{Files, Sink, Source};
 use std::alloc::Global;
-use trace_replay::{STAGES, print_end, print_event, print_head, print_packet, print_stages};
-use walk_rules::{How, Outcome, Place, next_place};
+use trace_replay::{print_end, print_event, print_head, print_packet, print_stages};
+use walk_rules::{How, MAX_STAGES, Outcome, Place, next_place};
 
 /// Writes the first line.
 #[tactic(auto, using(command_output::proofs::PublicLaws::writing))]
@@ -84,14 +84,14 @@ fn write_stages<O: Sink>(
     requires place { IsPlace net.now start }
     requires choices { 0 < length choices.now }
     ensures { Wrote (ending_of_step result)
-        (walk_trace STAGES net.now (Some start) content (choice_at choices.now) 0)
+        (walk_trace MAX_STAGES net.now (Some start) content (choice_at choices.now) 0)
         (O.seen out.old) (O.seen out.new) }
 {
     let mut content = content;
     let mut place = start;
     let mut error = IcmpSlot::new();
     let mut taken = 0;
-    for used in 0..STAGES {
+    for used in 0..MAX_STAGES {
         let choice = choices[taken % choices.len()];
         let outcome = staged(alloc, net, &place, &mut content, choice, &mut error)?;
         write_event(alloc, net, &outcome, &content, &error, out)?;

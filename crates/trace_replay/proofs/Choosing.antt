@@ -11,7 +11,7 @@ use Rattle.walk_rules.specs.declared.place.Place.{Place}
 use Rattle.walk_rules.specs.declared.place.Outcome.{Outcome}
 use Rattle.walk_rules.specs.declared.place.Outcome.TheVariants as outcomes
 use Rattle.walk_rules.specs.Laws.{DifferAtMostInLink, hops_at}
-use Rattle.walk_rules.specs.Relation.{IsPlace, Stage}
+use Rattle.walk_rules.specs.Relation.{IsPlace, IsStage}
 use Rattle.walk_rules.specs.Treatment.{Gave, member_of, step_of}
 use Rattle.walk_rules.specs.Walk.{decisions}
 use Rattle.walk_rules.proofs.PublicLaws.{decisions-one, hops-start, stage-member, step-again, step-hand, step-member, step-same}
@@ -104,7 +104,7 @@ hops-there net place content keeps is n member =
     let there = hops-start net place content n keeps is member in within net.links n there.0 there.1
 
 pub takes-first : (net : Network) (place : Place) (content : Content) (outcome : Outcome) (after : Content) (error : Option Packet)
-    → Stage net place content outcome after error → MayTake outcome (hops_at net place content) 0
+    → IsStage net place content outcome after error → MayTake outcome (hops_at net place content) 0
 takes-first net place content (outcomes.Send link) after error stage =
     let member = stage-member net place content link after error stage in omega (arith, member.1)
 takes-first net place content (outcomes.Again sid how) after error stage = tt
@@ -113,7 +113,7 @@ takes-first net place content outcomes.Local after error stage = tt
 takes-first net place content (outcomes.Drop reason told) after error stage = tt
 
 pub numbered : (net : Network) (place : Place) (content : Content) (outcome : Outcome) (after : Content) (error : Option Packet)
-    → (choice : ℕ) → Keeps net → IsPlace net place → Stage net place content outcome after error
+    → (choice : ℕ) → Keeps net → IsPlace net place → IsStage net place content outcome after error
     → (step_of net place content choice).outcome ≡ outcome → IsNumbered net outcome
 numbered net place content (outcomes.Send link) after error choice keeps is stage e =
     hops-there net place content keeps is link (stage-member net place content link after error stage)
@@ -155,7 +155,7 @@ find-on p a n all more fails h =
 module _ (net : Network) (place : Place) (before : Content) (outcome : Outcome) (after : Content) (hops packet error line : List ℕ)
     (keeps : Keeps net) (is : IsPlace net place)
     (gives : record { outcome = outcome; after = after; error = (step_of net place before 0).error } ≡ step_of net place before 0)
-    (stage : Stage net place before outcome after (step_of net place before 0).error)
+    (stage : IsStage net place before outcome after (step_of net place before 0).error)
     (set : hops ≡ hops_at net place before) (bytes : packet ≡ bytes_of after)
     (told : error ≡ error_bytes (step_of net place before 0).error) where
   pub gave-numbered : IsNumbered net outcome

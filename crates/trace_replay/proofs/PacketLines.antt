@@ -18,7 +18,7 @@ use Rattle.net_model.proofs.PublicLaws.{position-None, position_item}
 use Rattle.walk_rules.specs.declared.place.Place.{Place}
 use Rattle.walk_rules.specs.Relation.{IsPlace}
 use Rattle.walk_rules.specs.Treatment.{step_of}
-use Rattle.walk_rules.specs.Walk.{Step, decisions, next_place, walk_of}
+use Rattle.walk_rules.specs.Walk.{Stage, decisions, next_place, walk_of}
 use Rattle.walk_rules.proofs.PublicLaws.{next_place-family, step-back, step-content, step-place, walk_of-none, walk_of-suc, walk_of-zero}
 use Rattle.trace_replay.specs.declared.line.Line.TheVariants as lines
 use Rattle.trace_replay.specs.declared.reading.Phase.TheVariants as phases
@@ -71,7 +71,7 @@ Inner fuel net place content pick taken = All (IsInner net) (walk_lines net plac
 
 none-inner : (fuel : ℕ) (net : Network) (content : Content) (pick : ℕ → ℕ) (taken : ℕ) → Inner fuel net None content pick taken
 none-inner fuel net content pick taken =
-    subst (λ (steps : List Step). All (IsInner net) (walk_lines net None steps)) (sym (walk_of-none fuel net content pick taken))
+    subst (λ (steps : List Stage). All (IsInner net) (walk_lines net None steps)) (sym (walk_of-none fuel net content pick taken))
     (All-nil (IsInner net))
 
 by-next : (fuel : ℕ) (net : Network) (next : Option Place) (content : Content) (pick : ℕ → ℕ) (taken : ℕ)
@@ -85,13 +85,13 @@ walk-inner zero net place content pick taken keeps may =
     let line = stages-line net in
     let inner : IsInner net stages_text =
     record { text = line.text; phase = ap behind_packet line.read; begins = line.begins } in
-    subst (λ (steps : List Step). All (IsInner net) (walk_lines net (Some place) steps)) (sym (walk_of-zero net (Some place) content pick taken))
+    subst (λ (steps : List Stage). All (IsInner net) (walk_lines net (Some place) steps)) (sym (walk_of-zero net (Some place) content pick taken))
     (All-cons (IsInner net) stages_text [] inner (All-nil (IsInner net)))
 walk-inner (suc fuel) net place content pick taken keeps may =
     let gave = step_of net place content (pick taken) in
     let next = next_place net place gave.outcome in
     let later = taken + decisions gave.outcome in
-    subst (λ (steps : List Step). All (IsInner net) (walk_lines net (Some place) steps)) (sym (walk_of-suc fuel net place content pick taken))
+    subst (λ (steps : List Stage). All (IsInner net) (walk_lines net (Some place) steps)) (sym (walk_of-suc fuel net place content pick taken))
     (All-cons (IsInner net) (stage_text net gave) (walk_lines net next (walk_of fuel net next gave.after pick later))
     (stage-inner net place content (pick taken) keeps may)
     (by-next fuel net next gave.after pick later

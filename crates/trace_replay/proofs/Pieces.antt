@@ -5,7 +5,7 @@ use Rattle.std.proofs.lemmas.List.{length-append, length-map}
 use Rattle.std.proofs.lemmas.List.Splits.{length-slice_split}
 use Rattle.std.proofs.lemmas.List.Sums.{count_by-le-length}
 use Rattle.net_model.specs.Network.{Network}
-use Rattle.trace_replay.specs.declared.limits.TheConstants.{TEXT_LIMIT}
+use Rattle.net_model.specs.declared.limits.TheConstants.{MAX_TEXT_BYTES}
 use Rattle.trace_replay.specs.declared.reading.Phase.{Phase}
 use Rattle.trace_replay.specs.declared.reading.Phase.TheVariants as phases
 use Rattle.trace_replay.specs.Reading.{IsTrace, bad_by, bad_from, bad_line, but_last, is_over, last_of, lines_of, phase_behind, pieces_of, rest_of}
@@ -71,7 +71,7 @@ module _ (net : Network) (text : List ℕ) (pieces lines : List (Bor (List ℕ))
   pub read-bad : (n : ℕ) → bad_from net phases.Begins 1 rest.now (texts_of lines) ≡ Some n → bad_line net text ≡ Some n
   read-bad n h = same-bad ∙ h
 
-  pub read-good : (copies : List (List ℕ)) → length text ≤ TEXT_LIMIT
+  pub read-good : (copies : List (List ℕ)) → length text ≤ MAX_TEXT_BYTES
       → bad_from net phases.Begins 1 rest.now (texts_of lines) ≡ None → copies ≡ texts_of lines
       → (bad_line net text ≡ None) × (copies ≡ lines_of text) × IsTrace net copies
   read-good copies short h same =

@@ -12,7 +12,7 @@ use Rattle.walk_rules.specs.declared.place.Place.{Place}
 use Rattle.walk_rules.specs.declared.place.Outcome.{Outcome}
 use Rattle.walk_rules.specs.declared.place.Outcome.TheVariants as outcomes
 use Rattle.walk_rules.specs.Laws.{hops_at}
-use Rattle.walk_rules.specs.Relation.{IsPlace, Stage}
+use Rattle.walk_rules.specs.Relation.{IsPlace, IsStage}
 use Rattle.walk_rules.specs.Treatment.{Gave, step_of}
 use Rattle.walk_rules.specs.Walk.{decisions, next_place}
 use Rattle.walk_rules.proofs.PublicLaws.{decisions-one, hops-start, stage-choice, stage-member, stage-step, step-member, step-same}
@@ -64,7 +64,7 @@ module _ (net : Network) (place : Place) (content : Content) (keeps : Keeps net)
       gave-parts (step_of net place content choice) one.outcome one.after one.error (same.outcome (ap decisions e ∙ none)) same.after
       same.error
 
-  first-stage : Stage net place content one.outcome one.after one.error
+  first-stage : IsStage net place content one.outcome one.after one.error
   first-stage = stage-step net place content 0 keeps is
 
   within-by : (choice : ℕ) (o : Outcome) → one.outcome ≡ o
@@ -122,8 +122,8 @@ module _ (net : Network) (place : Place) (content : Content) (keeps : Keeps net)
       → StartsAt net.links place.node link
   link-there choice link e =
       let gave = step_of net place content choice in
-      let stage : Stage net place content (outcomes.Send link) gave.after gave.error =
-      subst (λ (o : Outcome). Stage net place content o gave.after gave.error) e (stage-step net place content choice keeps is) in
+      let stage : IsStage net place content (outcomes.Send link) gave.after gave.error =
+      subst (λ (o : Outcome). IsStage net place content o gave.after gave.error) e (stage-step net place content choice keeps is) in
       hops-start net place content link keeps is (stage-member net place content link gave.after gave.error stage)
 
   text-of-send : (choice link : ℕ) → (step_of net place content choice).outcome ≡ outcomes.Send link

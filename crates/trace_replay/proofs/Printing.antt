@@ -8,7 +8,7 @@ use Rattle.net_model.specs.Keeps.{Keeps}
 use Rattle.walk_rules.specs.declared.place.Place.{Place}
 use Rattle.walk_rules.specs.Relation.{IsPlace}
 use Rattle.walk_rules.specs.Treatment.{step_of}
-use Rattle.walk_rules.specs.Walk.{Step, decisions, next_place, walk_of}
+use Rattle.walk_rules.specs.Walk.{Stage, decisions, next_place, walk_of}
 use Rattle.walk_rules.proofs.PublicLaws.{step-place, walk_of-none, walk_of-suc, walk_of-zero}
 use Rattle.trace_replay.specs.declared.state.State.{State}
 use Rattle.trace_replay.specs.declared.state.State.TheVariants as states
@@ -30,12 +30,12 @@ GoesOn net left next content pick taken =
 
 goes-none : (net : Network) (left : ℕ) (content : Content) (pick : ℕ → ℕ) (taken : ℕ) → GoesOn net left None content pick taken
 goes-none net left content pick taken =
-    ap (λ (steps : List Step). state_behind net states.Ended (walk_lines net None steps)) (walk_of-none left net content pick taken)
+    ap (λ (steps : List Stage). state_behind net states.Ended (walk_lines net None steps)) (walk_of-none left net content pick taken)
 
 goes-zero : (net : Network) (next : Option Place) (content : Content) (pick : ℕ → ℕ) (taken : ℕ) → GoesOn net zero next content pick taken
 goes-zero net None content pick taken = goes-none net zero content pick taken
 goes-zero net (Some p) content pick taken =
-    ap (λ (steps : List Step). state_behind net states.Stopped (walk_lines net (Some p) steps))
+    ap (λ (steps : List Stage). state_behind net states.Stopped (walk_lines net (Some p) steps))
     (walk_of-zero net (Some p) content pick taken)
     ∙ stopped-ends net
 
@@ -54,7 +54,7 @@ walk-step : (net : Network) (left : ℕ) (place : Place) (content : Content) (pi
 walk-step net left place content pick taken keeps is on =
     let gave = step_of net place content (pick taken) in
     let rest = walk_of left net (next_place net place gave.outcome) gave.after pick (taken + decisions gave.outcome) in
-    ap (λ (steps : List Step). state_behind net (states.Going place content left) (walk_lines net (Some place) steps))
+    ap (λ (steps : List Stage). state_behind net (states.Going place content left) (walk_lines net (Some place) steps))
     (walk_of-suc left net place content pick taken)
     ∙ (ap (state_by (λ next. state_behind net next (walk_lines net (next_place net place gave.outcome) rest)))
     (line-leads net place content keeps is (pick taken) left)

@@ -4,7 +4,7 @@ use Rattle.std.proofs.lemmas.List.Elements.{All-append, All-cons, All-nil, All-t
 use Rattle.std.proofs.lemmas.Option.{same_Some}
 use Rattle.srv6_rules.specs.declared.icmp.IcmpKind.{IcmpKind}
 use Rattle.srv6_rules.specs.declared.icmp.IcmpKind.TheVariants.{Unreachable, TimeExceeded, Parameter}
-use Rattle.srv6_rules.specs.declared.numbers.TheConstants.{MOST_QUOTE_LEN}
+use Rattle.srv6_rules.specs.declared.numbers.TheConstants.{MAX_QUOTE_LEN}
 use Rattle.srv6_rules.specs.declared.sid.Behaviour.{Behaviour}
 use Rattle.srv6_rules.specs.declared.sid.Reason.{Reason}
 use Rattle.srv6_rules.specs.declared.sid.Reason.TheVariants as reasons
@@ -71,7 +71,7 @@ message-bytes p kind checksum h fits =
     (all-four_bytes (pointer_of kind)) in
     let tail : List ℕ = two_bytes checksum ++ four_bytes (pointer_of kind) in
     let head = All-cons Byte (type_of kind) (code_of kind ∷ tail) (type-below kind) (All-cons Byte (code_of kind) tail fits numbers) in
-    All-append Byte (message_head kind checksum) (quote_of p) head (All-take Byte MOST_QUOTE_LEN (spelling p) (all-spelling p h))
+    All-append Byte (message_head kind checksum) (quote_of p) head (All-take Byte MAX_QUOTE_LEN (spelling p) (all-spelling p h))
 
 spelled-bytes : (q : Packet) → q.next_header < 2 ^ 8 → q.hop_limit < 2 ^ 8 → All (λ b. b < 2 ^ 8) q.payload
     → All (λ b. b < 2 ^ 8) (spelling q)

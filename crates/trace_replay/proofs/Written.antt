@@ -8,7 +8,8 @@ use Rattle.std.proofs.lemmas.Slice.Eq.{bytes_eq-Decides}
 use Rattle.srv6_rules.specs.Packet.{Content}
 use Rattle.net_model.specs.Keeps.{Keeps}
 use Rattle.net_model.specs.Network.{Network}
-use Rattle.trace_replay.specs.declared.limits.TheConstants.{STAGES, TEXT_LIMIT}
+use Rattle.walk_rules.specs.declared.limits.TheConstants.{MAX_STAGES}
+use Rattle.net_model.specs.declared.limits.TheConstants.{MAX_TEXT_BYTES}
 use Rattle.trace_replay.specs.declared.line.Line.{Line}
 use Rattle.trace_replay.specs.declared.reading.Phase.TheVariants as phases
 use Rattle.trace_replay.specs.declared.state.State.TheVariants as states
@@ -40,7 +41,7 @@ head-line = refl
 
 module _ (net : Network) (keeps : Keeps net) where
   pub walk-lines-inner : (p : Traced) → IsTraced net p → All (IsInner net) (walk_lines net (Some (entry_place p)) (traced_walk net p))
-  walk-lines-inner p is = walk-inner STAGES net (entry_place p) p.content p.pick 0 keeps (entry-stands net p keeps is)
+  walk-lines-inner p is = walk-inner MAX_STAGES net (entry_place p) p.content p.pick 0 keeps (entry-stands net p keeps is)
 
   inner-texts : (ls : List (List ℕ)) → All (IsInner net) ls → All IsTextLine ls
   inner-texts [] h = All-nil IsTextLine
@@ -136,7 +137,7 @@ module _ (net : Network) (keeps : Keeps net) where
   fed-long [] = omega arith
   fed-long (l ∷ ls) = omega (arith, fed-long ls, length-append l (10 ∷ fed ls))
 
-  pub written-read : (packets : List Traced) → All (IsTraced net) packets → length (trace_text net packets) ≤ TEXT_LIMIT
+  pub written-read : (packets : List Traced) → All (IsTraced net) packets → length (trace_text net packets) ≤ MAX_TEXT_BYTES
       → Reads net (trace_text net packets) (Ok (trace_lines net packets))
   written-read packets h short = (
     written-good packets h,
@@ -153,8 +154,8 @@ module _ (net : Network) (keeps : Keeps net) where
   packet-right p is =
       let walk = walk_lines net (Some (entry_place p)) (traced_walk net p) in
       ap (λ (o : Option Line). state_by (λ next. state_behind net next walk) (by_line o)) (first-line net p keeps is).read
-      ∙ (ap (λ (c : Content). state_behind net (states.Going (entry_place p) c (STAGES - 1)) walk) (enters-again net p keeps is)
-      ∙ walk-replays net (STAGES - 1) (entry_place p) p.content p.pick 0 keeps (entry-stands net p keeps is).is)
+      ∙ (ap (λ (c : Content). state_behind net (states.Going (entry_place p) c (MAX_STAGES - 1)) walk) (enters-again net p keeps is)
+      ∙ walk-replays net (MAX_STAGES - 1) (entry_place p) p.content p.pick 0 keeps (entry-stands net p keeps is).is)
 
   end-right : (n : ℕ) → wrong_from net states.Ended n (end_text ∷ []) ≡ None
   end-right n =

@@ -5,9 +5,9 @@ use Rattle.icmp6_errors.specs.Answer.{error_bytes}
 use Rattle.net_model.specs.Network.{Network}
 use Rattle.walk_rules.specs.declared.place.Outcome.{Outcome}
 use Rattle.walk_rules.specs.declared.place.Place.{Place}
-use Rattle.walk_rules.specs.Relation.{Stage}
+use Rattle.walk_rules.specs.Relation.{IsStage}
 use Rattle.walk_rules.specs.Treatment.{step_of}
-use Rattle.walk_rules.specs.Walk.{Step, place_after}
+use Rattle.walk_rules.specs.Walk.{Stage, place_after}
 use Rattle.trace_replay.specs.declared.state.State.{State}
 use Rattle.trace_replay.specs.Lines.{outcome_text, stage_text, stages_text}
 use Rattle.trace_replay.specs.Replays.{line_judged}
@@ -17,7 +17,7 @@ pub record IsOutcomeLine (net : Network) (place : Place) (content : Content) (li
   pub outcome : Outcome
   pub after : Content
   pub error : Option Packet
-  pub there : Stage net place content outcome after error
+  pub there : IsStage net place content outcome after error
   pub is_line : line ≡ outcome_text net outcome (bytes_of after) (error_bytes error)
 
 -- a line is the one of what some choice gives
@@ -41,5 +41,5 @@ abbrev pub stages_lines : Option Place → List (List ℕ)
 stages_lines None = []
 stages_lines (Some place) = stages_text ∷ []
 
-abbrev pub walk_lines : Network → Option Place → List Step → List (List ℕ)
-walk_lines net place steps = map (λ (s : Step). stage_text net s.gave) steps ++ stages_lines (place_after net place steps)
+abbrev pub walk_lines : Network → Option Place → List Stage → List (List ℕ)
+walk_lines net place steps = map (λ (s : Stage). stage_text net s.gave) steps ++ stages_lines (place_after net place steps)

@@ -2,7 +2,7 @@
 use Rattle.std.specs.Prelude.{◌≡◌, ◌≤◌, ℕ, ◌+◌, Bool, true, false, ◌&&◌, ◌==◌, if◌then◌else◌, bytes_eq, List, [], ◌∷◌, length, Option, Some, None, Result, Ok, Err}
 use Rattle.std.specs.List.{slice_split}
 use Rattle.net_model.specs.Network.{Network}
-use Rattle.trace_replay.specs.declared.limits.TheConstants.{TEXT_LIMIT}
+use Rattle.net_model.specs.declared.limits.TheConstants.{MAX_TEXT_BYTES}
 use Rattle.trace_replay.specs.declared.line.Line.{Line}
 use Rattle.trace_replay.specs.declared.line.Line.TheVariants as lines
 use Rattle.trace_replay.specs.declared.reading.Phase.{Phase}
@@ -80,7 +80,7 @@ bad_line net text = bad_from net phases.Begins 1 (rest_of text) (lines_of text)
 -- lines that make a trace where a line feed ends each; they are not more than a text has bytes
 pub record IsTrace (net : Network) (lines : List (List ℕ)) : Type 0 where
   pub good : bad_from net phases.Begins 1 [] lines ≡ None
-  pub few : length lines ≤ TEXT_LIMIT
+  pub few : length lines ≤ MAX_TEXT_BYTES
 
 -- a trace with the text's lines, the first bad line, or want of memory
 abbrev pub Reads : Network → List ℕ → Result (List (List ℕ)) TraceFault → Type 0

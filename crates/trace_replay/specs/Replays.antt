@@ -8,7 +8,7 @@ use Rattle.walk_rules.specs.declared.place.Place.{Place}
 use Rattle.walk_rules.specs.Laws.{hops_at}
 use Rattle.walk_rules.specs.Treatment.{Gave, step_of}
 use Rattle.walk_rules.specs.Walk.{next_place}
-use Rattle.trace_replay.specs.declared.limits.TheConstants.{STAGES}
+use Rattle.walk_rules.specs.declared.limits.TheConstants.{MAX_STAGES}
 use Rattle.trace_replay.specs.declared.state.State.{State}
 use Rattle.trace_replay.specs.declared.state.State.TheVariants as states
 use Rattle.trace_replay.specs.declared.line.Line.{Line}
@@ -52,7 +52,7 @@ ended_text = codes "ended"
 abbrev pub by_line : Option Line → Result State (List ℕ)
 by_line None = Err ended_text
 by_line (Some (lines.Packet family node packet)) =
-    Ok (states.Going (record { node = node; how = Arrived 0; family = family }) (entered family packet) (STAGES - 1))
+    Ok (states.Going (record { node = node; how = Arrived 0; family = family }) (entered family packet) (MAX_STAGES - 1))
 by_line (Some lines.Stage) = Err ended_text
 by_line (Some lines.Stages) = Err ended_text
 by_line (Some lines.End) = Ok states.Ended

@@ -6,8 +6,8 @@ use Rattle.walk_rules.specs.declared.place.Outcome.{Outcome}
 use Rattle.walk_rules.specs.declared.place.Outcome.TheVariants as outcomes
 use Rattle.walk_rules.specs.declared.place.Place.{Place}
 use Rattle.walk_rules.specs.Treatment.{step_of}
-use Rattle.trace_replay.specs.declared.judge.Judged.{Judged}
-use Rattle.trace_replay.specs.declared.judge.Judged.TheVariants as judges
+use Rattle.trace_replay.specs.declared.judge.LineVerdict.{LineVerdict}
+use Rattle.trace_replay.specs.declared.judge.LineVerdict.TheVariants as judges
 use Rattle.trace_replay.specs.Lines.{outcome_text, stage_text}
 use Rattle.trace_replay.specs.Replays.{choice_given}
 
@@ -44,6 +44,6 @@ pub record IsWrong (net : Network) (place : Place) (content : Content) (line exp
   pub given : choice_given net place content line ≡ None
   pub told : expected ≡ stage_text net (step_of net place content 0)
 
-abbrev pub JudgesStage : Network → Place → Content → List ℕ → Judged → Content → Type 0
+abbrev pub JudgesStage : Network → Place → Content → List ℕ → LineVerdict → Content → Type 0
 JudgesStage net place content line (judges.Right outcome) after = IsRight net place content line outcome after
 JudgesStage net place content line (judges.Wrong expected) after = IsWrong net place content line (string_bytes expected)

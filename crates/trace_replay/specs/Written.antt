@@ -6,8 +6,8 @@ use Rattle.srv6_rules.specs.Packet.{Content, bytes_of, entered}
 use Rattle.net_model.specs.Network.{Network}
 use Rattle.walk_rules.specs.declared.place.How.TheVariants.{Arrived}
 use Rattle.walk_rules.specs.declared.place.Place.{Place}
-use Rattle.walk_rules.specs.Walk.{Step, walk_of}
-use Rattle.trace_replay.specs.declared.limits.TheConstants.{STAGES}
+use Rattle.walk_rules.specs.Walk.{Stage, walk_of}
+use Rattle.walk_rules.specs.declared.limits.TheConstants.{MAX_STAGES}
 use Rattle.trace_replay.specs.Laws.{walk_lines}
 use Rattle.trace_replay.specs.Lines.{end_text, head_text, hex_text, name_of_node, packet_text}
 use Rattle.trace_replay.specs.declared.verdict.Replayed.{Replayed}
@@ -33,8 +33,8 @@ pub record IsTraced (net : Network) (p : Traced) : Type 0 where
 abbrev pub entry_place : Traced → Place
 entry_place p = record { node = p.node; how = Arrived 0; family = p.family }
 
-abbrev pub traced_walk : Network → Traced → List Step
-traced_walk net p = walk_of STAGES net (Some (entry_place p)) p.content p.pick 0
+abbrev pub traced_walk : Network → Traced → List Stage
+traced_walk net p = walk_of MAX_STAGES net (Some (entry_place p)) p.content p.pick 0
 
 -- the lines of a packet: its first one, and those of its walk
 

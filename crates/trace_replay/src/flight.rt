@@ -5,15 +5,14 @@ ghost use Rattle.trace_replay.specs.Judging.{IsState, JudgesLine};
 ghost use Rattle.trace_replay.specs.Replays.{ended_text, going};
 ghost use Rattle.walk_rules.specs.Relation.{IsPlace};
 
-use crate::judge::{Judged, judge_stage};
-use crate::limits::STAGES;
+use crate::judge::{LineVerdict, judge_stage};
 use crate::line::{Line, read_line};
 use crate::state::State;
 use base::{NoMemory, Seq};
 use net_model::Net;
 use node_stage::Content;
 use std::alloc::{AllocError, Global};
-use walk_rules::{Place, arrival, next_place};
+use walk_rules::{MAX_STAGES, Place, arrival, next_place};
 
 /// Why a line is not judged right.
 #[derive(Debug, Drop)]
@@ -81,8 +80,12 @@ fn judge_going(
 {
     net.keeps_rules();
     match judge_stage(alloc, net, &place, &mut content, line)? {
-        Judged::Right { outcome } => Ok(going(next_place(net, &place, &outcome), content, left)),
-        Judged::Wrong { expected } => Err(LineFault::Wrong {
+        LineVerdict::Right { outcome } => Ok(going(
+            next_place(net, &place, &outcome),
+            content,
+            left,
+        )),
+        LineVerdict::Wrong { expected } => Err(LineFault::Wrong {
             expected: Seq::new(expected.into_bytes()),
         }),
     }
@@ -124,7 +127,7 @@ fn judge_ended(alloc: Global, net: &Net, line: &[u8]) -> Result<State, LineFault
         ) => Ok(State::Going {
             place: arrival(node, family),
             content: Content::enter(family, packet.into_vec()),
-            left: STAGES - 1,
+            left: MAX_STAGES - 1,
         }),
         Some(Line::End) => Ok(State::Ended),
         Some(Line::Stage | Line::Stages) | None => Err(LineFault::Wrong {

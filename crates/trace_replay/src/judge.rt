@@ -17,7 +17,7 @@ use walk_rules::{Outcome, Place};
 
 /// The judgement of a stage's line.
 #[derive(Debug, Drop)]
-pub(crate) enum Judged {
+pub(crate) enum LineVerdict {
     /// It is the line of this outcome.
     Right {
         /// The outcome.
@@ -98,7 +98,7 @@ pub(crate) fn judge_stage(
     place: &Place,
     content: &mut Content,
     line: &[u8],
-) -> Result<Judged, NoMemory>
+) -> Result<LineVerdict, NoMemory>
     requires { IsPlace net.now place.now }
     ensures { IfOk result (λ judged.
         JudgesStage net.now place.now content.old line.now judged content.new) }
@@ -110,10 +110,10 @@ pub(crate) fn judge_stage(
     let packet = content.bytes();
     let error = slot.as_slice();
     match choice_among(alloc, net, hops, &outcome, packet, error, line)? {
-        Some(choice) => Ok(Judged::Right {
+        Some(choice) => Ok(LineVerdict::Right {
             outcome: outcome_under(&outcome, hops, choice),
         }),
-        None => Ok(Judged::Wrong {
+        None => Ok(LineVerdict::Wrong {
             expected: text_of_outcome(alloc, net, &outcome, packet, error)?,
         }),
     }

@@ -11,7 +11,8 @@ ghost use Rattle.trace_replay.specs.Numbered.{IsNumbered};
 ghost use Rattle.trace_replay.specs.Reading.{Reads, bad_line, lines_of};
 ghost use Rattle.trace_replay.specs.Replays.{choice_given, wrong_from};
 ghost use Rattle.trace_replay.specs.Written.{IsTraced, Traced, counts_written, entry_place, packet_line, packet_trace, packets_lines, trace_lines, trace_text, unended_text, walk_trace};
-ghost use Rattle.trace_replay.specs.declared.limits.TheConstants.{STAGES, TEXT_LIMIT};
+ghost use Rattle.walk_rules.specs.declared.limits.TheConstants.{MAX_STAGES};
+ghost use Rattle.net_model.specs.declared.limits.TheConstants.{MAX_TEXT_BYTES};
 ghost use Rattle.trace_replay.specs.declared.state.State.{State};
 ghost use Rattle.trace_replay.specs.declared.state.State.TheVariants as states;
 ghost use Rattle.walk_rules.specs.Relation.{IsPlace};
@@ -59,7 +60,7 @@ pub fn what_is_written_is_accepted()
         × (lines_of (trace_text net packets) ≡ trace_lines net packets) }
     ensures read { (net : Network) (packets : List Traced) →
         Keeps net → All (IsTraced net) packets →
-        length (trace_text net packets) ≤ TEXT_LIMIT →
+        length (trace_text net packets) ≤ MAX_TEXT_BYTES →
         Reads net (trace_text net packets) (Ok (trace_lines net packets)) }
     ensures replayed { (net : Network) (packets : List Traced) →
         Keeps net → All (IsTraced net) packets →
@@ -77,7 +78,7 @@ pub fn what_is_not_finished_is_refused()
 /// may have no stage more the line that says so; and of one that has ended nothing. (own rule)
 pub fn a_packet_is_written_stage_by_stage()
     ensures first { (net : Network) (p : Traced) → packet_trace net p
-        ≡ packet_line net p ++ 10 ∷ walk_trace STAGES net (Some (entry_place p)) p.content p.pick 0 }
+        ≡ packet_line net p ++ 10 ∷ walk_trace MAX_STAGES net (Some (entry_place p)) p.content p.pick 0 }
     ensures stage { (left : ℕ) (net : Network) (place : Place) (content : Content) →
         (pick : ℕ → ℕ) (taken : ℕ) →
         let gave = step_of net place content (pick taken) in

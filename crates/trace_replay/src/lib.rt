@@ -10,7 +10,6 @@
 mod flight;
 mod judge;
 mod laws;
-mod limits;
 mod line;
 mod numbers;
 mod print;
@@ -25,7 +24,6 @@ pub use laws::{
     an_outcome_names_what_is_there, printed_traces_replay, right_lines_are_passed,
     what_is_not_finished_is_refused, what_is_written_is_accepted,
 };
-pub use limits::{STAGES, TEXT_LIMIT};
 pub use numbers::number_of_word;
 pub use print::{is_numbered, print_end, print_event, print_head, print_packet, print_stages};
 pub use reading::{Trace, TraceFault, read_trace};

@@ -12,7 +12,7 @@ use base::{NoMemory, Seq};
 use net_model::Net;
 use node_stage::Content;
 use srv6_rules::Family;
-use srv6_rules::numbers::MOST_LEN;
+use srv6_rules::numbers::MAX_PACKET_LEN;
 use std::alloc::{AllocError, Global};
 use std::str;
 
@@ -50,7 +50,7 @@ fn entering(
         line ≡ packet_by (Some family) (Some node) (Some packet.items)) }
     ensures there { IfOk result (IsLine net.now) }
 {
-    if packet.len() > MOST_LEN {
+    if packet.len() > MAX_PACKET_LEN {
         return Ok(None);
     }
     let len = packet.len();

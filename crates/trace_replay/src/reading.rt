@@ -3,10 +3,9 @@
 ghost use Rattle.std.specs.Prelude.{◌≡◌, ◌<◌, ◌≤◌, IfOk, length, map};
 ghost use Rattle.trace_replay.specs.Reading.{Reads, bad_from, behind_head, behind_packet, is_over, phase_behind, pieces_of};
 
-use crate::limits::TEXT_LIMIT;
 use crate::line::{Line, read_line};
 use base::{NoMemory, Seq};
-use net_model::Net;
+use net_model::{MAX_TEXT_BYTES, Net};
 use std::alloc::{AllocError, Global};
 use std::marker::Model;
 
@@ -146,7 +145,7 @@ fn first_bad(
     lines: &[&[u8]],
     rest: &[u8],
 ) -> Result<Option<u32>, NoMemory>
-    requires { length lines.now ≤ TEXT_LIMIT }
+    requires { length lines.now ≤ MAX_TEXT_BYTES }
     ensures { IfOk result (λ bad. bad
         ≡ bad_from net.now Phase.Begins 1 rest.now (map (λ line. line.now) lines.now)) }
 {
@@ -188,7 +187,7 @@ fn copies_of(alloc: Global, lines: &[&[u8]]) -> Result<Vec<Seq<u8>>, AllocError>
 /// line 1 where the head is missing, and the line behind the last one where `end` is; and one
 /// behind `end`. (own rule)
 pub fn read_trace(alloc: Global, net: &Net, text: &[u8]) -> Result<Trace, TraceFault>
-    requires { length text.now ≤ TEXT_LIMIT }
+    requires { length text.now ≤ MAX_TEXT_BYTES }
     ensures { Reads net.now text.now result }
 {
     let pieces = pieces_of(alloc, text)?;

@@ -6,11 +6,10 @@ ghost use Rattle.trace_replay.specs.Reading.{IsTrace};
 ghost use Rattle.trace_replay.specs.Replays.{begins_packet, counts_of};
 
 use crate::flight::{LineFault, judge_line};
-use crate::limits::TEXT_LIMIT;
 use crate::reading::Trace;
 use crate::state::State;
 use base::Seq;
-use net_model::Net;
+use net_model::{MAX_TEXT_BYTES, Net};
 use std::alloc::Global;
 
 /// What a trace that is right has. (own rule)
@@ -38,7 +37,7 @@ pub enum ReplayFault {
 
 /// How many of the lines are a packet's first.
 fn packets_of(lines: &[Seq<u8>]) -> u32
-    requires { length lines.now ≤ TEXT_LIMIT }
+    requires { length lines.now ≤ MAX_TEXT_BYTES }
     ensures { result ≡ count_by begins_packet lines.now }
 {
     let mut packets = 0;
@@ -52,7 +51,7 @@ fn packets_of(lines: &[Seq<u8>]) -> u32
 
 /// What a trace of these lines has.
 fn counts_of(lines: &[Seq<u8>]) -> Replayed
-    requires { length lines.now ≤ TEXT_LIMIT }
+    requires { length lines.now ≤ MAX_TEXT_BYTES }
     ensures { result ≡ counts_of lines.now }
 {
     Replayed {

@@ -2,8 +2,8 @@
 use Rattle.std.proofs.Common.{◌≡◌, ℕ, inl, inr, true, false, List, [], ◌∷◌, ◌++◌, Some, sym, ◌∙◌, ap, subst, refl, arith}
 use Rattle.std.specs.Prelude.{option_and_then}
 use Rattle.std.proofs.lemmas.Bool.{eq-eqb, cases_lt}
-use Rattle.v6_addr.specs.declared.scan.Place.{Place}
-use Rattle.v6_addr.specs.declared.scan.Place.TheVariants.{Start, Colon, Group, Between, Gap}
+use Rattle.v6_addr.specs.declared.scan.Scanned.{Scanned}
+use Rattle.v6_addr.specs.declared.scan.Scanned.TheVariants.{Start, Colon, Group, Between, Gap}
 use Rattle.v6_addr.specs.Grammar.{IsAddressText}
 use Rattle.v6_addr.specs.Faults.{Begins}
 use Rattle.v6_addr.specs.Scan.{behind_digit, behind_colon, behind, walked, reached}
@@ -13,7 +13,7 @@ use Rattle.v6_addr.proofs.PlaceTexts.{EndsAt, ended_text}
 use Rattle.v6_addr.proofs.Walks.{Reaches, walked_append}
 
 -- each place leads on to an end
-completed : (place : Place) → (rest : List ℕ) × EndsAt (reached place rest)
+completed : (place : Scanned) → (rest : List ℕ) × EndsAt (reached place rest)
 unfolding walked behind behind_digit behind_colon
 completed Start = (58 ∷ 58 ∷ [], refl)
 completed Colon = (58 ∷ [], refl)
@@ -27,13 +27,13 @@ completed (Between left true) = (48 ∷ [], refl)
 completed (Between left false) = (58 ∷ [], refl)
 completed (Gap left) = ([], refl)
 
-begun_reached : (text : List ℕ) → Begins IsAddressText text → (place : Place) × (reached Start text ≡ Some place)
+begun_reached : (text : List ℕ) → Begins IsAddressText text → (place : Scanned) × (reached Start text ≡ Some place)
 begun_reached text b =
     let whole = address_reached (text ++ b.rest) b.value b.accepted in
     let parts = some_then (λ q. reached q b.rest) (reached Start text) whole.0 (sym (walked_append behind Start text b.rest) ∙ whole.1) in
     (parts.0, parts.1)
 
-reached_begins : (text : List ℕ) (place : Place) → reached Start text ≡ Some place → Begins IsAddressText text
+reached_begins : (text : List ℕ) (place : Scanned) → reached Start text ≡ Some place → Begins IsAddressText text
 reached_begins text place here =
     let rest = completed place in
     let same : reached Start (text ++ rest.0) ≡ reached place rest.0 =

@@ -7,8 +7,8 @@ use Rattle.std.specs.Str.Parse.{digits_value, AllDigits}
 use Rattle.std.proofs.lemmas.List.{append-nil}
 use Rattle.std.proofs.lemmas.Option.{same_Some, none-some}
 use Rattle.std.proofs.lemmas.Bool.{ltb-true, eqb-true, false≢true}
-use Rattle.v6_addr.specs.declared.scan.Place.{Place}
-use Rattle.v6_addr.specs.declared.scan.Place.TheVariants.{Start, Colon, Group, Between, Gap}
+use Rattle.v6_addr.specs.declared.scan.Scanned.{Scanned}
+use Rattle.v6_addr.specs.declared.scan.Scanned.TheVariants.{Start, Colon, Group, Between, Gap}
 use Rattle.v6_addr.specs.Text.{number_of_groups}
 use Rattle.v6_addr.specs.Grammar.{IsGroupText, IsGroupsText, IsAddressText}
 use Rattle.v6_addr.specs.Scan.{behind_digit, behind_colon, behind, walked, reached, is_end}
@@ -16,34 +16,34 @@ use Rattle.v6_addr.proofs.GrammarLaws.{some_cond}
 use Rattle.v6_addr.proofs.Places.{more_texts, joined_more}
 
 -- a place where an address may end
-abbrev pub EndsAt : Option Place → Type 0
+abbrev pub EndsAt : Option Scanned → Type 0
 EndsAt None = ⊥
 EndsAt (Some place) = is_end place ≡ true
 
 -- the first step from a place to an end
-record DigitStep (place : Place) (c : ℕ) (rest : List ℕ) : Type 0 where
+record DigitStep (place : Scanned) (c : ℕ) (rest : List ℕ) : Type 0 where
   digit : digit_value c < 16
-  next : Place
+  next : Scanned
   is_next : behind_digit place ≡ Some next
   ends : EndsAt (reached next rest)
 
-record ColonStep (place : Place) (c : ℕ) (rest : List ℕ) : Type 0 where
+record ColonStep (place : Scanned) (c : ℕ) (rest : List ℕ) : Type 0 where
   colon : c ≡ 58
-  next : Place
+  next : Scanned
   is_next : behind_colon place ≡ Some next
   ends : EndsAt (reached next rest)
 
-from_next : (o : Option Place) (rest : List ℕ) → EndsAt (option_and_then (λ q. reached q rest) o)
-    → (q : Place) × (o ≡ Some q) × EndsAt (reached q rest)
+from_next : (o : Option Scanned) (rest : List ℕ) → EndsAt (option_and_then (λ q. reached q rest) o)
+    → (q : Scanned) × (o ≡ Some q) × EndsAt (reached q rest)
 from_next None rest ends = absurd ends
 from_next (Some q) rest ends = (q, refl, ends)
 
-first_step : (place : Place) (c : ℕ) (rest : List ℕ) → EndsAt (reached place (c ∷ rest)) → DigitStep place c rest ⊎ ColonStep place c rest
+first_step : (place : Scanned) (c : ℕ) (rest : List ℕ) → EndsAt (reached place (c ∷ rest)) → DigitStep place c rest ⊎ ColonStep place c rest
 unfolding walked behind
 first_step place c rest ends = by_test (is_digit c 16) (eqb c 58) refl refl (from_next (behind place c) rest ends)
   where
     by_test : (digit colon : Bool) → is_digit c 16 ≡ digit → eqb c 58 ≡ colon
-        → (q : Place) × (cond digit (behind_digit place) (cond colon (behind_colon place) None) ≡ Some q) × EndsAt (reached q rest)
+        → (q : Scanned) × (cond digit (behind_digit place) (cond colon (behind_colon place) None) ≡ Some q) × EndsAt (reached q rest)
         → DigitStep place c rest ⊎ ColonStep place c rest
     by_test true colon digit other next =
         inl (record { digit = ltb-true _ _ digit; next = next.0; is_next = next.1; ends = next.2 })
@@ -121,7 +121,7 @@ group_digit : (c : ℕ) (cs : List ℕ) (left digits : ℕ) (short : Bool) → D
 unfolding behind_digit
 group_digit c cs left digits short h more =
     let next = some_cond (ltb digits 4) (Some (Group left (digits + 1) short)) h.next h.is_next in
-    let P : Place → Type 0 = λ q. EndsAt (reached q cs) in
+    let P : Scanned → Type 0 = λ q. EndsAt (reached q cs) in
     let tail = more (subst P (sym (same_Some _ _ next.1)) h.ends) in
     record {
       text = c ∷ tail.text;
@@ -138,7 +138,7 @@ group_colon : (c : ℕ) (cs : List ℕ) (left digits : ℕ) (short : Bool) → d
 unfolding behind_colon
 group_colon c cs left digits short few h more =
     let next = some_cond (ltb 0 left) (Some (Between (left - 1) short)) h.next h.is_next in
-    let P : Place → Type 0 = λ q. EndsAt (reached q cs) in
+    let P : Scanned → Type 0 = λ q. EndsAt (reached q cs) in
     let behind = more (subst P (sym (same_Some _ _ next.1)) h.ends) in
     let some = ltb-true 0 left next.0 in
     let same : suc (left - 1) ≡ left = omega (arith, some) in
@@ -157,7 +157,7 @@ between_digit : (c : ℕ) (cs : List ℕ) (left : ℕ) (short : Bool) → DigitS
     → More (58 ∷ c ∷ cs) (suc left) short
 unfolding behind_digit
 between_digit c cs left short h more =
-    let P : Place → Type 0 = λ q. EndsAt (reached q cs) in
+    let P : Scanned → Type 0 = λ q. EndsAt (reached q cs) in
     let tail = more (subst P (sym (same_Some _ _ h.is_next)) h.ends) in
     let m = tail.more in
     record {
@@ -177,7 +177,7 @@ between_colon : (c : ℕ) (cs : List ℕ) (left : ℕ) (short : Bool) → ColonS
 unfolding behind_colon
 between_colon c cs left true h gaps = absurd (none-some h.next h.is_next)
 between_colon c cs left false h gaps =
-    let P : Place → Type 0 = λ q. EndsAt (reached q cs) in
+    let P : Scanned → Type 0 = λ q. EndsAt (reached q cs) in
     let right = gaps left cs refl (subst P (sym (same_Some _ _ h.is_next)) h.ends) in
     record {
       texts = [];
@@ -266,7 +266,7 @@ gap_groups left (c ∷ cs) ends =
   where
     begun : (h : DigitStep (Gap left) c cs) → (ltb 0 left ≡ true) × (Some (Group (left - 1) 1 true) ≡ Some h.next) → Groups (c ∷ cs) left
     begun h next =
-        let P : Place → Type 0 = λ q. EndsAt (reached q cs) in
+        let P : Scanned → Type 0 = λ q. EndsAt (reached q cs) in
         let tail = (tails true no_gaps cs).group (left - 1) 1 (omega arith) (subst P (sym (same_Some _ _ next.1)) h.ends) in
         let some = ltb-true 0 left next.0 in
         let same : suc (left - 1) ≡ left = omega (arith, some) in
@@ -338,7 +338,7 @@ colons_text (c ∷ cs) ends =
   where
     whole : (h : ColonStep Colon c cs) → (a : ℕ) × IsAddressText (58 ∷ c ∷ cs) a
     whole h =
-        let P : Place → Type 0 = λ q. EndsAt (reached q cs) in
+        let P : Scanned → Type 0 = λ q. EndsAt (reached q cs) in
         let Q : ℕ → Type 0 = λ n. (a : ℕ) × IsAddressText (58 ∷ n ∷ cs) a in
         let right = gap_groups 7 cs (subst P (sym (same_Some _ _ h.is_next)) h.ends) in
         subst Q (sym h.colon)
@@ -353,12 +353,12 @@ ended_text (c ∷ cs) ends =
   where
     by_digit : DigitStep Start c cs → (a : ℕ) × IsAddressText (c ∷ cs) a
     by_digit h =
-        let P : Place → Type 0 = λ q. EndsAt (reached q cs) in
+        let P : Scanned → Type 0 = λ q. EndsAt (reached q cs) in
         begun_text c cs h.digit
         ((tails false gaps_follow cs).group 7 1 (omega arith) (subst P (sym (same_Some _ _ h.is_next)) h.ends))
 
     by_colon : ColonStep Start c cs → (a : ℕ) × IsAddressText (c ∷ cs) a
     by_colon h =
-        let P : Place → Type 0 = λ q. EndsAt (reached q cs) in
+        let P : Scanned → Type 0 = λ q. EndsAt (reached q cs) in
         let Q : ℕ → Type 0 = λ n. (a : ℕ) × IsAddressText (n ∷ cs) a in
         subst Q (sym h.colon) (colons_text cs (subst P (sym (same_Some _ _ h.is_next)) h.ends))

@@ -6,20 +6,20 @@ use Rattle.std.specs.List.{join_with_byte, AllZip}
 use Rattle.std.specs.Str.Parse.{AllDigits}
 use Rattle.std.proofs.lemmas.List.{append-nil}
 use Rattle.std.proofs.lemmas.Bool.{lt-ltb, cond-true}
-use Rattle.v6_addr.specs.declared.scan.Place.{Place}
-use Rattle.v6_addr.specs.declared.scan.Place.TheVariants.{Start, Colon, Group, Between, Gap}
+use Rattle.v6_addr.specs.declared.scan.Scanned.{Scanned}
+use Rattle.v6_addr.specs.declared.scan.Scanned.TheVariants.{Start, Colon, Group, Between, Gap}
 use Rattle.v6_addr.specs.Grammar.{IsGroupText, IsGroupsText, IsAddressText}
 use Rattle.v6_addr.specs.Scan.{behind_digit, behind_colon, behind, walked, reached}
 
 -- ---- steps
 
-pub step_digit : (place next : Place) (c : ℕ) (rest : List ℕ) → digit_value c < 16 → behind_digit place ≡ Some next
+pub step_digit : (place next : Scanned) (c : ℕ) (rest : List ℕ) → digit_value c < 16 → behind_digit place ≡ Some next
     → reached place (c ∷ rest) ≡ reached next rest
 unfolding walked behind
 step_digit place next c rest digit is_next =
     ap (option_and_then (λ q. reached q rest)) (cond-true _ _ _ (lt-ltb _ _ digit) ∙ is_next)
 
-pub step_colon : (place next : Place) (rest : List ℕ) → behind_colon place ≡ Some next → reached place (58 ∷ rest) ≡ reached next rest
+pub step_colon : (place next : Scanned) (rest : List ℕ) → behind_colon place ≡ Some next → reached place (58 ∷ rest) ≡ reached next rest
 unfolding walked behind
 step_colon place next rest is_next = ap (option_and_then (λ q. reached q rest)) is_next
 
@@ -53,7 +53,7 @@ digits_reach left digits short (c ∷ cs) rest h few =
     ∙ digits_reach left (digits + 1) short cs rest h.1 (omega arith)
     ∙ ap (λ n. reached (Group left n short) rest) sum
 
-group_reach : (place : Place) (left : ℕ) (short : Bool) (text : List ℕ) (g : ℕ) (rest : List ℕ) → IsGroupText text g
+group_reach : (place : Scanned) (left : ℕ) (short : Bool) (text : List ℕ) (g : ℕ) (rest : List ℕ) → IsGroupText text g
     → behind_digit place ≡ Some (Group left 1 short) → reached place (text ++ rest) ≡ reached (Group left (length text) short) rest
 group_reach place left short [] g rest h next = absurd (omega (arith, h.0))
 group_reach place left short (c ∷ cs) g rest h next =
@@ -82,7 +82,7 @@ more_reach left digits short (t ∷ ts) (g ∷ gs) k rest h sum =
 
 -- what is behind the last group
 more_reach_all : (left digits : ℕ) (short : Bool) (texts : List (List ℕ)) (groups : List ℕ) → AllZip IsGroupText texts groups
-    → length groups ≤ left → (p : Place) × (reached (Group left digits short) (more_texts texts) ≡ Some p)
+    → length groups ≤ left → (p : Scanned) × (reached (Group left digits short) (more_texts texts) ≡ Some p)
 unfolding walked
 more_reach_all left digits short texts groups h few =
     let k = left - length groups in
@@ -90,7 +90,7 @@ more_reach_all left digits short texts groups h few =
     (Group k behind.0 short, ap (reached (Group left digits short)) (sym (append-nil (more_texts texts))) ∙ behind.1)
 
 gap_reach : (left : ℕ) (texts : List (List ℕ)) (groups : List ℕ) → AllZip IsGroupText texts groups → length groups ≤ left
-    → (p : Place) × (reached (Gap left) (join_with_byte 58 texts) ≡ Some p)
+    → (p : Scanned) × (reached (Gap left) (join_with_byte 58 texts) ≡ Some p)
 unfolding walked behind_digit
 gap_reach left [] groups h few = (Gap left, refl)
 gap_reach left (t ∷ ts) [] h few = absurd h
@@ -103,13 +103,13 @@ gap_reach left (t ∷ ts) (g ∷ gs) h few =
     )
 
 gap_text_reach : (left : ℕ) (text groups : List ℕ) → IsGroupsText text groups → length groups ≤ left
-    → (p : Place) × (reached (Gap left) text ≡ Some p)
+    → (p : Scanned) × (reached (Gap left) text ≡ Some p)
 gap_text_reach left text groups h few =
     let behind = gap_reach left h.texts groups h.each few in
     (behind.0, ap (reached (Gap left)) h.joined ∙ behind.1)
 
 full_reach : (texts : List (List ℕ)) (groups : List ℕ) → AllZip IsGroupText texts groups → length groups ≡ 8
-    → (p : Place) × (reached Start (join_with_byte 58 texts) ≡ Some p)
+    → (p : Scanned) × (reached Start (join_with_byte 58 texts) ≡ Some p)
 unfolding behind_digit
 full_reach [] [] h eight = absurd (omega arith)
 full_reach [] (g ∷ gs) h eight = absurd h
@@ -122,7 +122,7 @@ full_reach (t ∷ ts) (g ∷ gs) h eight =
 
 short_reach : (texts : List (List ℕ)) (groups right_text right : List ℕ) → AllZip IsGroupText texts groups → IsGroupsText right_text right
     → length groups + length right ≤ 7
-    → (p : Place) × (reached Start (join_with_byte 58 texts ++ (58 ∷ 58 ∷ right_text)) ≡ Some p)
+    → (p : Scanned) × (reached Start (join_with_byte 58 texts ++ (58 ∷ 58 ∷ right_text)) ≡ Some p)
 unfolding behind_digit behind_colon
 short_reach [] groups right_text right h written few =
     let behind = gap_text_reach 7 right_text right written (omega arith) in
@@ -143,7 +143,7 @@ short_reach (t ∷ ts) (g ∷ gs) right_text right h written few =
     )
 
 -- the text of an address is reached
-pub address_reached : (text : List ℕ) (a : ℕ) → IsAddressText text a → (p : Place) × (reached Start text ≡ Some p)
+pub address_reached : (text : List ℕ) (a : ℕ) → IsAddressText text a → (p : Scanned) × (reached Start text ≡ Some p)
 address_reached text a (inl h) =
     let behind = full_reach h.written.texts h.groups h.written.each h.eight in
     (behind.0, ap (reached Start) h.written.joined ∙ behind.1)

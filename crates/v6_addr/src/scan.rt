@@ -8,7 +8,7 @@ ghost use Rattle.v6_addr.specs.Faults.{Begins, IsLongestBeginning};
 /// What stands before the next byte in the text of an address. Each `left` is a number of groups
 /// that may still follow, and `short` says whether `::` was read.
 #[derive(Clone, Copy)]
-enum Place {
+enum Scanned {
     /// Nothing.
     Start,
     /// A colon, and nothing before it.
@@ -23,23 +23,23 @@ enum Place {
 
 /// What stands before the next byte, once a hexadecimal digit was read.
 #[tactic(auto, using(crate::proofs::Cases::tests), unfolding(crate::specs::Scan::behind_digit))]
-fn behind_digit(place: Place) -> Option<Place>
+fn behind_digit(place: Scanned) -> Option<Scanned>
     ensures { result ≡ behind_digit place }
 {
     match place {
-        Place::Start => Some(Place::Group {
+        Scanned::Start => Some(Scanned::Group {
             left: 7,
             digits: 1,
             short: false,
         }),
-        Place::Colon => None,
-        Place::Group {
+        Scanned::Colon => None,
+        Scanned::Group {
             left,
             digits,
             short,
         } => {
             if digits < 4 {
-                return Some(Place::Group {
+                return Some(Scanned::Group {
                     left,
                     digits: digits + 1,
                     short,
@@ -47,14 +47,14 @@ fn behind_digit(place: Place) -> Option<Place>
             }
             None
         }
-        Place::Between { left, short } => Some(Place::Group {
+        Scanned::Between { left, short } => Some(Scanned::Group {
             left,
             digits: 1,
             short,
         }),
-        Place::Gap { left } => {
+        Scanned::Gap { left } => {
             if left > 0 {
-                return Some(Place::Group {
+                return Some(Scanned::Group {
                     left: left - 1,
                     digits: 1,
                     short: true,
@@ -67,34 +67,34 @@ fn behind_digit(place: Place) -> Option<Place>
 
 /// What stands before the next byte, once a colon was read.
 #[tactic(auto, using(crate::proofs::Cases::tests), unfolding(crate::specs::Scan::behind_colon))]
-fn behind_colon(place: Place) -> Option<Place>
+fn behind_colon(place: Scanned) -> Option<Scanned>
     ensures { result ≡ behind_colon place }
 {
     match place {
-        Place::Start => Some(Place::Colon),
-        Place::Colon => Some(Place::Gap { left: 7 }),
-        Place::Group { left, short, .. } => {
+        Scanned::Start => Some(Scanned::Colon),
+        Scanned::Colon => Some(Scanned::Gap { left: 7 }),
+        Scanned::Group { left, short, .. } => {
             if left > 0 {
-                return Some(Place::Between {
+                return Some(Scanned::Between {
                     left: left - 1,
                     short,
                 });
             }
             None
         }
-        Place::Between { left, short } => {
+        Scanned::Between { left, short } => {
             if short {
                 return None;
             }
-            Some(Place::Gap { left })
+            Some(Scanned::Gap { left })
         }
-        Place::Gap { .. } => None,
+        Scanned::Gap { .. } => None,
     }
 }
 
 /// What stands before the next byte, or `None` where no address goes on with this one.
 #[tactic(auto, using(crate::proofs::Cases::tests), unfolding(crate::specs::Scan::behind))]
-fn behind(place: Place, byte: u8) -> Option<Place>
+fn behind(place: Scanned, byte: u8) -> Option<Scanned>
     ensures { result ≡ behind place byte }
 {
     if char::from(byte).is_digit(16) {
@@ -110,7 +110,7 @@ fn behind(place: Place, byte: u8) -> Option<Place>
 pub(crate) fn address_beginning(text: &[u8]) -> usize
     ensures { IsLongestBeginning (Begins IsAddressText) text.now result }
 {
-    let mut place = Place::Start;
+    let mut place = Scanned::Start;
     for (i, byte) in text.iter().enumerate() {
         match behind(place, *byte) {
             Some(after) => place = after,

@@ -10,13 +10,13 @@ use Rattle.walk_rules.specs.declared.place.Outcome.{Outcome}
 use Rattle.walk_rules.specs.declared.place.Outcome.TheVariants as outcomes
 use Rattle.walk_rules.specs.Way.{Way, Away, Over, Own, Into, way_of}
 use Rattle.walk_rules.specs.Treatment.{Gave, lowered, ttl_lowered, treated_at_address, treated_in, treated, treated4, step_of}
-use Rattle.walk_rules.specs.Relation.{Gives, Treats, Treats4, Stage}
+use Rattle.walk_rules.specs.Relation.{GivesOutcome, Treats, Treats4, IsStage}
 use Rattle.walk_rules.specs.Walk.{decisions}
 use Rattle.walk_rules.specs.Laws.{set_of, hops_at, SendsApart, DifferAtMostInLink}
 use Rattle.walk_rules.proofs.Sending.{Agree, drops-agree, sends-by, sends4-by, sends_by-unique, sent_by-same}
 
 gives-agree : (set : List ℕ) (gave : Gave) (one : Outcome) (after : Content) (error : Option Packet) (other : Outcome)
-    → (later : Content) (told : Option Packet) → Gives gave one after error → Gives gave other later told
+    → (later : Content) (told : Option Packet) → GivesOutcome gave one after error → GivesOutcome gave other later told
     → Agree set one after error other later told
 gives-agree set gave one after error other later told h g =
     record { same_after = h.1 ∙ sym g.1; same_error = h.2 ∙ sym g.2; apart = inl (h.0 ∙ sym g.0) }
@@ -52,7 +52,7 @@ module _ (net : Network) (node : ℕ) where
 
 stage-agrees : (net : Network) (place : Place) (content : Content) (one : Outcome) (after : Content) (error : Option Packet)
     → (other : Outcome) (later : Content) (told : Option Packet)
-    → Stage net place content one after error → Stage net place content other later told
+    → IsStage net place content one after error → IsStage net place content other later told
     → Agree (hops_at net place content) one after error other later told
 stage-agrees net place (Unreadable bytes reason) one after error other later told h g =
     drops-agree net place.node [] reason 0 (Unreadable bytes reason) one after error other later told h g
@@ -64,7 +64,7 @@ stage-agrees net place (V4 p) one after error other later told h g =
 -- a stage has several outcomes only where a set of equal next hops has several members
 pub stage-unique : (net : Network) (place : Place) (content : Content) (one : Outcome) (after : Content) (error : Option Packet)
     → (other : Outcome) (later : Content) (told : Option Packet)
-    → Stage net place content one after error → Stage net place content other later told
+    → IsStage net place content one after error → IsStage net place content other later told
     → (after ≡ later) × (error ≡ told) × ((one ≡ other) ⊎ SendsApart (hops_at net place content) one other)
 stage-unique net place content one after error other later told h g =
     let a = stage-agrees net place content one after error other later told h g in (a.same_after, a.same_error, a.apart)

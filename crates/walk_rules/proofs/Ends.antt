@@ -10,7 +10,7 @@ use Rattle.walk_rules.specs.declared.place.Outcome.TheVariants as outcomes
 use Rattle.walk_rules.specs.declared.place.Place.{Place}
 use Rattle.walk_rules.specs.Treatment.{step_of}
 use Rattle.walk_rules.specs.Relation.{IsPlace}
-use Rattle.walk_rules.specs.Walk.{Step, stage_of, far_end, arrival, next_place, decisions, walk_of, place_after, left_or_stages, end_by, end_of}
+use Rattle.walk_rules.specs.Walk.{Stage, stage_of, far_end, arrival, next_place, decisions, walk_of, place_after, left_or_stages, end_by, end_of}
 use Rattle.walk_rules.specs.Laws.{AreStages}
 use Rattle.walk_rules.proofs.Walks.{walk_of-short}
 use Rattle.walk_rules.proofs.Places.{stage-step, step-place}
@@ -31,7 +31,7 @@ unfolding walk_of
 stages-from zero net place content pick taken keeps is = tt
 stages-from (suc more) net None content pick taken keeps is = tt
 stages-from (suc more) net (Some place) content pick taken keeps is =
-    let s : Step = stage_of net place content (pick taken) in (
+    let s : Stage = stage_of net place content (pick taken) in (
       is,
       stage-step net place content (pick taken) keeps is,
       stages-from more net (next_place net place s.gave.outcome) s.gave.after pick (taken + decisions s.gave.outcome) keeps
@@ -58,13 +58,13 @@ outcome-ends net place (outcomes.Send link) = link-ends link place (far_end (sli
 outcome-ends net place outcomes.Local = (λ e. cc, λ some. cc)
 outcome-ends net place (outcomes.Drop reason error) = (λ e. cc, λ some. cc)
 
-pub end_of-goes_on : (net : Network) (place : Option Place) (s : Step) (more : List Step)
+pub end_of-goes_on : (net : Network) (place : Option Place) (s : Stage) (more : List Stage)
     → (end_of net (s ∷ more) ≡ ends.Stages) ↔ IsSome (place_after net place (s ∷ more))
 end_of-goes_on net place s [] = outcome-ends net s.place s.gave.outcome
 end_of-goes_on net place s (t ∷ more) = end_of-goes_on net (next_place net s.place s.gave.outcome) t more
 
 -- stages that begin at a place and ended have another end
-ended-end : (net : Network) (place : Place) (steps : List Step) → place_after net (Some place) steps ≡ None
+ended-end : (net : Network) (place : Place) (steps : List Stage) → place_after net (Some place) steps ≡ None
     → end_of net steps ≢ ends.Stages
 ended-end net place [] none e = cc
 ended-end net place (s ∷ more) none e =

@@ -14,7 +14,7 @@ use Rattle.walk_rules.specs.declared.place.Outcome.{Outcome}
 use Rattle.walk_rules.specs.declared.place.Outcome.TheVariants as outcomes
 use Rattle.walk_rules.specs.Way.{Way, Away, Over, Own, Into, way_of}
 use Rattle.walk_rules.specs.Treatment.{Gave, dropped, goes, member_of, lowered, ttl_lowered, treated_at_address, treated_at_sid, treated_in, treated, treated4, step_of, allow_of}
-use Rattle.walk_rules.specs.Relation.{Treats, Treats4, Stage}
+use Rattle.walk_rules.specs.Relation.{Treats, Treats4, IsStage}
 use Rattle.walk_rules.specs.Laws.{set_of, hops_at, IsDeliveredBehindUsp, TellsOfError}
 use Rattle.walk_rules.proofs.Binding.{onward-each}
 use Rattle.walk_rules.proofs.Sending.{sends-by, sends4-by, sent_by-either, sends_by-member, sends_by-each}
@@ -246,7 +246,7 @@ module _ (net : Network) (node : ℕ) where
 
 -- a stage sends on members of its set of equal next hops alone, and on each of them where it sends on one
 pub stage-member : (net : Network) (place : Place) (content : Content) (link : ℕ) (after : Content) (error : Option Packet)
-    → Stage net place content (outcomes.Send link) after error → Contains (hops_at net place content) link
+    → IsStage net place content (outcomes.Send link) after error → Contains (hops_at net place content) link
 stage-member net place (Unreadable bytes reason) link after error h = absurd (drop-quiet reason _ link h.0)
 stage-member net place (V6 p) link after error h =
     treats-member net place.node (way_of net place p.destination) p link after error h
@@ -254,8 +254,8 @@ stage-member net place (V4 p) link after error h =
     treats4-member net place.node (way_of net place (destination4 p)) p link after error h
 
 pub stage-each : (net : Network) (place : Place) (content : Content) (link other : ℕ) (after : Content) (error : Option Packet)
-    → Stage net place content (outcomes.Send link) after error → Contains (hops_at net place content) other
-    → Stage net place content (outcomes.Send other) after error
+    → IsStage net place content (outcomes.Send link) after error → Contains (hops_at net place content) other
+    → IsStage net place content (outcomes.Send other) after error
 stage-each net place (Unreadable bytes reason) link other after error h there = absurd (drop-quiet reason _ link h.0)
 stage-each net place (V6 p) link other after error h there =
     treats-each net place.node (way_of net place p.destination) p link other after error h there

@@ -5,7 +5,7 @@ use Rattle.net_model.specs.Network.{Network}
 use Rattle.walk_rules.specs.declared.place.Outcome.{Outcome}
 use Rattle.walk_rules.specs.declared.place.Outcome.TheVariants as outcomes
 use Rattle.walk_rules.specs.declared.place.Place.{Place}
-use Rattle.walk_rules.specs.Walk.{Step, stage_of, next_place, decisions, walk_of, walk_on, choice_at}
+use Rattle.walk_rules.specs.Walk.{Stage, stage_of, next_place, decisions, walk_of, walk_on, choice_at}
 
 decisions-few : (outcome : Outcome) → decisions outcome ≤ 1
 decisions-few (outcomes.Send link) = omega arith
@@ -28,12 +28,12 @@ unfolding walk_of
 walk_of-picks zero net place content pick other taken same = refl
 walk_of-picks (suc more) net None content pick other taken same = refl
 walk_of-picks (suc more) net (Some place) content pick other taken same =
-    let s : Step = stage_of net place content (pick taken) in
+    let s : Stage = stage_of net place content (pick taken) in
     let here : pick taken ≡ other taken = same taken (le_refl taken) (omega arith) in
     let rest : walk_on more net s pick taken ≡ walk_on more net s other taken =
     walk_of-picks more net (next_place net place s.gave.outcome) s.gave.after pick other (taken + decisions s.gave.outcome)
     (later-picks pick other taken more (decisions s.gave.outcome) (decisions-few s.gave.outcome) same) in
-    ap (λ (w : List Step). s ∷ w) rest
+    ap (λ (w : List Stage). s ∷ w) rest
     ∙ ap (λ (choice : ℕ). stage_of net place content choice ∷ walk_on more net (stage_of net place content choice) other taken) here
 
 -- the choices of the decisions from one on, as a list

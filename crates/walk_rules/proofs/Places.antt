@@ -17,7 +17,7 @@ use Rattle.walk_rules.specs.Way.{Way, Away, Over, Own, Into, way_of, IsWayFrom}
 use Rattle.walk_rules.specs.Treatment.{Gave, way_on, onward_from, exposed_from, step_of}
 use Rattle.walk_rules.specs.Walk.{far_end, arrival, next_place}
 use Rattle.walk_rules.specs.Laws.{set_of, hops_at, Executes}
-use Rattle.walk_rules.specs.Relation.{Stage, IsThrough, IsHow, IsPlace}
+use Rattle.walk_rules.specs.Relation.{IsStage, IsThrough, IsHow, IsPlace}
 use Rattle.walk_rules.proofs.Executions.{step-again, step-hand}
 use Rattle.walk_rules.proofs.Routing.{way-from}
 use Rattle.walk_rules.proofs.Stages.{HasLinks, treated-treats, treated4-treats}
@@ -45,7 +45,7 @@ hops-start net place (V4 p) n keeps is there =
 
 -- at a place the function gives an outcome of the relation
 pub stage-step : (net : Network) (place : Place) (content : Content) (choice : ℕ) → Keeps net → IsPlace net place
-    → let gave = step_of net place content choice in Stage net place content gave.outcome gave.after gave.error
+    → let gave = step_of net place content choice in IsStage net place content gave.outcome gave.after gave.error
 stage-step net place (Unreadable bytes reason) choice keeps is = (refl, refl, refl)
 stage-step net place (V6 p) choice keeps is =
     let w = way_of net place p.destination in

@@ -11,7 +11,7 @@ use Rattle.net_model.specs.Network.{Network}
 use Rattle.walk_rules.specs.declared.place.Outcome.{Outcome}
 use Rattle.walk_rules.specs.declared.place.Outcome.TheVariants as outcomes
 use Rattle.walk_rules.specs.Treatment.{Gave, dropped, goes, member_of, lowered, ttl_lowered, sent, sent4}
-use Rattle.walk_rules.specs.Relation.{Gives, Drops, Sends, Sends4}
+use Rattle.walk_rules.specs.Relation.{GivesOutcome, Drops, Sends, Sends4}
 use Rattle.walk_rules.specs.Laws.{SendsApart, DifferAtMostInLink}
 
 -- what is given over links, and each outcome that there is: a drop of the content, or a send of what is left of it
@@ -75,7 +75,7 @@ given outcome after error = record { outcome = outcome; after = after; error = e
 same_gave : (o p : Outcome) (a b : Content) (e f : Option Packet) → o ≡ p → a ≡ b → e ≡ f → given o a e ≡ given p b f
 same_gave o p a b e f x y z = cc
 
-pub gives-gave : (gave : Gave) (outcome : Outcome) (after : Content) (error : Option Packet) → Gives gave outcome after error
+pub gives-gave : (gave : Gave) (outcome : Outcome) (after : Content) (error : Option Packet) → GivesOutcome gave outcome after error
     → gave ≡ given outcome after error
 gives-gave gave outcome after error h =
     same_gave gave.outcome outcome gave.after after gave.error error (sym h.0) (sym h.1) (sym h.2)

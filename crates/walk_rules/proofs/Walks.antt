@@ -3,7 +3,7 @@ use Rattle.std.proofs.Common.{◌≡◌, ℕ, zero, suc, ◌+◌, ◌<◌, ◌�
 use Rattle.srv6_rules.specs.Packet.{Content}
 use Rattle.net_model.specs.Network.{Network}
 use Rattle.walk_rules.specs.declared.place.Place.{Place}
-use Rattle.walk_rules.specs.Walk.{Step, stage_of, next_place, decisions, walk_of, walk_on, place_after, content_after, taken_after, IsStageOf, Follows, BeginsAt, IsWalk}
+use Rattle.walk_rules.specs.Walk.{Stage, stage_of, next_place, decisions, walk_of, walk_on, place_after, content_after, taken_after, IsStageOf, Follows, BeginsAt, IsWalk}
 use Rattle.walk_rules.specs.Treatment.{step_of}
 
 pub walk_of-suc : (more : ℕ) (net : Network) (place : Place) (content : Content) (pick : ℕ → ℕ) (taken : ℕ)
@@ -35,7 +35,7 @@ unfolding walk_of
 length-walk_of zero net place content pick taken = zero-le
 length-walk_of (suc more) net None content pick taken = zero-le
 length-walk_of (suc more) net (Some place) content pick taken =
-    let s : Step = stage_of net place content (pick taken) in
+    let s : Stage = stage_of net place content (pick taken) in
     suc-le-suc (length-walk_of more net (next_place net place s.gave.outcome) s.gave.after pick (taken + decisions s.gave.outcome))
 
 pub take-walk_of : (m n : ℕ) (net : Network) (place : Option Place) (content : Content) (pick : ℕ → ℕ) (taken : ℕ)
@@ -44,8 +44,8 @@ unfolding walk_of
 take-walk_of zero n net place content pick taken = refl
 take-walk_of (suc m) n net None content pick taken = rw (walk_of-none (suc m + n) net content pick taken)
 take-walk_of (suc m) n net (Some place) content pick taken =
-    let s : Step = stage_of net place content (pick taken) in
-    rw (suc-add m n) (ap (λ (rest : List Step). s ∷ rest)
+    let s : Stage = stage_of net place content (pick taken) in
+    rw (suc-add m n) (ap (λ (rest : List Stage). s ∷ rest)
     (take-walk_of m n net (next_place net place s.gave.outcome) s.gave.after pick (taken + decisions s.gave.outcome)))
 
 -- a longer walk is a walk, and then the walk from where it stopped
@@ -58,8 +58,8 @@ walk_of-add zero n net place content pick taken = rw (zero-add n)
 walk_of-add (suc m) n net None content pick taken =
     walk_of-none (suc m + n) net content pick taken ∙ sym (walk_of-none n net content pick taken)
 walk_of-add (suc m) n net (Some place) content pick taken =
-    let s : Step = stage_of net place content (pick taken) in
-    rw (suc-add m n) (ap (λ (rest : List Step). s ∷ rest)
+    let s : Stage = stage_of net place content (pick taken) in
+    rw (suc-add m n) (ap (λ (rest : List Stage). s ∷ rest)
     (walk_of-add m n net (next_place net place s.gave.outcome) s.gave.after pick (taken + decisions s.gave.outcome)))
 
 -- a walk that ended stays as it is
@@ -67,29 +67,29 @@ pub walk_of-ended : (m n : ℕ) (net : Network) (place : Option Place) (content 
     → place_after net place (walk_of m net place content pick taken) ≡ None
     → walk_of (m + n) net place content pick taken ≡ walk_of m net place content pick taken
 walk_of-ended m n net place content pick taken e =
-    let w : List Step = walk_of m net place content pick taken in
+    let w : List Stage = walk_of m net place content pick taken in
     let none : walk_of n net (place_after net place w) (content_after content w) pick (taken_after taken w) ≡ [] =
     rw e (walk_of-none n net (content_after content w) pick (taken_after taken w)) in
-    walk_of-add m n net place content pick taken ∙ ap (λ (rest : List Step). w ++ rest) none ∙ append-nil w
+    walk_of-add m n net place content pick taken ∙ ap (λ (rest : List Stage). w ++ rest) none ∙ append-nil w
 
 -- the stages of a walk follow one another
-pub Follows-cons : (net : Network) (pick : ℕ → ℕ) (taken : ℕ) (s : Step) (more : List Step) → IsStageOf net (pick taken) s
+pub Follows-cons : (net : Network) (pick : ℕ → ℕ) (taken : ℕ) (s : Stage) (more : List Stage) → IsStageOf net (pick taken) s
     → BeginsAt (next_place net s.place s.gave.outcome) s.gave.after more → Follows net pick (taken + decisions s.gave.outcome) more
     → Follows net pick taken (s ∷ more)
 Follows-cons net pick taken s [] is begins follows = is
 Follows-cons net pick taken s (t ∷ more) is begins follows = (is, begins, follows)
 
-pub Follows-head : (net : Network) (pick : ℕ → ℕ) (taken : ℕ) (s : Step) (more : List Step) → Follows net pick taken (s ∷ more)
+pub Follows-head : (net : Network) (pick : ℕ → ℕ) (taken : ℕ) (s : Stage) (more : List Stage) → Follows net pick taken (s ∷ more)
     → IsStageOf net (pick taken) s
 Follows-head net pick taken s [] follows = follows
 Follows-head net pick taken s (t ∷ more) follows = follows.0
 
-pub Follows-next : (net : Network) (pick : ℕ → ℕ) (taken : ℕ) (s : Step) (more : List Step) → Follows net pick taken (s ∷ more)
+pub Follows-next : (net : Network) (pick : ℕ → ℕ) (taken : ℕ) (s : Stage) (more : List Stage) → Follows net pick taken (s ∷ more)
     → BeginsAt (next_place net s.place s.gave.outcome) s.gave.after more
 Follows-next net pick taken s [] follows = tt
 Follows-next net pick taken s (t ∷ more) follows = follows.1
 
-pub Follows-tail : (net : Network) (pick : ℕ → ℕ) (taken : ℕ) (s : Step) (more : List Step) → Follows net pick taken (s ∷ more)
+pub Follows-tail : (net : Network) (pick : ℕ → ℕ) (taken : ℕ) (s : Stage) (more : List Stage) → Follows net pick taken (s ∷ more)
     → Follows net pick (taken + decisions s.gave.outcome) more
 Follows-tail net pick taken s [] follows = tt
 Follows-tail net pick taken s (t ∷ more) follows = follows.2
@@ -107,7 +107,7 @@ unfolding walk_of
 walk_of-follows zero net place content pick taken = tt
 walk_of-follows (suc more) net None content pick taken = tt
 walk_of-follows (suc more) net (Some place) content pick taken =
-    let s : Step = stage_of net place content (pick taken) in
+    let s : Stage = stage_of net place content (pick taken) in
     let next : Option Place = next_place net place s.gave.outcome in
     Follows-cons net pick taken s (walk_on more net s pick taken) refl
     (walk_of-begins more net next s.gave.after pick (taken + decisions s.gave.outcome))
@@ -120,7 +120,7 @@ unfolding walk_of
 walk_of-short zero net place content pick taken short = absurd (omega (arith, short))
 walk_of-short (suc more) net None content pick taken short = refl
 walk_of-short (suc more) net (Some place) content pick taken short =
-    let s : Step = stage_of net place content (pick taken) in
+    let s : Stage = stage_of net place content (pick taken) in
     walk_of-short more net (next_place net place s.gave.outcome) s.gave.after pick (taken + decisions s.gave.outcome)
     (le_of_suc-le-suc short)
 
@@ -135,13 +135,13 @@ walk_of-is fuel net place content pick taken =
     }
 
 -- there is one walk
-same_stage : (net : Network) (s : Step) (place : Place) (content : Content) (choice : ℕ) → s.place ≡ place → s.before ≡ content
+same_stage : (net : Network) (s : Stage) (place : Place) (content : Content) (choice : ℕ) → s.place ≡ place → s.before ≡ content
     → IsStageOf net choice s → s ≡ stage_of net place content choice
 same_stage net s place content choice at before is =
     let gave : s.gave ≡ step_of net place content choice = is ∙ ap₂ (λ (p : Place) (c : Content). step_of net p c choice) at before in
     λ i. record { place = at i; before = before i; gave = gave i }
 
-pub walk_of-one : (fuel : ℕ) (net : Network) (place : Option Place) (content : Content) (pick : ℕ → ℕ) (taken : ℕ) (steps : List Step)
+pub walk_of-one : (fuel : ℕ) (net : Network) (place : Option Place) (content : Content) (pick : ℕ → ℕ) (taken : ℕ) (steps : List Stage)
     → IsWalk fuel net place content pick taken steps → steps ≡ walk_of fuel net place content pick taken
 unfolding walk_of
 walk_of-one zero net place content pick taken [] is = refl
@@ -161,7 +161,7 @@ walk_of-one (suc fuel) net (Some place) content pick taken (s ∷ more) is =
       at_most = le_of_suc-le-suc is.at_most;
       ended = λ short. is.ended (suc-le-suc short);
     }) in
-    ap (λ (w : List Step). s ∷ w) rest ∙ ap (λ (t : Step). t ∷ walk_on fuel net t pick taken) same
+    ap (λ (w : List Stage). s ∷ w) rest ∙ ap (λ (t : Stage). t ∷ walk_on fuel net t pick taken) same
   where
     some_same : (p q : Place) → Some q ≡ Some p → p ≡ q
     some_same p q e = cc

@@ -17,8 +17,8 @@ use Rattle.walk_rules.specs.declared.place.Outcome.{Outcome}
 use Rattle.walk_rules.specs.declared.place.Outcome.TheVariants as outcomes
 use Rattle.walk_rules.specs.Way.{Way, Away, Over, Own, Into, way_of}
 use Rattle.walk_rules.specs.Treatment.{Gave, allow_of, treated_at_sid}
-use Rattle.walk_rules.specs.Relation.{Stage, IsPlace}
-use Rattle.walk_rules.specs.Walk.{Step, decisions}
+use Rattle.walk_rules.specs.Relation.{IsStage, IsPlace}
+use Rattle.walk_rules.specs.Walk.{Stage, decisions}
 
 -- the set of equal next hops over which a way goes; none where it goes over no links
 abbrev pub set_of : Way → List ℕ
@@ -118,7 +118,7 @@ TellsOfError (outcomes.Send link) error = error ≡ None
 TellsOfError outcomes.Local error = error ≡ None
 
 -- each of these stages is at a place of the network, and gives an outcome that there is there
-abbrev pub AreStages : Network → List Step → Type 0
+abbrev pub AreStages : Network → List Stage → Type 0
 AreStages net [] = Unit {0}
 AreStages net (s ∷ more) =
-    IsPlace net s.place × Stage net s.place s.before s.gave.outcome s.gave.after s.gave.error × AreStages net more
+    IsPlace net s.place × IsStage net s.place s.before s.gave.outcome s.gave.after s.gave.error × AreStages net more

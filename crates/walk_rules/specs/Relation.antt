@@ -17,8 +17,8 @@ use Rattle.walk_rules.specs.Way.{Way, Away, Over, Own, Into, way_of}
 use Rattle.walk_rules.specs.Treatment.{Gave, error_of, lowered, ttl_lowered, treated_at_address, treated_in}
 
 -- an outcome, the packet after it and the error are those that were given
-abbrev pub Gives : Gave → Outcome → Content → Option Packet → Type 0
-Gives gave outcome after error = (outcome ≡ gave.outcome) × (after ≡ gave.after) × (error ≡ gave.error)
+abbrev pub GivesOutcome : Gave → Outcome → Content → Option Packet → Type 0
+GivesOutcome gave outcome after error = (outcome ≡ gave.outcome) × (after ≡ gave.after) × (error ≡ gave.error)
 
 -- what stood at a node is dropped as it was, for a reason and a fault's place, and the drop tells whether an error is sent
 abbrev pub Drops : Network → ℕ → Reason → ℕ → Content → Outcome → Content → Option Packet → Type 0
@@ -53,8 +53,8 @@ Sends4 net node set lower p outcomes.Local after error = ⊥
 abbrev pub Treats : Network → ℕ → Way → Packet → Outcome → Content → Option Packet → Type 0
 Treats net node (Away reason) p outcome after error = Drops net node reason 0 (V6 p) outcome after error
 Treats net node (Over set lower) p outcome after error = Sends net node set lower p outcome after error
-Treats net node Own p outcome after error = Gives (treated_at_address net node p (at_address p)) outcome after error
-Treats net node (Into n) p outcome after error = Gives (treated_in net node n (slice_get net.sids n) p) outcome after error
+Treats net node Own p outcome after error = GivesOutcome (treated_at_address net node p (at_address p)) outcome after error
+Treats net node (Into n) p outcome after error = GivesOutcome (treated_in net node n (slice_get net.sids n) p) outcome after error
 
 -- an IPv4 packet is sent on, or dropped
 abbrev pub Treats4 : Network → ℕ → Way → Packet4 → Outcome → Content → Option Packet → Type 0
@@ -64,11 +64,11 @@ Treats4 net node Own p outcome after error = Drops net node reasons.NoRoute 0 (V
 Treats4 net node (Into n) p outcome after error = Drops net node reasons.NoRoute 0 (V4 p) outcome after error
 
 -- the stage: an outcome that there is at a place, what stands there after it, and the error that is sent, if one is
-abbrev pub Stage : Network → Place → Content → Outcome → Content → Option Packet → Type 0
-Stage net place (Unreadable bytes reason) outcome after error =
+abbrev pub IsStage : Network → Place → Content → Outcome → Content → Option Packet → Type 0
+IsStage net place (Unreadable bytes reason) outcome after error =
     Drops net place.node reason 0 (Unreadable bytes reason) outcome after error
-Stage net place (V6 p) outcome after error = Treats net place.node (way_of net place p.destination) p outcome after error
-Stage net place (V4 p) outcome after error = Treats4 net place.node (way_of net place (destination4 p)) p outcome after error
+IsStage net place (V6 p) outcome after error = Treats net place.node (way_of net place p.destination) p outcome after error
+IsStage net place (V4 p) outcome after error = Treats4 net place.node (way_of net place (destination4 p)) p outcome after error
 
 -- the links of a SID through which a packet goes: the SID is the node's and has links
 abbrev pub IsThrough : ℕ → Option SidEntry → Type 0

@@ -38,18 +38,18 @@ decisions outcomes.Local = 0
 decisions (outcomes.Drop reason error) = 0
 
 -- a stage of a walk: where the packet stood, what stood there, and what the stage gave
-pub record Step : Type 0 where
+pub record Stage : Type 0 where
   pub place : Place
   pub before : Content
   pub gave : Gave
 
 -- the stage at a place, under a choice
-abbrev pub stage_of : Network → Place → Content → ℕ → Step
+abbrev pub stage_of : Network → Place → Content → ℕ → Stage
 stage_of net place content choice = record { place = place; before = content; gave = step_of net place content choice }
 
 -- at most so many stages from a place, if there is one, where pick gives the choice of each decision, and `taken`
 -- decisions were taken before
-unfoldable pub walk_of : ℕ → Network → Option Place → Content → (ℕ → ℕ) → ℕ → List Step
+unfoldable pub walk_of : ℕ → Network → Option Place → Content → (ℕ → ℕ) → ℕ → List Stage
 walk_of zero net place content pick taken = []
 walk_of (suc more) net None content pick taken = []
 walk_of (suc more) net (Some place) content pick taken =
@@ -58,7 +58,7 @@ walk_of (suc more) net (Some place) content pick taken =
     ∷ walk_of more net (next_place net place gave.outcome) gave.after pick (taken + decisions gave.outcome)
 
 -- at most so many stages after a stage
-abbrev pub walk_on : ℕ → Network → Step → (ℕ → ℕ) → ℕ → List Step
+abbrev pub walk_on : ℕ → Network → Stage → (ℕ → ℕ) → ℕ → List Stage
 walk_on more net s pick taken =
     walk_of more net (next_place net s.place s.gave.outcome) s.gave.after pick (taken + decisions s.gave.outcome)
 
@@ -78,47 +78,47 @@ end_by net place (outcomes.Send link) = left_or_stages link (far_end (slice_get 
 end_by net place outcomes.Local = ends.Delivered place.node
 end_by net place (outcomes.Drop reason error) = ends.Dropped place.node reason
 
-abbrev pub end_of : Network → List Step → Ended
+abbrev pub end_of : Network → List Stage → Ended
 end_of net [] = ends.Stages
 end_of net (s ∷ []) = end_by net s.place s.gave.outcome
 end_of net (s ∷ t ∷ more) = end_of net (t ∷ more)
 
 -- where the packet stands after stages, if it goes on; what stands there; and the decisions taken by then
-abbrev pub place_after : Network → Option Place → List Step → Option Place
+abbrev pub place_after : Network → Option Place → List Stage → Option Place
 place_after net place [] = place
 place_after net place (s ∷ more) = place_after net (next_place net s.place s.gave.outcome) more
 
-abbrev pub content_after : Content → List Step → Content
+abbrev pub content_after : Content → List Stage → Content
 content_after content [] = content
 content_after content (s ∷ more) = content_after s.gave.after more
 
-abbrev pub taken_after : ℕ → List Step → ℕ
+abbrev pub taken_after : ℕ → List Stage → ℕ
 taken_after taken [] = taken
 taken_after taken (s ∷ more) = taken_after (taken + decisions s.gave.outcome) more
 
 -- a stage gives what the choice makes of its place and of what stood there
-abbrev pub IsStageOf : Network → ℕ → Step → Type 0
+abbrev pub IsStageOf : Network → ℕ → Stage → Type 0
 IsStageOf net choice s = s.gave ≡ step_of net s.place s.before choice
 
 -- the second stage is where the first goes on, and has what it left
-abbrev pub ComesNext : Network → Step → Step → Type 0
+abbrev pub ComesNext : Network → Stage → Stage → Type 0
 ComesNext net s t = (next_place net s.place s.gave.outcome ≡ Some t.place) × (t.before ≡ s.gave.after)
 
 -- stages that follow one another, where pick gives the choice of each decision, and `taken` decisions were taken before
-abbrev pub Follows : Network → (ℕ → ℕ) → ℕ → List Step → Type 0
+abbrev pub Follows : Network → (ℕ → ℕ) → ℕ → List Stage → Type 0
 Follows net pick taken [] = Unit {0}
 Follows net pick taken (s ∷ []) = IsStageOf net (pick taken) s
 Follows net pick taken (s ∷ t ∷ more) =
     IsStageOf net (pick taken) s × ComesNext net s t × Follows net pick (taken + decisions s.gave.outcome) (t ∷ more)
 
 -- the first stage, if there is one, is at this place, and has this content
-abbrev pub BeginsAt : Option Place → Content → List Step → Type 0
+abbrev pub BeginsAt : Option Place → Content → List Stage → Type 0
 BeginsAt place content [] = Unit {0}
 BeginsAt place content (s ∷ more) = (place ≡ Some s.place) × (s.before ≡ content)
 
 -- a walk: stages that begin there and follow one another, so many at most, and fewer only where they ended
 pub record IsWalk (fuel : ℕ) (net : Network) (place : Option Place) (content : Content) (pick : ℕ → ℕ) (taken : ℕ)
-    (steps : List Step) : Type 0 where
+    (steps : List Stage) : Type 0 where
   pub begins : BeginsAt place content steps
   pub follows : Follows net pick taken steps
   pub at_most : length steps ≤ fuel

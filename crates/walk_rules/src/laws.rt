@@ -12,9 +12,9 @@ ghost use Rattle.srv6_rules.specs.declared.sid.Family.{Family};
 ghost use Rattle.srv6_rules.specs.declared.sid.Reason.{Reason};
 ghost use Rattle.srv6_rules.specs.declared.sid.SidEntry.{SidEntry};
 ghost use Rattle.walk_rules.specs.Laws.{AreStages, DifferAtMostInLink, Executes, IsDeliveredBehindUsp, IsLoweredByOne, PushesOne, SendsApart, TellsOfError, family_after, hops_at};
-ghost use Rattle.walk_rules.specs.Relation.{IsHow, IsPlace, Stage};
+ghost use Rattle.walk_rules.specs.Relation.{IsHow, IsPlace, IsStage};
 ghost use Rattle.walk_rules.specs.Treatment.{dropped, exposed_from, goes, lowered, member_of, onward_from, sent, sent4, step_of, ttl_lowered};
-ghost use Rattle.walk_rules.specs.Walk.{IsWalk, Step, choice_at, content_after, decisions, end_of, next_place, place_after, stage_of, taken_after, walk_of, walk_on};
+ghost use Rattle.walk_rules.specs.Walk.{IsWalk, Stage, choice_at, content_after, decisions, end_of, next_place, place_after, stage_of, taken_after, walk_of, walk_on};
 ghost use Rattle.walk_rules.specs.Way.{Into, IsThere, IsWayFrom, StandsAt, way_of};
 ghost use Rattle.walk_rules.specs.declared.place.Ended.{Ended};
 ghost use Rattle.walk_rules.specs.declared.place.How.{How};
@@ -22,7 +22,7 @@ ghost use Rattle.walk_rules.specs.declared.place.How.TheVariants.{Arrived, Submi
 ghost use Rattle.walk_rules.specs.declared.place.Outcome.{Outcome};
 ghost use Rattle.walk_rules.specs.declared.place.Place.{Place};
 
-use crate::limits::STAGES;
+use crate::limits::MAX_STAGES;
 
 /// What a look-up finds is there, and the node's; the SID that a way leads into stands at the node,
 /// and from a place of a network the links that it goes over are a set of the node's (own rule).
@@ -73,7 +73,7 @@ pub fn a_walk_unfolds()
 pub fn an_outcome_has_a_choice()
     ensures { (net : Network) (place : Place) (content : Content) →
         (outcome : Outcome) (after : Content) (error : Option Packet) →
-        Stage net place content outcome after error →
+        IsStage net place content outcome after error →
         (choice : ℕ) ×
         (step_of net place content choice
         ≡ record { outcome = outcome; after = after; error = error }) }
@@ -84,7 +84,7 @@ pub fn a_choice_has_an_outcome()
     ensures { (net : Network) (place : Place) (content : Content) (choice : ℕ) →
         Keeps net → IsPlace net place →
         let gave = step_of net place content choice in
-        Stage net place content gave.outcome gave.after gave.error }
+        IsStage net place content gave.outcome gave.after gave.error }
 {}
 
 /// A stage sends on members of its set of equal next hops alone, on each of them where it sends on
@@ -92,13 +92,13 @@ pub fn a_choice_has_an_outcome()
 pub fn each_next_hop_is_an_outcome()
     ensures member { (net : Network) (place : Place) (content : Content) (link : ℕ) →
         (after : Content) (error : Option Packet) →
-        Stage net place content (Outcome.Send link) after error →
+        IsStage net place content (Outcome.Send link) after error →
         Contains (hops_at net place content) link }
     ensures each { (net : Network) (place : Place) (content : Content) (link other : ℕ) →
         (after : Content) (error : Option Packet) →
-        Stage net place content (Outcome.Send link) after error →
+        IsStage net place content (Outcome.Send link) after error →
         Contains (hops_at net place content) other →
-        Stage net place content (Outcome.Send other) after error }
+        IsStage net place content (Outcome.Send other) after error }
     ensures starts { (net : Network) (place : Place) (content : Content) (link : ℕ) →
         Keeps net → IsPlace net place → Contains (hops_at net place content) link →
         StartsAt net.links place.node link }
@@ -110,7 +110,7 @@ pub fn outcomes_differ_in_the_link()
     ensures { (net : Network) (place : Place) (content : Content) →
         (one : Outcome) (after : Content) (error : Option Packet) →
         (other : Outcome) (later : Content) (told : Option Packet) →
-        Stage net place content one after error → Stage net place content other later told →
+        IsStage net place content one after error → IsStage net place content other later told →
         (after ≡ later) × (error ≡ told) ×
         ((one ≡ other) ⊎ SendsApart (hops_at net place content) one other) }
 {}
@@ -239,7 +239,7 @@ pub fn a_walk_follows_its_stages()
         (pick : ℕ → ℕ) (taken : ℕ) →
         IsWalk fuel net place content pick taken (walk_of fuel net place content pick taken) }
     ensures one { (fuel : ℕ) (net : Network) (place : Option Place) (content : Content) →
-        (pick : ℕ → ℕ) (taken : ℕ) (steps : List Step) →
+        (pick : ℕ → ℕ) (taken : ℕ) (steps : List Stage) →
         IsWalk fuel net place content pick taken steps →
         steps ≡ walk_of fuel net place content pick taken }
 {}
@@ -288,7 +288,7 @@ pub fn a_run_has_few_stages()
         length (walk_of fuel net place content pick taken) ≤ fuel }
     ensures run { (fuel : ℕ) (net : Network) (place : Option Place) (content : Content) →
         (pick : ℕ → ℕ) (taken : ℕ) →
-        fuel ≤ STAGES → length (walk_of fuel net place content pick taken) ≤ STAGES }
+        fuel ≤ MAX_STAGES → length (walk_of fuel net place content pick taken) ≤ MAX_STAGES }
 {}
 
 /// Each stage of a walk from a place of a network is at a place, and gives an outcome that there
@@ -302,7 +302,7 @@ pub fn a_walk_stays_at_places()
 /// Where the packet could go on after the last stage the stages were used, and only there; a walk
 /// of fewer stages than it may have has another end (own rule).
 pub fn a_walk_that_could_go_on_used_its_stages()
-    ensures goes_on { (net : Network) (place : Option Place) (s : Step) (more : List Step) →
+    ensures goes_on { (net : Network) (place : Option Place) (s : Stage) (more : List Stage) →
         (end_of net (s ∷ more) ≡ Ended.Stages) ↔ IsSome (place_after net place (s ∷ more)) }
     ensures short { (fuel : ℕ) (net : Network) (place : Place) (content : Content) →
         (pick : ℕ → ℕ) (taken : ℕ) →

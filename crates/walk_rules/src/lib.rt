@@ -23,7 +23,7 @@ pub use laws::{
     an_outcome_has_a_choice, each_next_hop_is_an_outcome, only_a_send_depends_on_the_choice,
     outcomes_differ_in_the_link, ways_on_are_by_behaviour,
 };
-pub use limits::STAGES;
+pub use limits::MAX_STAGES;
 pub use next::{arrival, ended_by, exposed_from, far_end, next_place, onward_from};
 pub use place::{Ended, How, Outcome, Place};
 pub use way::{Way, way_in_table, way_of};

@@ -6,7 +6,7 @@ ghost use Rattle.walk_rules.specs.Relation.{IsPlace};
 
 use base::NoMemory;
 use icmp6_errors::IcmpSlot;
-use net_model::Net;
+use net_model::{MAX_TEXT_BYTES, Net};
 use net_reader::read_net;
 use node_stage::{Content, stage};
 use srv6_rules::Family;
@@ -14,7 +14,7 @@ use std::alloc::{AllocError, Global};
 use std::str;
 use std::test::Fail;
 use trace_replay::{
-    ReplayFault, Replayed, TEXT_LIMIT, TraceFault, is_numbered, print_end, print_event, print_head,
+    ReplayFault, Replayed, TraceFault, is_numbered, print_end, print_event, print_head,
     print_packet, print_stages, read_trace, replay,
 };
 use walk_rules::{Place, arrival, next_place};
@@ -91,7 +91,7 @@ fn trace_with(alloc: Global, sent: &str, dropped: &str) -> Result<String, AllocE
 
 /// What is said of a text.
 fn verdict(alloc: Global, net: &Net, text: &str) -> Result<String, AllocError> {
-    if text.len() > TEXT_LIMIT {
+    if text.len() > MAX_TEXT_BYTES {
         return format!(in alloc; "too long");
     }
     let trace = match read_trace(alloc, net, text.as_bytes()) {

@@ -1,6 +1,6 @@
 use Rattle.srv6_rules.specs.Packet.{packet_at}
 use Rattle.srv6_rules.specs.Endpoint.{at_sid}
-use Rattle.decap_behaviours.specs.declared.judge.Judged.TheVariants.{Expose, Deliver, Refuse}
+use Rattle.decap_behaviours.specs.declared.judge.Exposure.TheVariants.{Expose, Deliver, Refuse}
 use Rattle.decap_behaviours.proofs.OutcomeLemmas.{alone-exposes, alone-fault, alone-leaves, judged-in, place-there}
 use Rattle.decap_behaviours.proofs.step.decap_step.Goals as goal
 

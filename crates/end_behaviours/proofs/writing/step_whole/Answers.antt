@@ -3,7 +3,7 @@ use Rattle.replace_csid.specs.Replacing.{with_move}
 use Rattle.endpoint_chain.proofs.PublicLaws.{alone-most}
 use Rattle.ip6_headers.specs.Stepping.{place_view}
 use Rattle.end_behaviours.specs.Stepping.{move_to}
-use Rattle.end_behaviours.specs.declared.stepping.Judged.TheVariants.{Advance}
+use Rattle.end_behaviours.specs.declared.stepping.SegmentStep.TheVariants.{Advance}
 use Rattle.end_behaviours.proofs.AloneLemmas.{spelled-alone}
 use Rattle.end_behaviours.proofs.StepLemmas.{header-ends, judged-in, step-rewritten, whole-leaves}
 use Rattle.end_behaviours.proofs.writing.step_whole.Goals as goal

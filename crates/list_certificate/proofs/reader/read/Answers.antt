@@ -4,7 +4,7 @@ use Rattle.std.specs.List.{slice_split}
 use Rattle.list_certificate.specs.declared.item.Item.{Item}
 use Rattle.list_certificate.specs.declared.words.Parts.{Parts}
 use Rattle.list_certificate.specs.declared.draft.Draft.{Draft}
-use Rattle.list_certificate.specs.Reading.{Read, Gives, with_line, reads, read_of, read_value, read_values, cut_value}
+use Rattle.list_certificate.specs.Reading.{Read, GivesCertificate, with_line, reads, read_of, read_value, read_values, cut_value}
 use Rattle.list_certificate.proofs.Readings.{IsRead, nothing-is-read, line-read, given-cert, reads-last, reads-line}
 use Rattle.list_certificate.proofs.reader.read.Goals as goal
 
@@ -22,7 +22,7 @@ returns-in_default-clause-value g c =
     let v = g.L.Legs.seen c.args.legs.now in
     let r = read_value c.loop-parts.draft in
     let none = sym c.cut.ensures.value ∙ ap (λ (o : Option Parts). option_map cut_value o) c.in_default.is in
-    subst (Gives c.finished.result)
+    subst (GivesCertificate c.finished.result)
     (sym (reads-last c.args.net.now v c.loop-parts.rest.now c.loop-parts.line r none) ∙ c.loop-parts.invariant.0) c.finished.ensures
 
 pub returns-in_default-clause-cert : goal.returns-in_default-clause-cert

@@ -1,7 +1,7 @@
 use Rattle.std.proofs.Common.{◌≡◌, ◌+◌, Option, Some, None, subst, sym, ◌∙◌}
 use Rattle.list_encoder.specs.declared.picks.Pick.{Pick}
-use Rattle.list_encoder.specs.declared.table.Link.{Link}
-use Rattle.list_encoder.specs.Table.{IsLink, IsLinkInto}
+use Rattle.list_encoder.specs.declared.table.CellEdge.{CellEdge}
+use Rattle.list_encoder.specs.Table.{IsCellEdge, IsEdgeInto}
 use Rattle.list_encoder.proofs.Picking.{LegsPicked, legs-pass, legs-add, legs-picked}
 use Rattle.list_encoder.proofs.picks.pick_leg.Goals as goal
 use Rattle.list_encoder.proofs.picks.pick_leg.Goals.{in-Some, in_default}
@@ -10,9 +10,9 @@ pub loop-to-preserved : goal.loop-to-preserved
 loop-to-preserved g c =
     let v = g.L.Legs.seen c.args.legs.now in
     let Is : Option Pick → Type 0 = λ o. LegsPicked v c.args.cells.now c.args.table.now c.args.spot (c.loop-to.to + 1) o in
-    let none : c.link_into.result ≡ None → (link : Link) → link.from ≡ c.args.spot.place → link.to ≡ Some c.loop-to.to
-    → ¬ IsLink v c.args.cells.now link =
-    λ e. subst (λ (o : Option Link). IsLinkInto v c.args.cells.now c.args.spot.place c.loop-to.to o) e c.link_into.ensures in
+    let none : c.link_into.result ≡ None → (link : CellEdge) → link.from ≡ c.args.spot.place → link.to ≡ Some c.loop-to.to
+    → ¬ IsCellEdge v c.args.cells.now link =
+    λ e. subst (λ (o : Option CellEdge). IsEdgeInto v c.args.cells.now c.args.spot.place c.loop-to.to o) e c.link_into.ensures in
     elim c.match-link_into.branch [
       | in-Some w ↦
           subst Is (sym (w.best-is ∙ w.better-best.ensures))

@@ -8,8 +8,8 @@ use Rattle.policy_encap.specs.Inner.{HoldsInner}
 use Rattle.policy_encap.proofs.EncapLemmas.{length-lowered, encap-refuses, encap-wants, encap-makes}
 use Rattle.policy_encap.proofs.encapsulation.encap.Goals as goal
 
-pub returns-then-length-gt-MOST_PAYLOAD_LEN-clause-answer : goal.returns-then-length-gt-MOST_PAYLOAD_LEN-clause-answer
-returns-then-length-gt-MOST_PAYLOAD_LEN-clause-answer c =
+pub returns-then-length-gt-MAX_PAYLOAD_LEN-clause-answer : goal.returns-then-length-gt-MAX_PAYLOAD_LEN-clause-answer
+returns-then-length-gt-MAX_PAYLOAD_LEN-clause-answer c =
     let policy = c.args.policy.now in
     let inner = c.args.inner in
     let bytes : List ℕ = c.args.buf.now.bytes in
@@ -18,7 +18,7 @@ returns-then-length-gt-MOST_PAYLOAD_LEN-clause-answer c =
     let len : c.inner_len-inner_len.result ≡ length bytes = c.inner_len-inner_len.ensures.len ∙ ap length c.view-2.ensures in
     let size = c.payload_len-length.ensures.value inner (inner_lowered_bytes inner bytes) (length-lowered inner bytes holds ∙ sym len) in
     encap-refuses policy inner bytes c.inner_hop.result c.payload_len-length.result hop c.if-inner_hop-le1.false size
-    c.if-length-gt-MOST_PAYLOAD_LEN.true
+    c.if-length-gt-MAX_PAYLOAD_LEN.true
 
 pub returns-in_err-reserve_front-clause-answer : goal.returns-in_err-reserve_front-clause-answer
 returns-in_err-reserve_front-clause-answer c =
@@ -29,7 +29,7 @@ returns-in_err-reserve_front-clause-answer c =
     let hop : c.inner_hop.result ≡ inner_hop inner bytes = c.inner_hop.ensures ∙ ap (inner_hop inner) c.view.ensures in
     let len : c.inner_len-inner_len.result ≡ length bytes = c.inner_len-inner_len.ensures.len ∙ ap length c.view-2.ensures in
     let size = c.payload_len-length.ensures.value inner (inner_lowered_bytes inner bytes) (length-lowered inner bytes holds ∙ sym len) in
-    let low = c.if-length-gt-MOST_PAYLOAD_LEN.false in
+    let low = c.if-length-gt-MAX_PAYLOAD_LEN.false in
     let short : length (outer_by policy policy.reduced inner (inner_lowered_bytes inner bytes)).payload ≤ 65535 =
     omega (arith, size, low) in
     let p = err_from_is_err_and c.from_residual.result c.from_residual.ensures.1 in
@@ -44,7 +44,7 @@ returns-clause-answer c =
     let hop : c.inner_hop.result ≡ inner_hop inner bytes = c.inner_hop.ensures ∙ ap (inner_hop inner) c.view.ensures in
     let len : c.inner_len-inner_len.result ≡ length bytes = c.inner_len-inner_len.ensures.len ∙ ap length c.view-2.ensures in
     let size = c.payload_len-length.ensures.value inner (inner_lowered_bytes inner bytes) (length-lowered inner bytes holds ∙ sym len) in
-    let low = c.if-length-gt-MOST_PAYLOAD_LEN.false in
+    let low = c.if-length-gt-MAX_PAYLOAD_LEN.false in
     let short : length (outer_by policy policy.reduced inner (inner_lowered_bytes inner bytes)).payload ≤ 65535 =
     omega (arith, size, low) in
     let P : List ℕ → Type 0 = λ xs. All (λ b. b < 2 ^ 8) xs in

@@ -11,7 +11,7 @@ returns-clause-answer c =
     let bytes : List ℕ = c.args.buf.now.bytes in
     let P : List ℕ → Type 0 = λ xs. All (λ b. b < 2 ^ 8) xs in
     let size = c.payload_len-length.ensures.value c.args.inner bytes (sym c.len.ensures) in
-    let low = c.if-length-gt-MOST_PAYLOAD_LEN.false in
+    let low = c.if-length-gt-MAX_PAYLOAD_LEN.false in
     let short : length (outer_by policy c.args.reduced c.args.inner bytes).payload ≤ 65535 = omega (arith, size, low) in
     let spelled : c.put_headers.new.buf.bytes ≡ spelling (outer_by policy c.args.reduced c.args.inner bytes) =
     ap (λ (b : Buffer). b.bytes) c.put_headers.ensures

@@ -4,7 +4,7 @@ use Rattle.walk_rules.specs.declared.place.Place.{Place}
 use Rattle.walk_rules.specs.Relation.{IsPlace}
 use Rattle.walk_rules.specs.Treatment.{Gave, step_of}
 use Rattle.walk_rules.specs.Walk.{walk_of, choice_at}
-use Rattle.trace_replay.specs.declared.limits.TheConstants.{STAGES}
+use Rattle.walk_rules.specs.declared.limits.TheConstants.{MAX_STAGES}
 use Rattle.run_commands.proofs.Walking.{Progress, progress_stops, progress_wants, walk_is_over, staged_on, staged_end, staged_cut}
 use Rattle.run_commands.proofs.walk.write_walk.Goals as goal
 
@@ -14,8 +14,8 @@ loop-used-preserved g c =
     let tells = c.in_ok-outcome.ensures.tells in
     let slot = c.in_ok-outcome.ensures.error in
     let gave : Gave = record { outcome = c.in_ok-outcome.outcome; after = c.staged.new.content; error = step.error } in
-    let left : STAGES - c.loop-used.used ≡ suc (STAGES - (c.loop-used.used + 1)) = omega arith in
-    let on = staged_on c.args.number c.args.net.now (STAGES - c.loop-used.used) (STAGES - (c.loop-used.used + 1))
+    let left : MAX_STAGES - c.loop-used.used ≡ suc (MAX_STAGES - (c.loop-used.used + 1)) = omega arith in
+    let on = staged_on c.args.number c.args.net.now (MAX_STAGES - c.loop-used.used) (MAX_STAGES - (c.loop-used.used + 1))
     c.loop-used.place c.loop-used.content
     (choice_at c.args.choices.now) c.loop-used.taken gave _ _ _ (g.O.Sink.seen c.write_outcome.new.out)
     left c.in_ok-outcome.ensures.function c.loop-used.invariant.progress
@@ -24,9 +24,9 @@ loop-used-preserved g c =
       place = subst (λ (o : Option Place). IfSome o (IsPlace c.args.net.now)) (sym c.in-Some.ensures) c.in_ok-outcome.ensures.next;
       taken = omega (arith, c.decisions_of-taken.ensures.few, c.loop-used.invariant.taken);
       progress = subst (λ (n : ℕ). Progress c.args.number c.args.net.now
-          (walk_of (STAGES - (c.loop-used.used + 1)) c.args.net.now (Some c.in-Some.next) c.staged.new.content
+          (walk_of (MAX_STAGES - (c.loop-used.used + 1)) c.args.net.now (Some c.in-Some.next) c.staged.new.content
           (choice_at c.args.choices.now) (c.loop-used.taken + n))
-          (walk_of STAGES c.args.net.now (Some c.args.start) c.args.content (choice_at c.args.choices.now) 0)
+          (walk_of MAX_STAGES c.args.net.now (Some c.args.start) c.args.content (choice_at c.args.choices.now) 0)
           (g.O.Sink.seen c.args.out.now) (g.O.Sink.seen c.write_outcome.new.out)) (sym c.decisions_of-taken.ensures.taken) on;
     }
 
@@ -41,10 +41,10 @@ returns-in_err-write_outcome-clause-wrote g c =
     let tells = c.in_ok-outcome.ensures.tells in
     let slot = c.in_ok-outcome.ensures.error in
     let gave : Gave = record { outcome = c.in_ok-outcome.outcome; after = c.staged.new.content; error = step.error } in
-    let left : STAGES - c.loop-used.used ≡ suc (STAGES - (c.loop-used.used + 1)) = omega arith in
+    let left : MAX_STAGES - c.loop-used.used ≡ suc (MAX_STAGES - (c.loop-used.used + 1)) = omega arith in
     let p = err_from_is_err_and c.from_residual-in_err-write_outcome.result c.from_residual-in_err-write_outcome.ensures.1 in
     rw (p.1, p.2) (staged_cut c.args.number c.args.net.now
-    (STAGES - c.loop-used.used) (STAGES - (c.loop-used.used + 1)) c.loop-used.place c.loop-used.content
+    (MAX_STAGES - c.loop-used.used) (MAX_STAGES - (c.loop-used.used + 1)) c.loop-used.place c.loop-used.content
     (choice_at c.args.choices.now) c.loop-used.taken gave _ _ _ (g.O.Sink.seen c.write_outcome.new.out)
     left c.in_ok-outcome.ensures.function c.loop-used.invariant.progress c.in_err-write_outcome.field-0.0
     (c.in_err-write_outcome.ensures step.error tells slot))
@@ -55,8 +55,8 @@ returns-in-None-clause-ended g c =
     let tells = c.in_ok-outcome.ensures.tells in
     let slot = c.in_ok-outcome.ensures.error in
     let gave : Gave = record { outcome = c.in_ok-outcome.outcome; after = c.staged.new.content; error = step.error } in
-    let left : STAGES - c.loop-used.used ≡ suc (STAGES - (c.loop-used.used + 1)) = omega arith in
-    let last = staged_end c.args.number c.args.net.now (STAGES - c.loop-used.used) (STAGES - (c.loop-used.used + 1))
+    let left : MAX_STAGES - c.loop-used.used ≡ suc (MAX_STAGES - (c.loop-used.used + 1)) = omega arith in
+    let last = staged_end c.args.number c.args.net.now (MAX_STAGES - c.loop-used.used) (MAX_STAGES - (c.loop-used.used + 1))
     c.loop-used.place c.loop-used.content
     (choice_at c.args.choices.now) c.loop-used.taken gave _ _ _ (g.O.Sink.seen c.write_outcome.new.out)
     left c.in_ok-outcome.ensures.function c.loop-used.invariant.progress (sym c.in-None.ensures)
@@ -69,8 +69,8 @@ returns-in-None-clause-wrote g c =
     let tells = c.in_ok-outcome.ensures.tells in
     let slot = c.in_ok-outcome.ensures.error in
     let gave : Gave = record { outcome = c.in_ok-outcome.outcome; after = c.staged.new.content; error = step.error } in
-    let left : STAGES - c.loop-used.used ≡ suc (STAGES - (c.loop-used.used + 1)) = omega arith in
-    let last = staged_end c.args.number c.args.net.now (STAGES - c.loop-used.used) (STAGES - (c.loop-used.used + 1))
+    let left : MAX_STAGES - c.loop-used.used ≡ suc (MAX_STAGES - (c.loop-used.used + 1)) = omega arith in
+    let last = staged_end c.args.number c.args.net.now (MAX_STAGES - c.loop-used.used) (MAX_STAGES - (c.loop-used.used + 1))
     c.loop-used.place c.loop-used.content
     (choice_at c.args.choices.now) c.loop-used.taken gave _ _ _ (g.O.Sink.seen c.write_outcome.new.out)
     left c.in_ok-outcome.ensures.function c.loop-used.invariant.progress (sym c.in-None.ensures)
@@ -79,12 +79,12 @@ returns-in-None-clause-wrote g c =
 
 pub returns-clause-ended : goal.returns-clause-ended
 returns-clause-ended g c =
-    let left : STAGES - c.loop-used.used ≡ 0 = omega arith in
-    (progress_stops c.args.number c.args.net.now _ _ _ _ (walk_is_over c.args.net.now (STAGES - c.loop-used.used) _ _ _ _ left)
+    let left : MAX_STAGES - c.loop-used.used ≡ 0 = omega arith in
+    (progress_stops c.args.number c.args.net.now _ _ _ _ (walk_is_over c.args.net.now (MAX_STAGES - c.loop-used.used) _ _ _ _ left)
     c.loop-used.invariant.progress).1
 
 pub returns-clause-wrote : goal.returns-clause-wrote
 returns-clause-wrote g c =
-    let left : STAGES - c.loop-used.used ≡ 0 = omega arith in
-    (progress_stops c.args.number c.args.net.now _ _ _ _ (walk_is_over c.args.net.now (STAGES - c.loop-used.used) _ _ _ _ left)
+    let left : MAX_STAGES - c.loop-used.used ≡ 0 = omega arith in
+    (progress_stops c.args.number c.args.net.now _ _ _ _ (walk_is_over c.args.net.now (MAX_STAGES - c.loop-used.used) _ _ _ _ left)
     c.loop-used.invariant.progress).0

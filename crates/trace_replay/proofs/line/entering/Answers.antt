@@ -5,7 +5,7 @@ use Rattle.trace_replay.proofs.line.entering.Goals as goal
 
 pub returns-then-len-clause-line : goal.returns-then-len-clause-line
 returns-then-len-clause-line c =
-    let short : length c.args.packet.items ≤ most_len = omega (arith, c.len.ensures, c.if-len-gt-MOST_LEN.false) in
+    let short : length c.args.packet.items ≤ most_len = omega (arith, c.len.ensures, c.if-len-gt-MAX_PACKET_LEN.false) in
     let same : c.in_ok-to_vec.field-0.items ≡ c.args.packet.items = search rules in
     let whole = c.len-2.ensures ∙ ap (λ (x : Content). length (bytes_of x)) (c.enter-content.ensures ∙ ap (entered c.args.family) same) in
     let len : c.len-len.result ≡ length c.args.packet.items = omega (arith, c.len-len.ensures) in
@@ -14,7 +14,7 @@ returns-then-len-clause-line c =
 
 pub returns-clause-line : goal.returns-clause-line
 returns-clause-line c =
-    let short : length c.args.packet.items ≤ most_len = omega (arith, c.len.ensures, c.if-len-gt-MOST_LEN.false) in
+    let short : length c.args.packet.items ≤ most_len = omega (arith, c.len.ensures, c.if-len-gt-MAX_PACKET_LEN.false) in
     let same : c.in_ok-to_vec.field-0.items ≡ c.args.packet.items = search rules in
     let whole = c.len-2.ensures ∙ ap (λ (x : Content). length (bytes_of x)) (c.enter-content.ensures ∙ ap (entered c.args.family) same) in
     let len : c.len-len.result ≡ length c.args.packet.items = omega (arith, c.len-len.ensures) in

@@ -2,7 +2,7 @@ use Rattle.std.proofs.Common.{refl, sym, arith}
 use Rattle.v6_addr.specs.Scan.{behind, walked}
 use Rattle.v6_addr.specs.Grammar.{IsAddressText}
 use Rattle.v6_addr.specs.Faults.{Begins}
-use Rattle.v6_addr.specs.declared.scan.Place.TheVariants.{Start}
+use Rattle.v6_addr.specs.declared.scan.Scanned.TheVariants.{Start}
 use Rattle.v6_addr.proofs.Beginnings.{addresses_reach}
 use Rattle.v6_addr.proofs.Walks.{stopped_at, walked_all, walked_more}
 use Rattle.v6_addr.proofs.scan.address_beginning.Goals as goal

@@ -1,5 +1,5 @@
 use Rattle.std.proofs.Common.{◌≡◌, take, Some}
-use Rattle.v6_addr.specs.declared.scan.Place.TheVariants.{Start}
+use Rattle.v6_addr.specs.declared.scan.Scanned.TheVariants.{Start}
 use Rattle.v6_addr.specs.Scan.{reached}
 use Rattle.v6_addr.proofs.scan.address_beginning.Given as goal
 

@@ -1,5 +1,5 @@
 use Rattle.std.proofs.Common.{◌-◌}
-use Rattle.packet_walk.specs.declared.event.TheConstants.{STAGES}
+use Rattle.walk_rules.specs.declared.limits.TheConstants.{MAX_STAGES}
 use Rattle.packet_walk.specs.Flight.{packet_of}
 use Rattle.packet_walk.proofs.Walking.{Walking, stages_of}
 use Rattle.packet_walk.proofs.flight.Flight.walk.Given as goal
@@ -8,4 +8,4 @@ abbrev pub invariant-turns : goal.invariant-turns
 invariant-turns l = Walking l.number l.fn.self l.self
 
 abbrev pub decreases-turns : goal.decreases-turns
-decreases-turns l = STAGES - stages_of (packet_of l.self l.number)
+decreases-turns l = MAX_STAGES - stages_of (packet_of l.self l.number)

@@ -1,0 +1,138 @@
+-- What `gen` leaves, and what it has to write of a summary.
+use Rattle.std.proofs.Common.{◌≡◌, inl, inr, ℕ, List, [], Option, None, Some, Result, Ok, Err, refl, sym, ap, subst, ◌∙◌}
+use Rattle.srx_edge.specs.FilesRead.{FilesSeen}
+use Rattle.srx_edge.specs.Sources.{SourceSeen}
+use Rattle.srx_edge.specs.Sinks.{SinkSeen, sent}
+use Rattle.srx_edge.specs.Steps.{How, Wrote}
+use Rattle.net_model.specs.Network.{Network}
+use Rattle.net_model.specs.declared.flat.NotFlat.{NotFlat}
+use Rattle.net_maker.specs.Networks.{net_text}
+use Rattle.net_maker.specs.Intents.{intent_text}
+use Rattle.intent_reader.specs.declared.intent.Intent.{Intent}
+use Rattle.list_pack.specs.declared.types.Solution.{Solution}
+use Rattle.path_compiler.specs.declared.compiled.Compiled.{Compiled}
+use Rattle.path_compiler.specs.declared.compiled.CompileFault.TheVariants as faults
+use Rattle.generate_commands.specs.declared.gen_.Generated.{Generated}
+use Rattle.generate_commands.specs.declared.gen_.Generated.TheVariants as generates
+use Rattle.generate_commands.specs.declared.gen_.Made.{Made}
+use Rattle.generate_commands.specs.declared.gen_.Made.TheVariants as mades
+use Rattle.generate_commands.specs.declared.gen_.TheConstants.{PACKETS}
+use Rattle.command_output.specs.declared.halt.Failure.{Failure}
+use Rattle.command_output.specs.declared.halt.Failure.TheVariants as failures
+use Rattle.command_output.specs.declared.halt.Halt.{Halt}
+use Rattle.command_output.specs.declared.halt.Halt.TheVariants as halts
+use Rattle.command_output.specs.declared.refusal.Refusal.{Refusal}
+use Rattle.command_output.specs.declared.status.Status.TheVariants as statuses
+use Rattle.generate_commands.specs.declared.summed.Summary.{Summary}
+use Rattle.command_output.specs.declared.told.Text.{Text}
+use Rattle.command_output.specs.declared.told.Told.{Told}
+use Rattle.command_output.specs.Answers.{CommandsOut, JudgesText, ending_of_failure}
+use Rattle.compile_commands.specs.Compile.{CompiledWants, IntentWants, NetworkWants, hop_limit_line, none_line, too_long_line}
+use Rattle.command_output.specs.Halts.{flat_refusal}
+use Rattle.generate_commands.specs.Gen.{GenWants, Generates, SumWants, gen_shape, summary_lines}
+use Rattle.walk_commands.specs.Walk.{no_list}
+use Rattle.command_inputs.specs.Judgements.{network_in, intent_in}
+use Rattle.command_output.specs.Outputs.{refused}
+use Rattle.command_output.specs.Lines.{bytes_of_text}
+use Rattle.command_output.specs.Outside.{AsksAs, Reads, files_left_by, outside}
+use Rattle.command_output.specs.Pieces.{Stop, Never, At, Elsewhere, ToOut, stop_at}
+use Rattle.command_output.specs.Endings.{Takes}
+use Rattle.command_output.specs.Shape.{names_of}
+use Rattle.generate_commands.specs.Summary.{SummaryAnswers}
+use Rattle.command_output.proofs.PublicLaws.{each}
+use Rattle.command_output.proofs.PublicLaws.{memory_first, pieces_whole, refused_commands, written_cut, written_whole}
+
+-- what is to be written of a summary, or of the compiler's answer where there is none
+
+module _ (net : Network) (intent : Intent) where
+  pub summed_lines : (s : Summary) (lines : Text) → SummaryAnswers net intent PACKETS (Ok s) → bytes_of_text lines ≡ summary_lines s
+      → Generates (CompiledWants SumWants net intent) (Ok (generates.Report lines))
+  summed_lines s lines answers is = (Ok answers.0, answers.1, answers.2, rw (is, answers.3) refl)
+
+  pub summed_flat : (why : NotFlat) (refusal : Refusal) → SummaryAnswers net intent PACKETS (Err (faults.NotFlat why))
+      → refusal ≡ flat_refusal net why → Generates (CompiledWants SumWants net intent) (Err (halts.Refused refusal))
+  summed_flat why refusal answers is = (Err (faults.NotFlat why), answers.0, answers.1, ap refused is)
+
+  pub summed_none : (s : Solution) (line : Text) → SummaryAnswers net intent PACKETS (Err (faults.NoList s)) → bytes_of_text line ≡ none_line
+      → Generates (CompiledWants SumWants net intent) (Ok (generates.NoList line))
+  summed_none s line answers is = (Err (faults.NoList s), answers.0, answers.1, ap no_list is)
+
+  pub summed_long : (c : Compiled) (line : Text) → SummaryAnswers net intent PACKETS (Err (faults.TooLong c))
+      → bytes_of_text line ≡ too_long_line c.containers → Generates (CompiledWants SumWants net intent) (Ok (generates.NoList line))
+  summed_long c line answers is = (Err (faults.TooLong c), answers.0, answers.1, ap no_list is)
+
+  pub summed_over : (c : Compiled) (line : Text) → SummaryAnswers net intent PACKETS (Err (faults.HopLimit c))
+      → bytes_of_text line ≡ hop_limit_line c.need → Generates (CompiledWants SumWants net intent) (Ok (generates.NoList line))
+  summed_over c line answers is = (Err (faults.HopLimit c), answers.0, answers.1, ap no_list is)
+
+-- what was judged well is wanted as it is, and what was refused has its refusal
+
+pub generates_intent : (net : Network) (intent : Intent) (text : List ℕ) (answer : Result Generated Halt) → intent_in net text ≡ Ok intent
+    → Generates (CompiledWants SumWants net intent) answer → Generates (IntentWants SumWants net (intent_in net text)) answer
+generates_intent net intent text answer is gives =
+    subst (λ (judged : Result Intent Refusal). Generates (IntentWants SumWants net judged) answer) (sym is) gives
+
+pub intent_halts : (net : Network) (text : List ℕ) (halt : Halt) → JudgesText (intent_in net) text (Err halt)
+    → Generates (IntentWants SumWants net (intent_in net text)) (Err halt)
+intent_halts net text (halts.Refused refusal) is = rw is refl
+intent_halts net text (halts.Failed failures.Fault) none = none
+intent_halts net text (halts.Failed failures.NoMemory) is = tt
+
+pub generates_network : (net : Network) (n : ℕ) (answer : Result Generated Halt) → network_in (net_text n) ≡ Ok net
+    → Generates (IntentWants SumWants net (intent_in net (intent_text n))) answer → Generates (GenWants n mades.Sum) answer
+generates_network net n answer is gives =
+    subst (λ (judged : Result Network Refusal). Generates (NetworkWants SumWants judged (Some (intent_text n))) answer) (sym is) gives
+
+pub network_halts : (n : ℕ) (halt : Halt) → JudgesText network_in (net_text n) (Err halt) → Generates (GenWants n mades.Sum) (Err halt)
+network_halts n (halts.Refused refusal) is = rw is refl
+network_halts n (halts.Failed failures.Fault) none = none
+network_halts n (halts.Failed failures.NoMemory) is = tt
+
+pub ruleset summaries =
+    (summed_lines, summed_flat, summed_none, summed_long, summed_over, generates_intent, intent_halts, generates_network, network_halts)
+
+-- what the command leaves
+
+module _ (n : ℕ) (made : Made) (f : FilesSeen) (s : SourceSeen) where
+  -- no file is asked for
+  takes : (stop : Stop) → AsksAs stop [] [] → f ≡ files_left_by stop f → Reads stop s s → Takes (gen_shape n made) stop f f s s
+  takes stop those seen reads = record {
+    asks = record {
+      names = [];
+      in_order = record { rest = []; whole = refl };
+      those = each f.told (λ held. AsksAs stop (names_of (gen_shape n made) held) []) (λ held. those);
+      seen = seen;
+    };
+    reads = reads;
+    unread = each f.told (λ held. Unit {0} → s ≡ s) (λ held _. refl);
+    reads_none = λ _. refl;
+  }
+
+  takes-how : (how : Option How) → Takes (gen_shape n made) (stop_at ToOut how) f f s s
+  takes-how None = takes Elsewhere (record { rest = []; whole = refl }) refl refl
+  takes-how (Some how) = takes (At ToOut how) refl refl refl
+
+  -- nothing was made
+  pub gen_halted : (halt : Halt) (o : SinkSeen) → Generates (GenWants n made) (Err halt) → CommandsOut (gen_shape n made) (Err halt) f f s s o o
+  gen_halted (halts.Refused refusal) o h =
+      refused_commands (gen_shape n made) refusal f f s s o h (inr (inl refl)) (takes Never refl refl refl)
+  gen_halted (halts.Failed failures.Fault) o none = absurd none
+  gen_halted (halts.Failed failures.NoMemory) o h = memory_first (gen_shape n made) f s o
+
+  module _ (text : Text) (h : Generates (GenWants n made) (Ok (generates.Report text))) (o p : SinkSeen) where
+    -- the text didn't go out whole
+    pub gen_cut : (failure : Failure) → Wrote (ending_of_failure failure) (bytes_of_text text) o p
+        → CommandsOut (gen_shape n made) (Err (halts.Failed failure)) f f s s o p
+    gen_cut failure wrote = written_cut (gen_shape n made) failure (bytes_of_text text) [] statuses.Done f f s s o p wrote h takes-how
+
+    -- it did
+    pub gen_done : (told : Told) → bytes_of_text told.line ≡ [] → told.status ≡ statuses.Done → p ≡ sent (bytes_of_text text) o
+        → CommandsOut (gen_shape n made) (Ok told) f f s s o p
+    gen_done told line status went = written_whole (gen_shape n made) told (bytes_of_text text) f f s s o p went
+        (rw (line, status) h) (rw status refl) (inl status) (takes Never refl refl refl) (λ _ no. cc)
+
+  -- there is no list, and nothing is written but its line
+  pub gen_without_list : (line : Text) (told : Told) (o : SinkSeen) → Generates (GenWants n made) (Ok (generates.NoList line))
+      → told.line ≡ line → told.status ≡ statuses.NoAnswer → CommandsOut (gen_shape n made) (Ok told) f f s s o o
+  gen_without_list line told o h is status = λ err. pieces_whole (gen_shape n made) [] (outside f s o err) (outside f s o err) told refl
+      (rw (is, status) h) (rw status refl) (inr (inr (inl status))) (takes Never refl refl refl) (λ done. cc (sym status ∙ done))

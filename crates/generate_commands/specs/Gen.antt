@@ -1,0 +1,112 @@
+-- The command `gen`: the texts of a generated network and of the intent over it, and what the walks of generated packets
+-- through it come to (own rule).
+use Rattle.std.specs.Prelude.{◌≡◌, ℕ, Bool, true, false, if◌then◌else◌, List, [], ◌∷◌, ◌++◌, codes, Option, Some, None, Result, Ok, Err, ⊤}
+use Rattle.std.specs.Str.{bytes_eq}
+use Rattle.std.specs.Fmt.{decimal}
+use Rattle.net_maker.specs.Words.{is_size}
+use Rattle.net_maker.specs.Networks.{net_text}
+use Rattle.net_maker.specs.Intents.{intent_text}
+use Rattle.net_model.specs.Network.{Network}
+use Rattle.intent_reader.specs.declared.intent.Intent.{Intent}
+use Rattle.path_compiler.specs.declared.compiled.Compiled.{Compiled}
+use Rattle.path_compiler.specs.declared.compiled.CompileFault.{CompileFault}
+use Rattle.path_compiler.specs.declared.compiled.CompileFault.TheVariants as faults
+use Rattle.generate_commands.specs.declared.gen_.Generated.{Generated}
+use Rattle.generate_commands.specs.declared.gen_.Generated.TheVariants as generates
+use Rattle.generate_commands.specs.declared.gen_.Made.{Made}
+use Rattle.generate_commands.specs.declared.gen_.Made.TheVariants as mades
+use Rattle.generate_commands.specs.declared.gen_.TheConstants.{PACKETS}
+use Rattle.command_output.specs.declared.halt.Failure.TheVariants as failures
+use Rattle.command_output.specs.declared.halt.Halt.{Halt}
+use Rattle.command_output.specs.declared.halt.Halt.TheVariants as halts
+use Rattle.command_output.specs.declared.status.Status.TheVariants as statuses
+use Rattle.generate_commands.specs.declared.summed.Summary.{Summary}
+use Rattle.compile_commands.specs.Compile.{NetworkWants, hop_limit_line, none_line, too_long_line}
+use Rattle.command_output.specs.Halts.{flat_refusal}
+use Rattle.command_output.specs.Outputs.{refused, reported}
+use Rattle.walk_commands.specs.Walk.{no_list}
+use Rattle.command_inputs.specs.Judgements.{network_in}
+use Rattle.command_output.specs.Lines.{bytes_of_text}
+use Rattle.command_output.specs.Pieces.{Output}
+use Rattle.command_output.specs.Shape.{Shape}
+use Rattle.generate_commands.specs.Summary.{summary_of}
+use Rattle.trace_replay.specs.Grammar.{number_in}
+
+-- its words: a size, and what is generated of that size
+
+abbrev pub is_gen : List ℕ → Bool
+is_gen verb = bytes_eq verb (codes "gen")
+
+abbrev pub sized : Option ℕ → Option ℕ
+sized None = None
+sized (Some n) = if is_size n then Some n else None
+
+abbrev pub size_in : List ℕ → Option ℕ
+size_in word = sized (number_in word)
+
+abbrev pub made_in : List ℕ → Option Made
+made_in word =
+    if bytes_eq word (codes "net") then Some mades.Net
+    else if bytes_eq word (codes "intent") then Some mades.Intent
+    else if bytes_eq word (codes "sum") then Some mades.Sum
+    else None
+
+-- the lines of a summary: a name and a number each, of the network, of the list, and of the walks
+
+unfoldable pub network_lines : ℕ → ℕ → ℕ → ℕ → List ℕ
+network_lines nodes links routes sids =
+    codes "nodes " ++ (decimal nodes ++ 10 ∷ (codes "links " ++ (decimal links ++ 10 ∷ (codes "routes "
+    ++ (decimal routes ++ 10 ∷ (codes "sids " ++ (decimal sids ++ 10 ∷ [])))))))
+
+unfoldable pub list_lines : ℕ → ℕ → ℕ → List ℕ
+list_lines containers header need =
+    codes "containers " ++ (decimal containers ++ 10 ∷ (codes "header " ++ (decimal header ++ 10 ∷ (codes "need "
+    ++ (decimal need ++ 10 ∷ [])))))
+
+unfoldable pub walks_lines : ℕ → ℕ → ℕ → List ℕ
+walks_lines packets frames left =
+    codes "packets " ++ (decimal packets ++ 10 ∷ (codes "frames " ++ (decimal frames ++ 10 ∷ (codes "left "
+    ++ (decimal left ++ 10 ∷ [])))))
+
+abbrev pub summary_lines : Summary → List ℕ
+summary_lines s =
+    network_lines s.nodes s.links s.routes s.sids ++ (list_lines s.containers s.header s.need ++ walks_lines s.packets s.frames s.left)
+
+-- the output of an answer of the compiler: the summary, or the line that `compile` has; want of memory has none
+abbrev pub SumWants : Network → Intent → Result Compiled CompileFault → Output → Type 0
+SumWants net intent (Ok c) output = output ≡ reported (summary_lines (summary_of net intent c PACKETS)) [] statuses.Done
+SumWants net intent (Err (faults.NotFlat why)) output = output ≡ refused (flat_refusal net why)
+SumWants net intent (Err (faults.NoList solution)) output = output ≡ no_list none_line
+SumWants net intent (Err (faults.TooLong found)) output = output ≡ no_list (too_long_line found.containers)
+SumWants net intent (Err (faults.HopLimit found)) output = output ≡ no_list (hop_limit_line found.need)
+SumWants net intent (Err faults.NoMemory) output = ⊥
+
+-- its own texts are judged as `compile` judges those of two files
+abbrev pub GenWants : ℕ → Made → Output → Type 0
+GenWants n mades.Net output = output ≡ reported (net_text n) [] statuses.Done
+GenWants n mades.Intent output = output ≡ reported (intent_text n) [] statuses.Done
+GenWants n mades.Sum output = NetworkWants SumWants (network_in (net_text n)) (Some (intent_text n)) output
+
+abbrev pub gen_shape : ℕ → Made → Shape
+gen_shape n made = record {
+  files = [];
+  goes_on = λ texts. false;
+  reads = false;
+  leaves_input = λ held. ⊤;
+  lines_last = true;
+  statuses = statuses.Done ∷ statuses.Refused ∷ statuses.NoAnswer ∷ [];
+  wants = λ held input output. GenWants n made output;
+}
+
+-- What `gen` has to write, as its steps answer it.
+
+abbrev pub output_of_generated : Generated → Output
+output_of_generated (generates.Report text) = reported (bytes_of_text text) [] statuses.Done
+output_of_generated (generates.NoList line) = no_list (bytes_of_text line)
+
+-- what is to be written is what is wanted
+abbrev pub Generates : (Output → Type 0) → Result Generated Halt → Type 0
+Generates Wants (Ok generated) = Wants (output_of_generated generated)
+Generates Wants (Err (halts.Refused refusal)) = Wants (refused refusal)
+Generates Wants (Err (halts.Failed failures.Fault)) = ⊥
+Generates Wants (Err (halts.Failed failures.NoMemory)) = ⊤

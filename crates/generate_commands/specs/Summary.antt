@@ -1,0 +1,96 @@
+-- What a network, an intent, its list and the walks of generated packets come to, in numbers (own rule).
+use Rattle.std.specs.Prelude.{◌≡◌, ℕ, Bool, true, false, List, [], ◌∷◌, length, sum_by, count_by, Result, Ok, Err}
+use Rattle.std.specs.List.{flat_map, range_with_len}
+use Rattle.pcap_io.specs.declared.frame.Body.TheVariants as bodies
+use Rattle.srv6_rules.specs.declared.policy.Policy.{Policy}
+use Rattle.srv6_rules.specs.declared.sid.Family.{Family}
+use Rattle.srv6_rules.specs.Packet.{spelling}
+use Rattle.net_maker.specs.Packets.{generated_packet}
+use Rattle.net_model.specs.Network.{Network}
+use Rattle.walk_rules.specs.declared.place.Outcome.{Outcome}
+use Rattle.walk_rules.specs.declared.place.Outcome.TheVariants as outcomes
+use Rattle.walk_rules.specs.declared.place.Ended.{Ended}
+use Rattle.walk_rules.specs.declared.place.Ended.TheVariants as ends
+use Rattle.walk_rules.specs.Walk.{Stage, end_of}
+use Rattle.intent_reader.specs.declared.intent.Intent.{Intent}
+use Rattle.path_compiler.specs.declared.compiled.Compiled.{Compiled}
+use Rattle.path_compiler.specs.declared.compiled.CompileFault.{CompileFault}
+use Rattle.path_compiler.specs.Compiled.{CompileAnswers, IsCompiled, IsLeastOfAll, NoLessHandsOver}
+use Rattle.walk_commands.specs.declared.headend.AtHeadend.{AtHeadend}
+use Rattle.walk_commands.specs.declared.headend.AtHeadend.TheVariants.{NotRead, Dropped, Enters}
+use Rattle.generate_commands.specs.declared.summed.Summary.{Summary}
+use Rattle.walk_commands.specs.Walk.{at_headend, policy_of, walk_at_headend}
+
+-- the choices that each walk takes
+abbrev pub summary_choices : List ℕ
+summary_choices = 0 ∷ 1 ∷ []
+
+-- generated packet k at the headend, as the command `walk` has it there
+abbrev pub generated_at_headend : Policy → Family → ℕ → AtHeadend
+generated_at_headend policy inner k = at_headend policy inner (bodies.V6 (spelling (generated_packet k)))
+
+-- the walk of what the headend encapsulated; what isn't read or is dropped there has none
+abbrev pub walks_by : Network → Intent → AtHeadend → List (List Stage)
+walks_by net intent (NotRead cause) = []
+walks_by net intent (Dropped reason) = []
+walks_by net intent (Enters content) = walk_at_headend net intent summary_choices content ∷ []
+
+-- the walk of generated packet k, if it has one
+abbrev pub walks_of_packet : Network → Intent → Policy → ℕ → List (List Stage)
+walks_of_packet net intent policy k = walks_by net intent (generated_at_headend policy intent.inner k)
+
+-- the walks of so many generated packets, numbered from 1
+abbrev pub walks_of : Network → Intent → Policy → ℕ → List (List Stage)
+walks_of net intent policy packets = flat_map (walks_of_packet net intent policy) (range_with_len 1 packets)
+
+-- whether a stage sends the packet over a link
+abbrev pub is_send : Outcome → Bool
+is_send (outcomes.Again sid how) = false
+is_send (outcomes.Hand sid how family) = false
+is_send (outcomes.Send link) = true
+is_send outcomes.Local = false
+is_send (outcomes.Drop reason told) = false
+
+abbrev pub sends : Stage → Bool
+sends s = is_send s.gave.outcome
+
+-- whether a walk that ended so left the network
+abbrev pub has_left : Ended → Bool
+has_left (ends.Left link) = true
+has_left (ends.Delivered node) = false
+has_left (ends.Dropped node reason) = false
+has_left ends.Stages = false
+
+abbrev pub leaves : Network → List Stage → Bool
+leaves net steps = has_left (end_of net steps)
+
+-- how many stages of walks send
+abbrev pub frames_in : List (List Stage) → ℕ
+frames_in walks = sum_by (λ steps. count_by sends steps) walks
+
+-- how many walks leave the network
+abbrev pub left_in : Network → List (List Stage) → ℕ
+left_in net walks = count_by (leaves net) walks
+
+-- the summary of a network, an intent, its list and so many packets
+abbrev pub summary_of : Network → Intent → Compiled → ℕ → Summary
+summary_of net intent c packets =
+    let walks = walks_of net intent (policy_of net intent c) packets in
+    record {
+      nodes = length net.nodes;
+      links = length net.links;
+      routes = length net.routes;
+      sids = length net.sids;
+      containers = c.containers;
+      header = c.header;
+      need = c.need;
+      packets = packets;
+      frames = frames_in walks;
+      left = left_in net walks;
+    }
+
+-- the summary of a list that the intent is compiled to, or the compiler's answer where there is none
+abbrev pub SummaryAnswers : Network → Intent → ℕ → Result Summary CompileFault → Type 0
+SummaryAnswers net intent packets (Ok s) =
+    (c : Compiled) × IsCompiled net intent c × IsLeastOfAll net intent c × (s ≡ summary_of net intent c packets)
+SummaryAnswers net intent packets (Err fault) = CompileAnswers net intent (Err fault) × NoLessHandsOver net intent (Err fault)

@@ -1,0 +1,215 @@
+//! The command `gen`: the texts of a generated network and of the intent over it, and what the
+//! walks of generated packets through it come to.
+
+ghost use Rattle.std.specs.Prelude.{◌≡◌, IfOk, Some, string_bytes};
+ghost use Rattle.net_maker.specs.Intents.{intent_text};
+ghost use Rattle.net_maker.specs.Networks.{net_text};
+ghost use Rattle.intent_reader.specs.Rules.{IsIntent};
+ghost use Rattle.command_output.specs.Answers.{CommandsAlone};
+ghost use Rattle.compile_commands.specs.Compile.{CompiledWants, IntentWants};
+ghost use Rattle.generate_commands.specs.Gen.{Generates, GenWants, SumWants, gen_shape, list_lines, made_in, network_lines, size_in, summary_lines, walks_lines};
+ghost use Rattle.command_inputs.specs.Judgements.{intent_in};
+
+use crate::summed::Summary;
+use crate::summing::summary;
+use base::NoMemory;
+use command_inputs::{intent_of_text, network_of_text};
+use command_output::{Failure, Halt, Status, Text, Told, refusal_of_not_flat, write_all};
+use compile_commands::{line_of_hop_limit, line_of_none, line_of_too_long};
+use intent_reader::Intent;
+use net_maker::{Size, write_intent, write_net};
+use net_model::Net;
+use path_compiler::CompileFault;
+use srx_edge::Sink;
+use std::alloc::{AllocError, Global};
+use trace_replay::number_of_word;
+
+/// The packets of which a summary tells. (own rule)
+pub const PACKETS: u32 = 1_000;
+
+/// What is generated. (own rule)
+#[derive(Clone, Copy, Debug, PartialEq, Eq)]
+pub enum Made {
+    /// The description of a network.
+    Net,
+    /// The intent over it.
+    Intent,
+    /// What the walks of generated packets through it come to.
+    Sum,
+}
+
+/// What `gen` has to write. (own rule)
+#[derive(Drop)]
+pub enum Generated {
+    /// Text for `out`.
+    Report(Text),
+    /// There is no list; the line says why.
+    NoList(Text),
+}
+
+/// The size that a word is. (own rule)
+pub fn size_of_word(word: &str) -> Option<Size>
+    ensures { result ≡ size_in word.now }
+{
+    match number_of_word(word) {
+        Some(number) => Size::new(number),
+        None => None,
+    }
+}
+
+/// What a word asks to generate. (own rule)
+pub fn made_of_word(word: &str) -> Option<Made>
+    ensures { result ≡ made_in word.now }
+{
+    match word {
+        "net" => Some(Made::Net),
+        "intent" => Some(Made::Intent),
+        "sum" => Some(Made::Sum),
+        _ => None,
+    }
+}
+
+/// The lines of a network's numbers.
+#[tactic(auto, unfolding(crate::specs::Gen::network_lines))]
+fn lines_of_network(
+    alloc: Global,
+    nodes: u32,
+    links: u32,
+    routes: u32,
+    sids: u32,
+) -> Result<String, AllocError>
+    ensures { IfOk result (λ lines. string_bytes lines ≡ network_lines nodes links routes sids) }
+{
+    format!(in alloc; "nodes {nodes}\nlinks {links}\nroutes {routes}\nsids {sids}\n")
+}
+
+/// The lines of a list's numbers.
+#[tactic(auto, unfolding(crate::specs::Gen::list_lines))]
+fn lines_of_list(
+    alloc: Global,
+    containers: u32,
+    header: u64,
+    need: u32,
+) -> Result<String, AllocError>
+    ensures { IfOk result (λ lines. string_bytes lines ≡ list_lines containers header need) }
+{
+    format!(in alloc; "containers {containers}\nheader {header}\nneed {need}\n")
+}
+
+/// The lines of the walks' numbers.
+#[tactic(auto, unfolding(crate::specs::Gen::walks_lines))]
+fn lines_of_walks(alloc: Global, packets: u32, frames: u32, left: u32) -> Result<String, AllocError>
+    ensures { IfOk result (λ lines. string_bytes lines ≡ walks_lines packets frames left) }
+{
+    format!(in alloc; "packets {packets}\nframes {frames}\nleft {left}\n")
+}
+
+/// The lines of a summary.
+#[tactic(auto, using(std::proofs::Common::append_assoc))]
+fn lines_of_summary(alloc: Global, s: &Summary) -> Result<String, AllocError>
+    ensures { IfOk result (λ lines. string_bytes lines ≡ summary_lines s.now) }
+{
+    let mut lines = lines_of_network(alloc, s.nodes, s.links, s.routes, s.sids)?;
+    let list = lines_of_list(alloc, s.containers, s.header, s.need)?;
+    lines.push_str(&list)?;
+    let walks = lines_of_walks(alloc, s.packets, s.frames, s.left)?;
+    lines.push_str(&walks)?;
+    Ok(lines)
+}
+
+/// What is to be written of an intent in a network.
+#[tactic(auto, using(crate::proofs::Generating::summaries))]
+fn summary_for(alloc: Global, net: &Net, intent: &Intent) -> Result<Generated, Halt>
+    requires { IsIntent net.now intent.now }
+    ensures { Generates (CompiledWants SumWants net.now intent.now) result }
+{
+    match summary(alloc, net, intent, PACKETS) {
+        Ok(summed) => {
+            let lines = lines_of_summary(alloc, &summed)?;
+            Ok(Generated::Report(Text::Made(lines)))
+        }
+        Err(CompileFault::NotFlat(why)) => Err(Halt::Refused(refusal_of_not_flat(net, &why))),
+        Err(CompileFault::NoList { .. }) => Ok(Generated::NoList(line_of_none())),
+        Err(CompileFault::TooLong { found }) => {
+            let line = line_of_too_long(alloc, found.containers)?;
+            Ok(Generated::NoList(line))
+        }
+        Err(CompileFault::HopLimit { found }) => {
+            let line = line_of_hop_limit(alloc, found.need)?;
+            Ok(Generated::NoList(line))
+        }
+        Err(CompileFault::NoMemory) => Err(Halt::Failed(Failure::NoMemory)),
+    }
+}
+
+/// The text of a generated network.
+fn text_of_net(alloc: Global, size: Size) -> Result<Vec<u8>, NoMemory>
+    ensures { IfOk result (λ text. text.items ≡ net_text size) }
+{
+    let mut text = Vec::new(alloc);
+    write_net(alloc, size, &mut text)?;
+    Ok(text)
+}
+
+/// The text of a generated intent.
+fn text_of_intent(alloc: Global, size: Size) -> Result<Vec<u8>, NoMemory>
+    ensures { IfOk result (λ text. text.items ≡ intent_text size) }
+{
+    let mut text = Vec::new(alloc);
+    write_intent(alloc, size, &mut text)?;
+    Ok(text)
+}
+
+/// What is to be written of the generated intent in a network.
+#[tactic(auto, using(crate::proofs::Generating::summaries))]
+fn sum_in(alloc: Global, net: &Net, size: Size) -> Result<Generated, Halt>
+    ensures { Generates (IntentWants SumWants net.now (intent_in net.now (intent_text size)))
+        result }
+{
+    let text = text_of_intent(alloc, size)?;
+    let intent = intent_of_text(alloc, net, text.as_slice())?;
+    summary_for(alloc, net, &intent)
+}
+
+/// What is to be written of the walks through a generated network.
+#[tactic(auto, using(crate::proofs::Generating::summaries))]
+fn sum_of(alloc: Global, size: Size) -> Result<Generated, Halt>
+    ensures { Generates (GenWants size Made.Sum) result }
+{
+    let text = text_of_net(alloc, size)?;
+    let net = network_of_text(alloc, text.as_slice())?;
+    sum_in(alloc, &net, size)
+}
+
+/// What is to be written of a size.
+fn made_for(alloc: Global, size: Size, made: Made) -> Result<Generated, Halt>
+    ensures { Generates (GenWants size made) result }
+{
+    match made {
+        Made::Net => Ok(Generated::Report(Text::Bytes(text_of_net(alloc, size)?))),
+        Made::Intent => Ok(Generated::Report(Text::Bytes(text_of_intent(alloc, size)?))),
+        Made::Sum => sum_of(alloc, size),
+    }
+}
+
+/// Writes the description of the generated network of a size, or the intent over it, or what 1,000
+/// generated packets come to that are walked through it from the intent's headend with the list
+/// that the intent is compiled to. No file is read, and no input. What is written is made before
+/// any of it goes out. (own rule)
+pub fn generate<O: Sink>(alloc: Global, size: Size, made: Made, out: &mut O) -> Result<Told, Halt>
+    ensures { CommandsAlone (gen_shape size made) result (O.seen out.old) (O.seen out.new) }
+{
+    match made_for(alloc, size, made)? {
+        Generated::Report(text) => {
+            write_all(out, text.as_bytes())?;
+            Ok(Told {
+                line: Text::Fixed(b""),
+                status: Status::Done,
+            })
+        }
+        Generated::NoList(line) => Ok(Told {
+            line,
+            status: Status::NoAnswer,
+        }),
+    }
+}

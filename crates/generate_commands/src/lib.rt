@@ -1,0 +1,12 @@
+//! The command `gen`, and what a network, an intent, its list and walks come to in numbers.
+//!
+//! `specs/Gen.antt` has its words, its shape and its output, and `specs/Summary.antt` the numbers.
+#![tactic(auto)]
+
+mod gen_;
+mod summed;
+mod summing;
+
+pub use gen_::{Made, PACKETS, generate, made_of_word, size_of_word};
+pub use summed::Summary;
+pub use summing::{MAX_PACKETS, summary};

@@ -1,2 +1,0 @@
--- The lemmas that crates above may cite.
-pub use Rattle.walk_command.proofs.WalkStarts.{intent_bounds, list_fits}

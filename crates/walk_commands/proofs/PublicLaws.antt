@@ -1,0 +1,2 @@
+-- The lemmas that crates above may cite.
+pub use Rattle.walk_commands.proofs.WalkStarts.{intent_bounds, list_fits}

@@ -1,0 +1,283 @@
+-- What `walk` leaves, by where it ends.
+use Rattle.std.proofs.Common.{◌≡◌, inl, inr, ℕ, true, false, List, [], ◌∷◌, Option, None, Some, IfSome, Result, Ok, Err, refl, sym, ap, ◌∙◌, subst, ◌<◌, ◌^◌, length}
+use Rattle.std.specs.Prelude.{IsSomeAnd, if◌then◌else◌}
+use Rattle.srx_edge.specs.Edge.{file_named}
+use Rattle.srx_edge.specs.FilesRead.{FilesSeen, asked_for}
+use Rattle.srx_edge.specs.Sources.{SourceSeen}
+use Rattle.srx_edge.specs.Sinks.{SinkSeen}
+use Rattle.srx_edge.specs.Steps.{How}
+use Rattle.srv6_rules.specs.declared.policy.Policy.{Policy}
+use Rattle.net_model.specs.Network.{Network}
+use Rattle.intent_reader.specs.declared.intent.Intent.{Intent}
+use Rattle.walk_commands.specs.declared.start.Start.TheVariants as starts
+use Rattle.command_output.specs.declared.halt.Failure.{Failure}
+use Rattle.command_output.specs.declared.halt.Failure.TheVariants as failures
+use Rattle.command_output.specs.declared.halt.Halt.{Halt}
+use Rattle.command_output.specs.declared.halt.Halt.TheVariants as halts
+use Rattle.command_inputs.specs.declared.packets.Packets.{Packets}
+use Rattle.command_output.specs.declared.refusal.Refusal.{Refusal}
+use Rattle.command_output.specs.declared.status.Status.TheVariants as statuses
+use Rattle.command_output.specs.declared.told.Text.{Text}
+use Rattle.command_output.specs.declared.told.Told.{Told}
+use Rattle.command_output.specs.Answers.{ending_of_failure, JudgesFile, JudgesInput, Commands}
+use Rattle.compile_commands.specs.Compile.{CompiledWants, IntentWants, NetworkWants}
+use Rattle.walk_commands.specs.Walk.{WalkWants, HasList, HasListIn, ReadsInput, StartsAs, no_list, walk_pieces, walk_output, walked, walk_shape}
+use Rattle.command_inputs.specs.Judgements.{network_in, intent_in, asks_behind_network}
+use Rattle.command_output.specs.Outputs.{refused, ended_by}
+use Rattle.command_output.specs.Lines.{bytes_of_text, refusal_line}
+use Rattle.command_output.specs.Outside.{outside, IsFrontOf, Asks, Reads, asked_for_all, files_left_by}
+use Rattle.command_inputs.specs.Packets.{packets_in, reading_of, fault_of}
+use Rattle.command_output.specs.Pieces.{Piece, Output, Which, Stop, Never, AtFiles, AtInput, At, Elsewhere, sinks_of, gone, stop_at, WroteAll}
+use Rattle.command_output.specs.Endings.{Takes}
+use Rattle.command_output.specs.Shape.{Held, goes_on_with, names_of, WantedOf}
+use Rattle.command_output.proofs.PublicLaws.{each, each-map, some-map, front_whole, front_longer, front_after, asks_all, asks_fault, asks_front, refused_commands, files_fault, input_fault, memory_wants, pieces_whole, pieces_refused, pieces_cut}
+use Rattle.walk_commands.proofs.WalkKeeping.{walks_keep}
+
+-- the names that are asked for, by the judgement of the description
+
+goes-on-ok : (net : Network) (o : Option (List ℕ)) → IsSomeAnd o (λ text. network_in text ≡ Ok net)
+    → goes_on_with asks_behind_network [] o ≡ true
+goes-on-ok net None h = absurd h
+goes-on-ok net (Some text) h = rw h refl
+
+goes-on-refused : (refusal : Refusal) (o : Option (List ℕ)) → IsSomeAnd o (λ text. network_in text ≡ Err refusal)
+    → goes_on_with asks_behind_network [] o ≡ false
+goes-on-refused refusal None h = absurd h
+goes-on-refused refusal (Some text) h = rw h refl
+
+-- of any input
+any-input : (left : Option (List ℕ)) → IfSome left (λ input. Unit {0})
+any-input None = tt
+any-input (Some input) = tt
+
+module _ (file intent choices schedule : List ℕ) where
+  abbrev DescriptionIs : Result Network Refusal → Held → Type 0
+  DescriptionIs judged held = IsSomeAnd (file_named held file) (λ text. network_in text ≡ judged)
+
+  abbrev IntentIs : Network → Result Intent Refusal → Held → Type 0
+  IntentIs net read held = IsSomeAnd (file_named held intent) (λ text. intent_in net text ≡ read)
+
+  names-ok : (net : Network) (told : Option Held) → IfSome told (DescriptionIs (Ok net))
+      → IfSome told (λ held. names_of (walk_shape file intent choices schedule) held ≡ file ∷ intent ∷ [])
+  names-ok net told h = each-map told (DescriptionIs (Ok net))
+      (λ held. names_of (walk_shape file intent choices schedule) held ≡ file ∷ intent ∷ [])
+      (λ held h. rw (goes-on-ok net (file_named held file) h) refl) h
+
+  names-refused : (refusal : Refusal) (told : Option Held) → IfSome told (DescriptionIs (Err refusal))
+      → IfSome told (λ held. names_of (walk_shape file intent choices schedule) held ≡ file ∷ [])
+  names-refused refusal told h = each-map told (DescriptionIs (Err refusal))
+      (λ held. names_of (walk_shape file intent choices schedule) held ≡ file ∷ [])
+      (λ held h. rw (goes-on-refused refusal (file_named held file) h) refl) h
+
+  -- what is asked for behind the description
+  abbrev behind : Held → List (List ℕ)
+  behind held = if goes_on_with asks_behind_network [] (file_named held file) then intent ∷ [] else []
+
+  -- an output that is wanted of the description's judgement, and of the input
+  wants : (judged : Result Network Refusal) (Q : List ℕ → Type 0) (told : Option Held) (left : Option (List ℕ)) (output : Output)
+      → IfSome told (DescriptionIs judged) → IfSome left Q
+      → IfSome told (λ held. (input : List ℕ) → Q input → NetworkWants (WalkWants choices schedule input) judged (file_named held intent) output)
+      → WantedOf (walk_shape file intent choices schedule) told left output
+  wants judged Q None left output h q w = tt
+  wants judged Q (Some held) None output h q w = tt
+  wants judged Q (Some held) (Some input) output h q w = some-map (file_named held file) (λ text. network_in text ≡ judged)
+      (λ text. NetworkWants (WalkWants choices schedule input) (network_in text) (file_named held intent) output)
+      (λ text is. subst (λ (j : Result Network Refusal). NetworkWants (WalkWants choices schedule input) j (file_named held intent) output) (sym is)
+      (w input q)) h
+
+  -- the input as it was
+  takes-unread : (stop : Stop) (f g : FilesSeen) (s : SourceSeen) → Asks (walk_shape file intent choices schedule) stop f g → Reads stop s s
+      → Takes (walk_shape file intent choices schedule) stop f g s s
+  takes-unread stop f g s asks reads = record {
+    asks = asks;
+    reads = reads;
+    unread = each f.told (λ held. (¬ ReadsInput file intent held) → s ≡ s) (λ held _. refl);
+    reads_none = λ _. refl;
+  }
+
+  -- the description was refused, wasn't read, or memory was wanting
+  pub walk_halted_at_file : (f g : FilesSeen) (s : SourceSeen) (o e : SinkSeen) (halt : Halt) → JudgesFile network_in file (Err halt) f g
+      → Commands (walk_shape file intent choices schedule) (Err halt) (outside f s o e) (outside g s o e)
+  walk_halted_at_file f g s o e (halts.Refused refusal) h = refused_commands (walk_shape file intent choices schedule) refusal f g s s o
+      (wants (Err refusal) (λ input. Unit {0}) f.told s.left (refused refusal) h.0 (any-input s.left)
+      (each f.told (λ held. (input : List ℕ) → Unit {0} → refused refusal ≡ refused refusal) (λ held input _. refl)))
+      (inr (inl refl))
+      (takes-unread Never f g s (asks_all (walk_shape file intent choices schedule) Never (file ∷ []) f g
+      (record { rest = intent ∷ []; whole = refl }) tt (names-refused refusal f.told h.0) h.1) refl) e
+  walk_halted_at_file f g s o e (halts.Failed failures.Fault) h = files_fault (walk_shape file intent choices schedule) f g s o
+      (takes-unread AtFiles f g s (asks_fault (walk_shape file intent choices schedule) (file ∷ []) f g
+      (record { rest = intent ∷ []; whole = refl }) tt
+      (each f.told (λ held. IsFrontOf (names_of (walk_shape file intent choices schedule) held) (file ∷ []))
+      (λ held. record { rest = behind held; whole = refl })) h) refl) e
+  walk_halted_at_file f g s o e (halts.Failed failures.NoMemory) h = memory_wants (walk_shape file intent choices schedule) f g s s o
+      (takes-unread Elsewhere f g s (asks_front (walk_shape file intent choices schedule) h.names f g
+      (front_longer (file ∷ []) h.names (intent ∷ []) h.front)
+      (each f.told (λ held. IsFrontOf (names_of (walk_shape file intent choices schedule) held) h.names)
+      (λ held. front_longer (file ∷ []) h.names (behind held) h.front)) h.seen) refl) e
+
+  module _ (f mid g : FilesSeen) (s t : SourceSeen) (o e : SinkSeen) (net : Network)
+      (judged : JudgesFile network_in file (Ok net) f mid) where
+    -- what is told is told of the files as they were
+    of-first : (P : Held → Type 0) → IfSome mid.told P → IfSome f.told P
+    of-first P h = subst (λ (files : FilesSeen). IfSome files.told P) judged.1 h
+
+    wants-intent : (read : Result Intent Refusal) (Q : List ℕ → Type 0) (output : Output)
+        → IfSome mid.told (IntentIs net read) → IfSome s.left Q
+        → ((input : List ℕ) → Q input → IntentWants (WalkWants choices schedule input) net read output)
+        → WantedOf (walk_shape file intent choices schedule) f.told s.left output
+    wants-intent read Q output h q w = wants (Ok net) Q f.told s.left output judged.0 q
+        (of-first (λ held. (input : List ℕ) → Q input → NetworkWants (WalkWants choices schedule input) (Ok net) (file_named held intent) output)
+        (each-map mid.told (IntentIs net read)
+        (λ held. (input : List ℕ) → Q input → NetworkWants (WalkWants choices schedule input) (Ok net) (file_named held intent) output)
+        (λ held there input q. some-map (file_named held intent) (λ text. intent_in net text ≡ read)
+        (λ text. IntentWants (WalkWants choices schedule input) net (intent_in net text) output)
+        (λ text is. subst (λ (r : Result Intent Refusal). IntentWants (WalkWants choices schedule input) net r output) (sym is) (w input q)) there) h))
+
+    -- both files were asked for
+    asks-both : (stop : Stop) → g ≡ files_left_by stop (asked_for intent mid) → Asks (walk_shape file intent choices schedule) stop f g
+    asks-both stop seen = asks_all (walk_shape file intent choices schedule) stop (file ∷ intent ∷ []) f g (front_whole (file ∷ intent ∷ [])) tt
+        (names-ok net f.told judged.0) (seen ∙ ap (λ (files : FilesSeen). files_left_by stop (asked_for intent files)) judged.1)
+
+    -- the intent was refused, wasn't read, or memory was wanting
+    pub walk_halted_at_intent : (halt : Halt) → JudgesFile (intent_in net) intent (Err halt) mid g
+        → Commands (walk_shape file intent choices schedule) (Err halt) (outside f s o e) (outside g s o e)
+    walk_halted_at_intent (halts.Refused refusal) h = refused_commands (walk_shape file intent choices schedule) refusal f g s s o
+        (wants-intent (Err refusal) (λ input. Unit {0}) (refused refusal) h.0 (any-input s.left) (λ input _. refl))
+        (inr (inl refl)) (takes-unread Never f g s (asks-both Never h.1) refl) e
+    walk_halted_at_intent (halts.Failed failures.Fault) h = files_fault (walk_shape file intent choices schedule) f g s o
+        (takes-unread AtFiles f g s (asks-both AtFiles h) refl) e
+    walk_halted_at_intent (halts.Failed failures.NoMemory) h = memory_wants (walk_shape file intent choices schedule) f g s s o
+        (takes-unread Elsewhere f g s (asks_front (walk_shape file intent choices schedule) (file ∷ h.names) f g
+        (front_after file (intent ∷ []) h.names h.front)
+        (each-map f.told (λ held. names_of (walk_shape file intent choices schedule) held ≡ file ∷ intent ∷ [])
+        (λ held. IsFrontOf (names_of (walk_shape file intent choices schedule) held) (file ∷ h.names))
+        (λ held is. subst (λ (names : List (List ℕ)). IsFrontOf names (file ∷ h.names)) (sym is)
+        (front_after file (intent ∷ []) h.names h.front))
+        (names-ok net f.told judged.0))
+        (h.seen ∙ ap (asked_for_all h.names) judged.1)) refl) e
+
+    module _ (value : Intent) (read : JudgesFile (intent_in net) intent (Ok value) mid g) where
+      wants-answer : (Q : List ℕ → Type 0) (output : Output) → IfSome s.left Q
+          → ((input : List ℕ) → Q input → CompiledWants (WalkWants choices schedule input) net value output)
+          → WantedOf (walk_shape file intent choices schedule) f.told s.left output
+      wants-answer Q output q w = wants-intent (Ok value) Q output read.0 q w
+
+      -- the network isn't flat, or memory was wanting
+      pub walk_halted_at_start : (halt : Halt) → StartsAs net value (Err halt)
+          → Commands (walk_shape file intent choices schedule) (Err halt) (outside f s o e) (outside g s o e)
+      walk_halted_at_start (halts.Refused refusal) h = refused_commands (walk_shape file intent choices schedule) refusal f g s s o
+          (wants-answer (λ input. Unit {0}) (refused refusal) (any-input s.left) (λ input _. h choices schedule input))
+          (inr (inl refl)) (takes-unread Never f g s (asks-both Never read.1) refl) e
+      walk_halted_at_start (halts.Failed failures.Fault) h = absurd h
+      walk_halted_at_start (halts.Failed failures.NoMemory) h = memory_wants (walk_shape file intent choices schedule) f g s s o
+          (takes-unread Elsewhere f g s (asks-both Elsewhere read.1) refl) e
+
+      -- there is no list
+      pub walk_without_list : (line : Text) (told : Told) → StartsAs net value (Ok (starts.NoList line))
+          → told.line ≡ line → told.status ≡ statuses.NoAnswer
+          → Commands (walk_shape file intent choices schedule) (Ok told) (outside f s o e) (outside g s o e)
+      walk_without_list line told h is status = pieces_whole (walk_shape file intent choices schedule) [] (outside f s o e) (outside g s o e) told refl
+          (rw (is, status) (wants-answer (λ input. Unit {0}) (no_list (bytes_of_text line)) (any-input s.left)
+          (λ input _. h choices schedule input)))
+          (rw status refl) (inr (inr (inl status))) (takes-unread Never f g s (asks-both Never read.1) refl)
+          (λ done. cc (sym status ∙ done))
+
+      module _ (policy : Policy) (begins : StartsAs net value (Ok (starts.List policy))) (byte : value.hop_limit < 2 ^ 8)
+          (some : 0 < length choices) where
+        -- so the input is read
+        has-list : (told : Option Held) → IfSome told (DescriptionIs (Ok net)) → IfSome told (IntentIs net (Ok value))
+            → IfSome told (ReadsInput file intent)
+        has-list None h r = tt
+        has-list (Some held) h r = some-map (file_named held file) (λ text. network_in text ≡ Ok net)
+            (λ text. HasListIn (network_in text) (file_named held intent))
+            (λ text is. subst (λ (j : Result Network Refusal). HasListIn j (file_named held intent)) (sym is)
+            (some-map (file_named held intent) (λ text. intent_in net text ≡ Ok value) (λ text. HasList net (intent_in net text))
+            (λ text is'. subst (HasList net) (sym is') (begins.0, begins.1)) r)) h
+
+        unread : IfSome f.told (λ held. (¬ ReadsInput file intent held) → t ≡ s)
+        unread = each-map f.told (ReadsInput file intent) (λ held. (¬ ReadsInput file intent held) → t ≡ s)
+            (λ held has none. absurd (none has)) (has-list f.told judged.0 (of-first (IntentIs net (Ok value)) read.0))
+
+        takes : (stop : Stop) → g ≡ files_left_by stop (asked_for intent mid) → Reads stop s t
+            → Takes (walk_shape file intent choices schedule) stop f g s t
+        takes stop seen reads = record {
+          asks = asks-both stop seen;
+          reads = reads;
+          unread = unread;
+          reads_none = λ no. cc;
+        }
+
+        -- what is wanted of an input
+        wants-list : (Q : List ℕ → Type 0) (output : Output) → IfSome s.left Q
+            → ((input : List ℕ) → Q input → output ≡ walk_output net value policy choices schedule input)
+            → WantedOf (walk_shape file intent choices schedule) f.told s.left output
+        wants-list Q output q w = wants-answer Q output q
+            (λ input h. (
+              Ok begins.0,
+              begins.1,
+              begins.2,
+              (
+                w input h ∙ ap (λ (p : Policy). walk_output net value p choices schedule input) begins.3,
+                λ inner is. walks_keep net value begins.0 choices inner byte begins.1 some is,
+              ),
+            ))
+
+        -- the input was refused, wasn't read, or memory was wanting
+        pub walk_halted_at_input : (halt : Halt) → JudgesInput packets_in (Err halt) s t
+            → Commands (walk_shape file intent choices schedule) (Err halt) (outside f s o e) (outside g t o e)
+        walk_halted_at_input (halts.Refused refusal) h = refused_commands (walk_shape file intent choices schedule) refusal f g s t o
+            (wants-list (λ input. packets_in input ≡ Err refusal) (refused refusal) h.0 (λ input bad. rw bad refl))
+            (inr (inl refl)) (takes Never read.1 h.1) e
+        walk_halted_at_input (halts.Failed failures.Fault) h = input_fault (walk_shape file intent choices schedule) f g s t o
+            (takes AtInput read.1 h) e
+        walk_halted_at_input (halts.Failed failures.NoMemory) h = memory_wants (walk_shape file intent choices schedule) f g s t o
+            (takes Elsewhere read.1 h) e
+
+        module _ (packets : Packets) (drawn : JudgesInput packets_in (Ok packets) s t) (p q : SinkSeen) where
+          abbrev before : List Piece
+          before = walk_pieces net value policy choices schedule (reading_of packets).frames
+
+          wanted : WantedOf (walk_shape file intent choices schedule) f.told s.left (walked net value policy choices schedule packets)
+          wanted = wants-list (λ input. packets_in input ≡ Ok packets) (walked net value policy choices schedule packets) drawn.0
+              (λ input good. rw good refl)
+
+          reads : Reads Never s t
+          reads = ap (λ (u : SourceSeen). u.faults) drawn.1
+
+          takes-how : (sink : Which) (how : Option How) → Takes (walk_shape file intent choices schedule) (stop_at sink how) f g s t
+          takes-how sink None = takes Elsewhere read.1 reads
+          takes-how sink (Some how) = takes (At sink how) read.1 reads
+
+          -- the packets' pieces didn't go out whole
+          cut-by : (fault : Option Refusal) (failure : Failure)
+              → WantedOf (walk_shape file intent choices schedule) f.told s.left (ended_by before fault)
+              → WroteAll (ending_of_failure failure) before (sinks_of o e) (sinks_of p q)
+              → Commands (walk_shape file intent choices schedule) (Err (halts.Failed failure)) (outside f s o e) (outside g t p q)
+          cut-by None failure w wrote = pieces_cut (walk_shape file intent choices schedule) before (outside f s o e) (outside g t p q)
+              failure [] statuses.Done refl wrote w takes-how
+          cut-by (Some refusal) failure w wrote = pieces_cut (walk_shape file intent choices schedule) before (outside f s o e) (outside g t p q)
+              failure (refusal_line refusal) statuses.Refused refl wrote w takes-how
+
+          pub walk_halted_at_pieces : (failure : Failure) → WroteAll (ending_of_failure failure) before (sinks_of o e) (sinks_of p q)
+              → Commands (walk_shape file intent choices schedule) (Err (halts.Failed failure)) (outside f s o e) (outside g t p q)
+          walk_halted_at_pieces failure wrote = cut-by (fault_of (reading_of packets)) failure wanted wrote
+
+          -- they did, and nothing is behind the frames
+          pub walk_done : (told : Told) → None ≡ fault_of (reading_of packets) → bytes_of_text told.line ≡ []
+              → told.status ≡ statuses.Done → sinks_of p q ≡ gone before (sinks_of o e)
+              → Commands (walk_shape file intent choices schedule) (Ok told) (outside f s o e) (outside g t p q)
+          walk_done told whole line status went =
+              let none : WantedOf (walk_shape file intent choices schedule) f.told s.left (ended_by before None) =
+              subst (λ (fault : Option Refusal). WantedOf (walk_shape file intent choices schedule) f.told s.left (ended_by before fault))
+              (sym whole) wanted in
+              pieces_whole (walk_shape file intent choices schedule) before (outside f s o e) (outside g t p q) told went
+              (rw (line, status) none) (rw status refl) (inl status) (takes Never read.1 reads) (λ _ _. drawn.1)
+
+          -- something is, which is refused
+          pub walk_refused : (refusal : Refusal) → Some refusal ≡ fault_of (reading_of packets)
+              → sinks_of p q ≡ gone before (sinks_of o e)
+              → Commands (walk_shape file intent choices schedule) (Err (halts.Refused refusal)) (outside f s o e) (outside g t p q)
+          walk_refused refusal more went = pieces_refused (walk_shape file intent choices schedule) before (outside f s o e) (outside g t p q) refusal went
+              (subst (λ (fault : Option Refusal). WantedOf (walk_shape file intent choices schedule) f.told s.left (ended_by before fault))
+              (sym more) wanted)
+              (inr (inl refl)) (takes Never read.1 reads)

@@ -1,0 +1,84 @@
+-- What the headend puts in front of packets is a policy.
+use Rattle.std.proofs.Common.{◌≡◌, ℕ, ◌^◌, ◌<◌, ◌≤◌, true, List, [], ◌∷◌, length, map, Ok, refl, sym, ap, ◌∙◌, subst, arith}
+use Rattle.std.specs.Prelude.{nat_le, nat_lt}
+use Rattle.std.proofs.lemmas.Bool.{and_parts, leb-true, ltb-true}
+use Rattle.std.proofs.lemmas.List.{length-map}
+use Rattle.v6_addr.specs.declared.address.Addr.{Addr}
+use Rattle.srv6_rules.specs.declared.policy.Policy.{Policy}
+use Rattle.srv6_rules.specs.Policies.{IsPolicy}
+use Rattle.net_model.specs.Network.{Network}
+use Rattle.intent_reader.specs.declared.intent.Intent.{Intent}
+use Rattle.intent_reader.specs.Rules.{IsIntent, is_intent}
+use Rattle.list_places.specs.Lists.{IsLegal}
+use Rattle.list_pack.specs.declared.types.Container.{Container}
+use Rattle.list_pack.specs.SidLists.{list_in, list_values}
+use Rattle.path_compiler.specs.declared.compiled.Compiled.{Compiled}
+use Rattle.path_compiler.specs.Compiled.{IsCompiled}
+use Rattle.walk_commands.specs.declared.start.Start.TheVariants as starts
+use Rattle.walk_commands.specs.Walk.{StartsAs, policy_of, segment_of}
+
+-- ---- the segments
+
+pub addresses-of : (values : List ℕ) (segments : List Addr) → map (λ (a : Addr). a.value) segments ≡ values
+    → segments ≡ map segment_of values
+addresses-of [] [] e = refl
+addresses-of (v ∷ vs) [] e = absurd (cc)
+addresses-of [] (a ∷ more) e = absurd (cc)
+addresses-of (v ∷ vs) (a ∷ more) e =
+    let first : a.value ≡ v = head-same a.value v (map (λ (x : Addr). x.value) more) vs e in
+    let rest : map (λ (x : Addr). x.value) more ≡ vs = tail-same a.value v (map (λ (x : Addr). x.value) more) vs e in
+    ap (λ (x : ℕ). segment_of x ∷ more) first
+    ∙ ap (λ (xs : List Addr). segment_of v ∷ xs) (addresses-of vs more rest)
+  where
+    head-same : (x y : ℕ) (xs ys : List ℕ) → Path (List ℕ) (x ∷ xs) (y ∷ ys) → x ≡ y
+    head-same x y xs ys h = cc
+
+    tail-same : (x y : ℕ) (xs ys : List ℕ) → Path (List ℕ) (x ∷ xs) (y ∷ ys) → xs ≡ ys
+    tail-same x y xs ys h = cc
+
+-- the rules of an intent that the headend asks for
+pub intent_bounds : (net : Network) (intent : Intent) → IsIntent net intent
+    → (intent.headend < length net.nodes) × (intent.max_containers ≤ 127) × (intent.flow_label < 2 ^ 20)
+unfolding is_intent
+intent_bounds net intent h =
+    let a = and_parts (nat_lt intent.headend (length net.nodes)) _ h in
+    let b = and_parts (nat_le 1 intent.hop_limit) _ a.1 in
+    let c = and_parts (nat_le 1 intent.max_containers) _ b.1 in
+    let d = and_parts (nat_le intent.max_containers 127) _ c.1 in
+    let e = and_parts (nat_lt intent.flow_label (2 ^ 20)) _ d.1 in (
+      ltb-true intent.headend (length net.nodes) a.0,
+      leb-true intent.max_containers 127 d.0,
+      ltb-true intent.flow_label (2 ^ 20) e.0,
+    )
+
+-- a legal list has a container
+some-containers : (net : Network) (list : List Container) → IsLegal (list_in net list) → 0 < length list
+some-containers net [] legal = absurd legal
+some-containers net (c ∷ cs) legal = omega arith
+
+pub values-count : (net : Network) (list : List Container) → length (list_values net list) ≡ length list
+values-count net list = length-map (list_in net list) _ ∙ length-map list _
+
+-- a compiled list makes a policy
+pub list_fits : (net : Network) (intent : Intent) (c : Compiled) → IsIntent net intent → IsCompiled net intent c
+    → IsPolicy (policy_of net intent c)
+list_fits net intent c is compiled =
+    let bounds = intent_bounds net intent is in
+    let some = some-containers net c.list compiled.found.chosen.whole.legal.rules in
+    let count : length (map segment_of (list_values net c.list)) ≡ length c.list
+    = length-map (list_values net c.list) segment_of ∙ values-count net c.list in
+    let containers = compiled.found.containers in
+    let short = compiled.short in
+    let most = bounds.1 in
+    record {
+      some = omega (arith, some, count);
+      most = omega (arith, count, containers, short, most);
+      flow_label = bounds.2;
+    }
+
+pub policy_fits : (net : Network) (intent : Intent) (policy : Policy) → IsIntent net intent
+    → StartsAs net intent (Ok (starts.List policy)) → IsPolicy policy
+policy_fits net intent policy is begins =
+    subst IsPolicy (sym begins.3) (list_fits net intent begins.0 is begins.1)
+
+pub ruleset segments = (addresses-of)

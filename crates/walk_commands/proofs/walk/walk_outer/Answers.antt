@@ -1,0 +1,27 @@
+use Rattle.std.proofs.Common.{[]}
+use Rattle.std.proofs.lemmas.Result.{err_from_is_err_and}
+use Rattle.walk_rules.specs.Walk.{end_of}
+use Rattle.command_output.specs.Answers.{ending_of_step}
+use Rattle.run_commands.specs.Capture.{frames_of}
+use Rattle.walk_commands.specs.Walk.{walk_at_headend}
+use Rattle.command_output.specs.Lines.{packet_line}
+use Rattle.command_output.proofs.PublicLaws.{cut_at_out, wanting_behind_out, line_behind_out}
+use Rattle.walk_commands.proofs.walk.walk_outer.Goals as goal
+
+pub returns-in_err-ended : goal.returns-in_err-ended
+returns-in_err-ended g c =
+    let p = err_from_is_err_and c.from_residual.result c.from_residual.ensures.1 in
+    rw (p.1, p.2) (cut_at_out _ [] _ _ _ (g.E.Sink.seen c.args.err.now) (g.E.Sink.seen c.args.err.now) c.in_err-ended.field-0.0
+    c.in_err-ended.ensures.wrote)
+
+pub returns-in_err-line : goal.returns-in_err-line
+returns-in_err-line g c =
+    let p = err_from_is_err_and c.from_residual-in_err-line.result c.from_residual-in_err-line.ensures.1 in
+    rw (p.1, p.2) (wanting_behind_out _ [] _ _ _ (g.E.Sink.seen c.args.err.now) (g.E.Sink.seen c.args.err.now) c.in_ok-ended.ensures.wrote)
+
+pub returns : goal.returns
+returns g c =
+    let steps = walk_at_headend c.args.net.now c.args.intent.now c.args.choices.now c.args.outer in
+    line_behind_out (frames_of c.args.number steps) (packet_line c.args.net.now c.args.number (end_of c.args.net.now steps)) [] _ _ _ _
+    c.in_ok-ended.ensures.wrote (ending_of_step c.write_all.result)
+    (rw (c.as_bytes.ensures.value, c.in_ok-line.ensures, c.in_ok-ended.ensures.ended) at c.write_all.ensures)

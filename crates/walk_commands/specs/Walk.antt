@@ -1,0 +1,230 @@
+-- The command `walk`: the inner packets of the input, encapsulated at the headend of the intent of a file with the list that
+-- the intent is compiled to, in the network that another file describes (RFC 8986 sections 5.1 and 5.2).
+use Rattle.std.specs.Prelude.{◌≡◌, ℕ, ◌+◌, ◌^◌, ◌<◌, ◌≤◌, Bool, true, false, IsTrue, if◌then◌else◌, List, [], ◌∷◌, codes, length, map, Option, Some, None, Result, Ok, Err, IsSomeAnd, ⊤}
+use Rattle.std.specs.List.{flat_map}
+use Rattle.v6_addr.specs.declared.address.Addr.{Addr}
+use Rattle.pcap_io.specs.declared.frame.Body.{Body}
+use Rattle.pcap_io.specs.declared.frame.Body.TheVariants as bodies
+use Rattle.pcap_io.specs.declared.frame.Frame.{Frame}
+use Rattle.pcap_io.specs.Capture.{written_head_bytes}
+use Rattle.srv6_rules.specs.declared.policy.Policy.{Policy}
+use Rattle.srv6_rules.specs.declared.sid.Family.TheVariants as families
+use Rattle.srv6_rules.specs.declared.sid.Family.{Family}
+use Rattle.srv6_rules.specs.declared.sid.Reason.TheVariants as reasons
+use Rattle.srv6_rules.specs.Encapsulation.{inner_lowered}
+use Rattle.srv6_rules.specs.Packet.{Content, V6, V4, Unreadable, bytes_of, entered, most_len, spelling}
+use Rattle.srv6_rules.specs.Packet4.{ttl, spelling4, lowered4}
+use Rattle.srv6_rules.specs.Policies.{Encapsulating, Outer, TooBig, InnerHop, headend_by}
+use Rattle.net_model.specs.Network.{Network}
+use Rattle.net_model.specs.Rules.{same_family}
+use Rattle.walk_rules.specs.declared.place.Ended.TheVariants as ends
+use Rattle.walk_rules.specs.Walk.{Stage, walk_of, choice_at}
+use Rattle.intent_reader.specs.declared.intent.Intent.{Intent}
+use Rattle.list_pack.specs.SidLists.{list_values}
+use Rattle.leg_table.specs.Realizes.{headend_place, IsInner, content_lowered}
+use Rattle.leg_table.specs.Tasks.{matches}
+use Rattle.leg_table.specs.Trace.{Handed, handed_over}
+use Rattle.path_compiler.specs.declared.compiled.Compiled.{Compiled}
+use Rattle.path_compiler.specs.declared.compiled.CompileFault.{CompileFault}
+use Rattle.path_compiler.specs.declared.compiled.CompileFault.TheVariants as faults
+use Rattle.path_compiler.specs.Compiled.{IsCompiled, IsLeastOfAll}
+use Rattle.packet_walk.specs.Flight.{InFlight, entering}
+use Rattle.packet_walk.specs.Schedule.{Coming}
+use Rattle.srx_edge.specs.Edge.{file_named}
+use Rattle.walk_commands.specs.declared.headend.AtHeadend.{AtHeadend}
+use Rattle.walk_commands.specs.declared.headend.AtHeadend.TheVariants.{NotRead, Dropped, Enters}
+use Rattle.walk_commands.specs.declared.start.Start.{Start}
+use Rattle.walk_commands.specs.declared.start.Start.TheVariants as starts
+use Rattle.command_output.specs.declared.halt.Failure.TheVariants as failures
+use Rattle.command_output.specs.declared.halt.Halt.{Halt}
+use Rattle.command_output.specs.declared.halt.Halt.TheVariants as halts
+use Rattle.walk_rules.specs.declared.limits.TheConstants.{MAX_STAGES}
+use Rattle.command_inputs.specs.declared.packets.Packets.{Packets}
+use Rattle.command_output.specs.declared.unread.Unread.TheVariants as unreads
+use Rattle.command_output.specs.declared.refusal.Refusal.{Refusal}
+use Rattle.command_output.specs.declared.status.Status.TheVariants as statuses
+use Rattle.compile_commands.specs.Compile.{CompiledWants, NetworkWants, none_line, too_long_line, hop_limit_line}
+use Rattle.command_output.specs.Halts.{flat_refusal}
+use Rattle.command_inputs.specs.Judgements.{network_in, intent_in, asks_behind_network}
+use Rattle.command_output.specs.Outputs.{refused, after, ended_by}
+use Rattle.command_output.specs.Lines.{bytes_of_text, packet_line, unread_line}
+use Rattle.command_inputs.specs.Packets.{packets_in, reading_of, fault_of}
+use Rattle.command_output.specs.Pieces.{Piece, ForOut, ForErr, Output}
+use Rattle.run_commands.specs.Scheduled.{coming, scheduled_pieces}
+use Rattle.command_output.specs.Shape.{Held, Shape}
+use Rattle.command_output.specs.Verbs.{has_two_words}
+
+-- its first words: the description and the intent; the choices may follow, and behind them the schedule
+abbrev pub is_walk : List ℕ → List ℕ → List ℕ → Bool
+is_walk verb file intent = has_two_words (codes "walk") verb file intent
+
+-- what the headend puts in front of packets: the compiled list, with the intent's fields
+abbrev pub segment_of : ℕ → Addr
+segment_of value = record { value = value }
+
+abbrev pub policy_of : Network → Intent → Compiled → Policy
+policy_of net intent c =
+    record {
+      source = intent.source;
+      segments = map segment_of (list_values net c.list);
+      traffic_class = intent.traffic_class;
+      flow_label = intent.flow_label;
+      hop_limit = intent.hop_limit;
+      reduced = intent.reduced;
+    }
+
+-- what becomes of a frame's packet at the headend, before the first stage: it isn't read, it is dropped, or it is encapsulated; a packet
+-- of another family than the intent's isn't read
+
+abbrev pub of_encapsulating : Encapsulating → AtHeadend
+of_encapsulating (Outer packet) = Enters (V6 packet)
+of_encapsulating (TooBig length) = Dropped reasons.TooBig
+of_encapsulating InnerHop = Dropped reasons.InnerHop
+
+abbrev pub of_content : Policy → Content → AtHeadend
+of_content policy (V6 p) = of_encapsulating (headend_by policy families.V6 p.hop_limit (spelling (inner_lowered p)))
+of_content policy (V4 p) = of_encapsulating (headend_by policy families.V4 (ttl p) (spelling4 (lowered4 p)))
+of_content policy (Unreadable bytes reason) = Dropped reason
+
+abbrev pub of_bytes : Policy → Family → Family → List ℕ → AtHeadend
+of_bytes policy inner family bytes =
+    if same_family inner family then of_content policy (entered family bytes) else NotRead unreads.WrongVersion
+
+abbrev pub at_headend : Policy → Family → Body → AtHeadend
+at_headend policy inner (bodies.V6 bytes) = of_bytes policy inner families.V6 bytes
+at_headend policy inner (bodies.V4 bytes) = of_bytes policy inner families.V4 bytes
+at_headend policy inner bodies.ShortFrame = NotRead unreads.ShortFrame
+at_headend policy inner bodies.NotIp = NotRead unreads.NotIp
+
+-- the line of a packet that ends there
+abbrev pub ended_line : Network → ℕ → ℕ → AtHeadend → List ℕ
+ended_line net node number (NotRead cause) = unread_line number cause
+ended_line net node number (Dropped reason) = packet_line net number (ends.Dropped node reason)
+ended_line net node number (Enters content) = []
+
+abbrev pub ended_of_frame : Network → Intent → Policy → Frame → List ℕ
+ended_of_frame net intent policy frame = ended_line net intent.headend frame.number (at_headend policy intent.inner frame.body)
+
+-- the walk of what the headend encapsulated: it submits it to table 0
+abbrev pub walk_at_headend : Network → Intent → List ℕ → Content → List Stage
+walk_at_headend net intent choices content = walk_of MAX_STAGES net (Some (headend_place intent)) content (choice_at choices) 0
+
+-- a frame's packet by its number and its walk, if the headend encapsulates it
+abbrev pub coming_at : Network → Intent → List ℕ → ℕ → AtHeadend → List Coming
+coming_at net intent choices number (NotRead cause) = []
+coming_at net intent choices number (Dropped reason) = []
+coming_at net intent choices number (Enters content) = coming number (walk_at_headend net intent choices content)
+
+abbrev pub coming_of_frame : Network → Intent → Policy → List ℕ → Frame → List Coming
+coming_of_frame net intent policy choices frame =
+    coming_at net intent choices frame.number (at_headend policy intent.inner frame.body)
+
+-- a frame's packet as it enters at the headend, if that encapsulates it
+abbrev pub entering_at : Intent → List ℕ → AtHeadend → Option InFlight
+entering_at intent choices (NotRead cause) = None
+entering_at intent choices (Dropped reason) = None
+entering_at intent choices (Enters content) = Some (entering content (headend_place intent) choices)
+
+abbrev pub entering_of_frame : Intent → Policy → List ℕ → Frame → Option InFlight
+entering_of_frame intent policy choices frame = entering_at intent choices (at_headend policy intent.inner frame.body)
+
+-- the packets that it encapsulates
+abbrev pub comings_at_headend : Network → Intent → Policy → List ℕ → List Frame → List Coming
+comings_at_headend net intent policy choices frames = flat_map (coming_of_frame net intent policy choices) frames
+
+-- the head of the capture that is written; the lines of the packets that end at the headend, by their numbers; and the
+-- stages of the others in the order of a schedule
+
+abbrev pub pieces_behind_head : Network → Intent → Policy → List ℕ → List ℕ → List Frame → List Piece
+pieces_behind_head net intent policy choices schedule frames =
+    ForErr (flat_map (ended_of_frame net intent policy) frames)
+    ∷ scheduled_pieces net schedule (comings_at_headend net intent policy choices frames)
+
+abbrev pub walk_pieces : Network → Intent → Policy → List ℕ → List ℕ → List Frame → List Piece
+walk_pieces net intent policy choices schedule frames =
+    ForOut written_head_bytes ∷ pieces_behind_head net intent policy choices schedule frames
+
+abbrev pub walked : Network → Intent → Policy → List ℕ → List ℕ → Packets → Output
+walked net intent policy choices schedule packets =
+    ended_by (walk_pieces net intent policy choices schedule (reading_of packets).frames) (fault_of (reading_of packets))
+
+-- the input is judged where there is a list
+abbrev pub walk_output : Network → Intent → Policy → List ℕ → List ℕ → List ℕ → Output
+walk_output net intent policy choices schedule input = after (packets_in input) (walked net intent policy choices schedule)
+
+-- no list: the line that `compile` has, and no capture
+abbrev pub no_list : List ℕ → Output
+no_list told = record { pieces = ForErr told ∷ []; status = statuses.NoAnswer }
+
+-- an inner packet that the headend encapsulates: bytes spell it, its hop limit or TTL can be lowered, and the outer packet is not too big
+pub record IsEncapsulated (family : Family) (c : Compiled) (inner : Content) : Type 0 where
+  pub is_inner : IsInner family inner
+  pub small : c.header + length (bytes_of inner) ≤ most_len
+
+-- it enters, its walk's trace up to the first hand-over is the intent's steps, and what is handed over is the inner packet
+-- with its hop limit or TTL lowered by one
+pub record KeepsTo (net : Network) (intent : Intent) (c : Compiled) (choices : List ℕ) (inner : Content) : Type 0 where
+  pub outer : Content
+  pub enters : of_content (policy_of net intent c) inner ≡ Enters outer
+  pub handed : Handed
+  pub first : handed_over net (walk_at_headend net intent choices outer) ≡ Some handed
+  pub steps : IsTrue (matches intent.steps handed.trace)
+  pub lowered : handed.content ≡ content_lowered inner
+
+-- the output of a list, whose walks keep to the intent
+abbrev pub ListWants : Network → Intent → List ℕ → List ℕ → List ℕ → Compiled → Output → Type 0
+ListWants net intent choices schedule input c output =
+    (output ≡ walk_output net intent (policy_of net intent c) choices schedule input)
+    × ((inner : Content) → IsEncapsulated intent.inner c inner → KeepsTo net intent c choices inner)
+
+-- the output of an answer of the compiler; want of memory has none
+abbrev pub WalkWants : List ℕ → List ℕ → List ℕ → Network → Intent → Result Compiled CompileFault → Output → Type 0
+WalkWants choices schedule input net intent (Ok c) output = ListWants net intent choices schedule input c output
+WalkWants choices schedule input net intent (Err (faults.NotFlat why)) output = output ≡ refused (flat_refusal net why)
+WalkWants choices schedule input net intent (Err (faults.NoList solution)) output = output ≡ no_list none_line
+WalkWants choices schedule input net intent (Err (faults.TooLong found)) output = output ≡ no_list (too_long_line found.containers)
+WalkWants choices schedule input net intent (Err (faults.HopLimit found)) output = output ≡ no_list (hop_limit_line found.need)
+WalkWants choices schedule input net intent (Err faults.NoMemory) output = ⊥
+
+-- the input is read only where the intent may be compiled
+
+abbrev pub HasList : Network → Result Intent Refusal → Type 0
+HasList net (Err refusal) = ⊥
+HasList net (Ok intent) = (c : Compiled) × IsCompiled net intent c
+
+abbrev pub HasListIn : Result Network Refusal → Option (List ℕ) → Type 0
+HasListIn (Err refusal) intent = ⊥
+HasListIn (Ok net) intent = IsSomeAnd intent (λ text. HasList net (intent_in net text))
+
+abbrev pub ReadsInput : List ℕ → List ℕ → Held → Type 0
+ReadsInput file intent held = IsSomeAnd (file_named held file) (λ text. HasListIn (network_in text) (file_named held intent))
+
+abbrev pub walk_shape : List ℕ → List ℕ → List ℕ → List ℕ → Shape
+walk_shape file intent choices schedule = record {
+  files = file ∷ intent ∷ [];
+  goes_on = asks_behind_network;
+  reads = true;
+  leaves_input = λ held. ¬ ReadsInput file intent held;
+  lines_last = false;
+  statuses = statuses.Done ∷ statuses.Refused ∷ statuses.NoAnswer ∷ [];
+  wants = λ held input output.
+      IsSomeAnd (file_named held file) (λ text. NetworkWants (WalkWants choices schedule input) (network_in text) (file_named held intent) output);
+}
+
+-- how a walk starts, as its steps answer it: with the policy of a list, or there is no list, or the refusal
+abbrev pub StartsAs : Network → Intent → Result Start Halt → Type 0
+StartsAs net intent (Ok (starts.List policy)) =
+    (c : Compiled) × IsCompiled net intent c × IsLeastOfAll net intent c × (policy ≡ policy_of net intent c)
+StartsAs net intent (Ok (starts.NoList told)) =
+    (choices schedule input : List ℕ) → CompiledWants (WalkWants choices schedule input) net intent (no_list (bytes_of_text told))
+StartsAs net intent (Err (halts.Refused refusal)) =
+    (choices schedule input : List ℕ) → CompiledWants (WalkWants choices schedule input) net intent (refused refusal)
+StartsAs net intent (Err (halts.Failed failures.Fault)) = ⊥
+StartsAs net intent (Err (halts.Failed failures.NoMemory)) = ⊤
+
+-- so it is for every intent and every list that it may be compiled to, whatever is chosen; a hop limit is a byte
+abbrev pub WalksKeepTo : Type 0
+WalksKeepTo =
+    (net : Network) (intent : Intent) (c : Compiled) (choices : List ℕ) (inner : Content)
+    → intent.hop_limit < 2 ^ 8 → IsCompiled net intent c → 0 < length choices → IsEncapsulated intent.inner c inner
+    → KeepsTo net intent c choices inner
