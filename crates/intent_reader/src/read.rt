@@ -32,7 +32,7 @@ fn described(alloc: Global, text: &[u8]) -> Result<DescribedIntent, IntentFault>
     ensures range { IfOk result (λ d. InRange d) }
     ensures memory { result ≢ Err (faults.Text net_faults.NoMemory) }
 {
-    match net_words::read_intent(alloc, text) {
+    match net_words::read_intent_words(alloc, text) {
         Ok(intent) => Ok(intent),
         Err(NetFault::NoMemory) => Err(IntentFault::NoMemory),
         Err(fault) => Err(IntentFault::Text(fault)),
@@ -65,7 +65,7 @@ fn judged(alloc: Global, net: &Net, described: DescribedIntent) -> Result<Intent
 /// The intent that a text gives in a network, or its first fault (own rules).
 ///
 /// First comes `Text`, with the fault of the text itself: that it is not TOML, or the first fault
-/// of an intent's keys and values as `net_words::read_intent` gives it. Then `UnknownName` at step
+/// of an intent's keys and values as `net_words::read_intent_words` gives it. Then `UnknownName` at step
 /// 0, where no node has the headend's name. Then the steps in their order: the first stands at the
 /// headend, and each later one where the one before it ended, a step of links at their common end
 /// and a function where it stands. Of a step comes `UnknownName` where no link has one of its
