@@ -42,10 +42,21 @@ class Item:
     number: int
     values: dict[str, Any]
 
+    @property
+    def place(self) -> str:
+        """The file, the table and the number."""
+        number = f" {self.number}" if self.number else ""
+        return f"{self.path}: {self.table}{number}"
+
     def fault(self, what: str) -> Fault:
         """A fault at this item."""
-        place = f"{self.table} {self.number}" if self.number else self.table
-        return Fault(f"{self.path}: {place}: {what}")
+        return Fault(f"{self.place}: {what}")
+
+    def only(self, keys: tuple[str, ...]) -> None:
+        """A fault where the item has another key than these."""
+        for key in self.values:
+            if key not in keys:
+                raise self.fault(f"no key is called {key!r}; there are {', '.join(keys)}")
 
     def has(self, key: str) -> bool:
         """Whether the key stands there."""
@@ -69,6 +80,10 @@ class Item:
         if value is not default and not low <= value <= high:
             raise self.fault(f"`{key}` is {value}, and goes from {low} to {high}")
         return value
+
+    def flag(self, key: str, default: Any = NEEDED) -> Any:
+        """`true` or `false`."""
+        return self._value(key, bool, "true or false", default)
 
     def texts(self, key: str, default: Any = NEEDED) -> Any:
         """A list of texts."""
@@ -104,7 +119,10 @@ class Item:
 
     def prefix(self, key: str) -> Prefix:
         """A prefix of either family."""
-        text = self.text(key)
+        return self.as_prefix(key, self.text(key))
+
+    def as_prefix(self, key: str, text: str) -> Prefix:
+        """A text of this item as a prefix of either family."""
         try:
             return prefix_of(text)
         except ValueError:

@@ -52,10 +52,11 @@ def run_program(words: Sequence[str | Path], given: bytes = b"") -> Answer:
     return Answer(done.returncode, done.stdout, done.stderr.decode("utf-8", "surrogateescape"))
 
 
-def judge_description(net: str | Path) -> None:
-    """A fault where the program refuses a description."""
+def judge_description(net: str | Path, called: str = "") -> None:
+    """A fault where the program refuses a description, which the fault may call otherwise than by its path."""
+    called = called or str(net)
     answer = run_program(["replay", net, "/dev/stdin"], EMPTY_TRACE)
     if answer.status == Status.REFUSED:
-        raise Fault(f"{net}: srv6 says: {answer.err.strip()}")
+        raise Fault(f"{called}: srv6 says: {answer.err.strip()}")
     if answer.status != Status.DONE:
-        raise Fault(f"{net}: srv6 ends with status {answer.status}", Status(answer.status))
+        raise Fault(f"{called}: srv6 ends with status {answer.status}", Status(answer.status))
