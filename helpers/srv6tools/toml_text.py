@@ -2,7 +2,7 @@
 
 import re
 from collections.abc import Iterator
-from dataclasses import dataclass
+from typing import NamedTuple
 
 _TOKEN = re.compile(
     r'''
@@ -19,19 +19,27 @@ _TOKEN = re.compile(
 _ESCAPE = re.compile(r"\\(?:x([0-9A-Fa-f]{2})|(e)|.)", re.DOTALL)
 
 
-@dataclass(frozen=True, slots=True)
-class Token:
-    """A piece of a TOML text: its kind, its text, and where it begins, in characters."""
+class Token(NamedTuple):
+    """A piece of a TOML text: its kind, its text, and its place in characters."""
 
     kind: str  # text, comment, line, mark, blank or word
     text: str
     start: int
+    end: int
+
+
+def token_at(text: str, at: int) -> Token | None:
+    """The piece of a TOML text that begins at a place; None at the text's end."""
+    match = _TOKEN.match(text, at)
+    return Token(match.lastgroup or "word", match[0], match.start(), match.end()) if match else None
 
 
 def tokens_of(text: str) -> Iterator[Token]:
     """All pieces of a TOML text, in order; together they are the text."""
-    for match in _TOKEN.finditer(text):
-        yield Token(match.lastgroup or "word", match[0], match.start())
+    at = 0
+    while token := token_at(text, at):
+        yield token
+        at = token.end
 
 
 def as_toml_1_0(text: str) -> str:
