@@ -1,7 +1,7 @@
 """Captures that `srv6` reads and writes: classic ones, and one bare IPv6 packet."""
 
 import struct
-from collections.abc import Iterable, Iterator
+from collections.abc import Iterable, Iterator, Sequence
 from dataclasses import dataclass
 
 from .command import Fault
@@ -12,6 +12,7 @@ PCAPNG = b"\x0a\x0d\x0d\x0a"
 GZIP = b"\x1f\x8b"
 SNAPLEN = 262_144
 FRAME_LIMIT = 65_536
+HEAD_SIZE, FRAME_HEAD_SIZE = 24, 16  # bytes
 
 
 @dataclass(frozen=True, slots=True)
@@ -74,6 +75,32 @@ def raw_capture(packets: Iterable[tuple[int, int, bytes]]) -> Iterator[bytes]:
     yield struct.pack("<IHHIIII", MICROSECONDS, 2, 4, 0, 0, SNAPLEN, RAW)
     for seconds, microseconds, content in packets:
         yield struct.pack("<IIII", seconds, microseconds, len(content), len(content)) + content
+
+
+@dataclass(frozen=True, slots=True)
+class Timed:
+    """A frame of raw IP that is written with its time, in nanoseconds since 1970."""
+
+    time: int
+    length: int  # on the wire
+    content: bytes
+
+    @property
+    def size(self) -> int:
+        """The bytes that it takes in a capture."""
+        return FRAME_HEAD_SIZE + len(self.content)
+
+
+def timed_capture(frames: Sequence[Timed]) -> Iterator[bytes]:
+    """A capture of raw IP packets, in pieces; its clock has microseconds where these are enough."""
+    magic, unit = MICROSECONDS, 1000
+    if any(frame.time % unit for frame in frames):
+        magic, unit = NANOSECONDS, 1
+    yield struct.pack("<IHHIIII", magic, 2, 4, 0, 0, SNAPLEN, RAW)
+    for frame in frames:
+        seconds, rest = divmod(max(0, frame.time), 10**9)
+        numbers = seconds & 0xFFFFFFFF, rest // unit, len(frame.content), frame.length
+        yield struct.pack("<IIII", *numbers) + frame.content
 
 
 @dataclass(frozen=True, slots=True)
