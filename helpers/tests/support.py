@@ -1,11 +1,15 @@
 """What the tests of the tools share: running a tool, skips by name, and bad files."""
 
+import contextlib
 import importlib.util
+import io
 import os
 import shutil
 import subprocess
+import sys
 import tempfile
 import unittest
+import unittest.mock
 from collections.abc import Iterator, Sequence
 from dataclasses import dataclass
 from pathlib import Path
@@ -38,6 +42,23 @@ def run_tool(tool: str, *words: str | Path, given: bytes = b"", **settings: str)
     )
     out, err = (text.decode("utf-8", "backslashreplace") for text in (done.stdout, done.stderr))
     return Ran(done.returncode, out, err, done.stdout)
+
+
+def run_here(tool: str, *words: str | Path, given: bytes = b"") -> Ran:
+    """Runs a tool in this process, which starts no Python anew: for tests of many runs."""
+    module = importlib.import_module("srv6tools." + tool.replace("-", "_"))
+    out, err = io.BytesIO(), io.BytesIO()
+    streams = {
+        "stdin": io.TextIOWrapper(io.BytesIO(given)),
+        "stdout": io.TextIOWrapper(out, write_through=True),
+        "stderr": io.TextIOWrapper(err, write_through=True),
+    }
+    with contextlib.ExitStack() as held:
+        for name, stream in streams.items():
+            held.enter_context(unittest.mock.patch.object(sys, name, stream))
+        status = module.main([str(word) for word in words])
+    texts = (raw.getvalue().decode("utf-8", "backslashreplace") for raw in (out, err))
+    return Ran(int(status), *texts, out.getvalue())
 
 
 def needs_program(test):

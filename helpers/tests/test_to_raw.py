@@ -12,7 +12,8 @@ from srv6tools.capture_formats import CutCapture, NoCapture, TakenFrame, frames_
 from srv6tools.captures import FRAME_LIMIT, frames_of, head_of
 from srv6tools.program import run_program
 from srv6tools.to_raw import Wanted, said, to_raw
-from support import EXAMPLES, Ran, ToolCase, bad_captures, needs_program, needs_tool, run_tool
+from support import EXAMPLES, Ran, ToolCase, bad_captures, needs_program, needs_tool
+from support import run_here, run_tool
 
 INNER = (EXAMPLES / "inner.pcap").read_bytes()
 M2, INTENT = EXAMPLES / "m2.toml", EXAMPLES / "intent.toml"
@@ -28,7 +29,7 @@ def packets(raw: bytes) -> list[bytes]:
 
 class Kinds(ToolCase):
     def takes(self, capture: bytes, wanted: list[bytes], *words: str) -> Ran:
-        ran = run_tool("to-raw", *words, given=capture)
+        ran = run_here("to-raw", *words, given=capture)
         self.assertEqual(ran.status, 0, ran.err)
         self.assertEqual(packets(ran.raw), wanted)
         return ran
@@ -213,7 +214,7 @@ class Bad(ToolCase):
     def test_bad_files(self):
         for name, content in bad_captures():
             with self.subTest(name):
-                ran = run_tool("to-raw", given=content)
+                ran = run_here("to-raw", given=content)
                 # There is no frame, or it begins as an IPv6 packet does.
                 if name in ("another link type", "text"):
                     self.assertEqual(ran.status, 0)
@@ -222,7 +223,7 @@ class Bad(ToolCase):
 
     def test_named_formats(self):
         for magic, word in (("28b52ffd", "zstd"), ("fd377a58", "xz"), ("504b0304", "unzip")):
-            ran = run_tool("to-raw", given=bytes.fromhex(magic) + bytes(30))
+            ran = run_here("to-raw", given=bytes.fromhex(magic) + bytes(30))
             self.named_answer(ran)
             self.assertIn(word, ran.err)
 
