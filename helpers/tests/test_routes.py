@@ -1,5 +1,6 @@
 """routes: shortest ways by hand, what is kept and what is missing, and bad files."""
 
+import runpy
 import tomllib
 import unittest
 from ipaddress import IPv6Network
@@ -272,3 +273,11 @@ class Distances(unittest.TestCase):
         self.assertEqual((near["p3"], near["p4"]), (["p3-fw1"], ["p4-fw2"]))
         self.assertEqual(near["pe1"], ["pe1-p1", "pe1-p2"])
         self.assertIn(IPv6Network("fcbb:bb00:fa::/48"), {route.prefix for route in net.routes})
+
+
+class MadeFiles(unittest.TestCase):
+    def test_captures_of_the_domain(self):
+        made = runpy.run_path(str(DOMAIN / "make"))
+        for name, packets in (("customers", "CUSTOMERS"), ("arriving", "ARRIVING")):
+            content = (DOMAIN / f"{name}.pcap").read_bytes()
+            self.assertEqual(made["capture"](made[packets]), content, name)
