@@ -3,9 +3,9 @@
 import re
 from dataclasses import dataclass
 
-_REFUSED = re.compile(r"refused ([0-9]+) ([A-Za-z0-9]+)((?: [^ ]+)*)")
-_NO_ANSWER = re.compile(r"no answer (NoList|TooLong|HopLimit)(?: ([0-9]+))?")
-_PACKET = re.compile(r"packet ([0-9]+): (.*)")
+_REFUSED = re.compile(r"refused ([0-9]{1,10}) ([A-Za-z0-9]+)((?: [^ ]+)*)")
+_NO_ANSWER = re.compile(r"no answer (NoList|TooLong|HopLimit)(?: ([0-9]{1,20}))?")
+_PACKET = re.compile(r"packet ([0-9]{1,10}): (.*)")
 _OUTCOMES = (
     ("not read", re.compile(r"not read, (?P<reason>[A-Za-z]+)")),
     ("left", re.compile(r"left (?P<place>[^ ]+)")),
