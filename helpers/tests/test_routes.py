@@ -278,6 +278,5 @@ class Distances(unittest.TestCase):
 class MadeFiles(unittest.TestCase):
     def test_captures_of_the_domain(self):
         made = runpy.run_path(str(DOMAIN / "make"))
-        for name, packets in (("customers", "CUSTOMERS"), ("arriving", "ARRIVING")):
-            content = (DOMAIN / f"{name}.pcap").read_bytes()
-            self.assertEqual(made["capture"](made[packets]), content, name)
+        for name, content in made["CAPTURES"].items():
+            self.assertEqual((DOMAIN / name).read_bytes(), content, name)
