@@ -116,7 +116,7 @@ class Sent:
 def sent_in(content: bytes, name: str) -> Iterator[Sent]:
     """The frames of a capture that `srv6` wrote."""
     head = head_of(content, name)
-    if (head.order, head.magic, head.link_type) != ("<", MICROSECONDS, RAW):
+    if head != Head("<", MICROSECONDS, (2, 4), RAW):
         raise Fault(f"{name}: no capture that srv6 wrote")
     for frame in frames_of(content, head, name):
         yield Sent(frame.number, frame.seconds, frame.fraction, frame.content)

@@ -39,6 +39,11 @@ class Node:
     address: IPv6Address
     allow: tuple[int, ...] = ()
 
+    @property
+    def prefix(self) -> IPv6Network:
+        """The address as a prefix of 128 bits."""
+        return IPv6Network(self.address)
+
 
 @dataclass(frozen=True, slots=True)
 class Link:
@@ -107,8 +112,8 @@ class Sid:
 
     @property
     def goes_on(self) -> bool:
-        """Whether a packet whose segments are left goes on from it."""
-        return self.behaviour in ("End", "End.X", "End.T") or self.binds
+        """Whether a list may go on behind it."""
+        return self.behaviour in ("End", "End.X", "End.T")
 
     @property
     def binds(self) -> bool:

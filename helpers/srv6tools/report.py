@@ -55,11 +55,12 @@ class PathStep:
 class Certificate:
     """A certificate; one without a path says that there is no list."""
 
-    head: int  # the line of `srv6 certificate 1`, from 1
+    head: int = 0  # the line of `srv6 certificate 1`, from 1
     potentials: list[Potential] = field(default_factory=list)
     path: list[PathStep] = field(default_factory=list)
     none: int | None = None  # the line `none`
     end: int = 0
+    bad: int = 0  # the first line that is outside the grammar; 0 where there is none
 
 
 def report_of(lines: Sequence[str], name: str) -> Report:
@@ -91,23 +92,33 @@ def report_of(lines: Sequence[str], name: str) -> Report:
 
 
 def certificate_of(lines: Sequence[str], name: str) -> Certificate:
-    """The certificate behind a report's lines, by its grammar alone."""
-    found: Certificate | None = None
-    for number, line in enumerate(lines, 1):
-        if found is None:
-            if line == HEAD:
-                found = Certificate(number)
-            elif not line.startswith("#"):
-                raise _bad(name, number, line)
-        elif found.end or not _takes(found, number, line):
-            raise _bad(name, number, line)
-    if found is None or not found.end:
-        raise Fault(f"{name}: line {len(lines) + 1}: the certificate ends too early")
+    """The certificate of a text's lines, where they keep the grammar."""
+    found = certificate_in("\n".join([*lines, ""]))
+    if found.bad > len(lines):
+        raise Fault(f"{name}: line {found.bad}: the certificate ends too early")
+    if found.bad:
+        line = lines[found.bad - 1]
+        raise Fault(f"{name}: line {found.bad}: no line of a certificate here: {line[:60]!r}")
     return found
 
 
-def _bad(name: str, number: int, line: str) -> Fault:
-    return Fault(f"{name}: line {number}: no line of a certificate here: {line[:60]!r}")
+def certificate_in(text: str) -> Certificate:
+    """What a text has of a certificate, up to the first line that is outside the grammar, if there is one."""
+    *lines, rest = text.split("\n")
+    found = Certificate()
+    for number, line in enumerate(lines, 1):
+        if not found.head:
+            if line == HEAD:
+                found.head = number
+            elif not line.startswith("#"):
+                found.bad = number
+                return found
+        elif found.end or not _takes(found, number, line):
+            found.bad = number
+            return found
+    if not found.end or rest:
+        found.bad = len(lines) + 1
+    return found
 
 
 def _takes(found: Certificate, number: int, line: str) -> bool:
@@ -137,6 +148,8 @@ def _potential(line: int, match: re.Match[str]) -> Potential:
     prefix, _, node = sid.partition("@")
     at = None if sid == "-" else _prefix6(prefix)
     numbers = int(room), int(containers), int(hops)
+    if max(int(position), *numbers) >= 2**32:
+        raise ValueError(line)
     return Potential(line, int(position), at, node or None, *numbers)
 
 

@@ -44,7 +44,7 @@ def run_tool(tool: str, *words: str | Path, given: bytes = b"", **settings: str)
     return Ran(done.returncode, out, err, done.stdout)
 
 
-def run_here(tool: str, *words: str | Path, given: bytes = b"") -> Ran:
+def run_here(tool: str, *words: str | Path, given: bytes = b"", **settings: str) -> Ran:
     """Runs a tool in this process, which starts no Python anew: for tests of many runs."""
     module = importlib.import_module("srv6tools." + tool.replace("-", "_"))
     out, err = io.BytesIO(), io.BytesIO()
@@ -54,6 +54,7 @@ def run_here(tool: str, *words: str | Path, given: bytes = b"") -> Ran:
         "stderr": io.TextIOWrapper(err, write_through=True),
     }
     with contextlib.ExitStack() as held:
+        held.enter_context(unittest.mock.patch.dict(os.environ, settings))
         for name, stream in streams.items():
             held.enter_context(unittest.mock.patch.object(sys, name, stream))
         status = module.main([str(word) for word in words])
@@ -99,6 +100,14 @@ class ToolCase(unittest.TestCase):
         self.assertNotIn("Traceback", ran.err)
         self.assertIn(ran.status, statuses, ran.err)
         self.assertTrue(ran.err.strip(), "nothing is said")
+
+    def fake_program(self, err: str = "", out: str = "", status: int = 0) -> str:
+        """A program that stands in for srv6 and always answers so."""
+        path, kept = self.file("fake-srv6", ""), self.file("fake-out", out)
+        said = self.file("fake-err", err)
+        path.write_text(f"#!/bin/sh\ncat '{said}' >&2\ncat '{kept}'\nexit {status}\n")
+        path.chmod(0o755)
+        return str(path)
 
     def helps(self, tool: str) -> None:
         """`--help` stands on `out`, says that the tool isn't proved, and other words are Usage."""

@@ -9,7 +9,7 @@ from srv6tools.description import read_network
 from srv6tools.err_lines import NoAnswer, PacketLine, Refusal, err_line_of
 from srv6tools.files import parse_toml, read_toml
 from srv6tools.intent import read_intent
-from srv6tools.report import certificate_of, report_of
+from srv6tools.report import certificate_in, certificate_of, report_of
 from srv6tools.trace import trace_of
 from support import EXAMPLES, ToolCase, bad_captures, bad_tomls
 
@@ -105,6 +105,8 @@ class Files(unittest.TestCase):
         for cut in range(len(lines)):
             with self.assertRaises(Fault):
                 certificate_of(lines[:cut], "cert")
+        for cut in range(len(REPORT)):
+            self.assertTrue(certificate_in(REPORT[:cut]).bad)
 
     def test_trace(self):
         trace = trace_of(TRACE.splitlines(), "trace")
