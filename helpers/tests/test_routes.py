@@ -154,6 +154,16 @@ class Routes(ToolCase):
         self.assertEqual(len(routes), 12)
         self.assertEqual(routes["b", 0, "2001:db8::d/128"], ("b-a", "b-c"))
 
+    def test_a_second_plan_over_the_result(self):
+        text, _, _, first = self.filled(SQUARE, CABLES)
+        plan = 'ends = false\n[[link]]\nname = "a-b"\nmetric = 99\n'
+        plan += '[[locator]]\nprefix = "fc01:0:c::/48"\nnodes = ["c"]\n'
+        _, _, net, both = self.filled(text, plan)
+        self.assertEqual(len(net.links), 10)
+        self.assertEqual({key: both[key] for key in first}, first)
+        self.assertEqual(both["a", 0, "fc01:0:c::/48"], ("ac",))
+        self.assertEqual(len(both), len(first) + 3)
+
     def test_more_than_64_equal_links(self):
         plan = "".join('[[cable]]\nnodes = ["a", "c"]\n' for _ in range(70))
         _, said, _, routes = self.filled(SQUARE, plan)
