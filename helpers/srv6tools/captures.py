@@ -1,8 +1,10 @@
 """Captures that `srv6` reads and writes: classic ones, and one bare IPv6 packet."""
 
+import io
 import struct
 from collections.abc import Iterable, Iterator, Sequence
 from dataclasses import dataclass
+from typing import BinaryIO
 
 from .command import Fault
 
@@ -12,6 +14,7 @@ PCAPNG = b"\x0a\x0d\x0d\x0a"
 GZIP = b"\x1f\x8b"
 SNAPLEN = 262_144
 FRAME_LIMIT = 65_536
+PACKET_LIMIT = 65_575  # bytes of an IPv6 packet: its header and the longest payload
 HEAD_SIZE, FRAME_HEAD_SIZE = 24, 16  # bytes
 
 
@@ -115,23 +118,19 @@ class Sent:
 
 def sent_in(content: bytes, name: str) -> Iterator[Sent]:
     """The frames of a capture that `srv6` wrote."""
-    head = head_of(content, name)
-    if head != Head("<", MICROSECONDS, (2, 4), RAW):
+    return sent_from(io.BytesIO(content), name)
+
+
+def sent_from(stream: BinaryIO, name: str) -> Iterator[Sent]:
+    """The frames of a capture that `srv6` wrote, as they are read."""
+    if head_of(stream.read(HEAD_SIZE), name) != Head("<", MICROSECONDS, (2, 4), RAW):
         raise Fault(f"{name}: no capture that srv6 wrote")
-    for frame in frames_of(content, head, name):
-        yield Sent(frame.number, frame.seconds, frame.fraction, frame.content)
-
-
-def packet_in(frame: Frame, link_type: int) -> bytes | None:
-    """The IP packet of a frame, where there is one; its family is its first half byte."""
-    content = frame.content
-    match link_type:
-        case 1:
-            kinds = (b"\x86\xdd", b"\x08\x00")
-            return content[14:] if content[12:14] in kinds and len(content) > 14 else None
-        case 101:
-            return content if content[:1] and content[0] >> 4 in (4, 6) else None
-        case 229:
-            return content
-        case _:
-            return None
+    number = 1
+    while start := stream.read(FRAME_HEAD_SIZE):
+        is_whole = len(start) == FRAME_HEAD_SIZE
+        packet, link, size, _ = struct.unpack("<IIII", start.ljust(FRAME_HEAD_SIZE, b"\0"))
+        content = stream.read(size) if is_whole and size <= PACKET_LIMIT else b""
+        if not is_whole or len(content) < size:
+            raise Fault(f"{name}: frame {number} is cut, or no frame that srv6 wrote")
+        yield Sent(number, packet, link, content)
+        number += 1
