@@ -1,7 +1,7 @@
 """The tools beside the program srv6: one module for each, and what they share.
 
-They aren't proved. What packets do they leave to `srv6`; they read and write its files, and say in words what it
-says in numbers.
+They aren't proved. What nodes do with packets they leave to `srv6`; they read and write its files,
+and say in words what it says in numbers.
 """
 
 import sys

@@ -18,10 +18,11 @@ from .walks import Hop, Start, View, Visit, Walks, counts_of, crossed, views_of,
 
 VISITS = 10_000
 DESCRIPTION = """\
-Prints every walk of each packet of the input, whichever of the equal next hops are chosen, as `srv6 trace`
-and `srv6 walk` take them: at each node the SIDs that it executes, then the link, and of the packet on it the
-destination, the hop limit and Segments Left. Packets arrive at NODE; of an INTENT they enter at its headend;
-without either they arrive at each node in turn. Frames that srv6 doesn't read are left out.
+Prints every walk of each packet of the input, whichever of the equal next hops are chosen, as
+`srv6 trace` and `srv6 walk` take them: at each node the SIDs that it executes, then the link, and
+of the packet on it the destination, the hop limit and Segments Left. Packets arrive at NODE; of
+an INTENT they enter at its headend; without either they arrive at each node in turn. Frames that
+srv6 doesn't read are left out.
 
 Where walks come together, the rest is printed once, and `as at #N` stands in the other places."""
 
@@ -75,7 +76,8 @@ class Tree:
         return {visit: number for number, visit in enumerate(often, 1)}
 
     def lines(self) -> Iterator[str]:
-        """The lines of the tree, without recursion: a row of things that are still to be printed."""
+        """The lines of the tree, without recursion: a row of things that are still to be printed.
+        """
         todo: list[tuple[Visit | Hop, str, str]] = [(self.start.visit, "", "")]
         while todo:
             one, first, rest = todo.pop()
@@ -218,12 +220,19 @@ def main(words: Sequence[str]) -> int:
     parser = Parser("all-paths", DESCRIPTION)
     parser.usage = "all-paths NET [NODE|INTENT] [--table|--json|--dot] [--most N] < INPUT"
     parser.add_argument("net", metavar="NET", help="a description")
-    parser.add_argument("start", metavar="NODE|INTENT", nargs="?", help="a node's name, or an intent's file")
+    parser.add_argument(
+        "start", metavar="NODE|INTENT", nargs="?", help="a node's name, or an intent's file"
+    )
     form = parser.add_mutually_exclusive_group()
-    form.add_argument("--table", action="store_true", help="a row for each node of each walk")
-    form.add_argument("--json", action="store_true", help="each visit of a node, with what may come next")
-    form.add_argument("--dot", action="store_true", help="Graphviz text of the links that are crossed")
-    parser.add_argument("--most", metavar="N", type=int, default=1000, help="walks of a packet in the table (1000)")
+    for name, what in (
+        ("--table", "a row for each node of each walk"),
+        ("--json", "each visit of a node, with what may come next"),
+        ("--dot", "Graphviz text of the links that are crossed"),
+    ):
+        form.add_argument(name, action="store_true", help=what)
+    parser.add_argument(
+        "--most", metavar="N", type=int, default=1000, help="walks of a packet in the table (1000)"
+    )
     return run_tool(parser, functools.partial(_work, parser.prog), words)
 
 

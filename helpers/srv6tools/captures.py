@@ -30,7 +30,9 @@ class Head:
 
 @dataclass(frozen=True, slots=True)
 class Frame:
-    """A frame of a classic capture: its number from 1, its time, its length on the wire, and its bytes."""
+    """A frame of a classic capture: its number from 1, its time, its length on the wire, and its
+    bytes.
+    """
 
     number: int
     seconds: int
@@ -74,7 +76,9 @@ def frames_of(content: bytes, head: Head, name: str) -> Iterator[Frame]:
 
 
 def raw_capture(packets: Iterable[tuple[int, int, bytes]]) -> Iterator[bytes]:
-    """A capture of raw IP packets, in pieces: of each its seconds, its microseconds and its bytes."""
+    """A capture of raw IP packets, in pieces: of each its seconds, its microseconds and its
+    bytes.
+    """
     yield struct.pack("<IHHIIII", MICROSECONDS, 2, 4, 0, 0, SNAPLEN, RAW)
     for seconds, microseconds, content in packets:
         yield struct.pack("<IIII", seconds, microseconds, len(content), len(content)) + content

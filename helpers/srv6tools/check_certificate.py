@@ -1,7 +1,8 @@
-"""check-certificate: says of a certificate what `srv6 check` says, by the rules of certificates alone.
+"""check-certificate: says of a certificate what `srv6 check` says, by the rules of certificates
+alone.
 
-It shares no code with the program: it is written from `docs/FORMATS.md` ('Certificate', 'States, edges and rooms', 'Verdict
-of `check`') and `docs/BEHAVIOUR.md` ('Look-up').
+It shares no code with the program: it is written from `docs/FORMATS.md` ('Certificate', 'States,
+edges and rooms', 'Verdict of `check`') and `docs/BEHAVIOUR.md` ('Look-up').
 """
 
 import argparse
@@ -21,9 +22,9 @@ State = tuple[int, Sid | None, int]  # position, SID and room
 Cost = tuple[int, int]  # containers and hops
 START: State = (0, None, 0)
 DESCRIPTION = """\
-Prints what `srv6 check NET INTENT CERT` prints, and exits with its status, by the rules of certificates
-alone. That the description and the intent keep their rules, and that the network is flat, is taken for
-granted."""
+Prints what `srv6 check NET INTENT CERT` prints, and exits with its status, by the rules of
+certificates alone. That the description and the intent keep their rules, and that the network is
+flat, is taken for granted."""
 
 
 class Checker:
@@ -74,7 +75,9 @@ class Checker:
         least: dict[tuple, Cost | None] = {}
 
         def least_of(state: State) -> Cost | None:
-            """The least that an edge to a listed state or to the end costs, with what is left behind it."""
+            """The least that an edge to a listed state or to the end costs, with what is left
+            behind it.
+            """
             key = self.edges.like(*state)
             if key not in least:
                 least[key] = min(self._costs(state, left), default=None)
@@ -101,8 +104,9 @@ class Checker:
         state, containers, hops = START, 0, 0
         for step in certificate.path:
             is_last = step is certificate.path[-1]
+            wanted = step.stays, step.prefix, is_last
             for edge in self.edges.of(*state):
-                if (edge.stays, edge.sid.prefix, edge.is_last) == (step.stays, step.prefix, is_last):
+                if (edge.stays, edge.sid.prefix, edge.is_last) == wanted:
                     break
             else:
                 return f"no {step.line} path"
@@ -125,7 +129,7 @@ def main(words: Sequence[str]) -> int:
     parser = Parser("check-certificate", DESCRIPTION)
     parser.add_argument("net", metavar="NET", help="a description")
     parser.add_argument("intent", metavar="INTENT", help="an intent")
-    parser.add_argument("cert", metavar="CERT", help="what `srv6 compile` printed, or another certificate")
+    parser.add_argument("cert", metavar="CERT", help="a certificate")
     return run_tool(parser, functools.partial(_work, parser.prog), words)
 
 

@@ -8,6 +8,7 @@ import os
 import sys
 import threading
 from collections.abc import Callable, Iterator, Sequence
+from pathlib import Path
 
 
 class Status(enum.IntEnum):
@@ -45,6 +46,14 @@ class Parser(argparse.ArgumentParser):
     def error(self, message: str) -> None:
         usage = " ".join(self.format_usage().removeprefix("usage:").split())
         raise Fault(f"{message}; usage: {usage}", Status.USAGE)
+
+
+def tool_name(tool: str) -> str:
+    """A tool as it is called: by its place in the repository, or as `helpers/install` names it."""
+    folder = Path(__file__).resolve().parents[1]
+    if (folder / "tests").is_dir():
+        return f"{folder.name}/{tool}"
+    return f"srv6-{tool.removeprefix('srv6-')}"
 
 
 def missing_package(name: str, debian: str) -> Fault:
@@ -93,7 +102,9 @@ def _reason(fault: OSError) -> str:
 
 
 def _ended(tool: str, line: str, status: Status) -> Status:
-    """Writes the line, and closes the streams so that Python writes nothing more of them at its end."""
+    """Writes the line, and closes the streams so that Python writes nothing more of them at its
+    end.
+    """
     with contextlib.suppress(OSError, ValueError):
         sys.stdout.flush()
     if line:

@@ -1,7 +1,7 @@
 """The description of a network, as `docs/FORMATS.md` has it.
 
-What is read here has its keys of the right kinds, its texts of the right form, and names that are there. All other
-rules are `srv6`'s to judge.
+What is read here has its keys of the right kinds, its texts of the right form, and names that are
+there. All other rules are `srv6`'s to judge.
 """
 
 import functools
@@ -203,7 +203,8 @@ def _links(item: Item, key: str, net: Network) -> tuple[str, ...]:
 
 
 def _block(item: Item) -> Block:
-    return Block(item.prefix6("prefix"), item.word("kind", ("next", "replace")), item.integer("csid"))
+    kind = item.word("kind", ("next", "replace"))
+    return Block(item.prefix6("prefix"), kind, item.integer("csid"))
 
 
 def _node(item: Item) -> Node:

@@ -19,10 +19,11 @@ Draws the walks of packets through a network, as Graphviz text on standard outpu
   srv6 run NET NODE < INPUT > CAPTURE
   draw-walk NET CAPTURE [PACKET].. | dot -Tpng > walks.png
 
-The network's links are grey; one that leaves the network ends at a point. Each packet has a colour, and
-an edge for each link that it crosses, with the numbers of its sends over it, counted from 1. An ICMPv6
-error is a note at the node that sends it. A capture doesn't tell what becomes of a packet at the node
-where its last send ends, nor of a packet of which nothing is sent; the lines of `srv6 run` do."""
+The network's links are grey; one that leaves the network ends at a point. Each packet has a
+colour, and an edge for each link that it crosses, with the numbers of its sends over it, counted
+from 1. An ICMPv6 error is a note at the node that sends it. A capture doesn't tell what becomes
+of a packet at the node where its last send ends, nor of a packet of which nothing is sent; the
+lines of `srv6 run` do."""
 
 
 @dataclass(slots=True)
@@ -49,9 +50,8 @@ def walks_of(net: Network, content: bytes, name: str) -> dict[int, Walk]:
         if sent.link == 0:
             walk.error = sent.content
         elif sent.link > len(links):
-            raise Fault(
-                f"{name}: packet {sent.packet} crosses link {sent.link}, which the network doesn't have"
-            )
+            which = f"link {sent.link}, which the network doesn't have"
+            raise Fault(f"{name}: packet {sent.packet} crosses {which}")
         else:
             walk.links.append(links[sent.link - 1])
             walk.error = None
@@ -105,9 +105,13 @@ def main(words: Sequence[str]) -> int:
     """Runs the tool."""
     parser = Parser("draw-walk", DESCRIPTION)
     parser.add_argument("net", metavar="NET", help="a description")
-    parser.add_argument("capture", metavar="CAPTURE", help="what `srv6 run` or `srv6 walk` wrote over it")
-    parser.add_argument("packets", metavar="PACKET", nargs="*", type=int, help="without numbers all packets are drawn")
-    parser.add_argument("--used", action="store_true", help="leave out nodes and links that no packet meets")
+    parser.add_argument("capture", metavar="CAPTURE", help="what `srv6 run` or `walk` wrote")
+    parser.add_argument(
+        "packets", metavar="PACKET", nargs="*", type=int, help="without numbers all are drawn"
+    )
+    parser.add_argument(
+        "--used", action="store_true", help="leave out nodes and links that no packet meets"
+    )
     return run_tool(parser, functools.partial(_work, parser.prog), words)
 
 

@@ -17,13 +17,17 @@ def quoted(text: str) -> str:
 
 @dataclasses.dataclass(slots=True)
 class Drawing:
-    """The lines of a drawing: the nodes and links of a network in grey, and what is drawn over them."""
+    """The lines of a drawing: the nodes and links of a network in grey, and what is drawn over
+    them.
+    """
 
     net: Network
     lines: list[str] = dataclasses.field(default_factory=list)
 
     def begin(self, used: Iterable[Link] | None = None, nodes: Iterable[str] = ()) -> None:
-        """The network; where links are given, these alone, with their nodes and some further ones."""
+        """The network; where links are given, these alone, with their nodes and some further
+        ones.
+        """
         self.lines += ["digraph walks {", "  rankdir=LR; node [shape=circle]; edge [fontsize=11];"]
         links, names = list(self.net.links.values()), list(self.net.nodes)
         if used is not None:

@@ -1,4 +1,6 @@
-"""The lines that `srv6` writes on `err`: refusals, answers that there aren't, and what became of packets."""
+"""The lines that `srv6` writes on `err`: refusals, answers that there aren't, and what became of
+packets.
+"""
 
 import re
 from dataclasses import dataclass

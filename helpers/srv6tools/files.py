@@ -1,4 +1,6 @@
-"""Reading of files and of the input, with the limits of `srv6`; a fault is one line that names the file."""
+"""Reading of files and of the input, with the limits of `srv6`; a fault is one line that names
+the file.
+"""
 
 import sys
 import tomllib
@@ -64,7 +66,9 @@ def decoded(content: bytes, name: str) -> str:
 
 
 def read_toml(path: str | Path) -> dict[str, Any]:
-    """The root of a TOML file, read as `srv6` does: TOML 1.1, a byte-order mark, 64 bits for integers."""
+    """The root of a TOML file, read as `srv6` does: TOML 1.1, a byte-order mark, 64 bits for
+    integers.
+    """
     return parse_toml(read_text(path), str(path))
 
 

@@ -1,4 +1,6 @@
-"""The values of a TOML table, each read with its kind; a fault names the file, the table and the item."""
+"""The values of a TOML table, each read with its kind; a fault names the file, the table and the
+item.
+"""
 
 import functools
 import re

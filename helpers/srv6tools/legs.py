@@ -1,7 +1,9 @@
-"""How packets come from SID to SID along the steps of an intent, by `docs/FORMATS.md` ('States, edges and rooms').
+"""How packets come from SID to SID along the steps of an intent, by `docs/FORMATS.md` ('States,
+edges and rooms').
 
-What a certificate speaks of: rides of a packet to a SID's first address, legs and finishes, and the room of containers.
-That the description and the intent keep their rules, and that the network is flat, is taken for granted.
+What a certificate speaks of: rides of a packet to a SID's first address, legs and finishes, and
+the room of containers. That the description and the intent keep their rules, and that the network
+is flat, is taken for granted.
 """
 
 import enum
@@ -35,7 +37,9 @@ class Stop(enum.Enum):
 
 
 class Ride(NamedTuple):
-    """The way of a packet from a place: the steps done, the lowerings of the hop limit, and where it ends."""
+    """The way of a packet from a place: the steps done, the lowerings of the hop limit, and where
+    it ends.
+    """
 
     position: int
     lowered: int
@@ -47,7 +51,9 @@ class Ride(NamedTuple):
 
 
 class Leg(NamedTuple):
-    """A ride to a SID that is executed: the steps done with it, and the lowerings; a last one ends the list."""
+    """A ride to a SID that is executed: the steps done with it, and the lowerings; a last one
+    ends the list.
+    """
 
     sid: Sid
     position: int
@@ -68,7 +74,8 @@ class Table:
     """A table of a node: the longest prefix that holds an address decides."""
 
     def __init__(self) -> None:
-        self._rows: dict[int, dict[int, tuple[int, Sid | Node | Via]]] = {}  # by bits behind the prefix
+        # by bits behind the prefix, and by those of the prefix
+        self._rows: dict[int, dict[int, tuple[int, Sid | Node | Via]]] = {}
         self._shifts: list[int] = []
 
     def enter(self, prefix: Prefix, rank: int, entry: Sid | Node | Via) -> None:
@@ -113,7 +120,9 @@ class Legs:
         return self._by_node.get(node, [])
 
     def sids_ahead(self, position: int) -> list[Sid]:
-        """The SIDs of the nodes where the walk stands from a position on; to no other ones does a leg lead."""
+        """The SIDs of the nodes where the walk stands from a position on; to no other ones does a
+        leg lead.
+        """
         return self._ahead[position]
 
     def place(self, sid: Sid | None) -> Place:
@@ -150,7 +159,9 @@ class Legs:
         return self._arrive(position + 1, address)
 
     def _arrive(self, position: int, address: int) -> Ride:
-        """The way on from where the walk stands, where the packet has come over a link; the node lowers."""
+        """The way on from where the walk stands, where the packet has come over a link; the node
+        lowers.
+        """
         key = position, address
         if key not in self._arrivals:
             node = self.stands[position]
@@ -173,14 +184,17 @@ class Legs:
         return None if set(found.links) <= set(step.links) else Stop.LINKS
 
     def executes(self, sid: Sid, position: int) -> int | None:
-        """The steps done once a SID is executed behind so many; None where its title isn't the next step's."""
+        """The steps done once a SID is executed behind so many; None where its title isn't the
+        next step's.
+        """
         if sid.title is None:
             return position
         fits = position < len(self.steps) and self.steps[position].function == sid.title
         return position + 1 if fits else None
 
     def legs(self, position: int, sid: Sid | None) -> list[Leg]:
-        """The legs and finishes from behind a SID, or from the headend, in the order of the SIDs."""
+        """The legs and finishes from behind a SID, or from the headend, in the order of the SIDs.
+        """
         place = self.place(sid)
         if (position, place) not in self._legs:
             self._legs[position, place] = list(self._find(position, place))
@@ -264,7 +278,9 @@ class Rooms:
         return block.prefix if block else None
 
     def behind(self, stays: bool, sid: Sid | None, room: int, then: Sid) -> int | None:
-        """The room left behind the next SID, which stays in the container or begins one; None where it can't."""
+        """The room left behind the next SID, which stays in the container or begins one; None
+        where it can't.
+        """
         block = self._blocks[sid] if sid else None
         same = block is not None and block is self._blocks[then]
         if not stays:
@@ -278,7 +294,9 @@ class Rooms:
 
 
 class Edge(NamedTuple):
-    """An edge of a state: the next SID, whether it stays in the container, and the state it leads to."""
+    """An edge of a state: the next SID, whether it stays in the container, and the state it leads
+    to.
+    """
 
     stays: bool
     sid: Sid

@@ -21,10 +21,10 @@ Writes a capture that `srv6 run` or `srv6 walk` wrote anew as pcapng, for Wiresh
 
   srv6 walk NET INTENT < INPUT | name-links NET > OUT.pcapng
 
-Each link of the description is an interface, with its name (the column or field frame.interface_name), and
-there is one more for ICMPv6 errors; each frame has a comment (frame.comment) with the packet, the number of
-the send, the node and the link. A frame's time is the packet's number in seconds, and the number of the send
-in microseconds."""
+Each link of the description is an interface, with its name (the column or field
+frame.interface_name), and there is one more for ICMPv6 errors; each frame has a comment
+(frame.comment) with the packet, the number of the send, the node and the link. A frame's time is
+the packet's number in seconds, and the number of the send in microseconds."""
 
 
 def _padded(content: bytes) -> bytes:
@@ -84,9 +84,8 @@ class Named:
     def frame(self, sent: Sent) -> bytes:
         """A frame as it is written."""
         if sent.link > len(self.links):
-            raise Fault(
-                f"{STDIN}: frame {sent.frame} is on link {sent.link}, which the network doesn't have"
-            )
+            which = f"link {sent.link}, which the network doesn't have"
+            raise Fault(f"{STDIN}: frame {sent.frame} is on {which}")
         number = self.sends[sent.packet] = self.sends.get(sent.packet, 0) + 1
         place = sent.link - 1 if sent.link else len(self.links)
         time = sent.packet * 1_000_000 + number
@@ -94,7 +93,8 @@ class Named:
 
     def _comment(self, sent: Sent, number: int) -> str:
         if not sent.link:
-            return f"packet {sent.packet}: {self._sender(sent.content)} drops it and sends this error"
+            sender = self._sender(sent.content)
+            return f"packet {sent.packet}: {sender} drops it and sends this error"
         link = self.links[sent.link - 1]
         to = f"to {link.end}" if link.end else "out of the network"
         return f"packet {sent.packet}, send {number}: {link.start} over {link.name} {to}"
@@ -108,7 +108,7 @@ def main(words: Sequence[str]) -> int:
     """Runs the tool."""
     parser = Parser("name-links", DESCRIPTION)
     parser.usage = "name-links NET < CAPTURE > OUT.pcapng"
-    parser.add_argument("net", metavar="NET", help="the description over which the capture was written")
+    parser.add_argument("net", metavar="NET", help="the description of its network")
     return run_tool(parser, functools.partial(_work, parser.prog), words)
 
 

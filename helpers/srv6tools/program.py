@@ -23,7 +23,9 @@ class Answer:
 
 
 def find_program() -> str | None:
-    """The path of the program: $SRV6, else the one that the repository built, else the one on PATH."""
+    """The path of the program: $SRV6, else the one that the repository built, else the one on
+    PATH.
+    """
     if named := os.environ.get("SRV6"):
         return named
     built = REPOSITORY / "crates" / "srv6" / "out" / "srv6"
@@ -53,7 +55,9 @@ def run_program(words: Sequence[str | Path], given: bytes = b"") -> Answer:
 
 
 def judge_description(net: str | Path, called: str = "") -> None:
-    """A fault where the program refuses a description, which the fault may call otherwise than by its path."""
+    """A fault where the program refuses a description, which the fault may call otherwise than by
+    its path.
+    """
     called = called or str(net)
     answer = run_program(["replay", net, "/dev/stdin"], EMPTY_TRACE)
     if answer.status == Status.REFUSED:

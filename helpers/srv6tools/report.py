@@ -17,7 +17,9 @@ NO_LIST = "# none"
 
 @dataclass(slots=True)
 class Report:
-    """The list that was found: its containers in the order of execution; none where there is no list."""
+    """The list that was found: its containers in the order of execution; none where there is no
+    list.
+    """
 
     containers: list[IPv6Address] = field(default_factory=list)
     header: int = 0  # bytes in front of the inner packet
@@ -103,7 +105,9 @@ def certificate_of(lines: Sequence[str], name: str) -> Certificate:
 
 
 def certificate_in(text: str) -> Certificate:
-    """What a text has of a certificate, up to the first line that is outside the grammar, if there is one."""
+    """What a text has of a certificate, up to the first line that is outside the grammar, if
+    there is one.
+    """
     *lines, rest = text.split("\n")
     found = Certificate()
     for number, line in enumerate(lines, 1):

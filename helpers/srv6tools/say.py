@@ -42,9 +42,9 @@ WORDS_OF = {
 }  # fmt: skip
 NUMBERS = re.compile(r"(0|[1-9][0-9]*)(,(0|[1-9][0-9]*))*")
 DESCRIPTION = """\
-Runs srv6 with the words, the same output and the same status, and says on standard error what its lines
-mean: the file, the line and the text of what is refused, the file that is missing, the forms of the
-commands, why packets are dropped."""
+Runs srv6 with the words, the same output and the same status, and says on standard error what its
+lines mean: the file, the line and the text of what is refused, the file that is missing, the
+forms of the commands, why packets are dropped."""
 
 
 @dataclass(slots=True)
@@ -99,7 +99,9 @@ def _say(words: Sequence[str]) -> int:
 
 
 def _run(run: Run) -> None:
-    """Runs the program with this tool's input and output, and passes its lines on `err` on as they come."""
+    """Runs the program with this tool's input and output, and passes its lines on `err` on as
+    they come.
+    """
     sys.stdout.flush()
     keeps_out = run.command in ("check", "replay")
     path = the_program()
@@ -163,7 +165,8 @@ def _refused(run: Run, said: Refusal) -> Iterator[str]:
     net, second = run.word(1), run.word(2)
     has_intent = run.command in ("compile", "check", "walk")
     if has_intent and number != 2 and is_swapped(net, second):
-        yield f"{net} looks like an intent and {second} like a description: the description comes first"
+        yield f"{net} looks like an intent and {second} like a description:"
+        yield "the description comes first"
     elif number == 2 and fields[:1] == (str(FILE_LIMIT),):
         big = [file for file in run.files if os.path.getsize(file) > FILE_LIMIT] or run.files
         yield f"{big[0]} has more than {FILE_LIMIT} bytes, which is the most that a file may have"
@@ -211,7 +214,8 @@ def _wrong_words(run: Run) -> Iterator[str]:
             word = run.word(place)
             numbers = word.split(",")
             if word and (not NUMBERS.fullmatch(word) or len(numbers) > limit):
-                yield f"{name} is 1 to {limit} numbers joined by commas, without blanks: not {word[:40]!r}"
+                form = f"1 to {limit} numbers joined by commas, without blanks"
+                yield f"{name} is {form}: not {word[:40]!r}"
             elif word and any(int(number) >= 2**32 for number in numbers):
                 yield f"{name} has a number above 4294967295"
             elif word and name == "SCHEDULE" and "0" in numbers:

@@ -1,7 +1,8 @@
-"""What a refusal of a description or an intent means: the item's lines, and what about it is refused.
+"""What a refusal of a description or an intent means: the item's lines, and what about it is
+refused.
 
-The program names the fault and the item. What is looked for here is that fault in that item, for a message; where it
-isn't found, the item and its keys are shown all the same.
+The program names the fault and the item. What is looked for here is that fault in that item, for
+a message; where it isn't found, the item and its keys are shown all the same.
 """
 
 import difflib
@@ -19,11 +20,14 @@ from .toml_places import Place, Places
 WIDTH = 110  # characters of a line that is shown
 FIRST_LINES = 12  # of an item that are shown
 DECAPSULATE = ("End.DX6", "End.DX4", "End.DT6", "End.DT4", "End.DT46")
-OF_THIS_KIND = (KeyError, IndexError, TypeError, ValueError, AttributeError)  # of other values than expected
+# What comes of values that aren't as a refusal has them.
+OF_THIS_KIND = (KeyError, IndexError, TypeError, ValueError, AttributeError)
 
 
 class TomlFile:
-    """A file that was refused or belongs to one: its text, its places, and its values where it is TOML."""
+    """A file that was refused or belongs to one: its text, its places, and its values where it is
+    TOML.
+    """
 
     def __init__(self, path: str | Path):
         self.path = str(path)
@@ -198,7 +202,9 @@ def _of_table(file: TomlFile, name: str, table: str) -> Iterator[str]:
 
 
 def _earlier(file: TomlFile, name: str, table: str, number: int) -> int:
-    """The number of the earlier item that has a name, an address or a prefix too; 0 where there is none."""
+    """The number of the earlier item that has a name, an address or a prefix too; 0 where there
+    is none.
+    """
     if name not in ("DoubleName", "DoublePrefix"):
         return 0
     identity = _IDENTITIES.get((name, table))
@@ -354,8 +360,8 @@ def _flavour(file: TomlFile, table: str, number: int, item: dict) -> tuple[str |
             lengths = sorted({own.prefixlen + block["csid"], own.prefixlen + 32 * (csid == "next")})
             good = " or ".join(f"/{length}" for length in lengths if length > own.prefixlen)
             return "prefix", (
-                f'in the block {own} of {block["csid"]}-bit CSIDs a SID with csid = "{csid}" is a {good},'
-                f" not a /{prefix.prefixlen}"
+                f'in the block {own} of {block["csid"]}-bit CSIDs a SID with csid = "{csid}"'
+                f" is a {good}, not a /{prefix.prefixlen}"
             )
     kinds = ", ".join(f"{own} ({block['kind']})" for own, block in blocks) or "none"
     return "csid", f"{prefix} lies in no block of the kind {csid}; the blocks are: {kinds}"
@@ -375,7 +381,9 @@ _OF_JOINING = {
 }
 
 
-def explain_intent(net: TomlFile, file: TomlFile, name: str, fields: Sequence[str]) -> Iterator[str]:
+def explain_intent(
+    net: TomlFile, file: TomlFile, name: str, fields: Sequence[str]
+) -> Iterator[str]:
     """What one of the faults 34 to 38 means."""
     number = int(fields[0]) if fields else 0
     nodes = [one["name"] for one in net.items("node")]

@@ -1,4 +1,6 @@
-"""What other refusals and answers mean: of the input, of traces and certificates, of networks that aren't flat."""
+"""What other refusals and answers mean: of the input, of traces and certificates, of networks
+that aren't flat.
+"""
 
 import contextlib
 import errno
@@ -7,7 +9,7 @@ import select
 from collections.abc import Iterator, Sequence
 
 from .captures import GZIP, PCAPNG
-from .command import Fault
+from .command import Fault, tool_name
 from .description import TABLES
 from .files import read_lines
 from .items import prefix_of
@@ -21,13 +23,14 @@ LINK_TYPES = {
     108: "loopback of OpenBSD", 113: "Linux cooked v1, as of `tcpdump -i any`",
     127: "802.11 with radiotap", 228: "raw IPv4", 276: "Linux cooked v2, as of `tcpdump -i any`",
 }  # fmt: skip
+TO_RAW, WHY, DIFF = map(tool_name, ("to-raw", "why-no-list", "srv6-diff"))
 CONVERT = (
-    "`to-raw IN > OUT` makes a capture of it that srv6 takes; `editcap -F pcap IN OUT` does where the"
-    " link type is Ethernet or raw IP"
+    f"`{TO_RAW} IN > OUT` makes a capture of it that srv6 takes; `editcap -F pcap IN OUT` does"
+    " where the link type is Ethernet or raw IP"
 )
 REASONS = {
     "ShortFrame": "the capture has fewer bytes of the frame than there were; capture with `-s 0`",
-    "NotIp": "no IP packet stands right behind the link's header; `to-raw` takes VLAN tags off",
+    "NotIp": f"no IP packet stands right behind the link's header; `{TO_RAW}` takes VLAN tags off",
     "WrongVersion": "the packet is of another family than the intent's `inner`",
     "Truncated": "there are fewer bytes than the packet's length says",
     "BadVersion": "the IP version isn't that of the packet's family",
@@ -41,7 +44,8 @@ REASONS = {
     "OptionUnknown": "an unknown option whose type says: drop and send an error",
     "UnknownRouting": "a routing header with segments left that the node doesn't process there",
     "Fragment": "the packet is a fragment, and fragments aren't put together",
-    "BadSegments": "Segments Left or Last Entry is out of range, or segments are left at a SID that decapsulates",
+    "BadSegments": "Segments Left or Last Entry is out of range, or segments are left at a SID that"
+    " decapsulates",
     "HmacTlv": "the segment routing header has an HMAC, which isn't verified",
     "BadTlv": "an item behind the segment list passes the header's end",
     "UpperLayer": "the SID doesn't take this upper layer; a node takes those of its key `allow`",
@@ -59,7 +63,8 @@ def explain_input(number: int, fields: Sequence[str]) -> Iterator[str]:
             yield f"{name} has more than {fields[0]} bytes; part it by `editcap -c 65536 IN OUT`"
         case 11:
             yield f"{name} begins with {_looks_like(start)}"
-            yield CONVERT if start[:2] == GZIP else "srv6 takes a classic capture, or one bare IPv6 packet"
+            takes = "srv6 takes a classic capture, or one bare IPv6 packet"
+            yield CONVERT if start and start[:2] == GZIP else takes
         case 12:
             yield f"{name} is a capture of the format pcapng, and srv6 takes classic ones"
             yield CONVERT
@@ -68,14 +73,17 @@ def explain_input(number: int, fields: Sequence[str]) -> Iterator[str]:
             yield CONVERT
         case 14:
             kind = LINK_TYPES.get(int(fields[0]), "another link")
-            yield f"{name} has link type {fields[0]} ({kind}); srv6 takes 1 (Ethernet), 101 (raw IP), 229 (IPv6)"
+            yield f"{name} has link type {fields[0]} ({kind});"
+            yield "srv6 takes 1 (Ethernet), 101 (raw IP) and 229 (IPv6)"
             yield CONVERT
         case 15:
-            what = "is empty: is a `< FILE` missing?" if start == b"" else "ends within the capture's head"
+            is_empty = start == b""
+            what = "is empty: is a `< FILE` missing?" if is_empty else "ends within its head"
             yield f"{name} {what}"
         case 16:
-            yield f"{name} ends within frame {fields[0]}; the frames before it are done all the same"
-            yield "a capture that is still being written is cut so; `to-raw IN > OUT` leaves the rest out"
+            yield f"{name} ends within frame {fields[0]}; the frames before it are done"
+            yield "a capture that is still being written is cut so;"
+            yield f"`{TO_RAW} IN > OUT` leaves that frame out"
         case 17:
             yield f"{name} has more than 65536 frames; part it by `editcap -c 65536 IN OUT`"
 
@@ -105,7 +113,8 @@ def _looks_like(start: bytes | None) -> str:
     if start[:4] in (b"\xa1\xb2\xcd\x34", b"\x34\xcd\xb2\xa1"):
         return "the magic of a modified capture"
     if start[:1] and start[0] >> 4 == 4:
-        return f"{start[:4].hex()}, as a bare IPv4 packet: put it into a capture, `text2pcap` or `to-raw`"
+        make = "`od -A x -t x1 -v IN | text2pcap -l 101 - OUT` makes a capture of it"
+        return f"{start[:4].hex()}, as a bare IPv4 packet: {make}"
     if start.isascii() and start.decode("ascii").isprintable():
         return f"the text {start.decode('ascii')!r}"
     return f"{start[:4].hex()}, which is no magic of a classic capture"
@@ -143,7 +152,8 @@ def _why_bad_trace(line: str, number: int, lines: Sequence[str], net: TomlFile) 
         return "a stage stands before the first packet"
     if line.endswith("\r"):
         return "it ends with a carriage return; lines end with a line feed alone"
-    return "no line of a trace: packet, again, hand, send, local, drop, stages or end, by docs/FORMATS.md"
+    kinds = "packet, again, hand, send, local, drop, stages and end"
+    return f"no line of a trace, which are {kinds}, by docs/FORMATS.md"
 
 
 def explain_certificate(path: str, number: int) -> Iterator[str]:
@@ -157,8 +167,8 @@ def explain_certificate(path: str, number: int) -> Iterator[str]:
         why = f"only lines that begin with # stand before `{HEAD}`"
     elif POTENTIAL.fullmatch(line):
         why = (
-            "it names no state of this network and intent, or doesn't come behind the state before it"
-            " (position, prefix, length, node, room); is the certificate of another intent?"
+            "it names no state of this network and intent, or doesn't come behind the state"
+            " before it (position, prefix, length, node, room); is it of another intent?"
         )
     elif PATH.fullmatch(line):
         why = "a path's line can't stand here, or has no prefix"
@@ -176,15 +186,18 @@ def explain_verdict(path: str, line: str, command: str) -> Iterator[str]:
     number = int(words[1])
     lines = read_lines(path)
     if command == "replay":
+        other = "the node doesn't do this; what it does stands behind the number"
         why = {
             "ended": "the packet has ended before this line",
             "stages": "the packet has used 10,000 stages; only the line `stages` follows",
-        }.get(words[2], "the node doesn't do this; what it does stands behind the number (`srv6-diff` compares the two)")
+        }.get(words[2], f"{other} (`{DIFF}` compares the two)")
     else:
         why = {
             "edge": "the potential falls by more than an edge from this state costs",
-            "unlisted": f"the state {' '.join(words[3:])} isn't listed, and an edge leads from it to a listed one or the end",
-            "path": "no edge leads along this line of the path, or `none` stands where the start is listed",
+            "unlisted": f"the state {' '.join(words[3:])} isn't listed, and an edge leads from it"
+            " to a listed one or to the end",
+            "path": "no edge leads along this line of the path, or `none` stands where the start is"
+            " listed",
             "tight": "the path costs another sum than the start's potential",
         }[words[2]]
     yield f"{path}:{number}: {why}"
@@ -198,10 +211,11 @@ def explain_flatness(net: TomlFile, name: str, fields: Sequence[str]) -> Iterato
             yield f"{inner} lies inside the SID {outer}, so packets to it don't come to that SID;"
             yield "compile, check and walk need SIDs that hold no other SID, route or address"
         case "ZeroCsid", (sid,):
-            yield f"the SID {sid} has only zeros behind its block: its CSID is 0, which ends a container"
+            yield f"the SID {sid} has only zeros behind its block:"
+            yield "its CSID is 0, which ends a container"
         case "MixedBlock", (block, sid):
-            yield f"the SID {sid} isn't one that the block {block} may have: strictly inside it, with its `csid`,"
-            yield "and of a length that its SIDs have"
+            yield f"the SID {sid} isn't one that the block {block} may have:"
+            yield "strictly inside it, with its `csid`, and of a length that its SIDs have"
         case "Clash", (sid, *nodes):
             yield f"two SIDs have the prefix {sid}, at {' and '.join(nodes)}, and differ in `csid`"
     for text in dict.fromkeys(field for field in fields if "/" in field):
@@ -211,7 +225,9 @@ def explain_flatness(net: TomlFile, name: str, fields: Sequence[str]) -> Iterato
 
 
 def _entries_of(net: TomlFile, text: str, with_blocks: bool) -> Iterator[tuple[str, int, str]]:
-    """The SIDs of a prefix; else the routes, the nodes or the blocks of it, three of each at most."""
+    """The SIDs of a prefix; else the routes, the nodes or the blocks of it, three of each at
+    most.
+    """
     prefix = prefix_of(text)
     for table in ("sid", "block", "route", "node"):
         if table == "block" and not with_blocks:
@@ -244,7 +260,7 @@ def explain_fault(files: Sequence[str], has_input: bool) -> Iterator[str]:
         if why := _why_no_output(number):
             yield f"{name}: {why}"
             return
-    yield "a read of the input or a write failed; which one can't be seen afterwards (`strace -f` tells)"
+    yield "a read of the input or a write failed; which one can't be seen now (`strace -f` tells)"
 
 
 def _why_no_input() -> str:
@@ -275,7 +291,7 @@ def explain_no_answer(why: str, number: int | None, net: str, intent: str) -> It
     """What `no answer ..` means."""
     if why == "NoList":
         yield "no legal list of the network's SIDs realizes the intent;"
-        yield f"`why-no-list {net} {intent}` says how far lists come, and why they don't go on"
+        yield f"`{WHY} {net} {intent}` says how far lists come, and why they don't go on"
         return
     key, default = ("max_containers", 10) if why == "TooLong" else ("hop_limit", 64)
     file = TomlFile(intent)
@@ -284,8 +300,8 @@ def explain_no_answer(why: str, number: int | None, net: str, intent: str) -> It
     if why == "TooLong":
         yield f"the least list has {number} containers; {intent} allows {has} (`{key}`{own})"
     else:
-        yield f"the least list lowers the hop limit {number} times; {intent} has {has} (`{key}`{own}),"
-        yield f"which has to be above {number}"
+        yield f"the least list lowers the hop limit {number} times;"
+        yield f"{intent} has {has} (`{key}`{own}), which has to be above {number}"
     yield from file.quote_root(key)
 
 

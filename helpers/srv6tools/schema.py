@@ -84,7 +84,9 @@ _FLAVOURS = Key(
 _ALLOW = Key("allow", Form.NUMBER, False, "none", high=16, is_list=True, top=255)
 
 KEYS = {
-    "block": (Key("prefix", Form.PREFIX6), _word("kind", "next", "replace"), _number("csid", 16, 32)),
+    "block": (
+        Key("prefix", Form.PREFIX6), _word("kind", "next", "replace"), _number("csid", 16, 32),
+    ),
     "node": (_name("name"), Key("address", Form.ADDRESS), _ALLOW),
     "link": (_name("name"), _name("from"), _name("to", False)),
     "route": (

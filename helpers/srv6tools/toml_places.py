@@ -11,8 +11,10 @@ _END = r"[ \t\r]*(?:\#[^\n]*)?(?:\n|\Z)"
 _BLANK_LINE = re.compile(_END)
 _ITEM_LINE = re.compile(rf"[ \t]*\[\[[ \t]*([A-Za-z0-9_-]+)[ \t]*\]\]{_END}")
 _PLAIN = r"""[^]["'\#{}\n]"""
+_SIMPLE_TEXT = r'"[^"\\\n]*"'
 _SIMPLE_LINE = re.compile(
-    rf'[ \t]*[A-Za-z0-9_.-]+[ \t]*=[ \t]*(?:{_PLAIN}*|"[^"\\\n]*"|\[(?:{_PLAIN}|"[^"\\\n]*")*\]){_END}'
+    rf"[ \t]*[A-Za-z0-9_.-]+[ \t]*=[ \t]*"
+    rf"(?:{_PLAIN}*|{_SIMPLE_TEXT}|\[(?:{_PLAIN}|{_SIMPLE_TEXT})*\]){_END}"
 )
 _SIMPLE_TABLE = re.compile(r"""\{(?:[^{}"'\#\n]|"[^"\\\n]*"|'[^'\n]*')*\}""")
 
@@ -66,7 +68,8 @@ class Places:
 
 
 class _Scan:
-    """Goes through a text once, by whole lines and tables where these are simple, else by tokens."""
+    """Goes through a text once, by whole lines and tables where these are simple, else by tokens.
+    """
 
     def __init__(self, places: Places, start: int = 0):
         self.places = places

@@ -45,8 +45,8 @@ def tokens_of(text: str) -> Iterator[Token]:
 def as_toml_1_0(text: str) -> str:
     """A text of TOML 1.1 as one of TOML 1.0.
 
-    What is new in 1.1 is taken out: line ends, comments and a last comma inside inline tables, and the escapes
-    `\\e` and `\\xHH`.
+    What is new in 1.1 is taken out: line ends, comments and a last comma inside inline tables,
+    and the escapes `\\e` and `\\xHH`.
     """
     pieces: list[str] = []
     open_marks: list[str] = []

@@ -31,7 +31,7 @@ class Stage:
     link: str | None = None  # of send
     reason: str | None = None  # of drop
     family: int | None = None  # of hand
-    packet: bytes | None = None  # behind the stage; of drop the ICMPv6 error, None where there is none
+    packet: bytes | None = None  # behind the stage; of drop the ICMPv6 error, if there is one
 
 
 @dataclass(slots=True)

@@ -1,7 +1,8 @@
-"""All walks of packets over all choices among equal next hops, as `srv6 trace` and `srv6 walk` take them.
+"""All walks of packets over all choices among equal next hops, as `srv6 trace` and `srv6 walk`
+take them.
 
-What a node does with a packet depends on the node and the packet alone, and on the choice for the send. So of walks
-that come to one node with the same bytes the rest is asked of `srv6` once.
+What a node does with a packet depends on the node and the packet alone, and on the choice for the
+send. So of walks that come to one node with the same bytes the rest is asked of `srv6` once.
 """
 
 import collections
@@ -9,7 +10,7 @@ from collections.abc import Iterable, Iterator, Sequence
 from dataclasses import dataclass, field
 
 from .captures import FRAME_LIMIT, raw_capture, sent_in
-from .command import Fault, Status
+from .command import Fault, Status, tool_name
 from .description import Link, Network
 from .err_lines import PacketLine, err_line_of
 from .intent import read_intent
@@ -18,12 +19,15 @@ from .report import certificate_in
 from .shown import Shown, shown_in
 from .trace import Walk, trace_of
 
+SAY = tool_name("srv6-say")
 MOST_MEMBERS = 64  # of a set of equal next hops
 
 
 @dataclass(frozen=True, slots=True)
 class Visit:
-    """A packet at a node: as it arrives there, or, with a number, an inner packet that enters at the headend."""
+    """A packet at a node: as it arrives there, or, with a number, an inner packet that enters at
+    the headend.
+    """
 
     node: str
     packet: bytes
@@ -32,7 +36,9 @@ class Visit:
 
 @dataclass(frozen=True, slots=True)
 class Hop:
-    """What a node does with a packet under one choice: the SIDs that it executes, and a send or an end."""
+    """What a node does with a packet under one choice: the SIDs that it executes, and a send or
+    an end.
+    """
 
     sids: tuple[str, ...]
     link: str | None = None
@@ -50,7 +56,9 @@ class Start:
 
 @dataclass(slots=True)
 class Walks:
-    """The walks that are found: for each visit the hops, one for each member of the set of next hops."""
+    """The walks that are found: for each visit the hops, one for each member of the set of next
+    hops.
+    """
 
     net: Network
     most: int  # visits
@@ -105,7 +113,8 @@ class Walks:
                 self.is_cut = True
                 break
         for visit, hops in self._by_choice.items():
-            self.hops.setdefault(visit, [hops[choice] for choice in self._choices(visit) if choice in hops])
+            choices = self._choices(visit)
+            self.hops.setdefault(visit, [hops[choice] for choice in choices if choice in hops])
 
     def _wanted(self) -> dict[tuple[str, int], list[Visit]]:
         wanted: dict[tuple[str, int], list[Visit]] = {}
@@ -121,7 +130,9 @@ class Walks:
         return next((choice for choice in self._choices(visit) if choice not in hops), None)
 
     def _choices(self, visit: Visit) -> range:
-        """The choices that give another member each; one more than are known where it isn't known how many."""
+        """The choices that give another member each; one more than are known where it isn't known
+        how many.
+        """
         hops = self._by_choice.get(visit, {})
         if not hops or not hops[0].link:
             return range(1)
@@ -219,7 +230,7 @@ def _refuse(what: str, status: int, err: str) -> None:
         return
     last = (err.splitlines() or [f"status {status}"])[-1]
     known = Status(status) if status in list(Status) else Status.OUTSIDE_FAULT
-    raise Fault(f"{what}: {last} (`srv6-say` says more)", known)
+    raise Fault(f"{what}: {last} (`{SAY}` says more)", known)
 
 
 def _parts(visits: Sequence[Visit], size: int) -> Iterator[Sequence[Visit]]:
@@ -266,8 +277,8 @@ def crossed(walks: Walks, starts: Iterable[Start]) -> dict[Start, list[Link]]:
     """For each packet the links that any of its walks crosses, in the order of the description."""
     found: dict[Start, list[Link]] = {}
     for start in starts:
-        names = {hop.link for visit in visits_from(walks, start) for hop in walks.hops[visit] if hop.link}
-        links = [walks.net.links[name] for name in names]
+        hops = [hop for visit in visits_from(walks, start) for hop in walks.hops[visit]]
+        links = {walks.net.links[hop.link] for hop in hops if hop.link}
         found[start] = sorted(links, key=lambda link: link.number)
     return found
 
@@ -297,5 +308,6 @@ def counts_of(walks: Walks, start: Start) -> dict[Visit, int]:
             todo.extend(unknown)
             continue
         todo.pop()
-        counts[visit] = sum(1 if then is None else max(1, counts.get(then, 1)) for then in thens) or 1
+        own = (1 if then is None else max(1, counts.get(then, 1)) for then in thens)
+        counts[visit] = sum(own) or 1
     return counts

@@ -5,20 +5,23 @@ import collections
 import functools
 from collections.abc import Iterator, Sequence
 
-from .command import Fault, Parser, Status, progress, run_tool
+from .command import Fault, Parser, Status, progress, run_tool, tool_name
 from .description import Sid, read_network
 from .err_lines import NoAnswer, err_line_of
 from .intent import Step, read_intent
 from .legs import Edges, Legs, Place, Ride, Rooms, Stop
 from .program import run_program
 
+SAY = tool_name("srv6-say")
 MOST_NAMES = 4  # SIDs that one line names
 DESCRIPTION = """\
-Where `srv6 compile NET INTENT` says `no answer NoList`: prints the furthest step that any list does, and
-for each SID there why no list goes on. What is found follows the rules of certificates (docs/FORMATS.md);
-that there is no list is what srv6 says. Where there is one, the status is 3."""
+Where `srv6 compile NET INTENT` says `no answer NoList`: prints the furthest step that any list
+does, and for each SID there why no list goes on. What is found follows the rules of certificates
+(docs/FORMATS.md); that there is no list is what srv6 says. Where there is one, the status is
+3."""
 
-Places = dict[Place | None, list[Sid]]  # the SIDs behind which a packet is at a place; None is the headend
+# The SIDs behind which a packet is at a place; None is the headend.
+Places = dict[Place | None, list[Sid | None]]
 
 
 class Search:
@@ -31,7 +34,9 @@ class Search:
         self._go(Edges(legs, self.rooms))
 
     def _go(self, edges: Edges) -> None:
-        """Goes along all edges; of states that are alike in theirs only the first is gone on from."""
+        """Goes along all edges; of states that are alike in theirs only the first is gone on
+        from.
+        """
         todo, alike = collections.deque([(0, None, 0)]), set()
         while todo:
             state = todo.popleft()
@@ -81,7 +86,8 @@ class Reasons:
 
     def _by_place(self) -> Places:
         places: Places = {}
-        for sid in sorted(self.search.reached[self.position], key=lambda sid: sid.number if sid else 0):
+        reached = self.search.reached[self.position]
+        for sid in sorted(reached, key=lambda sid: sid.number if sid else 0):
             places.setdefault(self.legs.place(sid) if sid else None, []).append(sid)
         return places
 
@@ -104,14 +110,16 @@ class Reasons:
             yield f"  to {self._names(targets)}: {why}"
 
     def why_not(self, sid: Sid | None, to: Sid) -> str:
-        """Why no list goes on from a SID to another; nothing where one comes to it without a step."""
+        """Why no list goes on from a SID to another; nothing where one comes to it without a
+        step.
+        """
         place = self.legs.place(sid)
         ride = self.legs.ride(self.position, place, to)
         if ride.sid is not to:
             return self._why_stopped(ride, place)
         done = self.legs.executes(to, ride.position)
         if done is None:
-            return f"a packet comes to it, but it is the function {to.title}, and {self._next(ride.position)}"
+            return f"it is the function {to.title}, and {self._next(ride.position)}"
         if to.goes_on and done > self.position:
             return self._why_no_room(sid, to)
         if to.goes_on and not to.exposes(self.legs.intent.family):
@@ -128,16 +136,15 @@ class Reasons:
         if to.binds:
             return f"{to.behaviour} binds a policy, and lists with such a SID aren't compared"
         if done < len(self.legs.steps):
-            return "" if to.goes_on else f"{to.behaviour} hands the packet over, and {self._next(done)}"
+            why = f"{to.behaviour} hands the packet over, and {self._next(done)}"
+            return "" if to.goes_on else why
         if not to.exposes(family):
             return f"{to.behaviour} doesn't expose {inner} packets, which the intent has inside"
         return "" if to.goes_on else self._why_no_room(sid, to)
 
     def _why_no_room(self, sid: Sid | None, to: Sid) -> str:
         block = self.search.rooms.block(sid) if sid else None
-        return (
-            f"the container of REPLACE-CSIDs is full there, and {to.prefix} is outside the block {block}"
-        )
+        return f"the container of REPLACE-CSIDs is full there, and it is outside the block {block}"
 
     def _why_stopped(self, ride: Ride, place: Place) -> str:
         """Where a ride ends, and what is in its way there."""
@@ -184,25 +191,32 @@ class Reasons:
             return
         wanted = set(step.links)
         links = ", ".join(step.links)
-        crossing = [sid for sid in legs.sids_at(node) if sid.behaviour == "End.X" and set(sid.links or ()) <= wanted]
+        crossing = [
+            sid
+            for sid in legs.sids_at(node)
+            if sid.behaviour == "End.X" and set(sid.links or ()) <= wanted
+        ]
         yield f"End.X at {node} over {links} alone: {self._listed(crossing)}"
         end = legs.stands[self.position + 1]
-        behind = [sid for sid in legs.sids_at(end) if sid.goes_on or sid.exposes(legs.intent.family)]
-        yield f"SIDs at {end}, where step {step.number} ends, that a list may execute: {self._listed(behind)}"
+        family = legs.intent.family
+        behind = [sid for sid in legs.sids_at(end) if sid.goes_on or sid.exposes(family)]
+        at_end = f"SIDs at {end}, where step {step.number} ends, that a list may execute"
+        yield f"{at_end}: {self._listed(behind)}"
         routes = [
             str(route.prefix)
             for route in legs.net.routes
             if route.node == node and route.prefix.version == 6 and set(route.via) <= wanted
         ]
         more = f" and {len(routes) - MOST_NAMES} more" if len(routes) > MOST_NAMES else ""
-        yield f"routes of {node} over {links} alone: {', '.join(routes[:MOST_NAMES]) or 'none'}{more}"
+        named = ", ".join(routes[:MOST_NAMES]) or "none"
+        yield f"routes of {node} over {links} alone: {named}{more}"
 
     def _of_function(self, step: Step) -> Iterator[str]:
         legs, node = self.legs, self.legs.stands[self.position]
         for sid in legs.sids_at(node):
             if sid.title == step.function:
                 exposes = "exposes" if sid.exposes(legs.intent.family) else "doesn't expose"
-                yield f"the function {step.function} is {sid}; it {exposes} {legs.intent.inner} packets"
+                yield f"the function is {sid}; it {exposes} {legs.intent.inner} packets"
 
     def _listed(self, sids: Sequence[Sid]) -> str:
         return self._names(sids) if sids else "none"
@@ -243,8 +257,7 @@ def _there_is_one(net: str, intent: str) -> str:
         report = [line for line in answer.out.decode().splitlines() if line.startswith("# ")]
         return "there is a list:\n" + "\n".join(report)
     if answer.status == Status.REFUSED:
-        raise Fault(f"srv6 compile {net} {intent}: {last} (`srv6-say compile ..` says more)")
-    raise Fault(
-        f"srv6 compile {net} {intent} ends with status {answer.status} (`srv6-say compile ..` says more)",
-        Status(answer.status) if answer.status in list(Status) else Status.OUTSIDE_FAULT,
-    )
+        raise Fault(f"srv6 compile {net} {intent}: {last} (`{SAY} compile ..` says more)")
+    status = Status(answer.status) if answer.status in list(Status) else Status.OUTSIDE_FAULT
+    ended = f"ends with status {answer.status} (`{SAY} compile ..` says more)"
+    raise Fault(f"srv6 compile {net} {intent} {ended}", status)

@@ -25,7 +25,7 @@ def packet(hop_limit: int = 64) -> bytes:
 
 
 def row_of_pairs(count: int) -> str:
-    """A description of nodes in a row with two links between each, and a link out of the last one."""
+    """A description of nodes in a row, two links between each, and a link out of the last."""
     text = "".join(
         f'[[node]]\nname = "n{i}"\naddress = "2001:db8::{i + 1:x}"\n' for i in range(count)
     )
@@ -60,7 +60,8 @@ class Stub:
         return Answer(0, "\n".join([*lines, "end", ""]).encode(), "")
 
     def shown(self, number: int, content: bytes) -> str:
-        ends = f"src {ipaddress.IPv6Address(content[8:24])} dst {ipaddress.IPv6Address(content[24:40])}"
+        source, to = (ipaddress.IPv6Address(content[at : at + 16]) for at in (8, 24))
+        ends = f"src {source} dst {to}"
         head = f"ip6 class 0 flow 0 payload 0 next 59 hop {content[7]} {ends}"
         return f"packet {number}\n{head}\nupper 59 at 40 bytes 0\n"
 

@@ -55,8 +55,8 @@ class Bash(ToolCase):
         self.assertEqual(self.offered("draw-walk", m2, "b"), {"b.pcap"})
 
     def test_nodes_of_a_list(self):
-        text = 'node = [\n {name = "P", address = "::1"},\n {name="Q"}, {name="R"}\n]\nlink=[{name="x"}]\n'
-        path = self.file("list.toml", text)
+        nodes = 'node = [\n {name = "P", address = "::1"},\n {name="Q"}, {name="R"}\n]\n'
+        path = self.file("list.toml", nodes + 'link=[{name="x"}]\n')
         self.assertEqual(self.offered("srv6", "run", path, ""), {"P", "Q", "R"})
 
     def test_options_and_what_they_take(self):
@@ -80,7 +80,8 @@ class Zsh(ToolCase):
         for tool, wanted in options():
             with self.subTest(tool):
                 self.assertRegex(text.splitlines()[0], rf"\b{tool}\b")
-                case = re.search(rf"\n    (?:[a-z-]+ \| )?{tool}(?: \| [a-z-]+)?\)(.*?);;", text, re.S)
+                label = rf"\n    (?:[a-z-]+ \| )?{tool}(?: \| [a-z-]+)?\)"
+                case = re.search(rf"{label}(.*?);;", text, re.S)
                 self.assertIsNotNone(case)
                 for option in wanted - {"--help"}:
                     self.assertIn(option, case[1], "docs/_srv6")

