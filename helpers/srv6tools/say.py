@@ -150,7 +150,7 @@ def _explained(run: Run) -> Iterator[str]:
         case Status.NO_ANSWER if isinstance(said, NoAnswer) and run.command != "gen":
             yield from explain_no_answer(said.why, said.number, run.word(1), run.word(2))
         case Status.SAYS_NO:
-            yield from explain_verdict(run.files[-1], run.verdict, run.command)
+            yield from explain_verdict(run.word(1), run.files[-1], run.verdict, run.command)
         case Status.OUTSIDE_FAULT:
             yield from explain_fault(run.files, run.command in ("run", "trace", "walk", "show"))
             yield from _order_of_files(run)

@@ -180,7 +180,7 @@ def explain_certificate(path: str, number: int) -> Iterator[str]:
     yield quoted(number, line)
 
 
-def explain_verdict(path: str, line: str, command: str) -> Iterator[str]:
+def explain_verdict(net: str, path: str, line: str, command: str) -> Iterator[str]:
     """What a verdict `no ..` of `check` or `replay` means."""
     words = line.split(" ")
     number = int(words[1])
@@ -190,7 +190,7 @@ def explain_verdict(path: str, line: str, command: str) -> Iterator[str]:
         why = {
             "ended": "the packet has ended before this line",
             "stages": "the packet has used 10,000 stages; only the line `stages` follows",
-        }.get(words[2], f"{other} (`{DIFF}` compares the two)")
+        }.get(words[2], f"{other}; `{DIFF} --replay {net} {path}` compares them")
     else:
         why = {
             "edge": "the potential falls by more than an edge from this state costs",
