@@ -16,7 +16,7 @@ from .files import read_input
 from .say_items import near
 from .walks import Hop, Start, View, Visit, Walks, counts_of, crossed, views_of, visits_from
 
-VISITS = 10_000
+VISITS = 100_000
 DESCRIPTION = """\
 Prints every walk of each packet of the input, whichever of the equal next hops are chosen, as
 `srv6 trace` and `srv6 walk` take them: at each node the SIDs that it executes, then the link, and
@@ -241,7 +241,7 @@ def _work(tool: str, words: argparse.Namespace) -> int:
         net = read_network(words.net)
         found = _found(net, words.start, read_input())
     if found.walks.is_cut:
-        raise Fault(f"there are more than {VISITS} visits of packets at nodes")
+        raise Fault(f"there are more than {VISITS} visits of packets at nodes; take fewer packets")
     if words.dot:
         print(dot_text(found))
     elif words.json:

@@ -2,15 +2,15 @@
 
 import argparse
 import functools
-from collections.abc import Sequence
+from collections.abc import Iterable, Sequence
 from dataclasses import dataclass, field
 from ipaddress import IPv6Address
 
-from .captures import sent_in
+from .captures import Sent, sent_from
 from .command import Fault, Parser, progress, run_tool
 from .description import Link, Network, read_network
 from .drawing import COLOURS, Drawing, end_of, quoted
-from .files import INPUT_LIMIT, read_bytes
+from .files import opened
 
 ERRORS = {1: "Destination Unreachable", 3: "Time Exceeded", 4: "Parameter Problem"}
 DESCRIPTION = """\
@@ -42,10 +42,11 @@ class Walk:
         return sends
 
 
-def walks_of(net: Network, content: bytes, name: str) -> dict[int, Walk]:
+def walks_of(net: Network, frames: Iterable[Sent], name: str) -> dict[int, Walk]:
     """The walks of a capture that `srv6` wrote over a network, by the packets' numbers."""
-    links, walks = list(net.links.values()), {}
-    for sent in sent_in(content, name):
+    links: list[Link] = list(net.links.values())
+    walks: dict[int, Walk] = {}
+    for sent in frames:
         walk = walks.setdefault(sent.packet, Walk(sent.packet))
         if sent.link == 0:
             walk.error = sent.content
@@ -118,7 +119,8 @@ def main(words: Sequence[str]) -> int:
 def _work(tool: str, words: argparse.Namespace) -> None:
     with progress(tool, "drawing"):
         net = read_network(words.net)
-        walks = walks_of(net, read_bytes(words.capture, INPUT_LIMIT), words.capture)
+        with opened(words.capture) as file:
+            walks = walks_of(net, sent_from(file, words.capture), words.capture)
         for packet in words.packets:
             if packet not in walks:
                 raise Fault(f"{words.capture} has nothing of packet {packet}")

@@ -2,8 +2,10 @@
 the file.
 """
 
+import contextlib
 import sys
 import tomllib
+from collections.abc import Iterator
 from pathlib import Path
 from typing import Any, BinaryIO
 
@@ -16,15 +18,26 @@ INTEGERS = range(-(2**63), 2**63)
 STDIN = "standard input"
 
 
-def read_bytes(path: str | Path, limit: int = FILE_LIMIT) -> bytes:
-    """The bytes of a file."""
+@contextlib.contextmanager
+def opened(path: str | Path) -> Iterator[BinaryIO]:
+    """A file while it is read; a fault where it can't be."""
     try:
-        with open(path, "rb") as file:
-            return _at_most(file, str(path), limit)
+        file = open(path, "rb")
     except OSError as fault:
         raise Fault(f"{path}: {fault.strerror or fault}", Status.OUTSIDE_FAULT) from None
     except ValueError as fault:  # a zero byte in the name
         raise Fault(f"{path!r}: {fault}", Status.OUTSIDE_FAULT) from None
+    with file:
+        try:
+            yield file
+        except OSError as fault:
+            raise Fault(f"{path}: {fault.strerror or fault}", Status.OUTSIDE_FAULT) from None
+
+
+def read_bytes(path: str | Path, limit: int = FILE_LIMIT) -> bytes:
+    """The bytes of a file."""
+    with opened(path) as file:
+        return _at_most(file, str(path), limit)
 
 
 def read_input(limit: int = INPUT_LIMIT) -> bytes:

@@ -103,18 +103,22 @@ class Walks:
 
     def _find_all(self) -> None:
         """Asks for what each visit still wants, those of one node and one choice together."""
-        while wanted := self._wanted():
-            (node, choice), visits = next(iter(wanted.items()))
-            for some in _parts(visits, FRAME_LIMIT):
-                given = b"".join(raw_capture((0, 0, visit.packet) for visit in some))
-                for walk in self._traced(node, choice, given):
-                    self._take(walk, choice)
-            if len(self._by_choice) > self.most:
-                self.is_cut = True
-                break
+        while not self.is_cut and (wanted := self._wanted()):
+            for (node, choice), visits in wanted.items():
+                self._ask(node, choice, [one for one in visits if self._wants(one) == choice])
+                self.is_cut |= len(self._by_choice) > self.most
+                if self.is_cut:
+                    break
         for visit, hops in self._by_choice.items():
             choices = self._choices(visit)
             self.hops.setdefault(visit, [hops[choice] for choice in choices if choice in hops])
+
+    def _ask(self, node: str, choice: int, visits: Sequence[Visit]) -> None:
+        """Asks for the walks of packets that arrive at a node, under one choice."""
+        for some in _parts(visits, FRAME_LIMIT):
+            given = b"".join(raw_capture((0, 0, visit.packet) for visit in some))
+            for walk in self._traced(node, choice, given):
+                self._take(walk, choice)
 
     def _wanted(self) -> dict[tuple[str, int], list[Visit]]:
         wanted: dict[tuple[str, int], list[Visit]] = {}
@@ -188,6 +192,7 @@ class _Entry:
 
     def __init__(self, net: Network, intent: str, given: bytes):
         self.net, self.intent, self.given = net, intent, given
+        self.links = list(net.links.values())
         self.headend, self.sids = self._headend()
         self._first = self.hops(0)
         self.visits = {visit.inner: visit for visit in self._first}
@@ -212,8 +217,8 @@ class _Entry:
         _refuse(f"srv6 walk {self.net.path} {self.intent}", answer.status, answer.err)
         firsts: dict[int, Hop] = {}
         for sent in sent_in(answer.out, "srv6 walk"):
-            link = self.net.link_of(sent.link)
-            if sent.packet not in firsts and link:
+            if sent.packet not in firsts and 0 < sent.link <= len(self.links):
+                link = self.links[sent.link - 1]
                 end = None if link.end else f"left {link.name}"
                 firsts[sent.packet] = Hop(self.sids, link.name, sent.content, end)
         for line in answer.err.splitlines():
