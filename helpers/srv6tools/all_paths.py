@@ -9,7 +9,7 @@ from dataclasses import dataclass
 from pathlib import Path
 from typing import Any
 
-from .command import Fault, Parser, Status, progress, run_tool
+from .command import Fault, Parser, Status, positive, progress, run_tool
 from .description import Network, read_network
 from .drawing import COLOURS, Drawing, end_of, quoted
 from .files import read_input
@@ -231,8 +231,9 @@ def main(words: Sequence[str]) -> int:
     ):
         form.add_argument(name, action="store_true", help=what)
     parser.add_argument(
-        "--most", metavar="N", type=int, default=1000, help="walks of a packet in the table (1000)"
-    )
+        "--most", metavar="N", type=positive, default=1000,
+        help="walks of a packet in the table (1000)",
+    )  # fmt: skip
     return run_tool(parser, functools.partial(_work, parser.prog), words)
 
 

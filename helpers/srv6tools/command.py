@@ -48,6 +48,13 @@ class Parser(argparse.ArgumentParser):
         raise Fault(f"{message}; usage: {usage}", Status.USAGE)
 
 
+def positive(text: str) -> int:
+    """A number from 1 on."""
+    if not text.isascii() or not text.isdecimal() or int(text) < 1:
+        raise argparse.ArgumentTypeError(f"{text!r} is no number from 1 on")
+    return int(text)
+
+
 def tool_name(tool: str) -> str:
     """A tool as it is called: by its place in the repository, or as `helpers/install` names it."""
     folder = Path(__file__).resolve().parents[1]

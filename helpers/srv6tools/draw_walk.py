@@ -7,7 +7,7 @@ from dataclasses import dataclass, field
 from ipaddress import IPv6Address
 
 from .captures import Sent, sent_from
-from .command import Fault, Parser, progress, run_tool
+from .command import Fault, Parser, positive, progress, run_tool
 from .description import Link, Network, read_network
 from .drawing import COLOURS, Drawing, end_of, quoted
 from .files import opened
@@ -108,7 +108,7 @@ def main(words: Sequence[str]) -> int:
     parser.add_argument("net", metavar="NET", help="a description")
     parser.add_argument("capture", metavar="CAPTURE", help="what `srv6 run` or `walk` wrote")
     parser.add_argument(
-        "packets", metavar="PACKET", nargs="*", type=int, help="without numbers all are drawn"
+        "packets", metavar="PACKET", nargs="*", type=positive, help="without numbers all are drawn"
     )
     parser.add_argument(
         "--used", action="store_true", help="leave out nodes and links that no packet meets"

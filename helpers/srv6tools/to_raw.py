@@ -11,7 +11,7 @@ from typing import BinaryIO
 
 from .capture_formats import CutCapture, Direction, NoCapture, TakenFrame, frames_in
 from .captures import FRAME_LIMIT, HEAD_SIZE, Timed, timed_capture
-from .command import Fault, Parser, Status, progress, run_tool
+from .command import Fault, Parser, Status, positive, progress, run_tool
 from .files import INPUT_LIMIT, STDIN
 from .link_layers import NotIp, direction_of, interface_of, packet_in
 
@@ -205,13 +205,6 @@ def work(words: argparse.Namespace) -> int:
         called = STDIN if words.capture == "-" else words.capture
         raise Fault(f"{called}: {raw.fault}")
     return Status.DONE
-
-
-def positive(text: str) -> int:
-    """A number from 1 on."""
-    if not text.isascii() or not text.isdecimal() or int(text) < 1:
-        raise argparse.ArgumentTypeError(f"{text!r} is no number from 1 on")
-    return int(text)
 
 
 def main(words: Sequence[str] | None = None) -> int:
