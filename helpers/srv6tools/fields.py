@@ -1,4 +1,4 @@
-"""The fields of packets, by name: where each header stands `srv6 show` says, and this module what its bytes are.
+"""The fields of packets by name; where each header stands `srv6 show` says.
 
 A packet inside another, also one that an ICMPv6 error quotes, is shown in the same way.
 """
@@ -115,6 +115,7 @@ _LABELS = {
     "bad chain": "extension header that is cut", "truncated": "packet that is cut",
     "bad version": "packet of another version",
 }  # fmt: skip
+_OPTIONS = ("hop-by-hop", "destination")
 _UPPERS = {UDP: "udp", TCP: "tcp", ICMPV6: "icmp6"}
 
 
@@ -153,7 +154,7 @@ def dissected(packets: Sequence[bytes]) -> list[list[Part]]:
 
 @dataclass(frozen=True, slots=True)
 class _Inner:
-    """A packet that is to be shown: of which packet it is a part, and what stands in front of labels."""
+    """A packet that is to be shown: the packet that it is a part of, and its labels' front."""
 
     place: int
     where: str
@@ -223,7 +224,7 @@ def _take_header(parts: list[Part], one: _Inner, header: Header) -> int:
         rest = rest[16 * len(header.entries) :]
         _add_bytes(part, "TLVs", rest)
     else:
-        _add_bytes(part, "options" if header.kind in ("hop-by-hop", "destination") else "data", rest)
+        _add_bytes(part, "options" if header.kind in _OPTIONS else "data", rest)
     parts.append(part)
     return header.at + size
 
@@ -238,7 +239,7 @@ def _take_ip4(parts: list[Part], one: _Inner, header: Header) -> int:
 
 
 def _carried(one: _Inner, header: Header) -> int:
-    """The protocol that an IPv4 packet carries; none of a later fragment, which begins within one."""
+    """The protocol that an IPv4 packet carries; a later fragment begins within one."""
     offset = int.from_bytes(one.content[6:8]) & 0x1FFF
     return RESERVED if offset else int(header.values["proto"])
 

@@ -26,10 +26,10 @@ Address = IPv6Address | IPv4Address
 
 DESCRIPTION = """\
 Writes the routes and SIDs of a Linux router as a node of a description, from the JSON of
-`ip -6 -j route show table all`, which is IN, or standard input without one. Each interface is a link,
-and where routes name several neighbours on one, each of them is; it leaves the network where --link
-names no node. What a description doesn't have is left out, and named on err; docs/LINUX.md says where
-Linux differs in what it does."""
+`ip -6 -j route show table all`, which is IN, or standard input without one. Each interface is a
+link, and where routes name several neighbours on one, each of them is; it leaves the network where
+--link names no node. What a description doesn't have is left out, and named on err; docs/LINUX.md
+says where Linux differs in what it does."""
 
 MORE = """\
 Several nodes make a network: their texts one after the other, where --link says where links lead.
@@ -50,7 +50,8 @@ class BestMatch:
     def __init__(self, routes: Iterable[LinuxRoute]) -> None:
         self.routes: dict[tuple[int, int, int], LinuxRoute] = {}
         for route in routes:
-            if route.table == MAIN_TABLE and route.kind == UNICAST and not route.encap and route.hops:
+            is_main = route.table == MAIN_TABLE and route.kind == UNICAST
+            if is_main and route.hops and not route.encap:
                 key = self._key(route.prefix[0], route.prefix.prefixlen)
                 earlier = self.routes.setdefault(key, route)
                 if route.metric < earlier.metric:
@@ -172,7 +173,7 @@ class Reading:
             self._take_route(route)
 
     def _is_linux_own(self, route: LinuxRoute) -> bool:
-        """Whether it is one that each router of Linux has, or that only tells of an address of its own."""
+        """Whether each router of Linux has it, or it only tells of an address of its own."""
         prefix = route.prefix
         if prefix.is_multicast or prefix.is_link_local or prefix.is_loopback:
             return True
@@ -268,7 +269,8 @@ class Reading:
             if action == "End.X":
                 raise LeftOut("it looks the packet up, which is End's work")
             table = {"End.DX6": "End.DT6", "End.DX4": "End.DT4"}[action]
-            self.made.note(route, f"{action} without a next hop looks up, so it is {table} of table 0")
+            why = f"{action} without a next hop looks up, so it is {table} of table 0"
+            self.made.note(route, why)
             return {"behaviour": table, "table": 0}
         interface = self._interface_to(route, neighbour)
         if interface is None:
@@ -318,7 +320,8 @@ class Reading:
             raise LeftOut("`lblen` or `nflen` is no number")
         block_length, own = lengths
         if block_length + own != length:
-            raise LeftOut(f"its prefix has {length} bits, and lblen and nflen are {block_length + own}")
+            sum_ = block_length + own
+            raise LeftOut(f"its prefix has {length} bits, and lblen and nflen are {sum_}")
         if block_length not in BLOCK_LENGTHS or own not in (16, 32):
             raise LeftOut(f"a description has no block of {block_length} bits with CSIDs of {own}")
         block = IPv6Network((int(route.prefix[0]) >> 128 - block_length << 128 - block_length,
@@ -433,7 +436,7 @@ def work(words: argparse.Namespace) -> int:
 def main(words: Sequence[str] | None = None) -> int:
     """The command."""
     parser = Parser(TOOL, DESCRIPTION, MORE)
-    parser.add_argument("routes", metavar="IN", nargs="?", default="-", help="JSON of ip -6 -j route")
+    parser.add_argument("routes", metavar="IN", nargs="?", default="-", help="the JSON of ip")
     parser.add_argument("--ipv4", metavar="FILE", help="JSON of ip -4 -j route show table all")
     parser.add_argument("--node", metavar="NAME", type=node_word, default="router", help="its name")
     parser.add_argument(

@@ -1,4 +1,4 @@
-"""Routes as `ip -j route` writes them: JSON, of which what follows `encap` belongs to the encapsulation."""
+"""Routes as `ip -j route` writes them, where the order of keys tells what belongs to `encap`."""
 
 import json
 from collections.abc import Iterator

@@ -1,8 +1,8 @@
 """What is known of Linux: what its kernels can do, and how a node's parts are called there.
 
-Two kernels are known. What is said of 6.18 was seen on 6.18.44; what is said of 6.1 stands in ip-route(8)
-and ip-sr(8) of iproute2 6.1 and in Documentation/networking/seg6-sysctl.rst and net/ipv6/seg6_iptunnel.c of
-Linux 6.1. A kernel between them is taken to do what 6.1 does.
+Two kernels are known. What is said of 6.18 was seen on 6.18.44; what is said of 6.1 stands in
+ip-route(8) and ip-sr(8) of iproute2 6.1 and in Documentation/networking/seg6-sysctl.rst and
+net/ipv6/seg6_iptunnel.c of Linux 6.1. A kernel between them is taken to do what 6.1 does.
 """
 
 import os
@@ -12,6 +12,7 @@ from ipaddress import IPv4Address, IPv6Address, IPv6Network
 
 from .command import Fault, Status
 
+KERNEL_HELP = "6.1 or later; without it the running one"
 MAIN_TABLE = 254
 OWN_TABLES = {253: "default", 254: "main", 255: "local"}
 INTERFACE_NAME_LIMIT = 15  # bytes

@@ -1,8 +1,8 @@
 """A node of Linux in a network namespace, to which packets are given, and what it sends of them.
 
-A process that is in a namespace of its own makes the interfaces as TUN devices, which give and take whole
-IP packets. Behind each packet a further one is given that the node has to send on; what comes out before
-it is what came of the packet.
+A process that is in a namespace of its own makes the interfaces as TUN devices, which give and
+take whole IP packets. Behind each packet a further one is given that the node has to send on;
+what comes out before it is what came of the packet.
 """
 
 from __future__ import annotations
@@ -116,7 +116,7 @@ class Lab:
                 yield name, os.read(device, PACKET_LIMIT)
 
     def give(self, packet: bytes, mark: str) -> list[Sent]:
-        """What the node sends of a packet that arrives; `mark` is a destination that it sends on."""
+        """What the node sends of a packet that arrives; it sends on what goes to `mark`."""
         self.asked += 1
         last = ip6(mark, source=f"2001:db8:1:ffff::{self.asked:x}")
         os.write(self.devices[ENTRY], packet)

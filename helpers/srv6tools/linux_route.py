@@ -1,4 +1,4 @@
-"""linux-route: the list that `srv6 compile` prints as the route that makes Linux a headend of it."""
+"""linux-route: the list of `srv6 compile` as the route that makes Linux a headend of it."""
 
 from __future__ import annotations
 
@@ -12,7 +12,7 @@ from ipaddress import IPv4Network, IPv6Network
 from .command import Fault, Parser, Status, run_tool
 from .files import FILE_LIMIT, STDIN, decoded, read_input
 from .intent import Intent, read_intent
-from .linux import Kernel, wanted_kernel
+from .linux import KERNEL_HELP, Kernel, wanted_kernel
 from .report import Report, report_of
 
 TOOL = "linux-route"
@@ -20,17 +20,17 @@ MODES = {"full": "encap", "reduced": "encap.red"}
 NETWORKS = {6: IPv6Network, 4: IPv4Network}
 
 DESCRIPTION = """\
-Turns the list that srv6 compile prints into the route that makes Linux a headend of it. PREFIX holds the
-destinations of the inner packets and is of the intent's family; DEV is a network interface. The one line
-on out is for Linux' ip; it isn't run. On err stands where Linux as a headend differs from the intent's
-headend, of which alone the program speaks."""
+Turns the list that srv6 compile prints into the route that makes Linux a headend of it. PREFIX
+holds the destinations of the inner packets and is of the intent's family; DEV is a network
+interface. The one line on out is for Linux' ip; it isn't run. On err stands where Linux as a
+headend differs from the intent's headend, of which alone the program speaks."""
 
 MORE = """\
   srv6 compile NET INTENT | linux-route INTENT PREFIX DEV
 
-What it says of the headend stands in ip-route(8) and ip-sr(8) of iproute2 6.1, and in Linux 6.1 in
-Documentation/networking/seg6-sysctl.rst and net/ipv6/seg6_iptunnel.c; on Linux 6.18 packets showed the
-same."""
+What it says of the headend stands in ip-route(8) and ip-sr(8) of iproute2 6.1, and in Linux 6.1
+in Documentation/networking/seg6-sysctl.rst and net/ipv6/seg6_iptunnel.c; on Linux 6.18 packets
+showed the same."""
 
 
 def route_of(intent: Intent, report: Report, prefix: str, dev: str) -> str:
@@ -61,31 +61,31 @@ def differences(intent: Intent, report: Report, kernel: Kernel) -> Iterator[str]
         yield f"the outer hop limit is a setting of the route or of the interface, {said}"
         yield f"the outer traffic class is 0, {classed}"
     yield (
-        "of a packet that it forwards the headend lowers the outer hop limit, and not the inner one:"
-        f" before that the outer one has to be above {report.need + 1} (seg6_iptunnel.c)"
+        "of a packet that it forwards the headend lowers the outer hop limit, and not the inner"
+        f" one: before that the outer one has to be above {report.need + 1} (seg6_iptunnel.c)"
     )
     label = "the inner packet's, 0 or a hash" if intent.family == 6 else "0 or a hash"
     yield (
-        f"the outer flow label is {label}, as net.ipv6.seg6_flowlabel says, whatever the intent says"
-        f" ({intent.flow_label}; seg6-sysctl.rst)"
+        f"the outer flow label is {label}, as net.ipv6.seg6_flowlabel says, whatever the intent"
+        f" says ({intent.flow_label}; seg6-sysctl.rst)"
     )
     yield (
-        f"the encapsulated packet is looked up anew: a route to {report.containers[0]} has to lead over"
-        " the first link, and DEV doesn't choose it (seg6_iptunnel.c)"
+        f"the encapsulated packet is looked up anew: a route to {report.containers[0]} has to lead"
+        " over the first link, and DEV doesn't choose it (seg6_iptunnel.c)"
     )
     yield compressed(kernel)
 
 
 def compressed(kernel: Kernel) -> str:
-    """Which compressed SIDs the nodes behind the headend may have, where they run this kernel too."""
+    """Which compressed SIDs nodes may have that run this kernel too."""
     if kernel.next_at_end_x:
         return (
-            f"of compressed SIDs Linux {kernel.known_as} runs End and End.X with NEXT-CSID, End also with"
-            " PSP, and none of REPLACE-CSID (seen on it)"
+            f"of compressed SIDs Linux {kernel.known_as} runs End and End.X with NEXT-CSID, End"
+            " also with PSP, and none of REPLACE-CSID (seen on it)"
         )
     return (
-        f"of compressed SIDs Linux {kernel.known_as} runs End with NEXT-CSID alone: no End.X with it,"
-        " and none of REPLACE-CSID (ip-route(8)); 6.18 runs End.X too"
+        f"of compressed SIDs Linux {kernel.known_as} runs End with NEXT-CSID alone: no End.X with"
+        " it, and none of REPLACE-CSID (ip-route(8)); 6.18 runs End.X too"
     )
 
 
@@ -111,5 +111,5 @@ def main(words: Sequence[str] | None = None) -> int:
     parser.add_argument("intent", metavar="INTENT", help="the intent of the list")
     parser.add_argument("prefix", metavar="PREFIX", help="the destinations of inner packets")
     parser.add_argument("dev", metavar="DEV", help="an interface of the headend")
-    parser.add_argument("--kernel", metavar="VERSION", help="6.1 or later; without it the running one")
+    parser.add_argument("--kernel", metavar="VERSION", help=KERNEL_HELP)
     return run_tool(parser, work, sys.argv[1:] if words is None else words)

@@ -52,8 +52,8 @@ def icmp6(kind: int, code: int = 0, content: bytes = b"") -> bytes:
 
 
 def ip4(
-    destination: str, kind: int = UDP, payload: bytes = b"", ttl: int = 64, total: int | None = None,
-    good_checksum: bool = True, version: int = 4,
+    destination: str, kind: int = UDP, payload: bytes = b"", ttl: int = 64,
+    total: int | None = None, good_checksum: bool = True, version: int = 4,
 ) -> bytes:  # fmt: skip
     """An IPv4 packet without options."""
     size = 20 + len(payload) if total is None else total

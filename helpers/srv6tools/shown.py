@@ -55,7 +55,7 @@ for _one in _SHAPES:
 
 @dataclass(slots=True)
 class Header:
-    """A header of a packet, or what stands in the place of one: truncated, bad version, bad chain."""
+    """A header of a packet, or what stands in the place of one, as `bad chain`."""
 
     kind: str
     values: dict[str, Value] = field(default_factory=dict)

@@ -1,4 +1,4 @@
-"""srv6-diff: where two captures or two traces differ, or a trace from what replay expects, in words."""
+"""srv6-diff: where two captures or traces differ, or a trace from the right one, in words."""
 
 from __future__ import annotations
 
@@ -21,12 +21,12 @@ MOST = 100
 LINK_LIMIT = 4096
 
 DESCRIPTION = """\
-Says where two captures or two traces differ: which field of which header of which packet. With --replay
-NET it runs srv6 replay on one trace and says how the first wrong line differs from the right one; with
-one trace alone it reads the answer of srv6 replay on standard input.
+Says where two captures or two traces differ: which field of which header of which packet. With
+--replay NET it runs srv6 replay on one trace and says how the first wrong line differs from the
+right one; with one trace alone it reads the answer of srv6 replay on standard input.
 
-Captures that srv6 wrote are compared packet by packet, others frame by frame. A is the first file, B the
-second, or what srv6 expects."""
+Captures that srv6 wrote are compared packet by packet, others frame by frame. A is the first
+file, B the second, or what srv6 expects."""
 
 MORE = """\
 Status 0 says that nothing differs, 4 that something does.
@@ -65,7 +65,7 @@ class Names:
 
 
 def items_of_capture(content: bytes, name: str, names: Names) -> tuple[dict[Key, Item], bool]:
-    """The frames of a capture, and whether `srv6` wrote it; by packet and place, or by their number."""
+    """The frames of a capture by packet and place, or by number; and whether `srv6` wrote it."""
     try:
         sent = list(sent_in(content, name))
     except Fault:
@@ -270,7 +270,7 @@ def main(words: Sequence[str] | None = None) -> int:
     parser = Parser(TOOL, DESCRIPTION, MORE)
     parser.add_argument("one", metavar="A", help="a capture or a trace")
     parser.add_argument("other", metavar="B", nargs="?", help="another one of the same kind")
-    parser.add_argument("--replay", metavar="NET", help="run srv6 replay NET A, and say what is wrong")
+    parser.add_argument("--replay", metavar="NET", help="run srv6 replay NET A")
     parser.add_argument("--net", metavar="NET", help="the description that has the names of links")
     parser.add_argument(
         "--most", metavar="N", type=count, default=MOST, help=f"items that are shown ({MOST})"

@@ -26,8 +26,8 @@ Json = dict[str, Any]
 
 DESCRIPTION = """\
 Writes as JSON what srv6 wrote as text: the report of compile with its certificate, a certificate,
-the lines on err, a trace, the lines of show, the verdict of check or of replay, or a summary of gen.
-Without TEXT, or with -, it is standard input. docs/FORMATS.md has the schema ('As JSON')."""
+the lines on err, a trace, the lines of show, the verdict of check or of replay, or a summary of
+gen. Without TEXT, or with -, it is standard input. docs/FORMATS.md has the schema ('As JSON')."""
 
 MORE = """\
   srv6 compile NET INTENT | to-json
@@ -96,7 +96,8 @@ def err_json(line: str, number: int, name: str) -> Json:
     match err_line_of(line):
         case Refusal() as refusal:
             fields = list(refusal.fields)
-            return {"line": "refused", "number": refusal.number, "name": refusal.name, "fields": fields}
+            keys = {"number": refusal.number, "name": refusal.name, "fields": fields}
+            return {"line": "refused"} | keys
         case NoAnswer() as answer:
             return {"line": "no answer", "why": answer.why, "number": answer.number}
         case PacketLine() as packet:

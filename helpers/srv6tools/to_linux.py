@@ -11,25 +11,28 @@ from dataclasses import dataclass, field
 from .command import Fault, Parser, Status, run_tool
 from .description import Link, Network, Node, Policy, Route, Sid, read_network
 from .linux import (
-    OWN_TABLES, Kernel, interface_name, next_hop_4, next_hop_6, table_number, wanted_kernel,
+    KERNEL_HELP, OWN_TABLES, Kernel, interface_name, next_hop_4, next_hop_6, table_number,
+    wanted_kernel,
 )  # fmt: skip
 
 TOOL = "to-linux"
 
 DESCRIPTION = """\
-Writes a node of a description as commands that make a network namespace of Linux treat packets as the
-node does, as far as Linux can. They aren't run. What Linux can't do is left out, and named on err and in
-a comment; docs/LINUX.md says where it differs in what it does."""
+Writes a node of a description as commands that make a network namespace of Linux treat packets as
+the node does, as far as Linux can. They aren't run. What Linux can't do is left out, and named on
+err and in a comment; docs/LINUX.md says where it differs in what it does."""
 
 MORE = """\
-Each link of the node is an interface of its name, or of link and its number where the name is too long
-for Linux. It has to be there, unless --tun makes it. The next hop over a link is an address of its own,
-fdff:ffff:ffff:ffff:: and the link's number (for End.DX4 169.254.0.0 and the number); on Ethernet it has to
-be the neighbour's, or a neighbour entry has to lead there. Table 0 is Linux' main table.
+Each link of the node is an interface of its name, or of link and its number where the name is too
+long for Linux. It has to be there, unless --tun makes it. The next hop over a link is an address
+of its own, fdff:ffff:ffff:ffff:: and the link's number (for End.DX4 169.254.0.0 and the number);
+on Ethernet it has to be the neighbour's, or a neighbour entry has to lead there. Table 0 is
+Linux' main table.
 
   helpers/to-linux --tun NET NODE > node.sh && unshare -n sh -e node.sh
 
-What it says of Linux 6.18 was seen there, but for VRF devices, and of 6.1 it stands in ip-route(8)."""
+What it says of Linux 6.18 was seen there, but for VRF devices, and of 6.1 it stands in
+ip-route(8)."""
 
 DECAPSULATES_BY_TABLE = ("End.DT6", "End.DT4", "End.DT46")
 
@@ -84,7 +87,8 @@ class Writer:
     def write(self, tun: bool) -> None:
         """All commands, in an order in which they can be run."""
         script = self.script
-        script.note(f"node {self.node.name} of {self.net.path} in a namespace of Linux {self.kernel}")
+        node = f"node {self.node.name} of {self.net.path}"
+        script.note(f"{node} in a namespace of Linux {self.kernel}")
         self._settings()
         for link in self.links:
             self._interface(link, tun)
@@ -269,7 +273,7 @@ def main(words: Sequence[str] | None = None) -> int:
     parser = Parser(TOOL, DESCRIPTION, MORE)
     parser.add_argument("net", metavar="NET", help="the description")
     parser.add_argument("node", metavar="NODE", help="the name of a node")
-    parser.add_argument("--kernel", metavar="VERSION", help="6.1 or later; without it the running one")
+    parser.add_argument("--kernel", metavar="VERSION", help=KERNEL_HELP)
     parser.add_argument("--tun", action="store_true", help="make each interface as a TUN device")
     parser.add_argument(
         "--namespace", metavar="NAME", help="commands for a named namespace, from outside it"

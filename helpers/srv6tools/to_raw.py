@@ -21,9 +21,9 @@ NAMED = 8
 
 DESCRIPTION = """\
 Writes the IP packets of a capture as a classic capture of raw IP, which srv6 takes. IN may be a
-classic capture or pcapng, also with several interfaces and link types, also compressed by gzip; its
-frames may be of Ethernet (with VLAN tags), Linux cooked (version 1 and 2), the loopback of BSD, PPP,
-Cisco's HDLC, raw IP, IPv4 or IPv6. Without IN, or with -, it is standard input."""
+classic capture or pcapng, also with several interfaces and link types, also compressed by gzip;
+its frames may be of Ethernet (with VLAN tags), Linux cooked (version 1 and 2), the loopback of
+BSD, PPP, Cisco's HDLC, raw IP, IPv4 or IPv6. Without IN, or with -, it is standard input."""
 
 MORE = """\
 What is left out stands on err, a line for each cause with the numbers of the frames. Packets are
@@ -149,7 +149,8 @@ def said(raw: Raw, keep_numbers: bool) -> Iterator[str]:
     yield f"{total} frames, {raw.written} written, {raw.left_out.count} left out"
     yield from raw.left_out.lines()
     if raw.short:
-        yield f"cut by the capture, so srv6 doesn't read them (ShortFrame): {frames_text(raw.short)}"
+        cut = frames_text(raw.short)
+        yield f"cut by the capture, so srv6 doesn't read them (ShortFrame): {cut}"
     if raw.left_out.count and not keep_numbers and raw.written:
         yield "packets are numbered anew; --keep-numbers keeps the numbers of frames"
     if raw.next:

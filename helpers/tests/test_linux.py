@@ -1,4 +1,4 @@
-"""to-linux, from-linux and linux-route: what they write, in a namespace where there are any, and bad input."""
+"""to-linux, from-linux and linux-route: what they write, a namespace's answer, and bad input."""
 
 import json
 import random
@@ -8,6 +8,7 @@ import unittest
 from pathlib import Path
 
 from srv6tools.description import network_of, read_network
+from srv6tools.files import parse_toml
 from srv6tools.linux import Kernel, kernel_of
 from srv6tools.linux_lab import in_namespace, missing_for_a_lab
 from srv6tools.program import judge_description
@@ -84,14 +85,15 @@ class ToLinux(ToolCase):
         ]
         sid = [
             { node = "A", prefix = "fc00:0:1::/48", behaviour = "End" },
-            { node = "A", prefix = "fc00:0:3::/48", behaviour = "End.X", links = ["b", "a-link-with-a-long-name"] },
+            { node = "A", prefix = "fc00:0:3::/48", behaviour = "End.X",
+              links = ["b", "a-link-with-a-long-name"] },
             { node = "A", prefix = "2001:db8::1/128", behaviour = "End" },
             { node = "A", prefix = "fc00:0:4::/48", behaviour = "End.DT4", table = 0 },
             { node = "A", prefix = "fc00:0:5::/48", behaviour = "End.T", table = 255 },
             { node = "B", prefix = "fc00:0:6::/48", behaviour = "End" },
         ]
         """
-        net = network_of(tomllib.loads(text), "net")
+        net = network_of(parse_toml(text, "net"), "net")
         script = script_for(net, "A", Kernel(6, 18), namespace="a b")
         self.assertEqual(len(script.cannot), 6)
         lines = "\n".join(script.lines)
@@ -104,9 +106,8 @@ class ToLinux(ToolCase):
     def test_linux_takes_it_and_gives_it_back(self):
         script = run_here("to-linux", "--tun", "--kernel", "6.18", LINUX_NODE, "N").out
         script += "ip -6 -j route show table all > six; ip -4 -j route show table all > four\n"
-        done = subprocess.run(
-            in_namespace(["sh", "-e", "-c", script]), capture_output=True, cwd=self.folder, text=True
-        )
+        words = in_namespace(["sh", "-e", "-c", script])
+        done = subprocess.run(words, capture_output=True, cwd=self.folder, text=True)
         self.assertEqual((done.returncode, done.stderr), (0, ""))
         words = ["--node", "N", "--ipv4", self.folder / "four", self.folder / "six"]
         ran = run_here("from-linux", *words)
@@ -265,7 +266,8 @@ class FromLinux(ToolCase):
 class LinuxRoute(ToolCase):
     def test_route(self):
         intent = EXAMPLES / "intent.toml"
-        ran = run_here("linux-route", intent, "2001:db8:2::/48", "eth0", "--kernel", "6.18", given=REPORT)
+        words = [intent, "2001:db8:2::/48", "eth0", "--kernel", "6.18"]
+        ran = run_here("linux-route", *words, given=REPORT)
         wanted = "ip -6 route add 2001:db8:2::/48 encap seg6 mode encap.red segs ::1,::2 dev eth0\n"
         self.assertEqual((ran.status, ran.out), (0, wanted))
         self.assertIn("has to be above 3", ran.err)

@@ -39,7 +39,8 @@ class Fields(unittest.TestCase):
                 ["segment routing header: Segments Left 1 in A, 0 in B"],
             ),
             (
-                ip6("::1", ROUTING, srh(1, ["::7", "::8"])), ip6("::1", ROUTING, srh(1, ["::7", "::9"])),
+                ip6("::1", ROUTING, srh(1, ["::7", "::8"])),
+                ip6("::1", ROUTING, srh(1, ["::7", "::9"])),
                 ["segment routing header: entry 1 ::8 in A, ::9 in B"],
             ),
             (
@@ -47,11 +48,13 @@ class Fields(unittest.TestCase):
                 ["inner IPv6 header: destination ::2 in A, ::3 in B"],
             ),
             (
-                ip6("::1", IPV4, ip4("192.0.2.1")), ip6("::1", IPV4, ip4("192.0.2.1", good_checksum=False)),
+                ip6("::1", IPV4, ip4("192.0.2.1")),
+                ip6("::1", IPV4, ip4("192.0.2.1", good_checksum=False)),
                 ["inner IPv4 header: checksum 8ea3 in hexadecimal in A, 8ea2 in hexadecimal in B"],
             ),
             (
-                ip6("::1", ICMPV6, icmp6(1, 0, ip6("::1"))), ip6("::1", ICMPV6, icmp6(1, 0, ip6("::2"))),
+                ip6("::1", ICMPV6, icmp6(1, 0, ip6("::1"))),
+                ip6("::1", ICMPV6, icmp6(1, 0, ip6("::2"))),
                 ["quoted IPv6 header: destination ::1 in A, ::2 in B"],
             ),
             (
@@ -67,7 +70,8 @@ class Fields(unittest.TestCase):
                 ["upper layer 99: bytes: byte 2 is 63 in A, 65 in B"],
             ),
             (
-                ip6("::1", DESTINATION, options(59, PAD)), ip6("::1", DESTINATION, options(59, "1e0400000000")),
+                ip6("::1", DESTINATION, options(59, PAD)),
+                ip6("::1", DESTINATION, options(59, "1e0400000000")),
                 ["destination options: options: byte 0 is 01 in A, 1e in B"],
             ),
         ):  # fmt: skip
@@ -200,8 +204,9 @@ class Bad(ToolCase):
 
     @needs_program
     def test_closed_pipe(self):
-        other = raw_capture((number, 1, b"") for number in range(1, 3000))
-        self.survives_closed_pipe("srv6-diff", OUT, self.file("o", b"".join(other)), "--most", "9999")
+        other = b"".join(raw_capture((number, 1, b"") for number in range(1, 3000)))
+        words = [OUT, self.file("other", other), "--most", "9999"]
+        self.survives_closed_pipe("srv6-diff", *words)
 
     def test_bad_captures(self):
         for name, content in bad_captures():

@@ -158,7 +158,8 @@ class Texts(ToolCase):
             "stage": "again", "sid": "fcbb:bb00:2::/48", "table": 0, "bytes": "60",
         })  # fmt: skip
         self.assertEqual(walks[0]["stages"][1]["table"], None)
-        self.assertEqual(walks[1]["stages"], [{"stage": "drop", "reason": "HopLimit", "error": "6061"}])
+        drop = {"stage": "drop", "reason": "HopLimit", "error": "6061"}
+        self.assertEqual(walks[1]["stages"], [drop])
         self.assertFalse(self.as_json(TEXTS["trace that is cut"])["whole"])
         shown = self.as_json(TEXTS["show"])["packets"]
         self.assertEqual(shown[0]["headers"][4]["entries"], ["fcbb:bb00:4::", "fcbb:bb00:2::"])

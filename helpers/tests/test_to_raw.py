@@ -138,7 +138,8 @@ class Kinds(ToolCase):
 
     def test_cut_captures_keep_what_stands_before(self):
         whole = classic(101, IP6, IP4)
-        for capture in (whole[:-1], whole[:-21], PcapNg().interface(101).packet(0, IP6).content[:-1]):
+        blocks = PcapNg().interface(101).packet(0, IP6).content
+        for capture in (whole[:-1], whole[:-21], blocks[:-1]):
             ran = run_tool("to-raw", given=capture)
             self.assertEqual(ran.status, 1)
             self.assertIn("the capture ends within", ran.err)
@@ -199,7 +200,8 @@ class WithTheProgram(ToolCase):
             ["tshark", "-nr", self.folder / "raw.pcap", "-T", "fields", "-e", "frame.protocols"],
             capture_output=True, text=True,
         )  # fmt: skip
-        self.assertEqual([line[:8].rstrip(":") for line in shown.stdout.splitlines()], ["raw:ipv6", "raw:ip"])
+        protocols = [line[:8].rstrip(":") for line in shown.stdout.splitlines()]
+        self.assertEqual(protocols, ["raw:ipv6", "raw:ip"])
 
 
 class Bad(ToolCase):
