@@ -3,6 +3,7 @@
 from __future__ import annotations
 
 import argparse
+import functools
 import re
 import sys
 from collections.abc import Iterable, Iterator, Sequence
@@ -10,8 +11,8 @@ from dataclasses import dataclass, field
 from ipaddress import IPv4Address, IPv6Address, IPv6Network, ip_address
 from typing import Any
 
-from .command import Fault, Parser, Status, run_tool
-from .files import STDIN, read_bytes, read_input
+from .command import Fault, Parser, Status, progress, run_tool
+from .files import INPUT_LIMIT, STDIN, read_bytes, read_input
 from .ip_json import LOCAL, UNICAST, LinuxRoute, NextHop, Unread
 from .ip_json import object_of, routes_in, table_of
 from .items import address_of
@@ -144,12 +145,12 @@ class Reading:
         """The interfaces with the next hops that routes and SIDs name on them."""
         for route in self.routes:
             for hop in route.hops:
-                if hop.gateway and _is_address(hop.gateway):
-                    yield hop.interface, ip_address(hop.gateway)
+                if (address := _address_of(hop.gateway)) is not None:
+                    yield hop.interface, address
             for key in ("nh6", "nh4"):
-                if _is_address(text := route.action.get(key)) and int(ip_address(text)):
-                    if found := self._interface_to(route, ip_address(text)):
-                        yield found, ip_address(text)
+                address = _address_of(route.action.get(key))
+                if address and int(address) and (found := self._interface_to(route, address)):
+                    yield found, address
 
     def read(self) -> None:
         """Goes through the routes, those of the lowest metric of a prefix first."""
@@ -175,7 +176,8 @@ class Reading:
     def _is_linux_own(self, route: LinuxRoute) -> bool:
         """Whether each router of Linux has it, or it only tells of an address of its own."""
         prefix = route.prefix
-        if prefix.is_multicast or prefix.is_link_local or prefix.is_loopback:
+        first = prefix.network_address
+        if first.is_multicast or first.is_link_local or first.is_loopback:
             return True
         if route.kind in (LOCAL, "anycast", "broadcast") or route.table == LOCAL_TABLE:
             if route.kind == LOCAL and prefix.prefixlen == 128 and prefix[0] != self.address:
@@ -262,9 +264,9 @@ class Reading:
     def _over_a_link(self, route: LinuxRoute, action: str) -> dict[str, Any]:
         key = "nh4" if action == "End.DX4" else "nh6"
         text = route.action.get(key)
-        if not _is_address(text):
+        neighbour = _address_of(text)
+        if neighbour is None:
             raise LeftOut(f"`{key}` is no address: {text!r}")
-        neighbour = ip_address(text)
         if int(neighbour) == 0:
             if action == "End.X":
                 raise LeftOut("it looks the packet up, which is End's work")
@@ -288,7 +290,7 @@ class Reading:
 
     def _policy(self, route: LinuxRoute) -> str:
         segments = object_of(route.action.get("srh")).get("segs")
-        if not isinstance(segments, list) or not all(map(_is_address, segments)) or not segments:
+        if not isinstance(segments, list) or not segments or None in map(_address_of, segments):
             raise LeftOut("it has no segments")
         for policy in self.made.policies:
             if policy["segments"] == segments:
@@ -329,11 +331,16 @@ class Reading:
         self.made.blocks[block] = min(own, self.made.blocks.get(block, own))
 
 
-def _is_address(value: Any) -> bool:
+def _address_of(value: Any) -> Address | None:
+    return _read_address(value) if isinstance(value, str) else None
+
+
+@functools.lru_cache(4096)
+def _read_address(text: str) -> Address | None:
     try:
-        return isinstance(value, str) and bool(ip_address(value))
+        return ip_address(text)
     except ValueError:
-        return False
+        return None
 
 
 def tables_of(reading: Reading) -> dict[str, list[dict[str, Any]]]:
@@ -406,7 +413,7 @@ def node_word(text: str) -> str:
 
 def listed(name: str, family: int, notes: list[str]) -> Iterator[LinuxRoute]:
     """The routes of a file of `ip`; those that can't be read are noted."""
-    content = read_input() if name == "-" else read_bytes(name)
+    content = read_input() if name == "-" else read_bytes(name, INPUT_LIMIT)
     called = STDIN if name == "-" else name
     for route in routes_in(content, called, family):
         if isinstance(route, Unread):
@@ -415,9 +422,8 @@ def listed(name: str, family: int, notes: list[str]) -> Iterator[LinuxRoute]:
             yield route
 
 
-def work(words: argparse.Namespace) -> int:
-    """Reads the routes and writes the description."""
-    notes: list[str] = []
+def described(words: argparse.Namespace, notes: list[str]) -> str:
+    """The description of the router that the words name."""
     routes = list(listed(words.routes, 6, notes))
     if words.ipv4:
         routes += listed(words.ipv4, 4, notes)
@@ -426,7 +432,15 @@ def work(words: argparse.Namespace) -> int:
     reading = Reading(words.node, address, words.source or address, links, routes)
     reading.made.notes = notes
     reading.read()
-    sys.stdout.write(lined_text(tables_of(reading)))
+    return lined_text(tables_of(reading))
+
+
+def work(words: argparse.Namespace) -> int:
+    """Reads the routes and writes the description."""
+    notes: list[str] = []
+    with progress(TOOL, "reads the routes"):
+        text = described(words, notes)
+    sys.stdout.write(text)
     sys.stdout.flush()
     for note in notes:
         print(f"{TOOL}: {note}", file=sys.stderr)

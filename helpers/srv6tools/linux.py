@@ -5,10 +5,11 @@ ip-route(8) and ip-sr(8) of iproute2 6.1 and in Documentation/networking/seg6-sy
 net/ipv6/seg6_iptunnel.c of Linux 6.1. A kernel between them is taken to do what 6.1 does.
 """
 
+import functools
 import os
 import re
 from dataclasses import dataclass
-from ipaddress import IPv4Address, IPv6Address, IPv6Network
+from ipaddress import IPv4Address, IPv6Network
 
 from .command import Fault, Status
 
@@ -78,14 +79,16 @@ def interface_name(link: str, number: int) -> str:
     return f"link{number}"
 
 
-def next_hop_6(number: int) -> IPv6Address:
+@functools.cache
+def next_hop_6(number: int) -> str:
     """The address that stands for the next hop over a link."""
-    return NEXT_HOPS_6[number]
+    return str(NEXT_HOPS_6[number])
 
 
-def next_hop_4(number: int) -> IPv4Address:
+@functools.cache
+def next_hop_4(number: int) -> str:
     """The IPv4 address that stands for the next hop over a link."""
-    return NEXT_HOPS_4 + number
+    return str(NEXT_HOPS_4 + number)
 
 
 def table_number(table: int) -> int:

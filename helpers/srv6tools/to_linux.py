@@ -8,7 +8,7 @@ import sys
 from collections.abc import Iterator, Sequence
 from dataclasses import dataclass, field
 
-from .command import Fault, Parser, Status, run_tool
+from .command import Fault, Parser, Status, progress, run_tool
 from .description import Link, Network, Node, Policy, Route, Sid, read_network
 from .linux import (
     KERNEL_HELP, OWN_TABLES, Kernel, interface_name, next_hop_4, next_hop_6, table_number,
@@ -82,7 +82,7 @@ class Writer:
         self.links = [link for link in self.net.links.values() if link.start == self.node.name]
         self.routes = [route for route in self.net.routes if route.node == self.node.name]
         self.sids = [sid for sid in self.net.sids if sid.node == self.node.name]
-        self.taken = {interface_name(link.name, link.number) for link in self.links}
+        self.sid_prefixes = {sid.prefix for sid in self.sids}
 
     def write(self, tun: bool) -> None:
         """All commands, in an order in which they can be run."""
@@ -167,7 +167,7 @@ class Writer:
         return ["table", str(table)] if table else []
 
     def _route(self, route: Route) -> None:
-        if route.table == 0 and any(sid.prefix == route.prefix for sid in self.sids):
+        if route.table == 0 and route.prefix in self.sid_prefixes:
             raise NotDone("a SID has this prefix, which comes before the route")
         words = ["via", "inet6"] if route.prefix.version == 4 else ["via"]
         hops: list[object] = []
@@ -194,9 +194,9 @@ class Writer:
             case "End.T" | "End.DT6":
                 return [sid.behaviour, "table", str(self._table_of(sid))]
             case "End.X" | "End.DX6":
-                return [sid.behaviour, "nh6", str(next_hop_6(self._only_link(sid)))]
+                return [sid.behaviour, "nh6", next_hop_6(self._only_link(sid))]
             case "End.DX4":
-                return [sid.behaviour, "nh4", str(next_hop_4(self._only_link(sid)))]
+                return [sid.behaviour, "nh4", next_hop_4(self._only_link(sid))]
             case "End.DT4" | "End.DT46":
                 if not sid.table:
                     raise NotDone("it needs a VRF device, which table 0 hasn't")
@@ -260,7 +260,9 @@ def script_for(
 def work(words: argparse.Namespace) -> int:
     """Writes the commands on `out`, and what can't be done on `err` too."""
     kernel = wanted_kernel(words.kernel)
-    script = script_for(read_network(words.net), words.node, kernel, words.tun, words.namespace)
+    with progress(TOOL, f"reads {words.net}"):
+        net = read_network(words.net)
+        script = script_for(net, words.node, kernel, words.tun, words.namespace)
     sys.stdout.writelines(f"{line}\n" for line in script.lines)
     sys.stdout.flush()
     for line in script.cannot:
