@@ -3,15 +3,18 @@
 from __future__ import annotations
 
 import argparse
+import io
 import sys
 from collections.abc import Iterator, Sequence
 from dataclasses import dataclass
 
-from .captures import Sent, frames_of, head_of, sent_in
+from .capture_formats import CutCapture, NoCapture, TakenFrame, frames_in
+from .captures import FRAME_LIMIT, Sent, sent_in
 from .command import Fault, Parser, Status, progress, run_tool
-from .description import Network, read_network
+from .description import read_network
 from .differences import packet_differences
 from .files import INPUT_LIMIT, STDIN, read_bytes, read_input
+from .link_layers import NotIp, packet_in
 from .program import run_program
 from .trace import HEAD as TRACE_HEAD
 from .trace import Stage, Walk, stage_of, trace_of
@@ -19,14 +22,18 @@ from .trace import Stage, Walk, stage_of, trace_of
 TOOL = "srv6-diff"
 MOST = 100
 LINK_LIMIT = 4096
+OUTPUT_LIMIT = 4 * INPUT_LIMIT
+"""The bytes of a file; what `srv6` writes is longer than its input."""
+
 
 DESCRIPTION = """\
 Says where two captures or two traces differ: which field of which header of which packet. With
 --replay NET it runs srv6 replay on one trace and says how the first wrong line differs from the
 right one; with one trace alone it reads the answer of srv6 replay on standard input.
 
-Captures that srv6 wrote are compared packet by packet, others frame by frame. A is the first
-file, B the second, or what srv6 expects."""
+Captures that srv6 wrote are compared packet by packet, of others the IP packets of their frames
+one by one, of each kind of capture that to-raw reads. A is the first file, B the second, or what
+srv6 expects."""
 
 MORE = """\
 Status 0 says that nothing differs, 4 that something does.
@@ -54,30 +61,57 @@ Key = tuple[int, ...]
 class Names:
     """Names of links, where a description tells them."""
 
-    net: Network | None = None
+    links: Sequence[str] = ()
+
+    @classmethod
+    def of(cls, net: str | None) -> "Names":
+        """The names that a description has; none without one."""
+        return cls(list(read_network(net).links) if net else [])
 
     def link(self, number: int) -> str:
         """The link of a number."""
         if number == 0:
             return "none, as an ICMPv6 error"
-        link = self.net.link_of(number) if self.net else None
-        return f"{number} ({link.name})" if link else str(number)
+        known = number <= len(self.links)
+        return f"{number} ({self.links[number - 1]})" if known else str(number)
 
 
-def items_of_capture(content: bytes, name: str, names: Names) -> tuple[dict[Key, Item], bool]:
-    """The frames of a capture by packet and place, or by number; and whether `srv6` wrote it."""
+def items_of_captures(
+    contents: Sequence[bytes], paths: Sequence[str], names: Names
+) -> list[dict[Key, Item]]:
+    """The frames of captures: where `srv6` wrote all of them by packet and place, else by number."""
+    written = [sent_by_srv6(content, path) for content, path in zip(contents, paths)]
+    if all(written):
+        return [dict(_numbered(sent, names)) for sent in written]
+    return [dict(_by_frame(content, path)) for content, path in zip(contents, paths)]
+
+
+def sent_by_srv6(content: bytes, name: str) -> list[Sent]:
+    """The frames of a capture that `srv6` may have written; none of another one."""
     try:
         sent = list(sent_in(content, name))
     except Fault:
-        sent = []
-    if sent and all(map(_is_written, sent)):
-        return dict(_numbered(sent, names)), True
-    head = head_of(content, name)
-    items = {}
-    for frame in frames_of(content, head, name):
-        facts = {"length on the wire": str(frame.length)}
-        items[frame.number, 0] = Item(f"frame {frame.number}", facts, frame.content)
-    return items, False
+        return []
+    return sent if all(map(_is_written, sent)) else []
+
+
+def _by_frame(content: bytes, name: str) -> Iterator[tuple[Key, Item]]:
+    """The packets of the frames of a capture of any kind, or one bare IPv6 packet."""
+    try:
+        for frame in frames_in(io.BytesIO(content)):
+            if frame.number > FRAME_LIMIT:
+                raise Fault(f"{name}: more than {FRAME_LIMIT} frames")
+            yield (frame.number, 0), _item_of_frame(frame)
+    except (NoCapture, CutCapture) as fault:
+        raise Fault(f"{name}: {fault}") from None
+
+
+def _item_of_frame(frame: TakenFrame) -> Item:
+    facts = {"captured": "in part"} if len(frame.captured) < frame.original else {}
+    try:
+        return Item(f"frame {frame.number}", facts, packet_in(frame))
+    except NotIp as why:
+        return Item(f"frame {frame.number}", facts | {"no packet": str(why)}, frame.captured)
 
 
 def _is_written(sent: Sent) -> bool:
@@ -177,7 +211,7 @@ def is_trace(content: bytes) -> bool:
 
 def differences_of(paths: Sequence[str], names: Names, most: int) -> list[str]:
     """What differs between two files of one kind."""
-    contents = [read_bytes(path, INPUT_LIMIT) for path in paths]
+    contents = [read_bytes(path, OUTPUT_LIMIT) for path in paths]
     kinds = [is_trace(content) for content in contents]
     if kinds[0] != kinds[1]:
         trace = paths[0] if kinds[0] else paths[1]
@@ -185,12 +219,7 @@ def differences_of(paths: Sequence[str], names: Names, most: int) -> list[str]:
     if kinds[0]:
         one, other = (items_of_trace(content, path) for content, path in zip(contents, paths))
         return list(compared(one, other, most))
-    (one, ours), (other, theirs) = (
-        items_of_capture(content, path, names) for content, path in zip(contents, paths)
-    )
-    if ours != theirs and one and other:
-        which = paths[1] if ours else paths[0]
-        raise Fault(f"{which} isn't a capture that srv6 wrote, and the other one is")
+    one, other = items_of_captures(contents, paths, names)
     return list(compared(one, other, most))
 
 
@@ -242,7 +271,7 @@ def replayed(net: str, path: str) -> list[str]:
 
 def work(words: argparse.Namespace) -> int:
     """Compares what the words name."""
-    names = Names(read_network(words.net) if words.net else None)
+    names = Names.of(words.net)
     with progress(TOOL, "compares"):
         if words.replay:
             if words.other:

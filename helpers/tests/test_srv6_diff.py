@@ -3,6 +3,7 @@
 import random
 import unittest
 
+from capture_files import ARP, classic, ethernet
 from srv6tools.captures import raw_capture
 from srv6tools.differences import packet_differences
 from srv6tools.packets import (
@@ -140,6 +141,18 @@ class Captures(ToolCase):
         self.assertEqual(ran.status, 4)
         self.assertIn("frame 3: in B alone", ran.out)
 
+    def test_bare_packets_and_link_layers(self):
+        bare = self.file("a.bin", ip6("::1")), self.file("b.bin", ip6("::1", hop_limit=63))
+        ran = run_here("srv6-diff", *bare)
+        lines = ["frame 1", "  IPv6 header: hop limit 64 in A, 63 in B"]
+        self.assertEqual((ran.status, ran.out.splitlines()), (4, lines))
+        tagged = self.file("a.pcap", classic(1, ethernet(0x86DD, ip6("::1")), ARP))
+        plain = self.file("b.pcap", classic(101, ip6("::1"), ip6("::2")))
+        ran = run_here("srv6-diff", tagged, plain)
+        self.assertEqual(ran.out.splitlines()[:2], [
+            "frame 2", "  no packet EtherType 0806 (ARP) in A, none in B",
+        ])  # fmt: skip
+
     def test_of_two_choices(self):
         given = (EXAMPLES / "to-d.bin").read_bytes()
         files = []
@@ -212,8 +225,8 @@ class Bad(ToolCase):
         for name, content in bad_captures():
             with self.subTest(name):
                 bad = self.file("bad.pcap", content)
-                if name in ("another version", "another link type"):
-                    continue  # no frame stands behind such a head, so nothing is to be compared
+                if name in ("another version", "another link type", "text"):
+                    continue  # no frame, or one bare packet
                 self.named_answer(run_here("srv6-diff", OUT, bad), [1])
                 self.named_answer(run_here("srv6-diff", bad, OUT), [1])
 
