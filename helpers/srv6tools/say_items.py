@@ -12,7 +12,7 @@ from typing import Any
 
 from .command import Fault
 from .description import BEHAVIOURS, TABLES
-from .files import parse_toml, read_bytes
+from .files import decoded, parse_toml, read_bytes
 from .items import address_of, prefix_of
 from .schema import KEY_OF, KEYS, MOST, faults_of, keys_in_words, kind_of
 from .toml_places import Place, Places
@@ -33,14 +33,11 @@ class TomlFile:
         self.path = str(path)
         content = read_bytes(path)
         self.text = content.removeprefix(b"\xef\xbb\xbf").decode("utf-8", "replace")
-        self.is_utf8 = "\ufffd" not in self.text or _is_utf8(content)
         self.places = Places(self.text)
         self.fault: str | None = None
         self.root: dict[str, Any] = {}
         try:
-            if not self.is_utf8:
-                raise Fault(f"{path}: line {_bad_line(content)}: not UTF-8")
-            self.root = parse_toml(self.text, self.path)
+            self.root = parse_toml(decoded(content, self.path), self.path)
         except Fault as fault:
             self.fault = str(fault)
 
@@ -85,22 +82,6 @@ def quoted(number: int, line: str, is_marked: bool = False) -> str:
     text = line if len(line) <= WIDTH else line[: WIDTH - 3] + "..."
     text = "".join(one if one.isprintable() or one == "\t" else "\ufffd" for one in text)
     return f"  {'>' if is_marked else ' '} {number:5} | {text}".rstrip()
-
-
-def _is_utf8(content: bytes) -> bool:
-    try:
-        content.decode()
-    except UnicodeDecodeError:
-        return False
-    return True
-
-
-def _bad_line(content: bytes) -> int:
-    try:
-        content.decode()
-    except UnicodeDecodeError as fault:
-        return content.count(b"\n", 0, fault.start) + 1
-    return 0
 
 
 def near(name: str, names: Iterable[str], called: str, most: int = 20) -> str:
