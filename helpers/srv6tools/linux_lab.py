@@ -26,7 +26,7 @@ TUNSETIFF = 0x400454CA
 IFF_TUN_NO_PI = 0x1001
 ENTRY = "arrive"
 PACKET_LIMIT = 70_000
-SECONDS = 5.0
+SECONDS = 20.0
 """How long a packet may take; a machine that is busy is slow, and none takes so long."""
 
 

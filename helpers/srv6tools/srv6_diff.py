@@ -79,7 +79,7 @@ class Names:
 def items_of_captures(
     contents: Sequence[bytes], paths: Sequence[str], names: Names
 ) -> list[dict[Key, Item]]:
-    """The frames of captures: where `srv6` wrote all of them by packet and place, else by number."""
+    """The frames of captures: by packet and place where `srv6` wrote them, else by number."""
     written = [sent_by_srv6(content, path) for content, path in zip(contents, paths)]
     if all(written):
         return [dict(_numbered(sent, names)) for sent in written]
