@@ -138,7 +138,7 @@ class Walks:
         how many.
         """
         hops = self._by_choice.get(visit, {})
-        if not hops or not hops[0].link:
+        if 0 not in hops or not hops[0].link:  # another choice may have led here first
             return range(1)
         sizes = {len(links) for links in self._sets.get(hops[0].link, ())}
         if len(sizes) == 1:
