@@ -8,7 +8,7 @@ import unittest
 import unittest.mock
 
 from srv6tools import walks
-from srv6tools.captures import frames_of, head_of
+from srv6tools.captures import frames_of, head_of, raw_capture
 from srv6tools.description import read_network
 from srv6tools.program import Answer
 from support import EXAMPLES, ToolCase, bad_captures, bad_tomls, needs_program, needs_tool
@@ -39,13 +39,15 @@ def row_of_pairs(count: int) -> str:
 
 
 class Stub:
-    """Stands in for `srv6 trace` and `srv6 show` where packets are only routed by `::/0`."""
+    """Stands in for `srv6 trace`, `show` and `walk` where packets are only routed by `::/0`."""
 
     def __init__(self, path):
         self.net, self.runs = read_network(path), 0
         self.routes = {route.node: route.via for route in self.net.routes}
 
     def run(self, words, given=b"") -> Answer:
+        if words[0] == "compile":
+            return Answer(0, b"srv6 certificate 1\nnone\nend\n", "")
         frames = [given] if given[:1] == b"\x60" else []
         if not frames:
             frames = [one.content for one in frames_of(given, head_of(given, "in"), "in")]
@@ -53,11 +55,21 @@ class Stub:
             lines = [self.shown(*one) for one in enumerate(frames, 1)]
             return Answer(0, "".join(lines).encode(), "")
         self.runs += 1
+        if words[0] == "walk":
+            return self.sent(frames, int(words[3]))
         _, _, node, choice = words
         lines = ["srv6 trace 1"]
         for number, content in enumerate(frames, 1):
             lines += self.walk(number, node, content, int(choice))
         return Answer(0, "\n".join([*lines, "end", ""]).encode(), "")
+
+    def sent(self, frames, choice: int) -> Answer:
+        """What `walk` writes: the first packet is sent from n0 on, the others are dropped there."""
+        numbers = {link.name: link.number for link in self.net.links.values()}
+        sends = [line.split(" ") for line in self.walk(1, "n0", frames[0], choice)][1:]
+        written = [(1, numbers[link], bytes.fromhex(digits)) for _, link, digits in sends]
+        dropped = (f"packet {n}: dropped InnerHop at n0\n" for n in range(2, len(frames) + 1))
+        return Answer(0, b"".join(raw_capture(written)), "".join(dropped) + "packet 1: left out\n")
 
     def shown(self, number: int, content: bytes) -> str:
         source, to = (ipaddress.IPv6Address(content[at : at + 16]) for at in (8, 24))
@@ -102,6 +114,26 @@ class AllPaths(ToolCase):
                 "  |     n2 as at #2",
                 f"  `- b0 to {TO}, hop limit 63",
                 "     n1 as at #1",
+            ],
+        )
+
+    def test_intent(self):
+        head = INTENT.read_text().replace('"A"', '"n0"')
+        intent = self.file("intent.toml", head)
+        given = b"".join(raw_capture([(0, 0, packet()), (0, 0, packet(1))]))
+        ran, _ = self.stubbed(2, str(intent), given=given)
+        self.assertEqual(
+            ran.out.splitlines(),
+            [
+                "packet 1 enters at the headend n0: 2 walks",
+                "  n0",
+                f"  |- a0 to {TO}, hop limit 63",
+                f"  |  n1 (#1) over out to {TO}, hop limit 62: left out",
+                f"  `- b0 to {TO}, hop limit 63",
+                "     n1 as at #1",
+                "",
+                "packet 2 enters at the headend n0: 1 walk",
+                "  n0: dropped InnerHop",
             ],
         )
 
