@@ -187,9 +187,10 @@ def _chunks(packets: Iterable[bytes]) -> Iterator[list[bytes]]:
 
 def _take(parts: list[Part], one: _Inner, shown: Shown) -> Iterator[_Inner]:
     """Adds the parts of a packet; gives the packet inside it, where there is one."""
-    end = 0
+    end = whole = 0
     for header in shown.headers:
         start = header.at
+        whole = max(whole, 40 + int(header.values.get("payload", 0)))
         if header.kind == "upper":
             end = start + (header.size or 0)
             yield from _take_upper(parts, one, int(header.values["type"]), one.content[start:end])
@@ -198,6 +199,9 @@ def _take(parts: list[Part], one: _Inner, shown: Shown) -> Iterator[_Inner]:
             yield from _take_upper(parts, one, _carried(one, header), one.content[start:end])
         else:
             end = _take_header(parts, one, header)
+    if shown.headers and shown.headers[-1].kind == "fragment":
+        parts.append(_bytes_part(one.where + "fragment", one.content[end:whole]))
+        end = whole
     if rest := one.content[end:]:
         label = "bytes behind the packet's end" if end else "bytes that are no packet"
         parts.append(_bytes_part(one.where + label, rest))
@@ -219,7 +223,7 @@ def _take_header(parts: list[Part], one: _Inner, header: Header) -> int:
     whole = content[header.at : header.at + size]
     part = Part(label, laid_out(header.kind, whole))
     rest = whole[_size_of(header.kind) :]
-    if header.kind == "srh" and not header.bad_last_entry:
+    if header.kind == "srh":
         part.fields += [Field(f"entry {at}", text) for at, text in enumerate(header.entries)]
         rest = rest[16 * len(header.entries) :]
         _add_bytes(part, "TLVs", rest)

@@ -173,9 +173,7 @@ def header_json(header: Header) -> Json:
     """A header with the values of its line, and of a segment routing header what stands in it."""
     found: Json = {"header": header.kind} | header.values
     if header.kind == "srh":
-        found |= {"entries": None, "tlvs": None}
-        if not header.bad_last_entry:
-            found |= {"entries": header.entries, "tlvs": header.tlvs}
+        found |= {"entries": header.entries, "tlvs": header.tlvs}
     return found
 
 

@@ -63,6 +63,11 @@ class Fields(unittest.TestCase):
                 ["fragment header: fragment offset 0 in A, 1 in B"],
             ),
             (
+                ip6("::1", FRAGMENT, fragment(UDP) + b"ab"),
+                ip6("::1", FRAGMENT, fragment(UDP) + b"ac"),
+                ["fragment: bytes: byte 1 is 62 in A, 63 in B"],
+            ),
+            (
                 ip6("::1"), ip6("::1") + b"abc",
                 ["bytes behind the packet's end: in B alone (bytes 3 bytes (61 62 63))"],
             ),

@@ -9,6 +9,7 @@ from srv6tools.program import run_program
 from support import EXAMPLES, HELPERS, ToolCase, needs_package, needs_program, run_here, run_tool
 
 DOCS = HELPERS.parent / "docs"
+ROWS = HELPERS.parent / "crates" / "worked_rows" / "data"
 TEXTS = {
     "report": """\
 # container fcbb:bb00:2::
@@ -63,6 +64,8 @@ entry 0 fcbb:bb00:4::
 entry 1 fcbb:bb00:2::
 tlvs 0
 srh next 59 left 1 last 9 flags 0 tag 0 at 104 bytes 40
+entry 0 fcbb:bb00:4::
+entry 1 fcbb:bb00:2::
 bad last entry
 fragment at 144
 packet 2
@@ -163,7 +166,8 @@ class Texts(ToolCase):
         self.assertFalse(self.as_json(TEXTS["trace that is cut"])["whole"])
         shown = self.as_json(TEXTS["show"])["packets"]
         self.assertEqual(shown[0]["headers"][4]["entries"], ["fcbb:bb00:4::", "fcbb:bb00:2::"])
-        self.assertEqual(shown[0]["headers"][5]["entries"], None)
+        bad = shown[0]["headers"][5]
+        self.assertEqual((bad["last"], len(bad["entries"]), bad["tlvs"]), (9, 2, None))
         self.assertEqual(shown[1], {"packet": 2, "not_read": "ShortFrame", "headers": []})
         self.assertEqual(self.as_json("", "--kind", "err"), {"kind": "err", "lines": []})
         verdict = self.as_json(TEXTS["verdict of a missing state"])
@@ -202,6 +206,32 @@ class Texts(ToolCase):
         for name, text in runs.items():
             self.assertEqual(self.as_json(text)["kind"], name)
         self.assertEqual(len(self.as_json(runs["show"])["packets"]), 17)
+
+
+class WorkedRows(ToolCase):
+    """What the program has to write in the rows that it is tested with."""
+
+    def test_each_text_is_read(self):
+        kinds = {"compile": "report", "check": "verdict", "replay": "verdict"}
+        count = 0
+        for args in sorted(ROWS.glob("*/*/args")):
+            words = args.read_text().split("\n")
+            command = words[0]
+            if command in ("run", "walk") or command == "gen" and words[2] != "sum":
+                texts = {"stderr": "err"}
+            else:
+                kind = "summary" if command == "gen" else kinds.get(command, command)
+                texts = {"stdout": kind, "stderr": "err"}
+            for file, kind in texts.items():
+                content = (args.parent / file).read_bytes()
+                if not content:
+                    continue
+                with self.subTest(f"{args.parent.parent.name}/{args.parent.name} {file}"):
+                    ran = run_here("to-json", given=content)
+                    self.assertEqual((ran.status, ran.err), (0, ""))
+                    self.assertEqual(json.loads(ran.out)["kind"], kind)
+                    count += 1
+        self.assertGreater(count, 400)
 
 
 class Bad(ToolCase):
