@@ -158,7 +158,8 @@ differs."""
     for kind, name, one, other, fields in zip(kinds, names, ours, linux, differing):
         words = [kind.value, name, f"srv6 {one}", f"Linux {other}"]
         shown = [field for field in fields if "checksum" not in field]
-        more = "; ".join(shown).replace(" in A", "").replace(" in B", " on Linux")
+        more = "; ".join(shown).replace(" in A alone", " by srv6 alone").replace(" in A", "")
+        more = more.replace(" in B alone", " by Linux alone").replace(" in B", " by Linux")
         yield " | ".join(words + ([more] if more else []))
 
 
