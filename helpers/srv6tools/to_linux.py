@@ -121,13 +121,13 @@ class Writer:
         script.note("errors without a limit of their rate, and with flow label 0")
         script.sysctl("net.ipv6.icmp.ratelimit", 0)
         script.sysctl("net.ipv6.auto_flowlabels", 0)
-        script.ip("link", "set", "lo", "up")
+        script.ip("link", "set", "dev", "lo", "up")
 
     def _interface(self, link: Link, tun: bool) -> None:
         name = interface_name(link.name, link.number)
         if tun:
             self.script.ip("tuntap", "add", "dev", name, "mode", "tun")
-        self.script.ip("link", "set", name, "up")
+        self.script.ip("link", "set", "dev", name, "up")
         self.script.ip("-6", "route", "add", f"{next_hop_6(link.number)}/128", "dev", name)
         if any(sid.behaviour == "End.DX4" and link.name in (sid.links or ()) for sid in self.sids):
             self.script.ip("-4", "route", "add", f"{next_hop_4(link.number)}/32", "dev", name)
@@ -137,7 +137,7 @@ class Writer:
         tables = {sid.table for sid in self.sids if sid.behaviour in ("End.DT4", "End.DT46")}
         for table in sorted(table for table in tables if table and table not in OWN_TABLES):
             self.script.ip("link", "add", f"vrf{table}", "type", "vrf", "table", table)
-            self.script.ip("link", "set", f"vrf{table}", "up")
+            self.script.ip("link", "set", "dev", f"vrf{table}", "up")
             self.script.sysctl("net.vrf.strict_mode", 1)
 
     def _sources(self) -> None:

@@ -23,6 +23,43 @@ MISSING = missing_for_a_lab()
 needs_namespace = unittest.skipIf(MISSING, MISSING or "")
 SIX, FOUR = DATA / "linux-routes-6.json", DATA / "linux-routes-4.json"
 
+LONG = "a-link-with-a-long-name"
+# Names that `ip` takes for words, equal next hops, tables 0 and 65535, CSIDs of 32 bits.
+ODD_NODE = f"""
+node = [{{ name = "A", address = "2001:db8::1" }}]
+link = [{{ name = "{LONG}", from = "A" }}, {{ name = "b", from = "A" }}]
+block = [{{ prefix = "fcbb:bb00::/48", kind = "next", csid = 32 }}]
+route = [
+    {{ node = "A", prefix = "::/0", via = ["b"] }},
+    {{ node = "A", prefix = "0.0.0.0/0", via = ["b"] }},
+    {{ node = "A", prefix = "192.0.2.0/24", via = ["b", "{LONG}"] }},
+    {{ node = "A", table = 65535, prefix = "fc00:0:2::/48", via = ["b", "{LONG}"] }},
+    {{ node = "A", prefix = "2001:db8::1/128", via = ["b"] }},
+]
+[[sid]]
+node = "A"
+prefix = "fcbb:bb00:0:1:2::/80"
+behaviour = "End"
+csid = "next"
+flavours = ["psp"]
+[[sid]]
+node = "A"
+prefix = "fcbb:bb00:0:1:3::/80"
+behaviour = "End.X"
+csid = "next"
+links = ["b"]
+[[sid]]
+node = "A"
+prefix = "fc00:0:9::/48"
+behaviour = "End.DT6"
+table = 65535
+[[sid]]
+node = "A"
+prefix = "fc00:0:8::/48"
+behaviour = "End.T"
+table = 0
+"""
+
 
 def seg6local(**words) -> list[dict]:
     """A list of one SID as `ip -j` writes it."""
@@ -97,22 +134,28 @@ class ToLinux(ToolCase):
         script = script_for(net, "A", Kernel(6, 18), namespace="a b")
         self.assertEqual(len(script.cannot), 6)
         lines = "\n".join(script.lines)
-        self.assertIn("ip -n 'a b' link set link1 up", lines)
+        self.assertIn("ip -n 'a b' link set dev link1 up", lines)
         self.assertIn("nexthop via fdff:ffff:ffff:ffff::2 dev b onlink nexthop via", lines)
         script = script_for(net, "B", Kernel(6, 18))
         self.assertIn("the node has no link", script.cannot[0])
 
     @needs_namespace
     def test_linux_takes_it_and_gives_it_back(self):
-        script = run_here("to-linux", "--tun", "--kernel", "6.18", LINUX_NODE, "N").out
+        for path, node in ((LINUX_NODE, "N"), (self.file("odd.toml", ODD_NODE), "A")):
+            with self.subTest(node):
+                self.goes_round(path, node)
+
+    def goes_round(self, path: Path, node: str) -> None:
+        """A node as a namespace, and what `ip` says of that as a node again."""
+        script = run_here("to-linux", "--tun", "--kernel", "6.18", path, node).out
         script += "ip -6 -j route show table all > six; ip -4 -j route show table all > four\n"
         words = in_namespace(["sh", "-e", "-c", script])
         done = subprocess.run(words, capture_output=True, cwd=self.folder, text=True)
         self.assertEqual((done.returncode, done.stderr), (0, ""))
-        words = ["--node", "N", "--ipv4", self.folder / "four", self.folder / "six"]
-        ran = run_here("from-linux", *words)
+        files = ["--ipv4", self.folder / "four", self.folder / "six"]
+        ran = run_here("from-linux", "--node", node, "--link", f"link1={LONG}", *files)
         self.assertEqual(ran.status, 0)
-        back, net = network_of(tomllib.loads(ran.out), "back"), read_network(LINUX_NODE)
+        back, net = network_of(tomllib.loads(ran.out), "back"), read_network(path)
         self.assertEqual(back.nodes, net.nodes)
         self.assertEqual(set(back.routes), set(net.routes))
         self.assertEqual(set(back.links), set(net.links))
