@@ -199,7 +199,10 @@ def _known(item: Item, key: str, name: str, names: dict[str, Any]) -> str:
 
 
 def _links(item: Item, key: str, net: Network) -> tuple[str, ...]:
-    return tuple(_known(item, key, name, net.links) for name in item.texts(key))
+    names = item.texts(key)
+    if not names:
+        raise item.fault(f"`{key}` has no links")
+    return tuple(_known(item, key, name, net.links) for name in names)
 
 
 def _block(item: Item) -> Block:
@@ -236,6 +239,8 @@ def _policy(item: Item) -> Policy:
 
 def _sid(item: Item, net: Network) -> Sid:
     policy = item.text("policy", None)
+    if item.prefix6("prefix").prefixlen == 0:
+        raise item.fault("a SID's prefix has 1 to 128 bits")
     return Sid(
         item.number,
         _known(item, "node", item.text("node"), net.nodes),

@@ -69,4 +69,7 @@ def _step(item: Item) -> Step:
         raise item.fault("a step has exactly one of `links` and `function`")
     if item.has("function"):
         return Step(item.number, function=item.text("function"))
-    return Step(item.number, tuple(item.texts("links")))
+    links = tuple(item.texts("links"))
+    if not links:
+        raise item.fault("`links` has no links")
+    return Step(item.number, links)
