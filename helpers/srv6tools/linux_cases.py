@@ -24,6 +24,7 @@ GOING_ON = {
     "End.B6.Encaps": "fc00:0:c::",
     "End NEXT-CSID": "fcbb:bb00:c::",
     "End.X NEXT-CSID": "fcbb:bb00:d::",
+    "End PSP NEXT-CSID": "fcbb:bb00:e::",
 }
 SHIFTING = {
     "End NEXT-CSID": "fcbb:bb00:c",

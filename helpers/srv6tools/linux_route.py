@@ -80,8 +80,8 @@ def compressed(kernel: Kernel) -> str:
     """Which compressed SIDs nodes may have that run this kernel too."""
     if kernel.next_at_end_x:
         return (
-            f"of compressed SIDs Linux {kernel.known_as} runs End and End.X with NEXT-CSID, End"
-            " also with PSP, and none of REPLACE-CSID (seen on it)"
+            f"of compressed SIDs Linux {kernel.known_as} runs End and End.X with NEXT-CSID, without"
+            " PSP, and none of REPLACE-CSID (seen on it)"
         )
     return (
         f"of compressed SIDs Linux {kernel.known_as} runs End with NEXT-CSID alone: no End.X with"

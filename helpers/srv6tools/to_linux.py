@@ -237,6 +237,11 @@ class Writer:
             return ["flavors", ",".join(words)] if words else []
         if sid.behaviour != "End" and not (sid.behaviour == "End.X" and self.kernel.next_at_end_x):
             raise NotDone(f"Linux {self.kernel.known_as} runs no NEXT-CSID at {sid.behaviour}")
+        if "psp" in sid.flavours:
+            self.script.refuse(
+                f"PSP of SID {sid.prefix}",
+                "beside NEXT-CSID Linux takes the word and takes no header out",
+            )
         block = self.net.block_of(sid.prefix)
         if block is None:
             raise NotDone("it lies in no block")

@@ -102,7 +102,8 @@ class ToLinux(ToolCase):
     def test_by_kernel(self):
         net = read_network(LINUX_NODE)
         late, early = (script_for(net, "N", Kernel(6, minor)) for minor in (18, 1))
-        self.assertFalse([line for line in late.cannot if "SID" in line.split(":")[0]])
+        self.assertFalse([line for line in late.cannot if line.startswith("SID")])
+        self.assertTrue(late.cannot[-1].startswith("PSP of SID fcbb:bb00:e::/48: beside NEXT-CSID"))
         self.assertEqual(
             [line.rpartition(": ")[2] for line in early.cannot if line.startswith("SID")],
             ["Linux 6.1 has no PSP at End", "Linux 6.1 runs no NEXT-CSID at End.X",
