@@ -168,7 +168,10 @@ def shown_of(packets: Sequence[bytes]) -> Iterator[Shown]:
         answer = run_program(["show"], capture)
         if answer.status != Status.DONE:
             raise Fault(f"srv6 show ends with status {answer.status}: {answer.err.strip()}")
-        yield from shown_in(answer.out.decode("latin-1").splitlines(), "srv6 show")
+        shown = list(shown_in(answer.out.decode("latin-1").splitlines(), "srv6 show"))
+        if len(shown) != len(chunk):
+            raise Fault(f"srv6 show tells of {len(shown)} packets, and {len(chunk)} were given")
+        yield from shown
 
 
 def _chunks(packets: Iterable[bytes]) -> Iterator[list[bytes]]:
