@@ -47,7 +47,9 @@ class Install(ToolCase):
             text = gzip.decompress(place.read_bytes()).decode()
             self.assertNotIn("the top of the repository", text)
             self.paths_are_there(text, prefix / "share" / "doc" / "srv6")
-        self.assertTrue((prefix / "share/bash-completion/completions/srv6").is_file())
+        for name in names:
+            self.assertTrue((prefix / "share/bash-completion/completions" / name).is_file())
+            self.assertTrue((prefix / "share/man/man1" / f"{name}.1.gz").is_file())
 
     def paths_are_there(self, page: str, top: Path) -> None:
         """Each file of docs/ and examples/ that a page names stands below a folder."""
