@@ -5,8 +5,9 @@ from __future__ import annotations
 import argparse
 import shlex
 import sys
-from collections.abc import Iterator, Sequence
+from collections.abc import Callable, Sequence
 from dataclasses import dataclass, field
+from typing import Any
 
 from .command import Fault, Parser, Status, progress, run_tool
 from .description import Link, Network, Node, Policy, Route, Sid, read_network
@@ -33,8 +34,6 @@ Linux' main table.
 
 What it says of Linux 6.18 was seen there, but for VRF devices, and of 6.1 it stands in
 ip-route(8)."""
-
-DECAPSULATES_BY_TABLE = ("End.DT6", "End.DT4", "End.DT46")
 
 
 @dataclass
@@ -103,7 +102,7 @@ class Writer:
         for sid in self.sids:
             self._try(f"SID {sid.prefix} ({sid.what})", self._sid, sid)
 
-    def _try(self, what: str, write, entry) -> None:
+    def _try(self, what: str, write: Callable[[Any], None], entry: Any) -> None:
         try:
             write(entry)
         except NotDone as why:
