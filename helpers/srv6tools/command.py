@@ -11,6 +11,9 @@ from collections.abc import Callable, Iterator, Sequence
 from pathlib import Path
 
 
+PROGRESS_AFTER = 2.0  # seconds
+
+
 class Status(enum.IntEnum):
     """The exit statuses, which are those of `srv6`."""
 
@@ -124,13 +127,13 @@ def _ended(tool: str, line: str, status: Status) -> Status:
 
 
 @contextlib.contextmanager
-def progress(tool: str, what: str, after: float = 2.0) -> Iterator[None]:
-    """Says what is being done on `err`, where it takes longer than `after` seconds."""
+def progress(tool: str, what: str) -> Iterator[None]:
+    """Says what is being done on `err`, where it takes longer than two seconds."""
 
     def say() -> None:
         print(f"{tool}: {what} ..", file=sys.stderr, flush=True)
 
-    timer = threading.Timer(after, say)
+    timer = threading.Timer(PROGRESS_AFTER, say)
     timer.daemon = True
     timer.start()
     try:

@@ -55,6 +55,8 @@ def run_here(tool: str, *words: str | Path, given: bytes = b"", **settings: str)
     }
     with contextlib.ExitStack() as held:
         held.enter_context(unittest.mock.patch.dict(os.environ, settings))
+        # A slow machine makes no other output.
+        held.enter_context(unittest.mock.patch("srv6tools.command.PROGRESS_AFTER", 3600))
         for name, stream in streams.items():
             held.enter_context(unittest.mock.patch.object(sys, name, stream))
         status = module.main([str(word) for word in words])
