@@ -1,15 +1,22 @@
-# Completion of the program srv6 for bash: `source docs/srv6.bash`, or copy it to
+# Completion of the program srv6 and of its tools for bash: `source docs/srv6.bash`, or copy it to
 # ~/.local/share/bash-completion/completions/srv6.
 
-# Prints the names of the nodes that a description has, from its [[node]] tables.
+# Prints the names of the nodes that a description has, from its [[node]] tables or its list `node = [{ .. }]`.
 _srv6_nodes() {
     awk '
-        /^[ \t]*\[/ { in_node = /^[ \t]*\[\[[ \t]*node[ \t]*\]\]/ }
-        in_node && match($0, /^[ \t]*name[ \t]*=[ \t]*["\047][A-Za-z0-9_.-]+["\047]/) {
-            name = substr($0, RSTART, RLENGTH)
-            gsub(/^[^"\047]*.|.$/, "", name)
-            print name
+        function print_names(line,   name) {
+            while (match(line, /(^|[ \t{,])name[ \t]*=[ \t]*["\047][A-Za-z0-9_.-]+["\047]/)) {
+                name = substr(line, RSTART, RLENGTH)
+                line = substr(line, RSTART + RLENGTH)
+                gsub(/^[^"\047]*.|.$/, "", name)
+                print name
+            }
         }
+        /^[ \t]*\[/ { in_node = /^[ \t]*\[\[[ \t]*node[ \t]*\]\]/ }
+        in_node && /^[ \t]*name[ \t]*=/ { print_names($0) }
+        /^node[ \t]*=[ \t]*\[/ { in_list = 1 }
+        in_list { print_names($0) }
+        in_list && /\][ \t]*(#.*)?\r?$/ { in_list = 0 }
     ' "$1"
 }
 
@@ -43,8 +50,19 @@ _srv6_files() {
     compopt -o filenames 2>/dev/null
 }
 
+# Sets COMPREPLY to the names of the nodes of a description that a word begins.
+_srv6_node() {
+    local net current=$2
+    # the file's name as the shell would read it, but for variables and commands
+    net=${1//[\\\"\']/}
+    [[ ${net:0:2} == \~/ ]] && net=$HOME/${net:2}
+    if [[ -f $net && -r $net ]]; then
+        mapfile -t COMPREPLY < <(compgen -W "$(_srv6_nodes "$net")" -- "$current")
+    fi
+}
+
 _srv6() {
-    local current=${COMP_WORDS[COMP_CWORD]} words to_file net
+    local current=${COMP_WORDS[COMP_CWORD]} words to_file
     COMPREPLY=()
     _srv6_words
     if [[ $to_file ]]; then
@@ -69,14 +87,96 @@ _srv6() {
         mapfile -t COMPREPLY < <(compgen -W 'net intent sum' -- "$current")
         ;;
     run:3 | trace:3)
-        # the file's name as the shell would read it, but for variables and commands
-        net=${words[2]//[\\\"\']/}
-        [[ ${net:0:2} == \~/ ]] && net=$HOME/${net:2}
-        if [[ -f $net && -r $net ]]; then
-            mapfile -t COMPREPLY < <(compgen -W "$(_srv6_nodes "$net")" -- "$current")
-        fi
+        _srv6_node "${words[2]}" "$current"
         ;;
     esac
 }
 
-complete -F _srv6 srv6
+# The options of each tool. Behind `=` stands what an option takes: words, `toml` or `file` for the name of a file,
+# or `any` where nothing is completed.
+declare -gA _srv6_options=(
+    [all-paths]='--table --json --dot --most=any'
+    [check-certificate]=''
+    [draw-walk]='--used'
+    [from-linux]='--ipv4=file --node=any --address=any --source=any --link=any'
+    [linux-route]='--kernel=any'
+    [name-links]=''
+    [routes]='--compact --unjudged'
+    [srv6-diff]='--replay=toml --net=toml --most=any'
+    [to-json]='--kind=report,certificate,err,trace,show,verdict,summary'
+    [to-linux]='--kernel=any --tun --namespace=any'
+    [to-raw]='--keep-numbers --interface=any --direction=in,out --from=any'
+    [why-no-list]=''
+)
+# What stands behind each tool, word by word: `toml`, `file`, `node` (of the description before it), `start` (a node or
+# an intent), or `any`.
+declare -gA _srv6_arguments=(
+    [all-paths]='toml start'
+    [check-certificate]='toml toml file'
+    [draw-walk]='toml file'
+    [from-linux]='file'
+    [linux-route]='toml any any'
+    [name-links]='toml'
+    [routes]='toml toml'
+    [srv6-diff]='file file'
+    [to-json]='file'
+    [to-linux]='toml node'
+    [to-raw]='file'
+    [why-no-list]='toml toml'
+)
+
+# Completes a word of one of these kinds.
+_srv6_kind() {
+    local kind=$1 net=$2 current=$3 nodes
+    case $kind in
+    toml) _srv6_files '*.toml' "$current" ;;
+    file) _srv6_files '*' "$current" ;;
+    node) _srv6_node "$net" "$current" ;;
+    start)
+        _srv6_node "$net" "$current"
+        nodes=("${COMPREPLY[@]}")
+        _srv6_files '*.toml' "$current"
+        COMPREPLY+=("${nodes[@]}")
+        ;;
+    any | '') ;;
+    *) mapfile -t COMPREPLY < <(compgen -W "${kind//,/ }" -- "$current") ;;
+    esac
+}
+
+_srv6_tool() {
+    local current=${COMP_WORDS[COMP_CWORD]} words to_file tool options arguments option plain=() taken= word
+    COMPREPLY=()
+    _srv6_words
+    if [[ $to_file ]]; then
+        _srv6_files '*' "$current"
+        return
+    fi
+    tool=${words[0]##*/}
+    [[ ${_srv6_arguments[$tool]+there} ]] || tool=${tool#srv6-}
+    read -ra options <<<"${_srv6_options[$tool]} --help"
+    read -ra arguments <<<"${_srv6_arguments[$tool]}"
+    for word in "${words[@]:1}"; do
+        if [[ $taken ]]; then
+            taken=
+        elif [[ $word == -* ]]; then
+            for option in "${options[@]}"; do
+                [[ $option == "$word="* ]] && taken=${option#*=}
+            done
+        else
+            plain+=("$word")
+        fi
+    done
+    if [[ $taken ]]; then
+        _srv6_kind "$taken" '' "$current"
+    elif [[ $current == -* ]]; then
+        mapfile -t COMPREPLY < <(compgen -W "${options[*]%%=*}" -- "$current")
+    else
+        _srv6_kind "${arguments[${#plain[@]}]:-any}" "${plain[0]:-}" "$current"
+    fi
+}
+
+complete -F _srv6 srv6 srv6-say
+for _srv6_name in "${!_srv6_arguments[@]}"; do
+    complete -F _srv6_tool "$_srv6_name" "srv6-${_srv6_name#srv6-}"
+done
+unset _srv6_name

@@ -1,0 +1,136 @@
+"""draw-walk: the walks of packets through a network, as Graphviz text."""
+
+import argparse
+import functools
+from collections.abc import Iterable, Sequence
+from dataclasses import dataclass, field
+from ipaddress import IPv6Address
+
+from .captures import Sent, sent_from
+from .command import Fault, Parser, positive, progress, run_tool
+from .description import Link, Network, read_network
+from .drawing import COLOURS, Drawing, end_of, quoted
+from .files import opened
+
+ERRORS = {1: "Destination Unreachable", 3: "Time Exceeded", 4: "Parameter Problem"}
+DESCRIPTION = """\
+Draws the walks of packets through a network, as Graphviz text on standard output:
+
+  srv6 run NET NODE < INPUT > CAPTURE
+  draw-walk NET CAPTURE [PACKET].. | dot -Tpng > walks.png
+
+The network's links are grey; one that leaves the network ends at a point. Each packet has a
+colour, and an edge for each link that it crosses, with the numbers of its sends over it, counted
+from 1. An ICMPv6 error is a note at the node that sends it. A capture doesn't tell what becomes
+of a packet at the node where its last send ends, nor of a packet of which nothing is sent; the
+lines of `srv6 run` do."""
+
+
+@dataclass(slots=True)
+class Walk:
+    """What a capture has of a packet: the links that it crosses, in order, and its ICMPv6 error."""
+
+    packet: int
+    links: list[Link] = field(default_factory=list)
+    error: bytes | None = None
+
+    def over(self) -> dict[str, list[str]]:
+        """For each link that is crossed the numbers of the sends over it, from 1."""
+        sends: dict[str, list[str]] = {}
+        for number, link in enumerate(self.links, 1):
+            sends.setdefault(link.name, []).append(str(number))
+        return sends
+
+
+def walks_of(net: Network, frames: Iterable[Sent], name: str) -> dict[int, Walk]:
+    """The walks of a capture that `srv6` wrote over a network, by the packets' numbers."""
+    links: list[Link] = list(net.links.values())
+    walks: dict[int, Walk] = {}
+    for sent in frames:
+        walk = walks.setdefault(sent.packet, Walk(sent.packet))
+        if sent.link == 0:
+            walk.error = sent.content
+        elif sent.link > len(links):
+            which = f"link {sent.link}, which the network doesn't have"
+            raise Fault(f"{name}: packet {sent.packet} crosses {which}")
+        else:
+            walk.links.append(links[sent.link - 1])
+            walk.error = None
+    return walks
+
+
+def _start_of(net: Network, walk: Walk) -> str:
+    """The node where a walk begins; a fault where the walk isn't one of the network."""
+    place = None
+    for link in walk.links:
+        if place not in (None, link.start):
+            raise Fault(f"packet {walk.packet} crosses {link.name} from where it isn't")
+        place = link.end or ""
+    if walk.error is None:
+        return walk.links[0].start
+    sender = _sender_of(net, walk.packet, walk.error)
+    if place not in (None, sender):
+        raise Fault(f"the error about packet {walk.packet} comes from where it isn't")
+    return walk.links[0].start if walk.links else sender
+
+
+def _sender_of(net: Network, packet: int, error: bytes) -> str:
+    """The name of the node that sends an error: its source is the node's address."""
+    if len(error) < 42:
+        raise Fault(f"the error about packet {packet} is cut")
+    source = IPv6Address(error[8:24])
+    for node in net.nodes.values():
+        if node.address == source:
+            return node.name
+    raise Fault(f"the error about packet {packet} comes from {source}, which no node has")
+
+
+def _draw(drawing: Drawing, walk: Walk, colour: str) -> None:
+    """The walk of a packet: where it comes from, the links that it crosses, and its error."""
+    net, packet = drawing.net, walk.packet
+    drawing.entry(f"packet {packet}", quoted(_start_of(net, walk)), colour)
+    for name, sends in walk.over().items():
+        link = net.links[name]
+        label = f"packet {packet}: send {', '.join(sends)} over {name}"
+        drawing.edge(quoted(link.start), end_of(link), label, colour, ", penwidth=2")
+    if walk.error:
+        note = quoted(f"error about {packet}")
+        kind = ERRORS.get(walk.error[40], f"type {walk.error[40]}")
+        label = f'label="{kind}\\ncode {walk.error[41]}"'
+        drawing.lines.append(f'  {note} [shape=note, color="{colour}", {label}];')
+        sender = quoted(_sender_of(net, packet, walk.error))
+        drawing.edge(sender, note, f"packet {packet}: error", colour, ", style=dashed")
+
+
+def main(words: Sequence[str]) -> int:
+    """Runs the tool."""
+    parser = Parser("draw-walk", DESCRIPTION)
+    parser.add_argument("net", metavar="NET", help="a description")
+    parser.add_argument("capture", metavar="CAPTURE", help="what `srv6 run` or `walk` wrote")
+    parser.add_argument(
+        "packets", metavar="PACKET", nargs="*", type=positive, help="without numbers all are drawn"
+    )
+    parser.add_argument(
+        "--used", action="store_true", help="leave out nodes and links that no packet meets"
+    )
+    return run_tool(parser, functools.partial(_work, parser.prog), words)
+
+
+def _work(tool: str, words: argparse.Namespace) -> None:
+    with progress(tool, "drawing"):
+        net = read_network(words.net)
+        with opened(words.capture) as file:
+            walks = walks_of(net, sent_from(file, words.capture), words.capture)
+        for packet in words.packets:
+            if packet not in walks:
+                raise Fault(f"{words.capture} has nothing of packet {packet}")
+        shown = [walks[packet] for packet in words.packets or walks]
+        drawing = Drawing(net)
+        if words.used:
+            nodes = [_start_of(net, walk) for walk in shown]
+            drawing.begin([link for walk in shown for link in walk.links], nodes)
+        else:
+            drawing.begin()
+        for place, walk in enumerate(shown):
+            _draw(drawing, walk, COLOURS[place % len(COLOURS)])
+    print(drawing.text())

@@ -1,0 +1,75 @@
+"""A path intent, as `docs/FORMATS.md` has it."""
+
+from dataclasses import dataclass
+from ipaddress import IPv6Address
+from pathlib import Path
+from typing import Any
+
+from .files import read_toml
+from .items import Item, items_of
+
+
+@dataclass(frozen=True, slots=True)
+class Step:
+    """A step: links, or the title of a function."""
+
+    number: int  # from 1
+    links: tuple[str, ...] = ()
+    function: str | None = None
+
+    def __str__(self) -> str:
+        return f"function {self.function}" if self.function else f"links {', '.join(self.links)}"
+
+
+@dataclass(frozen=True, slots=True)
+class Intent:
+    """An intent: where packets enter, the header that is put in front, and the steps."""
+
+    path: str
+    headend: str
+    source: IPv6Address
+    inner: str  # ipv6 or ipv4
+    mode: str  # full or reduced
+    hop_limit: int
+    max_containers: int
+    traffic_class: int
+    flow_label: int
+    steps: tuple[Step, ...]
+
+    @property
+    def family(self) -> int:
+        """The family of the inner packets, 6 or 4."""
+        return 6 if self.inner == "ipv6" else 4
+
+
+def read_intent(path: str | Path) -> Intent:
+    """The intent of a file."""
+    return intent_of(read_toml(path), str(path))
+
+
+def intent_of(root: dict[str, Any], path: str) -> Intent:
+    """The intent of a TOML root."""
+    item = Item(path, "intent", 0, root)
+    return Intent(
+        path,
+        item.text("headend"),
+        item.address("source"),
+        item.word("inner", ("ipv6", "ipv4")),
+        item.word("mode", ("full", "reduced")),
+        item.integer("hop_limit", 64, 1, 255),
+        item.integer("max_containers", 10, 1, 127),
+        item.integer("traffic_class", 0, 0, 255),
+        item.integer("flow_label", 0, 0, 1_048_575),
+        tuple(_step(step) for step in items_of(root, "step", path)),
+    )
+
+
+def _step(item: Item) -> Step:
+    if item.has("links") == item.has("function"):
+        raise item.fault("a step has exactly one of `links` and `function`")
+    if item.has("function"):
+        return Step(item.number, function=item.text("function"))
+    links = tuple(item.texts("links"))
+    if not links:
+        raise item.fault("`links` has no links")
+    return Step(item.number, links)

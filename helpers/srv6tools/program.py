@@ -1,0 +1,66 @@
+"""The program `srv6`: where it is, and what it answers."""
+
+import os
+import shutil
+import subprocess
+from collections.abc import Sequence
+from dataclasses import dataclass
+from pathlib import Path
+
+from .command import Fault, Status
+
+REPOSITORY = Path(__file__).resolve().parents[2]
+EMPTY_TRACE = b"srv6 trace 1\nend\n"
+
+
+@dataclass(frozen=True)
+class Answer:
+    """What a run of the program came to."""
+
+    status: int
+    out: bytes
+    err: str
+
+
+def find_program() -> str | None:
+    """The path of the program: $SRV6, else the one that the repository built, else the one on
+    PATH.
+    """
+    if named := os.environ.get("SRV6"):
+        return named
+    built = REPOSITORY / "crates" / "srv6" / "out" / "srv6"
+    if built.is_file() and os.access(built, os.X_OK):
+        return str(built)
+    return shutil.which("srv6")
+
+
+def the_program() -> str:
+    """The path of the program; a fault where there is none."""
+    if path := find_program():
+        return path
+    raise Fault(
+        "no program srv6: build it by examples/run, or set SRV6 to its path", Status.NO_MEMORY
+    )
+
+
+def run_program(words: Sequence[str | Path], given: bytes = b"") -> Answer:
+    """Runs the program on words and an input."""
+    path = the_program()
+    try:
+        done = subprocess.run([path, *map(str, words)], input=given, capture_output=True)
+    except (OSError, ValueError) as fault:
+        reason = getattr(fault, "strerror", None) or fault
+        raise Fault(f"the program {path} can't be run: {reason}", Status.OUTSIDE_FAULT) from None
+    return Answer(done.returncode, done.stdout, done.stderr.decode("utf-8", "surrogateescape"))
+
+
+def judge_description(net: str | Path, called: str = "") -> None:
+    """A fault where the program refuses a description, which the fault may call otherwise than by
+    its path.
+    """
+    called = called or str(net)
+    answer = run_program(["replay", net, "/dev/stdin"], EMPTY_TRACE)
+    if answer.status == Status.REFUSED:
+        raise Fault(f"{called}: srv6 says: {answer.err.strip()}")
+    if answer.status != Status.DONE:
+        raise Fault(f"{called}: srv6 ends with status {answer.status}", Status(answer.status))
