@@ -1,9 +1,9 @@
 -- The words of the tables and keys of descriptions and intents, as they stand in the files (own rules).
 use Rattle.std.specs.Prelude.{ℕ, List, codes}
-use Rattle.net_model.specs.declared.fault.TableKind.{TableKind}
-use Rattle.net_model.specs.declared.fault.TableKind.TheVariants as tables
-use Rattle.net_model.specs.declared.fault.Key.{Key}
-use Rattle.net_model.specs.declared.fault.Key.TheVariants as keys
+use Rattle.text_faults.specs.declared.place.TableKind.{TableKind}
+use Rattle.text_faults.specs.declared.place.TableKind.TheVariants as tables
+use Rattle.text_faults.specs.declared.place.Key.{Key}
+use Rattle.text_faults.specs.declared.place.Key.TheVariants as keys
 
 -- a table's name; of the whole, as it stands in a refusal
 unfoldable pub table_text : TableKind → List ℕ

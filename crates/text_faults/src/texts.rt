@@ -1,9 +1,12 @@
-//! How tables and keys are written.
+//! How faults are written.
 
 ghost use Rattle.std.specs.Prelude.{◌≡◌, Some};
-ghost use Rattle.net_model.specs.Keys.{table_text, key_text};
+ghost use Rattle.text_faults.specs.Keys.{table_text, key_text};
+ghost use Rattle.text_faults.specs.Faults.{place_text, fault_text};
 
-use crate::fault::{Key, TableKind};
+use crate::fault::TextFault;
+use crate::kind::FaultKind;
+use crate::place::{FaultPlace, Key, TableKind};
 use std::fmt;
 use std::fmt::{Display, Formatter};
 
@@ -85,5 +88,41 @@ impl Display for Key {
 
     fn fmt<W: fmt::Write>(&self, f: &mut Formatter<W>) -> fmt::Result {
         f.write_str(self.text())
+    }
+}
+
+/// The table and the number of its item.
+impl Display for FaultPlace {
+    ghost output = { λ place. Some (place_text place) };
+
+    fn fmt<W: fmt::Write>(&self, f: &mut Formatter<W>) -> fmt::Result {
+        let FaultPlace { table, item } = self;
+        write!(f, "{table} {item}")
+    }
+}
+
+/// The kind's name, and where it is: nothing of a text that is not TOML, and the key too where one
+/// is missing. The key and the number of a limit aren't told.
+impl Display for TextFault {
+    ghost output = { λ fault. Some (fault_text fault) };
+
+    #[tactic(auto, unfolding(crate::specs::Faults::fault_text))]
+    fn fmt<W: fmt::Write>(&self, f: &mut Formatter<W>) -> fmt::Result {
+        let name = self.kind.name();
+        let place = self.place;
+        match self.kind {
+            FaultKind::NotToml => write!(f, "{name}"),
+            FaultKind::MissingKey { key } => write!(f, "{name} {place} {key}"),
+            FaultKind::WrongKind
+            | FaultKind::UnknownKey
+            | FaultKind::BadName
+            | FaultKind::UnknownName
+            | FaultKind::DoubleName
+            | FaultKind::BadAddress
+            | FaultKind::BadFlavour
+            | FaultKind::BadStructure
+            | FaultKind::DoublePrefix
+            | FaultKind::Limit { .. } => write!(f, "{name} {place}"),
+        }
     }
 }
