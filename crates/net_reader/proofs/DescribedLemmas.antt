@@ -35,7 +35,7 @@ use Rattle.net_words.specs.declared.description.Description.{Description}
 use Rattle.net_words.specs.Prefixes.{of_family, or_else, family_prefix_of, family_prefix_in}
 use Rattle.net_words.specs.Words.{block_kind_of, csid_bits_of, behaviour_of, csid_of, flavour_of}
 use Rattle.net_words.specs.Description.{csid_bits_in, block_of, node_of, link_of, route_of, policy_of, sid_prefix_in, sid_of, description_of}
-use Rattle.net_joining.specs.Joining.{joined_block, joined_node, joined_policy}
+use Rattle.net_reader.specs.Joining.{joined_block, joined_node, joined_policy}
 use Rattle.net_reader.proofs.YieldLemmas.{Yields, AreFew, IfGiven, IsWithin, yields-next, yields-behind, yields-or_fault, yields-if, yields-number, yields-given, yields-list, yields-needed, yields-optional, yields-items}
 
 -- ---- values

@@ -18,7 +18,7 @@ use Rattle.toml_words.specs.Reading.{◌>>=◌, or_fault, document_of}
 use Rattle.net_words.specs.declared.sid.DescribedSid.{DescribedSid}
 use Rattle.net_words.specs.declared.description.Description.{Description}
 use Rattle.net_words.specs.Description.{description_in, net_place}
-use Rattle.net_joining.specs.Joining.{node_names, link_names, policy_names, joined_block, joined}
+use Rattle.net_reader.specs.Joining.{node_names, link_names, policy_names, joined_block, joined}
 use Rattle.net_reader.specs.Standings.{standing_of, standings_of, HaveTheirKeys}
 use Rattle.net_reader.specs.Reading.{judged_network, net_in}
 use Rattle.net_reader.proofs.YieldLemmas.{Yields, yielded, yields-behind}

@@ -7,7 +7,7 @@ use Rattle.net_model.specs.Judging.{judging}
 use Rattle.toml_words.specs.Reading.{◌>>=◌}
 use Rattle.net_words.specs.declared.description.Description.{Description}
 use Rattle.net_words.specs.Description.{description_in}
-use Rattle.net_joining.specs.Joining.{joined}
+use Rattle.net_reader.specs.Joining.{joined}
 use Rattle.net_reader.specs.Standings.{standings_of}
 
 -- the network of what is described, or the first fault of its parts

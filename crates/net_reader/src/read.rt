@@ -3,8 +3,8 @@
 ghost use Rattle.text_faults.specs.Reading.{Gives};
 ghost use Rattle.net_reader.specs.Reading.{net_in};
 
+use crate::parts::join;
 use crate::standings::standings;
-use net_joining::join;
 use net_model::Net;
 use net_words::read_description;
 use std::alloc::Global;

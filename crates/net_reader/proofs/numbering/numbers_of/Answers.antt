@@ -1,8 +1,8 @@
 use Rattle.std.proofs.Common.{◌+◌, map, take, sym, ap, subst, ◌∙◌}
-use Rattle.net_joining.specs.Numbering.{HasNumbers}
-use Rattle.net_joining.proofs.NumberLemmas.{known_turn, new_turn}
-use Rattle.net_joining.proofs.numbering.numbers_of.Goals.{then-not-contains_key+in_ok-insert, else-not-contains_key}
-use Rattle.net_joining.proofs.numbering.numbers_of.Goals as goal
+use Rattle.net_reader.specs.Numbering.{HasNumbers}
+use Rattle.net_reader.proofs.NumberLemmas.{known_turn, new_turn}
+use Rattle.net_reader.proofs.numbering.numbers_of.Goals.{then-not-contains_key+in_ok-insert, else-not-contains_key}
+use Rattle.net_reader.proofs.numbering.numbers_of.Goals as goal
 
 pub loop-i-preserved : goal.loop-i-preserved
 loop-i-preserved c = elim c.if-not-contains_key.branch [

@@ -1,8 +1,8 @@
 use Rattle.std.proofs.Common.{map, ap, ◌∙◌}
 use Rattle.std.specs.List.{filter_map}
-use Rattle.net_joining.specs.Joining.{joined_block, joined_node, joined_link, joined_route, joined_policy, title_in, joined_sids}
-use Rattle.net_joining.proofs.JoinedLemmas.{joined_from}
-use Rattle.net_joining.proofs.parts.join.Goals as goal
+use Rattle.net_reader.specs.Joining.{joined_block, joined_node, joined_link, joined_route, joined_policy, title_in, joined_sids}
+use Rattle.net_reader.proofs.JoinedLemmas.{joined_from}
+use Rattle.net_reader.proofs.parts.join.Goals as goal
 
 pub returns : goal.returns
 returns c =

@@ -1,8 +1,8 @@
 //! The parts of a network from what a description says.
 
 ghost use Rattle.std.specs.Prelude.{◌≡◌, IfOk, map};
-ghost use Rattle.net_joining.specs.Numbering.{number_of};
-ghost use Rattle.net_joining.specs.Joining.{joined_block, joined_node, joined_link, joined_route, joined_policy};
+ghost use Rattle.net_reader.specs.Numbering.{number_of};
+ghost use Rattle.net_reader.specs.Joining.{joined_block, joined_node, joined_link, joined_route, joined_policy};
 
 use crate::numbering::Numbering;
 use base::Seq;

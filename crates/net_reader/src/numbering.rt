@@ -1,7 +1,7 @@
 //! The numbers of names.
 
 ghost use Rattle.std.specs.Prelude.{◌≡◌, ◌<◌, ◌^◌, List, ℕ, IfOk, map, length};
-ghost use Rattle.net_joining.specs.Numbering.{HasNumbers, number_of};
+ghost use Rattle.net_reader.specs.Numbering.{HasNumbers, number_of};
 
 use indexmap::IndexMap;
 use net_model::Name;
@@ -91,7 +91,7 @@ pub struct Numbering<'a> {
 
 impl<'a> Model for Numbering<'a> {
     ghost use Rattle.std.specs.Prelude.{List, ℕ, ◌<◌, ◌^◌, map, length};
-    ghost use Rattle.net_joining.specs.Numbering.{HasNumbers};
+    ghost use Rattle.net_reader.specs.Numbering.{HasNumbers};
 
     ghost Value = { List (List ℕ) };
 
@@ -103,7 +103,7 @@ impl<'a> Model for Numbering<'a> {
 
 impl<'a> Numbering<'a> {
     ghost use Rattle.std.specs.Prelude.{◌≡◌, ◌<◌, ◌^◌, IfOk, map, length};
-    ghost use Rattle.net_joining.specs.Numbering.{number_of};
+    ghost use Rattle.net_reader.specs.Numbering.{number_of};
 
     /// The names of items (own rule).
     pub fn of<X: Named>(alloc: Global, items: &'a [X]) -> Result<Numbering<'a>, AllocError>

@@ -1,7 +1,7 @@
 use Rattle.std.proofs.Common.{◌≡◌, ◌≤◌, length, take}
 use Rattle.std.specs.List.{filter_map}
-use Rattle.net_joining.specs.Joining.{title_in, joined_sids}
-use Rattle.net_joining.proofs.sids.join_sids.Given as goal
+use Rattle.net_reader.specs.Joining.{title_in, joined_sids}
+use Rattle.net_reader.proofs.sids.join_sids.Given as goal
 
 abbrev pub invariant-loop-sid : goal.invariant-loop-sid
 invariant-loop-sid l = record {

@@ -24,7 +24,7 @@ use Rattle.net_words.specs.declared.sid.BehaviourWord.TheVariants as words
 use Rattle.net_words.specs.declared.sid.Flavour.{Flavour}
 use Rattle.net_words.specs.declared.sid.Flavour.TheVariants.{Psp, Usp, Usd}
 use Rattle.net_words.specs.declared.description.Description.{Description}
-use Rattle.net_joining.specs.Numbering.{number_of}
+use Rattle.net_reader.specs.Numbering.{number_of}
 
 -- ---- names
 

@@ -3,8 +3,8 @@
 ghost use Rattle.std.specs.Prelude.{◌≡◌, ◌<◌, ◌^◌, ◌++◌, ℕ, IfOk, OnOk, map, option_map, option_to_list, length, vec_len};
 ghost use Rattle.std.specs.List.{list_any, filter_map};
 ghost use Rattle.net_model.specs.Rules.{block_of, block_len_of};
-ghost use Rattle.net_joining.specs.Numbering.{number_of};
-ghost use Rattle.net_joining.specs.Joining.{behaviour_with, is_psp, is_usp, is_usd, or_zero, or_none, title_number, joined_sid, joined_sids, title_in};
+ghost use Rattle.net_reader.specs.Numbering.{number_of};
+ghost use Rattle.net_reader.specs.Joining.{behaviour_with, is_psp, is_usp, is_usd, or_zero, or_none, title_number, joined_sid, joined_sids, title_in};
 
 use crate::joining::{Names, numbers, same_name};
 use crate::numbering::Numbering;

@@ -6,7 +6,7 @@ use Rattle.std.proofs.lemmas.List.Elements.{filter_map-append}
 use Rattle.srv6_rules.specs.declared.sid.SidEntry.{SidEntry}
 use Rattle.net_model.specs.declared.parts.Block.{Block}
 use Rattle.net_words.specs.declared.sid.DescribedSid.{DescribedSid}
-use Rattle.net_joining.specs.Joining.{title_in, title_number, behind_title, joined_sid, joined_sids}
+use Rattle.net_reader.specs.Joining.{title_in, title_number, behind_title, joined_sid, joined_sids}
 
 -- how many titles the first title adds
 titles_counted : (n : ℕ) (title : Option (List ℕ)) (titles : List (List ℕ))

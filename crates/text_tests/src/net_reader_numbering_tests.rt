@@ -1,7 +1,7 @@
 //! Names of links, one of which stands twice.
 
-use net_joining::Numbering;
 use net_model::Name;
+use net_reader::Numbering;
 use net_words::read_description;
 use std::test::Fail;
 

@@ -11,7 +11,7 @@ use Rattle.std.proofs.lemmas.List.Sums.{prefix_len-le-length}
 use Rattle.std.proofs.lemmas.Slice.Eq.{bytes_eq-Decides}
 use Rattle.indexmap.specs.IndexMap.{IndexMap, get_by, insert_entry}
 use Rattle.indexmap.proofs.CallerLemmas.{insert_entry-new}
-use Rattle.net_joining.specs.Numbering.{HasNumbers, number_of}
+use Rattle.net_reader.specs.Numbering.{HasNumbers, number_of}
 
 -- the first that is there
 abbrev first_some : {X : Type 0} → Option X → Option X → Option X

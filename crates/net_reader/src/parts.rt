@@ -2,7 +2,7 @@
 
 ghost use Rattle.std.specs.Prelude.{◌≡◌, ◌<◌, ◌^◌, IfOk, length};
 ghost use Rattle.net_model.specs.Network.{network_of};
-ghost use Rattle.net_joining.specs.Joining.{node_names, link_names, policy_names, joined};
+ghost use Rattle.net_reader.specs.Joining.{node_names, link_names, policy_names, joined};
 
 use crate::joining::{Blocks, Names, Nodes, Policies, each};
 use crate::numbering::Numbering;
