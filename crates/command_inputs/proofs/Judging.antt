@@ -12,14 +12,13 @@ use Rattle.pcap_io.specs.declared.head.CaptureHead.{CaptureHead}
 use Rattle.pcap_io.specs.Head.{head_of}
 use Rattle.net_model.specs.Network.{Network}
 use Rattle.net_model.specs.Rules.{IsNetwork}
-use Rattle.net_model.specs.declared.fault.NetFault.{NetFault}
-use Rattle.net_model.specs.declared.fault.NetFault.TheVariants as nets
-use Rattle.toml_words.specs.Reading.{Gives as ReadsAs}
+use Rattle.text_faults.specs.declared.fault.TextFault.{TextFault}
+use Rattle.text_faults.specs.declared.fault.OrNoMemory.{OrNoMemory}
+use Rattle.text_faults.specs.declared.fault.OrNoMemory.TheVariants as reads
+use Rattle.text_faults.specs.Reading.{Gives}
 use Rattle.net_reader.specs.Reading.{net_in}
 use Rattle.intent_reader.specs.declared.intent.Intent.{Intent}
 use Rattle.intent_reader.specs.declared.fault.IntentFault.{IntentFault}
-use Rattle.intent_reader.specs.declared.fault.IntentFault.TheVariants as intents
-use Rattle.intent_reader.specs.Reading.{Gives as ReadsIntentAs}
 use Rattle.intent_reader.specs.Judging.{intent_of_text}
 use Rattle.command_inputs.specs.declared.limits.TheConstants.{MAX_INPUT_BYTES}
 use Rattle.net_model.specs.declared.limits.TheConstants.{MAX_TEXT_BYTES}
@@ -50,31 +49,21 @@ asks-one name old new seen = record { names = name ∷ []; front = record { rest
 
 -- a text within the limit that was read as the description of a network, or has a fault
 
-net-small : (text : List ℕ) (read : Result Network NetFault) → length text ≤ MAX_TEXT_BYTES → net_in text ≡ read
+net-small : (text : List ℕ) (read : Result Network TextFault) → length text ≤ MAX_TEXT_BYTES → net_in text ≡ read
     → network_in text ≡ network_by read
 net-small text read fits is =
     let small : nat_lt MAX_TEXT_BYTES (length text) ≡ false = le-ltb MAX_TEXT_BYTES (length text) fits in
     rw small (ap network_by is)
 
-pub network_judged : (net : Network) (text : List ℕ) → length text ≤ MAX_TEXT_BYTES → ReadsAs (λ n. n) (Ok net) (net_in text)
+pub network_judged : (net : Network) (text : List ℕ) → length text ≤ MAX_TEXT_BYTES → Gives (λ n. n) (Ok net) (net_in text)
     → JudgesText network_in text (Ok net)
 network_judged net text fits h = net-small text (Ok net) fits h
 
-pub network_refused : (fault : NetFault) (text : List ℕ) → length text ≤ MAX_TEXT_BYTES → ReadsAs (λ (n : Network). n) (Err fault) (net_in text)
-    → JudgesText network_in text (Err (halt_of_net fault))
-network_refused nets.NotToml text fits h = net-small text (Err nets.NotToml) fits (h (λ e. cc))
-network_refused (nets.MissingKey table item key) text fits h = net-small text (Err (nets.MissingKey table item key)) fits (h (λ e. cc))
-network_refused (nets.WrongKind table item) text fits h = net-small text (Err (nets.WrongKind table item)) fits (h (λ e. cc))
-network_refused (nets.UnknownKey table item) text fits h = net-small text (Err (nets.UnknownKey table item)) fits (h (λ e. cc))
-network_refused (nets.BadName table item) text fits h = net-small text (Err (nets.BadName table item)) fits (h (λ e. cc))
-network_refused (nets.UnknownName table item) text fits h = net-small text (Err (nets.UnknownName table item)) fits (h (λ e. cc))
-network_refused (nets.DoubleName table item) text fits h = net-small text (Err (nets.DoubleName table item)) fits (h (λ e. cc))
-network_refused (nets.BadAddress table item) text fits h = net-small text (Err (nets.BadAddress table item)) fits (h (λ e. cc))
-network_refused (nets.BadFlavour table item) text fits h = net-small text (Err (nets.BadFlavour table item)) fits (h (λ e. cc))
-network_refused (nets.BadStructure table item) text fits h = net-small text (Err (nets.BadStructure table item)) fits (h (λ e. cc))
-network_refused (nets.DoublePrefix table item) text fits h = net-small text (Err (nets.DoublePrefix table item)) fits (h (λ e. cc))
-network_refused (nets.Limit table item what value) text fits h = net-small text (Err (nets.Limit table item what value)) fits (h (λ e. cc))
-network_refused nets.NoMemory text fits h = tt
+pub network_refused : (why : OrNoMemory TextFault) (text : List ℕ) → length text ≤ MAX_TEXT_BYTES
+    → Gives (λ (n : Network). n) (Err why) (net_in text)
+    → JudgesText network_in text (Err (halt_of_net why))
+network_refused (reads.Fault fault) text fits h = net-small text (Err fault) fits (h fault refl)
+network_refused reads.NoMemory text fits h = tt
 
 pub network_too_big : (text : List ℕ) → MAX_TEXT_BYTES < length text
     → JudgesText network_in text (Err (halts.Refused (refusals.TooBig MAX_TEXT_BYTES)))
@@ -87,7 +76,7 @@ RulesAreKept = (text : List ℕ) (net : Network) → net_in text ≡ Ok net → 
 pub rules-kept : RulesAreKept → (text : List ℕ) (net : Network) → network_in text ≡ Ok net → IsNetwork net
 rules-kept rules text net is = by (nat_lt MAX_TEXT_BYTES (length text)) (net_in text) refl is
   where
-    by : (big : Bool) (read : Result Network NetFault) → net_in text ≡ read
+    by : (big : Bool) (read : Result Network TextFault) → net_in text ≡ read
         → (if big then Err (refusals.TooBig MAX_TEXT_BYTES) else network_by read) ≡ Ok net → IsNetwork net
     by true read e h = absurd (cc)
     by false (Ok n) e h = let same : n ≡ net = cc in rules text net (e ∙ ap Ok same)
@@ -103,19 +92,14 @@ intent-small net text read fits is =
     rw small (ap intent_by is)
 
 pub intent_judged : (net : Network) (intent : Intent) (text : List ℕ) → length text ≤ MAX_TEXT_BYTES
-    → ReadsIntentAs (λ i. i) (Ok intent) (intent_of_text net text) → JudgesText (intent_in net) text (Ok intent)
+    → Gives (λ i. i) (Ok intent) (intent_of_text net text) → JudgesText (intent_in net) text (Ok intent)
 intent_judged net intent text fits h = intent-small net text (Ok intent) fits h
 
-pub intent_refused : (net : Network) (fault : IntentFault) (text : List ℕ) → length text ≤ MAX_TEXT_BYTES
-    → ReadsIntentAs (λ (i : Intent). i) (Err fault) (intent_of_text net text)
-    → JudgesText (intent_in net) text (Err (halt_of_intent fault))
-intent_refused net (intents.Text fault) text fits h = intent-small net text (Err (intents.Text fault)) fits (h (λ e. cc))
-intent_refused net (intents.UnknownName step) text fits h = intent-small net text (Err (intents.UnknownName step)) fits (h (λ e. cc))
-intent_refused net (intents.Broken step) text fits h = intent-small net text (Err (intents.Broken step)) fits (h (λ e. cc))
-intent_refused net (intents.NoFunction step) text fits h = intent-small net text (Err (intents.NoFunction step)) fits (h (λ e. cc))
-intent_refused net intents.NotFunctionLast text fits h = intent-small net text (Err intents.NotFunctionLast) fits (h (λ e. cc))
-intent_refused net (intents.DoubleLink step) text fits h = intent-small net text (Err (intents.DoubleLink step)) fits (h (λ e. cc))
-intent_refused net intents.NoMemory text fits h = tt
+pub intent_refused : (net : Network) (why : OrNoMemory IntentFault) (text : List ℕ) → length text ≤ MAX_TEXT_BYTES
+    → Gives (λ (i : Intent). i) (Err why) (intent_of_text net text)
+    → JudgesText (intent_in net) text (Err (halt_of_intent why))
+intent_refused net (reads.Fault fault) text fits h = intent-small net text (Err fault) fits (h fault refl)
+intent_refused net reads.NoMemory text fits h = tt
 
 pub intent_too_big : (net : Network) (text : List ℕ) → MAX_TEXT_BYTES < length text
     → JudgesText (intent_in net) text (Err (halts.Refused (refusals.TooBig MAX_TEXT_BYTES)))

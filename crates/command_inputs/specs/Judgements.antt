@@ -1,6 +1,6 @@
 -- The judgements of files and words: what each gives, or its refusal.
 use Rattle.std.specs.Prelude.{ℕ, nat_lt, if◌then◌else◌, List, length, Option, Some, None, Result, Ok, Err, Bool, false, is_ok, [], ◌∷◌}
-use Rattle.net_model.specs.declared.fault.NetFault.{NetFault}
+use Rattle.text_faults.specs.declared.fault.TextFault.{TextFault}
 use Rattle.net_model.specs.Network.{Network}
 use Rattle.net_model.specs.Named.{node_numbered}
 use Rattle.net_reader.specs.Reading.{net_in}
@@ -22,7 +22,7 @@ refused_as refusal (Err fault) = Err (refusal fault)
 
 -- the network of a description, or its first fault
 
-abbrev pub network_by : Result Network NetFault → Result Network Refusal
+abbrev pub network_by : Result Network TextFault → Result Network Refusal
 network_by read = refused_as (λ fault. refusals.Net fault) read
 
 abbrev pub network_in : List ℕ → Result Network Refusal

@@ -6,13 +6,13 @@ use Rattle.srx_edge.specs.declared.input.DrawFault.{DrawFault}
 use Rattle.srx_edge.specs.declared.input.DrawFault.TheVariants as draws
 use Rattle.srx_edge.specs.declared.output.PourFault.{PourFault}
 use Rattle.srx_edge.specs.declared.output.PourFault.TheVariants as pours
-use Rattle.net_model.specs.declared.fault.NetFault.{NetFault}
-use Rattle.net_model.specs.declared.fault.NetFault.TheVariants as nets
+use Rattle.text_faults.specs.declared.fault.TextFault.{TextFault}
+use Rattle.text_faults.specs.declared.fault.OrNoMemory.{OrNoMemory}
+use Rattle.text_faults.specs.declared.fault.OrNoMemory.TheVariants as reads
 use Rattle.net_model.specs.declared.flat.NotFlat.{NotFlat}
 use Rattle.net_model.specs.declared.flat.NotFlat.TheVariants as flats
 use Rattle.net_model.specs.Network.{Network}
 use Rattle.intent_reader.specs.declared.fault.IntentFault.{IntentFault}
-use Rattle.intent_reader.specs.declared.fault.IntentFault.TheVariants as intents
 use Rattle.list_certificate.specs.declared.types.CertFault.{CertFault}
 use Rattle.list_certificate.specs.declared.types.CertFault.TheVariants as certs
 use Rattle.trace_replay.specs.declared.reading.TraceFault.{TraceFault}
@@ -48,29 +48,13 @@ halt_of_draw draws.Failed = halts.Failed failures.Fault
 halt_of_draw (draws.TooBig limit) = halts.Refused (refusals.TooBig limit)
 halt_of_draw draws.NoMemory = halts.Failed failures.NoMemory
 
-abbrev pub halt_of_net : NetFault → Halt
-halt_of_net nets.NotToml = halts.Refused (refusals.Net nets.NotToml)
-halt_of_net (nets.MissingKey table item key) = halts.Refused (refusals.Net (nets.MissingKey table item key))
-halt_of_net (nets.WrongKind table item) = halts.Refused (refusals.Net (nets.WrongKind table item))
-halt_of_net (nets.UnknownKey table item) = halts.Refused (refusals.Net (nets.UnknownKey table item))
-halt_of_net (nets.BadName table item) = halts.Refused (refusals.Net (nets.BadName table item))
-halt_of_net (nets.UnknownName table item) = halts.Refused (refusals.Net (nets.UnknownName table item))
-halt_of_net (nets.DoubleName table item) = halts.Refused (refusals.Net (nets.DoubleName table item))
-halt_of_net (nets.BadAddress table item) = halts.Refused (refusals.Net (nets.BadAddress table item))
-halt_of_net (nets.BadFlavour table item) = halts.Refused (refusals.Net (nets.BadFlavour table item))
-halt_of_net (nets.BadStructure table item) = halts.Refused (refusals.Net (nets.BadStructure table item))
-halt_of_net (nets.DoublePrefix table item) = halts.Refused (refusals.Net (nets.DoublePrefix table item))
-halt_of_net (nets.Limit table item what value) = halts.Refused (refusals.Net (nets.Limit table item what value))
-halt_of_net nets.NoMemory = halts.Failed failures.NoMemory
+abbrev pub halt_of_net : OrNoMemory TextFault → Halt
+halt_of_net (reads.Fault fault) = halts.Refused (refusals.Net fault)
+halt_of_net reads.NoMemory = halts.Failed failures.NoMemory
 
-abbrev pub halt_of_intent : IntentFault → Halt
-halt_of_intent (intents.Text fault) = halts.Refused (refusals.Intent (intents.Text fault))
-halt_of_intent (intents.UnknownName step) = halts.Refused (refusals.Intent (intents.UnknownName step))
-halt_of_intent (intents.Broken step) = halts.Refused (refusals.Intent (intents.Broken step))
-halt_of_intent (intents.NoFunction step) = halts.Refused (refusals.Intent (intents.NoFunction step))
-halt_of_intent intents.NotFunctionLast = halts.Refused (refusals.Intent intents.NotFunctionLast)
-halt_of_intent (intents.DoubleLink step) = halts.Refused (refusals.Intent (intents.DoubleLink step))
-halt_of_intent intents.NoMemory = halts.Failed failures.NoMemory
+abbrev pub halt_of_intent : OrNoMemory IntentFault → Halt
+halt_of_intent (reads.Fault fault) = halts.Refused (refusals.Intent fault)
+halt_of_intent reads.NoMemory = halts.Failed failures.NoMemory
 
 abbrev pub halt_of_cert : CertFault → Halt
 halt_of_cert (certs.BadCert line) = halts.Refused (refusals.BadCert line)

@@ -6,13 +6,9 @@ use Rattle.pcap_io.specs.declared.fault.CaptureFault.{CaptureFault}
 use Rattle.pcap_io.specs.declared.fault.CaptureFault.TheVariants as captures
 use Rattle.srv6_rules.specs.declared.sid.Reason.{Reason}
 use Rattle.srv6_rules.specs.Reasons.{reason_name}
-use Rattle.net_model.specs.declared.fault.TableKind.{TableKind}
-use Rattle.net_model.specs.declared.fault.NetFault.{NetFault}
-use Rattle.net_model.specs.declared.fault.NetFault.TheVariants as nets
-use Rattle.net_model.specs.Keys.{table_text, key_text}
+use Rattle.text_faults.specs.Faults.{kind_number, fault_text}
 use Rattle.net_model.specs.Network.{Network}
-use Rattle.intent_reader.specs.declared.fault.IntentFault.{IntentFault}
-use Rattle.intent_reader.specs.declared.fault.IntentFault.TheVariants as intents
+use Rattle.intent_reader.specs.Faults.{intent_fault_number, intent_fault_text}
 use Rattle.walk_rules.specs.declared.place.Ended.{Ended}
 use Rattle.walk_rules.specs.declared.place.Ended.TheVariants as ends
 use Rattle.walk_rules.specs.declared.limits.TheConstants.{MAX_STAGES}
@@ -43,56 +39,11 @@ capture_text (captures.BadLink link) = codes "refused 14 BadLink " ++ decimal li
 capture_text captures.CutHead = codes "refused 15 CutHead"
 capture_text captures.FrameLimit = codes "refused 17 FrameLimit"
 
--- a fault's place: the table and the item's number
-abbrev pub place_text : TableKind → ℕ → List ℕ
-place_text table item = table_text table ++ 32 ∷ decimal item
-
--- the name and the fields of a text's fault; want of memory is no refusal, and has no number
-unfoldable pub fault_text : NetFault → List ℕ
-fault_text nets.NotToml = codes "NotToml"
-fault_text (nets.MissingKey table item key) = codes "MissingKey " ++ (table_text table ++ 32 ∷ (decimal item ++ 32 ∷ key_text key))
-fault_text (nets.WrongKind table item) = codes "WrongKind " ++ place_text table item
-fault_text (nets.UnknownKey table item) = codes "UnknownKey " ++ place_text table item
-fault_text (nets.BadName table item) = codes "BadName " ++ place_text table item
-fault_text (nets.UnknownName table item) = codes "UnknownName " ++ place_text table item
-fault_text (nets.DoubleName table item) = codes "DoubleName " ++ place_text table item
-fault_text (nets.BadAddress table item) = codes "BadAddress " ++ place_text table item
-fault_text (nets.BadFlavour table item) = codes "BadFlavour " ++ place_text table item
-fault_text (nets.BadStructure table item) = codes "BadStructure " ++ place_text table item
-fault_text (nets.DoublePrefix table item) = codes "DoublePrefix " ++ place_text table item
-fault_text (nets.Limit table item what value) = codes "Limit " ++ place_text table item
-fault_text nets.NoMemory = codes "NoMemory"
-
-abbrev pub fault_number : NetFault → ℕ
-fault_number nets.NotToml = 21
-fault_number (nets.MissingKey table item key) = 22
-fault_number (nets.WrongKind table item) = 23
-fault_number (nets.UnknownKey table item) = 24
-fault_number (nets.BadName table item) = 25
-fault_number (nets.UnknownName table item) = 26
-fault_number (nets.DoubleName table item) = 27
-fault_number (nets.BadAddress table item) = 28
-fault_number (nets.BadFlavour table item) = 29
-fault_number (nets.BadStructure table item) = 30
-fault_number (nets.DoublePrefix table item) = 31
-fault_number (nets.Limit table item what value) = 32
-fault_number nets.NoMemory = 0
-
--- the same of an intent
-unfoldable pub intent_fault_text : IntentFault → List ℕ
-intent_fault_text (intents.Text fault) = codes "refused 33 Text " ++ fault_text fault
-intent_fault_text (intents.UnknownName step) = codes "refused 34 UnknownName " ++ decimal step
-intent_fault_text (intents.Broken step) = codes "refused 35 Broken " ++ decimal step
-intent_fault_text (intents.NoFunction step) = codes "refused 36 NoFunction " ++ decimal step
-intent_fault_text intents.NotFunctionLast = codes "refused 37 NotFunctionLast"
-intent_fault_text (intents.DoubleLink step) = codes "refused 38 DoubleLink " ++ decimal step
-intent_fault_text intents.NoMemory = codes "refused 0 NoMemory"
-
 -- a refusal: its number, its name, and its fields
 unfoldable pub refusal_text : Refusal → List ℕ
 refusal_text (refusals.TooBig limit) = codes "refused 2 TooBig " ++ decimal limit
-refusal_text (refusals.Net fault) = codes "refused " ++ (decimal (fault_number fault) ++ 32 ∷ fault_text fault)
-refusal_text (refusals.Intent fault) = intent_fault_text fault
+refusal_text (refusals.Net fault) = codes "refused " ++ (decimal (kind_number fault.kind) ++ 32 ∷ fault_text fault)
+refusal_text (refusals.Intent fault) = codes "refused " ++ (decimal (intent_fault_number fault) ++ 32 ∷ intent_fault_text fault)
 refusal_text (refusals.Capture fault) = capture_text fault
 refusal_text (refusals.CutFrame frame) = codes "refused 16 CutFrame " ++ decimal frame
 refusal_text refusals.BadNode = codes "refused 39 BadNode"

@@ -6,9 +6,9 @@ use crate::refusal::Refusal;
 use base::NoMemory;
 use intent_reader::IntentFault;
 use list_certificate::CertFault;
-use net_model::NetFault;
 use srx_edge::{DrawFault, FileFault, PourFault};
 use std::alloc::AllocError;
+use text_faults::{OrNoMemory, TextFault};
 use trace_replay::TraceFault;
 
 /// Why a step was not done, whatever it is given. (own rule)
@@ -130,44 +130,28 @@ impl From<DrawFault> for Halt {
     }
 }
 
-impl From<NetFault> for Halt {
+impl From<OrNoMemory<TextFault>> for Halt {
     ghost use Rattle.command_output.specs.Halts.{halt_of_net};
 
-    ghost from_gives = { λ fault halt. halt ≡ halt_of_net fault };
+    ghost from_gives = { λ why halt. halt ≡ halt_of_net why };
 
-    fn from(fault: NetFault) -> Halt {
-        match fault {
-            NetFault::NoMemory => Halt::Failed(Failure::NoMemory),
-            NetFault::NotToml
-            | NetFault::MissingKey { .. }
-            | NetFault::WrongKind { .. }
-            | NetFault::UnknownKey { .. }
-            | NetFault::BadName { .. }
-            | NetFault::UnknownName { .. }
-            | NetFault::DoubleName { .. }
-            | NetFault::BadAddress { .. }
-            | NetFault::BadFlavour { .. }
-            | NetFault::BadStructure { .. }
-            | NetFault::DoublePrefix { .. }
-            | NetFault::Limit { .. } => Halt::Refused(Refusal::Net(fault)),
+    fn from(why: OrNoMemory<TextFault>) -> Halt {
+        match why {
+            OrNoMemory::Fault(fault) => Halt::Refused(Refusal::Net(fault)),
+            OrNoMemory::NoMemory => Halt::Failed(Failure::NoMemory),
         }
     }
 }
 
-impl From<IntentFault> for Halt {
+impl From<OrNoMemory<IntentFault>> for Halt {
     ghost use Rattle.command_output.specs.Halts.{halt_of_intent};
 
-    ghost from_gives = { λ fault halt. halt ≡ halt_of_intent fault };
+    ghost from_gives = { λ why halt. halt ≡ halt_of_intent why };
 
-    fn from(fault: IntentFault) -> Halt {
-        match fault {
-            IntentFault::NoMemory => Halt::Failed(Failure::NoMemory),
-            IntentFault::Text(_)
-            | IntentFault::UnknownName { .. }
-            | IntentFault::Broken { .. }
-            | IntentFault::NoFunction { .. }
-            | IntentFault::NotFunctionLast
-            | IntentFault::DoubleLink { .. } => Halt::Refused(Refusal::Intent(fault)),
+    fn from(why: OrNoMemory<IntentFault>) -> Halt {
+        match why {
+            OrNoMemory::Fault(fault) => Halt::Refused(Refusal::Intent(fault)),
+            OrNoMemory::NoMemory => Halt::Failed(Failure::NoMemory),
         }
     }
 }

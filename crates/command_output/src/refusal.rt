@@ -2,13 +2,13 @@
 
 ghost use Rattle.std.specs.Prelude.{◌≡◌};
 ghost use Rattle.command_output.specs.Halts.{flat_refusal};
-ghost use Rattle.command_output.specs.Lines.{fault_number};
 
 use crate::node_name::NodeName;
 use intent_reader::IntentFault;
-use net_model::{Net, NetFault, NotFlat};
+use net_model::{Net, NotFlat};
 use pcap_io::CaptureFault;
 use std::fmt;
+use text_faults::TextFault;
 use v6_addr::Prefix;
 
 /// Why a command was refused; each has a number of its own in the line on `err`. (own rule)
@@ -26,10 +26,9 @@ pub enum Refusal {
         /// The frame's number, from 1.
         frame: u32,
     },
-    /// 21 to 32: the description gives no network; the first fault, which is never `NoMemory`.
-    Net(NetFault),
-    /// 33 to 38: the intent's text gives no intent in the network; the first fault, which is never
-    /// `NoMemory`.
+    /// 21 to 32: the description gives no network; the first fault.
+    Net(TextFault),
+    /// 33 to 38: the intent's text gives no intent in the network; the first fault.
     Intent(IntentFault),
     /// 39: no node has the name.
     BadNode,
@@ -97,92 +96,6 @@ pub fn refusal_of_not_flat(net: &Net, why: &NotFlat) -> Refusal
     }
 }
 
-/// The number of a fault of a text; want of memory, which is no refusal, has none. (own rule)
-fn number_of(fault: NetFault) -> u8
-    ensures { result ≡ fault_number fault }
-{
-    match fault {
-        NetFault::NotToml => 21,
-        NetFault::MissingKey { .. } => 22,
-        NetFault::WrongKind { .. } => 23,
-        NetFault::UnknownKey { .. } => 24,
-        NetFault::BadName { .. } => 25,
-        NetFault::UnknownName { .. } => 26,
-        NetFault::DoubleName { .. } => 27,
-        NetFault::BadAddress { .. } => 28,
-        NetFault::BadFlavour { .. } => 29,
-        NetFault::BadStructure { .. } => 30,
-        NetFault::DoublePrefix { .. } => 31,
-        NetFault::Limit { .. } => 32,
-        NetFault::NoMemory => 0,
-    }
-}
-
-/// A fault of a text as a refusal tells it.
-#[derive(Clone, Copy)]
-struct FaultText {
-    fault: NetFault,
-}
-
-/// The fault's name and its fields; the key and the number of a limit aren't told. (own rule)
-impl fmt::Display for FaultText {
-    ghost use Rattle.std.specs.Prelude.{Some};
-    ghost use Rattle.command_output.specs.Lines.{fault_text};
-
-    ghost output = { λ text. Some (fault_text text.fault) };
-
-    #[tactic(auto, unfolding(crate::specs::Lines::fault_text))]
-    fn fmt<W: fmt::Write>(&self, f: &mut fmt::Formatter<W>) -> fmt::Result {
-        match &self.fault {
-            NetFault::NotToml => write!(f, "NotToml"),
-            NetFault::MissingKey { table, item, key } => {
-                write!(f, "MissingKey {table} {item} {key}")
-            }
-            NetFault::WrongKind { table, item } => write!(f, "WrongKind {table} {item}"),
-            NetFault::UnknownKey { table, item } => write!(f, "UnknownKey {table} {item}"),
-            NetFault::BadName { table, item } => write!(f, "BadName {table} {item}"),
-            NetFault::UnknownName { table, item } => write!(f, "UnknownName {table} {item}"),
-            NetFault::DoubleName { table, item } => write!(f, "DoubleName {table} {item}"),
-            NetFault::BadAddress { table, item } => write!(f, "BadAddress {table} {item}"),
-            NetFault::BadFlavour { table, item } => write!(f, "BadFlavour {table} {item}"),
-            NetFault::BadStructure { table, item } => write!(f, "BadStructure {table} {item}"),
-            NetFault::DoublePrefix { table, item } => write!(f, "DoublePrefix {table} {item}"),
-            NetFault::Limit { table, item, .. } => write!(f, "Limit {table} {item}"),
-            NetFault::NoMemory => write!(f, "NoMemory"),
-        }
-    }
-}
-
-/// A fault of an intent as a refusal tells it.
-#[derive(Clone, Copy)]
-struct IntentFaultText {
-    fault: IntentFault,
-}
-
-/// The fault's number, its name and its fields. (own rule)
-impl fmt::Display for IntentFaultText {
-    ghost use Rattle.std.specs.Prelude.{Some};
-    ghost use Rattle.command_output.specs.Lines.{intent_fault_text};
-
-    ghost output = { λ text. Some (intent_fault_text text.fault) };
-
-    #[tactic(auto, unfolding(crate::specs::Lines::intent_fault_text))]
-    fn fmt<W: fmt::Write>(&self, f: &mut fmt::Formatter<W>) -> fmt::Result {
-        match &self.fault {
-            IntentFault::Text(fault) => {
-                let text = FaultText { fault: *fault };
-                write!(f, "refused 33 Text {text}")
-            }
-            IntentFault::UnknownName { step } => write!(f, "refused 34 UnknownName {step}"),
-            IntentFault::Broken { step } => write!(f, "refused 35 Broken {step}"),
-            IntentFault::NoFunction { step } => write!(f, "refused 36 NoFunction {step}"),
-            IntentFault::NotFunctionLast => write!(f, "refused 37 NotFunctionLast"),
-            IntentFault::DoubleLink { step } => write!(f, "refused 38 DoubleLink {step}"),
-            IntentFault::NoMemory => write!(f, "refused 0 NoMemory"),
-        }
-    }
-}
-
 /// The refusal's number, its name, and its fields. (own rule)
 impl fmt::Display for Refusal {
     ghost use Rattle.std.specs.Prelude.{Some};
@@ -204,13 +117,12 @@ impl fmt::Display for Refusal {
             Refusal::Capture(CaptureFault::FrameLimit) => write!(f, "refused 17 FrameLimit"),
             Refusal::CutFrame { frame } => write!(f, "refused 16 CutFrame {frame}"),
             Refusal::Net(fault) => {
-                let number = number_of(*fault);
-                let text = FaultText { fault: *fault };
-                write!(f, "refused {number} {text}")
+                let number = fault.kind.number();
+                write!(f, "refused {number} {fault}")
             }
             Refusal::Intent(fault) => {
-                let text = IntentFaultText { fault: *fault };
-                write!(f, "{text}")
+                let number = fault.number();
+                write!(f, "refused {number} {fault}")
             }
             Refusal::BadNode => write!(f, "refused 39 BadNode"),
             Refusal::BadTrace { line } => write!(f, "refused 40 BadTrace {line}"),

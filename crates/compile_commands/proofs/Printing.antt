@@ -7,7 +7,7 @@ use Rattle.srx_edge.specs.Edge.{file_named}
 use Rattle.net_model.specs.Network.{Network}
 use Rattle.net_model.specs.Rules.{IsNetwork}
 use Rattle.net_model.specs.Flat.{IsFlat, flatness_of}
-use Rattle.net_model.specs.declared.fault.NetFault.{NetFault}
+use Rattle.text_faults.specs.declared.fault.TextFault.{TextFault}
 use Rattle.net_model.specs.declared.flat.NotFlat.{NotFlat}
 use Rattle.net_model.proofs.PublicLaws.{flatness_ok, keeps_from_network}
 use Rattle.toml_words.specs.Reading.{◌>>=◌}
@@ -61,13 +61,13 @@ use Rattle.compile_commands.proofs.Reporting.{report_texts, no_report_texts, rep
 
 -- a text that gives an intent gives one that keeps the rules
 
-intent-by : (net : Network) (text : List ℕ) (intent : Intent) (said : Result DescribedIntent NetFault) → words.intent_in text ≡ said
+intent-by : (net : Network) (text : List ℕ) (intent : Intent) (said : Result DescribedIntent TextFault) → words.intent_in text ≡ said
     → intent_of_text net text ≡ Ok intent → IsIntent net intent
 intent-by net text intent (Ok d) is h =
     judged_keeps net d intent (said_in_range text d is)
-    (subst (λ (r : Result DescribedIntent NetFault). ◌>>=◌ (of_text r) (judged net) ≡ Ok intent) is h)
+    (subst (λ (r : Result DescribedIntent TextFault). ◌>>=◌ (of_text r) (judged net) ≡ Ok intent) is h)
 intent-by net text intent (Err fault) is h =
-    let none = subst (λ (r : Result DescribedIntent NetFault). ◌>>=◌ (of_text r) (judged net) ≡ Ok intent) is h in absurd (cc)
+    let none = subst (λ (r : Result DescribedIntent TextFault). ◌>>=◌ (of_text r) (judged net) ≡ Ok intent) is h in absurd (cc)
 
 intent-of : (net : Network) (text : List ℕ) (intent : Intent) → intent_in net text ≡ Ok intent → IsIntent net intent
 intent-of net text intent is = by (nat_lt MAX_TEXT_BYTES (length text)) (intent_of_text net text) refl is

@@ -15,6 +15,7 @@ use Rattle.net_words.specs.declared.intent.DescribedIntent.{DescribedIntent}
 use Rattle.intent_reader.specs.declared.intent.Step.{Step}
 use Rattle.intent_reader.specs.declared.intent.Intent.{Intent}
 use Rattle.intent_reader.specs.declared.fault.IntentFault.TheVariants as faults
+use Rattle.intent_reader.specs.declared.fault.StepFault.TheVariants as kinds
 use Rattle.intent_reader.specs.Rules.{node_after, stand_after, ends_in_function, is_intent, IsIntent}
 use Rattle.intent_reader.specs.Described.{InRange}
 use Rattle.intent_reader.specs.Judging.{step_named, astray, steps_from, intent_with, judged}
@@ -60,11 +61,11 @@ node_within net name node h =
 
 judged_holds : (net : Network) (d : DescribedIntent) → InRange d → Holds (IsIntent net) (judged net d)
 judged_holds net d range =
-    after (IsIntent net) (or_fault (faults.UnknownName 0) (node_numbered d.headend net.nodes)) _ (λ headend e.
+    after (IsIntent net) (or_fault (faults.AtStep 0 kinds.UnknownName) (node_numbered d.headend net.nodes)) _ (λ headend e.
     after (IsIntent net) (steps_from net 1 headend d.steps) _ (λ steps f.
     tested (IsIntent net) (ends_in_function steps) _ _ (λ last.
     keeps_all net d headend steps range
-    (node_within net d.headend headend (found (faults.UnknownName 0) (node_numbered d.headend net.nodes) headend e))
+    (node_within net d.headend headend (found (faults.AtStep 0 kinds.UnknownName) (node_numbered d.headend net.nodes) headend e))
     ((steps_walk net 1 headend d.steps).given steps f) last)))
 
 pub judged_keeps : (net : Network) (d : DescribedIntent) (i : Intent) → InRange d → judged net d ≡ Ok i → IsIntent net i

@@ -6,5 +6,4 @@ pub mod KeepsLemmas
 pub mod GivenLemmas
 pub mod RangeLemmas
 pub mod JudgingLemmas
-pub mod FaultLemmas
 pub mod NoFaultLemmas

@@ -16,6 +16,7 @@ use Rattle.intent_reader.specs.declared.intent.Step.{Step}
 use Rattle.intent_reader.specs.declared.intent.Step.TheVariants.{Links, Function}
 use Rattle.intent_reader.specs.declared.intent.Intent.{Intent}
 use Rattle.intent_reader.specs.declared.fault.IntentFault.TheVariants as faults
+use Rattle.intent_reader.specs.declared.fault.StepFault.TheVariants as kinds
 use Rattle.intent_reader.specs.Functions.{function_numbered}
 use Rattle.intent_reader.specs.Reading.{each_of}
 use Rattle.intent_reader.specs.Rules.{far_node, first_end, node_after, stand_after, ends_in_function, is_intent, IsIntent}
@@ -34,18 +35,18 @@ links_by net k (name ∷ names) =
     let fact = λ (set : List ℕ). all_some (λ n. link_numbered n net.links) (name ∷ names) ≡ Some set in
     after fact (link_at net k name) _ (λ n e.
     after fact (each_of (link_at net k) names) _ (λ ns f.
-    let first : link_numbered name net.links ≡ Some n = found (faults.UnknownName k) (link_numbered name net.links) n e in
+    let first : link_numbered name net.links ≡ Some n = found (faults.AtStep k kinds.UnknownName) (link_numbered name net.links) n e in
     of_value fact (n ∷ ns) (rw (first, (links_by net k names).given ns f) refl)))
 
 step_by : (net : Network) (k : ℕ) (d : DescribedStep) → Holds (λ s. step_by_names net d ≡ Some s) (step_named net k d)
 step_by net k (described.Links names) =
     let fact = λ (s : Step). step_by_names net (described.Links names) ≡ Some s in
     after fact (each_of (link_at net k) names) _ (λ set e.
-    tested fact (are_distinct same_number set) (Links set) (faults.DoubleLink k) (λ once. rw ((links_by net k names).given set e) refl))
+    tested fact (are_distinct same_number set) (Links set) (faults.AtStep k kinds.DoubleLink) (λ once. rw ((links_by net k names).given set e) refl))
 step_by net k (described.Function title) =
     let fact = λ (s : Step). step_by_names net (described.Function title) ≡ Some s in
-    after fact (or_fault (faults.NoFunction k) (function_numbered title net)) _ (λ sid e.
-    of_value fact (Function sid) (rw (found (faults.NoFunction k) (function_numbered title net) sid e) refl))
+    after fact (or_fault (faults.AtStep k kinds.NoFunction) (function_numbered title net)) _ (λ sid e.
+    of_value fact (Function sid) (rw (found (faults.AtStep k kinds.NoFunction) (function_numbered title net) sid e) refl))
 
 steps_by : (net : Network) (k node : ℕ) (ds : List DescribedStep)
     → Holds (λ steps. all_some (step_by_names net) ds ≡ Some steps) (steps_from net k node ds)
@@ -60,10 +61,10 @@ steps_by net k node (d ∷ ds) =
 judged_by : (net : Network) (d : DescribedIntent) → Holds (λ i. intent_by_names net d ≡ Some i) (judged net d)
 judged_by net d =
     let fact = λ (i : Intent). intent_by_names net d ≡ Some i in
-    after fact (or_fault (faults.UnknownName 0) (node_numbered d.headend net.nodes)) _ (λ headend e.
+    after fact (or_fault (faults.AtStep 0 kinds.UnknownName) (node_numbered d.headend net.nodes)) _ (λ headend e.
     after fact (steps_from net 1 headend d.steps) _ (λ steps f.
     tested fact (ends_in_function steps) (intent_with d headend steps) faults.NotFunctionLast (λ last.
-    rw (found (faults.UnknownName 0) (node_numbered d.headend net.nodes) headend e, (steps_by net 1 headend d.steps).given steps f) refl)))
+    rw (found (faults.AtStep 0 kinds.UnknownName) (node_numbered d.headend net.nodes) headend e, (steps_by net 1 headend d.steps).given steps f) refl)))
 
 -- ---- what keeps the rules is given
 

@@ -4,14 +4,15 @@ use Rattle.std.specs.Prelude.{pos, negsuc, Result, Ok}
 use Rattle.std.proofs.lemmas.Bool.{and_parts, leb-true}
 use Rattle.toml.specs.Data.{Data, Members, get_member}
 use Rattle.net_model.specs.declared.limits.TheConstants.{LAST_OCTET, LAST_FLOW_LABEL, DEFAULT_HOP_LIMIT}
-use Rattle.net_model.specs.declared.fault.FaultPlace.{FaultPlace}
-use Rattle.net_model.specs.declared.fault.Key.{Key}
-use Rattle.net_model.specs.declared.fault.Key.TheVariants as keys
-use Rattle.net_model.specs.declared.fault.TableKind.{TableKind}
-use Rattle.net_model.specs.declared.fault.TableKind.TheVariants as tables
-use Rattle.net_model.specs.declared.fault.NetFault.{NetFault}
-use Rattle.net_model.specs.declared.fault.NetFault.TheVariants as net_faults
-use Rattle.net_model.specs.Keys.{key_text}
+use Rattle.text_faults.specs.declared.place.FaultPlace.{FaultPlace}
+use Rattle.text_faults.specs.declared.place.Key.{Key}
+use Rattle.text_faults.specs.declared.place.Key.TheVariants as keys
+use Rattle.text_faults.specs.declared.place.TableKind.{TableKind}
+use Rattle.text_faults.specs.declared.place.TableKind.TheVariants as tables
+use Rattle.text_faults.specs.declared.fault.TextFault.{TextFault}
+use Rattle.text_faults.specs.declared.kind.FaultKind.TheVariants as kinds
+use Rattle.text_faults.specs.Faults.{fault_at}
+use Rattle.text_faults.specs.Keys.{key_text}
 use Rattle.toml_words.specs.Reading.{or_fault, document_of}
 use Rattle.toml_words.specs.Tree.{integer_in, number_within, number_in, name_in, addr_in, word_in, needed, or_default, optional, only, count_in, few, each_from, tables_in, items_at}
 use Rattle.net_words.specs.declared.limits.TheConstants.{MAX_STEPS, MAX_CONTAINERS, DEFAULT_CONTAINERS}
@@ -46,7 +47,7 @@ optional_holds least most default is p t k = default_holds least most default is
 
 -- ---- counts
 
-each_count : {X Y : Type 0} (read : ℕ → X → Result Y NetFault) (n : ℕ) (xs : List X)
+each_count : {X Y : Type 0} (read : ℕ → X → Result Y TextFault) (n : ℕ) (xs : List X)
     → Holds (λ ys. length ys ≡ length xs) (each_from read n xs)
 each_count read n [] = of_value (λ ys. length ys ≡ 0) [] refl
 each_count read n (x ∷ xs) =
@@ -61,7 +62,7 @@ few_holds : {X : Type 0} (p : FaultPlace) (k : Key) (most : ℕ) (xs : List X) �
 few_holds p k most xs = after (λ ys. length ys ≤ most) (count_in p k most (length xs)) _ (λ n e.
     of_value (λ ys. length ys ≤ most) xs ((count_holds p k most (length xs)).given n e))
 
-items_hold : {X : Type 0} (kind : TableKind) (k : Key) (most : ℕ) (read : FaultPlace → Members → Result X NetFault) (root : Members)
+items_hold : {X : Type 0} (kind : TableKind) (k : Key) (most : ℕ) (read : FaultPlace → Members → Result X TextFault) (root : Members)
     → Holds (λ ys. length ys ≤ most) (items_at kind k most read root)
 items_hold kind k most read root =
     let p : FaultPlace = record { table = kind; item = 0 } in
@@ -79,7 +80,7 @@ IsSteps steps = (1 ≤ length steps) × (length steps ≤ MAX_STEPS)
 
 steps_hold : (root : Members) → Holds IsSteps (steps_at root)
 steps_hold root =
-    after IsSteps (or_fault (net_faults.MissingKey tables.Intent 0 keys.Step) (get_member (key_text keys.Step) root)) _ (λ here e.
+    after IsSteps (or_fault (fault_at intent_place (kinds.MissingKey keys.Step)) (get_member (key_text keys.Step) root)) _ (λ here e.
     after IsSteps (items_at tables.Step keys.Step MAX_STEPS step_of root) _ (λ all f.
     tested IsSteps _ all _ (λ h. (leb-true _ _ h, (items_hold tables.Step keys.Step MAX_STEPS step_of root).given all f))))
 
@@ -136,6 +137,6 @@ said_holds root =
     })))))))))))
 
 pub said_in_range : (text : List ℕ) (d : DescribedIntent) → intent_in text ≡ Ok d → InRange d
-said_in_range text d h = (after InRange (or_fault net_faults.NotToml (document_of text)) _ (λ root e. said_holds root)).given d h
+said_in_range text d h = (after InRange (or_fault (fault_at intent_place kinds.NotToml) (document_of text)) _ (λ root e. said_holds root)).given d h
 
 pub ruleset ranges = (said_in_range)

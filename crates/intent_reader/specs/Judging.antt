@@ -16,6 +16,7 @@ use Rattle.intent_reader.specs.declared.intent.Step.TheVariants.{Links, Function
 use Rattle.intent_reader.specs.declared.intent.Intent.{Intent}
 use Rattle.intent_reader.specs.declared.fault.IntentFault.{IntentFault}
 use Rattle.intent_reader.specs.declared.fault.IntentFault.TheVariants as faults
+use Rattle.intent_reader.specs.declared.fault.StepFault.TheVariants as kinds
 use Rattle.intent_reader.specs.Functions.{function_numbered}
 use Rattle.intent_reader.specs.Reading.{checked, each_of, of_text}
 use Rattle.intent_reader.specs.Rules.{node_after, ends_in_function}
@@ -24,22 +25,22 @@ use Rattle.intent_reader.specs.Rules.{node_after, ends_in_function}
 
 -- the number of a link in step k
 abbrev pub link_at : Network → ℕ → List ℕ → Result ℕ IntentFault
-link_at net k name = or_fault (faults.UnknownName k) (link_numbered name net.links)
+link_at net k name = or_fault (faults.AtStep k kinds.UnknownName) (link_numbered name net.links)
 
 -- step k by its names: its links, each once, or the SID with its title
 abbrev pub step_named : Network → ℕ → DescribedStep → Result Step IntentFault
 step_named net k (described.Links names) = do
   set ← each_of (link_at net k) names
-  checked (faults.DoubleLink k) (are_distinct same_number set) (Links set)
+  checked (faults.AtStep k kinds.DoubleLink) (are_distinct same_number set) (Links set)
 step_named net k (described.Function title) = do
-  sid ← or_fault (faults.NoFunction k) (function_numbered title net)
+  sid ← or_fault (faults.AtStep k kinds.NoFunction) (function_numbered title net)
   Ok (Function sid)
 
 -- step k doesn't lead on from the node where it stands: its links don't start there, end apart or leave the network, or its
 -- SID isn't there
 abbrev pub astray : ℕ → Step → IntentFault
-astray k (Links set) = faults.Broken k
-astray k (Function sid) = faults.NoFunction k
+astray k (Links set) = faults.AtStep k kinds.Broken
+astray k (Function sid) = faults.AtStep k kinds.NoFunction
 
 -- steps, the first of which has number k and stands at the node; each later one stands where the one before it ended
 abbrev pub steps_from : Network → ℕ → ℕ → List DescribedStep → Result (List Step) IntentFault
@@ -74,7 +75,7 @@ intent_with d headend steps = record {
 -- the headend counts as step 0
 abbrev pub judged : Network → DescribedIntent → Result Intent IntentFault
 judged net d = do
-  headend ← or_fault (faults.UnknownName 0) (node_numbered d.headend net.nodes)
+  headend ← or_fault (faults.AtStep 0 kinds.UnknownName) (node_numbered d.headend net.nodes)
   steps ← steps_from net 1 headend d.steps
   checked faults.NotFunctionLast (ends_in_function steps) (intent_with d headend steps)
 

@@ -1,3 +1,4 @@
+pub mod Faults
 pub mod Rules
 pub mod Functions
 pub mod Reading

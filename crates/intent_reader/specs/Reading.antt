@@ -1,16 +1,16 @@
 -- What reading an intent gives: a value, or the first fault.
-use Rattle.std.specs.Prelude.{◌≡◌, ◌≢◌, Bool, List, [], ◌∷◌, Result, Ok, Err, if◌then◌else◌}
-use Rattle.net_model.specs.declared.fault.NetFault.{NetFault}
+use Rattle.std.specs.Prelude.{Bool, List, [], ◌∷◌, Result, Ok, Err, if◌then◌else◌}
+use Rattle.text_faults.specs.declared.fault.TextFault.{TextFault}
 use Rattle.toml_words.specs.Reading.{◌>>=◌}
 use Rattle.intent_reader.specs.declared.fault.IntentFault.{IntentFault}
-use Rattle.intent_reader.specs.declared.fault.IntentFault.TheVariants.{Text, NoMemory}
+use Rattle.intent_reader.specs.declared.fault.IntentFault.TheVariants.{Text}
 
 -- a value that passes a test, and else this fault
 abbrev pub checked : {X : Type 0} → IntentFault → Bool → X → Result X IntentFault
 checked fault passes x = if passes then Ok x else Err fault
 
 -- what a text says, with its fault as one of the intent's text
-abbrev pub of_text : {X : Type 0} → Result X NetFault → Result X IntentFault
+abbrev pub of_text : {X : Type 0} → Result X TextFault → Result X IntentFault
 of_text (Ok x) = Ok x
 of_text (Err fault) = Err (Text fault)
 
@@ -21,8 +21,3 @@ each_of read (x ∷ xs) = do
   y ← read x
   ys ← each_of read xs
   Ok (y ∷ ys)
-
--- a result, as it is seen, is the one that is wanted; want of memory says nothing
-abbrev pub Gives : {X Y : Type 0} → (X → Y) → Result X IntentFault → Result Y IntentFault → Type 0
-Gives see (Ok x) wanted = wanted ≡ Ok (see x)
-Gives see (Err fault) wanted = (fault ≢ NoMemory) → wanted ≡ Err fault

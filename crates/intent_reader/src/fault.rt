@@ -1,64 +1,111 @@
-use net_model::NetFault;
-use std::alloc::{AllocError, AllocFailed};
-use thiserror::Error;
+//! Why a text gives no intent in a network.
 
-/// Why a text gives no intent in a network: the first fault (own rules). Each `step` is the number
-/// of a step in the order of the file, counted from 1; the headend counts as step 0.
-#[derive(Clone, Copy, Debug, PartialEq, Eq, Error)]
-pub enum IntentFault {
-    /// The text is not TOML, or not that of an intent; the fault is never `NetFault::NoMemory`.
-    #[error("{0}")]
-    Text(NetFault),
-    /// No node has the headend's name, or no link has a name of a step.
-    #[error("step {step} has an unknown name")]
-    UnknownName {
-        /// The step's number.
-        step: u32,
-    },
-    /// The links of a step do not start where the step stands, end apart, or leave the network.
-    #[error("the links of step {step} do not lead on")]
-    Broken {
-        /// The step's number.
-        step: u32,
-    },
-    /// No SID has the title of a step, or its SID is not at the node where the step stands.
-    #[error("step {step} finds no function")]
-    NoFunction {
-        /// The step's number.
-        step: u32,
-    },
-    /// The last step is no function.
-    #[error("the last step is no function")]
-    NotFunctionLast,
-    /// A link stands twice in a step.
-    #[error("step {step} has a link twice")]
-    DoubleLink {
-        /// The step's number.
-        step: u32,
-    },
-    /// Memory ran out, which says nothing about the text.
-    #[error("out of memory")]
-    NoMemory,
+ghost use Rattle.std.specs.Prelude.{◌≡◌, Some};
+ghost use Rattle.intent_reader.specs.Faults.{step_fault_number, step_fault_name, intent_fault_number, intent_fault_text};
+
+use std::fmt;
+use std::fmt::{Display, Formatter};
+use text_faults::{OrNoMemory, TextFault};
+
+/// What is wrong with a step (own rules).
+#[derive(Clone, Copy, Debug, PartialEq, Eq)]
+pub enum StepFault {
+    /// No node has the headend's name, or no link has a name of the step.
+    UnknownName,
+    /// Its links do not start where the step stands, end apart, or leave the network.
+    Broken,
+    /// No SID has its title, or the SID is not at the node where the step stands.
+    NoFunction,
+    /// A link stands twice in it.
+    DoubleLink,
 }
 
-impl From<AllocError> for IntentFault {
-    ghost use Rattle.std.specs.Prelude.{◌≡◌};
-    ghost use Rattle.intent_reader.specs.declared.fault.IntentFault.TheVariants.{NoMemory};
+/// The first fault of a text that gives no intent in a network (own rules).
+#[derive(Clone, Copy, Debug, PartialEq, Eq)]
+pub enum IntentFault {
+    /// The text is not TOML, or does not say an intent.
+    Text(TextFault),
+    /// A fault of a step.
+    AtStep {
+        /// The step's number in the order of the file, counted from 1; the headend counts as 0.
+        step: u32,
+        /// What is wrong with it.
+        kind: StepFault,
+    },
+    /// The last step is no function.
+    NotFunctionLast,
+}
 
-    ghost from_gives = { λ _ fault. fault ≡ NoMemory };
+impl StepFault {
+    /// The fault of the step with a number (own rule).
+    pub fn at(self, step: u32) -> IntentFault
+        ensures { result ≡ IntentFault.AtStep step self }
+    {
+        IntentFault::AtStep { step, kind: self }
+    }
 
-    fn from(_: AllocError) -> IntentFault {
-        IntentFault::NoMemory
+    /// The number of the fault's refusal (own rule).
+    pub fn number(self) -> u8
+        ensures { result ≡ step_fault_number self }
+    {
+        match self {
+            StepFault::UnknownName => 34,
+            StepFault::Broken => 35,
+            StepFault::NoFunction => 36,
+            StepFault::DoubleLink => 38,
+        }
+    }
+
+    /// The fault's name (own rule).
+    #[tactic(auto, unfolding(crate::specs::Faults::step_fault_name))]
+    pub fn name(self) -> &'static str
+        ensures { result.now ≡ step_fault_name self }
+    {
+        match self {
+            StepFault::UnknownName => "UnknownName",
+            StepFault::Broken => "Broken",
+            StepFault::NoFunction => "NoFunction",
+            StepFault::DoubleLink => "DoubleLink",
+        }
     }
 }
 
-impl<T: Drop> From<AllocFailed<T>> for IntentFault {
-    ghost use Rattle.std.specs.Prelude.{◌≡◌};
-    ghost use Rattle.intent_reader.specs.declared.fault.IntentFault.TheVariants.{NoMemory};
+impl IntentFault {
+    /// The number of the fault's refusal (own rule).
+    pub fn number(self) -> u8
+        ensures { result ≡ intent_fault_number self }
+    {
+        match self {
+            IntentFault::Text(_) => 33,
+            IntentFault::AtStep { kind, .. } => kind.number(),
+            IntentFault::NotFunctionLast => 37,
+        }
+    }
+}
 
-    ghost from_gives = { λ _ fault. fault ≡ NoMemory };
+/// The fault's name, and the text's fault or the step.
+impl Display for IntentFault {
+    ghost output = { λ fault. Some (intent_fault_text fault) };
 
-    fn from(_: AllocFailed<T>) -> IntentFault {
-        IntentFault::NoMemory
+    #[tactic(auto, unfolding(crate::specs::Faults::intent_fault_text))]
+    fn fmt<W: fmt::Write>(&self, f: &mut Formatter<W>) -> fmt::Result {
+        match self {
+            IntentFault::Text(fault) => write!(f, "Text {fault}"),
+            IntentFault::AtStep { step, kind } => {
+                let name = kind.name();
+                write!(f, "{name} {step}")
+            }
+            IntentFault::NotFunctionLast => write!(f, "NotFunctionLast"),
+        }
+    }
+}
+
+impl From<IntentFault> for OrNoMemory<IntentFault> {
+    ghost use Rattle.text_faults.specs.declared.fault.OrNoMemory.TheVariants.{Fault};
+
+    ghost from_gives = { λ fault why. why ≡ Fault fault };
+
+    fn from(fault: IntentFault) -> OrNoMemory<IntentFault> {
+        OrNoMemory::Fault(fault)
     }
 }

@@ -15,7 +15,7 @@ mod read;
 mod rules;
 mod steps;
 
-pub use fault::IntentFault;
+pub use fault::{IntentFault, StepFault};
 pub use intent::{Intent, Step, Steps};
 pub use laws::{
     intents_have_walks, no_fault_is_keeping_the_rules, steps_lead_on, walks_stay_at_nodes,

@@ -8,22 +8,25 @@ ghost use Rattle.net_model.specs.Named.{node_numbered};
 ghost use Rattle.net_model.specs.Rules.{are_distinct, same_number};
 ghost use Rattle.toml_words.specs.Reading.{or_fault};
 ghost use Rattle.intent_reader.specs.declared.fault.IntentFault.TheVariants as faults;
+ghost use Rattle.intent_reader.specs.declared.fault.StepFault.TheVariants as kinds;
 ghost use Rattle.intent_reader.specs.Functions.{has_title, function_numbered, IsFunctionNumbered};
-ghost use Rattle.intent_reader.specs.Reading.{each_of, Gives};
+ghost use Rattle.text_faults.specs.Reading.{Gives};
+ghost use Rattle.intent_reader.specs.Reading.{each_of};
 ghost use Rattle.intent_reader.specs.Judging.{link_at};
 
-use crate::fault::IntentFault;
+use crate::fault::{IntentFault, StepFault};
 use net_model::{Name, Net};
 use srv6_rules::{LinkSet, SidEntry};
 use std::alloc::Global;
+use text_faults::OrNoMemory;
 
 /// The number of the headend.
 pub(crate) fn headend(net: &Net, name: &Name) -> Result<u32, IntentFault>
-    ensures { result ≡ or_fault (faults.UnknownName 0) (node_numbered name.now net.now.nodes) }
+    ensures { result ≡ or_fault (faults.AtStep 0 kinds.UnknownName) (node_numbered name.now net.now.nodes) }
 {
     match net.node_named(name.as_bytes()) {
         Some(node) => Ok(node),
-        None => Err(IntentFault::UnknownName { step: 0 }),
+        None => Err(StepFault::UnknownName.at(0)),
     }
 }
 
@@ -33,7 +36,7 @@ fn link_at(net: &Net, step: u32, name: &Name) -> Result<u32, IntentFault>
 {
     match net.link_named(name.as_bytes()) {
         Some(link) => Ok(link),
-        None => Err(IntentFault::UnknownName { step }),
+        None => Err(StepFault::UnknownName.at(step)),
     }
 }
 
@@ -44,7 +47,7 @@ pub(crate) fn links_at(
     net: &Net,
     step: u32,
     names: &[Name],
-) -> Result<LinkSet, IntentFault>
+) -> Result<LinkSet, OrNoMemory<IntentFault>>
     ensures { Gives (λ s. s) result (each_of (link_at net.now step) names.now) }
 {
     let mut links = Vec::new(alloc);

@@ -1,10 +1,9 @@
 //! From the text of an intent to its value.
 
-ghost use Rattle.std.specs.Prelude.{◌≡◌, ◌≢◌, IfOk, Err};
-ghost use Rattle.net_model.specs.declared.fault.NetFault.TheVariants as net_faults;
+ghost use Rattle.std.specs.Prelude.{◌≡◌, IfOk};
 ghost use Rattle.net_words.specs.Intent.{intent_in};
-ghost use Rattle.intent_reader.specs.declared.fault.IntentFault.TheVariants as faults;
-ghost use Rattle.intent_reader.specs.Reading.{of_text, Gives};
+ghost use Rattle.text_faults.specs.Reading.{Gives};
+ghost use Rattle.intent_reader.specs.Reading.{of_text};
 ghost use Rattle.intent_reader.specs.Judging.{is_reduced, judged, intent_of_text};
 ghost use Rattle.intent_reader.specs.Described.{InRange};
 ghost use Rattle.intent_reader.specs.Rules.{IsIntent};
@@ -14,9 +13,10 @@ use crate::intent::Intent;
 use crate::names::headend;
 use crate::rules::ends_in_function;
 use crate::steps::steps_from;
-use net_model::{Net, NetFault};
+use net_model::Net;
 use net_words::{DescribedIntent, Mode};
 use std::alloc::Global;
+use text_faults::OrNoMemory;
 
 /// Whether a form is the reduced one.
 fn is_reduced(mode: Mode) -> bool
@@ -27,27 +27,30 @@ fn is_reduced(mode: Mode) -> bool
 
 /// What a text says.
 #[tactic(auto, using(crate::proofs::RangeLemmas::ranges))]
-fn described(alloc: Global, text: &[u8]) -> Result<DescribedIntent, IntentFault>
+fn described(alloc: Global, text: &[u8]) -> Result<DescribedIntent, OrNoMemory<IntentFault>>
     ensures said { Gives (λ d. d) result (of_text (intent_in text.now)) }
     ensures range { IfOk result (λ d. InRange d) }
-    ensures memory { result ≢ Err (faults.Text net_faults.NoMemory) }
 {
     match net_words::read_intent_words(alloc, text) {
         Ok(intent) => Ok(intent),
-        Err(NetFault::NoMemory) => Err(IntentFault::NoMemory),
-        Err(fault) => Err(IntentFault::Text(fault)),
+        Err(OrNoMemory::Fault(fault)) => Err(OrNoMemory::Fault(IntentFault::Text(fault))),
+        Err(OrNoMemory::NoMemory) => Err(OrNoMemory::NoMemory),
     }
 }
 
 /// The intent in the network that a description gives.
-fn judged(alloc: Global, net: &Net, described: DescribedIntent) -> Result<Intent, IntentFault>
+fn judged(
+    alloc: Global,
+    net: &Net,
+    described: DescribedIntent,
+) -> Result<Intent, OrNoMemory<IntentFault>>
     requires { InRange described }
     ensures { Gives (λ i. i) result (judged net.now described) }
 {
     let headend = headend(net, &described.headend)?;
     let steps = steps_from(alloc, net, headend, described.steps.as_slice())?;
     if !ends_in_function(steps.as_slice()) {
-        return Err(IntentFault::NotFunctionLast);
+        return Err(OrNoMemory::Fault(IntentFault::NotFunctionLast));
     }
     Ok(Intent {
         headend,
@@ -74,9 +77,8 @@ fn judged(alloc: Global, net: &Net, described: DescribedIntent) -> Result<Intent
 /// is not where the step stands. Last comes `NotFunctionLast`. `NoMemory` may come at any time, and
 /// says nothing about the text.
 #[tactic(auto, using(crate::proofs::JudgingLemmas::kept_intents))]
-pub fn read_intent(alloc: Global, text: &[u8], net: &Net) -> Result<Intent, IntentFault>
+pub fn read_intent(alloc: Global, text: &[u8], net: &Net) -> Result<Intent, OrNoMemory<IntentFault>>
     ensures reads { Gives (λ i. i) result (intent_of_text net.now text.now) }
-    ensures memory { result ≢ Err (faults.Text net_faults.NoMemory) }
     ensures keeps { IfOk result (λ i. IsIntent net.now i) }
 {
     let described = described(alloc, text)?;

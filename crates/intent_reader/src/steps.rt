@@ -2,17 +2,18 @@
 
 ghost use Rattle.std.specs.Prelude.{◌≡◌, ◌-◌, ◌<◌, ◌^◌, length};
 ghost use Rattle.toml_words.specs.Reading.{or_fault};
-ghost use Rattle.intent_reader.specs.Reading.{Gives};
+ghost use Rattle.text_faults.specs.Reading.{Gives};
 ghost use Rattle.intent_reader.specs.Rules.{node_after};
 ghost use Rattle.intent_reader.specs.Judging.{step_named, astray, steps_from};
 
-use crate::fault::IntentFault;
+use crate::fault::{IntentFault, StepFault};
 use crate::intent::{Step, Steps};
 use crate::names::{are_distinct, function_named, links_at};
 use crate::rules::node_after;
 use net_model::Net;
 use net_words::DescribedStep;
 use std::alloc::Global;
+use text_faults::OrNoMemory;
 
 /// The step with a number, by its names.
 fn step_named(
@@ -20,7 +21,7 @@ fn step_named(
     net: &Net,
     number: u32,
     described: &DescribedStep,
-) -> Result<Step, IntentFault>
+) -> Result<Step, OrNoMemory<IntentFault>>
     ensures { Gives (λ s. s) result (step_named net.now number described.now) }
 {
     match described {
@@ -29,12 +30,12 @@ fn step_named(
             if are_distinct(links.as_slice()) {
                 Ok(Step::Links(links))
             } else {
-                Err(IntentFault::DoubleLink { step: number })
+                Err(OrNoMemory::Fault(StepFault::DoubleLink.at(number)))
             }
         }
         DescribedStep::Function(title) => match function_named(net, title.as_bytes()) {
             Some(sid) => Ok(Step::Function(sid)),
-            None => Err(IntentFault::NoFunction { step: number }),
+            None => Err(OrNoMemory::Fault(StepFault::NoFunction.at(number))),
         },
     }
 }
@@ -44,8 +45,8 @@ fn astray(number: u32, step: &Step) -> IntentFault
     ensures { result ≡ astray number step.now }
 {
     match step {
-        Step::Links(_) => IntentFault::Broken { step: number },
-        Step::Function(_) => IntentFault::NoFunction { step: number },
+        Step::Links(_) => StepFault::Broken.at(number),
+        Step::Function(_) => StepFault::NoFunction.at(number),
     }
 }
 
@@ -66,7 +67,7 @@ pub(crate) fn steps_from(
     net: &Net,
     headend: u32,
     described: &[DescribedStep],
-) -> Result<Steps, IntentFault>
+) -> Result<Steps, OrNoMemory<IntentFault>>
     requires { length described.now < 2 ^ 32 - 1 }
     ensures { Gives (λ s. s) result (steps_from net.now 1 headend described.now) }
 {

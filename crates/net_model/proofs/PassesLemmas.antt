@@ -5,9 +5,9 @@ use Rattle.std.proofs.lemmas.List.Folds.{list_any-append}
 use Rattle.std.specs.List.{list_any, list_all}
 use Rattle.std.specs.Result.{is_ok}
 use Rattle.std.specs.Prelude.{Result, Ok, Err}
-use Rattle.net_model.specs.declared.fault.TableKind.{TableKind}
-use Rattle.net_model.specs.declared.fault.FaultPlace.{FaultPlace}
-use Rattle.net_model.specs.declared.fault.NetFault.{NetFault}
+use Rattle.text_faults.specs.declared.place.TableKind.{TableKind}
+use Rattle.text_faults.specs.declared.place.FaultPlace.{FaultPlace}
+use Rattle.text_faults.specs.declared.fault.TextFault.{TextFault}
 use Rattle.net_model.specs.Rules.{are_distinct}
 use Rattle.net_model.specs.Judging.{and_then, judged, stands_before}
 
@@ -16,15 +16,15 @@ abbrev pub passes : {X : Type 0} → (List X → X → Bool) → List X → List
 passes test before [] = true
 passes test before (x ∷ xs) = test before x && passes test (before ++ x ∷ []) xs
 
-pub and_then_ok : (r next : Result (Unit {0}) NetFault) → is_ok (and_then r next) ≡ (is_ok r && is_ok next)
+pub and_then_ok : (r next : Result (Unit {0}) TextFault) → is_ok (and_then r next) ≡ (is_ok r && is_ok next)
 and_then_ok (Ok u) next = refl
 and_then_ok (Err fault) next = refl
 
-pub then_ok : (r next : Result (Unit {0}) NetFault) (a b : Bool) → is_ok r ≡ a → is_ok next ≡ b → is_ok (and_then r next) ≡ (a && b)
+pub then_ok : (r next : Result (Unit {0}) TextFault) (a b : Bool) → is_ok r ≡ a → is_ok next ≡ b → is_ok (and_then r next) ≡ (a && b)
 then_ok r next a b e f = and_then_ok r next ∙ (ap (λ c. c && is_ok next) e ∙ ap (λ c. a && c) f)
 
 -- there is no fault exactly where each item passes
-pub judged_passes : {X : Type 0} (table : TableKind) (judge : List X → FaultPlace → X → Result (Unit {0}) NetFault)
+pub judged_passes : {X : Type 0} (table : TableKind) (judge : List X → FaultPlace → X → Result (Unit {0}) TextFault)
     (test : List X → X → Bool) → ((before : List X) (p : FaultPlace) (x : X) → is_ok (judge before p x) ≡ test before x)
     → (before xs : List X) → is_ok (judged table judge before xs) ≡ passes test before xs
 judged_passes table judge test each before [] = refl
@@ -35,7 +35,7 @@ judged_passes table judge test each before (x ∷ xs) =
     ∙ ap (λ b. test before x && b) (judged_passes table judge test each (before ++ x ∷ []) xs))
 
 -- the same of a list of items in range
-pub judged_passes_within : {X : Type 0} (table : TableKind) (judge : List X → FaultPlace → X → Result (Unit {0}) NetFault)
+pub judged_passes_within : {X : Type 0} (table : TableKind) (judge : List X → FaultPlace → X → Result (Unit {0}) TextFault)
     (range : X → Bool) (test : List X → X → Bool)
     → ((before : List X) (p : FaultPlace) (x : X) → range x ≡ true → is_ok (judge before p x) ≡ test before x)
     → (before xs : List X) → list_all range xs ≡ true → is_ok (judged table judge before xs) ≡ passes test before xs
@@ -103,7 +103,7 @@ pub passes_distinct : {X : Type 0} (same : X → X → Bool) (xs : List X)
 passes_distinct same xs = sym (distinct_passes same [] xs)
 
 -- a table whose items have a test of their own, and are distinct in one way
-pub judged_table : {X : Type 0} (table : TableKind) (judge : List X → FaultPlace → X → Result (Unit {0}) NetFault) (test : X → Bool)
+pub judged_table : {X : Type 0} (table : TableKind) (judge : List X → FaultPlace → X → Result (Unit {0}) TextFault) (test : X → Bool)
     (same : X → X → Bool)
     → ((before : List X) (p : FaultPlace) (x : X) → is_ok (judge before p x) ≡ (test x && not (stands_before same before x)))
     → (xs : List X) → is_ok (judged table judge [] xs) ≡ (list_all test xs && are_distinct same xs)

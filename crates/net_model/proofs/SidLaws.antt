@@ -8,11 +8,12 @@ use Rattle.std.specs.Result.{is_ok}
 use Rattle.srv6_rules.specs.declared.sid.SidEntry.{SidEntry}
 use Rattle.srv6_rules.specs.Behaviours.{behaviour_takes_links, behaviour_table, behaviour_policy, behaviour_takes_flavours}
 use Rattle.net_model.specs.declared.limits.TheConstants.{MAX_LINKS_OF_SET}
-use Rattle.net_model.specs.declared.fault.TableKind.{TableKind}
-use Rattle.net_model.specs.declared.fault.TableKind.TheVariants as tables
-use Rattle.net_model.specs.declared.fault.FaultPlace.{FaultPlace}
-use Rattle.net_model.specs.declared.fault.NetFault.{NetFault}
-use Rattle.net_model.specs.declared.fault.NetFault.TheVariants as faults
+use Rattle.text_faults.specs.declared.place.TableKind.{TableKind}
+use Rattle.text_faults.specs.declared.place.TableKind.TheVariants as tables
+use Rattle.text_faults.specs.declared.place.FaultPlace.{FaultPlace}
+use Rattle.text_faults.specs.declared.fault.TextFault.{TextFault}
+use Rattle.text_faults.specs.declared.kind.FaultKind.TheVariants as kinds
+use Rattle.text_faults.specs.Faults.{fault_at}
 use Rattle.net_model.specs.declared.parts.Block.{Block}
 use Rattle.net_model.specs.declared.parts.Link.{Link}
 use Rattle.net_model.specs.declared.standing.Standing.{Standing}
@@ -49,7 +50,7 @@ sid_within net s h =
     ∙ (ap (λ b. keeps_behaviour net s && b) (left_out_behind _ _ block.1 ∙ compressed)
     ∙ ap (λ b. b && suits_compression (block_of net.blocks s.prefix) s) (left_out _ _ table.0))))
 
-rows_of_joins : (a k u v t : Bool) (f g h i j : NetFault)
+rows_of_joins : (a k u v t : Bool) (f g h i j : TextFault)
     → is_ok (first_of ((not a, f) ∷ (not k, g) ∷ (u, h) ∷ (v, i) ∷ (t, j) ∷ [])) ≡ (a && (k && (not u && (not v && not t))))
 rows_of_joins false k u v t f g h i j = refl
 rows_of_joins true false u v t f g h i j = refl
@@ -58,12 +59,12 @@ rows_of_joins true true false true t f g h i j = refl
 rows_of_joins true true false false true f g h i j = refl
 rows_of_joins true true false false false f g h i j = refl
 
-rows_of_flavours : (fl c : Bool) (f g h : NetFault) → is_ok (first_of ((false, f) ∷ (not fl, g) ∷ (not c, h) ∷ [])) ≡ (fl && c)
+rows_of_flavours : (fl c : Bool) (f g h : TextFault) → is_ok (first_of ((false, f) ∷ (not fl, g) ∷ (not c, h) ∷ [])) ≡ (fl && c)
 rows_of_flavours false c f g h = refl
 rows_of_flavours true false f g h = refl
 rows_of_flavours true true f g h = refl
 
-rows_of_apart : (t d e : Bool) (f g h : NetFault) → is_ok (first_of ((t, f) ∷ (d, g) ∷ (e, h) ∷ [])) ≡ (not t && (not d && not e))
+rows_of_apart : (t d e : Bool) (f g h : TextFault) → is_ok (first_of ((t, f) ∷ (d, g) ∷ (e, h) ∷ [])) ≡ (not t && (not d && not e))
 rows_of_apart true d e f g h = refl
 rows_of_apart false true e f g h = refl
 rows_of_apart false false true f g h = refl
@@ -145,7 +146,7 @@ sid_law net before p s few_links =
     let fl = suits_flavours (behaviour_takes_flavours s.behaviour) s.psp s.usp s.usd in
     let c = suits_compression (block_of net.blocks s.prefix) s in
     then_ok joins (and_then flavours apart) _ _ (joins_law net p s few_links)
-    (then_ok flavours apart (fl && c) (apart_test net.titles before s) (rows_of_flavours fl c (faults.BadFlavour p.table p.item) _ _)
+    (then_ok flavours apart (fl && c) (apart_test net.titles before s) (rows_of_flavours fl c (fault_at p kinds.BadFlavour) _ _)
     (rows_of_apart (stands_before (same_title_text net.titles) before s) (stands_before same_sid before s) (is_full before s)
     _ _ _))
     ∙ regroup (nat_lt s.node (length net.nodes)) (suits_policy (length net.policies) (behaviour_policy s.behaviour))
@@ -255,12 +256,12 @@ joins_weaker net k p s h =
     ∙ keys_weaker a (suits_keys k s) (suits_keys (fitting s) s) (not u && (not v && not t)) (keys_fit k s)
     (sym (rows_of_joins a (suits_keys k s) u v t _ _ _ _ _) ∙ h)
 
-flavours_weaker : (twice : Bool) (f : NetFault) (rows : List (Bool × NetFault)) → is_ok (first_of ((twice, f) ∷ rows)) ≡ true
+flavours_weaker : (twice : Bool) (f : TextFault) (rows : List (Bool × TextFault)) → is_ok (first_of ((twice, f) ∷ rows)) ≡ true
     → is_ok (first_of rows) ≡ true
 flavours_weaker true f rows h = cc
 flavours_weaker false f rows h = h
 
-then_weaker : (r s next more : Result (Unit {0}) NetFault) → (is_ok r ≡ true → is_ok s ≡ true) → (is_ok next ≡ true → is_ok more ≡ true)
+then_weaker : (r s next more : Result (Unit {0}) TextFault) → (is_ok r ≡ true → is_ok s ≡ true) → (is_ok next ≡ true → is_ok more ≡ true)
     → is_ok (and_then r next) ≡ true → is_ok (and_then s more) ≡ true
 then_weaker r s next more f g h =
     let parts = and_parts _ _ (sym (and_then_ok r next) ∙ h) in
@@ -269,14 +270,14 @@ then_weaker r s next more f g h =
 sid_weaker : (net : Network) (k : Standing) (before : List SidEntry) (p : FaultPlace) (s : SidEntry)
     → is_ok (judge_standing net k before p s) ≡ true → is_ok (judge_standing net (fitting s) before p s) ≡ true
 sid_weaker net k before p s =
-    let bad = faults.BadFlavour p.table p.item in
-    let rows : List (Bool × NetFault) = (not (suits_flavours (behaviour_takes_flavours s.behaviour) s.psp s.usp s.usd), bad)
+    let bad = fault_at p kinds.BadFlavour in
+    let rows : List (Bool × TextFault) = (not (suits_flavours (behaviour_takes_flavours s.behaviour) s.psp s.usp s.usd), bad)
     ∷ (not (suits_compression (block_of net.blocks s.prefix) s), bad) ∷ [] in
     then_weaker (judge_joins net k p s) (judge_joins net (fitting s) p s) _ _ (joins_weaker net k p s)
     (then_weaker (judge_flavours net k p s) (judge_flavours net (fitting s) p s) (judge_apart net.titles before p s)
     (judge_apart net.titles before p s) (flavours_weaker k.double_flavour bad rows) (λ h. h))
 
-judged_weaker : {X : Type 0} (table : TableKind) (judge other : List X → FaultPlace → X → Result (Unit {0}) NetFault)
+judged_weaker : {X : Type 0} (table : TableKind) (judge other : List X → FaultPlace → X → Result (Unit {0}) TextFault)
     → ((before : List X) (p : FaultPlace) (x : X) → is_ok (judge before p x) ≡ true → is_ok (other before p x) ≡ true)
     → (before xs : List X) → is_ok (judged table judge before xs) ≡ true → is_ok (judged table other before xs) ≡ true
 judged_weaker table judge other each before [] h = refl
@@ -285,7 +286,7 @@ judged_weaker table judge other each before (x ∷ xs) h =
     then_weaker (judge before p x) (other before p x) (judged table judge (before ++ x ∷ []) xs) (judged table other (before ++ x ∷ []) xs)
     (each before p x) (judged_weaker table judge other each (before ++ x ∷ []) xs) h
 
-rest_weaker : (r next more : Result (Unit {0}) NetFault) → (is_ok next ≡ true → is_ok more ≡ true)
+rest_weaker : (r next more : Result (Unit {0}) TextFault) → (is_ok next ≡ true → is_ok more ≡ true)
     → is_ok (and_then r next) ≡ true → is_ok (and_then r more) ≡ true
 rest_weaker r next more g = then_weaker r r next more (λ h. h) g
 
@@ -293,14 +294,14 @@ judging_weaker : (net : Network) (standings : List Standing) → is_ok (judging 
 unfolding judging
 judging_weaker net standings =
     let nodes = length net.nodes in
-    let sids : List Standing → Result (Unit {0}) NetFault = λ ks. judged tables.Sid (judge_sid net ks) [] net.sids in
-    let policies : List Standing → Result (Unit {0}) NetFault =
+    let sids : List Standing → Result (Unit {0}) TextFault = λ ks. judged tables.Sid (judge_sid net ks) [] net.sids in
+    let policies : List Standing → Result (Unit {0}) TextFault =
     λ ks. and_then (judged tables.Policy judge_policy [] net.policies) (sids ks) in
-    let routes : List Standing → Result (Unit {0}) NetFault =
+    let routes : List Standing → Result (Unit {0}) TextFault =
     λ ks. and_then (judged tables.Route (judge_route nodes net.links) [] net.routes) (policies ks) in
-    let links : List Standing → Result (Unit {0}) NetFault =
+    let links : List Standing → Result (Unit {0}) TextFault =
     λ ks. and_then (judged tables.Link (judge_link nodes) [] net.links) (routes ks) in
-    let others : List Standing → Result (Unit {0}) NetFault = λ ks. and_then (judged tables.Node judge_node [] net.nodes) (links ks) in
+    let others : List Standing → Result (Unit {0}) TextFault = λ ks. and_then (judged tables.Node judge_node [] net.nodes) (links ks) in
     rest_weaker (judged tables.Block judge_block [] net.blocks) (others standings) (others [])
     (rest_weaker (judged tables.Node judge_node [] net.nodes) (links standings) (links [])
     (rest_weaker (judged tables.Link (judge_link nodes) [] net.links) (routes standings) (routes [])
@@ -311,7 +312,7 @@ judging_weaker net standings =
 
 -- ---- the law
 
-ok_from : (r : Result (Unit {0}) NetFault) → is_ok r ≡ true → r ≡ Ok tt
+ok_from : (r : Result (Unit {0}) TextFault) → is_ok r ≡ true → r ≡ Ok tt
 ok_from (Ok u) h = refl
 ok_from (Err fault) h = cc
 

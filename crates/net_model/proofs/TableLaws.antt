@@ -7,8 +7,8 @@ use Rattle.std.specs.Prelude.{nat_lt, nat_le}
 use Rattle.std.specs.List.{list_any, list_all, slice_get}
 use Rattle.std.specs.Result.{is_ok}
 use Rattle.net_model.specs.declared.limits.TheConstants.{MAX_BLOCKS, MAX_NODES, MAX_LINKS, MAX_ROUTES, MAX_POLICIES, MAX_LINKS_OF_SET}
-use Rattle.net_model.specs.declared.fault.TableKind.TheVariants as tables
-use Rattle.net_model.specs.declared.fault.NetFault.{NetFault}
+use Rattle.text_faults.specs.declared.place.TableKind.TheVariants as tables
+use Rattle.text_faults.specs.declared.fault.TextFault.{TextFault}
 use Rattle.net_model.specs.declared.parts.Block.{Block}
 use Rattle.net_model.specs.declared.parts.NamedPolicy.{NamedPolicy}
 use Rattle.net_model.specs.declared.parts.Node.{Node}
@@ -20,7 +20,7 @@ use Rattle.net_model.proofs.PassesLemmas.{passes, judged_passes, passes_both, pa
 
 -- ---- blocks
 
-rows_of_block : (a d : Bool) (f g : NetFault) → is_ok (first_of ((not a, f) ∷ (d, g) ∷ [])) ≡ (a && not d)
+rows_of_block : (a d : Bool) (f g : TextFault) → is_ok (first_of ((not a, f) ∷ (d, g) ∷ [])) ≡ (a && not d)
 rows_of_block true true f g = refl
 rows_of_block true false f g = refl
 rows_of_block false d f g = refl
@@ -42,7 +42,7 @@ blocks_law blocks h =
 
 -- ---- nodes
 
-rows_of_node : (d e : Bool) (f g : NetFault) → is_ok (first_of ((d, f) ∷ (e, g) ∷ [])) ≡ (not d && not e)
+rows_of_node : (d e : Bool) (f g : TextFault) → is_ok (first_of ((d, f) ∷ (e, g) ∷ [])) ≡ (not d && not e)
 rows_of_node true e f g = refl
 rows_of_node false true f g = refl
 rows_of_node false false f g = refl
@@ -62,7 +62,7 @@ nodes_law nodes h =
 
 -- ---- links
 
-rows_of_link : (d a u e : Bool) (f g h i : NetFault)
+rows_of_link : (d a u e : Bool) (f g h i : TextFault)
     → is_ok (first_of ((d, f) ∷ (not a, g) ∷ (u, h) ∷ (e, i) ∷ [])) ≡ ((a && (not u && not e)) && not d)
 rows_of_link true a u e f g h i = sym (and_right _ false refl)
 rows_of_link false true true e f g h i = refl
@@ -124,7 +124,7 @@ set_law links node set h = ap (λ b. nat_le 1 (length set) && b) (left_out _ _ h
 
 -- ---- routes
 
-rows_of_route : (a u s d : Bool) (f g h i : NetFault)
+rows_of_route : (a u s d : Bool) (f g h i : TextFault)
     → is_ok (first_of ((not a, f) ∷ (u, g) ∷ (not s, h) ∷ (d, i) ∷ [])) ≡ ((a && (not u && s)) && not d)
 rows_of_route true true s d f g h i = refl
 rows_of_route true false true true f g h i = refl
@@ -156,7 +156,7 @@ routes_law node_count links routes h =
 
 -- ---- policies
 
-rows_of_policy : (d e : Bool) (f g : NetFault) → is_ok (first_of ((d, f) ∷ (e, g) ∷ [])) ≡ (not e && not d)
+rows_of_policy : (d e : Bool) (f g : TextFault) → is_ok (first_of ((d, f) ∷ (e, g) ∷ [])) ≡ (not e && not d)
 rows_of_policy true true f g = refl
 rows_of_policy true false f g = refl
 rows_of_policy false true f g = refl

@@ -6,12 +6,13 @@ use Rattle.srv6_rules.specs.declared.sid.SidEntry.{SidEntry}
 use Rattle.srv6_rules.specs.Behaviours.{behaviour_goes_on, behaviour_takes_links, behaviour_table, behaviour_policy, behaviour_takes_flavours, is_plain}
 use Rattle.net_model.specs.declared.limits.TheConstants.{MAX_BLOCKS, MAX_NODES, MAX_LINKS, MAX_ROUTES, MAX_POLICIES, MAX_SIDS, MAX_SIDS_OF_NODE, MAX_LINKS_OF_SET}
 use Rattle.srv6_rules.specs.declared.numbers.TheConstants.{MAX_SEGMENTS}
-use Rattle.net_model.specs.declared.fault.TableKind.{TableKind}
-use Rattle.net_model.specs.declared.fault.TableKind.TheVariants as tables
-use Rattle.net_model.specs.declared.fault.Key.TheVariants as keys
-use Rattle.net_model.specs.declared.fault.FaultPlace.{FaultPlace}
-use Rattle.net_model.specs.declared.fault.NetFault.{NetFault}
-use Rattle.net_model.specs.declared.fault.NetFault.TheVariants as faults
+use Rattle.text_faults.specs.declared.place.TableKind.{TableKind}
+use Rattle.text_faults.specs.declared.place.TableKind.TheVariants as tables
+use Rattle.text_faults.specs.declared.place.Key.TheVariants as keys
+use Rattle.text_faults.specs.declared.place.FaultPlace.{FaultPlace}
+use Rattle.text_faults.specs.declared.fault.TextFault.{TextFault}
+use Rattle.text_faults.specs.declared.kind.FaultKind.TheVariants as kinds
+use Rattle.text_faults.specs.Faults.{fault_at}
 use Rattle.net_model.specs.declared.parts.Block.{Block}
 use Rattle.net_model.specs.declared.parts.NamedPolicy.{NamedPolicy}
 use Rattle.net_model.specs.declared.parts.Node.{Node}
@@ -67,18 +68,18 @@ pub record InRange (net : Network) : Type 0 where
 -- ---- judging
 
 -- of tests with their faults the first that holds
-abbrev pub first_of : List (Bool × NetFault) → Result (Unit {0}) NetFault
+abbrev pub first_of : List (Bool × TextFault) → Result (Unit {0}) TextFault
 first_of [] = Ok tt
 first_of (row ∷ rows) = if row.0 then Err row.1 else first_of rows
 
 -- what follows where there is no fault
-abbrev pub and_then : Result (Unit {0}) NetFault → Result (Unit {0}) NetFault → Result (Unit {0}) NetFault
+abbrev pub and_then : Result (Unit {0}) TextFault → Result (Unit {0}) TextFault → Result (Unit {0}) TextFault
 and_then (Ok u) next = next
 and_then (Err fault) next = Err fault
 
 -- the items of a table one after another, each beside those before it; they are counted from 1
-abbrev pub judged : {X : Type 0} → TableKind → (List X → FaultPlace → X → Result (Unit {0}) NetFault) → List X → List X
-    → Result (Unit {0}) NetFault
+abbrev pub judged : {X : Type 0} → TableKind → (List X → FaultPlace → X → Result (Unit {0}) TextFault) → List X → List X
+    → Result (Unit {0}) TextFault
 judged kind judge before [] = Ok tt
 judged kind judge before (x ∷ rest) =
     and_then (judge before (record { table = kind; item = length before + 1 }) x) (judged kind judge (before ++ x ∷ []) rest)
@@ -87,15 +88,15 @@ judged kind judge before (x ∷ rest) =
 abbrev pub stands_before : {X : Type 0} → (X → X → Bool) → List X → X → Bool
 stands_before same before x = list_any (λ earlier. same earlier x) before
 
-abbrev pub judge_block : List Block → FaultPlace → Block → Result (Unit {0}) NetFault
+abbrev pub judge_block : List Block → FaultPlace → Block → Result (Unit {0}) TextFault
 judge_block before p b = first_of (
-    (not (is_block_len b.prefix.len), faults.BadStructure p.table p.item)
-    ∷ (stands_before overlap before b, faults.BadStructure p.table p.item) ∷ [])
+    (not (is_block_len b.prefix.len), fault_at p kinds.BadStructure)
+    ∷ (stands_before overlap before b, fault_at p kinds.BadStructure) ∷ [])
 
-abbrev pub judge_node : List Node → FaultPlace → Node → Result (Unit {0}) NetFault
+abbrev pub judge_node : List Node → FaultPlace → Node → Result (Unit {0}) TextFault
 judge_node before p n = first_of (
-    (stands_before same_node_name before n, faults.DoubleName p.table p.item)
-    ∷ (stands_before same_node_address before n, faults.DoublePrefix p.table p.item) ∷ [])
+    (stands_before same_node_name before n, fault_at p kinds.DoubleName)
+    ∷ (stands_before same_node_address before n, fault_at p kinds.DoublePrefix) ∷ [])
 
 -- a number out of range stands for an unknown name
 abbrev pub is_unknown : ℕ → ℕ → Bool
@@ -109,32 +110,32 @@ abbrev pub ends_at : ℕ → Option ℕ → Bool
 ends_at node None = false
 ends_at node (Some to) = to == node
 
-abbrev pub judge_link : ℕ → List Link → FaultPlace → Link → Result (Unit {0}) NetFault
+abbrev pub judge_link : ℕ → List Link → FaultPlace → Link → Result (Unit {0}) TextFault
 judge_link node_count before p l = first_of (
-    (stands_before same_link_name before l, faults.DoubleName p.table p.item)
-    ∷ (is_unknown node_count l.from, faults.UnknownName p.table p.item)
-    ∷ (is_unknown_end node_count l.to, faults.UnknownName p.table p.item)
-    ∷ (ends_at l.from l.to, faults.BadStructure p.table p.item) ∷ [])
+    (stands_before same_link_name before l, fault_at p kinds.DoubleName)
+    ∷ (is_unknown node_count l.from, fault_at p kinds.UnknownName)
+    ∷ (is_unknown_end node_count l.to, fault_at p kinds.UnknownName)
+    ∷ (ends_at l.from l.to, fault_at p kinds.BadStructure) ∷ [])
 
 -- some links of the node, each once
 abbrev pub is_set_of : List Link → ℕ → List ℕ → Bool
 is_set_of links node set = nat_le 1 (length set) && (are_distinct same_number set && list_all (starts_at links node) set)
 
 -- a route, of which it is known whether an earlier one is the same
-abbrev pub judge_route_beside : ℕ → List Link → Bool → FaultPlace → Route → Result (Unit {0}) NetFault
+abbrev pub judge_route_beside : ℕ → List Link → Bool → FaultPlace → Route → Result (Unit {0}) TextFault
 judge_route_beside node_count links is_double p r = first_of (
-    (is_unknown node_count r.node, faults.UnknownName p.table p.item)
-    ∷ (list_any (is_unknown (length links)) r.via, faults.UnknownName p.table p.item)
-    ∷ (not (is_set_of links r.node r.via), faults.BadStructure p.table p.item)
-    ∷ (is_double, faults.DoublePrefix p.table p.item) ∷ [])
+    (is_unknown node_count r.node, fault_at p kinds.UnknownName)
+    ∷ (list_any (is_unknown (length links)) r.via, fault_at p kinds.UnknownName)
+    ∷ (not (is_set_of links r.node r.via), fault_at p kinds.BadStructure)
+    ∷ (is_double, fault_at p kinds.DoublePrefix) ∷ [])
 
-abbrev pub judge_route : ℕ → List Link → List Route → FaultPlace → Route → Result (Unit {0}) NetFault
+abbrev pub judge_route : ℕ → List Link → List Route → FaultPlace → Route → Result (Unit {0}) TextFault
 judge_route node_count links before p r = judge_route_beside node_count links (stands_before same_route before r) p r
 
-abbrev pub judge_policy : List NamedPolicy → FaultPlace → NamedPolicy → Result (Unit {0}) NetFault
+abbrev pub judge_policy : List NamedPolicy → FaultPlace → NamedPolicy → Result (Unit {0}) TextFault
 judge_policy before p q = first_of (
-    (stands_before same_policy_name before q, faults.DoubleName p.table p.item)
-    ∷ (length q.policy.segments == 0, faults.BadStructure p.table p.item) ∷ [])
+    (stands_before same_policy_name before q, fault_at p kinds.DoubleName)
+    ∷ (length q.policy.segments == 0, fault_at p kinds.BadStructure) ∷ [])
 
 -- ---- SIDs
 
@@ -184,13 +185,13 @@ abbrev pub is_full : List SidEntry → SidEntry → Bool
 is_full before s = nat_le MAX_SIDS_OF_NODE (count_by (is_sid_of s.node) before)
 
 -- the parts that a SID names and the keys that it has
-abbrev pub judge_joins : Network → Standing → FaultPlace → SidEntry → Result (Unit {0}) NetFault
+abbrev pub judge_joins : Network → Standing → FaultPlace → SidEntry → Result (Unit {0}) TextFault
 judge_joins net k p s = first_of (
-    (is_unknown (length net.nodes) s.node, faults.UnknownName p.table p.item)
-    ∷ (not (suits_keys k s), faults.BadStructure p.table p.item)
-    ∷ (list_any (is_unknown (length net.links)) s.links, faults.UnknownName p.table p.item)
-    ∷ (is_unknown_policy (length net.policies) (behaviour_policy s.behaviour), faults.UnknownName p.table p.item)
-    ∷ (behaviour_takes_links s.behaviour && not (is_set_of net.links s.node s.links), faults.BadStructure p.table p.item) ∷ [])
+    (is_unknown (length net.nodes) s.node, fault_at p kinds.UnknownName)
+    ∷ (not (suits_keys k s), fault_at p kinds.BadStructure)
+    ∷ (list_any (is_unknown (length net.links)) s.links, fault_at p kinds.UnknownName)
+    ∷ (is_unknown_policy (length net.policies) (behaviour_policy s.behaviour), fault_at p kinds.UnknownName)
+    ∷ (behaviour_takes_links s.behaviour && not (is_set_of net.links s.node s.links), fault_at p kinds.BadStructure) ∷ [])
 
 -- the compression of a SID suits the block that its prefix lies strictly inside; one in no block is not compressed
 abbrev pub suits_compression : Option Block → SidEntry → Bool
@@ -198,30 +199,30 @@ suits_compression None s = is_plain s.csid
 suits_compression (Some b) s = suits_block s.csid b s.prefix.len (behaviour_goes_on s.behaviour)
 
 -- its flavours and its compression
-abbrev pub judge_flavours : Network → Standing → FaultPlace → SidEntry → Result (Unit {0}) NetFault
+abbrev pub judge_flavours : Network → Standing → FaultPlace → SidEntry → Result (Unit {0}) TextFault
 judge_flavours net k p s = first_of (
-    (k.double_flavour, faults.BadFlavour p.table p.item)
-    ∷ (not (suits_flavours (behaviour_takes_flavours s.behaviour) s.psp s.usp s.usd), faults.BadFlavour p.table p.item)
-    ∷ (not (suits_compression (block_of net.blocks s.prefix) s), faults.BadFlavour p.table p.item) ∷ [])
+    (k.double_flavour, fault_at p kinds.BadFlavour)
+    ∷ (not (suits_flavours (behaviour_takes_flavours s.behaviour) s.psp s.usp s.usd), fault_at p kinds.BadFlavour)
+    ∷ (not (suits_compression (block_of net.blocks s.prefix) s), fault_at p kinds.BadFlavour) ∷ [])
 
 -- what it has beside earlier SIDs
-abbrev pub judge_apart : List (List ℕ) → List SidEntry → FaultPlace → SidEntry → Result (Unit {0}) NetFault
+abbrev pub judge_apart : List (List ℕ) → List SidEntry → FaultPlace → SidEntry → Result (Unit {0}) TextFault
 judge_apart titles before p s = first_of (
-    (stands_before (same_title_text titles) before s, faults.DoubleName p.table p.item)
-    ∷ (stands_before same_sid before s, faults.DoublePrefix p.table p.item)
-    ∷ (is_full before s, faults.Limit p.table p.item keys.Sid (pos (MAX_SIDS_OF_NODE + 1))) ∷ [])
+    (stands_before (same_title_text titles) before s, fault_at p kinds.DoubleName)
+    ∷ (stands_before same_sid before s, fault_at p kinds.DoublePrefix)
+    ∷ (is_full before s, fault_at p (kinds.Limit keys.Sid (pos (MAX_SIDS_OF_NODE + 1)))) ∷ [])
 
-abbrev pub judge_standing : Network → Standing → List SidEntry → FaultPlace → SidEntry → Result (Unit {0}) NetFault
+abbrev pub judge_standing : Network → Standing → List SidEntry → FaultPlace → SidEntry → Result (Unit {0}) TextFault
 judge_standing net k before p s = and_then (judge_joins net k p s) (and_then (judge_flavours net k p s) (judge_apart net.titles before p s))
 
 -- the standings go with the SIDs by their numbers; where there is none the SID stands as its behaviour takes it
-abbrev pub judge_sid : Network → List Standing → List SidEntry → FaultPlace → SidEntry → Result (Unit {0}) NetFault
+abbrev pub judge_sid : Network → List Standing → List SidEntry → FaultPlace → SidEntry → Result (Unit {0}) TextFault
 judge_sid net standings before p s = judge_standing net (standing_or s (slice_get standings (length before))) before p s
 
 -- ---- the whole
 
 -- the first fault of the parts
-unfoldable pub judging : Network → List Standing → Result (Unit {0}) NetFault
+unfoldable pub judging : Network → List Standing → Result (Unit {0}) TextFault
 judging net standings =
     and_then (judged tables.Block judge_block [] net.blocks)
     (and_then (judged tables.Node judge_node [] net.nodes)
@@ -229,8 +230,3 @@ judging net standings =
     (and_then (judged tables.Route (judge_route (length net.nodes) net.links) [] net.routes)
     (and_then (judged tables.Policy judge_policy [] net.policies)
     (judged tables.Sid (judge_sid net standings) [] net.sids)))))
-
--- a result comes exactly where there is no fault, and else with the first; want of memory says nothing
-abbrev pub Judges : {X : Type 0} → Result X NetFault → Result (Unit {0}) NetFault → Type 0
-Judges (Ok x) wanted = wanted ≡ Ok tt
-Judges (Err fault) wanted = (fault ≢ faults.NoMemory) → wanted ≡ Err fault

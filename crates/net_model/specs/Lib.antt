@@ -7,6 +7,5 @@ pub mod Named
 pub mod Entries
 pub mod Flat
 pub mod Tables
-pub mod Keys
 pub mod Judging
 pub mod EntryKeys

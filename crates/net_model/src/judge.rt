@@ -2,14 +2,14 @@
 
 ghost use Rattle.std.specs.Prelude.{◌≡◌, ◌-◌, ◌<◌, ◌^◌, ℕ, Bool, List, [], ◌∷◌, length, not, if◌then◌else◌, Result, Ok, Err};
 ghost use Rattle.std.specs.List.{list_any, list_all};
-ghost use Rattle.net_model.specs.declared.fault.FaultPlace.{FaultPlace};
-ghost use Rattle.net_model.specs.declared.fault.NetFault.{NetFault};
-ghost use Rattle.net_model.specs.declared.fault.TableKind.TheVariants as tables;
+ghost use Rattle.text_faults.specs.declared.place.FaultPlace.{FaultPlace};
+ghost use Rattle.text_faults.specs.declared.fault.TextFault.{TextFault};
+ghost use Rattle.text_faults.specs.declared.place.TableKind.TheVariants as tables;
 ghost use Rattle.net_model.specs.Network.{network_of};
 ghost use Rattle.net_model.specs.Rules.{starts_at};
-ghost use Rattle.net_model.specs.Judging.{judged, stands_before, judge_block, judge_node, is_unknown, is_unknown_end, ends_at, judge_link, is_set_of, judge_route_beside, judge_route, judge_policy, Judges};
+ghost use Rattle.text_faults.specs.Reading.{Gives};
+ghost use Rattle.net_model.specs.Judging.{judged, stands_before, judge_block, judge_node, is_unknown, is_unknown_end, ends_at, judge_link, is_set_of, judge_route_beside, judge_route, judge_policy};
 
-use crate::fault::{FaultPlace, NetFault, TableKind};
 use crate::parts::{Block, Link, NamedPolicy, Node, Route};
 use crate::route_set::put_route;
 use crate::rules::{
@@ -18,14 +18,15 @@ use crate::rules::{
 };
 use std::alloc::Global;
 use std::collections::BTreeSet;
+use text_faults::{FaultKind, FaultPlace, NetFault, TableKind, TextFault};
 
 /// The tests of the items of a table.
 pub(crate) trait Judge<X> {
     /// The first fault of an item, beside the items before it and at a place.
-    ghost rules: { Self → List X → FaultPlace → X → Result (Unit {0}) NetFault };
+    ghost rules: { Self → List X → FaultPlace → X → Result (Unit {0}) TextFault };
 
     /// Whether the item has a fault, and its first.
-    fn judge(&self, before: &[X], place: FaultPlace, item: &X) -> Result<(), NetFault>
+    fn judge(&self, before: &[X], place: FaultPlace, item: &X) -> Result<(), TextFault>
         ensures { result ≡ rules self.now before.now place item.now };
 }
 
@@ -35,22 +36,19 @@ pub(crate) fn judge_all<X, J: Judge<X>>(
     rules: &J,
     table: TableKind,
     items: &[X],
-) -> Result<(), NetFault>
+) -> Result<(), TextFault>
     requires { length items.now < 2 ^ 32 - 1 }
     ensures { result ≡ judged table (J.rules rules.now) [] items.now }
 {
     for (i, item) in items.iter().enumerate() {
-        let place = FaultPlace {
-            table,
-            item: i as u32 + 1,
-        };
+        let place = FaultPlace::of_item(table, i);
         rules.judge(items.split_at(i).0, place, item)?;
     }
     Ok(())
 }
 
 /// A fault exactly where a test holds.
-pub(crate) fn refuse_if(holds: bool, fault: NetFault) -> Result<(), NetFault>
+pub(crate) fn refuse_if(holds: bool, fault: TextFault) -> Result<(), TextFault>
     ensures { result ≡ (if holds then Err fault else Ok tt) }
 {
     if holds { Err(fault) } else { Ok(()) }
@@ -69,11 +67,14 @@ pub(crate) struct BlockRules;
 impl Judge<Block> for BlockRules {
     ghost rules = { λ _. judge_block };
 
-    fn judge(&self, before: &[Block], place: FaultPlace, b: &Block) -> Result<(), NetFault> {
-        refuse_if(!is_block_len(b.prefix.len()), place.bad_structure())?;
+    fn judge(&self, before: &[Block], place: FaultPlace, b: &Block) -> Result<(), TextFault> {
+        refuse_if(
+            !is_block_len(b.prefix.len()),
+            place.fault(FaultKind::BadStructure),
+        )?;
         refuse_if(
             stands_before::<Block, Overlaps>(before, b),
-            place.bad_structure(),
+            place.fault(FaultKind::BadStructure),
         )
     }
 }
@@ -84,14 +85,14 @@ pub(crate) struct NodeRules;
 impl Judge<Node> for NodeRules {
     ghost rules = { λ _. judge_node };
 
-    fn judge(&self, before: &[Node], place: FaultPlace, n: &Node) -> Result<(), NetFault> {
+    fn judge(&self, before: &[Node], place: FaultPlace, n: &Node) -> Result<(), TextFault> {
         refuse_if(
             stands_before::<Node, NodeNames>(before, n),
-            place.double_name(),
+            place.fault(FaultKind::DoubleName),
         )?;
         refuse_if(
             stands_before::<Node, NodeAddresses>(before, n),
-            place.double_prefix(),
+            place.fault(FaultKind::DoublePrefix),
         )
     }
 }
@@ -137,14 +138,20 @@ pub(crate) struct LinkRules {
 impl Judge<Link> for LinkRules {
     ghost rules = { λ s. judge_link s.node_count };
 
-    fn judge(&self, before: &[Link], place: FaultPlace, l: &Link) -> Result<(), NetFault> {
+    fn judge(&self, before: &[Link], place: FaultPlace, l: &Link) -> Result<(), TextFault> {
         refuse_if(
             stands_before::<Link, LinkNames>(before, l),
-            place.double_name(),
+            place.fault(FaultKind::DoubleName),
         )?;
-        refuse_if(is_unknown(self.node_count, l.from), place.unknown_name())?;
-        refuse_if(is_unknown_end(self.node_count, l.to), place.unknown_name())?;
-        refuse_if(ends_at(l.from, l.to), place.bad_structure())
+        refuse_if(
+            is_unknown(self.node_count, l.from),
+            place.fault(FaultKind::UnknownName),
+        )?;
+        refuse_if(
+            is_unknown_end(self.node_count, l.to),
+            place.fault(FaultKind::UnknownName),
+        )?;
+        refuse_if(ends_at(l.from, l.to), place.fault(FaultKind::BadStructure))
     }
 }
 
@@ -164,15 +171,24 @@ pub(crate) struct RouteRules<'a> {
 
 impl<'a> RouteRules<'a> {
     /// The first fault of a route, of which it is known whether an earlier one is the same.
-    fn judge(&self, is_double: bool, place: FaultPlace, r: &Route) -> Result<(), NetFault>
+    fn judge(&self, is_double: bool, place: FaultPlace, r: &Route) -> Result<(), TextFault>
         ensures { result ≡ judge_route_beside self.now.node_count self.now.links.now is_double
             place r.now }
     {
         let via = r.via.as_slice();
-        refuse_if(is_unknown(self.node_count, r.node), place.unknown_name())?;
-        refuse_if(has_unknown(self.links.len(), via), place.unknown_name())?;
-        refuse_if(!is_set_of(self.links, r.node, via), place.bad_structure())?;
-        refuse_if(is_double, place.double_prefix())
+        refuse_if(
+            is_unknown(self.node_count, r.node),
+            place.fault(FaultKind::UnknownName),
+        )?;
+        refuse_if(
+            has_unknown(self.links.len(), via),
+            place.fault(FaultKind::UnknownName),
+        )?;
+        refuse_if(
+            !is_set_of(self.links, r.node, via),
+            place.fault(FaultKind::BadStructure),
+        )?;
+        refuse_if(is_double, place.fault(FaultKind::DoublePrefix))
     }
 
     /// The first fault of the routes. Those that came before stand in a set, since there may be
@@ -180,15 +196,12 @@ impl<'a> RouteRules<'a> {
     #[tactic(auto, using(crate::proofs::JudgingLemmas::judging_items, crate::proofs::RouteSetLemmas::no_keys))]
     pub(crate) fn judge_all(&self, alloc: Global, routes: &[Route]) -> Result<(), NetFault>
         requires { length routes.now < 2 ^ 32 - 1 }
-        ensures { Judges result (judged tables.Route
+        ensures { Gives (λ _. tt) result (judged tables.Route
             (judge_route self.now.node_count self.now.links.now) [] routes.now) }
     {
         let mut keys = BTreeSet::new(alloc);
         for (i, r) in routes.iter().enumerate() {
-            let place = FaultPlace {
-                table: TableKind::Route,
-                item: i as u32 + 1,
-            };
+            let place = FaultPlace::of_item(TableKind::Route, i);
             let is_double = put_route(&mut keys, r)?;
             self.judge(is_double, place, r)?;
         }
@@ -207,14 +220,14 @@ impl Judge<NamedPolicy> for PolicyRules {
         before: &[NamedPolicy],
         place: FaultPlace,
         p: &NamedPolicy,
-    ) -> Result<(), NetFault> {
+    ) -> Result<(), TextFault> {
         refuse_if(
             stands_before::<NamedPolicy, PolicyNames>(before, p),
-            place.double_name(),
+            place.fault(FaultKind::DoubleName),
         )?;
         refuse_if(
             p.policy.segments.as_slice().len() == 0,
-            place.bad_structure(),
+            place.fault(FaultKind::BadStructure),
         )
     }
 }

@@ -1,12 +1,12 @@
 //! The first fault of the SIDs of a network, and of all its parts.
 
 ghost use Rattle.std.specs.Prelude.{◌≡◌, ◌-◌, ◌<◌, ◌^◌, ℕ, Bool, List, [], ◌∷◌, length, slice_get, not, Option, option_map, Result, Ok, Err};
-ghost use Rattle.net_model.specs.declared.fault.NetFault.{NetFault};
-ghost use Rattle.net_model.specs.declared.fault.TableKind.TheVariants as tables;
+ghost use Rattle.text_faults.specs.declared.fault.TextFault.{TextFault};
+ghost use Rattle.text_faults.specs.declared.place.TableKind.TheVariants as tables;
 ghost use Rattle.net_model.specs.Network.{network_of};
-ghost use Rattle.net_model.specs.Judging.{InRange, same_answer, fitting, standing_or, suits_keys, is_unknown_policy, same_text, title_text, same_title_text, stands_before, is_full, judge_joins, suits_compression, judge_flavours, judge_apart, judge_sid, judging, Judges};
+ghost use Rattle.text_faults.specs.Reading.{Gives};
+ghost use Rattle.net_model.specs.Judging.{InRange, same_answer, fitting, standing_or, suits_keys, is_unknown_policy, same_text, title_text, same_title_text, stands_before, is_full, judge_joins, suits_compression, judge_flavours, judge_apart, judge_sid, judging};
 
-use crate::fault::{FaultPlace, Key, NetFault, TableKind};
 use crate::judge::{
     BlockRules, Judge, LinkRules, NodeRules, PolicyRules, RouteRules, has_unknown, is_set_of,
     is_unknown, judge_all, refuse_if, stands_before,
@@ -17,6 +17,7 @@ use crate::rules::{Sids, block_of, same_bytes, suits_block, suits_flavours};
 use crate::standing::Standing;
 use srv6_rules::{Csid, SidEntry};
 use std::alloc::Global;
+use text_faults::{FaultKind, FaultPlace, Key, NetFault, TableKind, TextFault};
 
 /// How a SID stands that has the keys that its behaviour takes, and no flavour twice.
 fn fitting(s: &SidEntry) -> Standing
@@ -103,21 +104,30 @@ fn judge_joins(
     standing: Standing,
     place: FaultPlace,
     s: &SidEntry,
-) -> Result<(), NetFault>
+) -> Result<(), TextFault>
     ensures { result ≡ judge_joins (network_of parts.now) standing place s.now }
 {
     let links = s.links.as_slice();
     let takes_links = s.behaviour.takes_links();
-    refuse_if(is_unknown(parts.nodes.len(), s.node), place.unknown_name())?;
-    refuse_if(!suits_keys(standing, s), place.bad_structure())?;
-    refuse_if(has_unknown(parts.links.len(), links), place.unknown_name())?;
+    refuse_if(
+        is_unknown(parts.nodes.len(), s.node),
+        place.fault(FaultKind::UnknownName),
+    )?;
+    refuse_if(
+        !suits_keys(standing, s),
+        place.fault(FaultKind::BadStructure),
+    )?;
+    refuse_if(
+        has_unknown(parts.links.len(), links),
+        place.fault(FaultKind::UnknownName),
+    )?;
     refuse_if(
         is_unknown_policy(parts.policies.len(), s.behaviour.policy()),
-        place.unknown_name(),
+        place.fault(FaultKind::UnknownName),
     )?;
     refuse_if(
         takes_links && !is_set_of(parts.links.as_slice(), s.node, links),
-        place.bad_structure(),
+        place.fault(FaultKind::BadStructure),
     )
 }
 
@@ -137,16 +147,19 @@ fn judge_flavours(
     standing: Standing,
     place: FaultPlace,
     s: &SidEntry,
-) -> Result<(), NetFault>
+) -> Result<(), TextFault>
     ensures { result ≡ judge_flavours (network_of parts.now) standing place s.now }
 {
     let block = block_of(parts.blocks.as_slice(), &s.prefix);
-    refuse_if(standing.double_flavour, place.bad_flavour())?;
+    refuse_if(standing.double_flavour, place.fault(FaultKind::BadFlavour))?;
     refuse_if(
         !suits_flavours(s.behaviour.takes_flavours(), s.psp, s.usp, s.usd),
-        place.bad_flavour(),
+        place.fault(FaultKind::BadFlavour),
     )?;
-    refuse_if(!suits_compression(block, s), place.bad_flavour())
+    refuse_if(
+        !suits_compression(block, s),
+        place.fault(FaultKind::BadFlavour),
+    )
 }
 
 /// The first fault of a SID beside those before it.
@@ -155,17 +168,23 @@ fn judge_apart(
     before: &[SidEntry],
     place: FaultPlace,
     s: &SidEntry,
-) -> Result<(), NetFault>
+) -> Result<(), TextFault>
     ensures { result ≡ judge_apart titles.now before.now place s.now }
 {
-    refuse_if(has_double_title(titles, before, s), place.double_name())?;
+    refuse_if(
+        has_double_title(titles, before, s),
+        place.fault(FaultKind::DoubleName),
+    )?;
     refuse_if(
         stands_before::<SidEntry, Sids>(before, s),
-        place.double_prefix(),
+        place.fault(FaultKind::DoublePrefix),
     )?;
     refuse_if(
         is_full(before, s),
-        place.limit(Key::Sid, MAX_SIDS_OF_NODE as i64 + 1),
+        place.fault(FaultKind::Limit {
+            what: Key::Sid,
+            value: MAX_SIDS_OF_NODE as i64 + 1,
+        }),
     )
 }
 
@@ -179,7 +198,7 @@ struct SidRules<'a> {
 impl<'a> Judge<SidEntry> for SidRules<'a> {
     ghost rules = { λ r. judge_sid (network_of r.parts.now) r.standings.now };
 
-    fn judge(&self, before: &[SidEntry], place: FaultPlace, s: &SidEntry) -> Result<(), NetFault> {
+    fn judge(&self, before: &[SidEntry], place: FaultPlace, s: &SidEntry) -> Result<(), TextFault> {
         let standing = standing_of(self.standings, before.len(), s);
         judge_joins(self.parts, standing, place, s)?;
         judge_flavours(self.parts, standing, place, s)?;
@@ -195,7 +214,7 @@ pub(crate) fn judge_parts(
     standings: &[Standing],
 ) -> Result<(), NetFault>
     requires { InRange (network_of parts.now) }
-    ensures { Judges result (judging (network_of parts.now) standings.now) }
+    ensures { Gives (λ _. tt) result (judging (network_of parts.now) standings.now) }
 {
     let links = LinkRules {
         node_count: parts.nodes.len(),
@@ -210,5 +229,5 @@ pub(crate) fn judge_parts(
     judge_all(&links, TableKind::Link, parts.links.as_slice())?;
     routes.judge_all(alloc, parts.routes.as_slice())?;
     judge_all(&PolicyRules, TableKind::Policy, parts.policies.as_slice())?;
-    judge_all(&sids, TableKind::Sid, parts.sids.as_slice())
+    Ok(judge_all(&sids, TableKind::Sid, parts.sids.as_slice())?)
 }

@@ -9,13 +9,9 @@
 //! a SID, and all addresses of that prefix are looked up alike; SIDs that overlap a block lie
 //! strictly inside it, with a length that suits it and a CSID other than 0; and SIDs on one prefix
 //! that make the next segment the destination are compressed alike. Only building takes memory.
-//! The laws about the definitions are the contracts of empty functions. `NetFault` says why a text
-//! gives no network or no intent, and where in it.
+//! The laws about the definitions are the contracts of empty functions.
 #![tactic(auto)]
 
-mod fault;
-mod fault_places;
-mod fault_texts;
 mod flat;
 mod judge;
 mod judge_sids;
@@ -31,7 +27,6 @@ mod rules;
 mod standing;
 mod tables;
 
-pub use fault::{FaultPlace, Key, NetFault, TableKind};
 pub use flat::{NotFlat, compilable};
 pub use laws::{
     best_match_is_one, blocks_hold_or_miss, blocks_hold_their_sids, entries_are_its_own,

@@ -1,6 +1,5 @@
 //! The network that keeps the rules, and the look-up of an address.
 
-use crate::fault::NetFault;
 use crate::judge_sids::judge_parts;
 use crate::named::{place_of_link, place_of_node};
 use crate::node_table::NodeTable;
@@ -12,6 +11,7 @@ use prefix_table::Table;
 use srv6_rules::{Family, Policy, SidEntry};
 use std::alloc::Global;
 use std::marker::Model;
+use text_faults::NetFault;
 use v6_addr::Addr;
 
 /// The entry of a node's table that fits an address best (RFC 8754 section 4.3).
@@ -53,7 +53,8 @@ impl Net {
     ghost use Rattle.net_model.specs.declared.parts.NamedPolicy.{NamedPolicy};
     ghost use Rattle.net_model.specs.Network.{network_of};
     ghost use Rattle.net_model.specs.Rules.{IsNetwork, is_network, is_link_set};
-    ghost use Rattle.net_model.specs.Judging.{InRange, judging, Judges};
+    ghost use Rattle.text_faults.specs.Reading.{Gives};
+    ghost use Rattle.net_model.specs.Judging.{InRange, judging};
     ghost use Rattle.net_model.specs.Keeps.{Keeps};
     ghost use Rattle.net_model.specs.Best.{IsBest, entries_of, lookup_of};
     ghost use Rattle.net_model.specs.Tables.{AnswersFor};
@@ -84,7 +85,7 @@ impl Net {
     /// given up. `NoMemory` says nothing about them.
     pub fn build(alloc: Global, parts: NetParts, standings: &[Standing]) -> Result<Net, NetFault>
         requires { InRange (network_of parts) }
-        ensures first { Judges result (judging (network_of parts) standings.now) }
+        ensures first { Gives (λ _. tt) result (judging (network_of parts) standings.now) }
         ensures value { IfOk result (λ net. net ≡ network_of parts) }
     {
         judge_parts(alloc, &parts, standings)?;

@@ -12,12 +12,13 @@ use Rattle.v6_addr.specs.declared.address.Addr.{Addr}
 use Rattle.v6_addr.proofs.PublicLaws.{address_text_is, address_below, prefix_text_is, prefix4_text_is}
 use Rattle.srv6_rules.specs.declared.sid.Family.TheVariants.{V6, V4}
 use Rattle.srv6_rules.specs.declared.sid.Csid.TheVariants.{Plain}
-use Rattle.net_model.specs.declared.fault.FaultPlace.{FaultPlace}
-use Rattle.net_model.specs.declared.fault.Key.{Key}
-use Rattle.net_model.specs.declared.fault.Key.TheVariants as keys
-use Rattle.net_model.specs.declared.fault.TableKind.TheVariants as tables
-use Rattle.net_model.specs.declared.fault.NetFault.{NetFault}
-use Rattle.net_model.specs.declared.fault.NetFault.TheVariants as faults
+use Rattle.text_faults.specs.declared.place.FaultPlace.{FaultPlace}
+use Rattle.text_faults.specs.declared.place.Key.{Key}
+use Rattle.text_faults.specs.declared.place.Key.TheVariants as keys
+use Rattle.text_faults.specs.declared.place.TableKind.TheVariants as tables
+use Rattle.text_faults.specs.declared.fault.TextFault.{TextFault}
+use Rattle.text_faults.specs.declared.kind.FaultKind.TheVariants as kinds
+use Rattle.text_faults.specs.Faults.{fault_at}
 use Rattle.net_model.specs.declared.limits.TheConstants.{MAX_BLOCKS, MAX_NODES, MAX_LINKS, MAX_ROUTES, MAX_POLICIES, MAX_SIDS, MAX_ALLOWED_TYPES, MAX_LINKS_OF_SET, LAST_TABLE, LAST_OCTET, LAST_FLOW_LABEL, DEFAULT_HOP_LIMIT}
 use Rattle.srv6_rules.specs.declared.numbers.TheConstants.{MAX_SEGMENTS}
 use Rattle.net_model.specs.Rules.{is_name, is_address, is_prefix, is_prefix_of, is_csid_len, is_segment, is_table, keeps_node}
@@ -34,7 +35,7 @@ use Rattle.net_words.specs.declared.description.Description.{Description}
 use Rattle.net_words.specs.Prefixes.{of_family, or_else, family_prefix_of, family_prefix_in}
 use Rattle.net_words.specs.Words.{block_kind_of, csid_bits_of, behaviour_of, csid_of, flavour_of}
 use Rattle.net_words.specs.Description.{csid_bits_in, block_of, node_of, link_of, route_of, policy_of, sid_prefix_in, sid_of, description_of}
-use Rattle.net_joining.specs.Joining.{joined_block, joined_node, joined_policy}
+use Rattle.net_reader.specs.Joining.{joined_block, joined_node, joined_policy}
 use Rattle.net_reader.proofs.YieldLemmas.{Yields, AreFew, IfGiven, IsWithin, yields-next, yields-behind, yields-or_fault, yields-if, yields-number, yields-given, yields-list, yields-needed, yields-optional, yields-items}
 
 -- ---- values
@@ -53,7 +54,7 @@ prefix_text text p e = let written : IsPrefixText text p = (prefix_text_is text 
 yields-name : (p : FaultPlace) (k : Key) (d : Data) → Yields (λ n. is_name n ≡ true) (name_in p k d)
 yields-name p k d =
     yields-behind (λ n. is_name n ≡ true) (text_in p d) _
-    (λ text. yields-if (λ n. is_name n ≡ true) (is_name text) text (faults.BadName p.table p.item) (λ e. e))
+    (λ text. yields-if (λ n. is_name n ≡ true) (is_name text) text (fault_at p kinds.BadName) (λ e. e))
 
 addr_given : (text : List ℕ) (o : Option ℕ) → address_of_text text ≡ o → (x : Addr) → option_map addr_of_value o ≡ Some x
     → is_address x.value ≡ true
@@ -68,13 +69,13 @@ addr_given text (Some a) is x e =
 yields-addr : (p : FaultPlace) (k : Key) (d : Data) → Yields (λ (a : Addr). is_address a.value ≡ true) (addr_in p k d)
 yields-addr p k d =
     yields-behind (λ (a : Addr). is_address a.value ≡ true) (text_in p d) _
-    (λ text. yields-or_fault (λ (a : Addr). is_address a.value ≡ true) (faults.BadAddress p.table p.item)
+    (λ text. yields-or_fault (λ (a : Addr). is_address a.value ≡ true) (fault_at p kinds.BadAddress)
     (option_map addr_of_value (address_of_text text)) (addr_given text (address_of_text text) refl))
 
 yields-prefix : (p : FaultPlace) (k : Key) (d : Data) → Yields (λ q. is_prefix q ≡ true) (prefix_in p k d)
 yields-prefix p k d =
     yields-behind (λ q. is_prefix q ≡ true) (text_in p d) _
-    (λ text. yields-or_fault (λ q. is_prefix q ≡ true) (faults.BadAddress p.table p.item) (prefix_of_text text) (prefix_text text))
+    (λ text. yields-or_fault (λ q. is_prefix q ≡ true) (fault_at p kinds.BadAddress) (prefix_of_text text) (prefix_text text))
 
 abbrev IsOfFamily : FamilyPrefix → Type 0
 IsOfFamily q = is_prefix_of q.family q.prefix ≡ true
@@ -96,7 +97,7 @@ family_given text None None other is q e = absurd (none≢some q e)
 yields-family : (p : FaultPlace) (k : Key) (d : Data) → Yields IsOfFamily (family_prefix_in p k d)
 yields-family p k d =
     yields-behind IsOfFamily (text_in p d) _
-    (λ text. yields-or_fault IsOfFamily (faults.BadAddress p.table p.item) (family_prefix_of text)
+    (λ text. yields-or_fault IsOfFamily (fault_at p kinds.BadAddress) (family_prefix_of text)
     (family_given text (prefix_of_text text) (prefix4_of_text text) refl refl))
 
 csid_given : (z : ℤ) (c : ℕ) → csid_bits_of z ≡ Some c → is_csid_len c ≡ true
@@ -116,7 +117,7 @@ csid_given (negsuc n) c e = absurd (none≢some e)
 yields-csid : (p : FaultPlace) (k : Key) (d : Data) → Yields (λ c. is_csid_len c ≡ true) (csid_bits_in p k d)
 yields-csid p k d =
     yields-behind (λ c. is_csid_len c ≡ true) (integer_in p d) _
-    (λ z. yields-or_fault (λ c. is_csid_len c ≡ true) (faults.BadFlavour p.table p.item) (csid_bits_of z) (csid_given z))
+    (λ z. yields-or_fault (λ c. is_csid_len c ≡ true) (fault_at p kinds.BadFlavour) (csid_bits_of z) (csid_given z))
 
 -- ---- items
 
@@ -161,7 +162,7 @@ yields-node p t =
     keys.Allow) (λ allow short.
     and_from _ _ named (and_from _ _ is (and_parts _ _ short).0)))))
   where
-    true_any : {X : Type 0} (r : Result X NetFault) → Yields (λ x. true ≡ true) r
+    true_any : {X : Type 0} (r : Result X TextFault) → Yields (λ x. true ≡ true) r
     true_any (Ok x) = refl
     true_any (Err fault) = tt
 

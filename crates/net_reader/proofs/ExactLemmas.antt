@@ -6,19 +6,20 @@ use Rattle.std.proofs.lemmas.Bool.{and_parts}
 use Rattle.std.proofs.lemmas.List.{length_push}
 use Rattle.srv6_rules.specs.declared.sid.SidEntry.{SidEntry}
 use Rattle.srv6_rules.specs.Behaviours.{behaviour_takes_links, behaviour_table, behaviour_policy, behaviour_takes_flavours}
-use Rattle.net_model.specs.declared.fault.TableKind.TheVariants as tables
-use Rattle.net_model.specs.declared.fault.FaultPlace.{FaultPlace}
-use Rattle.net_model.specs.declared.fault.NetFault.{NetFault}
-use Rattle.net_model.specs.declared.fault.NetFault.TheVariants as faults
+use Rattle.text_faults.specs.declared.place.TableKind.TheVariants as tables
+use Rattle.text_faults.specs.declared.place.FaultPlace.{FaultPlace}
+use Rattle.text_faults.specs.declared.fault.TextFault.{TextFault}
+use Rattle.text_faults.specs.declared.kind.FaultKind.TheVariants as kinds
+use Rattle.text_faults.specs.Faults.{fault_at}
 use Rattle.net_model.specs.declared.standing.Standing.{Standing}
 use Rattle.net_model.specs.Network.{Network}
 use Rattle.net_model.specs.Rules.{suits_flavours, block_of}
 use Rattle.net_model.specs.Judging.{is_unknown, is_unknown_policy, is_set_of, suits_compression, first_of, and_then, judged, judge_block, judge_node, judge_link, judge_route, judge_policy, same_answer, fitting, standing_or, suits_keys, judge_joins, judge_flavours, judge_apart, judge_standing, judge_sid, judging}
 
 abbrev Verdict : Type 0
-Verdict = Result (Unit {0}) NetFault
+Verdict = Result (Unit {0}) TextFault
 
-no_fault : (fault : NetFault) (done : Unit {0}) → Err fault ≡ Ok done → ⊥
+no_fault : (fault : TextFault) (done : Unit {0}) → Err fault ≡ Ok done → ⊥
 no_fault fault done e = cc
 
 before_ok : (r next : Verdict) → and_then r next ≡ Ok tt → r ≡ Ok tt
@@ -29,7 +30,7 @@ behind_ok : (r next : Verdict) → and_then r next ≡ Ok tt → next ≡ Ok tt
 behind_ok (Ok u) next e = e
 behind_ok (Err fault) next e = absurd (no_fault fault tt e)
 
-row_passed : (b : Bool) (fault : NetFault) (rows : List (Bool × NetFault)) → first_of ((b, fault) ∷ rows) ≡ Ok tt
+row_passed : (b : Bool) (fault : TextFault) (rows : List (Bool × TextFault)) → first_of ((b, fault) ∷ rows) ≡ Ok tt
     → (b ≡ false) × (first_of rows ≡ Ok tt)
 row_passed true fault rows e = absurd (no_fault fault tt e)
 row_passed false fault rows e = (refl, e)
@@ -71,14 +72,14 @@ stands_well net k before p s e =
     let joins : judge_joins net k p s ≡ Ok tt = before_ok (judge_joins net k p s) flavours e in
     let rest : flavours ≡ Ok tt = behind_ok (judge_joins net k p s) flavours e in
     let fine : judge_flavours net k p s ≡ Ok tt = before_ok (judge_flavours net k p s) (judge_apart net.titles before p s) rest in
-    let unknown = faults.UnknownName p.table p.item in
-    let structure = faults.BadStructure p.table p.item in
-    let flavour = faults.BadFlavour p.table p.item in
-    let parts : List (Bool × NetFault) = (list_any (is_unknown (length net.links)) s.links, unknown)
+    let unknown = fault_at p kinds.UnknownName in
+    let structure = fault_at p kinds.BadStructure in
+    let flavour = fault_at p kinds.BadFlavour in
+    let parts : List (Bool × TextFault) = (list_any (is_unknown (length net.links)) s.links, unknown)
     ∷ (is_unknown_policy (length net.policies) (behaviour_policy s.behaviour), unknown)
     ∷ (behaviour_takes_links s.behaviour && not (is_set_of net.links s.node s.links), structure) ∷ [] in
-    let rows : List (Bool × NetFault) = (not (suits_keys k s), structure) ∷ parts in
-    let others : List (Bool × NetFault) = (not (suits_flavours (behaviour_takes_flavours s.behaviour) s.psp s.usp s.usd), flavour)
+    let rows : List (Bool × TextFault) = (not (suits_keys k s), structure) ∷ parts in
+    let others : List (Bool × TextFault) = (not (suits_flavours (behaviour_takes_flavours s.behaviour) s.psp s.usp s.usd), flavour)
     ∷ (not (suits_compression (block_of net.blocks s.prefix) s), flavour) ∷ [] in
     let node = row_passed (is_unknown (length net.nodes) s.node) unknown rows joins in
     let keys = row_passed (not (suits_keys k s)) structure parts node.1 in

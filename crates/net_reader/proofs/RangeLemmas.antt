@@ -16,8 +16,8 @@ use Rattle.net_words.specs.declared.sid.BehaviourWord.{BehaviourWord}
 use Rattle.net_words.specs.declared.sid.BehaviourWord.TheVariants as words
 use Rattle.net_words.specs.declared.description.Description.{Description}
 use Rattle.net_words.specs.Description.{description_of}
-use Rattle.net_joining.specs.Numbering.{number_of}
-use Rattle.net_joining.specs.Joining.{node_names, link_names, policy_names, joined_block, joined_node, joined_link, joined_route, joined_policy, or_zero, or_none, behaviour_with, title_number, behind_title, title_in, joined_sid, joined_sids, joined}
+use Rattle.net_reader.specs.Numbering.{number_of}
+use Rattle.net_reader.specs.Joining.{node_names, link_names, policy_names, joined_block, joined_node, joined_link, joined_route, joined_policy, or_zero, or_none, behaviour_with, title_number, behind_title, title_in, joined_sid, joined_sids, joined}
 use Rattle.net_reader.proofs.YieldLemmas.{yielded}
 use Rattle.net_reader.proofs.DescribedLemmas.{route_fits, table_fits, links_fit, title_fits, sid_fits, Fits, description-fits}
 

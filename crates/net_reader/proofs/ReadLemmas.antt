@@ -4,18 +4,21 @@ use Rattle.std.specs.Prelude.{Result, Ok, Err, IfOk}
 use Rattle.std.proofs.lemmas.Bool.{and_parts, leb-true}
 use Rattle.std.proofs.lemmas.List.{map_more, length-map}
 use Rattle.net_model.specs.declared.limits.TheConstants.{MAX_NODES, MAX_LINKS, MAX_POLICIES, MAX_SIDS}
-use Rattle.net_model.specs.declared.fault.NetFault.{NetFault}
-use Rattle.net_model.specs.declared.fault.NetFault.TheVariants as faults
+use Rattle.text_faults.specs.declared.fault.TextFault.{TextFault}
+use Rattle.text_faults.specs.declared.fault.OrNoMemory.{OrNoMemory}
+use Rattle.text_faults.specs.declared.kind.FaultKind.TheVariants as kinds
+use Rattle.text_faults.specs.Faults.{fault_at}
 use Rattle.net_model.specs.declared.standing.Standing.{Standing}
 use Rattle.net_model.specs.Network.{Network}
 use Rattle.net_model.specs.Rules.{IsNetwork}
-use Rattle.net_model.specs.Judging.{InRange, judging, Judges}
+use Rattle.net_model.specs.Judging.{InRange, judging}
 use Rattle.net_model.proofs.PublicLaws.{exact_law, enough_law}
-use Rattle.toml_words.specs.Reading.{◌>>=◌, or_fault, document_of, Gives}
+use Rattle.text_faults.specs.Reading.{Gives}
+use Rattle.toml_words.specs.Reading.{◌>>=◌, or_fault, document_of}
 use Rattle.net_words.specs.declared.sid.DescribedSid.{DescribedSid}
 use Rattle.net_words.specs.declared.description.Description.{Description}
-use Rattle.net_words.specs.Description.{description_in}
-use Rattle.net_joining.specs.Joining.{node_names, link_names, policy_names, joined_block, joined}
+use Rattle.net_words.specs.Description.{description_in, net_place}
+use Rattle.net_reader.specs.Joining.{node_names, link_names, policy_names, joined_block, joined}
 use Rattle.net_reader.specs.Standings.{standing_of, standings_of, HaveTheirKeys}
 use Rattle.net_reader.specs.Reading.{judged_network, net_in}
 use Rattle.net_reader.proofs.YieldLemmas.{Yields, yielded, yields-behind}
@@ -37,7 +40,7 @@ pub ruleset standing = (standings-more)
 -- ---- what a text describes
 
 text_fits : (text : List ℕ) → Yields Fits (description_in text)
-text_fits text = yields-behind Fits (or_fault faults.NotToml (document_of text)) _ description-fits
+text_fits text = yields-behind Fits (or_fault (fault_at net_place kinds.NotToml) (document_of text)) _ description-fits
 
 said_fits : (text : List ℕ) (said : Description) → description_in text ≡ Ok said → Fits said
 said_fits text said is = yielded Fits (description_in text) said (text_fits text) is
@@ -57,21 +60,21 @@ said_few text said is =
 
 -- ---- what is read
 
-pub read-judged : (text : List ℕ) (said : Description) (r : Result Network NetFault) → description_in text ≡ Ok said
-    → Judges r (judging (joined said) (standings_of said)) → IfOk r (λ net. net ≡ joined said) → Gives (λ net. net) r (net_in text)
+pub read-judged : (text : List ℕ) (said : Description) (r : Result Network (OrNoMemory TextFault)) → description_in text ≡ Ok said
+    → Gives (λ _. tt) r (judging (joined said) (standings_of said)) → IfOk r (λ net. net ≡ joined said) → Gives (λ net. net) r (net_in text)
 read-judged text said (Ok net) is fine same =
     ap (λ d. ◌>>=◌ d judged_network) is ∙ ap (λ u. ◌>>=◌ u (λ v. Ok (joined said))) fine ∙ ap Ok (sym same)
-read-judged text said (Err fault) is first same = λ other.
-    ap (λ d. ◌>>=◌ d judged_network) is ∙ ap (λ u. ◌>>=◌ u (λ v. Ok (joined said))) (first other)
+read-judged text said (Err why) is first same = λ fault other.
+    ap (λ d. ◌>>=◌ d judged_network) is ∙ ap (λ u. ◌>>=◌ u (λ v. Ok (joined said))) (first fault other)
 
-pub read-refused : (text : List ℕ) (fault : NetFault) → description_in text ≡ Err fault → net_in text ≡ Err fault
+pub read-refused : (text : List ℕ) (fault : TextFault) → description_in text ≡ Err fault → net_in text ≡ Err fault
 read-refused text fault is = ap (λ d. ◌>>=◌ d judged_network) is
 
 pub ruleset reading = (read-judged, read-refused)
 
 -- ---- laws
 
-none_read : {X : Type 0} (fault : NetFault) (x : X) → Err fault ≡ Ok x → ⊥
+none_read : {X : Type 0} (fault : TextFault) (x : X) → Err fault ≡ Ok x → ⊥
 none_read fault x e = cc
 
 -- as many SIDs stand as there are entries
@@ -80,12 +83,12 @@ counted said =
     length-map said.sids standing_of
     ∙ sym (as_many (node_names said) (link_names said) (policy_names said) (map joined_block said.blocks) 0 said.sids)
 
-by_parts : (text : List ℕ) (net : Network) (d : Result Description NetFault) → description_in text ≡ d → ◌>>=◌ d judged_network ≡ Ok net
+by_parts : (text : List ℕ) (net : Network) (d : Result Description TextFault) → description_in text ≡ d → ◌>>=◌ d judged_network ≡ Ok net
     → (said : Description) × (description_in text ≡ Ok said) × (joined said ≡ net) × IsNetwork net × HaveTheirKeys said
 by_parts text net (Err fault) is e = absurd (none_read fault net e)
 by_parts text net (Ok said) is e = by_judging (judging (joined said) (standings_of said)) refl e
   where
-    by_judging : (r : Result (Unit {0}) NetFault) → judging (joined said) (standings_of said) ≡ r
+    by_judging : (r : Result (Unit {0}) TextFault) → judging (joined said) (standings_of said) ≡ r
         → ◌>>=◌ r (λ v. Ok (joined said)) ≡ Ok net
         → (said : Description) × (description_in text ≡ Ok said) × (joined said ≡ net) × IsNetwork net × HaveTheirKeys said
     by_judging (Ok u) fine e =

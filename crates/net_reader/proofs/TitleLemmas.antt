@@ -7,7 +7,7 @@ use Rattle.std.proofs.lemmas.List.{length_push}
 use Rattle.net_model.specs.declared.parts.Block.{Block}
 use Rattle.net_words.specs.declared.sid.DescribedSid.{DescribedSid}
 use Rattle.net_words.specs.declared.description.Description.{Description}
-use Rattle.net_joining.specs.Joining.{node_names, link_names, policy_names, joined_block, title_number, behind_title, title_in, joined_sids, joined}
+use Rattle.net_reader.specs.Joining.{node_names, link_names, policy_names, joined_block, title_number, behind_title, title_in, joined_sids, joined}
 
 at_its_place : (before : List (List ℕ)) (title : List ℕ) (after : List (List ℕ))
     → slice_get (before ++ title ∷ after) (length before) ≡ Some title

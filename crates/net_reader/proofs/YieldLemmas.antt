@@ -4,41 +4,42 @@ use Rattle.std.specs.Prelude.{ℤ, pos, negsuc, Result, Ok, Err, if◌then◌els
 use Rattle.std.specs.List.{list_all}
 use Rattle.std.proofs.lemmas.Bool.{and_from}
 use Rattle.toml.specs.Data.{Data, Members, get_member}
-use Rattle.net_model.specs.declared.fault.TableKind.{TableKind}
-use Rattle.net_model.specs.declared.fault.Key.{Key}
-use Rattle.net_model.specs.declared.fault.FaultPlace.{FaultPlace}
-use Rattle.net_model.specs.declared.fault.NetFault.{NetFault}
-use Rattle.net_model.specs.declared.fault.NetFault.TheVariants as faults
-use Rattle.net_model.specs.Keys.{key_text}
+use Rattle.text_faults.specs.declared.place.TableKind.{TableKind}
+use Rattle.text_faults.specs.declared.place.Key.{Key}
+use Rattle.text_faults.specs.declared.place.FaultPlace.{FaultPlace}
+use Rattle.text_faults.specs.declared.fault.TextFault.{TextFault}
+use Rattle.text_faults.specs.declared.kind.FaultKind.TheVariants as kinds
+use Rattle.text_faults.specs.Faults.{fault_at}
+use Rattle.text_faults.specs.Keys.{key_text}
 use Rattle.net_model.specs.Judging as judging
 use Rattle.toml_words.specs.Reading.{◌>>=◌, read_map, or_fault}
 use Rattle.toml_words.specs.Tree.{integer_in, number_within, number_in, given, array_in, count_in, few, each_from, list_in, needed, or_default, optional, tables_in, items_at}
 
 -- what is given has the property; a fault says nothing
-abbrev pub Yields : {X : Type 0} → (X → Type 0) → Result X NetFault → Type 0
+abbrev pub Yields : {X : Type 0} → (X → Type 0) → Result X TextFault → Type 0
 Yields P (Ok x) = P x
 Yields P (Err fault) = Unit {0}
 
-pub yielded : {X : Type 0} (P : X → Type 0) (r : Result X NetFault) (x : X) → Yields P r → r ≡ Ok x → P x
-yielded P r x holds is = let Q : Result _ NetFault → Type 0 = λ q. Yields P q in subst Q is holds
+pub yielded : {X : Type 0} (P : X → Type 0) (r : Result X TextFault) (x : X) → Yields P r → r ≡ Ok x → P x
+yielded P r x holds is = let Q : Result _ TextFault → Type 0 = λ q. Yields P q in subst Q is holds
 
-pub yields-next : {X Y : Type 0} (K : X → Type 0) (P : Y → Type 0) (r : Result X NetFault) (next : X → Result Y NetFault) → Yields K r
+pub yields-next : {X Y : Type 0} (K : X → Type 0) (P : Y → Type 0) (r : Result X TextFault) (next : X → Result Y TextFault) → Yields K r
     → ((x : X) → K x → Yields P (next x)) → Yields P (◌>>=◌ r next)
 yields-next K P (Ok x) next known goes_on = goes_on x known
 yields-next K P (Err fault) next known goes_on = tt
 
 -- nothing is known of what comes first
-pub yields-behind : {X Y : Type 0} (P : Y → Type 0) (r : Result X NetFault) (next : X → Result Y NetFault)
+pub yields-behind : {X Y : Type 0} (P : Y → Type 0) (r : Result X TextFault) (next : X → Result Y TextFault)
     → ((x : X) → Yields P (next x)) → Yields P (◌>>=◌ r next)
 yields-behind P (Ok x) next goes_on = goes_on x
 yields-behind P (Err fault) next goes_on = tt
 
-pub yields-or_fault : {X : Type 0} (P : X → Type 0) (fault : NetFault) (o : Option X) → ((x : X) → o ≡ Some x → P x)
+pub yields-or_fault : {X : Type 0} (P : X → Type 0) (fault : TextFault) (o : Option X) → ((x : X) → o ≡ Some x → P x)
     → Yields P (or_fault fault o)
 yields-or_fault P fault None holds = tt
 yields-or_fault P fault (Some x) holds = holds x refl
 
-pub yields-if : {X : Type 0} (P : X → Type 0) (b : Bool) (x : X) (fault : NetFault) → (b ≡ true → P x)
+pub yields-if : {X : Type 0} (P : X → Type 0) (b : Bool) (x : X) (fault : TextFault) → (b ≡ true → P x)
     → Yields P (if b then Ok x else Err fault)
 yields-if P true x fault holds = holds refl
 yields-if P false x fault holds = tt
@@ -60,11 +61,11 @@ abbrev pub IfGiven : {X : Type 0} → (X → Type 0) → Option X → Type 0
 IfGiven P None = Unit {0}
 IfGiven P (Some x) = P x
 
-given_if : {X : Type 0} (P : X → Type 0) (r : Result X NetFault) → Yields P r → Yields (IfGiven P) (read_map Some r)
+given_if : {X : Type 0} (P : X → Type 0) (r : Result X TextFault) → Yields P r → Yields (IfGiven P) (read_map Some r)
 given_if P (Ok x) holds = holds
 given_if P (Err fault) holds = tt
 
-pub yields-given : {X : Type 0} (P : X → Type 0) (kind : FaultPlace → Key → Data → Result X NetFault)
+pub yields-given : {X : Type 0} (P : X → Type 0) (kind : FaultPlace → Key → Data → Result X TextFault)
     → ((p : FaultPlace) (k : Key) (d : Data) → Yields P (kind p k d)) → (p : FaultPlace) (k : Key) (d : Data)
     → Yields (IfGiven P) (given kind p k d)
 yields-given P kind each p k d = given_if P (kind p k d) (each p k d)
@@ -78,7 +79,7 @@ AreFew most test xs = judging.few most test xs ≡ true
 abbrev Each : {X Y : Type 0} → (Y → Bool) → List X → List Y → Type 0
 Each test xs ys = (length ys ≡ length xs) × (list_all test ys ≡ true)
 
-yields-each : {X Y : Type 0} (test : Y → Bool) (read : ℕ → X → Result Y NetFault) (n : ℕ) (xs : List X)
+yields-each : {X Y : Type 0} (test : Y → Bool) (read : ℕ → X → Result Y TextFault) (n : ℕ) (xs : List X)
     → ((n : ℕ) (x : X) → Yields (λ y. test y ≡ true) (read n x)) → Yields (Each test xs) (each_from read n xs)
 yields-each test read n [] each = (refl, refl)
 yields-each test read n (x ∷ xs) each =
@@ -96,17 +97,17 @@ yields-few p k most xs =
     (yields-count p k most (length xs)) (λ n short. short)
 
 -- few items, one after another
-few_each : {X Y : Type 0} (most : ℕ) (test : Y → Bool) (read : ℕ → X → Result Y NetFault) (n : ℕ) (xs : List X)
+few_each : {X Y : Type 0} (most : ℕ) (test : Y → Bool) (read : ℕ → X → Result Y TextFault) (n : ℕ) (xs : List X)
     → nat_le (length xs) most ≡ true → ((n : ℕ) (x : X) → Yields (λ y. test y ≡ true) (read n x))
     → Yields (AreFew most test) (each_from read n xs)
 few_each {Y = Y} most test read n xs short each =
     weaker (each_from read n xs) (yields-each test read n xs each)
   where
-    weaker : (r : Result (List Y) NetFault) → Yields (Each test xs) r → Yields (AreFew most test) r
+    weaker : (r : Result (List Y) TextFault) → Yields (Each test xs) r → Yields (AreFew most test) r
     weaker (Ok ys) h = and_from _ _ (ap (λ count. nat_le count most) h.0 ∙ short) h.1
     weaker (Err fault) h = tt
 
-pub yields-list : {X : Type 0} (most : ℕ) (test : X → Bool) (kind : FaultPlace → Key → Data → Result X NetFault)
+pub yields-list : {X : Type 0} (most : ℕ) (test : X → Bool) (kind : FaultPlace → Key → Data → Result X TextFault)
     → ((p : FaultPlace) (k : Key) (d : Data) → Yields (λ x. test x ≡ true) (kind p k d)) → (p : FaultPlace) (k : Key) (d : Data)
     → Yields (AreFew most test) (list_in most kind p k d)
 yields-list most test kind each p k d =
@@ -116,25 +117,25 @@ yields-list most test kind each p k d =
 
 -- ---- keys and tables
 
-pub yields-needed : {X : Type 0} (P : X → Type 0) (kind : FaultPlace → Key → Data → Result X NetFault)
+pub yields-needed : {X : Type 0} (P : X → Type 0) (kind : FaultPlace → Key → Data → Result X TextFault)
     → ((p : FaultPlace) (k : Key) (d : Data) → Yields P (kind p k d)) → (p : FaultPlace) (t : Members) (k : Key)
     → Yields P (needed kind p t k)
 yields-needed P kind each p t k =
-    yields-behind P (or_fault (faults.MissingKey p.table p.item k) (get_member (key_text k) t)) _ (λ d. each p k d)
+    yields-behind P (or_fault (fault_at p (kinds.MissingKey k)) (get_member (key_text k) t)) _ (λ d. each p k d)
 
-or_default-yields : {X : Type 0} (P : X → Type 0) (kind : FaultPlace → Key → Data → Result X NetFault) (default : X)
+or_default-yields : {X : Type 0} (P : X → Type 0) (kind : FaultPlace → Key → Data → Result X TextFault) (default : X)
     → ((p : FaultPlace) (k : Key) (d : Data) → Yields P (kind p k d)) → P default → (p : FaultPlace) (k : Key) (o : Option Data)
     → Yields P (or_default kind default p k o)
 or_default-yields P kind default each holds p k None = holds
 or_default-yields P kind default each holds p k (Some d) = each p k d
 
-pub yields-optional : {X : Type 0} (P : X → Type 0) (kind : FaultPlace → Key → Data → Result X NetFault) (default : X)
+pub yields-optional : {X : Type 0} (P : X → Type 0) (kind : FaultPlace → Key → Data → Result X TextFault) (default : X)
     → ((p : FaultPlace) (k : Key) (d : Data) → Yields P (kind p k d)) → P default → (p : FaultPlace) (t : Members) (k : Key)
     → Yields P (optional kind default p t k)
 yields-optional P kind default each holds p t k = or_default-yields P kind default each holds p k (get_member (key_text k) t)
 
 pub yields-items : {X : Type 0} (kind : TableKind) (k : Key) (most : ℕ) (test : X → Bool)
-    (read : FaultPlace → Members → Result X NetFault) → ((p : FaultPlace) (t : Members) → Yields (λ x. test x ≡ true) (read p t))
+    (read : FaultPlace → Members → Result X TextFault) → ((p : FaultPlace) (t : Members) → Yields (λ x. test x ≡ true) (read p t))
     → (root : Members) → Yields (AreFew most test) (items_at kind k most read root)
 yields-items kind k most test read each root =
     let p : FaultPlace = record { table = kind; item = 0 } in

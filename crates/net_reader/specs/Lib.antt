@@ -1,2 +1,4 @@
+pub mod Numbering
+pub mod Joining
 pub mod Standings
 pub mod Reading

@@ -6,7 +6,7 @@ use Rattle.net_words.specs.declared.sid.DescribedSid.{DescribedSid}
 use Rattle.net_words.specs.declared.sid.Flavour.{Flavour}
 use Rattle.net_words.specs.declared.sid.Flavour.TheVariants.{Psp, Usp, Usd}
 use Rattle.net_words.specs.declared.description.Description.{Description}
-use Rattle.net_joining.specs.Joining.{joined}
+use Rattle.net_reader.specs.Joining.{joined}
 
 abbrev pub same_flavour : Flavour → Flavour → Bool
 same_flavour Psp Psp = true

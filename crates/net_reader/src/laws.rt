@@ -7,7 +7,7 @@ ghost use Rattle.net_model.specs.Rules.{IsNetwork};
 ghost use Rattle.net_model.specs.Judging.{InRange};
 ghost use Rattle.net_words.specs.declared.description.Description.{Description};
 ghost use Rattle.net_words.specs.Description.{description_of, description_in};
-ghost use Rattle.net_joining.specs.Joining.{joined, title_in};
+ghost use Rattle.net_reader.specs.Joining.{joined, title_in};
 ghost use Rattle.net_reader.specs.Standings.{HaveTheirKeys};
 ghost use Rattle.net_reader.specs.Reading.{net_in};
 

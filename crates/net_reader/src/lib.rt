@@ -2,15 +2,24 @@
 //!
 //! A description is TOML: arrays of tables `block`, `node`, `link`, `route`, `policy` and `sid`,
 //! each of which may be absent, and whose items name one another by their names. `read_net` reads
-//! it in three steps: what the text says (`net_words`), numbers in place of names (`net_joining`),
-//! and judging the parts (`net_model`), and gives exactly the first fault. `specs/` has the same
-//! steps as functions on the text. The laws about the definitions are the contracts of empty
-//! functions.
+//! it in three steps: what the text says (`net_words`), numbers in place of names, and judging the
+//! parts (`net_model`), and gives exactly the first fault. `specs/` has the same steps as functions
+//! on the text. The laws about the definitions are the contracts of empty functions.
+//!
+//! `join` puts numbers in place of names. An item's number is its place among the items of its
+//! kind, counted from 0; the number of a name that none has is their count, so that it is told apart
+//! when the parts are judged. `Numbering` has the names of items, read once into a map.
 #![tactic(auto)]
 
+mod joining;
 mod laws;
+mod numbering;
+mod parts;
 mod read;
+mod sids;
 mod standings;
 
 pub use laws::{described_parts_are_in_range, networks_keep_the_rules, titles_have_their_numbers};
+pub use numbering::{Named, Numbering};
+pub use parts::join;
 pub use read::read_net;

@@ -1,13 +1,14 @@
 //! From the text of a description to its network.
 
-ghost use Rattle.toml_words.specs.Reading.{Gives};
+ghost use Rattle.text_faults.specs.Reading.{Gives};
 ghost use Rattle.net_reader.specs.Reading.{net_in};
 
+use crate::parts::join;
 use crate::standings::standings;
-use net_joining::join;
-use net_model::{Net, NetFault};
+use net_model::Net;
 use net_words::read_description;
 use std::alloc::Global;
+use text_faults::NetFault;
 
 /// The network that a description's text gives, or its first fault (own rules).
 ///

@@ -2,12 +2,13 @@
 -- stay texts, since whether they are known is judged later.
 use Rattle.std.specs.Prelude.{ℕ, pos, nat_le, if◌then◌else◌, List, [], ◌∷◌, None, Result, Ok, Err}
 use Rattle.toml.specs.Data.{Data, Members, get_member}
-use Rattle.net_model.specs.declared.fault.FaultPlace.{FaultPlace}
-use Rattle.net_model.specs.declared.fault.Key.{Key}
-use Rattle.net_model.specs.declared.fault.Key.TheVariants as keys
-use Rattle.net_model.specs.declared.fault.TableKind.TheVariants as tables
-use Rattle.net_model.specs.declared.fault.NetFault.{NetFault}
-use Rattle.net_model.specs.declared.fault.NetFault.TheVariants as faults
+use Rattle.text_faults.specs.declared.place.FaultPlace.{FaultPlace}
+use Rattle.text_faults.specs.declared.place.Key.{Key}
+use Rattle.text_faults.specs.declared.place.Key.TheVariants as keys
+use Rattle.text_faults.specs.declared.place.TableKind.TheVariants as tables
+use Rattle.text_faults.specs.declared.fault.TextFault.{TextFault}
+use Rattle.text_faults.specs.declared.kind.FaultKind.TheVariants as kinds
+use Rattle.text_faults.specs.Faults.{fault_at}
 use Rattle.net_model.specs.declared.limits.TheConstants.{MAX_BLOCKS, MAX_NODES, MAX_LINKS, MAX_ROUTES, MAX_POLICIES, MAX_SIDS, MAX_ALLOWED_TYPES, MAX_LINKS_OF_SET, LAST_TABLE, LAST_OCTET, LAST_FLOW_LABEL, DEFAULT_HOP_LIMIT}
 use Rattle.srv6_rules.specs.declared.numbers.TheConstants.{MAX_SEGMENTS}
 use Rattle.v6_addr.specs.Address.{PrefixValue}
@@ -25,13 +26,13 @@ use Rattle.net_words.specs.Prefixes.{family_prefix_in}
 use Rattle.net_words.specs.Words.{block_kind_of, csid_bits_of, behaviour_of, csid_of, flavour_of}
 
 -- the bits of a block's compressed SIDs
-abbrev pub csid_bits_in : FaultPlace → Key → Data → Result ℕ NetFault
+abbrev pub csid_bits_in : FaultPlace → Key → Data → Result ℕ TextFault
 csid_bits_in p k d = do
   number ← integer_in p d
-  or_fault (faults.BadFlavour p.table p.item) (csid_bits_of number)
+  or_fault (fault_at p kinds.BadFlavour) (csid_bits_of number)
 
 -- a block (RFC 9800 section 3)
-abbrev pub block_of : FaultPlace → Members → Result DescribedBlock NetFault
+abbrev pub block_of : FaultPlace → Members → Result DescribedBlock TextFault
 block_of p t = do
   known ← only (keys.Prefix ∷ keys.Kind ∷ keys.Csid ∷ []) p t
   prefix ← needed prefix_in p known keys.Prefix
@@ -40,7 +41,7 @@ block_of p t = do
   Ok (record { prefix = prefix; kind = kind; csid = csid })
 
 -- a node; it takes no upper layer by default, and one is a next-header value
-abbrev pub node_of : FaultPlace → Members → Result DescribedNode NetFault
+abbrev pub node_of : FaultPlace → Members → Result DescribedNode TextFault
 node_of p t = do
   known ← only (keys.Name ∷ keys.Address ∷ keys.Allow ∷ []) p t
   name ← needed name_in p known keys.Name
@@ -49,7 +50,7 @@ node_of p t = do
   Ok (record { name = name; address = address; allow = allow })
 
 -- a link; without an end it leaves the network
-abbrev pub link_of : FaultPlace → Members → Result DescribedLink NetFault
+abbrev pub link_of : FaultPlace → Members → Result DescribedLink TextFault
 link_of p t = do
   known ← only (keys.Name ∷ keys.From ∷ keys.To ∷ []) p t
   name ← needed name_in p known keys.Name
@@ -58,7 +59,7 @@ link_of p t = do
   Ok (record { name = name; from = from; to = to })
 
 -- a route, in table 0 by default
-abbrev pub route_of : FaultPlace → Members → Result DescribedRoute NetFault
+abbrev pub route_of : FaultPlace → Members → Result DescribedRoute TextFault
 route_of p t = do
   known ← only (keys.Node ∷ keys.Table ∷ keys.Prefix ∷ keys.Via ∷ []) p t
   node ← needed name_in p known keys.Node
@@ -68,7 +69,7 @@ route_of p t = do
   Ok (record { node = node; table = table; prefix = prefix; via = via })
 
 -- a policy
-abbrev pub policy_of : FaultPlace → Members → Result DescribedPolicy NetFault
+abbrev pub policy_of : FaultPlace → Members → Result DescribedPolicy TextFault
 policy_of p t = do
   known ← only (keys.Name ∷ keys.Source ∷ keys.Segments ∷ keys.TrafficClass ∷ keys.FlowLabel ∷ keys.HopLimit ∷ []) p t
   name ← needed name_in p known keys.Name
@@ -80,13 +81,13 @@ policy_of p t = do
   Ok (record { name = name; source = source; segments = segments; traffic_class = class; flow_label = label; hop_limit = limit })
 
 -- the prefix of a SID has at least one bit
-abbrev pub sid_prefix_in : FaultPlace → Key → Data → Result PrefixValue NetFault
+abbrev pub sid_prefix_in : FaultPlace → Key → Data → Result PrefixValue TextFault
 sid_prefix_in p k d = do
   prefix ← prefix_in p k d
-  if nat_le 1 prefix.len then Ok prefix else Err (faults.Limit p.table p.item k (pos prefix.len))
+  if nat_le 1 prefix.len then Ok prefix else Err (fault_at p (kinds.Limit k (pos prefix.len)))
 
 -- a SID; its links, table and policy may be absent here, whatever its behaviour takes
-abbrev pub sid_of : FaultPlace → Members → Result DescribedSid NetFault
+abbrev pub sid_of : FaultPlace → Members → Result DescribedSid TextFault
 sid_of p t = do
   known ← only (
       keys.Node ∷ keys.Prefix ∷ keys.Behaviour ∷ keys.Csid ∷ keys.Flavours ∷ keys.Title ∷ keys.Links ∷ keys.Table ∷ keys.Policy ∷ []) p t
@@ -111,11 +112,14 @@ sid_of p t = do
     policy = policy;
   })
 
+-- the whole
+abbrev pub net_place : FaultPlace
+net_place = record { table = tables.Net; item = 0 }
+
 -- the tables in their order
-abbrev pub description_of : Members → Result Description NetFault
+abbrev pub description_of : Members → Result Description TextFault
 description_of root = do
-  known ← only (keys.Block ∷ keys.Node ∷ keys.Link ∷ keys.Route ∷ keys.Policy ∷ keys.Sid ∷ [])
-      (record { table = tables.Net; item = 0 }) root
+  known ← only (keys.Block ∷ keys.Node ∷ keys.Link ∷ keys.Route ∷ keys.Policy ∷ keys.Sid ∷ []) net_place root
   blocks ← items_at tables.Block keys.Block MAX_BLOCKS block_of known
   nodes ← items_at tables.Node keys.Node MAX_NODES node_of known
   links ← items_at tables.Link keys.Link MAX_LINKS link_of known
@@ -125,7 +129,7 @@ description_of root = do
   Ok (record { blocks = blocks; nodes = nodes; links = links; routes = routes; policies = policies; sids = sids })
 
 -- what a text says: first whether it is TOML
-abbrev pub description_in : List ℕ → Result Description NetFault
+abbrev pub description_in : List ℕ → Result Description TextFault
 description_in text = do
-  root ← or_fault faults.NotToml (document_of text)
+  root ← or_fault (fault_at net_place kinds.NotToml) (document_of text)
   description_of root

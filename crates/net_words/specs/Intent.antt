@@ -2,13 +2,14 @@
 -- are known is judged later.
 use Rattle.std.specs.Prelude.{ℕ, suc, pos, nat_le, if◌then◌else◌, List, [], ◌∷◌, length, Option, Some, None, Result, Ok, Err}
 use Rattle.toml.specs.Data.{Data, Members, get_member}
-use Rattle.net_model.specs.declared.fault.FaultPlace.{FaultPlace}
-use Rattle.net_model.specs.declared.fault.Key.{Key}
-use Rattle.net_model.specs.declared.fault.Key.TheVariants as keys
-use Rattle.net_model.specs.declared.fault.TableKind.TheVariants as tables
-use Rattle.net_model.specs.declared.fault.NetFault.{NetFault}
-use Rattle.net_model.specs.declared.fault.NetFault.TheVariants as faults
-use Rattle.net_model.specs.Keys.{key_text}
+use Rattle.text_faults.specs.declared.place.FaultPlace.{FaultPlace}
+use Rattle.text_faults.specs.declared.place.Key.{Key}
+use Rattle.text_faults.specs.declared.place.Key.TheVariants as keys
+use Rattle.text_faults.specs.declared.place.TableKind.TheVariants as tables
+use Rattle.text_faults.specs.declared.fault.TextFault.{TextFault}
+use Rattle.text_faults.specs.declared.kind.FaultKind.TheVariants as kinds
+use Rattle.text_faults.specs.Faults.{fault_at}
+use Rattle.text_faults.specs.Keys.{key_text}
 use Rattle.net_model.specs.declared.limits.TheConstants.{MAX_LINKS_OF_SET, LAST_OCTET, LAST_FLOW_LABEL, DEFAULT_HOP_LIMIT}
 use Rattle.toml_words.specs.Reading.{◌>>=◌, or_fault, document_of}
 use Rattle.toml_words.specs.Tree.{name_in, addr_in, word_in, number_in, list_in, needed, optional, only, items_at}
@@ -19,41 +20,42 @@ use Rattle.net_words.specs.declared.intent.DescribedIntent.{DescribedIntent}
 use Rattle.net_words.specs.Words.{family_of, mode_of}
 
 -- at least one
-abbrev pub some_of : {X : Type 0} → FaultPlace → Key → List X → Result (List X) NetFault
-some_of p k xs = if nat_le 1 (length xs) then Ok xs else Err (faults.Limit p.table p.item k (pos (length xs)))
+abbrev pub some_of : {X : Type 0} → FaultPlace → Key → List X → Result (List X) TextFault
+some_of p k xs = if nat_le 1 (length xs) then Ok xs else Err (fault_at p (kinds.Limit k (pos (length xs))))
 
 -- the links of a step
-abbrev pub links_at : FaultPlace → Members → Result (List (List ℕ)) NetFault
+abbrev pub links_at : FaultPlace → Members → Result (List (List ℕ)) TextFault
 links_at p t = do
   names ← needed (list_in MAX_LINKS_OF_SET name_in) p t keys.Links
   some_of p keys.Links names
 
 -- a step by what stands at `links` and at `function`: links where no function stands, and never both
-abbrev pub step_by : FaultPlace → Members → Option Data → Option Data → Result DescribedStep NetFault
+abbrev pub step_by : FaultPlace → Members → Option Data → Option Data → Result DescribedStep TextFault
 step_by p t links None = do
   names ← links_at p t
   Ok (steps.Links names)
 step_by p t None (Some function) = do
   title ← needed name_in p t keys.Function
   Ok (steps.Function title)
-step_by p t (Some links) (Some function) = Err (faults.UnknownKey p.table p.item)
+step_by p t (Some links) (Some function) = Err (fault_at p kinds.UnknownKey)
 
-abbrev pub step_of : FaultPlace → Members → Result DescribedStep NetFault
+abbrev pub step_of : FaultPlace → Members → Result DescribedStep TextFault
 step_of p t = do
   known ← only (keys.Links ∷ keys.Function ∷ []) p t
   step_by p known (get_member (key_text keys.Links) known) (get_member (key_text keys.Function) known)
 
--- the steps, which are needed
-abbrev pub steps_at : Members → Result (List DescribedStep) NetFault
-steps_at root = do
-  here ← or_fault (faults.MissingKey tables.Intent 0 keys.Step) (get_member (key_text keys.Step) root)
-  all ← items_at tables.Step keys.Step MAX_STEPS step_of root
-  some_of (record { table = tables.Step; item = 0 }) keys.Step all
-
+-- the whole
 abbrev pub intent_place : FaultPlace
 intent_place = record { table = tables.Intent; item = 0 }
 
-abbrev pub intent_of : Members → Result DescribedIntent NetFault
+-- the steps, which are needed
+abbrev pub steps_at : Members → Result (List DescribedStep) TextFault
+steps_at root = do
+  here ← or_fault (fault_at intent_place (kinds.MissingKey keys.Step)) (get_member (key_text keys.Step) root)
+  all ← items_at tables.Step keys.Step MAX_STEPS step_of root
+  some_of (record { table = tables.Step; item = 0 }) keys.Step all
+
+abbrev pub intent_of : Members → Result DescribedIntent TextFault
 intent_of root = do
   known ← only (
       keys.Headend ∷ keys.Source ∷ keys.Inner ∷ keys.Mode ∷ keys.HopLimit ∷ keys.MaxContainers ∷ keys.TrafficClass ∷ keys.FlowLabel
@@ -80,7 +82,7 @@ intent_of root = do
   })
 
 -- what a text says: first whether it is TOML
-abbrev pub intent_in : List ℕ → Result DescribedIntent NetFault
+abbrev pub intent_in : List ℕ → Result DescribedIntent TextFault
 intent_in text = do
-  root ← or_fault faults.NotToml (document_of text)
+  root ← or_fault (fault_at intent_place kinds.NotToml) (document_of text)
   intent_of root

@@ -4,10 +4,11 @@ use Rattle.toml.specs.Data.{Data}
 use Rattle.v6_addr.specs.Address.{PrefixValue}
 use Rattle.v6_addr.specs.Scan4.{prefix4_of_text}
 use Rattle.v6_addr.specs.Text.{prefix_of_text}
-use Rattle.net_model.specs.declared.fault.FaultPlace.{FaultPlace}
-use Rattle.net_model.specs.declared.fault.Key.{Key}
-use Rattle.net_model.specs.declared.fault.NetFault.{NetFault}
-use Rattle.net_model.specs.declared.fault.NetFault.TheVariants as faults
+use Rattle.text_faults.specs.declared.place.FaultPlace.{FaultPlace}
+use Rattle.text_faults.specs.declared.place.Key.{Key}
+use Rattle.text_faults.specs.declared.fault.TextFault.{TextFault}
+use Rattle.text_faults.specs.declared.kind.FaultKind.TheVariants as kinds
+use Rattle.text_faults.specs.Faults.{fault_at}
 use Rattle.srv6_rules.specs.declared.sid.Family.{Family}
 use Rattle.srv6_rules.specs.declared.sid.Family.TheVariants.{V6, V4}
 use Rattle.net_words.specs.declared.prefixes.FamilyPrefix.{FamilyPrefix}
@@ -26,7 +27,7 @@ or_else (Some x) other = Some x
 abbrev pub family_prefix_of : List ℕ → Option FamilyPrefix
 family_prefix_of text = or_else (option_map (of_family V6) (prefix_of_text text)) (option_map (of_family V4) (prefix4_of_text text))
 
-abbrev pub family_prefix_in : FaultPlace → Key → Data → Result FamilyPrefix NetFault
+abbrev pub family_prefix_in : FaultPlace → Key → Data → Result FamilyPrefix TextFault
 family_prefix_in p k d = do
   text ← text_in p d
-  or_fault (faults.BadAddress p.table p.item) (family_prefix_of text)
+  or_fault (fault_at p kinds.BadAddress) (family_prefix_of text)

@@ -4,16 +4,17 @@ ghost use Rattle.std.specs.Prelude.{◌≡◌};
 ghost use Rattle.std.specs.Prelude.{Result};
 ghost use Rattle.toml.specs.Data.{Members};
 ghost use Rattle.toml.specs.View.{table_view};
-ghost use Rattle.net_model.specs.declared.fault.FaultPlace.{FaultPlace};
-ghost use Rattle.net_model.specs.declared.fault.NetFault.{NetFault};
-ghost use Rattle.toml_words.specs.Reading.{Gives};
+ghost use Rattle.text_faults.specs.declared.place.FaultPlace.{FaultPlace};
+ghost use Rattle.text_faults.specs.declared.fault.TextFault.{TextFault};
+ghost use Rattle.text_faults.specs.Reading.{Gives};
 ghost use Rattle.toml_words.specs.Tree.{needed};
 ghost use Rattle.net_words.specs.Words.{block_kind_of, csid_bits_of};
 ghost use Rattle.net_words.specs.Description.{csid_bits_in, block_of};
 
 use crate::words::{Word, needed_word};
-use net_model::{BlockKind, FaultPlace, Key, LONG_CSID, NetFault, SHORT_CSID};
+use net_model::{BlockKind, LONG_CSID, SHORT_CSID};
 use std::alloc::Global;
+use text_faults::{FaultKind, FaultPlace, Key, NetFault, TextFault};
 use toml::Table;
 use toml_words::{Describes, integer_in, meant, needed, only, value_at};
 use v6_addr::Prefix;
@@ -55,7 +56,7 @@ fn csid_bits_of(number: i64) -> Option<u8>
 
 /// The bits of a block's compressed SIDs: `WrongKind` where the value is no integer, `BadFlavour`
 /// where it is another than 16 and 32.
-fn csid_bits(table: &Table, place: FaultPlace) -> Result<u8, NetFault>
+fn csid_bits(table: &Table, place: FaultPlace) -> Result<u8, TextFault>
     ensures { result ≡ needed csid_bits_in place (table_view table.now) Key.Csid }
 {
     match value_at(table, Key::Csid) {
@@ -63,7 +64,7 @@ fn csid_bits(table: &Table, place: FaultPlace) -> Result<u8, NetFault>
             let number = integer_in(value, place)?;
             meant(csid_bits_of(number), place)
         }
-        None => Err(place.missing_key(Key::Csid)),
+        None => Err(place.fault(FaultKind::MissingKey { key: Key::Csid })),
     }
 }
 

@@ -2,7 +2,7 @@
 
 ghost use Rattle.std.specs.Prelude.{◌≡◌};
 ghost use Rattle.toml.specs.View.{table_view};
-ghost use Rattle.toml_words.specs.Reading.{Gives};
+ghost use Rattle.text_faults.specs.Reading.{Gives};
 ghost use Rattle.net_words.specs.Description.{description_of, description_in};
 
 use crate::block::{Blocks, DescribedBlock};
@@ -12,11 +12,9 @@ use crate::policy::{DescribedPolicy, Policies};
 use crate::route::{DescribedRoute, Routes};
 use crate::sid::{DescribedSid, Sids};
 use base::Seq;
-use net_model::{
-    FaultPlace, Key, MAX_BLOCKS, MAX_LINKS, MAX_NODES, MAX_POLICIES, MAX_ROUTES, MAX_SIDS,
-    NetFault, TableKind,
-};
+use net_model::{MAX_BLOCKS, MAX_LINKS, MAX_NODES, MAX_POLICIES, MAX_ROUTES, MAX_SIDS};
 use std::alloc::Global;
+use text_faults::{FaultPlace, Key, NetFault, TableKind};
 use toml::Table;
 use toml_words::{document, items_at, only};
 
@@ -53,10 +51,7 @@ pub fn describe(alloc: Global, root: &Table) -> Result<Description, NetFault>
         Key::Policy,
         Key::Sid,
     ];
-    let whole = FaultPlace {
-        table: TableKind::Net,
-        item: 0,
-    };
+    let whole = FaultPlace::whole(TableKind::Net);
     only(root, &tables, whole)?;
     let blocks = items_at::<Blocks, DescribedBlock>(
         alloc,
@@ -109,6 +104,6 @@ pub fn describe(alloc: Global, root: &Table) -> Result<Description, NetFault>
 pub fn read_description(alloc: Global, text: &[u8]) -> Result<Description, NetFault>
     ensures { Gives (λ d. d) result (description_in text.now) }
 {
-    let root = document(alloc, text)?;
+    let root = document(alloc, text, FaultPlace::whole(TableKind::Net))?;
     describe(alloc, &root)
 }

@@ -2,7 +2,7 @@
 
 ghost use Rattle.std.specs.Prelude.{◌≡◌};
 ghost use Rattle.toml.specs.View.{table_view};
-ghost use Rattle.toml_words.specs.Reading.{Gives};
+ghost use Rattle.text_faults.specs.Reading.{Gives};
 ghost use Rattle.net_words.specs.Words.{family_of, mode_of};
 ghost use Rattle.net_words.specs.Intent.{intent_of, intent_in};
 
@@ -11,9 +11,10 @@ use crate::numbers::octet_at;
 use crate::step::{DescribedStep, steps_at};
 use crate::words::{Word, needed_word};
 use base::Seq;
-use net_model::{DEFAULT_HOP_LIMIT, FaultPlace, Key, LAST_FLOW_LABEL, Name, NetFault, TableKind};
+use net_model::{DEFAULT_HOP_LIMIT, LAST_FLOW_LABEL, Name};
 use srv6_rules::Family;
 use std::alloc::Global;
+use text_faults::{FaultPlace, Key, NetFault, TableKind};
 use toml::Table;
 use toml_words::{document, needed, only, optional_number};
 use v6_addr::Addr;
@@ -93,10 +94,7 @@ pub fn describe_intent(alloc: Global, root: &Table) -> Result<DescribedIntent, N
         Key::FlowLabel,
         Key::Step,
     ];
-    let whole = FaultPlace {
-        table: TableKind::Intent,
-        item: 0,
-    };
+    let whole = FaultPlace::whole(TableKind::Intent);
     only(root, &keys, whole)?;
     let headend = needed::<Name>(alloc, root, whole, Key::Headend)?;
     let source = needed::<Addr>(alloc, root, whole, Key::Source)?;
@@ -132,6 +130,6 @@ pub fn describe_intent(alloc: Global, root: &Table) -> Result<DescribedIntent, N
 pub fn read_intent_words(alloc: Global, text: &[u8]) -> Result<DescribedIntent, NetFault>
     ensures { Gives (λ i. i) result (intent_in text.now) }
 {
-    let root = document(alloc, text)?;
+    let root = document(alloc, text, FaultPlace::whole(TableKind::Intent))?;
     describe_intent(alloc, &root)
 }

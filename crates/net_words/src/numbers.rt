@@ -5,7 +5,8 @@ ghost use Rattle.toml.specs.View.{table_view};
 ghost use Rattle.net_model.specs.declared.limits.TheConstants.{LAST_OCTET};
 ghost use Rattle.toml_words.specs.Tree.{optional, number_in};
 
-use net_model::{FaultPlace, Key, LAST_OCTET, NetFault};
+use net_model::LAST_OCTET;
+use text_faults::{FaultPlace, Key, TextFault};
 use toml::Table;
 use toml_words::{number_in, value_at};
 
@@ -16,7 +17,7 @@ pub(crate) fn octet_at(
     table: &Table,
     place: FaultPlace,
     key: Key,
-) -> Result<u8, NetFault>
+) -> Result<u8, TextFault>
     ensures { result ≡ optional (number_in least LAST_OCTET) default place (table_view table.now)
         key }
 {

@@ -3,16 +3,17 @@
 ghost use Rattle.std.specs.Prelude.{Result};
 ghost use Rattle.toml.specs.Data.{Members};
 ghost use Rattle.toml.specs.View.{table_view};
-ghost use Rattle.net_model.specs.declared.fault.FaultPlace.{FaultPlace};
-ghost use Rattle.net_model.specs.declared.fault.NetFault.{NetFault};
-ghost use Rattle.toml_words.specs.Reading.{Gives};
+ghost use Rattle.text_faults.specs.declared.place.FaultPlace.{FaultPlace};
+ghost use Rattle.text_faults.specs.declared.fault.TextFault.{TextFault};
+ghost use Rattle.text_faults.specs.Reading.{Gives};
 ghost use Rattle.net_words.specs.Description.{policy_of};
 
 use crate::numbers::octet_at;
 use base::Seq;
-use net_model::{DEFAULT_HOP_LIMIT, FaultPlace, Key, LAST_FLOW_LABEL, Name, NetFault};
+use net_model::{DEFAULT_HOP_LIMIT, LAST_FLOW_LABEL, Name};
 use srv6_rules::numbers::MAX_SEGMENTS;
 use std::alloc::Global;
+use text_faults::{FaultPlace, Key, NetFault};
 use toml::Table;
 use toml_words::{Describes, needed, needed_list, only, optional_number};
 use v6_addr::Addr;

@@ -3,11 +3,11 @@
 ghost use Rattle.std.specs.Prelude.{◌≡◌};
 ghost use Rattle.v6_addr.specs.Scan4.{prefix4_of_text};
 ghost use Rattle.net_words.specs.Prefixes.{family_prefix_of, family_prefix_in};
-ghost use Rattle.toml_words.specs.Reading.{Gives};
+ghost use Rattle.text_faults.specs.Reading.{Gives};
 
-use net_model::{FaultPlace, Key, NetFault};
 use srv6_rules::Family;
 use std::alloc::Global;
+use text_faults::{FaultKind, FaultPlace, Key, NetFault, OrNoMemory};
 use toml::Value;
 use toml_words::{Kind, text_in};
 use v6_addr::{Prefix, parse_prefix, parse_prefix4};
@@ -66,7 +66,7 @@ impl Kind for FamilyPrefix {
         let text = text_in(value, place)?;
         match family_prefix_of(text.as_bytes()) {
             Some(prefix) => Ok(prefix),
-            None => Err(place.bad_address()),
+            None => Err(OrNoMemory::Fault(place.fault(FaultKind::BadAddress))),
         }
     }
 }

@@ -3,15 +3,16 @@
 ghost use Rattle.std.specs.Prelude.{Result};
 ghost use Rattle.toml.specs.Data.{Members};
 ghost use Rattle.toml.specs.View.{table_view};
-ghost use Rattle.net_model.specs.declared.fault.FaultPlace.{FaultPlace};
-ghost use Rattle.net_model.specs.declared.fault.NetFault.{NetFault};
-ghost use Rattle.toml_words.specs.Reading.{Gives};
+ghost use Rattle.text_faults.specs.declared.place.FaultPlace.{FaultPlace};
+ghost use Rattle.text_faults.specs.declared.fault.TextFault.{TextFault};
+ghost use Rattle.text_faults.specs.Reading.{Gives};
 ghost use Rattle.net_words.specs.Description.{route_of};
 
 use crate::prefixes::FamilyPrefix;
 use base::Seq;
-use net_model::{FaultPlace, Key, LAST_TABLE, MAX_LINKS_OF_SET, Name, NetFault};
+use net_model::{LAST_TABLE, MAX_LINKS_OF_SET, Name};
 use std::alloc::Global;
+use text_faults::{FaultPlace, Key, NetFault};
 use toml::Table;
 use toml_words::{Describes, needed, needed_list, only, optional_number};
 

@@ -4,18 +4,19 @@ ghost use Rattle.std.specs.Prelude.{◌≡◌, pos};
 ghost use Rattle.std.specs.Prelude.{Result};
 ghost use Rattle.toml.specs.Data.{Members};
 ghost use Rattle.toml.specs.View.{table_view};
-ghost use Rattle.net_model.specs.declared.fault.FaultPlace.{FaultPlace};
-ghost use Rattle.net_model.specs.declared.fault.NetFault.{NetFault};
-ghost use Rattle.toml_words.specs.Reading.{Gives};
+ghost use Rattle.text_faults.specs.declared.place.FaultPlace.{FaultPlace};
+ghost use Rattle.text_faults.specs.declared.fault.TextFault.{TextFault};
+ghost use Rattle.text_faults.specs.Reading.{Gives};
 ghost use Rattle.toml_words.specs.Tree.{needed, word_in};
 ghost use Rattle.net_words.specs.Words.{csid_of, behaviour_of, flavour_of};
 ghost use Rattle.net_words.specs.Description.{sid_prefix_in, sid_of};
 
 use crate::words::{Word, needed_word, optional_word, word_in};
 use base::Seq;
-use net_model::{FaultPlace, Key, LAST_TABLE, MAX_LINKS_OF_SET, Name, NetFault};
+use net_model::{LAST_TABLE, MAX_LINKS_OF_SET, Name};
 use srv6_rules::Csid;
 use std::alloc::Global;
+use text_faults::{FaultKind, FaultPlace, Key, NetFault, OrNoMemory};
 use toml::{Table, Value};
 use toml_words::{
     Describes, Kind, list_if_given, needed, number_if_given, only, optional, optional_array,
@@ -136,7 +137,7 @@ impl Kind for Flavour {
     ghost kind = { word_in flavour_of };
 
     fn of(_alloc: Global, value: &Value, place: FaultPlace, key: Key) -> Result<Flavour, NetFault> {
-        word_in::<Flavour>(value, place, key)
+        Ok(word_in::<Flavour>(value, place, key)?)
     }
 }
 
@@ -146,7 +147,10 @@ fn sid_prefix(alloc: Global, table: &Table, place: FaultPlace) -> Result<Prefix,
 {
     let prefix = needed::<Prefix>(alloc, table, place, Key::Prefix)?;
     if prefix.len() == 0 {
-        return Err(place.limit(Key::Prefix, 0));
+        return Err(OrNoMemory::Fault(place.fault(FaultKind::Limit {
+            what: Key::Prefix,
+            value: 0,
+        })));
     }
     Ok(prefix)
 }

@@ -4,15 +4,16 @@ ghost use Rattle.std.specs.Prelude.{◌≡◌, [], None};
 ghost use Rattle.std.specs.Prelude.{Result};
 ghost use Rattle.toml.specs.Data.{Members};
 ghost use Rattle.toml.specs.View.{table_view};
-ghost use Rattle.net_model.specs.declared.fault.FaultPlace.{FaultPlace};
-ghost use Rattle.net_model.specs.declared.fault.NetFault.{NetFault};
-ghost use Rattle.toml_words.specs.Reading.{Gives};
+ghost use Rattle.text_faults.specs.declared.place.FaultPlace.{FaultPlace};
+ghost use Rattle.text_faults.specs.declared.fault.TextFault.{TextFault};
+ghost use Rattle.text_faults.specs.Reading.{Gives};
 ghost use Rattle.net_words.specs.Intent.{links_at, step_of, steps_at};
 
 use crate::limits::MAX_STEPS;
 use base::Seq;
-use net_model::{FaultPlace, Key, MAX_LINKS_OF_SET, Name, NetFault, TableKind};
+use net_model::{MAX_LINKS_OF_SET, Name};
 use std::alloc::Global;
+use text_faults::{FaultKind, FaultPlace, Key, NetFault, OrNoMemory, TableKind};
 use toml::Table;
 use toml_words::{Describes, items_at, needed, needed_list, only, value_at};
 
@@ -31,7 +32,10 @@ fn links_at(alloc: Global, table: &Table, place: FaultPlace) -> Result<Seq<Name>
 {
     let links = needed_list::<Name>(alloc, MAX_LINKS_OF_SET, table, place, Key::Links)?;
     if links.as_slice().is_empty() {
-        return Err(place.limit(Key::Links, 0));
+        return Err(OrNoMemory::Fault(place.fault(FaultKind::Limit {
+            what: Key::Links,
+            value: 0,
+        })));
     }
     Ok(links)
 }
@@ -49,7 +53,7 @@ impl Describes<DescribedStep> for StepTables {
             return Ok(DescribedStep::Links(links));
         }
         if value_at(table, Key::Links).is_some() {
-            return Err(place.unknown_key());
+            return Err(OrNoMemory::Fault(place.fault(FaultKind::UnknownKey)));
         }
         let title = needed::<Name>(alloc, table, place, Key::Function)?;
         Ok(DescribedStep::Function(title))
@@ -61,12 +65,9 @@ impl Describes<DescribedStep> for StepTables {
 pub(crate) fn steps_at(alloc: Global, root: &Table) -> Result<Seq<DescribedStep>, NetFault>
     ensures { Gives (λ s. s) result (steps_at (table_view root.now)) }
 {
-    let intent = FaultPlace {
-        table: TableKind::Intent,
-        item: 0,
-    };
+    let intent = FaultPlace::whole(TableKind::Intent);
     if value_at(root, Key::Step).is_none() {
-        return Err(intent.missing_key(Key::Step));
+        return Err(OrNoMemory::Fault(intent.fault(FaultKind::MissingKey { key: Key::Step })));
     }
     let steps = items_at::<StepTables, DescribedStep>(
         alloc,
@@ -76,11 +77,11 @@ pub(crate) fn steps_at(alloc: Global, root: &Table) -> Result<Seq<DescribedStep>
         root,
     )?;
     if steps.as_slice().is_empty() {
-        let all = FaultPlace {
-            table: TableKind::Step,
-            item: 0,
-        };
-        return Err(all.limit(Key::Step, 0));
+        let all = FaultPlace::whole(TableKind::Step);
+        return Err(OrNoMemory::Fault(all.fault(FaultKind::Limit {
+            what: Key::Step,
+            value: 0,
+        })));
     }
     Ok(steps)
 }

@@ -4,7 +4,7 @@ ghost use Rattle.std.specs.Prelude.{◌≡◌, List, ℕ, Option};
 ghost use Rattle.toml.specs.View.{view, table_view};
 ghost use Rattle.toml_words.specs.Tree.{word_in, needed, optional};
 
-use net_model::{FaultPlace, Key, NetFault};
+use text_faults::{FaultKind, FaultPlace, Key, TextFault};
 use toml::{Table, Value};
 use toml_words::{meant, text_in, value_at};
 
@@ -20,7 +20,7 @@ pub(crate) trait Word: Sized {
 
 /// What the word that a value is stands for: `WrongKind` where the value is no text, `BadFlavour`
 /// where it is a text that stands for nothing.
-pub(crate) fn word_in<W: Word>(value: &Value, place: FaultPlace, key: Key) -> Result<W, NetFault>
+pub(crate) fn word_in<W: Word>(value: &Value, place: FaultPlace, key: Key) -> Result<W, TextFault>
     ensures { result ≡ word_in W.meaning place key (view value.now) }
 {
     let _ = key;
@@ -33,12 +33,12 @@ pub(crate) fn needed_word<W: Word>(
     table: &Table,
     place: FaultPlace,
     key: Key,
-) -> Result<W, NetFault>
+) -> Result<W, TextFault>
     ensures { result ≡ needed (word_in W.meaning) place (table_view table.now) key }
 {
     match value_at(table, key) {
         Some(value) => word_in::<W>(value, place, key),
-        None => Err(place.missing_key(key)),
+        None => Err(place.fault(FaultKind::MissingKey { key })),
     }
 }
 
@@ -48,7 +48,7 @@ pub(crate) fn optional_word<W: Word + Drop>(
     table: &Table,
     place: FaultPlace,
     key: Key,
-) -> Result<W, NetFault>
+) -> Result<W, TextFault>
     ensures { result ≡ optional (word_in W.meaning) default place (table_view table.now) key }
 {
     match value_at(table, key) {

@@ -1,13 +1,13 @@
 //! Intents in a network of four nodes: their values, and each fault with a later one behind it.
 
-use intent_reader::{Intent, IntentFault, Step, is_intent, read_intent};
-use net_model::{
-    Key, Link, Name, Net, NetFault, NetParts, Node, TableKind, TypeList, are_in_range,
-};
+use crate::net_model_tests::at;
+use intent_reader::{Intent, IntentFault, Step, StepFault, is_intent, read_intent};
+use net_model::{Link, Name, Net, NetParts, Node, TypeList, are_in_range};
 use srv6_rules::{Behaviour, Csid, Family, LinkSet, SidEntry};
 use std::alloc::{AllocError, Global};
 use std::process::Abort;
 use std::test::Fail;
+use text_faults::{FaultKind, Key, OrNoMemory, TableKind};
 use v6_addr::{Addr, Prefix};
 
 /// 2001:db8::a
@@ -199,23 +199,34 @@ fn reads_the_numbers_that_are_given(rt: HostRuntime) -> Result<(), Fail> {
     Ok(())
 }
 
+/// The first fault of an intent's text in a network, none where it gives one.
+fn fault_of(alloc: Global, text: &[u8], net: &Net) -> Option<IntentFault> {
+    match read_intent(alloc, text, net) {
+        Err(OrNoMemory::Fault(fault)) => Some(fault),
+        Ok(_) | Err(OrNoMemory::NoMemory) => None,
+    }
+}
+
 #[test]
 fn refuses_what_is_no_toml(rt: HostRuntime) -> Result<(), Fail> {
     let net = four_nodes(&rt, rt.alloc())?;
-    let fault = read_intent(rt.alloc(), b"headend =", &net).err();
-    assert!(rt; fault == Some(IntentFault::Text(NetFault::NotToml)));
+    let fault = fault_of(rt.alloc(), b"headend =", &net);
+    let no_toml = at(TableKind::Intent, 0, FaultKind::NotToml);
+    assert!(rt; fault == Some(IntentFault::Text(no_toml)));
     Ok(())
 }
 
 #[test]
 fn gives_the_first_fault(rt: HostRuntime) -> Result<(), Fail> {
     let net = four_nodes(&rt, rt.alloc())?;
-    let no_links = NetFault::Limit {
-        table: TableKind::Step,
-        item: 2,
-        what: Key::Links,
-        value: 0,
-    };
+    let no_links = at(
+        TableKind::Step,
+        2,
+        FaultKind::Limit {
+            what: Key::Links,
+            value: 0,
+        },
+    );
     for (words, steps, fault) in [
         (
             // a list of links is empty; no node is Z
@@ -227,50 +238,50 @@ fn gives_the_first_fault(rt: HostRuntime) -> Result<(), Fail> {
             // no node is Z; no link is zz
             FROM_NOWHERE,
             r#"step = [{ links = ["zz"] }]"#,
-            IntentFault::UnknownName { step: 0 },
+            StepFault::UnknownName.at(0),
         ),
         (
             // no link is zz; bc1 stands twice
             FROM_A,
             r#"step = [{ links = ["ab"] }, { links = ["bc1", "bc1", "zz"] }]"#,
-            IntentFault::UnknownName { step: 2 },
+            StepFault::UnknownName.at(2),
         ),
         (
             // cd stands twice; it does not start at B
             FROM_A,
             r#"step = [{ links = ["ab"] }, { links = ["cd", "cd"] }]"#,
-            IntentFault::DoubleLink { step: 2 },
+            StepFault::DoubleLink.at(2),
         ),
         (
             // bc1 does not start at A; no link is zz
             FROM_A,
             r#"step = [{ links = ["bc1"] }, { links = ["zz"] }]"#,
-            IntentFault::Broken { step: 1 },
+            StepFault::Broken.at(1),
         ),
         (
             // ab and ac end apart; cd stands twice
             FROM_A,
             r#"step = [{ links = ["ab", "ac"] }, { links = ["cd", "cd"] }]"#,
-            IntentFault::Broken { step: 1 },
+            StepFault::Broken.at(1),
         ),
         (
             // out leaves the network; no SID is `other`
             FROM_A,
             r#"step = [{ links = ["ac"] }, { links = ["cd"] }, { links = ["out"] },
                 { function = "other" }]"#,
-            IntentFault::Broken { step: 3 },
+            StepFault::Broken.at(3),
         ),
         (
             // no SID is `other`; bc1 does not start at A
             FROM_A,
             r#"step = [{ function = "other" }, { links = ["bc1"] }]"#,
-            IntentFault::NoFunction { step: 1 },
+            StepFault::NoFunction.at(1),
         ),
         (
             // `vpn` is not at B; no link is zz
             FROM_A,
             r#"step = [{ links = ["ab"] }, { function = "vpn" }, { links = ["zz"] }]"#,
-            IntentFault::NoFunction { step: 2 },
+            StepFault::NoFunction.at(2),
         ),
         (
             FROM_A,
@@ -279,7 +290,7 @@ fn gives_the_first_fault(rt: HostRuntime) -> Result<(), Fail> {
         ),
     ] {
         let text = joined(rt.alloc(), words, steps)?;
-        let first = read_intent(rt.alloc(), text.as_slice(), &net).err();
+        let first = fault_of(rt.alloc(), text.as_slice(), &net);
         assert!(rt; first == Some(fault), "{steps}");
     }
     Ok(())

@@ -1,19 +1,19 @@
 //! Tests of the crates that read and write descriptions and intents, and of the networks that these
 //! describe (`net_model`), over what these crates make public: one file a crate, named for it, and
-//! one of flat networks. Here they are proved once, and the crates aren't proved again with their
+//! one each of flat networks and of the numbers of names. Here they are proved once, and the crates aren't proved again with their
 //! tests.
 #![tactic(auto)]
 
 #[cfg(test)]
 mod intent_reader_tests;
 #[cfg(test)]
-mod net_joining_tests;
-#[cfg(test)]
 mod net_maker_tests;
 #[cfg(test)]
 mod net_model_flat_tests;
 #[cfg(test)]
 mod net_model_tests;
+#[cfg(test)]
+mod net_reader_numbering_tests;
 #[cfg(test)]
 mod net_reader_tests;
 #[cfg(test)]

@@ -1,13 +1,14 @@
 //! A network of two nodes.
 
 use net_model::{
-    Block, BlockKind, Hit, Key, Link, MAX_SIDS_OF_NODE, Name, Net, NetFault, NetParts, Node, Route,
-    Standing, TableKind, TypeList, are_in_range,
+    Block, BlockKind, Hit, Link, MAX_SIDS_OF_NODE, Name, Net, NetParts, Node, Route, Standing,
+    TypeList, are_in_range,
 };
 use srv6_rules::{Behaviour, Csid, Family, LinkSet, SidEntry};
 use std::alloc::{AllocError, Global};
 use std::process::Abort;
 use std::test::Fail;
+use text_faults::{FaultKind, FaultPlace, Key, OrNoMemory, TableKind, TextFault};
 use v6_addr::{Addr, Prefix};
 
 /// 2001:db8::1
@@ -93,15 +94,23 @@ pub(crate) fn two_nodes(
     })
 }
 
+/// The fault of a kind at an item of a table.
+pub(crate) fn at(table: TableKind, item: u32, kind: FaultKind) -> TextFault {
+    FaultPlace { table, item }.fault(kind)
+}
+
 /// The first fault of parts, none where they are a network's.
 fn fault_of(
     rt: &impl Abort,
     alloc: Global,
     parts: NetParts,
     standings: &[Standing],
-) -> Option<NetFault> {
+) -> Option<TextFault> {
     assert!(rt; are_in_range(&parts));
-    Net::build(alloc, parts, standings).err()
+    match Net::build(alloc, parts, standings) {
+        Err(OrNoMemory::Fault(fault)) => Some(fault),
+        Ok(_) | Err(OrNoMemory::NoMemory) => None,
+    }
 }
 
 /// The network of parts.
@@ -114,10 +123,7 @@ pub(crate) fn network(rt: &impl Abort, alloc: Global, parts: NetParts) -> Net {
 fn one_name_for_two_nodes_is_no_network(rt: HostRuntime) -> Result<(), Fail> {
     let alloc = rt.alloc();
     let parts = two_nodes(alloc, ("A", "A"), prefix(&rt, 0, 0), Vec::new(alloc))?;
-    let double = NetFault::DoubleName {
-        table: TableKind::Node,
-        item: 2,
-    };
+    let double = at(TableKind::Node, 2, FaultKind::DoubleName);
     assert!(rt; fault_of(&rt, alloc, parts, &[]) == Some(double));
     Ok(())
 }
@@ -264,10 +270,7 @@ fn an_unknown_end_comes_before_faults_of_routes(rt: HostRuntime) -> Result<(), F
         prefix: prefix(&rt, 0, 0),
         via: LinkSet::new(Vec::new(alloc)),
     })?;
-    let fault = NetFault::UnknownName {
-        table: TableKind::Link,
-        item: 2,
-    };
+    let fault = at(TableKind::Link, 2, FaultKind::UnknownName);
     assert!(rt; fault_of(&rt, alloc, parts, &[]) == Some(fault));
     Ok(())
 }
@@ -284,10 +287,7 @@ fn an_end_with_links_is_bad_structure(rt: HostRuntime) -> Result<(), Fail> {
         policy: false,
         double_flavour: false,
     };
-    let fault = NetFault::BadStructure {
-        table: TableKind::Sid,
-        item: 1,
-    };
+    let fault = at(TableKind::Sid, 1, FaultKind::BadStructure);
     assert!(rt; fault_of(&rt, alloc, parts, &[standing]) == Some(fault));
     Ok(())
 }
@@ -301,12 +301,14 @@ fn a_node_has_no_more_sids_than_fit(rt: HostRuntime) -> Result<(), Fail> {
         sids.push(end_at_b(alloc, prefix(&rt, value, 128)))?;
     }
     let parts = two_nodes(alloc, ("A", "B"), prefix(&rt, 0, 0), sids)?;
-    let fault = NetFault::Limit {
-        table: TableKind::Sid,
-        item: 65,
-        what: Key::Sid,
-        value: 65,
-    };
+    let fault = at(
+        TableKind::Sid,
+        65,
+        FaultKind::Limit {
+            what: Key::Sid,
+            value: 65,
+        },
+    );
     assert!(rt; fault_of(&rt, alloc, parts, &[]) == Some(fault));
     Ok(())
 }

@@ -1,11 +1,12 @@
 //! A description with each part, and each fault with a later one behind it.
 
-use net_model::{FaultPlace, Key, Net, NetFault, TableKind};
+use net_model::Net;
 use net_reader::read_net;
 use srv6_rules::{Behaviour, Csid, Family};
 use std::alloc::Global;
 use std::process::Abort;
 use std::test::Fail;
+use text_faults::{FaultKind, FaultPlace, Key, OrNoMemory, TableKind, TextFault};
 
 const DESCRIPTION: &str = r#"
 [[block]]
@@ -165,44 +166,56 @@ fn at(table: TableKind, item: u32) -> FaultPlace {
     FaultPlace { table, item }
 }
 
-fn gives(alloc: Global, first: &str, second: &str, fault: NetFault) -> Result<bool, Fail> {
+fn gives(alloc: Global, first: &str, second: &str, fault: TextFault) -> Result<bool, Fail> {
     let mut text = Vec::new(alloc);
     text.extend_from_slice(first.as_bytes())?;
     text.extend_from_slice(second.as_bytes())?;
-    Ok(matches!(read_net(alloc, text.as_slice()), Err(found) if found == fault))
+    Ok(matches!(read_net(alloc, text.as_slice()), Err(OrNoMemory::Fault(found)) if found == fault))
 }
 
 #[test]
 fn first_faults_of_shape(rt: HostRuntime) -> Result<(), Fail> {
     let node = at(TableKind::Node, 1);
     for (text, fault) in [
-        ("x = 1\n=", NetFault::NotToml),
-        ("x = 1\nblock = 1", at(TableKind::Net, 0).unknown_key()),
+        ("x = 1\n=", at(TableKind::Net, 0).fault(FaultKind::NotToml)),
+        (
+            "x = 1\nblock = 1",
+            at(TableKind::Net, 0).fault(FaultKind::UnknownKey),
+        ),
         (
             "block = 1\nnode = [{}]",
-            at(TableKind::Block, 0).wrong_kind(),
+            at(TableKind::Block, 0).fault(FaultKind::WrongKind),
         ),
-        ("node = [{ name = \"A\", x = 1 }]", node.unknown_key()),
+        (
+            "node = [{ name = \"A\", x = 1 }]",
+            node.fault(FaultKind::UnknownKey),
+        ),
         (
             "node = [{ name = \"A\" }]\nlink = [{ x = 1 }]",
-            node.missing_key(Key::Address),
+            node.fault(FaultKind::MissingKey { key: Key::Address }),
         ),
-        ("node = [{ name = 1, address = \"x\" }]", node.wrong_kind()),
+        (
+            "node = [{ name = 1, address = \"x\" }]",
+            node.fault(FaultKind::WrongKind),
+        ),
         (
             "node = [{ name = \"A b\", address = \"x\" }]",
-            node.bad_name(),
+            node.fault(FaultKind::BadName),
         ),
         (
             "node = [{ name = \"A\", address = \"x\", allow = [256] }]",
-            node.bad_address(),
+            node.fault(FaultKind::BadAddress),
         ),
         (
             "node = [{ name = \"A\", address = \"::a\", allow = [256] }]\nlink = [{}]",
-            node.limit(Key::Allow, 256),
+            node.fault(FaultKind::Limit {
+                what: Key::Allow,
+                value: 256,
+            }),
         ),
         (
             "block = [{ prefix = \"fc00::/16\", kind = \"x\", csid = 16 }]\nnode = [{}]",
-            at(TableKind::Block, 1).bad_flavour(),
+            at(TableKind::Block, 1).fault(FaultKind::BadFlavour),
         ),
     ] {
         let first = gives(rt.alloc(), "", text, fault)?;
@@ -217,7 +230,7 @@ fn shape_before_parts(rt: HostRuntime) -> Result<(), Fail> {
 node = [{ name = "A", address = "::a" }, { name = "A", address = "::a" }]
 sid = [{}]
 "#;
-    let fault = at(TableKind::Sid, 1).missing_key(Key::Node);
+    let fault = at(TableKind::Sid, 1).fault(FaultKind::MissingKey { key: Key::Node });
     let first = gives(rt.alloc(), "", text, fault)?;
     assert!(rt; first);
     Ok(())
@@ -230,22 +243,22 @@ fn first_faults_of_nodes_and_links(rt: HostRuntime) -> Result<(), Fail> {
     for (text, fault) in [
         (
             "node = [{ name = \"A\", address = \"::a\" }, { name = \"A\", address = \"::a\" }]",
-            node.double_name(),
+            node.fault(FaultKind::DoubleName),
         ),
         (
             "node = [{ name = \"A\", address = \"::a\" }, { name = \"B\", address = \"::a\" }]\n\
              link = [{ name = \"l\", from = \"X\" }]",
-            node.double_prefix(),
+            node.fault(FaultKind::DoublePrefix),
         ),
         (
             "link = [{ name = \"l\", from = \"X\", to = \"X\" }]",
-            link.unknown_name(),
+            link.fault(FaultKind::UnknownName),
         ),
         (
             "node = [{ name = \"A\", address = \"::a\" }]\n\
              link = [{ name = \"l\", from = \"A\", to = \"A\" }]\n\
              route = [{ node = \"X\", prefix = \"::/0\", via = [] }]",
-            link.bad_structure(),
+            link.fault(FaultKind::BadStructure),
         ),
     ] {
         let first = gives(rt.alloc(), "", text, fault)?;
@@ -261,32 +274,32 @@ fn first_faults_of_routes_and_sids(rt: HostRuntime) -> Result<(), Fail> {
     for (text, fault) in [
         (
             "[[route]]\nnode = \"A\"\nprefix = \"::/0\"\nvia = [\"l\", \"l\", \"x\"]",
-            route.unknown_name(),
+            route.fault(FaultKind::UnknownName),
         ),
         (
             "[[route]]\nnode = \"A\"\nprefix = \"::/0\"\nvia = [\"l\", \"l\"]",
-            route.bad_structure(),
+            route.fault(FaultKind::BadStructure),
         ),
         (
             "[[sid]]\nnode = \"A\"\nprefix = \"fc00::/16\"\nbehaviour = \"End\"\ntable = 0\n\
              flavours = [\"psp\", \"psp\"]",
-            sid.bad_structure(),
+            sid.fault(FaultKind::BadStructure),
         ),
         (
             "[[sid]]\nnode = \"A\"\nprefix = \"fc00::/16\"\nbehaviour = \"End\"\n\
              flavours = [\"psp\", \"psp\"]\n\
              [[sid]]\nnode = \"A\"\nprefix = \"fc00::/16\"\nbehaviour = \"End\"",
-            sid.bad_flavour(),
+            sid.fault(FaultKind::BadFlavour),
         ),
         (
             "[[sid]]\nnode = \"A\"\nprefix = \"fc00::/16\"\nbehaviour = \"End.B6.Encaps\"\n\
              policy = \"x\"\nflavours = [\"psp\"]",
-            sid.unknown_name(),
+            sid.fault(FaultKind::UnknownName),
         ),
         (
             "[[sid]]\nnode = \"A\"\nprefix = \"fc00::/16\"\nbehaviour = \"End\"\ntitle = \"t\"\n\
              [[sid]]\nnode = \"A\"\nprefix = \"fc00::/16\"\nbehaviour = \"End\"\ntitle = \"t\"",
-            at(TableKind::Sid, 2).double_name(),
+            at(TableKind::Sid, 2).fault(FaultKind::DoubleName),
         ),
     ] {
         let first = gives(rt.alloc(), NODE, text, fault)?;

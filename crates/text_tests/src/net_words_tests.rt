@@ -3,7 +3,7 @@
 use net_model::{BlockKind, Name};
 use net_words::{
     BehaviourWord, DescribedIntent, DescribedSid, DescribedStep, Description, Flavour, Mode,
-    read_description, read_intent,
+    read_description, read_intent_words,
 };
 use srv6_rules::{Csid, Family};
 use std::process::Abort;
@@ -185,7 +185,7 @@ fn expect_intent(rt: &impl Abort, said: &DescribedIntent) {
 
 #[test]
 fn reads_an_intent(rt: HostRuntime) -> Result<(), Fail> {
-    let said = read_intent(rt.alloc(), INTENT.as_bytes())?;
+    let said = read_intent_words(rt.alloc(), INTENT.as_bytes())?;
     expect_intent(&rt, &said);
     Ok(())
 }

@@ -1,10 +1,8 @@
 -- What reading gives: a value, or the first fault. What follows a value is the same for every kind of fault F.
-use Rattle.std.specs.Prelude.{◌≡◌, ◌≢◌, ℕ, List, Option, Some, None, Result, Ok, Err, if◌then◌else◌}
+use Rattle.std.specs.Prelude.{ℕ, List, Option, Some, None, Result, Ok, Err, if◌then◌else◌}
 use Rattle.std.specs.Str.{is_utf8}
 use Rattle.toml.specs.Data.{Members}
 use Rattle.toml.specs.Parse.{parse_document}
-use Rattle.net_model.specs.declared.fault.NetFault.{NetFault}
-use Rattle.net_model.specs.declared.fault.NetFault.TheVariants as faults
 
 -- what follows for a value; a fault stays the first
 abbrev pub ◌>>=◌ : {F X Y : Type 0} → Result X F → (X → Result Y F) → Result Y F
@@ -20,11 +18,6 @@ read_map see (Err fault) = Err fault
 abbrev pub or_fault : {F X : Type 0} → F → Option X → Result X F
 or_fault fault None = Err fault
 or_fault fault (Some x) = Ok x
-
--- a result, as it is seen, is the one that is wanted; want of memory says nothing
-abbrev pub Gives : {X Y : Type 0} → (X → Y) → Result X NetFault → Result Y NetFault → Type 0
-Gives see (Ok x) wanted = wanted ≡ Ok (see x)
-Gives see (Err fault) wanted = (fault ≢ faults.NoMemory) → wanted ≡ Err fault
 
 -- none where the bytes aren't UTF-8, or aren't TOML
 abbrev pub document_of : List ℕ → Option Members

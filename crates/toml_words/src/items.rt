@@ -3,22 +3,22 @@
 ghost use Rattle.std.specs.Prelude.{◌-◌, ◌<◌, ◌^◌, [], map, length, Result};
 ghost use Rattle.toml.specs.Data.{Members};
 ghost use Rattle.toml.specs.View.{view, table_view};
-ghost use Rattle.net_model.specs.declared.fault.FaultPlace.{FaultPlace};
-ghost use Rattle.net_model.specs.declared.fault.NetFault.{NetFault};
-ghost use Rattle.toml_words.specs.Reading.{Gives};
+ghost use Rattle.text_faults.specs.declared.place.FaultPlace.{FaultPlace};
+ghost use Rattle.text_faults.specs.declared.fault.TextFault.{TextFault};
+ghost use Rattle.text_faults.specs.Reading.{Gives};
 ghost use Rattle.toml_words.specs.Tree.{optional, tables_in, table_in, each_from, items_at};
 
 use crate::tree::{array_in, few, table_in, value_at};
 use base::Seq;
-use net_model::{FaultPlace, Key, NetFault, TableKind};
 use std::alloc::Global;
+use text_faults::{FaultPlace, Key, NetFault, TableKind};
 use toml::{Table, Value};
 
 /// What the tables of a kind describe (own rule). It is a type of its own for each kind, since what
 /// is described may be of a lower crate.
 pub trait Describes<D> {
     /// What a table gives at a place.
-    ghost of: { FaultPlace → Members → Result D NetFault };
+    ghost of: { FaultPlace → Members → Result D TextFault };
 
     /// What the table describes, or its first fault.
     fn read(alloc: Global, table: &Table, place: FaultPlace) -> Result<D, NetFault>
@@ -72,10 +72,7 @@ fn each_described<X: Describes<D>, D: Drop>(
 {
     let mut all = Vec::new(alloc);
     for (i, table) in tables.iter().enumerate() {
-        let place = FaultPlace {
-            table: kind,
-            item: i as u32 + 1,
-        };
+        let place = FaultPlace::of_item(kind, i);
         let described = X::read(alloc, table, place)?;
         all.push(described)?;
     }
@@ -96,10 +93,7 @@ pub fn items_at<X: Describes<D>, D: Drop>(
     requires { most < 2 ^ 32 - 1 }
     ensures { Gives (λ s. s) result (items_at kind key most X.of (table_view root.now)) }
 {
-    let place = FaultPlace {
-        table: kind,
-        item: 0,
-    };
+    let place = FaultPlace::whole(kind);
     let tables = tables_at(alloc, root, place, key)?;
     few(&tables, most, place, key)?;
     let all = each_described::<X, D>(alloc, tables.as_slice(), kind)?;

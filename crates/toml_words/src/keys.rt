@@ -2,14 +2,14 @@
 
 ghost use Rattle.std.specs.Prelude.{◌≡◌, [], None, map};
 ghost use Rattle.toml.specs.View.{view, table_view};
-ghost use Rattle.toml_words.specs.Reading.{Gives};
+ghost use Rattle.text_faults.specs.Reading.{Gives};
 ghost use Rattle.toml_words.specs.Tree.{needed, optional, given, number_in, array_of, list_in, each_from};
 
 use crate::kinds::Kind;
 use crate::tree::{array_in, few, number_in, value_at};
 use base::Seq;
-use net_model::{FaultPlace, Key, NetFault};
 use std::alloc::Global;
+use text_faults::{FaultKind, FaultPlace, Key, NetFault, OrNoMemory, TextFault};
 use toml::{Table, Value};
 
 /// What the value at a key is read as; `MissingKey` exactly where the table has no such key (own
@@ -24,7 +24,7 @@ pub fn needed<X: Kind>(
 {
     match value_at(table, key) {
         Some(value) => X::of(alloc, value, place, key),
-        None => Err(place.missing_key(key)),
+        None => Err(OrNoMemory::Fault(place.fault(FaultKind::MissingKey { key }))),
     }
 }
 
@@ -52,7 +52,7 @@ pub fn optional_number(
     table: &Table,
     place: FaultPlace,
     key: Key,
-) -> Result<u32, NetFault>
+) -> Result<u32, TextFault>
     ensures { result ≡ optional (number_in range.0 range.1) default place
         (table_view table.now) key }
 {
@@ -69,7 +69,7 @@ pub fn number_if_given(
     table: &Table,
     place: FaultPlace,
     key: Key,
-) -> Result<Option<u32>, NetFault>
+) -> Result<Option<u32>, TextFault>
     ensures { result ≡ optional (given (number_in range.0 range.1)) None place
         (table_view table.now) key }
 {
@@ -153,7 +153,7 @@ pub fn needed_list<X: Kind + Drop>(
 {
     match value_at(table, key) {
         Some(value) => list_in::<X>(alloc, most, value, place, key),
-        None => Err(place.missing_key(key)),
+        None => Err(OrNoMemory::Fault(place.fault(FaultKind::MissingKey { key }))),
     }
 }
 

@@ -3,22 +3,25 @@
 ghost use Rattle.std.specs.Prelude.{◌≡◌, Result};
 ghost use Rattle.toml.specs.Data.{Data};
 ghost use Rattle.toml.specs.View.{view};
-ghost use Rattle.net_model.specs.declared.fault.FaultPlace.{FaultPlace};
-ghost use Rattle.net_model.specs.declared.fault.Key.{Key};
-ghost use Rattle.net_model.specs.declared.fault.NetFault.{NetFault};
-ghost use Rattle.toml_words.specs.Reading.{Gives, or_fault};
+ghost use Rattle.text_faults.specs.declared.place.FaultPlace.{FaultPlace};
+ghost use Rattle.text_faults.specs.declared.place.Key.{Key};
+ghost use Rattle.text_faults.specs.declared.fault.TextFault.{TextFault};
+ghost use Rattle.text_faults.specs.Faults.{fault_at};
+ghost use Rattle.text_faults.specs.Reading.{Gives};
+ghost use Rattle.toml_words.specs.Reading.{or_fault};
 ghost use Rattle.toml_words.specs.Tree.{name_in, addr_in, prefix_in, number_in, given};
 
 use crate::tree::{number_in, text_in};
-use net_model::{FaultPlace, Key, LAST_OCTET, Name, NetFault, is_name};
+use net_model::{LAST_OCTET, Name, is_name};
 use std::alloc::Global;
+use text_faults::{FaultKind, FaultPlace, Key, NetFault, OrNoMemory, TextFault};
 use toml::Value;
 use v6_addr::{Addr, Prefix, parse_addr, parse_prefix};
 
 /// What a value may be read as (own rules).
 pub trait Kind: Sized {
     /// What a value gives at a place and under a key.
-    ghost kind: { FaultPlace → Key → Data → Result Self NetFault };
+    ghost kind: { FaultPlace → Key → Data → Result Self TextFault };
 
     /// The value, or its first fault.
     fn of(alloc: Global, value: &Value, place: FaultPlace, key: Key) -> Result<Self, NetFault>
@@ -32,7 +35,7 @@ impl Kind for Name {
     fn of(alloc: Global, value: &Value, place: FaultPlace, _key: Key) -> Result<Name, NetFault> {
         let text = text_in(value, place)?;
         if !is_name(text.as_bytes()) {
-            return Err(place.bad_name());
+            return Err(OrNoMemory::Fault(place.fault(FaultKind::BadName)));
         }
         Ok(Name::new(text.to_string(alloc)?))
     }
@@ -46,7 +49,7 @@ impl Kind for Addr {
         let text = text_in(value, place)?;
         match parse_addr(text.as_bytes()) {
             Ok(address) => Ok(address),
-            Err(_) => Err(place.bad_address()),
+            Err(_) => Err(OrNoMemory::Fault(place.fault(FaultKind::BadAddress))),
         }
     }
 }
@@ -59,7 +62,7 @@ impl Kind for Prefix {
         let text = text_in(value, place)?;
         match parse_prefix(text.as_bytes()) {
             Ok(prefix) => Ok(prefix),
-            Err(_) => Err(place.bad_address()),
+            Err(_) => Err(OrNoMemory::Fault(place.fault(FaultKind::BadAddress))),
         }
     }
 }
@@ -92,11 +95,11 @@ impl<X: Kind> Kind for Option<X> {
 }
 
 /// What a word stands for; `BadFlavour` exactly where it stands for nothing (own rule).
-pub fn meant<X>(meaning: Option<X>, place: FaultPlace) -> Result<X, NetFault>
-    ensures { result ≡ or_fault (NetFault.BadFlavour place.table place.item) meaning }
+pub fn meant<X>(meaning: Option<X>, place: FaultPlace) -> Result<X, TextFault>
+    ensures { result ≡ or_fault (fault_at place FaultKind.BadFlavour) meaning }
 {
     match meaning {
         Some(meaning) => Ok(meaning),
-        None => Err(place.bad_flavour()),
+        None => Err(place.fault(FaultKind::BadFlavour)),
     }
 }

@@ -4,11 +4,11 @@ ghost use Rattle.std.specs.Prelude.{◌≡◌, ◌≤◌, ◌<◌, IfOk, option_
 ghost use Rattle.std.specs.List.{list_any};
 ghost use Rattle.toml.specs.Data.{get_member};
 ghost use Rattle.toml.specs.View.{view, table_view};
-ghost use Rattle.net_model.specs.Keys.{key_text};
+ghost use Rattle.text_faults.specs.Keys.{key_text};
 ghost use Rattle.toml_words.specs.Reading.{read_map};
 ghost use Rattle.toml_words.specs.Tree.{text_in, integer_in, number_within, number_in, array_in, count_in, has_only, only, table_in};
 
-use net_model::{FaultPlace, Key, NetFault};
+use text_faults::{FaultKind, FaultPlace, Key, TextFault};
 use toml::value::Array;
 use toml::{Table, Value};
 
@@ -21,22 +21,22 @@ pub fn value_at(table: &Table, key: Key) -> Option<&Value>
 }
 
 /// The text that a value is; `WrongKind` exactly where it is none (own rule).
-pub fn text_in(value: &Value, place: FaultPlace) -> Result<&str, NetFault>
+pub fn text_in(value: &Value, place: FaultPlace) -> Result<&str, TextFault>
     ensures { read_map (λ s. s.now) result ≡ text_in place (view value.now) }
 {
     match value.as_str() {
         Some(text) => Ok(text),
-        None => Err(place.wrong_kind()),
+        None => Err(place.fault(FaultKind::WrongKind)),
     }
 }
 
 /// The integer that a value is; `WrongKind` exactly where it is none (own rule).
-pub fn integer_in(value: &Value, place: FaultPlace) -> Result<i64, NetFault>
+pub fn integer_in(value: &Value, place: FaultPlace) -> Result<i64, TextFault>
     ensures { result ≡ integer_in place (view value.now) }
 {
     match value.as_integer() {
         Some(number) => Ok(number),
-        None => Err(place.wrong_kind()),
+        None => Err(place.fault(FaultKind::WrongKind)),
     }
 }
 
@@ -47,14 +47,17 @@ fn number_within(
     most: u32,
     place: FaultPlace,
     key: Key,
-) -> Result<u32, NetFault>
+) -> Result<u32, TextFault>
     ensures exact { result ≡ number_within place key least most number }
     ensures within { IfOk result (λ n. n ≤ most) }
 {
     if i64::from(least) <= number && number <= i64::from(most) {
         return Ok(number as u32);
     }
-    Err(place.limit(key, number))
+    Err(place.fault(FaultKind::Limit {
+        what: key,
+        value: number,
+    }))
 }
 
 /// The number that a value is: `WrongKind` exactly where it is no integer, and `Limit` where it is
@@ -65,7 +68,7 @@ pub fn number_in(
     most: u32,
     place: FaultPlace,
     key: Key,
-) -> Result<u32, NetFault>
+) -> Result<u32, TextFault>
     ensures exact { result ≡ number_in least most place key (view value.now) }
     ensures within { IfOk result (λ n. n ≤ most) }
 {
@@ -75,12 +78,12 @@ pub fn number_in(
 
 /// The values of an array; `WrongKind` exactly where the value is none.
 #[tactic(auto, using(crate::proofs::ListReading::arrays))]
-pub(crate) fn array_in(value: &Value, place: FaultPlace) -> Result<&Array, NetFault>
+pub(crate) fn array_in(value: &Value, place: FaultPlace) -> Result<&Array, TextFault>
     ensures { read_map (λ a. map view a.now.items) result ≡ array_in place (view value.now) }
 {
     match value.as_array() {
         Some(items) => Ok(items),
-        None => Err(place.wrong_kind()),
+        None => Err(place.fault(FaultKind::WrongKind)),
     }
 }
 
@@ -91,7 +94,7 @@ pub(crate) fn few<X>(
     most: usize,
     place: FaultPlace,
     key: Key,
-) -> Result<(), NetFault>
+) -> Result<(), TextFault>
     ensures exact { read_map (λ _. length items.now.items) result
         ≡ count_in place key most (length items.now.items) }
     ensures within { IfOk result (λ _. length items.now.items ≤ most) }
@@ -99,7 +102,10 @@ pub(crate) fn few<X>(
     if items.len() <= most {
         return Ok(());
     }
-    Err(place.limit(key, items.len() as i64))
+    Err(place.fault(FaultKind::Limit {
+        what: key,
+        value: items.len() as i64,
+    }))
 }
 
 /// Whether a text is this key.
@@ -130,22 +136,22 @@ fn has_only(table: &Table, keys: &[Key]) -> bool
 }
 
 /// That a table has no other keys than these; else `UnknownKey` (own rule).
-pub fn only(table: &Table, keys: &[Key], place: FaultPlace) -> Result<(), NetFault>
+pub fn only(table: &Table, keys: &[Key], place: FaultPlace) -> Result<(), TextFault>
     ensures { read_map (λ _. table_view table.now) result
         ≡ only keys.now place (table_view table.now) }
 {
     if has_only(table, keys) {
         return Ok(());
     }
-    Err(place.unknown_key())
+    Err(place.fault(FaultKind::UnknownKey))
 }
 
 /// The table that a value is; `WrongKind` exactly where it is none.
-pub(crate) fn table_in(value: &Value, place: FaultPlace) -> Result<&Table, NetFault>
+pub(crate) fn table_in(value: &Value, place: FaultPlace) -> Result<&Table, TextFault>
     ensures { read_map (λ t. table_view t.now) result ≡ table_in place (view value.now) }
 {
     match value.as_table() {
         Some(table) => Ok(table),
-        None => Err(place.wrong_kind()),
+        None => Err(place.fault(FaultKind::WrongKind)),
     }
 }

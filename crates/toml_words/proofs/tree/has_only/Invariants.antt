@@ -2,7 +2,7 @@ use Rattle.std.proofs.Common.{◌≡◌, string_bytes}
 use Rattle.std.specs.List.{list_any, list_all}
 use Rattle.std.specs.Map.{keys_of}
 use Rattle.std.specs.Str.{bytes_eq}
-use Rattle.net_model.specs.Keys.{key_text}
+use Rattle.text_faults.specs.Keys.{key_text}
 use Rattle.toml_words.proofs.tree.has_only.Given as goal
 
 abbrev pub invariant-loop-key : goal.invariant-loop-key

@@ -1,5 +1,5 @@
 use Rattle.std.proofs.Common.{take}
-use Rattle.net_model.specs.declared.fault.TableKind.TheVariants as tables
+use Rattle.text_faults.specs.declared.place.TableKind.TheVariants as tables
 use Rattle.net_model.specs.Judging.{judge_route}
 use Rattle.net_model.specs.EntryKeys.{HasKeys}
 use Rattle.net_model.proofs.JudgingLemmas.{HasJudged}

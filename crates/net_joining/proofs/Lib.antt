@@ -1,4 +1,0 @@
-pub mod JoinedLemmas
-pub mod JoiningLemmas
-pub mod NumberLemmas
-pub mod SidLemmas

@@ -1,6 +1,0 @@
-use Rattle.std.proofs.Common.{◌≡◌, map, take}
-use Rattle.net_joining.specs.Numbering.{number_of}
-use Rattle.net_joining.proofs.joining.numbers.Given as goal
-
-abbrev pub invariant-loop-name : goal.invariant-loop-name
-invariant-loop-name l = l.all.items ≡ map (number_of l.names) (take l.name-index l.list)

@@ -1,6 +1,0 @@
-use Rattle.std.proofs.Common.{map, take}
-use Rattle.net_joining.specs.Numbering.{HasNumbers}
-use Rattle.net_joining.proofs.numbering.numbers_of.Given as goal
-
-abbrev pub invariant-loop-i : goal.invariant-loop-i
-invariant-loop-i l = HasNumbers l.numbers (map (λ s. s.now) (take l.i l.names))

@@ -1,0 +1,64 @@
+//! The parts of a network from a whole description.
+
+ghost use Rattle.std.specs.Prelude.{◌≡◌, ◌<◌, ◌^◌, IfOk, length};
+ghost use Rattle.net_model.specs.Network.{network_of};
+ghost use Rattle.net_reader.specs.Joining.{node_names, link_names, policy_names, joined};
+
+use crate::joining::{Blocks, Names, Nodes, Policies, each};
+use crate::numbering::Numbering;
+use crate::sids::join_sids;
+use net_model::{Block, Link, NamedPolicy, NetParts, Node, Route};
+use net_words::{
+    DescribedBlock, DescribedLink, DescribedNode, DescribedPolicy, DescribedRoute, Description,
+};
+use std::alloc::{AllocError, Global};
+
+/// The names that a description has.
+fn names_of<'a>(alloc: Global, said: &'a Description) -> Result<Names<'a>, AllocError>
+    requires few_nodes { length said.now.nodes < 2 ^ 32 }
+    requires few_links { length said.now.links < 2 ^ 32 }
+    requires few_policies { length said.now.policies < 2 ^ 32 }
+    ensures nodes { IfOk result (λ names. names.nodes ≡ node_names said.now) }
+    ensures links { IfOk result (λ names. names.links ≡ link_names said.now) }
+    ensures policies { IfOk result (λ names. names.policies ≡ policy_names said.now) }
+{
+    let nodes = Numbering::of::<DescribedNode>(alloc, said.nodes.as_slice())?;
+    let links = Numbering::of::<DescribedLink>(alloc, said.links.as_slice())?;
+    let policies = Numbering::of::<DescribedPolicy>(alloc, said.policies.as_slice())?;
+    Ok(Names {
+        nodes,
+        links,
+        policies,
+    })
+}
+
+/// The parts of the network that a description says, with numbers in place of names (own rule). A
+/// name that nothing has becomes the count of the items that it might name.
+pub fn join(alloc: Global, said: &Description) -> Result<NetParts, AllocError>
+    requires few_nodes { length said.now.nodes < 2 ^ 32 }
+    requires few_links { length said.now.links < 2 ^ 32 }
+    requires few_policies { length said.now.policies < 2 ^ 32 }
+    requires few_sids { length said.now.sids < 2 ^ 32 }
+    ensures { IfOk result (λ parts. network_of parts ≡ joined said.now) }
+{
+    let names = names_of(alloc, said)?;
+    let blocks = each::<DescribedBlock, Block, Blocks>(alloc, &Blocks, said.blocks.as_slice())?;
+    let (titles, sids) = join_sids(alloc, &names, blocks.as_slice(), said.sids.as_slice())?;
+    let nodes = each::<DescribedNode, Node, Nodes>(alloc, &Nodes, said.nodes.as_slice())?;
+    let links = each::<DescribedLink, Link, Names<'_>>(alloc, &names, said.links.as_slice())?;
+    let routes = each::<DescribedRoute, Route, Names<'_>>(alloc, &names, said.routes.as_slice())?;
+    let policies = each::<DescribedPolicy, NamedPolicy, Policies>(
+        alloc,
+        &Policies,
+        said.policies.as_slice(),
+    )?;
+    Ok(NetParts {
+        blocks,
+        nodes,
+        links,
+        routes,
+        policies,
+        titles,
+        sids,
+    })
+}

@@ -1,0 +1,15 @@
+//! The faults of texts: of descriptions and of intents.
+//!
+//! A fault is a place, a table and the number of its item, and a kind. Here stand the tables and
+//! the keys with their words (`specs/Keys.antt`), and each kind with its number, its name and what
+//! is printed of it (`specs/Faults.antt`).
+#![tactic(auto)]
+
+mod fault;
+mod kind;
+mod place;
+mod texts;
+
+pub use fault::{NetFault, OrNoMemory, TextFault};
+pub use kind::FaultKind;
+pub use place::{FaultPlace, Key, TableKind};
