@@ -4,6 +4,10 @@ pub mod Tables
 pub mod RelaxedRooms
 pub mod Relaxing
 pub mod Settling
+pub mod Fronts
+pub mod Offering
+pub mod Grouping
+pub mod Queueing
 pub mod Leasting
 pub mod Picking
 pub mod Heading

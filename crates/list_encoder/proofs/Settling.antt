@@ -1,7 +1,7 @@
--- Rounds until nothing changes, and positions from the last to the first.
-use Rattle.std.proofs.Common.{◌≡◌, ℕ, zero, suc, ◌+◌, ◌*◌, ◌<◌, ◌≤◌, inl, inr, Bool, false, ◌||◌, List, length, get_or, replicate, Option, Some, None, slice_get, Contains, refl, sym, ◌∙◌, ap, subst, arith}
+-- A position whose edges hold is settled, and positions are from the last to the first.
+use Rattle.std.proofs.Common.{◌≡◌, ℕ, zero, suc, ◌+◌, ◌*◌, ◌<◌, ◌≤◌, inl, inr, List, length, get_or, replicate, Option, Some, None, slice_get, Contains, refl, sym, ◌∙◌, ap, subst, arith}
 use Rattle.std.specs.Option.{option_map}
-use Rattle.std.proofs.lemmas.Bool.{cases_lt, or_parts}
+use Rattle.std.proofs.lemmas.Bool.{cases_lt}
 use Rattle.std.proofs.lemmas.Option.{none-some, slice_get-get_or, slice_get_within}
 use Rattle.std.proofs.lemmas.List.{length-replicate}
 use Rattle.list_pack.specs.declared.types.Cost.{Cost}
@@ -12,95 +12,78 @@ use Rattle.list_pack.proofs.PublicLaws.{under-trans}
 use Rattle.list_encoder.specs.declared.cells.Cell.{Cell}
 use Rattle.list_encoder.specs.declared.table.CellEdge.{CellEdge}
 use Rattle.list_encoder.specs.Cells.{cell_at, IsCellBy, AreCells, IsFirst}
-use Rattle.list_encoder.specs.Table.{Costs, at, entry, rest_at, offer, LeadsTo, IsCellEdge, IsSound, Passed, EdgeHolds, Holds, Relaxed, AreCellEdges, Gathers, Rounded, Settled, IsOnward, HoldFrom, IsShapeOf}
-use Rattle.list_encoder.proofs.Celling.{some-same, place_of, contains_at, cell-read}
-use Rattle.list_encoder.proofs.Tables.{passed-then, passed-wider}
+use Rattle.list_encoder.specs.Table.{Costs, at, entry, rest_at, offer, LeadsTo, IsCellEdge, IsSound, Holds, AreCellEdges, Gathers, Settled, IsOnward, HoldFrom, IsShapeOf}
+use Rattle.list_encoder.specs.Grouped.{Groups, AreGrouped}
+use Rattle.list_encoder.specs.Settling.{LeadToCells, SettlesAll}
+use Rattle.list_encoder.proofs.Celling.{some-same, contains_at, cell-read}
 use Rattle.list_encoder.proofs.RelaxedRooms.{holds-later, rest-end}
 use Rattle.list_encoder.proofs.Relaxing.{leg-stays, at-near, at-far}
 
--- the first links of a list
-pub record RoundSoFar (v : LegsValue) (cells : List Cell) (later : ℕ) (links : List CellEdge) (count : ℕ) (before after : Costs)
-    (changed : Bool) : Type 0 where
-  pub sound : IsSound v cells after
-  pub passed : Passed later before after changed
-  pub hold : changed ≡ false → (link : CellEdge) (i : ℕ) → i < count → slice_get links i ≡ Some link → Holds v cells after link
-
-pub round-more : (v : LegsValue) (cells : List Cell) (later : ℕ) (links : List CellEdge) (count : ℕ) (t0 t t1 : Costs) (changed x : Bool)
-    (taken : CellEdge)
-    → slice_get links count ≡ Some taken → taken.from < later → RoundSoFar v cells later links count t0 t changed
-    → Relaxed v cells taken t t1 x
-    → RoundSoFar v cells later links (count + 1) t0 t1 (changed || x)
-round-more v cells later links count t0 t t1 changed x taken here from so relaxed =
-    let passed = passed-wider (taken.from + 1) later t t1 x (omega (arith, from)) relaxed.passed in
+-- lower costs of the states of a position leave what was gathered
+pub gathers-later : (v : LegsValue) (cells : List Cell) (first later : ℕ) (t0 t t1 : Costs) (links : List CellEdge)
+    → Gathers v cells first later t0 t links → IsSound v cells t1 → ((i : ℕ) → Under (at t1 i) (at t i))
+    → ((i : ℕ) → 8 * later ≤ i → at t1 i ≡ at t i) → Gathers v cells first later t0 t1 links
+gathers-later v cells first later t0 t t1 links g sound falls past =
     record {
-      sound = relaxed.sound;
-      passed = passed-then later t0 t t1 changed x so.passed passed;
-      hold = λ none link i h f.
-          let parts = or_parts changed x none in
-          let same : t1 ≡ t = relaxed.passed.same parts.1 in
-          elim (cases_lt i count) as (λ w. Holds v cells t1 link) [
-            | inl less ↦ subst (λ (s : Costs). Holds v cells s link) (sym same) (so.hold parts.0 link i less f)
-            | inr more ↦
-                let found : i ≡ count = omega (arith, h, more) in
-                let it : taken ≡ link = some-same taken link (sym here ∙ ap (slice_get links) (sym found) ∙ f) in
-                subst (λ (s : Costs). EdgeHolds v cells link s t1) (sym same)
-                (subst (λ (l : CellEdge). EdgeHolds v cells l t t1) it relaxed.holds)
-          ];
-    }
-
-pub round-all : (v : LegsValue) (cells : List Cell) (later : ℕ) (links : List CellEdge) (count : ℕ) (t0 t : Costs) (changed : Bool)
-    → length links ≤ count
-    → RoundSoFar v cells later links count t0 t changed → Rounded v cells later links t0 t changed
-round-all v cells later links count t0 t changed h so =
-    record {
-      sound = so.sound;
-      passed = so.passed;
-      hold = λ none link c.
-          let found = place_of links link c in
-          let w = slice_get_within links found.0 link found.1 in
-          so.hold none link found.0 (omega (arith, h, w)) found.1;
-    }
-
--- a round leaves what was gathered
-pub gathers-round : (v : LegsValue) (cells : List Cell) (first later : ℕ) (t0 t t1 : Costs) (links : List CellEdge) (x : Bool)
-    → Gathers v cells first later t0 t links → Rounded v cells later links t t1 x → Gathers v cells first later t0 t1 links
-gathers-round v cells first later t0 t t1 links x g r =
-    record {
-      sound = r.sound;
-      falls = λ i. under-trans (at t1 i) (at t i) (at t0 i) (r.passed.falls i) (g.falls i);
-      above = λ i h. r.passed.later i h ∙ g.above i h;
-      ends = λ k h l link f e is. holds-later v cells link t t t1 (g.ends k h l link f e is) r.passed.falls
-          (λ left. rest-end t t1 link.to left e);
+      sound = sound;
+      falls = λ i. under-trans (at t1 i) (at t i) (at t0 i) (falls i) (g.falls i);
+      above = λ i h. past i h ∙ g.above i h;
+      ends = λ k h l link f e is. holds-later v cells link t t t1 (g.ends k h l link f e is) falls (λ left. rest-end t t1 link.to left e);
       legs = λ k h l link to f e m n is.
-          leg-stays v cells k later to t t1 links links link l r.passed.falls r.passed.later (λ y c. c) e (g.legs k h l link to f e m n is);
+          leg-stays v cells k later to t t1 links links link l falls past (λ y c. c) e (g.legs k h l link to f e m n is);
       are = g.are;
     }
 
--- where a round changed nothing, the links of a position hold
-link-settles : (v : LegsValue) (cells : List Cell) (first later : ℕ) (t0 t t1 : Costs) (links : List CellEdge)
-    → Gathers v cells first later t0 t1 links
-    → Rounded v cells later links t t1 false → (link : CellEdge) → first ≤ link.from → link.from < later → IsCellEdge v cells link
-    → (to : Option ℕ) → link.to ≡ to → IsOnward first to → Holds v cells t1 link
-link-settles v cells first later t0 t t1 links g r link h l is None e on = g.ends link.from h l link refl e is
-link-settles v cells first later t0 t t1 links g r link h l is (Some to) e on =
+-- where the edges within a position hold, all its edges do
+link-settles : (v : LegsValue) (cells : List Cell) (first later : ℕ) (t0 t : Costs) (links : List CellEdge)
+    → Gathers v cells first later t0 t links
+    → ((link : CellEdge) (to : ℕ) → Contains links link → link.to ≡ Some to → to < later → Holds v cells t link)
+    → (link : CellEdge) → first ≤ link.from → link.from < later → IsCellEdge v cells link
+    → (to : Option ℕ) → link.to ≡ to → IsOnward first to → Holds v cells t link
+link-settles v cells first later t0 t links g near-holds link h l is None e on = g.ends link.from h l link refl e is
+link-settles v cells first later t0 t links g near-holds link h l is (Some to) e on =
     let leads = subst (λ (o : Option ℕ). LeadsTo v cells is.cell link.sid link.hops o) e is.leads in
     let w = slice_get_within cells to (cell_at leads.0 link.sid) leads.1 in
     let known = g.legs link.from h l link to refl e on w is in
-    elim (cases_lt to later) as (λ w. Holds v cells t1 link) [
-      | inl near ↦ r.hold refl link (at-near (Contains links link) (Holds v cells t1 link) to later near known)
-      | inr far ↦ at-far (Contains links link) (Holds v cells t1 link) to later far known
+    elim (cases_lt to later) as (λ w. Holds v cells t link) [
+      | inl near ↦ near-holds link to (at-near (Contains links link) (Holds v cells t link) to later near known) e near
+      | inr far ↦ at-far (Contains links link) (Holds v cells t link) to later far known
     ]
 
-pub settles : (v : LegsValue) (cells : List Cell) (first later : ℕ) (t0 t t1 : Costs) (links : List CellEdge)
+settles-by : (v : LegsValue) (cells : List Cell) (first later : ℕ) (t0 t : Costs) (links : List CellEdge)
     → Gathers v cells first later t0 t links
-    → Rounded v cells later links t t1 false → Settled v cells first later t0 t1
-settles v cells first later t0 t t1 links g r =
-    let done = gathers-round v cells first later t0 t t1 links false g r in
+    → ((link : CellEdge) (to : ℕ) → Contains links link → link.to ≡ Some to → to < later → Holds v cells t link)
+    → Settled v cells first later t0 t
+settles-by v cells first later t0 t links g near-holds =
     record {
-      sound = r.sound;
-      above = done.above;
-      holds = λ link h l is on. link-settles v cells first later t0 t t1 links done r link h l is link.to refl on;
+      sound = g.sound;
+      above = g.above;
+      holds = λ link h l is on. link-settles v cells first later t0 t links g near-holds link h l is link.to refl on;
     }
+
+-- without edges within it a position is settled by what was gathered
+pub settles-bare : (v : LegsValue) (cells : List Cell) (first later : ℕ) (t0 t : Costs) (links : List CellEdge) → length links ≡ 0
+    → Gathers v cells first later t0 t links → Settled v cells first later t0 t
+settles-bare v cells first later t0 t links none g =
+    settles-by v cells first later t0 t links g (λ link to among e near. absurd (omega (arith, among.1, none)))
+
+pub settles : (v : LegsValue) (cells : List Cell) (first later : ℕ) (t0 t t1 : Costs) (links : List CellEdge) (groups : Groups)
+    → Gathers v cells first later t0 t links → AreGrouped links later groups → SettlesAll v cells groups t t1
+    → Settled v cells first later t0 t1
+settles v cells first later t0 t t1 links groups g grouped all =
+    let long = grouped.long in
+    let done = gathers-later v cells first later t0 t t1 links g all.sound all.falls (λ i h. all.past i (omega (arith, h, long))) in
+    settles-by v cells first later t0 t1 links done (λ link to among e near. all.holds to link (grouped.each to link among e near))
+
+-- the edges into a cell start from cells that have a group
+pub lead-to-cells : (v : LegsValue) (cells : List Cell) (later : ℕ) (links : List CellEdge) (groups : Groups)
+    → AreCellEdges v cells later links
+    → AreGrouped links later groups → LeadToCells v cells groups
+lead-to-cells v cells later links groups are grouped to link is =
+    let it = grouped.only to link is in
+    let edge = are link it.0 in
+    let long = grouped.long in
+    (edge.0, it.1, omega (arith, edge.1, long))
 
 -- links lead to their own position or a later one
 onward-by : (v : LegsValue) → KeepsLaws v → (cells : List Cell) (position first : ℕ) → IsFirst cells position first → (cell : Cell)
@@ -175,7 +158,8 @@ within-steps : (v : LegsValue) (position : ℕ) (via : Option ℕ) → IsCellBy 
 within-steps v position None is = omega (arith, is)
 within-steps v position (Some n) is = is.0
 
-pub tabled-none : (v : LegsValue) (cells : List Cell) (p later : ℕ) (t : Costs) → AreCells v cells → p ≡ v.steps + 1 → later ≡ length cells
+pub tabled-none : (v : LegsValue) (cells : List Cell) (p later : ℕ) (t : Costs) → AreCells v cells → p ≡ v.steps + 1
+    → later ≡ length cells
     → t ≡ replicate (8 * length cells) None → Tabled v cells p later t
 tabled-none v cells p later t are e len is =
     record {

@@ -195,13 +195,6 @@ pub record Gathers (v : LegsValue) (cells : List Cell) (first later : ℕ) (befo
   pub legs : (k : ℕ) → first ≤ k → k < later → LegsHold v cells k first later (length cells) after links
   pub are : AreCellEdges v cells later links
 
--- where nothing changed, all links hold
-pub record Rounded (v : LegsValue) (cells : List Cell) (later : ℕ) (links : List CellEdge) (before after : Costs) (changed : Bool) : Type 0
-  where
-    pub sound : IsSound v cells after
-    pub passed : Passed later before after changed
-    pub hold : changed ≡ false → (link : CellEdge) → Contains links link → Holds v cells after link
-
 -- a link to the end, or to a cell from one on
 abbrev pub IsOnward : ℕ → Option ℕ → Type 0
 IsOnward cell None = Unit {0}

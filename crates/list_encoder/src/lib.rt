@@ -3,16 +3,21 @@
 //! `solve` gives the least cost of a path to the end for each state from which one leads there, and
 //! of all least paths from the start the first. It goes over positions from the last to the first.
 //! At each it lowers the costs of the position's states by the finishes and by the legs to later
-//! positions, once, and then by the legs within the position, in rounds, until nothing changes.
+//! positions, once. Then each state is settled once, the one with the least cost first, and those
+//! in front of it are lowered by the legs within the position.
 #![tactic(auto)]
 
 mod cells;
+mod grouped;
 mod listing;
+mod lowering;
+mod offers;
 mod path;
 mod picks;
-mod rounds;
 mod solver;
+mod solving;
 mod table;
+mod waiting;
 
 pub use solver::solve;
 pub use table::MAX_PATH_CONTAINERS;

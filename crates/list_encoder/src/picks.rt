@@ -8,7 +8,7 @@ ghost use Rattle.list_encoder.specs.Table.{IsCellEdge};
 ghost use Rattle.list_encoder.specs.Picks.{better_of, is_sum, IsSpot, PicksMoves, PicksEdge, PicksEnds, PicksLegs, PicksFirst};
 
 use crate::cells::{Cell, shape_of};
-use crate::rounds::link_into;
+use crate::lowering::link_into;
 use crate::table::{CellEdge, rest_at};
 use list_pack::{Cost, Legs, PathStep, Shape, move_cost, room_behind, step_before};
 

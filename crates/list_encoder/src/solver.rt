@@ -7,15 +7,15 @@ ghost use Rattle.list_encoder.specs.Listing.{ListsFewContainers};
 use crate::cells::cells_of;
 use crate::listing::listing_of;
 use crate::path::path_of;
-use crate::rounds::table_of;
+use crate::solving::table_of;
 use base::{NoMemory, Seq};
 use list_pack::{Legs, Solution};
 use std::alloc::Global;
 
 /// What a search over legs finds: the states from which a path leads to the end, each once and in
 /// order, with the least cost of a path; and of all least paths from the start the first, empty
-/// exactly where there is none. No cost has more than `MAX_PATH_CONTAINERS` containers. Only want of
-/// memory is an error. (own rule)
+/// exactly where there is none. No cost has more than `MAX_PATH_CONTAINERS` containers. Only want
+/// of memory is an error. (own rule)
 pub fn solve<L: Legs>(alloc: Global, legs: &L) -> Result<Solution, NoMemory>
     ensures solution { IfOk result (IsSolution (L.seen legs.now)) }
     ensures few { IfOk result (λ s. ListsFewContainers s.potentials) }

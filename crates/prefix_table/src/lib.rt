@@ -5,8 +5,8 @@
 #![tactic(auto)]
 
 mod fault;
+mod index;
 mod laws;
-mod scan;
 mod table;
 
 pub use fault::TableFault;

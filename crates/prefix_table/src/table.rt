@@ -1,54 +1,57 @@
-//! The table: a list of entries that is scanned.
+//! The table: a list of entries, and where each stands by its prefix.
 
-ghost use Rattle.std.specs.Prelude.{◌≡◌, ℕ, ◌<◌, ◌↔◌, IsTrue, List, [], ◌∷◌, ◌++◌, length, slice_get, Some, MatchOption, MatchResult, OnOk, OnErr};
-ghost use Rattle.v6_addr.specs.Address.{PrefixValue, IsPrefix};
+ghost use Rattle.std.specs.Prelude.{◌≡◌, ℕ, ◌<◌, ◌≤◌, ◌↔◌, IsTrue, ◌∷◌, ◌++◌, [], length, slice_get, Some, MatchOption, MatchResult, OnOk, OnErr};
+ghost use Rattle.std.specs.Vec.{vec_len, vec_capacity};
+ghost use Rattle.std.specs.BTreeMap as map;
+ghost use Rattle.v6_addr.specs.Address.{PrefixValue};
 ghost use Rattle.prefix_table.specs.Table.{HasPrefix, InsertFails, IsTable, HoldsNone, IsBest};
+ghost use Rattle.prefix_table.specs.Index.{key_cmp, place_at, AreLengths};
+ghost use Rattle.prefix_table.specs.declared.index.Key.{Key};
 
 use crate::fault::TableFault;
-use crate::scan::with_entry;
-use std::alloc::{AllocFailed, Global};
+use crate::index::{Index, Key, key_of};
+use std::alloc::{AllocError, AllocFailed, Global};
 use std::marker::Model;
 use v6_addr::{Addr, Prefix};
 
 /// Prefixes with a value each, in the order of insertion. Each prefix stands once (own rule).
+///
+/// A look-up takes as many steps as lengths occur, each a look-up in an ordered map.
 #[derive(Debug, Drop)]
 pub struct Table<T> {
     entries: Vec<(Prefix, T)>,
+    index: Index,
 }
 
 impl<T> Model for Table<T> {
     ghost use Rattle.std.specs.Prelude.{List};
     ghost use Rattle.v6_addr.specs.Address.{PrefixValue};
-    ghost use Rattle.prefix_table.specs.Table.{IsTable};
+    ghost use Rattle.prefix_table.specs.Index.{IsWhole};
 
     ghost Value = { List (PrefixValue × T) };
 
     ghost view = { λ t. t.entries.items };
 
-    ghost invariant = { λ t. IsTable t.entries.items };
+    ghost invariant = { λ t. IsWhole t.entries.items t.index };
 }
 
-/// Whether an entry's prefix has this address and length.
-#[tactic(auto, using(crate::proofs::TableLemmas::same_prefix))]
-fn is_of<T>(entry: &(Prefix, T), value: Addr, len: u8) -> bool
-    ensures { IsTrue result ↔ (entry.now.0 ≡ record { value = value.value; len = len }) }
+/// Room is made for one more entry, and its place is put to its key.
+fn make_room<T>(
+    entries: &mut Vec<(Prefix, T)>,
+    index: &mut Index,
+    key: Key,
+) -> Result<(), AllocError>
+    requires lengths { AreLengths index.old }
+    requires few { key.len ≤ 128 }
+    ensures entries { entries.new.items ≡ entries.old.items }
+    ensures lengths { AreLengths index.new }
+    ensures room { OnOk result (vec_len entries.new < vec_capacity entries.new) }
+    ensures ok { OnOk result (map.Updates key_cmp index.old.places index.new.places key
+        (Some (length entries.old.items))) }
+    ensures err { OnErr result ((k : Key) → place_at index.new k ≡ place_at index.old k) }
 {
-    entry.0.value() == value && entry.0.len() == len
-}
-
-/// Whether a prefix is that of one of the entries.
-fn is_taken<T>(entries: &[(Prefix, T)], p: Prefix) -> bool
-    ensures taken { IsTrue result ↔ HasPrefix entries.now p }
-    ensures is_prefix { IsPrefix p }
-{
-    let value = p.value();
-    let len = p.len();
-    for entry in entries {
-        if is_of(entry, value, len) {
-            return true;
-        }
-    }
-    false
+    entries.reserve(1)?;
+    index.put(key, entries.len())
 }
 
 impl<T> Table<T> {
@@ -58,6 +61,7 @@ impl<T> Table<T> {
     {
         Table {
             entries: Vec::new(alloc),
+            index: Index::new(alloc),
         }
     }
 
@@ -70,11 +74,18 @@ impl<T> Table<T> {
             (λ _. (¬ HasPrefix self.old p) × (self.new ≡ self.old ++ (p, t) ∷ []))
             (λ fault. (self.new ≡ self.old) × InsertFails self.old p fault) }
     {
-        if is_taken(&self.entries, p) {
+        if self.has(p) {
             return Err(TableFault::Taken { prefix: p });
         }
         self.insert_new(p, t)?;
         Ok(())
+    }
+
+    /// Whether a prefix is that of one of the entries.
+    fn has(&self, p: Prefix) -> bool
+        ensures { IsTrue result ↔ HasPrefix self.now p }
+    {
+        self.index.has(key_of(p))
     }
 
     /// Adds an entry, whose prefix is known not to be there, behind the others (own rule). After
@@ -84,9 +95,14 @@ impl<T> Table<T> {
         ensures ok { OnOk result (self.new ≡ self.old ++ (p, t) ∷ []) }
         ensures err { OnErr result (self.new ≡ self.old) }
     {
-        let _ = p.len();
-        self.entries.push((p, t))?;
-        Ok(())
+        let key = key_of(p);
+        match make_room(&mut self.entries, &mut self.index, key) {
+            Err(_) => Err(AllocFailed { value: (p, t) }),
+            Ok(()) => {
+                self.entries.push((p, t))?;
+                Ok(())
+            }
+        }
     }
 
     /// The longest entry that holds the address (RFC 1812 section 5.2.4.3, rule 2). `None` exactly
@@ -96,13 +112,9 @@ impl<T> Table<T> {
             (λ e. IsBest self.now a.value (e.0.now, e.1.now)) }
         ensures table { IsTable self.now }
     {
-        let mut best = None;
-        for entry in &self.entries {
-            best = with_entry(best, entry, a);
-        }
-        match best {
+        match self.index.longest(a) {
             None => None,
-            Some(entry) => Some((&entry.0, &entry.1)),
+            Some(place) => Some(self.entry(place)),
         }
     }
 

@@ -1,0 +1,129 @@
+-- The edges within a position by the cell that they lead to: one more, and all.
+use Rattle.std.proofs.Common.{◌≡◌, ℕ, zero, suc, ◌+◌, ◌-◌, ◌<◌, ◌≤◌, inl, inr, List, [], ◌∷◌, ◌++◌, length, set, take, Some, slice_get, Contains, Vec, Global, refl, sym, ◌∙◌, ap, subst, arith, length-append}
+use Rattle.std.proofs.lemmas.Bool.{cases_eq}
+use Rattle.std.proofs.lemmas.List.{length-set, take_all, take-append-le}
+use Rattle.std.proofs.lemmas.List.Elements.{Contains-append_left, Contains-push, Contains-push_cases}
+use Rattle.std.proofs.lemmas.Option.{none-some}
+use Rattle.list_encoder.specs.declared.table.CellEdge.{CellEdge}
+use Rattle.list_encoder.specs.Grouped.{Groups, IsIn, AreEmpty, PutsEdge, PutsEdges, AreGrouped}
+use Rattle.list_encoder.proofs.Celling.{some-same, append-cases}
+
+pub take-front : {X : Type 0} (xs ys : List X) (n : ℕ) → n ≡ length xs → take n (xs ++ ys) ≡ xs
+take-front xs ys n same = let le : n ≤ length xs = omega arith in rw take-append-le (take_all n xs (omega arith))
+
+get-set_same : {X : Type 0} (xs : List X) (i : ℕ) (x : X) → i < length xs → slice_get (set xs i x) i ≡ Some x
+get-set_same [] i x h = absurd (omega arith)
+get-set_same (y ∷ ys) zero x h = refl
+get-set_same (y ∷ ys) (suc i) x h = get-set_same ys i x (omega arith)
+
+get-set_other : {X : Type 0} (xs : List X) (i j : ℕ) (x : X) → ¬ (j ≡ i) → slice_get (set xs i x) j ≡ slice_get xs j
+get-set_other [] i j x h = refl
+get-set_other (y ∷ ys) zero zero x h = absurd (h refl)
+get-set_other (y ∷ ys) zero (suc j) x h = refl
+get-set_other (y ∷ ys) (suc i) zero x h = refl
+get-set_other (y ∷ ys) (suc i) (suc j) x h = get-set_other ys i j x (λ e. h (ap suc e))
+
+-- no edge of the end, or of a cell that has no group, is put
+pub puts-none : (groups : Groups) (link : CellEdge) → ((to : ℕ) → link.to ≡ Some to → to < length groups → ⊥)
+    → PutsEdge groups groups link
+puts-none groups link none = record {
+  long = refl;
+  kept = λ to other is. is;
+  put = λ to e h. absurd (none to e h);
+  only = λ to other is. inl is;
+}
+
+pub puts-one : (groups : Groups) (link : CellEdge) (to : ℕ) (group more : Vec CellEdge Global) → link.to ≡ Some to → to < length groups
+    → slice_get groups to ≡ Some group → more.items ≡ group.items ++ link ∷ [] → PutsEdge groups (set groups to more) link
+puts-one groups link to group more leads within here items = record {
+  long = length-set groups to more;
+  kept = λ j other is. elim (cases_eq j to) [
+    | inl same ↦
+        let one : is.0 ≡ group = some-same is.0 group (sym is.1 ∙ ap (slice_get groups) same ∙ here) in
+        let among : Contains group.items other = subst (λ (g : Vec CellEdge Global). Contains g.items other) one is.2 in (
+          more,
+          ap (slice_get (set groups to more)) same ∙ get-set_same groups to more within,
+          subst (λ (xs : List CellEdge). Contains xs other) (sym items) (Contains-append_left group.items (link ∷ []) other among),
+        )
+    | inr apart ↦ (is.0, get-set_other groups to j more apart ∙ is.1, is.2)
+  ];
+  put = λ j e h.
+      let same : j ≡ to = some-same j to (sym e ∙ leads) in (
+        more,
+        ap (slice_get (set groups to more)) same ∙ get-set_same groups to more within,
+        subst (λ (xs : List CellEdge). Contains xs link) (sym items) (Contains-push group.items link),
+      );
+  only = λ j other is. elim (cases_eq j to) [
+    | inl same ↦
+        let one : is.0 ≡ more = some-same is.0 more (sym is.1 ∙ ap (slice_get (set groups to more)) same
+        ∙ get-set_same groups to more within) in
+        let among : Contains (group.items ++ link ∷ []) other =
+        subst (λ (xs : List CellEdge). Contains xs other) items (subst (λ (g : Vec CellEdge Global). Contains g.items other) one is.2) in
+        elim (Contains-push_cases group.items link other among) [
+          | inl old ↦ inl (group, ap (slice_get groups) same ∙ here, old)
+          | inr new ↦ inr (new, leads ∙ ap Some (sym same))
+        ]
+    | inr apart ↦ inl (is.0, sym (get-set_other groups to j more apart) ∙ is.1, is.2)
+  ];
+}
+
+contains-none : (link : CellEdge) → Contains {X = CellEdge} [] link → ⊥
+contains-none link c = omega (arith, c.1)
+
+pub puts-start : (groups : Groups) → PutsEdges groups [] groups
+puts-start groups = record {
+  long = refl;
+  put = λ to link among e h. absurd (contains-none link among);
+  only = λ to link is. inl is;
+}
+
+pub puts-more : (g0 g g1 : Groups) (links : List CellEdge) (link : CellEdge) → PutsEdges g0 links g → PutsEdge g g1 link
+    → PutsEdges g0 (links ++ link ∷ []) g1
+puts-more g0 g g1 links link so more = record {
+  long = more.long ∙ so.long;
+  put = λ to other among e h. elim (Contains-push_cases links link other among) [
+    | inl old ↦ more.kept to other (so.put to other old e h)
+    | inr new ↦ let long = so.long in subst (IsIn g1 to) new (more.put to (ap (λ (l : CellEdge). l.to) new ∙ e) (omega (arith, h, long)))
+  ];
+  only = λ to other is. elim (more.only to other is) [
+    | inl was ↦ elim (so.only to other was) [
+      | inl first ↦ inl first
+      | inr listed ↦ inr (Contains-append_left links (link ∷ []) other listed.0, listed.1)
+    ]
+    | inr new ↦ inr (
+      subst (λ (l : CellEdge). Contains (links ++ link ∷ []) l) new.0 (Contains-push links link),
+      sym (ap (λ (l : CellEdge). l.to) new.0) ∙ new.1,
+    )
+  ];
+}
+
+pub empty-more : (n : ℕ) (groups : Groups) (group : Vec CellEdge Global) → group.items ≡ [] → AreEmpty n groups
+    → AreEmpty (n + 1) (groups ++ group ∷ [])
+empty-more n groups group none are = (
+  long-more groups group n are.0,
+  λ to link is. elim (append-cases groups (group ∷ []) to is.0 is.1) [
+    | inl old ↦ are.1 to link (is.0, old.1, is.2)
+    | inr new ↦ last (to - length groups) is.0 link new.1 is.2
+  ],
+)
+  where
+    long-more : (xs : Groups) (x : Vec CellEdge Global) (n : ℕ) → length xs ≡ n → length (xs ++ x ∷ []) ≡ n + 1
+    long-more xs x n h = omega (arith, length-append xs (x ∷ []), h)
+
+    last : (k : ℕ) (g : Vec CellEdge Global) (link : CellEdge) → slice_get (group ∷ []) k ≡ Some g → Contains g.items link → ⊥
+    last zero g link e c =
+        let one : group ≡ g = some-same group g e in
+        contains-none link (subst (λ (xs : List CellEdge). Contains xs link) (ap (λ (x : Vec CellEdge Global). x.items) (sym one)
+        ∙ none) c)
+    last (suc k) g link e c = none-some g e
+
+pub are-grouped : (g0 g : Groups) (links : List CellEdge) (count : ℕ) → AreEmpty count g0 → PutsEdges g0 links g
+    → AreGrouped links count g
+are-grouped g0 g links count empty puts = record {
+  long = puts.long ∙ empty.0;
+  each = λ to link among e h. let long = empty.0 in puts.put to link among e (omega (arith, h, long));
+  only = λ to link is. elim (puts.only to link is) [
+    | inl was ↦ absurd (empty.1 to link was)
+    | inr listed ↦ listed
+  ];
+}

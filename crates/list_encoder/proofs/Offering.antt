@@ -1,0 +1,219 @@
+-- What a settled state offers lowers the states in front of it, edge by edge.
+use Rattle.std.proofs.Common.{◌≡◌, ℕ, ◌+◌, ◌*◌, ◌<◌, inl, inr, Bool, true, false, List, length, Option, Some, None, slice_get, Contains, refl, sym, ◌∙◌, ap, subst, arith}
+use Rattle.std.specs.Option.{option_map}
+use Rattle.std.specs.BTreeSet.{BTreeSet}
+use Rattle.std.proofs.lemmas.Bool.{cases_lt, both_ways}
+use Rattle.std.proofs.lemmas.Option.{none-some}
+use Rattle.list_pack.specs.declared.types.Cost.{Cost}
+use Rattle.list_pack.specs.declared.types.Shape.{Shape}
+use Rattle.list_pack.specs.Value.{LegsValue}
+use Rattle.list_pack.specs.Rooms.{room_behind}
+use Rattle.list_pack.specs.Costs.{AtMost, plus, move_cost, Under}
+use Rattle.list_pack.proofs.PublicLaws.{under-itself, under-trans}
+use Rattle.list_encoder.specs.declared.cells.Cell.{Cell}
+use Rattle.list_encoder.specs.declared.table.CellEdge.{CellEdge}
+use Rattle.list_encoder.specs.declared.waiting.Waiting.{Waiting}
+use Rattle.list_encoder.specs.declared.offers.Offer.{Offer}
+use Rattle.list_encoder.specs.Table.{Costs, at, entry, rest_at, IsSound, RoomHolds, RoomRelaxed, LeavesRoom}
+use Rattle.list_encoder.specs.Waiting.{is_done, IsFront, IsLoweredAt}
+use Rattle.list_encoder.specs.Offers.{IsSettledAt, IsOffer, Advances, Takes, OffersRoom, LeavesIt, OffersWay, OffersEdge, offer_of, LeadInto, OffersAll}
+use Rattle.list_encoder.proofs.Celling.{some-same}
+
+pub at-most-more : (m d : Cost) → AtMost d (plus m d)
+at-most-more m d = record { containers = omega arith; hops = λ e. omega arith }
+
+-- ---- costs that were lowered
+
+pub advances-none : (v : LegsValue) (cells : List Cell) (t : Costs) (waiting : BTreeSet Waiting) (done : List Bool) (top : Cost)
+    → IsSound v cells t
+    → IsFront t waiting done top → Advances v cells t done t waiting done top
+advances-none v cells t waiting done top sound front = record {
+  sound = sound;
+  front = front;
+  same = refl;
+  falls = λ i. under-itself (at t i);
+  still = λ i is. refl;
+  past = λ i h. refl;
+}
+
+pub advances-then : (v : LegsValue) (cells : List Cell) (t t1 t2 : Costs) (done done1 done2 : List Bool) (w1 w2 : BTreeSet Waiting)
+    (top : Cost)
+    → Advances v cells t done t1 w1 done1 top → Advances v cells t1 done1 t2 w2 done2 top → Advances v cells t done t2 w2 done2 top
+advances-then v cells t t1 t2 done done1 done2 w1 w2 top first second = record {
+  sound = second.sound;
+  front = second.front;
+  same = second.same ∙ first.same;
+  falls = λ i. under-trans (at t2 i) (at t1 i) (at t i) (second.falls i) (first.falls i);
+  still = λ i is. second.still i (ap (λ (d : List Bool). is_done d i) first.same ∙ is) ∙ first.still i is;
+  past = λ i h. let long = ap length first.same in second.past i (omega (arith, h, long)) ∙ first.past i h;
+}
+
+rest-still : (t t1 : Costs) (done : List Bool) (to : Option ℕ) (left : ℕ) → IsSettledAt done to left
+    → ((i : ℕ) → is_done done i ≡ true → at t1 i ≡ at t i) → rest_at t1 to left ≡ rest_at t to left
+rest-still t t1 done None left is still = refl
+rest-still t t1 done (Some to) left is still = still (8 * to + left) is
+
+settled-later : (done done1 : List Bool) (to : Option ℕ) (left : ℕ) → done1 ≡ done → IsSettledAt done to left → IsSettledAt done1 to left
+settled-later done done1 to left same is = subst (λ (d : List Bool). IsSettledAt d to left) (sym same) is
+
+pub offer-later : (v : LegsValue) (cells : List Cell) (t t1 : Costs) (w w1 : BTreeSet Waiting) (done done1 : List Bool) (offer : Offer)
+    → IsOffer v cells t w done offer → Advances v cells t done t1 w1 done1 offer.rest → IsOffer v cells t1 w1 done1 offer
+offer-later v cells t t1 w w1 done done1 offer is advances = record {
+  is_edge = is.is_edge;
+  sound = advances.sound;
+  front = advances.front;
+  early = let long = ap length advances.same in omega (arith, is.early, long);
+  rest_is = rest-still t t1 done offer.link.to offer.left is.settled advances.still ∙ is.rest_is;
+  settled = settled-later done done1 offer.link.to offer.left advances.same is.settled;
+}
+
+-- the same offer, in the container or by a new one
+pub offer-turned : (v : LegsValue) (cells : List Cell) (t : Costs) (w : BTreeSet Waiting) (done : List Bool) (a : Offer) (stays : Bool)
+    → IsOffer v cells t w done a → IsOffer v cells t w done (record { link = a.link; stays = stays; left = a.left; rest = a.rest })
+offer-turned v cells t w done a stays is = record {
+  is_edge = is.is_edge;
+  sound = is.sound;
+  front = is.front;
+  early = is.early;
+  rest_is = is.rest_is;
+  settled = is.settled;
+}
+
+-- ---- one room
+
+module _ (v : LegsValue) (cells : List Cell) (t : Costs) (w : BTreeSet Waiting) (done : List Bool) (offer : Offer) (is : IsOffer v
+    cells t w done offer)
+    (room : ℕ) (left : Option ℕ) where
+  pub room-none : left ≡ None → OffersRoom v cells offer room left t done t w done
+  room-none none = record {
+    advances = advances-none v cells t w done offer.rest is.sound is.front;
+    takes = λ some. absurd (none-some offer.left (sym none ∙ some));
+  }
+
+  pub room-other : (after : ℕ) → left ≡ Some after → ¬ (after ≡ offer.left) → OffersRoom v cells offer room left t done t w done
+  room-other after has other = record {
+    advances = advances-none v cells t w done offer.rest is.sound is.front;
+    takes = λ some. absurd (other (some-same after offer.left (sym has ∙ some)));
+  }
+
+  pub room-lowered : (after : ℕ) (t1 : Costs) (w1 : BTreeSet Waiting) (done1 : List Bool) (changed : Bool) → left ≡ Some after
+      → after ≡ offer.left
+      → done1 ≡ done → room < 8
+      → RoomRelaxed v cells offer.link t t1 offer.stays room left changed
+      → IsLoweredAt t t1 w1 done1 offer.rest (8 * offer.link.from + room) (plus (move_cost offer.stays offer.link.hops) offer.rest)
+      changed
+      → OffersRoom v cells offer room left t done t1 w1 done1
+  room-lowered after t1 w1 done1 changed has same done_is low relaxed lowered = record {
+    advances = record {
+      sound = relaxed.sound;
+      front = lowered.front;
+      same = done_is;
+      falls = relaxed.passed.falls;
+      still = λ i settled. lowered.still i (ap (λ (d : List Bool). is_done d i) done_is ∙ settled);
+      past = λ i h. relaxed.passed.later i (omega (arith, h, is.early));
+    };
+    takes = λ some.
+        let holds : Under (entry t1 offer.link.from room) (option_map (plus (move_cost offer.stays offer.link.hops)) (rest_at t
+        offer.link.to offer.left)) =
+        subst (λ (o : Option ℕ). RoomHolds (entry t1 offer.link.from room) offer.stays offer.link t o) some relaxed.holds in
+        subst (λ (o : Option Cost). Under (entry t1 offer.link.from room) (option_map (plus (move_cost offer.stays offer.link.hops))
+        o)) is.rest_is holds;
+  }
+
+takes-later : (offer : Offer) (stays : Bool) (t t1 : Costs) (room : ℕ) → ((i : ℕ) → Under (at t1 i) (at t i)) → Takes offer stays t room
+    → Takes offer stays t1 room
+takes-later offer stays t t1 room falls takes =
+    under-trans (entry t1 offer.link.from room) (entry t offer.link.from room) (Some (plus (move_cost stays offer.link.hops) offer.rest))
+    (falls (8 * offer.link.from + room)) takes
+
+-- ---- the rooms
+
+module _ (v : LegsValue) (cells : List Cell) (offer : Offer) (t0 t t1 : Costs) (was done done1 : List Bool) (w w1 : BTreeSet Waiting)
+  where
+    pub way-none : IsOffer v cells t0 w was offer → OffersWay v cells offer 0 t0 was t0 w was
+    way-none is = record {
+      advances = advances-none v cells t0 w was offer.rest is.sound is.front;
+      takes = λ room h. absurd (omega (arith, h));
+    }
+
+    pub way-more : (room : ℕ) (left : Option ℕ) → LeavesRoom v cells offer.link offer.stays room left
+        → OffersWay v cells offer room t0 was t w done
+        → OffersRoom v cells offer room left t done t1 w1 done1 → OffersWay v cells offer (room + 1) t0 was t1 w1 done1
+    way-more room left leaves so more = record {
+      advances = advances-then v cells t0 t t1 was done done1 w w1 offer.rest so.advances more.advances;
+      takes = λ r h it. elim (cases_lt r room) [
+        | inl less ↦ takes-later offer offer.stays t t1 r more.advances.falls (so.takes r less it)
+        | inr past ↦
+            let same : r ≡ room = omega (arith, h, past) in
+            let some : left ≡ Some offer.left =
+            leaves it.0 it.1 ∙ subst (λ (n : ℕ). room_behind offer.stays (option_map v.shape it.0.via) n (v.shape offer.link.sid) ≡ Some
+            offer.left) same it.2 in
+            subst (Takes offer offer.stays t1) (sym same) (more.takes some)
+      ];
+    }
+
+-- where no room leads to the offer's, nothing is lowered
+pub way-nowhere : (v : LegsValue) (cells : List Cell) (offer : Offer) (t : Costs) (w : BTreeSet Waiting) (done : List Bool)
+    (from : Option Shape)
+    (next : Shape) (b : Bool)
+    → IsOffer v cells t w done offer → ((cell : Cell) → slice_get cells offer.link.from ≡ Some cell → from ≡ option_map v.shape cell.via)
+    → next ≡ v.shape offer.link.sid → b ≡ false
+    → ((room : ℕ) → room < 8 → room_behind offer.stays from room next ≡ Some offer.left → b ≡ true)
+    → OffersWay v cells offer 8 t done t w done
+way-nowhere v cells offer t w done from next b is is_from is_next none leads = record {
+  advances = advances-none v cells t w done offer.rest is.sound is.front;
+  takes = λ room h it. absurd (both_ways b none (leads room h
+      (ap (λ (s : Option Shape). room_behind offer.stays s room next) (is_from it.0 it.1)
+      ∙ (ap (λ (s : Shape). room_behind offer.stays (option_map v.shape it.0.via) room s) is_next ∙ it.2))));
+}
+
+-- ---- both ways
+
+module _ (v : LegsValue) (cells : List Cell) (offer opens stays : Offer) (t t1 t2 : Costs) (was done done1 : List Bool)
+    (w1 w2 : BTreeSet Waiting)
+    (opens_is : opens ≡ record { link = offer.link; stays = false; left = offer.left; rest = offer.rest })
+    (stays_is : stays ≡ record { link = offer.link; stays = true; left = offer.left; rest = offer.rest }) where
+  pub edge-both : OffersWay v cells opens 8 t was t1 w1 done → OffersWay v cells stays 8 t1 done t2 w2 done1
+      → OffersEdge v cells offer t was t2 w2 done1
+  edge-both first second =
+      let opened = subst (λ (o : Offer). OffersWay v cells o 8 t was t1 w1 done) opens_is first in
+      let stayed = subst (λ (o : Offer). OffersWay v cells o 8 t1 done t2 w2 done1) stays_is second in
+      record {
+        advances = advances-then v cells t t1 t2 was done done1 w1 w2 offer.rest opened.advances stayed.advances;
+        takes = both opened stayed;
+      }
+    where
+      both : OffersWay v cells (record { link = offer.link; stays = false; left = offer.left; rest = offer.rest }) 8 t was t1 w1 done
+          → OffersWay v cells (record { link = offer.link; stays = true; left = offer.left; rest = offer.rest }) 8 t1 done t2 w2 done1
+          → (s : Bool) (room : ℕ) → room < 8 → LeavesIt v cells offer s room → Takes offer s t2 room
+      both opened stayed true room h it = stayed.takes room h it
+      both opened stayed false room h it = takes-later offer false t1 t2 room stayed.advances.falls (opened.takes room h it)
+
+-- ---- all edges
+
+module _ (v : LegsValue) (cells : List Cell) (links : List CellEdge) (left : ℕ) (rest : Cost) (t0 t t1 : Costs)
+    (was done done1 : List Bool)
+    (w0 w w1 : BTreeSet Waiting) where
+  pub all-none : LeadInto v cells t0 w0 was links left rest → OffersAll v cells links 0 left rest t0 was t0 w0 was
+  all-none lead = record {
+    advances = advances-none v cells t0 w0 was rest lead.0 lead.1;
+    takes = λ link i stays room h. absurd (omega (arith, h));
+  }
+
+  pub all-offer : (link : CellEdge) → Contains links link → LeadInto v cells t0 w0 was links left rest
+      → Advances v cells t0 was t w done rest → IsOffer v cells t w done (offer_of link left rest)
+  all-offer link among lead advances = offer-later v cells t0 t w0 w was done (offer_of link left rest) (lead.2 link among) advances
+
+  pub all-more : (n : ℕ) (link : CellEdge) → slice_get links n ≡ Some link → OffersAll v cells links n left rest t0 was t w done
+      → OffersEdge v cells (offer_of link left rest) t done t1 w1 done1 → OffersAll v cells links (n + 1) left rest t0 was t1 w1 done1
+  all-more n link here so more = record {
+    advances = advances-then v cells t0 t t1 was done done1 w w1 rest so.advances more.advances;
+    takes = λ l i stays room h is low it. elim (cases_lt i n) [
+      | inl less ↦ takes-later (offer_of l left rest) stays t t1 room more.advances.falls (so.takes l i stays room less is low it)
+      | inr past ↦
+          let same : n ≡ i = omega (arith, h, past) in
+          let one : link ≡ l = some-same link l (sym here ∙ ap (slice_get links) same ∙ is) in
+          subst (λ (x : CellEdge). LeavesIt v cells (offer_of x left rest) stays room → Takes (offer_of x left rest) stays t1 room) one
+          (more.takes stays room low) it
+    ];
+  }

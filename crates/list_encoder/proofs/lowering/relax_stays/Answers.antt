@@ -1,0 +1,14 @@
+use Rattle.std.proofs.Common.{◌+◌, Bool, true, sym, subst}
+use Rattle.list_encoder.specs.Table.{RoomsRelaxed}
+use Rattle.list_encoder.proofs.RelaxedRooms.{rooms-more, leaves}
+use Rattle.list_encoder.proofs.lowering.relax_stays.Goals as goal
+
+pub loop-room-preserved : goal.loop-room-preserved
+loop-room-preserved g c =
+    let v = g.L.Legs.seen c.args.legs.now in
+    subst (λ (b : Bool). RoomsRelaxed v c.args.cells.now c.args.link true 0 (c.loop-room.room + 1) c.args.table.now
+    c.relax_room-lowered.new.table b) (sym c.either-changed.ensures)
+    (rooms-more v c.args.cells.now c.args.link true 0 c.loop-room.room c.room_behind-left.result c.args.table.now c.loop-room.table
+    c.relax_room-lowered.new.table c.loop-room.changed c.relax_room-lowered.result c.loop-room.invariant c.relax_room-lowered.ensures
+    (leaves v c.args.cells.now c.args.link true c.loop-room.room c.args.from.now c.args.next.now c.room_behind-left.result c.requires.from
+    c.requires.next c.room_behind-left.ensures))

@@ -1,0 +1,20 @@
+use Rattle.list_encoder.proofs.RelaxedRooms.{leaves}
+use Rattle.list_encoder.proofs.Offering.{offer-later, way-more}
+use Rattle.list_encoder.proofs.offers.offer_way.Goals as goal
+
+pub loop-room-preserved : goal.loop-room-preserved
+loop-room-preserved g c =
+    let v = g.L.Legs.seen c.args.legs.now in
+    let cells = c.args.cells.now in
+    let offer = c.args.offer in
+    let old = c.loop-room.queue in
+    let new = c.offer_room.new.queue in
+    record {
+      is = offer-later v cells c.loop-room.table c.offer_room.new.table old.waiting new.waiting old.done.items new.done.items offer
+          c.loop-room.invariant.is c.in_ok-offer_room.ensures.advances;
+      so = way-more v cells offer c.args.table.now c.loop-room.table c.offer_room.new.table c.args.queue.now.done.items old.done.items
+          new.done.items old.waiting new.waiting c.loop-room.room c.room_behind-left.result
+          (leaves v cells offer.link offer.stays c.loop-room.room c.args.from.now c.args.next.now c.room_behind-left.result c.requires.from
+          c.requires.next c.room_behind-left.ensures)
+          c.loop-room.invariant.so c.in_ok-offer_room.ensures;
+    }

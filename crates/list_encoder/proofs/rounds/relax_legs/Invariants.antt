@@ -1,6 +1,0 @@
-use Rattle.list_encoder.proofs.Relaxing.{LegsSoFar}
-use Rattle.list_encoder.proofs.rounds.relax_legs.Given as goal
-
-abbrev pub invariant-loop-to : goal.invariant-loop-to
-invariant-loop-to g l =
-    LegsSoFar (g.L.Legs.seen l.legs) l.cells l.k l.first l.later l.to l.initial.table l.table l.initial.links.items l.links.items l.changed

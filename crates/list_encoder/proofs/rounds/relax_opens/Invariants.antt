@@ -1,6 +1,0 @@
-use Rattle.std.proofs.Common.{false}
-use Rattle.list_encoder.specs.Table.{RoomsRelaxed}
-use Rattle.list_encoder.proofs.rounds.relax_opens.Given as goal
-
-abbrev pub invariant-loop-room : goal.invariant-loop-room
-invariant-loop-room g l = RoomsRelaxed (g.L.Legs.seen l.legs) l.cells l.link false 1 l.room l.initial.table l.table l.changed

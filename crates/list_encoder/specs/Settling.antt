@@ -1,0 +1,44 @@
+-- The states that wait are settled, from the least cost up.
+use Rattle.std.specs.Prelude.{◌≡◌, ℕ, ◌+◌, ◌*◌, ◌<◌, ◌≤◌, Bool, true, List, length, slice_get, Some}
+use Rattle.std.specs.Option.{option_map}
+use Rattle.std.specs.BTreeSet.{BTreeSet}
+use Rattle.list_pack.specs.declared.types.Cost.{Cost}
+use Rattle.list_pack.specs.Value.{LegsValue}
+use Rattle.list_pack.specs.Rooms.{room_behind}
+use Rattle.list_pack.specs.Costs.{Under}
+use Rattle.list_encoder.specs.declared.cells.Cell.{Cell}
+use Rattle.list_encoder.specs.declared.table.CellEdge.{CellEdge}
+use Rattle.list_encoder.specs.declared.waiting.Waiting.{Waiting}
+use Rattle.list_encoder.specs.Table.{Costs, at, entry, offer, IsCellEdge, IsSound, Holds}
+use Rattle.list_encoder.specs.Waiting.{is_done, IsFront}
+use Rattle.list_encoder.specs.Grouped.{Groups, IsIn}
+
+-- each group has edges into its cell, from cells that have a group
+abbrev pub LeadToCells : LegsValue → List Cell → Groups → Type 0
+LeadToCells v cells groups =
+    (to : ℕ) (link : CellEdge) → IsIn groups to link → IsCellEdge v cells link × (link.to ≡ Some to) × (link.from < length groups)
+
+-- the cost of an edge into a cell, with what is left from the cell's settled states, bounds what is left in front of it
+abbrev pub HoldsDone : LegsValue → List Cell → Costs → List Bool → CellEdge → ℕ → Type 0
+HoldsDone v cells t done link to =
+    (cell : Cell) (stays : Bool) (room left : ℕ) → slice_get cells link.from ≡ Some cell → room < 8 → left < 8
+    → room_behind stays (option_map v.shape cell.via) room (v.shape link.sid) ≡ Some left → is_done done (8 * to + left) ≡ true
+    → Under (entry t link.from room) (offer stays link.hops (entry t to left))
+
+-- so far the edges into the settled states hold
+pub record SettlesSoFar (v : LegsValue) (cells : List Cell) (groups : Groups) (before : Costs) (t : Costs) (waiting : BTreeSet Waiting)
+    (done : List Bool) : Type 0 where
+  pub sound : IsSound v cells t
+  pub top : Cost
+  pub front : IsFront t waiting done top
+  pub long : length done ≡ 8 * length groups
+  pub falls : (i : ℕ) → Under (at t i) (at before i)
+  pub past : (i : ℕ) → 8 * length groups ≤ i → at t i ≡ at before i
+  pub hold : (to : ℕ) (link : CellEdge) → IsIn groups to link → HoldsDone v cells t done link to
+
+-- the edges of all groups hold
+pub record SettlesAll (v : LegsValue) (cells : List Cell) (groups : Groups) (before after : Costs) : Type 0 where
+  pub sound : IsSound v cells after
+  pub falls : (i : ℕ) → Under (at after i) (at before i)
+  pub past : (i : ℕ) → 8 * length groups ≤ i → at after i ≡ at before i
+  pub holds : (to : ℕ) (link : CellEdge) → IsIn groups to link → Holds v cells after link

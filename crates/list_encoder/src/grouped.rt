@@ -1,0 +1,56 @@
+//! The edges within a position by the cell that they lead to.
+
+ghost use Rattle.std.specs.Prelude.{OnOk, IfOk};
+ghost use Rattle.list_encoder.specs.Grouped.{AreEmpty, PutsEdge, PutsEdges, AreGrouped};
+
+use crate::table::CellEdge;
+use base::NoMemory;
+use std::alloc::Global;
+
+// an edge is put to those that lead to its cell
+fn put_edge(groups: &mut [Vec<CellEdge>], link: CellEdge) -> Result<(), NoMemory>
+    ensures { OnOk result (PutsEdge groups.old groups.new link) }
+{
+    let Some(to) = link.to else {
+        return Ok(());
+    };
+    if to >= groups.len() {
+        return Ok(());
+    }
+    groups[to].push(link)?;
+    Ok(())
+}
+
+// each edge is put to those that lead to its cell
+fn put_edges(groups: &mut [Vec<CellEdge>], links: &[CellEdge]) -> Result<(), NoMemory>
+    ensures { OnOk result (PutsEdges groups.old links.now groups.new) }
+{
+    for link in links {
+        put_edge(groups, *link)?;
+    }
+    Ok(())
+}
+
+// so many groups without edges
+fn no_groups(alloc: Global, count: usize) -> Result<Vec<Vec<CellEdge>>, NoMemory>
+    ensures { IfOk result (λ groups. AreEmpty count groups.items) }
+{
+    let mut groups = Vec::new(alloc);
+    for _i in 0..count {
+        groups.push(Vec::new(alloc))?;
+    }
+    Ok(groups)
+}
+
+/// The edges into each of the first cells. (own rule)
+pub fn grouped(
+    alloc: Global,
+    links: &[CellEdge],
+    count: usize,
+) -> Result<Vec<Vec<CellEdge>>, NoMemory>
+    ensures { IfOk result (λ groups. AreGrouped links.now count groups.items) }
+{
+    let mut groups = no_groups(alloc, count)?;
+    put_edges(groups.as_mut_slice(), links)?;
+    Ok(groups)
+}

@@ -1,0 +1,237 @@
+//! The costs of a position, lowered by the finishes and by the legs to later positions.
+
+ghost use Rattle.std.specs.Prelude.{◌≡◌, ◌+◌, ◌*◌, ◌≤◌, ◌<◌, true, false, length, replicate, Some, None, OnOk, IfOk, ◌==◌, if◌then◌else◌};
+ghost use Rattle.list_pack.specs.Value.{KeepsLaws};
+ghost use Rattle.list_encoder.specs.Cells.{AreCells};
+ghost use Rattle.list_encoder.specs.Table as tables;
+
+use crate::cells::{Cell, shape_of};
+use crate::table::{CellEdge, either, lower, rest_at};
+use base::NoMemory;
+use list_pack::{Cost, Legs, Shape, move_cost, plus, room_behind};
+use std::alloc::Global;
+
+// one room of a link's first cell is lowered by the link, where a room is left behind it
+fn relax_room<L: Legs>(
+    legs: &L,
+    cells: &[Cell],
+    table: &mut [Option<Cost>],
+    link: CellEdge,
+    stays: bool,
+    room: u8,
+    left: Option<u8>,
+) -> bool
+    requires laws { KeepsLaws (L.seen legs.now) }
+    requires cells { AreCells (L.seen legs.now) cells.now }
+    requires link { tables.IsCellEdge (L.seen legs.now) cells.now link }
+    requires sound { tables.IsSound (L.seen legs.now) cells.now table.old }
+    requires room { room < 8 }
+    requires left { tables.LeavesRoom (L.seen legs.now) cells.now link stays room left }
+    ensures { tables.RoomRelaxed (L.seen legs.now) cells.now link table.old table.new stays room
+        left result }
+{
+    let Some(behind) = left else {
+        return false;
+    };
+    let Some(rest) = rest_at(table, link.to, behind) else {
+        return false;
+    };
+    let cost = plus(move_cost(stays, link.hops), rest);
+    lower(table, 8 * link.from + room as usize, cost)
+}
+
+// the rooms of a link's first cell are lowered by the link where it stays in the container; where
+// it can't stay with the most room that there may be, it can't with less
+fn relax_stays<L: Legs>(
+    legs: &L,
+    cells: &[Cell],
+    table: &mut [Option<Cost>],
+    from: &Option<Shape>,
+    next: &Shape,
+    link: CellEdge,
+) -> bool
+    requires laws { KeepsLaws (L.seen legs.now) }
+    requires cells { AreCells (L.seen legs.now) cells.now }
+    requires link { tables.IsCellEdge (L.seen legs.now) cells.now link }
+    requires from { tables.IsShapeOf (L.seen legs.now) cells.now link.from from.now }
+    requires next { next.now ≡ (L.seen legs.now).shape link.sid }
+    requires sound { tables.IsSound (L.seen legs.now) cells.now table.old }
+    ensures { tables.RoomsRelaxed (L.seen legs.now) cells.now link true 0 8 table.old table.new
+        result }
+{
+    if room_behind(true, from, 7, next).is_none() {
+        return false;
+    }
+    let mut changed = false;
+    for room in 0..8 {
+        let left = room_behind(true, from, room, next);
+        let lowered = relax_room(legs, cells, table, link, true, room, left);
+        changed = either(changed, lowered);
+    }
+    changed
+}
+
+// the rooms of a link's first cell above 0 are lowered by the link where it opens a container,
+// which with some room in front is the same for all
+fn relax_opens<L: Legs>(
+    legs: &L,
+    cells: &[Cell],
+    table: &mut [Option<Cost>],
+    from: &Option<Shape>,
+    next: &Shape,
+    link: CellEdge,
+) -> bool
+    requires laws { KeepsLaws (L.seen legs.now) }
+    requires cells { AreCells (L.seen legs.now) cells.now }
+    requires link { tables.IsCellEdge (L.seen legs.now) cells.now link }
+    requires from { tables.IsShapeOf (L.seen legs.now) cells.now link.from from.now }
+    requires next { next.now ≡ (L.seen legs.now).shape link.sid }
+    requires sound { tables.IsSound (L.seen legs.now) cells.now table.old }
+    ensures { tables.RoomsRelaxed (L.seen legs.now) cells.now link false 1 8 table.old table.new
+        result }
+{
+    let full = room_behind(false, from, 1, next);
+    let mut changed = false;
+    for room in 1..8 {
+        let lowered = relax_room(legs, cells, table, link, false, room, full);
+        changed = either(changed, lowered);
+    }
+    changed
+}
+
+// the rooms of a link's first cell, whose SID's shape is given, are lowered by the link
+fn relax<L: Legs>(
+    legs: &L,
+    cells: &[Cell],
+    table: &mut [Option<Cost>],
+    from: &Option<Shape>,
+    link: CellEdge,
+) -> bool
+    requires cells { AreCells (L.seen legs.now) cells.now }
+    requires link { tables.IsCellEdge (L.seen legs.now) cells.now link }
+    requires from { tables.IsShapeOf (L.seen legs.now) cells.now link.from from.now }
+    requires sound { tables.IsSound (L.seen legs.now) cells.now table.old }
+    ensures { tables.Relaxed (L.seen legs.now) cells.now link table.old table.new result }
+{
+    legs.steps();
+    let next = legs.shape(link.sid);
+    let packed = room_behind(false, from, 0, &next);
+    let first = relax_room(legs, cells, table, link, false, 0, packed);
+    let above = relax_opens(legs, cells, table, from, &next, link);
+    let opens = either(first, above);
+    let stays = relax_stays(legs, cells, table, from, &next, link);
+    either(opens, stays)
+}
+
+// the costs of a cell are lowered by the finishes from it
+fn relax_ends<L: Legs>(
+    legs: &L,
+    cells: &[Cell],
+    table: &mut [Option<Cost>],
+    from: &Option<Shape>,
+    k: usize,
+) -> bool
+    requires cells { AreCells (L.seen legs.now) cells.now }
+    requires within { k < length cells.now }
+    requires from { tables.IsShapeOf (L.seen legs.now) cells.now k from.now }
+    requires sound { tables.IsSound (L.seen legs.now) cells.now table.old }
+    ensures { tables.EndsRelaxed (L.seen legs.now) cells.now k table.old table.new result }
+{
+    let cell = cells[k];
+    let mut changed = false;
+    for sid in legs.sids_at(legs.steps()) {
+        if let Some(hops) = legs.finish(cell.position, cell.via, *sid) {
+            let link = CellEdge {
+                from: k,
+                to: None,
+                sid: *sid,
+                hops,
+            };
+            let lowered = relax(legs, cells, table, from, link);
+            changed = either(changed, lowered);
+        }
+    }
+    changed
+}
+
+/// The leg from a cell into another, where there is one. (own rule)
+pub fn link_into<L: Legs>(legs: &L, cells: &[Cell], from: usize, to: usize) -> Option<CellEdge>
+    requires from { from < length cells.now }
+    requires to { to < length cells.now }
+    ensures { tables.IsEdgeInto (L.seen legs.now) cells.now from to result }
+{
+    let cell = cells[from];
+    let other = cells[to];
+    let sid = other.via?;
+    let leg = legs.leg(cell.position, cell.via, sid)?;
+    if leg.to != other.position {
+        return None;
+    }
+    Some(CellEdge {
+        from,
+        to: Some(to),
+        sid,
+        hops: leg.hops,
+    })
+}
+
+// the costs of a cell are lowered by the legs from it to later positions; those within its position
+// are put behind the others in the list
+fn relax_legs<L: Legs>(
+    legs: &L,
+    cells: &[Cell],
+    table: &mut [Option<Cost>],
+    from: &Option<Shape>,
+    k: usize,
+    first: usize,
+    later: usize,
+    links: &mut Vec<CellEdge>,
+) -> Result<bool, NoMemory>
+    requires cells { AreCells (L.seen legs.now) cells.now }
+    requires within { k < later }
+    requires later { later ≤ length cells.now }
+    requires from { tables.IsShapeOf (L.seen legs.now) cells.now k from.now }
+    requires sound { tables.IsSound (L.seen legs.now) cells.now table.old }
+    requires links { tables.AreCellEdges (L.seen legs.now) cells.now later links.old.items }
+    ensures { IfOk result (λ changed. tables.LegsRelaxed (L.seen legs.now) cells.now k first later
+        table.old table.new links.old.items links.new.items changed) }
+{
+    let mut changed = false;
+    for to in first..cells.len() {
+        if let Some(link) = link_into(legs, cells, k, to) {
+            if to < later {
+                links.push(link)?;
+            } else {
+                let lowered = relax(legs, cells, table, from, link);
+                changed = either(changed, lowered);
+            }
+        }
+    }
+    Ok(changed)
+}
+
+/// The costs of the cells of a position are lowered by the finishes and by the legs to later
+/// positions. Gives the legs within the position. (own rule)
+pub fn gather<L: Legs>(
+    alloc: Global,
+    legs: &L,
+    cells: &[Cell],
+    table: &mut [Option<Cost>],
+    first: usize,
+    later: usize,
+) -> Result<Vec<CellEdge>, NoMemory>
+    requires cells { AreCells (L.seen legs.now) cells.now }
+    requires first { first ≤ later }
+    requires later { later ≤ length cells.now }
+    requires sound { tables.IsSound (L.seen legs.now) cells.now table.old }
+    ensures { IfOk result (λ links. tables.Gathers (L.seen legs.now) cells.now first later
+        table.old table.new links.items) }
+{
+    let mut links = Vec::new(alloc);
+    for k in first..later {
+        let from = shape_of(legs, cells[k]);
+        relax_ends(legs, cells, table, &from, k);
+        relax_legs(legs, cells, table, &from, k, first, later, &mut links)?;
+    }
+    Ok(links)
+}

@@ -1,0 +1,367 @@
+-- The places of entries by the keys of their prefixes, and the lengths of keys.
+use Rattle.std.proofs.Common.{◌≡◌, ◌↔◌, ℕ, zero, suc, ◌+◌, ◌-◌, ◌/◌, ◌^◌, ◌<◌, ◌≤◌, ◌⊎◌, Bool, true, ◌==◌, ◌&&◌, cond, List, [], ◌∷◌, ◌++◌, length, get_or, slice_get, Option, Some, None, Contains, refl, sym, ap, ◌∙◌, subst, arith, inl, inr}
+use Rattle.std.specs.Prelude.{is_some, IsTrue}
+use Rattle.std.specs.declared.cmp.Ordering.{Ordering}
+use Rattle.std.specs.declared.cmp.Ordering.TheVariants.{Less, Equal, Greater}
+use Rattle.std.specs.Ordering.{nat_cmp, ordering_then, is_eq}
+use Rattle.std.specs.List.{insert}
+use Rattle.std.specs.BTreeMap as map
+use Rattle.std.specs.Map.{lookup}
+use Rattle.std.proofs.lemmas.Bool.{cases_Bool, cases_lt, cases_eq, both_ways, and_parts, eqb-true}
+use Rattle.std.proofs.lemmas.Bool.Decides.{nat_tests}
+use Rattle.std.proofs.lemmas.List.Edits.{length-insert, get_or-insert_at, get_or-insert_below, get_or-insert_above}
+use Rattle.std.proofs.lemmas.Option.{none-some, slice_get-get_or, slice_get_within, get_or_from_slice_get}
+use Rattle.v6_addr.specs.Address.{PrefixValue, IsPrefix, Holds}
+use Rattle.v6_addr.proofs.PublicLaws.{same_value, Holds_own_value}
+use Rattle.prefix_table.specs.declared.index.Key.{Key}
+use Rattle.prefix_table.specs.declared.index.Index.{Index}
+use Rattle.prefix_table.specs.Table.{HasPrefix, IsTable, HoldsNone, IsBest}
+use Rattle.prefix_table.specs.Index.{key_cmp, key_at, key_of, place_at, AreFalling, HasLength, Keeps, AreLengths, HasNoKey, IsLongest, IsIndex, IsWhole}
+use Rattle.prefix_table.proofs.TableLemmas.{same_prefix, is_table_push}
+
+-- ---- keys
+
+then_is_eq : (o p : Ordering) → is_eq (ordering_then o p) ≡ (is_eq o && is_eq p)
+then_is_eq Less p = refl
+then_is_eq Equal p = refl
+then_is_eq Greater p = refl
+
+number_is_eq : (m n : ℕ) → is_eq (nat_cmp m n) ≡ (m == n)
+number_is_eq m n = grind (arith, nat_tests)
+
+key_is : (k q : Key) → is_eq (key_cmp k q) ≡ ((k.len == q.len) && (k.bits == q.bits))
+key_is k q =
+    then_is_eq (nat_cmp k.len q.len) (nat_cmp k.bits q.bits)
+    ∙ (ap (λ b. b && is_eq (nat_cmp k.bits q.bits)) (number_is_eq k.len q.len)
+    ∙ ap (λ b. (k.len == q.len) && b) (number_is_eq k.bits q.bits))
+
+key_same : (k q : Key) → is_eq (key_cmp k q) ≡ true → k ≡ q
+key_same k q is =
+    let parts = and_parts (k.len == q.len) (k.bits == q.bits) (sym (key_is k q) ∙ is) in
+    λ i. record { len = eqb-true k.len q.len parts.0 i; bits = eqb-true k.bits q.bits parts.1 i }
+
+-- ---- the list of lengths
+
+module _ (ls : List ℕ) (at n : ℕ) (within : at ≤ length ls) where
+  -- where an element stands in the list with one more
+  inserted : (i : ℕ) → i < length (insert ls at n) → ((i < at) × (get_or (insert ls at n) i 0 ≡ get_or ls i 0))
+      ⊎ (((i ≡ at) × (get_or (insert ls at n) i 0 ≡ n))
+      ⊎ ((j : ℕ) × (i ≡ j + 1) × (at ≤ j) × (j < length ls) × (get_or (insert ls at n) i 0 ≡ get_or ls j 0)))
+  inserted i h =
+      elim (cases_lt i at) [
+        | inl before ↦ inl (before, get_or-insert_below ls at n 0 i before within)
+        | inr past ↦ elim (cases_eq i at) [
+          | inl here ↦ inr (inl (here, subst (λ k. get_or (insert ls at n) k 0 ≡ n) (sym here) (get_or-insert_at ls at n 0 within)))
+          | inr other ↦
+              let j : ℕ = i - 1 in
+              let next : i ≡ j + 1 = omega arith in
+              let long = length-insert ls at n within in
+              let later : at ≤ j = omega arith in
+              inr (inr (
+                j,
+                next,
+                later,
+                omega (arith, long, h),
+                subst (λ k. get_or (insert ls at n) k 0 ≡ get_or ls j 0) (sym next)
+                    (get_or-insert_above ls at n 0 j later within),
+              ))
+        ]
+      ]
+
+  module _ (falling : AreFalling ls) (above : (k : ℕ) → k < at → n < get_or ls k 0)
+      (below : (k : ℕ) → at ≤ k → k < length ls → get_or ls k 0 < n) where
+    falls_with : (i j : ℕ) → i < j → j < length (insert ls at n) → get_or (insert ls at n) j 0 < get_or (insert ls at n) i 0
+    falls_with i j less h =
+        let long = length-insert ls at n within in
+        elim (inserted i (omega (arith, less, h))) [
+          | inl a ↦ elim (inserted j h) [
+            | inl b ↦ omega (arith, a.1, b.1, falling.fall i j less (omega (arith, b.0, within)))
+            | inr (inl b) ↦ omega (arith, a.1, b.1, above i a.0)
+            | inr (inr b) ↦ omega (arith, a.1, b.4, falling.fall i b.0 (omega (arith, a.0, b.2)) b.3)
+          ]
+          | inr (inl a) ↦ elim (inserted j h) [
+            | inl b ↦ absurd (omega (arith, a.0, b.0, less))
+            | inr (inl b) ↦ absurd (omega (arith, a.0, b.0, less))
+            | inr (inr b) ↦ omega (arith, a.1, b.4, below b.0 b.2 b.3)
+          ]
+          | inr (inr a) ↦ elim (inserted j h) [
+            | inl b ↦ absurd (omega (arith, a.1, a.2, b.0, less))
+            | inr (inl b) ↦ absurd (omega (arith, a.1, a.2, b.0, less))
+            | inr (inr b) ↦ omega (arith, a.4, b.4, falling.fall a.0 b.0 (omega (arith, a.1, b.1, less)) b.3)
+          ]
+        ]
+
+    few_with : n ≤ 128 → (i : ℕ) → i < length (insert ls at n) → get_or (insert ls at n) i 0 ≤ 128
+    few_with few i h =
+        elim (inserted i h) [
+          | inl a ↦ omega (arith, a.1, falling.few i (omega (arith, a.0, within)))
+          | inr (inl a) ↦ omega (arith, a.1, few)
+          | inr (inr a) ↦ omega (arith, a.4, falling.few a.0 a.3)
+        ]
+
+    pub falling_with : n ≤ 128 → AreFalling (insert ls at n)
+    falling_with few = record { fall = falls_with; few = few_with few }
+
+  pub kept_with : Keeps ls (insert ls at n)
+  kept_with len has =
+      let long = length-insert ls at n within in
+      elim (cases_lt has.0 at) [
+        | inl before ↦ (has.0, omega (arith, long, has.1), get_or-insert_below ls at n 0 has.0 before within ∙ has.2)
+        | inr past ↦ (has.0 + 1, omega (arith, long, has.1), get_or-insert_above ls at n 0 has.0 past within ∙ has.2)
+      ]
+
+  pub noted_with : HasLength (insert ls at n) n
+  noted_with = (at, omega (arith, length-insert ls at n within, within), get_or-insert_at ls at n 0 within)
+
+-- from the first length that isn't above another on, none is, and where that one isn't the other, all are below
+pub below_from : (ls : List ℕ) (at n : ℕ) → AreFalling ls → (at < length ls → get_or ls at 0 ≤ n)
+    → (at < length ls → ¬ (get_or ls at 0 ≡ n))
+    → (k : ℕ) → at ≤ k → k < length ls → get_or ls k 0 < n
+below_from ls at n falling here other k from within =
+    let inside : at < length ls = omega (arith, from, within) in
+    let first : get_or ls at 0 < n =
+    elim (cases_eq (get_or ls at 0) n) [
+      | inl same ↦ absurd (other inside same)
+      | inr apart ↦ omega (arith, here inside, apart)
+    ] in
+    elim (cases_eq k at) [
+      | inl same ↦ subst (λ i. get_or ls i 0 < n) (sym same) first
+      | inr apart ↦ omega (arith, falling.fall at k (omega (arith, from, apart)) within, first)
+    ]
+
+pub falling_none : AreFalling []
+falling_none = record { fall = λ i j less h. absurd (omega (arith, h)); few = λ i h. absurd (omega (arith, h)) }
+
+-- ---- places
+
+pub no_places : (index : Index) → index.places.entries ≡ [] → (k : Key) → place_at index k ≡ None
+no_places index none k = ap (lookup (λ q. is_eq (key_cmp k q))) none
+
+pub same_places : (old new : Index) → new.places.entries ≡ old.places.entries → (k : Key) → place_at new k ≡ place_at old k
+same_places old new same k = ap (lookup (λ q. is_eq (key_cmp k q))) same
+
+-- a key's place after another key got one
+put_cases : (old new : Index) (key k : Key) (n i : ℕ) → map.Updates key_cmp old.places new.places key (Some n) → place_at new k ≡ Some i
+    → ((key ≡ k) × (n ≡ i)) ⊎ (place_at old k ≡ Some i)
+put_cases old new key k n i update is =
+    let told : place_at new k ≡ cond (is_eq (key_cmp key k)) (Some n) (place_at old k) = update.0 k in
+    elim (cases_Bool (is_eq (key_cmp key k))) [
+      | inl here ↦ let got : place_at new k ≡ Some n = rw here at told in inl (key_same key k here, cc)
+      | inr apart ↦ let got : place_at new k ≡ place_at old k = rw apart at told in inr (sym got ∙ is)
+    ]
+
+put_other : (old new : Index) (key k : Key) (n i : ℕ) → map.Updates key_cmp old.places new.places key (Some n) → place_at old key ≡ None
+    → place_at old k ≡ Some i → place_at new k ≡ Some i
+put_other old new key k n i update new_key is =
+    let told : place_at new k ≡ cond (is_eq (key_cmp key k)) (Some n) (place_at old k) = update.0 k in
+    elim (cases_Bool (is_eq (key_cmp key k))) [
+      | inl here ↦ absurd (none-some i (sym new_key ∙ ap (place_at old) (key_same key k here) ∙ is))
+      | inr apart ↦ let got : place_at new k ≡ place_at old k = rw apart at told in got ∙ is
+    ]
+
+-- the lengths of all keys, after one more key
+pub lengths_put : (old new : Index) (key : Key) (n : ℕ) → AreLengths old → AreFalling new.lengths.items
+    → Keeps old.lengths.items new.lengths.items → HasLength new.lengths.items key.len
+    → map.Updates key_cmp old.places new.places key (Some n) → AreLengths new
+lengths_put old new key n are falling keeps noted update = record {
+  falling = falling;
+  each = λ k i is. elim (put_cases old new key k n i update is) [
+    | inl here ↦ subst (λ (q : Key). HasLength new.lengths.items q.len) here.0 noted
+    | inr was ↦ keeps k.len (are.each k i was)
+  ];
+}
+
+pub lengths_kept : (old new : Index) → AreLengths old → AreFalling new.lengths.items → Keeps old.lengths.items new.lengths.items
+    → new.places.entries ≡ old.places.entries → AreLengths new
+lengths_kept old new are falling keeps same = record {
+  falling = falling;
+  each = λ k i is. keeps k.len (are.each k i (sym (same_places old new same k) ∙ is));
+}
+
+-- ---- the longest key of an address
+
+-- none of the keys of the first lengths has a place
+abbrev pub HasNoneBefore : Index → ℕ → ℕ → Type 0
+HasNoneBefore index a n = (i : ℕ) → i < n → place_at index (key_at a (get_or index.lengths.items i 0)) ≡ None
+
+known : (o : Option ℕ) → ((i : ℕ) → o ≡ Some i → ⊥) → o ≡ None
+known None never = refl
+known (Some i) never = absurd (never i refl)
+
+pub longest_found : (index : Index) (a n i : ℕ) → AreLengths index → n < length index.lengths.items → HasNoneBefore index a n
+    → place_at index (key_at a (get_or index.lengths.items n 0)) ≡ Some i → IsLongest index a i
+longest_found index a n i are within none is =
+    let ls = index.lengths.items in
+    record {
+      len = get_or ls n 0;
+      is = is;
+      none_longer = λ longer above. known (place_at index (key_at a longer)) (λ j there.
+          let has = are.each (key_at a longer) j there in
+          elim (cases_lt has.0 n) [
+            | inl before ↦
+                none-some j (sym (none has.0 before) ∙ ap (λ l. place_at index (key_at a l)) has.2 ∙ there)
+            | inr past ↦ elim (cases_eq has.0 n) [
+              | inl same ↦ let e : get_or ls n 0 ≡ longer = ap (λ k. get_or ls k 0) (sym same) ∙ has.2 in omega (arith, e, above)
+              | inr apart ↦ omega (arith, are.falling.fall n has.0 (omega (arith, past, apart)) has.1, has.2, above)
+            ]
+          ]);
+    }
+
+pub longest_none : (index : Index) (a n : ℕ) → AreLengths index → length index.lengths.items ≤ n → HasNoneBefore index a n
+    → HasNoKey index a
+longest_none index a n are all none len =
+    known (place_at index (key_at a len)) (λ j there.
+    let has = are.each (key_at a len) j there in
+    none-some j (sym (none has.0 (omega (arith, has.1, all))) ∙ ap (λ l. place_at index (key_at a l)) has.2 ∙ there))
+
+-- ---- entries
+
+place_of : {X : Type 0} (xs : List X) (x : X) → Contains xs x → (k : ℕ) × (slice_get xs k ≡ Some x)
+place_of xs x c = (c.0, slice_get-get_or xs c.0 x c.1 ∙ ap Some c.2)
+
+contains_at : {X : Type 0} (xs : List X) (x : X) (k : ℕ) → slice_get xs k ≡ Some x → Contains xs x
+contains_at xs x k e = (k, slice_get_within xs k x e, get_or_from_slice_get xs k x x e)
+
+get_left : {X : Type 0} (xs : List X) (y x : X) (k : ℕ) → slice_get xs k ≡ Some x → slice_get (xs ++ y ∷ []) k ≡ Some x
+get_left [] y x k h = absurd (none-some x h)
+get_left (z ∷ xs) y x zero h = h
+get_left (z ∷ xs) y x (suc k) h = get_left xs y x k h
+
+get_last : {X : Type 0} (xs : List X) (y : X) → slice_get (xs ++ y ∷ []) (length xs) ≡ Some y
+get_last [] y = refl
+get_last (z ∷ xs) y = get_last xs y
+
+get_cases : {X : Type 0} (xs : List X) (y x : X) (k : ℕ) → slice_get (xs ++ y ∷ []) k ≡ Some x
+    → (slice_get xs k ≡ Some x) ⊎ ((k ≡ length xs) × (y ≡ x))
+get_cases [] y x zero h = inr (refl, cc)
+get_cases [] y x (suc k) h = absurd (none-some x h)
+get_cases (z ∷ xs) y x zero h = inl h
+get_cases (z ∷ xs) y x (suc k) h =
+    elim (get_cases xs y x k h) [
+      | inl old ↦ inl old
+      | inr new ↦ inr (ap suc new.0, new.1)
+    ]
+
+holds_by_key : (p : PrefixValue) (a len : ℕ) → key_of p ≡ key_at a len → Holds p a
+unfolding Holds
+holds_by_key p a len same =
+    let is_len : p.len ≡ len = ap (λ (k : Key). k.len) same in
+    let bits : p.value / 2 ^ (128 - p.len) ≡ a / 2 ^ (128 - len) = ap (λ (k : Key). k.bits) same in
+    sym (bits ∙ ap (λ l. a / 2 ^ (128 - l)) (sym is_len))
+
+key_by_holds : (p : PrefixValue) (a : ℕ) → Holds p a → key_of p ≡ key_at a p.len
+unfolding Holds
+key_by_holds p a held = λ i. record { len = p.len; bits = sym held i }
+
+one_prefix : (p q : PrefixValue) → IsPrefix p → IsPrefix q → key_of p ≡ key_of q → p ≡ q
+one_prefix p q is_p is_q same =
+    let len : p.len ≡ q.len = ap (λ (k : Key). k.len) same in
+    same_prefix p q (same_value p q q.value is_p is_q len (holds_by_key p q.value q.len same) (Holds_own_value q)) len
+
+module _ {T : Type 0} where
+  pub index_none : (index : Index) → ((k : Key) → place_at index k ≡ None) → IsIndex {T = T} [] index
+  index_none index none = record {
+    each = λ i e h. absurd (none-some e h);
+    leads = λ k i is. absurd (none-some i (sym (none k) ∙ is));
+  }
+
+  pub index_put : (es : List (PrefixValue × T)) (old new : Index) (p : PrefixValue) (t : T) → IsIndex es old
+      → place_at old (key_of p) ≡ None → map.Updates key_cmp old.places new.places (key_of p) (Some (length es))
+      → IsIndex (es ++ (p, t) ∷ []) new
+  index_put es old new p t is new_key update = record {
+    each = λ i e h. elim (get_cases es (p, t) e i h) [
+      | inl was ↦ put_other old new (key_of p) (key_of e.0) (length es) i update new_key (is.each i e was)
+      | inr last ↦ subst (λ n. place_at new (key_of e.0) ≡ Some n) (sym last.0)
+          (subst (λ (f : PrefixValue × T). place_at new (key_of f.0) ≡ Some (length es)) last.1 update.1)
+    ];
+    leads = λ k i h. elim (put_cases old new (key_of p) k (length es) i update h) [
+      | inl here ↦ ((p, t), subst (λ n. slice_get (es ++ (p, t) ∷ []) n ≡ Some (p, t)) here.1 (get_last es (p, t)), here.0)
+      | inr was ↦ let it = is.leads k i was in (it.0, get_left es (p, t) it.0 i it.1, it.2)
+    ];
+  }
+
+  pub index_same : (es : List (PrefixValue × T)) (old new : Index) → IsIndex es old
+      → ((k : Key) → place_at new k ≡ place_at old k) → IsIndex es new
+  index_same es old new is same = record {
+    each = λ i e h. same (key_of e.0) ∙ is.each i e h;
+    leads = λ k i h. is.leads k i (sym (same k) ∙ h);
+  }
+
+  -- ---- whether a prefix is there
+
+  has_by_place : (es : List (PrefixValue × T)) (index : Index) (p : PrefixValue) (i : ℕ) → IsTable es → IsIndex es index → IsPrefix p
+      → place_at index (key_of p) ≡ Some i → HasPrefix es p
+  has_by_place es index p i table is is_prefix at =
+      let it = is.leads (key_of p) i at in
+      let among = contains_at es it.0 i it.1 in
+      (it.0.1, subst (λ (q : PrefixValue). Contains es (q, it.0.1)) (one_prefix it.0.0 p (table.prefixes it.0 among) is_prefix it.2) among)
+
+  place_by_has : (es : List (PrefixValue × T)) (index : Index) (p : PrefixValue) → IsIndex es index → HasPrefix es p
+      → (i : ℕ) × (place_at index (key_of p) ≡ Some i)
+  place_by_has es index p is has = let at = place_of es (p, has.0) has.1 in (at.0, is.each at.0 (p, has.0) at.1)
+
+  pub has_tells : (es : List (PrefixValue × T)) (index : Index) (p : PrefixValue) (o : Option ℕ) (b : Bool) → IsTable es → IsIndex es index
+      → IsPrefix p → place_at index (key_of p) ≡ o → b ≡ is_some o → IsTrue b ↔ HasPrefix es p
+  has_tells es index p None b table is is_prefix at told =
+      (λ t. absurd (both_ways _ told t), λ h. absurd (let it = place_by_has es index p is h in none-some it.0 (sym at ∙ it.1)))
+  has_tells es index p (Some i) b table is is_prefix at told = (λ t. has_by_place es index p i table is is_prefix at, λ h. told)
+
+  pub new_key : (es : List (PrefixValue × T)) (index : Index) (p : PrefixValue) → IsTable es → IsIndex es index → IsPrefix p
+      → ¬ HasPrefix es p → place_at index (key_of p) ≡ None
+  new_key es index p table is is_prefix new =
+      known (place_at index (key_of p)) (λ i at. new (has_by_place es index p i table is is_prefix at))
+
+  -- ---- the best entry
+
+  pub best_by_longest : (es : List (PrefixValue × T)) (index : Index) (a i : ℕ) (e : PrefixValue × T) → IsIndex es index
+      → IsLongest index a i → slice_get es i ≡ Some e → IsBest es a e
+  best_by_longest es index a i e is longest at =
+      let it = is.leads (key_at a longest.len) i longest.is in
+      let same : it.0 ≡ e = some_same it.0 e (sym it.1 ∙ at) in
+      let key : key_of e.0 ≡ key_at a longest.len = subst (λ (f : PrefixValue × T). key_of f.0 ≡ key_at a longest.len) same it.2 in
+      record {
+        is_there = contains_at es e i at;
+        holds = holds_by_key e.0 a longest.len key;
+        none_longer = λ other c held.
+            let there = place_of es other c in
+            let found : place_at index (key_at a other.0.len) ≡ Some there.0 =
+            subst (λ (k : Key). place_at index k ≡ Some there.0) (key_by_holds other.0 a held) (is.each there.0 other there.1) in
+            let len : e.0.len ≡ longest.len = ap (λ (k : Key). k.len) key in
+            elim (cases_lt longest.len other.0.len) [
+              | inl longer ↦ absurd (none-some there.0 (sym (longest.none_longer other.0.len longer) ∙ found))
+              | inr not_longer ↦ omega (arith, not_longer, len)
+            ];
+      }
+    where
+      some_same : {X : Type 0} (x y : X) → Some x ≡ Some y → x ≡ y
+      some_same x y h = cc
+
+  pub place_within : (es : List (PrefixValue × T)) (index : Index) (a i : ℕ) → IsIndex es index → IsLongest index a i → i < length es
+  place_within es index a i is longest = let it = is.leads (key_at a longest.len) i longest.is in slice_get_within es i it.0 it.1
+
+  pub none_by_key : (es : List (PrefixValue × T)) (index : Index) (a : ℕ) → IsIndex es index → HasNoKey index a → HoldsNone es a
+  none_by_key es index a is none e c held =
+      let there = place_of es e c in
+      let found : place_at index (key_at a e.0.len) ≡ Some there.0 =
+      subst (λ (k : Key). place_at index k ≡ Some there.0) (key_by_holds e.0 a held) (is.each there.0 e there.1) in
+      none-some there.0 (sym (none e.0.len) ∙ found)
+
+  -- ---- the whole table
+
+  pub whole_put : (es now : List (PrefixValue × T)) (old new : Index) (key : Key) (p : PrefixValue) (t : T) → IsWhole es old → IsPrefix p
+      → ¬ HasPrefix es p → AreLengths new → key ≡ key_of p → now ≡ es ++ (p, t) ∷ []
+      → map.Updates key_cmp old.places new.places key (Some (length es)) → IsWhole now new
+  whole_put es now old new key p t whole is_prefix is_new lengths is_key is_now update =
+      subst (λ xs. IsWhole xs new) (sym is_now)
+      (record {
+        table = is_table_push es p t whole.table is_prefix is_new;
+        lengths = lengths;
+        places = index_put es old new p t whole.places (new_key es old p whole.table whole.places is_prefix is_new)
+            (subst (λ (k : Key). map.Updates key_cmp old.places new.places k (Some (length es))) is_key update);
+      })
+
+  pub whole_same : (es now : List (PrefixValue × T)) (old new : Index) → IsWhole es old → AreLengths new → now ≡ es
+      → ((k : Key) → place_at new k ≡ place_at old k) → IsWhole now new
+  whole_same es now old new whole lengths is_now same =
+      subst (λ xs. IsWhole xs new) (sym is_now)
+      (record { table = whole.table; lengths = lengths; places = index_same es old new whole.places same })
