@@ -93,7 +93,7 @@ unfoldable pub enhanced_in : Bool → List Interface → List ℕ → Result Blo
 enhanced_in little interfaces block =
     if nat_le (MIN_ENHANCED + filled (number_of little 4 (drop 20 block))) (length block)
     then packet_of (slice_get interfaces (number_of little 4 (drop 8 block))) ENHANCED_START
-        (number_of little 4 (drop 20 block)) (number_of little 4 (drop 24 block))
+    (number_of little 4 (drop 20 block)) (number_of little 4 (drop 24 block))
     else Err faults.Form
 
 -- how many bytes of a packet an interface keeps; a snaplen of 0 keeps all
