@@ -11,7 +11,8 @@ use std::marker::Model;
 /// Takes the frames of a pcapng file one by one, which is fed in pieces (own rule). It is seen as
 /// the number of bytes fed, those of them that no block has taken, what the blocks before say to
 /// those after (byte order and interfaces of the section, numbers of blocks and packets), and the
-/// fault that was met.
+/// fault that was met. A file begins with a section; a block before one is read with the highest
+/// byte first.
 #[derive(Drop)]
 pub struct NgReader {
     alloc: Global,
@@ -60,6 +61,19 @@ impl NgReader {
         }
     }
 
+    /// Lets go of the bytes that blocks have taken, where they are more than those left: so each
+    /// byte is moved once at most, on the average.
+    fn let_go(&mut self)
+        ensures { self.new ≡ self.old }
+    {
+        let at = self.mark.at;
+        if at > self.input.len() - at {
+            self.input.drain(..at);
+            self.gone += at;
+            self.mark.at = 0;
+        }
+    }
+
     /// Feeds the bytes that follow those fed so far. After want of memory the reader is as it was.
     /// (own rule)
     pub fn feed(&mut self, piece: &[u8]) -> Result<(), NoMemory>
@@ -67,6 +81,7 @@ impl NgReader {
         ensures ok { OnOk result (self.new ≡ after_feed self.old piece.now) }
         ensures err { OnErr result (self.new ≡ self.old) }
     {
+        self.let_go();
         self.input.extend_from_slice(piece)?;
         Ok(())
     }
