@@ -92,7 +92,7 @@ same_bytes true n xs ys ex ey hx hy e = same-low_first n xs ys ex ey hx hy e
 same_bytes false n xs ys ex ey hx hy e = same-high_first n xs ys ex ey hx hy e
 
 -- the number is in the first bytes
-number_of-take : (little : Bool) (n : ℕ) (xs : List ℕ) → number_of little n (take n xs) ≡ number_of little n xs
+pub number_of-take : (little : Bool) (n : ℕ) (xs : List ℕ) → number_of little n (take n xs) ≡ number_of little n xs
 unfolding number_of
 number_of-take true n xs = little_from-take 0 n n xs (omega arith)
 number_of-take false n xs = big_from-take 0 n n xs (omega arith)

@@ -72,9 +72,10 @@ fn by_version(alloc: Global, bytes: &[u8]) -> Result<Body, NoMemory>
     }
 }
 
-/// The packet in the captured bytes of a frame, by the link type.
+/// The packet in the captured bytes of a frame that is whole, by the link type: of an Ethernet
+/// frame by its EtherType, of a raw packet by its first half byte. (own rule)
 #[tactic(auto, unfolding(crate::specs::Frames::packet_in))]
-fn packet_in(alloc: Global, link: LinkType, bytes: &[u8]) -> Result<Body, NoMemory>
+pub fn packet_in(alloc: Global, link: LinkType, bytes: &[u8]) -> Result<Body, NoMemory>
     ensures { IfOk result (λ body. body ≡ packet_in link bytes.now) }
 {
     match link {

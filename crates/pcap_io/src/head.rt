@@ -61,8 +61,8 @@ fn magic_of(bytes: &[u8]) -> Option<Magic>
     Some(Magic { little, nanos })
 }
 
-/// What the frames of a link type hold; `BadLink` where it is none of the three.
-fn link_of(link: u32) -> Result<LinkType, CaptureFault>
+/// What the frames of a link type hold; `BadLink` where it is none of the three. (own rule)
+pub fn link_of(link: u32) -> Result<LinkType, CaptureFault>
     ensures { result ≡ link_of link }
 {
     if link == ETHERNET {

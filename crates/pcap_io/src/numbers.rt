@@ -45,9 +45,10 @@ pub(crate) const ETHERTYPE_V6: u16 = 0x86dd;
 /// The EtherType of IPv4 (RFC 894).
 pub(crate) const ETHERTYPE_V4: u16 = 0x0800;
 
-/// The number in the 2 bytes from a place on, in the byte order of a capture.
+/// The number in the 2 bytes from a place on, counted from 0; `little` says that the lowest byte
+/// comes first. (own rule)
 #[tactic(auto, unfolding(crate::specs::Numbers::number_of))]
-pub(crate) fn two_at(little: bool, bytes: &[u8], at: usize) -> u16
+pub fn two_at(little: bool, bytes: &[u8], at: usize) -> u16
     requires { at + 2 ≤ length bytes.now }
     ensures { result ≡ number_of little 2 (drop at bytes.now) }
 {
@@ -59,9 +60,10 @@ pub(crate) fn two_at(little: bool, bytes: &[u8], at: usize) -> u16
     }
 }
 
-/// The number in the 4 bytes from a place on, in the byte order of a capture.
+/// The number in the 4 bytes from a place on, counted from 0; `little` says that the lowest byte
+/// comes first. (own rule)
 #[tactic(auto, unfolding(crate::specs::Numbers::number_of))]
-pub(crate) fn four_at(little: bool, bytes: &[u8], at: usize) -> u32
+pub fn four_at(little: bool, bytes: &[u8], at: usize) -> u32
     requires { at + 4 ≤ length bytes.now }
     ensures { result ≡ number_of little 4 (drop at bytes.now) }
 {

@@ -1,0 +1,5 @@
+pub mod Prefix
+pub mod Steps
+pub mod Passed
+pub mod RunLemmas
+pub mod SpelledLemmas

@@ -1,0 +1,288 @@
+-- Blocks that a mark passes.
+use Rattle.std.proofs.Common.{◌≡◌, ℕ, ◌+◌, ◌-◌, ◌*◌, ◌<◌, ◌≤◌, List, [], ◌∷◌, ◌++◌, length, take, drop, Option, Some, None, Result, Ok, Err, refl, sym, ap, subst, ◌∙◌, arith, length-drop, length-take}
+use Rattle.std.proofs.lemmas.Bool.{eq-eqb, ne_eqb}
+use Rattle.std.proofs.lemmas.List.{drop-drop, take-take}
+use Rattle.pcap_io.specs.declared.frame.Body.{Body}
+use Rattle.pcap_io.specs.declared.frame.Frame.{Frame}
+use Rattle.pcap_io.specs.declared.numbers.TheConstants.{MAX_FRAMES}
+use Rattle.pcapng_io.specs.declared.block.BlockContent.{BlockContent}
+use Rattle.pcapng_io.specs.declared.block.BlockContent.TheVariants as blocks
+use Rattle.pcapng_io.specs.declared.block.BlockPacket.{BlockPacket}
+use Rattle.pcapng_io.specs.declared.block.Interface.{Interface}
+use Rattle.pcapng_io.specs.declared.block.WholeBlock.{WholeBlock}
+use Rattle.pcapng_io.specs.declared.fault.BlockFault.{BlockFault}
+use Rattle.pcapng_io.specs.declared.fault.BlockFault.TheVariants as faults
+use Rattle.pcapng_io.specs.declared.fault.NgFault.{NgFault}
+use Rattle.pcapng_io.specs.declared.fault.NgFault.TheVariants as ng
+use Rattle.pcapng_io.specs.declared.fault.NgFault.TheVariants.{FrameLimit}
+use Rattle.pcapng_io.specs.declared.mark.NgMark.{NgMark}
+use Rattle.pcapng_io.specs.declared.mark.PacketBlock.{PacketBlock}
+use Rattle.pcapng_io.specs.Blocks.{block_at, body_of}
+use Rattle.pcapng_io.specs.Reading.{NgPlace, Goes, Faulty, fault_in, after, frame_of, step_over, with_front, ended, reading}
+use Rattle.pcapng_io.specs.Taking.{NgSeen, ByFault, Refused, coming_with, coming}
+use Rattle.pcapng_io.specs.Passing.{place_of, Lies, IsRoom, Passes, BlocksPassed, IsEnd, IsFault, IsPacket, PassesTo, TakesOver}
+use Rattle.pcapng_io.proofs.Prefix.{Within, block_at-within}
+use Rattle.pcapng_io.proofs.Steps.{step-front, step_over-other, goes-more, fault-more}
+
+pub passed-start : (input : List ℕ) (m : NgMark) (described : List Interface) → Lies m described input
+    → BlocksPassed input m m described described []
+passed-start input m described lies = record {
+  lies = lies;
+  blocks = omega arith;
+  packets = omega arith;
+  same = λ more. refl;
+}
+
+-- the whole block at a mark
+abbrev pub IsWhole : List ℕ → NgMark → List Interface → WholeBlock → Type 0
+IsWhole input m described whole = block_at m.little (drop m.first described) (drop m.at input) ≡ Ok (Some whole)
+
+pub whole-within : (input : List ℕ) (m : NgMark) (described : List Interface) (whole : WholeBlock) → IsWhole input m described whole
+    → Within (drop m.at input) whole
+whole-within input m described whole is = block_at-within m.little (drop m.first described) (drop m.at input) whole is
+
+pub whole-room : (input : List ℕ) (m : NgMark) (described : List Interface) (whole : WholeBlock) → Lies m described input
+    → IsWhole input m described whole → IsRoom m described whole
+whole-room input m described whole lies is =
+    let within = whole-within input m described whole is in
+    let there = within.there in
+    let some = within.some in
+    let len = length-drop m.at input in
+    record {
+      at = omega (arith, len);
+      first = lies.first;
+      blocks = omega (arith, len);
+      packets = lies.packets;
+    }
+
+blocks-counted : (p : NgPlace) (b : BlockContent) → (after p b).blocks ≡ p.blocks + 1
+blocks-counted p (blocks.Section little) = refl
+blocks-counted p (blocks.Interface i) = refl
+blocks-counted p (blocks.Packet packet) = refl
+blocks-counted p blocks.Skipped = refl
+
+abbrev frames_count : BlockContent → ℕ
+frames_count (blocks.Section little) = 0
+frames_count (blocks.Interface i) = 0
+frames_count (blocks.Packet packet) = 1
+frames_count blocks.Skipped = 0
+
+packets-counted : (p : NgPlace) (b : BlockContent) → (after p b).packets ≡ p.packets + frames_count b
+packets-counted p (blocks.Section little) = omega arith
+packets-counted p (blocks.Interface i) = omega arith
+packets-counted p (blocks.Packet packet) = refl
+packets-counted p blocks.Skipped = omega arith
+
+-- a step over the block at a mark, whatever follows the input
+passes-step : (input : List ℕ) (old new : NgMark) (olds news : List Interface) (whole : WholeBlock) (frames : List Frame)
+    → IsWhole input old olds whole → Passes old new olds news whole
+    → step_over (place_of old olds) (drop old.at input) whole.total whole.block ≡ Goes frames (after (place_of old olds) whole.block) whole.total
+    → (more : List ℕ) → reading (place_of old olds) (drop old.at input ++ more)
+    ≡ with_front frames (reading (place_of new news) (drop new.at input ++ more))
+passes-step input old new olds news whole frames is p over more =
+    let place = place_of old olds in
+    goes-more place (after place whole.block) (drop old.at input) frames whole.total
+    (step-front place (drop old.at input) (Ok (Some whole)) is ∙ over) more
+    ∙ ap (λ q. with_front frames (reading q (drop whole.total (drop old.at input) ++ more))) (sym p.place)
+    ∙ ap (λ rest. with_front frames (reading (place_of new news) (rest ++ more))) (drop-drop whole.total old.at input)
+    ∙ ap (λ at. with_front frames (reading (place_of new news) (drop at input ++ more))) (sym p.at)
+
+-- the mark still lies in the input, and one block was counted
+passes-lies : (input : List ℕ) (old new : NgMark) (olds news : List Interface) (whole : WholeBlock) → Lies old olds input
+    → IsWhole input old olds whole → Passes old new olds news whole → old.packets + frames_count whole.block ≤ MAX_FRAMES
+    → Lies new news input × (12 * new.blocks + old.at ≤ 12 * old.blocks + new.at)
+    × (new.packets ≡ old.packets + frames_count whole.block)
+passes-lies input old new olds news whole lies is p few =
+    let within = whole-within input old olds whole is in
+    let there = within.there in
+    let some = within.some in
+    let len = length-drop old.at input in
+    let at = p.at in
+    let count : new.blocks ≡ old.blocks + 1 = ap (λ (q : NgPlace). q.blocks) p.place ∙ blocks-counted (place_of old olds) whole.block in
+    let packets : new.packets ≡ old.packets + frames_count whole.block =
+    ap (λ (q : NgPlace). q.packets) p.place ∙ packets-counted (place_of old olds) whole.block in
+    let lies_at = lies.at in
+    let lies_blocks = lies.blocks in (
+      record {
+        at = omega (arith, len);
+        first = p.first;
+        most = lies.most;
+        blocks = omega (arith, len);
+        packets = omega (arith, packets);
+      },
+      omega (arith, len),
+      packets,
+    )
+
+frames_count-other : (b : BlockContent) → ((packet : BlockPacket) → b ≡ blocks.Packet packet → ⊥) → frames_count b ≡ 0
+frames_count-other (blocks.Section little) other = refl
+frames_count-other (blocks.Interface i) other = refl
+frames_count-other (blocks.Packet packet) other = absurd (other packet refl)
+frames_count-other blocks.Skipped other = refl
+
+-- one more block that is no packet
+pub passed-other : (input : List ℕ) (start old new : NgMark) (starts olds news : List Interface) (whole : WholeBlock)
+    → BlocksPassed input start old starts olds [] → IsWhole input old olds whole → Passes old new olds news whole
+    → ((packet : BlockPacket) → whole.block ≡ blocks.Packet packet → ⊥) → BlocksPassed input start new starts news []
+passed-other input start old new starts olds news whole passed is p other =
+    let none = frames_count-other whole.block other in
+    let lies = passed.lies in
+    let few = lies.packets in
+    let next = passes-lies input old new olds news whole lies is p (omega (arith, none)) in
+    let before = passed.packets in
+    let counted = passed.blocks in
+    let one = next.1 in
+    let packets = next.2 in
+    record {
+      lies = next.0;
+      blocks = omega arith;
+      packets = omega (arith, none);
+      same = λ more. passed.same more
+          ∙ passes-step input old new olds news whole [] is p
+          (step_over-other (place_of old olds) (drop old.at input) whole.total whole.block other) more;
+    }
+
+-- ---- what stands at a mark
+
+abbrev pub IsFront : List ℕ → NgMark → List Interface → Result (Option WholeBlock) BlockFault → Type 0
+IsFront input m described r = block_at m.little (drop m.first described) (drop m.at input) ≡ r
+
+pub end-at : (input : List ℕ) (m : NgMark) (described : List Interface) → IsFront input m described (Ok None) → IsEnd input m described
+end-at input m described is = step-front (place_of m described) (drop m.at input) (Ok None) is
+
+pub fault-at : (input : List ℕ) (m : NgMark) (described : List Interface) (found : BlockFault) (fault : NgFault)
+    → IsFront input m described (Err found) → fault ≡ fault_in (m.blocks + 1) found → IsFault input m described fault
+fault-at input m described found fault is same =
+    rw same (step-front (place_of m described) (drop m.at input) (Err found) is)
+
+pub limit-at : (input : List ℕ) (m : NgMark) (described : List Interface) (found : PacketBlock) → IsPacket input m described found
+    → m.packets ≡ MAX_FRAMES → IsFault input m described FrameLimit
+limit-at input m described found is many =
+    step-front (place_of m described) (drop m.at input) _ is ∙ rw (eq-eqb m.packets MAX_FRAMES many) refl
+
+pub passes-shorter : (input : List ℕ) (old new : NgMark) (olds news : List Interface) (whole : WholeBlock) → IsWhole input old olds whole
+    → Passes old new olds news whole → length input - new.at < length input - old.at
+passes-shorter input old new olds news whole is p =
+    let within = whole-within input old olds whole is in
+    let there = within.there in
+    let some = within.some in
+    let at = p.at in
+    let len = length-drop old.at input in
+    omega (arith, len)
+
+-- a claim of each fault of the bytes
+pub by_block_fault : (found : BlockFault) (n : ℕ) (fault : NgFault) (P Q : Type 0) → fault ≡ fault_in n found → Q → ByFault fault P Q
+by_block_fault faults.Magic n fault P Q is q = rw is q
+by_block_fault faults.Form n fault P Q is q = rw is q
+by_block_fault faults.Version n fault P Q is q = rw is q
+by_block_fault faults.OldBlock n fault P Q is q = rw is q
+by_block_fault faults.Interface n fault P Q is q = rw is q
+
+-- interfaces that are kept over two calls
+pub kept-both : (xs ys zs : List Interface) → take (length xs) ys ≡ xs → take (length ys) zs ≡ ys → take (length xs) zs ≡ xs
+kept-both xs ys zs first second =
+    let len = length-take (length xs) ys in
+    let same = ap length first in
+    let below : length xs ≤ length ys = omega (arith, len, same) in
+    sym (take-take (length xs) (length ys) zs below) ∙ ap (take (length xs)) second ∙ first
+
+-- ---- the packet at a mark
+
+pub passes-some : (input : List ℕ) (old new : NgMark) (olds news : List Interface) (gave : Option PacketBlock) (found : PacketBlock)
+    → PassesTo input old new olds news (Ok gave) → gave ≡ Some found → PassesTo input old new olds news (Ok (Some found))
+passes-some input old new olds news gave found passed is = subst (λ o. PassesTo input old new olds news (Ok o)) is passed
+
+abbrev pub block_of : PacketBlock → WholeBlock
+block_of found = record { total = found.total; block = blocks.Packet found.packet }
+
+pub packet-within : (input : List ℕ) (m : NgMark) (described : List Interface) (found : PacketBlock) → IsPacket input m described found
+    → (found.total ≤ length (drop m.at input)) × (found.packet.start + found.packet.captured ≤ found.total)
+packet-within input m described found is =
+    let within = whole-within input m described (block_of found) is in (within.there, within.packet)
+
+abbrev pub mark_after : NgMark → ℕ → NgMark
+mark_after m total =
+    record { at = m.at + total; little = m.little; first = m.first; blocks = m.blocks + 1; packets = m.packets + 1 }
+
+packet-over : (p : NgPlace) (bytes : List ℕ) (found : PacketBlock) → (p.packets ≡ MAX_FRAMES → ⊥)
+    → step_over p bytes found.total (blocks.Packet found.packet)
+    ≡ Goes (frame_of p found.packet (take found.total bytes) ∷ []) (after p (blocks.Packet found.packet)) found.total
+packet-over p bytes found few = rw (ne_eqb p.packets MAX_FRAMES few) refl
+
+-- one more block, with a packet
+pub passed-packet : (input : List ℕ) (start old : NgMark) (starts olds : List Interface) (found : PacketBlock) (body : Body)
+    → BlocksPassed input start old starts olds [] → IsPacket input old olds found → (old.packets ≡ MAX_FRAMES → ⊥)
+    → body ≡ body_of found.packet (take found.total (drop old.at input))
+    → BlocksPassed input start (mark_after old found.total) starts olds (record { number = old.packets + 1; body = body } ∷ [])
+passed-packet input start old starts olds found body passed is few same =
+    let whole = block_of found in
+    let new = mark_after old found.total in
+    let lies = passed.lies in
+    let most = lies.packets in
+    let p : Passes old new olds olds whole = record { at = refl; first = lies.first; place = refl } in
+    let next = passes-lies input old new olds olds whole lies is p (omega arith) in
+    let counted = passed.blocks in
+    let before = passed.packets in
+    let one = next.1 in
+    let frame : Frame = record { number = old.packets + 1; body = body } in
+    record {
+      lies = next.0;
+      blocks = omega arith;
+      packets = omega arith;
+      same = λ more. passed.same more
+          ∙ rw same (passes-step input old new olds olds whole (frame_of (place_of old olds) found.packet (take found.total (drop old.at input)) ∷ []) is p
+          (packet-over (place_of old olds) (drop old.at input) found few) more);
+    }
+
+-- ---- what `take` gives of a fault
+
+pub by_fault : (fault : NgFault) (P Q : Type 0) → (fault ≡ ng.NoMemory → ⊥) → Q → ByFault fault P Q
+by_fault ng.NoMemory P Q not q = absurd (not refl)
+by_fault (ng.NgMagic n) P Q not q = q
+by_fault (ng.NgBlock n) P Q not q = q
+by_fault (ng.NgVersion n) P Q not q = q
+by_fault (ng.NgOldBlock n) P Q not q = q
+by_fault (ng.NgInterface n) P Q not q = q
+by_fault ng.FrameLimit P Q not q = q
+
+pub from_fault : (fault : NgFault) (P Q : Type 0) → (fault ≡ ng.NoMemory → ⊥) → ByFault fault P Q → Q
+from_fault ng.NoMemory P Q not q = absurd (not refl)
+from_fault (ng.NgMagic n) P Q not q = q
+from_fault (ng.NgBlock n) P Q not q = q
+from_fault (ng.NgVersion n) P Q not q = q
+from_fault (ng.NgOldBlock n) P Q not q = q
+from_fault (ng.NgInterface n) P Q not q = q
+from_fault ng.FrameLimit P Q not q = q
+
+-- a fault that was met after blocks were passed
+pub refused-after : (input : List ℕ) (old new : NgMark) (olds news : List Interface) (fault : NgFault) (more : List ℕ)
+    → BlocksPassed input old new olds news [] → IsFault input new news fault
+    → reading (place_of old olds) (drop old.at input ++ more) ≡ ended (Faulty fault)
+refused-after input old new olds news fault more passed is =
+    passed.same more ∙ fault-more (place_of new news) (drop new.at input) fault is more
+
+pub none_from : (o : Option NgFault) → ((fault : NgFault) → o ≡ Some fault → ⊥) → o ≡ None
+none_from None not = refl
+none_from (Some fault) not = absurd (not fault refl)
+
+-- the same of a reader that stands at the first mark
+pub refused-coming : (r : NgSeen) (input : List ℕ) (old new : NgMark) (olds news : List Interface) (fault : NgFault) (more : List ℕ)
+    → r.fault ≡ None → r.place ≡ place_of old olds → r.rest ≡ drop old.at input
+    → BlocksPassed input old new olds news [] → IsFault input new news fault → coming r more ≡ ended (Faulty fault)
+refused-coming r input old new olds news fault more none place rest passed is =
+    ap (λ f. coming_with f r.place (r.rest ++ more)) none
+    ∙ ap (λ p. reading p (r.rest ++ more)) place
+    ∙ ap (λ bytes. reading (place_of old olds) (bytes ++ more)) rest
+    ∙ refused-after input old new olds news fault more passed is
+
+-- a reader that stood at the first mark met a fault
+pub refused-met : (old new : NgSeen) (input : List ℕ) (first last : NgMark) (olds news : List Interface) (fault : NgFault)
+    → old.fault ≡ None → old.place ≡ place_of first olds → old.rest ≡ drop first.at input → new.fed ≡ old.fed → new.fault ≡ Some fault
+    → (fault ≡ ng.NoMemory → ⊥) → TakesOver input first last olds news (Err fault) → ByFault fault (new ≡ old) (Refused old new fault)
+refused-met old new input first last olds news fault none place rest fed met not took =
+    let passed = from_fault fault (Unit {0}) (BlocksPassed input first last olds news [] × IsFault input last news fault) not took in
+    by_fault fault (new ≡ old) (Refused old new fault) not (record {
+      fed = fed;
+      met = met;
+      comes = λ more. refused-coming old input first last olds news fault more none place rest passed.0 passed.1;
+    })

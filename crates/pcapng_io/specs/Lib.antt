@@ -1,0 +1,6 @@
+pub mod Blocks
+pub mod Reading
+pub mod Taking
+pub mod Passing
+pub mod Runs
+pub mod Spelled
