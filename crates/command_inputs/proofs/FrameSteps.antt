@@ -36,7 +36,7 @@ fault_cut count number rest some within is =
     let below : (count == MAX_FRAMES) ≡ false = grind (arith, within) in
     rw (more, below, is) refl
 
-fault-limit : (count : ℕ) (rest : List ℕ) → 0 < length rest → count ≡ MAX_FRAMES
+pub fault-limit : (count : ℕ) (rest : List ℕ) → 0 < length rest → count ≡ MAX_FRAMES
     → Some (refusals.Capture FrameLimit) ≡ fault_behind count rest
 fault-limit count rest some full =
     let more : (length rest == 0) ≡ false = search rules in

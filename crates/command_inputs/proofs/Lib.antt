@@ -4,3 +4,5 @@ pub mod FrameSteps
 pub mod Judging
 pub mod PublicLaws
 pub mod Tracing
+pub mod FramesFound
+pub mod FrameLoops

@@ -1,3 +1,5 @@
 pub mod Choices
 pub mod Judgements
 pub mod Packets
+pub mod Frames
+pub mod Sources

@@ -7,14 +7,18 @@
 #![tactic(auto)]
 
 mod choices;
+mod frames;
 mod judge;
 mod limits;
 mod packets;
+mod sources;
 
 pub use choices::{choices_of, schedule_of};
+pub use frames::{Found, Frames, Tells, tell_frames};
 pub use judge::{
     cert_of_file, intent_of_file, intent_of_text, network_of_file, network_of_text, node_of_name,
     trace_of_file,
 };
 pub use limits::{MAX_CHOICES, MAX_INPUT_BYTES, MAX_SCHEDULE};
 pub use packets::{Next, Packets, next_of, packets_of_input, unread_of};
+pub use sources::{BareFrames, CaptureFrames, PacketFrames};

@@ -3,3 +3,5 @@ pub mod Head
 pub mod Frames
 pub mod Capture
 pub mod Taking
+pub mod Lending
+pub mod Lender

@@ -52,6 +52,11 @@ pub enum TakeFault {
     NoMemory,
 }
 
+/// 65,536 frames were taken, and a further byte is there. (own rule)
+#[derive(Debug, Clone, Copy, PartialEq, Eq, Error)]
+#[error("more than 65536 frames")]
+pub struct FrameLimit;
+
 /// Bytes are left over, and they are no whole frame. (own rule)
 #[derive(Debug, Clone, Copy, PartialEq, Eq, Error)]
 #[error("frame {number} is cut")]

@@ -1,0 +1,126 @@
+-- Loops over frames: what is written of those that are done, with what is to be written of the others.
+use Rattle.std.proofs.Common.{◌≡◌, ℕ, ◌+◌, List, [], ◌∷◌, ◌++◌, Option, Some, Ok, Err, IfSome, refl, sym, ap, subst, ◌∙◌, append_assoc, append-nil}
+use Rattle.std.specs.List.{flat_map}
+use Rattle.std.proofs.lemmas.Grind.{flat_map-append}
+use Rattle.pcap_io.specs.declared.frame.Frame.{Frame}
+use Rattle.srx_edge.specs.Sinks.{SinkSeen, sent}
+use Rattle.srx_edge.specs.Steps.{Memory, Whole, Wrote}
+use Rattle.srx_edge.proofs.PublicLaws.{sent_both, cut_whole}
+use Rattle.command_output.specs.declared.halt.Failure.{Failure}
+use Rattle.command_output.specs.declared.halt.Failure.TheVariants as failures
+use Rattle.command_output.specs.declared.refusal.Refusal.{Refusal}
+use Rattle.command_output.specs.Answers.{ending_of_failure}
+use Rattle.command_inputs.specs.Frames.{FramesSeen, FindsFrame}
+use Rattle.command_output.specs.Pieces.{Piece, Sinks, gone, WroteAll}
+use Rattle.command_output.proofs.PublicLaws.{all_longer, all_behind, all_both, all_wanting}
+use Rattle.command_output.proofs.PublicLaws.{wrote_longer, wrote_after}
+
+-- of the frames that were to come some are done, and the others are still to come
+pub record FramesLeft (whole now : FramesSeen) : Type 0 where
+  pub done : List Frame
+  pub frames : whole.frames ≡ done ++ now.frames
+  pub end : now.end ≡ whole.end
+
+abbrev pub all_left : (whole : FramesSeen) → FramesLeft whole whole
+all_left whole = record { done = []; frames = refl; end = refl }
+
+module _ (whole old new : FramesSeen) (p : FramesLeft whole old) (h : FindsFrame old new) where
+  pub frames-on : whole.frames ≡ (p.done ++ h.frame ∷ []) ++ new.frames
+  frames-on = p.frames ∙ (ap (λ (fs : List Frame). p.done ++ fs) h.front ∙ sym (append_assoc p.done (h.frame ∷ []) new.frames))
+
+  abbrev pub one_done : FramesLeft whole new
+  one_done = record { done = p.done ++ h.frame ∷ []; frames = frames-on; end = h.end ∙ p.end }
+
+  -- what all frames give, by those that are done, this one and the others
+
+  pub flat_one : {A : Type 0} (f : Frame → List A) → flat_map f (p.done ++ h.frame ∷ []) ≡ flat_map f p.done ++ f h.frame
+  flat_one {A} f = flat_map-append f p.done (h.frame ∷ []) ∙ ap (λ (last : List A). flat_map f p.done ++ last) (append-nil (f h.frame))
+
+  flat-each : {A : Type 0} (f : Frame → List A)
+      → (flat_map f p.done ++ f h.frame) ++ flat_map f new.frames ≡ flat_map f whole.frames
+  flat-each {A} f =
+      ap (λ (all : List A). all ++ flat_map f new.frames) (sym (flat_one f))
+      ∙ (sym (flat_map-append f (p.done ++ h.frame ∷ []) new.frames) ∙ ap (λ (fs : List Frame). flat_map f fs) (sym frames-on))
+
+  -- at hand is the frame that was found
+  pub at_hand : (P : Frame → Type 0) → IfSome new.at P → P h.frame
+  at_hand P some = subst (λ (o : Option Frame). IfSome o P) h.at some
+
+-- at the end all are done
+pub frames_done : (whole now : FramesSeen) (p : FramesLeft whole now) → now.frames ≡ [] → p.done ≡ whole.frames
+frames_done whole now p none = sym (p.frames ∙ (ap (λ (fs : List Frame). p.done ++ fs) none ∙ append-nil p.done))
+
+flat-left : {A : Type 0} (f : Frame → List A) (whole now : FramesSeen) (p : FramesLeft whole now)
+    → flat_map f p.done ++ flat_map f now.frames ≡ flat_map f whole.frames
+flat-left f whole now p = sym (flat_map-append f p.done now.frames) ∙ ap (λ (fs : List Frame). flat_map f fs) (sym p.frames)
+
+-- what is written of the frames that are done went out on one sink
+
+pub record FramesTold (f : Frame → List ℕ) (whole now : FramesSeen) (first sink : SinkSeen) : Type 0 where
+  pub left : FramesLeft whole now
+  pub went : sink ≡ sent (flat_map f left.done) first
+
+module _ (f : Frame → List ℕ) (whole old new : FramesSeen) (first mid sink : SinkSeen)
+    (p : FramesTold f whole old first mid) (h : FindsFrame old new) where
+  pub told_one : IfSome new.at (λ frame. sink ≡ sent (f frame) mid) → FramesTold f whole new first sink
+  told_one next = record {
+    left = one_done whole old new p.left h;
+    went = sent_both (flat_map f p.left.done) (f h.frame) first mid sink p.went
+        (at_hand whole old new p.left h (λ frame. sink ≡ sent (f frame) mid) next)
+        ∙ ap (λ (bytes : List ℕ). sent bytes first) (sym (flat_one whole old new p.left h f));
+  }
+
+  pub one_cut : (failure : Failure) → IfSome new.at (λ frame. Wrote (ending_of_failure failure) (f frame) mid sink)
+      → Wrote (ending_of_failure failure) (flat_map f whole.frames) first sink
+  one_cut failure wrote = subst (λ (bytes : List ℕ). Wrote (ending_of_failure failure) bytes first sink)
+      (flat-each whole old new p.left h f)
+      (wrote_longer failure (flat_map f p.left.done ++ f h.frame) (flat_map f new.frames) first sink
+      (wrote_after failure (flat_map f p.left.done) (f h.frame) first mid sink p.went
+      (at_hand whole old new p.left h (λ frame. Wrote (ending_of_failure failure) (f frame) mid sink) wrote)))
+
+pub told_to_the_end : (f : Frame → List ℕ) (whole now : FramesSeen) (first sink : SinkSeen)
+    → FramesTold f whole now first sink → now.frames ≡ [] → sink ≡ sent (flat_map f whole.frames) first
+told_to_the_end f whole now first sink p none =
+    p.went ∙ ap (λ (frames : List Frame). sent (flat_map f frames) first) (frames_done whole now p.left none)
+
+-- memory was wanting before the next frame
+pub told_in_part : (f : Frame → List ℕ) (whole now : FramesSeen) (first sink : SinkSeen) → FramesTold f whole now first sink
+    → Wrote Memory (flat_map f whole.frames) first sink
+told_in_part f whole now first sink p = subst (λ (bytes : List ℕ). Wrote Memory bytes first sink) (flat-left f whole now p.left)
+    (wrote_longer failures.NoMemory (flat_map f p.left.done) (flat_map f now.frames) first sink
+    (cut_whole (flat_map f p.left.done) first sink p.went))
+
+-- the same of pieces for both sinks
+
+pub record FramesWalked (f : Frame → List Piece) (whole now : FramesSeen) (first sinks : Sinks) : Type 0 where
+  pub left : FramesLeft whole now
+  pub went : sinks ≡ gone (flat_map f left.done) first
+
+module _ (f : Frame → List Piece) (whole old new : FramesSeen) (first mid sinks : Sinks)
+    (p : FramesWalked f whole old first mid) (h : FindsFrame old new) where
+  pub walked_one : IfSome new.at (λ frame. sinks ≡ gone (f frame) mid) → FramesWalked f whole new first sinks
+  walked_one next = record {
+    left = one_done whole old new p.left h;
+    went = all_both (flat_map f p.left.done) (f h.frame) first mid sinks p.went
+        (at_hand whole old new p.left h (λ frame. sinks ≡ gone (f frame) mid) next)
+        ∙ ap (λ (pieces : List Piece). gone pieces first) (sym (flat_one whole old new p.left h f));
+  }
+
+  pub walk_cut : (failure : Failure) → IfSome new.at (λ frame. WroteAll (ending_of_failure failure) (f frame) mid sinks)
+      → WroteAll (ending_of_failure failure) (flat_map f whole.frames) first sinks
+  walk_cut failure wrote = subst (λ (pieces : List Piece). WroteAll (ending_of_failure failure) pieces first sinks)
+      (flat-each whole old new p.left h f)
+      (all_longer failure (flat_map f p.left.done ++ f h.frame) (flat_map f new.frames) first sinks
+      (all_behind failure (flat_map f p.left.done) (f h.frame) first mid sinks p.went
+      (at_hand whole old new p.left h (λ frame. WroteAll (ending_of_failure failure) (f frame) mid sinks) wrote)))
+
+pub walked_to_the_end : (f : Frame → List Piece) (whole now : FramesSeen) (first sinks : Sinks)
+    → FramesWalked f whole now first sinks → now.frames ≡ [] → sinks ≡ gone (flat_map f whole.frames) first
+walked_to_the_end f whole now first sinks p none =
+    p.went ∙ ap (λ (frames : List Frame). gone (flat_map f frames) first) (frames_done whole now p.left none)
+
+pub walked_in_part : (f : Frame → List Piece) (whole now : FramesSeen) (first sinks : Sinks) → FramesWalked f whole now first sinks
+    → WroteAll Memory (flat_map f whole.frames) first sinks
+walked_in_part f whole now first sinks p = subst (λ (pieces : List Piece). WroteAll Memory pieces first sinks)
+    (flat-left f whole now p.left)
+    (all_wanting (flat_map f p.left.done) (flat_map f now.frames) first sinks p.went)

@@ -1,0 +1,16 @@
+-- Where the frames of an input come from: they are those of a bare packet or of a capture (own rules).
+use Rattle.command_inputs.specs.declared.sources.BareFrames.{BareFrames}
+use Rattle.command_inputs.specs.declared.sources.CaptureFrames.{CaptureFrames}
+use Rattle.command_inputs.specs.declared.sources.PacketFrames.{PacketFrames}
+use Rattle.command_inputs.specs.declared.sources.PacketFrames.TheVariants as sources
+use Rattle.command_inputs.specs.Frames.{FramesSeen, bare_by, seen_at}
+
+abbrev pub bare_seen : BareFrames → FramesSeen
+bare_seen f = bare_by f.given f.packet.now
+
+abbrev pub capture_seen : CaptureFrames → FramesSeen
+capture_seen f = seen_at f.at f.reader
+
+abbrev pub packets_seen : PacketFrames → FramesSeen
+packets_seen (sources.Bare f) = bare_seen f
+packets_seen (sources.Capture f) = capture_seen f
