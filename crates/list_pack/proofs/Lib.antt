@@ -11,6 +11,8 @@ pub mod PathsToLists
 pub mod ListsToPaths
 pub mod ListSteps
 pub mod PathLaws
+pub mod StepLists
+pub mod Solutions
 pub mod SidLoops
 pub mod ListMaking
 pub mod ValueSums

@@ -5,6 +5,9 @@ pub use Rattle.list_pack.proofs.Costing.{at_most-both, under-none, under-itself,
 pub use Rattle.list_pack.proofs.Leasts.{under-behind, under-last, attained}
 pub use Rattle.list_pack.proofs.CostSplits.{cost-splits, Split, split-of, cost-made}
 pub use Rattle.list_pack.proofs.PathLaws.{list-same, path-list, list-path}
+pub use Rattle.list_pack.proofs.ListSteps.{steps-prefixes}
+pub use Rattle.list_pack.proofs.StepLists.{steps-list}
+pub use Rattle.list_pack.proofs.Solutions.{solutions-same}
 pub use Rattle.list_pack.proofs.FlatSids.{same-self, same-is, flat-lists}
 pub use Rattle.list_pack.proofs.Ruled.{legal-flat}
 pub use Rattle.list_pack.proofs.Valued.{legal-valued}

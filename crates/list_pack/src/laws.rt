@@ -1,19 +1,21 @@
-//! Laws of costs, potentials, paths as lists, and SIDs of lists, each the contract of a function that does nothing.
+//! Laws of costs, potentials, paths as lists, and SIDs of lists, each the contract of a function
+//! that does nothing.
 
 ghost use Rattle.std.specs.Prelude.{◌≡◌, ◌<◌, ℕ, List, Option, Some, None, length, map, take};
 ghost use Rattle.list_pack.specs.declared.types.Cost.{Cost};
 ghost use Rattle.list_pack.specs.declared.types.State.{State};
 ghost use Rattle.list_pack.specs.Value.{LegsValue, KeepsLaws};
 ghost use Rattle.list_pack.specs.Costs.{Move, cost_of, start, IsState};
-ghost use Rattle.list_pack.specs.Least.{IsLeast, IsGoodAt, step_of};
+ghost use Rattle.list_pack.specs.Least.{IsLeast, IsGoodAt, IsSolution, step_of};
+ghost use Rattle.list_pack.specs.declared.types.Solution.{Solution};
 ghost use Rattle.net_model.specs.Network.{Network};
 ghost use Rattle.list_places.specs.Lists.{IsLegal};
 ghost use Rattle.list_pack.specs.declared.types.Container.{Container};
 ghost use Rattle.net_model.specs.Flat.{IsFlat};
 ghost use Rattle.net_model.specs.Rules.{IsNetwork};
-ghost use Rattle.list_pack.specs.SidLists.{AreListSids, list_sid, list_in, prefixes_in};
+ghost use Rattle.list_pack.specs.SidLists.{AreListSids, list_sid, list_in, prefixes_in, steps_in};
 ghost use Rattle.list_pack.specs.Paths.{hops_of, sids_of_moves, opened, split_cost, SuitsLists};
-ghost use Rattle.list_pack.specs.PathLists.{IsListOfPath, before_last, IsPathAlong};
+ghost use Rattle.list_pack.specs.PathLists.{IsListOfPath, before_last, IsPathAlong, list_of};
 
 /// Where potentials are good at all states, a path whose cost is the potential of the state that it
 /// starts from is a least one: its edges are tight. (own rule)
@@ -69,6 +71,20 @@ pub fn a_legal_list_is_a_path()
         hops_of v 0 None sids ≡ Some hops →
         map (λ (n : ℕ). (v.shape n).prefix) sids ≡ take (length sids) (prefixes_in list) →
         before_last list < length sids → IsPathAlong v list sids hops }
+{}
+
+/// What a search has to find is one: which states are listed, in what order and with what costs,
+/// and the first least path. (own rule)
+pub fn a_search_has_one_solution()
+    ensures { (v : LegsValue) (s t : Solution) → IsSolution v s → IsSolution v t → s ≡ t }
+{}
+
+/// A legal list is the list of its own steps: the rules of lists say which of its containers are
+/// full and which hold CSIDs alone, so no other legal list has the same steps (RFC 9800 sections
+/// 6.2 to 6.4, and own rule).
+pub fn a_legal_list_is_the_list_of_its_steps()
+    ensures { (net : Network) (list : List Container) → IsLegal (list_in net list) →
+        list_of net (steps_in list) ≡ list }
 {}
 
 /// Each SID of a flat network stands on its prefix as lists know it: it suits its block, and one

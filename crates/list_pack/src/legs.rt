@@ -18,10 +18,9 @@ pub trait Legs {
         ensures value { result ≡ (seen self.now).steps }
         ensures laws { KeepsLaws (seen self.now) };
 
-    /// The SIDs that may be executed at a position, at most `steps`: those at the nodes where the
-    /// walk may stand after so many steps which have no title or whose title is that of the last of
-    /// these steps; each once, in the order of prefix value, prefix length and node; at most 128.
-    /// (own rule)
+    /// The SIDs that may be executed last at a position, at most `steps`: each once, in the order
+    /// of prefix value, prefix length and node; at most 128. Who implements this says which they
+    /// are. (own rule)
     fn sids_at(&self, position: u32) -> &[u32]
         requires { position ≤ (seen self.now).steps }
         ensures { result.now ≡ (seen self.now).sids_at position };
@@ -31,24 +30,25 @@ pub trait Legs {
         requires { IsSid (seen self.now) sid }
         ensures { result ≡ (seen self.now).shape sid };
 
-    /// The leg from the SID that was executed last at a position, none at the start, to a next SID:
-    /// there exactly where for all choices a packet to the next SID is taken to it and executed
-    /// there, and both SIDs are middle. None for a position above `steps`, for no SID at a position
-    /// above 0, for a SID that is not one of the position, and for a next SID of no position. (own
-    /// rule)
+    /// The leg from the SID that was executed last at a position, none at the start, to a next SID,
+    /// if there is one; who implements this says when, as for all choices of equal next hops. Both
+    /// SIDs are middle. By the laws of legs there is none for a position above `steps`, for no SID
+    /// at a position above 0, for a SID that is not one of the position, and for a next SID of no
+    /// position. (own rule)
     fn leg(&self, position: u32, via: Option<u32>, next: u32) -> Option<Leg>
         ensures { result ≡ (seen self.now).leg position via next };
 
-    /// How often the hop limit is lowered on the way to the last SID: there exactly where for all
-    /// choices that SID exposes the packet inside after exactly the remaining steps. None for the
-    /// arguments for which `leg` is. (own rule)
+    /// How often the hop limit is lowered on the way to the last SID, if there is a way; who
+    /// implements this says when. None for the arguments for which `leg` is by the laws of legs,
+    /// and for a next SID that is not one of the last position. (own rule)
     fn finish(&self, position: u32, via: Option<u32>, next: u32) -> Option<u32>
         ensures { result ≡ (seen self.now).finish position via next };
 }
 
-/// Legs that mean something: their paths are the legal lists of a network that realize what the
-/// legs are for, and the least path is the least list. What the search and certificates do needs
-/// no meaning. (own rule)
+/// Legs that mean something: each path of theirs is a legal list of a network that realizes what
+/// the legs are for with the path's hops as its need, and for each legal list that realizes it
+/// there is a path of as many containers and of no more hops. So the least path is the least list.
+/// What the search and certificates do needs no meaning. (own rule)
 pub trait ListLegs: Legs {
     /// The network of the lists. (own rule)
     ghost network: { Self → Network };
