@@ -4,3 +4,4 @@ pub mod Compiling
 pub mod PublicLaws
 pub mod Reporting
 pub mod Printing
+pub mod OneOutput

@@ -1,2 +1,3 @@
 -- The lemmas that crates above may cite.
 pub use Rattle.compile_commands.proofs.Compiling.{valued}
+pub use Rattle.compile_commands.proofs.OneOutput.{WantsOne, files-one, compile-one}

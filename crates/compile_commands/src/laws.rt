@@ -1,5 +1,9 @@
-//! What `check` says of what `compile` printed.
+//! What `check` says of what `compile` printed, and that this is one.
 
+ghost use Rattle.std.specs.Prelude.{◌≡◌, ℕ, List};
+ghost use Rattle.command_output.specs.Pieces.{Output};
+ghost use Rattle.command_output.specs.Shape.{Held};
+ghost use Rattle.compile_commands.specs.Compile.{compile_shape};
 ghost use Rattle.compile_commands.specs.Printed.{CheckConfirmsCompile};
 
 use net_reader::networks_keep_the_rules;
@@ -15,3 +19,11 @@ pub fn check_confirms_what_compile_prints()
 {
     networks_keep_the_rules();
 }
+
+/// With one description and one intent `compile` has one output, whatever the input is: one list, its
+/// numbers and one certificate, or one refusal. (own rule)
+pub fn compile_has_one_output()
+    ensures { (file intent : List ℕ) (held : Held) (input other : List ℕ) (a b : Output)
+        → (compile_shape file intent).wants held input a
+        → (compile_shape file intent).wants held other b → a ≡ b }
+{}

@@ -1,8 +1,7 @@
--- Walks that hand over under every row of choices, without a SID that binds a policy, and the path that is to be shown of them.
-use Rattle.std.proofs.Common.{◌≡◌, ℕ, ◌+◌, ◌-◌, ◌<◌, ◌≤◌, ◌⊎◌, inl, inr, true, false, List, [], ◌∷◌, length, take, map, Option, Some, refl, sym, ◌∙◌, ap, subst, arith}
+-- Walks that hand over under every row of choices, without a SID that binds a policy.
+use Rattle.std.proofs.Common.{◌≡◌, ℕ, ◌+◌, ◌-◌, ◌<◌, ◌⊎◌, inl, inr, true, false, List, [], ◌∷◌, length, Option, Some, refl, sym, ◌∙◌, ap, subst, arith}
 use Rattle.std.specs.List.{All}
 use Rattle.std.proofs.lemmas.Bool.{false≢true, and_parts}
-use Rattle.v6_addr.specs.Address.{PrefixValue}
 use Rattle.srv6_rules.specs.declared.sid.Csid.{Csid}
 use Rattle.srv6_rules.specs.declared.sid.Csid.TheVariants as csids
 use Rattle.srv6_rules.specs.declared.sid.SidEntry.{SidEntry}
@@ -14,19 +13,16 @@ use Rattle.net_model.specs.Network.{Network}
 use Rattle.walk_rules.specs.declared.place.Place.{Place}
 use Rattle.walk_rules.specs.Treatment.{goes}
 use Rattle.intent_reader.specs.declared.intent.Step.{Step}
-use Rattle.intent_reader.specs.declared.intent.Intent.{Intent}
 use Rattle.list_places.specs.Places as lists
-use Rattle.list_places.specs.Places.{Tunnel, active, behind_of, sids_from, next_of, StandsOn, Along}
+use Rattle.list_places.specs.Places.{active, StandsOn}
 use Rattle.leg_table.specs.Trace.{Handed, handed_over}
 use Rattle.leg_table.specs.Tasks.{matches}
 use Rattle.leg_table.specs.Ride.{Ride, with_hop_limit}
-use Rattle.leg_table.specs.Sids.{is_binding, prefix_at}
-use Rattle.leg_table.specs.Realizes.{path_need}
+use Rattle.leg_table.specs.Sids.{is_binding}
 use Rattle.leg_table.proofs.AllWays as ways
 use Rattle.leg_table.proofs.AllWays.{yes, hands-every}
-use Rattle.leg_table.proofs.ListPlaces.{before_from}
 use Rattle.leg_table.proofs.Handing.{walk-same, RideWalk}
-use Rattle.leg_table.proofs.Single.{Hands-over, ride-over}
+use Rattle.leg_table.proofs.LegsOver.{Hands-over, ride-over}
 
 module _ (net : Network) where
   -- no SID of these binds a policy
@@ -63,21 +59,8 @@ module _ (net : Network) where
       shift : (pick : ℕ → ℕ) (c d : ℕ) → pick (0 + c + d - c) ≡ pick (0 + d)
       shift pick c d = ap pick (omega arith)
 
--- SIDs in a row, those of the first prefixes of a place's list, up to one in the last container, with what the path through them needs
-pub record PathFrom (net : Network) (intent : Intent) (position : ℕ) (via : Option ℕ) (place : Place) (x : lists.Place)
-    (ps : List PrefixValue) (hop : ℕ) (p : Packet) : Type 0 where
-  pub first : ℕ
-  pub more : List ℕ
-  pub need : ℕ
-  pub names : map (prefix_at net) (first ∷ more) ≡ take (length (first ∷ more)) ps
-  pub few : length (first ∷ more) ≤ length ps
-  pub last : before_from x < length (first ∷ more)
-  pub is_path : path_need net intent position via (first ∷ more) ≡ Some need
-  pub below : need < hop
-  pub executes : (pick : ℕ → ℕ) (taken : ℕ) (h : Handed) → Hands-over net place (V6 p) pick taken h → h.sids ≡ first ∷ more
-
 -- a SID of NEXT-CSID goes on
-pub moved-goes : (s : SidEntry) (t : lists.Place) → StandsOn s (active t) → (p : Packet)
+pub moved-goes : (s : SidEntry) (t : lists.ListPlace) → StandsOn s (active t) → (p : Packet)
     → (goes_on s ≡ true) ⊎ (shifts_at s p ≡ true) → goes_on s ≡ true
 moved-goes s t on p (inl goes) = goes
 moved-goes s t on p (inr shifts) = on.next (next-is s.csid (and_parts (is_next s.csid) _ shifts).0)

@@ -18,7 +18,7 @@ use Rattle.leg_table.proofs.Options.{map-some}
 use Rattle.leg_table.proofs.Choices.{then_row, then_row-later}
 use Rattle.leg_table.proofs.Handing.{handed-stage, walk-same}
 
-abbrev pub yes : List Step → walks.Step → Bool
+abbrev pub yes : List Step → walks.Stage → Bool
 yes ts s = true
 
 module _ (net : Network) where

@@ -25,7 +25,7 @@ Goes-map (outcomes.Hand n how family) t E f h = h
 Goes-map outcomes.Local t E f h = absurd h
 Goes-map (outcomes.Drop reason error) t E f h = absurd h
 
-module _ (net : Network) (end : List Step → walks.Step → Bool) where
+module _ (net : Network) (end : List Step → walks.Stage → Bool) where
   -- a row of choices for every list of choices
   abbrev AllPicks : List Step → Place → Content → Type 0
   AllPicks ts place content = (pick : ℕ → ℕ) → (fuel : ℕ) × Rides end ts (walk_of fuel net (Some place) content pick 0)

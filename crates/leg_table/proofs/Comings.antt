@@ -42,7 +42,7 @@ use Rattle.leg_table.proofs.RideFacts.{ride-facts, StartFacts, start-facts}
 use Rattle.leg_table.proofs.ListPlaces.{address-at}
 use Rattle.leg_table.proofs.StrictLaws.{into-stands}
 use Rattle.leg_table.proofs.Handing.{RideWalk, ride-walk}
-use Rattle.leg_table.proofs.Single.{Hands-over, none-dropped, again-over}
+use Rattle.leg_table.proofs.LegsOver.{Hands-over, none-dropped, again-over}
 use Rattle.leg_table.proofs.Segments.{behind-again, into-prefix, LeftBehind, meets-behind}
 use Rattle.leg_table.proofs.AllHands.{Unbound, Hands, hands-ways, hands-along, moved-goes}
 
@@ -52,7 +52,7 @@ module _ (net : Network) (network : IsNetwork net) (flat : IsFlat net) (facts : 
   keeps = keeps_from_network net network
 
   -- where a packet that is handed over comes to: the ride to the next SID, and what stands there
-  pub record Comes (position : ℕ) (via : Option ℕ) (x : lists.Place) (q : PrefixValue) (hop : ℕ) (p : Packet) (place : Place) : Type 0 where
+  pub record Comes (position : ℕ) (via : Option ℕ) (x : lists.ListPlace) (q : PrefixValue) (hop : ℕ) (p : Packet) (place : Place) : Type 0 where
     pub ride : Ride
     pub sid : SidEntry
     pub there : slice_get net.sids ride.sid ≡ Some sid
@@ -67,7 +67,7 @@ module _ (net : Network) (network : IsNetwork net) (flat : IsFlat net) (facts : 
     pub along : Along tunnel x (hop - ride.lowered) (with_hop_limit (p.hop_limit - ride.lowered) p)
     pub hands : Hands net ride.place (V6 (with_hop_limit (p.hop_limit - ride.lowered) p)) ride.left
 
-  comes-by : (position : ℕ) (via : Option ℕ) (x : lists.Place) (q : PrefixValue) (hop : ℕ) (p : Packet) (place : Place)
+  comes-by : (position : ℕ) (via : Option ℕ) (x : lists.ListPlace) (q : PrefixValue) (hop : ℕ) (p : Packet) (place : Place)
       → StartFacts net intent position place → Along tunnel x hop p → active x ≡ list_sid net q → IsSidPrefix net q
       → Hands net place (V6 p) (drop position intent.steps) → (o : Option Ride)
       → ride_of net p.destination (drop position intent.steps) place ≡ o → RideEnds net yes p o → Comes position via x q hop p place
@@ -102,7 +102,7 @@ module _ (net : Network) (network : IsNetwork net) (flat : IsFlat net) (facts : 
         hands = hands-along net ts place p r w hands;
       }
 
-  pub comes : (position : ℕ) (via : Option ℕ) (x : lists.Place) (q : PrefixValue) (hop : ℕ) (p : Packet) (place : Place)
+  pub comes : (position : ℕ) (via : Option ℕ) (x : lists.ListPlace) (q : PrefixValue) (hop : ℕ) (p : Packet) (place : Place)
       → is_start net intent position via ≡ true → place_from net intent via ≡ Some place
       → Along tunnel x hop p → active x ≡ list_sid net q → IsSidPrefix net q
       → 0 < hop → Hands net place (V6 p) (drop position intent.steps) → Comes position via x q hop p place
@@ -119,7 +119,7 @@ module _ (net : Network) (network : IsNetwork net) (flat : IsFlat net) (facts : 
   there-packet p r = with_hop_limit (p.hop_limit - r.lowered) p
 
   -- it goes on from there
-  pub record Goes-on (x y : lists.Place) (hop : ℕ) (p : Packet) (ride : Ride) (sid : SidEntry) (r : Packet) : Type 0 where
+  pub record Goes-on (x y : lists.ListPlace) (hop : ℕ) (p : Packet) (ride : Ride) (sid : SidEntry) (r : Packet) : Type 0 where
     pub middle : takes_step sid ≡ true
     pub high : 1 < hop - ride.lowered
     pub next : next_of x ≡ Some y
@@ -131,7 +131,7 @@ module _ (net : Network) (network : IsNetwork net) (flat : IsFlat net) (facts : 
     pub hands : Hands net (place_behind ride.sid sid) (V6 r) rest
 
   -- a SID that binds a policy is not executed
-  binds-not : (position : ℕ) (via : Option ℕ) (x : lists.Place) (q : PrefixValue) (hop : ℕ) (p : Packet) (place : Place)
+  binds-not : (position : ℕ) (via : Option ℕ) (x : lists.ListPlace) (q : PrefixValue) (hop : ℕ) (p : Packet) (place : Place)
       → (c : Comes position via x q hop p place) → (number : ℕ) → behaviour_policy c.sid.behaviour ≡ Some number → (after : Packet)
       → step_of net c.ride.place (V6 (there-packet p c.ride)) 0
       ≡ goes (outcomes.Again c.ride.sid (onward_from c.ride.sid c.sid.behaviour)) (V6 after) → ⊥
@@ -147,7 +147,7 @@ module _ (net : Network) (network : IsNetwork net) (flat : IsFlat net) (facts : 
       absurd (false≢true (sym first ∙ is))
 
   -- what is handed over behind the execution
-  goes-over : (position : ℕ) (via : Option ℕ) (x : lists.Place) (q : PrefixValue) (hop : ℕ) (p r : Packet) (place : Place)
+  goes-over : (position : ℕ) (via : Option ℕ) (x : lists.ListPlace) (q : PrefixValue) (hop : ℕ) (p r : Packet) (place : Place)
       → (c : Comes position via x q hop p place)
       → ((choice : ℕ) → step_of net c.ride.place (V6 (there-packet p c.ride)) choice
       ≡ goes (outcomes.Again c.ride.sid (onward_from c.ride.sid c.sid.behaviour)) (V6 r))
@@ -166,7 +166,7 @@ module _ (net : Network) (network : IsNetwork net) (flat : IsFlat net) (facts : 
             (subst (Unbound net) (sym (ap (λ (h : Handed). h.sids) over.2)) hand.3),
       )
 
-  goes-onwards : (position : ℕ) (via : Option ℕ) (x y : lists.Place) (q : PrefixValue) (hop : ℕ) (p r : Packet) (place : Place)
+  goes-onwards : (position : ℕ) (via : Option ℕ) (x y : lists.ListPlace) (q : PrefixValue) (hop : ℕ) (p r : Packet) (place : Place)
       → (c : Comes position via x q hop p place) → takes_step c.sid ≡ true → 1 < hop - c.ride.lowered → next_of x ≡ Some y
       → Along tunnel y (hop - c.ride.lowered - 1) r
       → ((choice : ℕ) → step_of net c.ride.place (V6 (there-packet p c.ride)) choice
@@ -188,14 +188,14 @@ module _ (net : Network) (network : IsNetwork net) (flat : IsFlat net) (facts : 
       }
 
   -- what comes of the packet where it comes to: it is exposed, or goes on
-  pub data Treats (position : ℕ) (via : Option ℕ) (x : lists.Place) (q : PrefixValue) (hop : ℕ) (p : Packet) (place : Place)
+  pub data Treats (position : ℕ) (via : Option ℕ) (x : lists.ListPlace) (q : PrefixValue) (hop : ℕ) (p : Packet) (place : Place)
       (c : Comes position via x q hop p place) : Type 0 where
     Ended : (f : Family) (bytes : List ℕ)
         → at_sid c.sid (allow_of (slice_get net.nodes c.ride.place.node)) (there-packet p c.ride) ≡ Exposed f bytes
         → Treats position via x q hop p place c
-    Moved : (y : lists.Place) (r : Packet) → Goes-on x y hop p c.ride c.sid r → Treats position via x q hop p place c
+    Moved : (y : lists.ListPlace) (r : Packet) → Goes-on x y hop p c.ride c.sid r → Treats position via x q hop p place c
 
-  pub treats : (position : ℕ) (via : Option ℕ) (x : lists.Place) (q : PrefixValue) (hop : ℕ) (p : Packet) (place : Place)
+  pub treats : (position : ℕ) (via : Option ℕ) (x : lists.ListPlace) (q : PrefixValue) (hop : ℕ) (p : Packet) (place : Place)
       → (c : Comes position via x q hop p place) → Treats position via x q hop p place c
   treats position via x q hop p place c = by_end (at_sid c.sid allow b) refl
     where

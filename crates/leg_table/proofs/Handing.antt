@@ -81,10 +81,10 @@ module _ (net : Network) where
   walk-same zero o content pick qick taken uaken same = refl
   walk-same (suc more) None content pick qick taken uaken same = refl
   walk-same (suc more) (Some place) content pick qick taken uaken same =
-      let stage : ℕ → walks.Step = λ c. record { place = place; before = content; gave = step_of net place content c } in
+      let stage : ℕ → walks.Stage = λ c. record { place = place; before = content; gave = step_of net place content c } in
       let at_first : pick taken ≡ qick uaken = first_same taken uaken pick qick (same 0) in
       let gave = step_of net place content (pick taken) in
-      ap (λ (rest : List walks.Step). stage (pick taken) ∷ rest)
+      ap (λ (rest : List walks.Stage). stage (pick taken) ∷ rest)
       (walk-same more (next_place net place gave.outcome) gave.after pick qick (taken + decisions gave.outcome)
       (uaken + decisions gave.outcome)
       (later taken uaken (decisions gave.outcome) pick qick same))

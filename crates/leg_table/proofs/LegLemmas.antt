@@ -46,7 +46,7 @@ value-alone s is =
 
 module _ (net : Network) (keeps : Keeps net) (intent : Intent) (is_intent : IsIntent net intent) where
   -- a way for all choices is a ride by look-ups
-  choices-ride : (end : List Step → walks.Step → Bool) (position : ℕ) (place : Place) (p : Packet) → StartFacts net intent position place
+  choices-ride : (end : List Step → walks.Stage → Bool) (position : ℕ) (place : Place) (p : Packet) → StartFacts net intent position place
       → 0 < p.hop_limit
       → ForAllChoices net end (drop position intent.steps) place (V6 p)
       ↔ RideEnds net end p (ride_of net p.destination (drop position intent.steps) place)
@@ -75,11 +75,11 @@ module _ (net : Network) (keeps : Keeps net) (intent : Intent) (is_intent : IsIn
   place-from (Some place) P h = (place, refl, h)
 
   -- the ends of a ride that is there
-  ends-at : (end : List Step → walks.Step → Bool) (p : Packet) (o : Option Ride) (r : Ride) → o ≡ Some r
+  ends-at : (end : List Step → walks.Stage → Bool) (p : Packet) (o : Option Ride) (r : Ride) → o ≡ Some r
       → RideEnds net end p o ↔ RideEnds net end p (Some r)
   ends-at end p o r e = (λ h. subst (RideEnds net end p) e h, λ h. subst (RideEnds net end p) (sym e) h)
 
-  ride-is_there : (end : List Step → walks.Step → Bool) (p : Packet) (o : Option Ride) → RideEnds net end p o → (r : Ride) × (o ≡ Some r)
+  ride-is_there : (end : List Step → walks.Stage → Bool) (p : Packet) (o : Option Ride) → RideEnds net end p o → (r : Ride) × (o ≡ Some r)
   ride-is_there end p None h = absurd h
   ride-is_there end p (Some r) h = (r, refl)
 

@@ -3,9 +3,9 @@ use Rattle.std.proofs.Common.{◌≡◌, ℕ, ◌-◌, ◌<◌, ◌≤◌, Bool,
 use Rattle.std.specs.Prelude.{◌↔◌, IsTrue, IsSome, not, position}
 use Rattle.std.specs.Option.{option_map}
 use Rattle.std.proofs.lemmas.Bool.{false≢true, and_parts, eq-eqb}
-use Rattle.std.proofs.lemmas.Option.{none-some, slice_get-get_or, slice_get_within}
-use Rattle.v6_addr.specs.Address.{PrefixValue, Holds, IsInside, is_inside}
-use Rattle.v6_addr.proofs.PublicLaws.{is_inside_is, Holds_own_value}
+use Rattle.std.proofs.lemmas.Option.{none-some}
+use Rattle.v6_addr.specs.Address.{PrefixValue, Holds}
+use Rattle.v6_addr.proofs.PublicLaws.{Holds_own_value}
 use Rattle.srv6_rules.specs.declared.sid.Csid.{Csid}
 use Rattle.srv6_rules.specs.declared.sid.Csid.TheVariants.{Replace}
 use Rattle.srv6_rules.specs.declared.sid.SidEntry.{SidEntry}
@@ -13,60 +13,27 @@ use Rattle.srv6_rules.specs.Behaviours.{goes_on}
 use Rattle.net_model.specs.declared.parts.Block.{Block}
 use Rattle.net_model.specs.Network.{Network}
 use Rattle.net_model.specs.Rules.{block_of, block_len_of}
-use Rattle.net_model.specs.Keeps.{Keeps, IsBlockOf, SuitsBlock}
-use Rattle.net_model.proofs.PublicLaws.{block_of-is, position_item, position-None}
+use Rattle.net_model.specs.Keeps.{Keeps, SuitsBlock}
 use Rattle.intent_reader.specs.declared.intent.Intent.{Intent}
 use Rattle.list_places.specs.Lists.{SidBlock, block_len, csid_len_in}
 use Rattle.list_pack.specs.declared.types.Shape.{Shape}
 use Rattle.list_pack.specs.Value.{IsSid, same_block}
 use Rattle.list_pack.specs.Paths.{SuitsLists}
-use Rattle.list_pack.specs.SidLists.{AreListSids, list_sid, sid_block}
+use Rattle.list_pack.specs.SidLists.{AreListSids, block_at, list_sid, sid_block}
 use Rattle.leg_table.specs.Sids.{binds, takes_step, is_sid_at, sid_suits, sids_of, step_before, node_at}
-use Rattle.leg_table.specs.Table.{block_at, shape_by, shape_of}
+use Rattle.leg_table.specs.Table.{shape_by, shape_of}
 use Rattle.leg_table.specs.Value.{legs_value}
 use Rattle.leg_table.proofs.Options.{some-same}
 use Rattle.leg_table.proofs.Positions.{are-sids}
-
--- an item that is among others has a place
-place-of : {X : Type 0} (xs : List X) (x : X) → Contains xs x → (i : ℕ) × (slice_get xs i ≡ Some x)
-place-of xs x h = (h.0, slice_get-get_or xs h.0 x h.1 ∙ ap Some h.2)
-
-among : {X : Type 0} (xs : List X) (i : ℕ) (x : X) → slice_get xs i ≡ Some x → Contains xs x
-among xs i x e = (i, slice_get_within xs i x e, some-same (get_or xs i x) x (sym (slice_get-get_or xs i x (slice_get_within xs i x e)) ∙ e))
+use Rattle.leg_table.proofs.Shapes.{numbered, has-number}
 
 module _ (net : Network) (keeps : Keeps net) where
-  -- ---- blocks by their numbers
-
-  -- the block of a number is the one that the prefix lies in
-  pub record IsNumberOf (p : PrefixValue) (i : ℕ) : Type 0 where
-    pub block : Block
-    pub is_there : slice_get net.blocks i ≡ Some block
-    pub is_block : block_of net.blocks p ≡ Some block
-
-  number-of : (p : PrefixValue) (i : ℕ) → block_at net.blocks p ≡ Some i → IsNumberOf p i
-  number-of p i e =
-      let got = position_item (λ (b : Block). is_inside p b.prefix) net.blocks i e in
-      let inside : IsInside p got.0.prefix = (is_inside_is p got.0.prefix).0 got.2 in
-      by got.0 got.1 inside (block_of net.blocks p) refl (block_of-is net.blocks p)
-    where
-      by : (b : Block) → slice_get net.blocks i ≡ Some b → IsInside p b.prefix → (o : Option Block) → block_of net.blocks p ≡ o
-          → IsBlockOf net.blocks p o → IsNumberOf p i
-      by b there inside None f is = absurd (is b (among net.blocks i b there) inside)
-      by b there inside (Some c) f is =
-          let place = place-of net.blocks c is.0 in
-          let same : i ≡ place.0 = keeps.apart i place.0 p.value b c there place.1 inside.1 is.1.1 in
-          let one : b ≡ c = some-same b c (sym there ∙ ap (slice_get net.blocks) same ∙ place.1) in
-          record { block = b; is_there = there; is_block = f ∙ ap Some (sym one) }
-
   no-number : (p : PrefixValue) → block_at net.blocks p ≡ None → block_of net.blocks p ≡ None
-  no-number p e = by (block_of net.blocks p) refl (block_of-is net.blocks p)
+  no-number p e = by (block_of net.blocks p) refl
     where
-      by : (o : Option Block) → block_of net.blocks p ≡ o → IsBlockOf net.blocks p o → block_of net.blocks p ≡ None
-      by None f is = f
-      by (Some c) f is =
-          let place = place-of net.blocks c is.0 in
-          let no = position-None (λ (b : Block). is_inside p b.prefix) net.blocks e place.0 c place.1 in
-          absurd (false≢true (sym no ∙ (is_inside_is p c.prefix).1 is.1))
+      by : (o : Option Block) → block_of net.blocks p ≡ o → block_of net.blocks p ≡ None
+      by None f = f
+      by (Some c) f = let i = has-number net keeps p c f in absurd (none-some i.0 (sym e ∙ i.1))
 
   -- ---- the shape of a SID, and the SID of lists on its prefix
 
@@ -86,8 +53,8 @@ module _ (net : Network) (keeps : Keeps net) where
         λ h. absurd (false≢true (subst (λ (q : Option SidBlock). IsSome q) (ap (option_map sid_block) (no-number p e)) h)),
       )
       by (Some i) e =
-          let is = number-of p i e in (
-            λ h. subst (λ (q : Option SidBlock). IsSome q) (sym (some-block is.block p is.is_block)) refl,
+          let is = numbered net keeps p i e in (
+            λ h. subst (λ (q : Option SidBlock). IsSome q) (sym (some-block is.0 p is.2)) refl,
             λ h. refl,
           )
 
@@ -104,28 +71,24 @@ module _ (net : Network) (keeps : Keeps net) where
           → IsTrue (same_block o r) ↔ ((list_sid net p).block ≡ (list_sid net q).block)
       by None r e f some = absurd (false≢true some)
       by (Some i) None e f some =
-          let is = number-of p i e in (
+          let is = numbered net keeps p i e in (
             λ h. absurd (false≢true h),
-            λ h. absurd (none-some (sid_block is.block)
-                (sym (ap (option_map sid_block) (no-number q f)) ∙ sym h ∙ some-block is.block p is.is_block)),
+            λ h. absurd (none-some (sid_block is.0) (sym (ap (option_map sid_block) (no-number q f)) ∙ sym h ∙ some-block is.0 p is.2)),
           )
       by (Some i) (Some j) e f some =
-          let one = number-of p i e in
-          let two = number-of q j f in (
+          let one = numbered net keeps p i e in
+          let two = numbered net keeps q j f in (
             λ h.
                 let same : i ≡ j = eqb-true i j h in
-                let block : one.block ≡ two.block
-                = some-same one.block two.block (sym one.is_there ∙ ap (slice_get net.blocks) same ∙ two.is_there) in
-                some-block one.block p one.is_block ∙ ap (λ (b : Block). Some (sid_block b)) block
-                ∙ sym (some-block two.block q two.is_block),
+                let block : one.0 ≡ two.0 = some-same one.0 two.0 (sym one.1 ∙ ap (slice_get net.blocks) same ∙ two.1) in
+                some-block one.0 p one.2 ∙ ap (λ (b : Block). Some (sid_block b)) block ∙ sym (some-block two.0 q two.2),
             λ h.
-                let block : sid_block one.block ≡ sid_block two.block
-                = some-same (sid_block one.block) (sid_block two.block)
-                (sym (some-block one.block p one.is_block) ∙ h ∙ some-block two.block q two.is_block) in
-                let prefix : one.block.prefix ≡ two.block.prefix = ap (λ (b : SidBlock). b.prefix) block in
-                let own = Holds_own_value one.block.prefix in
-                eq-eqb i j (keeps.apart i j one.block.prefix.value one.block two.block one.is_there two.is_there own
-                (subst (λ (x : PrefixValue). Holds x one.block.prefix.value) prefix own)),
+                let block : sid_block one.0 ≡ sid_block two.0
+                = some-same (sid_block one.0) (sid_block two.0) (sym (some-block one.0 p one.2) ∙ h ∙ some-block two.0 q two.2) in
+                let prefix : one.0.prefix ≡ two.0.prefix = ap (λ (b : SidBlock). b.prefix) block in
+                let own = Holds_own_value one.0.prefix in
+                eq-eqb i j (keeps.apart i j one.0.prefix.value one.0 two.0 one.1 two.1 own
+                (subst (λ (x : PrefixValue). Holds x one.0.prefix.value) prefix own)),
           )
 
   csid-len : (s : SidEntry) (o : Option Block) → block_of net.blocks s.prefix ≡ o → SuitsBlock s.csid s o → s.block_len ≡ block_len_of o

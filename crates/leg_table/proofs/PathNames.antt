@@ -1,5 +1,5 @@
 -- Paths of legs in a network, as paths of the search and along lists: their hops, SIDs and prefixes.
-use Rattle.std.proofs.Common.{◌≡◌, ℕ, zero, suc, ◌+◌, ◌≤◌, Bool, true, false, ◌&&◌, List, [], ◌∷◌, ◌++◌, length, map, All, Option, Some, None, slice_get, refl, sym, ◌∙◌, ap, arith}
+use Rattle.std.proofs.Common.{◌≡◌, ℕ, zero, suc, ◌+◌, ◌≤◌, Bool, true, false, ◌&&◌, List, [], ◌∷◌, length, map, All, Option, Some, None, slice_get, refl, sym, ◌∙◌, ap, arith}
 use Rattle.std.specs.Prelude.{take, if◌then◌else◌}
 use Rattle.std.specs.Option.{option_map}
 use Rattle.std.proofs.lemmas.List.Elements.{All-nil, All-cons}
@@ -7,14 +7,12 @@ use Rattle.v6_addr.specs.Address.{PrefixValue}
 use Rattle.srv6_rules.specs.declared.sid.SidEntry.{SidEntry}
 use Rattle.net_model.specs.Network.{Network}
 use Rattle.intent_reader.specs.declared.intent.Intent.{Intent}
-use Rattle.list_pack.specs.declared.types.Container.{Container}
-use Rattle.list_pack.specs.declared.types.Container.TheVariants as containers
 use Rattle.list_pack.specs.declared.types.Leg.{Leg}
 use Rattle.list_pack.specs.declared.types.PathStep.{PathStep}
 use Rattle.list_pack.specs.Costs.{Move}
 use Rattle.list_pack.specs.Least.{step_of}
 use Rattle.list_pack.specs.Paths.{hops_of, with_hops, sids_of_moves}
-use Rattle.list_pack.specs.SidLists.{IsSidPrefix, stays, prefixes_of, prefixes_in, steps_of, steps_in}
+use Rattle.list_pack.specs.SidLists.{IsSidPrefix}
 use Rattle.leg_table.specs.Leg.{leg_of, finish_of, is_start, leg_behind, finish_behind, ride_to}
 use Rattle.leg_table.specs.Realizes.{path_need}
 use Rattle.leg_table.specs.Sids.{is_middle, is_last, sid_goes_on, sid_exposes, prefix_by, prefix_at}
@@ -99,7 +97,7 @@ module _ (net : Network) (intent : Intent) where
 
   -- ---- prefixes and steps
 
-  shape-prefix : (n : ℕ) → (shape_of net n).prefix ≡ prefix_at net n
+  pub shape-prefix : (n : ℕ) → (shape_of net n).prefix ≡ prefix_at net n
   shape-prefix n = by (slice_get net.sids n)
     where
       by : (o : Option SidEntry) → (shape_by net.blocks o).prefix ≡ prefix_by o
@@ -118,26 +116,6 @@ module _ (net : Network) (intent : Intent) where
   moves-prefixes (m ∷ ms) =
       ap (λ (p : PrefixValue). p ∷ map (λ (q : PathStep). q.prefix) (map (step_of (legs_value net intent)) ms)) (shape-prefix m.sid)
       ∙ ap (λ (ps : List PrefixValue). prefix_at net m.sid ∷ ps) (moves-prefixes ms)
-
-stay-prefixes : (ps : List PrefixValue) → map (λ (p : PathStep). p.prefix) (map stays ps) ≡ ps
-stay-prefixes [] = refl
-stay-prefixes (p ∷ ps) = ap (λ (qs : List PrefixValue). p ∷ qs) (stay-prefixes ps)
-
-container-prefixes : (c : Container) → map (λ (p : PathStep). p.prefix) (steps_of c) ≡ prefixes_of c
-container-prefixes (containers.Full first more) = ap (λ (qs : List PrefixValue). first ∷ qs) (stay-prefixes more)
-container-prefixes (containers.Packed first more) = ap (λ (qs : List PrefixValue). first ∷ qs) (stay-prefixes more)
-
-map-joined : {X Y : Type 0} (f : X → Y) (xs ys : List X) → map f (xs ++ ys) ≡ map f xs ++ map f ys
-map-joined f [] ys = refl
-map-joined f (x ∷ xs) ys = ap (λ (zs : List _). f x ∷ zs) (map-joined f xs ys)
-
--- the prefixes of a list's steps are the list's
-pub steps-prefixes : (list : List Container) → map (λ (p : PathStep). p.prefix) (steps_in list) ≡ prefixes_in list
-steps-prefixes [] = refl
-steps-prefixes (c ∷ cs) =
-    map-joined (λ (p : PathStep). p.prefix) (steps_of c) (steps_in cs)
-    ∙ ap (λ (ps : List PrefixValue). ps ++ map (λ (p : PathStep). p.prefix) (steps_in cs)) (container-prefixes c)
-    ∙ ap (λ (ps : List PrefixValue). prefixes_of c ++ ps) (steps-prefixes cs)
 
 pub take-all : {X : Type 0} (xs : List X) (n : ℕ) → length xs ≤ n → take n xs ≡ xs
 take-all [] zero h = refl

@@ -1,4 +1,5 @@
--- The lemmas that crates above may cite: each proves a law that a public function has for its contract.
+-- The lemmas that crates above may cite: those that prove the laws of public functions, and what further kinds of legs need, which is the same
+-- for all kinds: paths by the laws of one leg, places of lists, shapes, the SIDs of a position, executions, hop limits and inner packets.
 pub use Rattle.leg_table.proofs.Choices.{choices-every}
 pub use Rattle.leg_table.proofs.Rides.{every-ride}
 pub use Rattle.leg_table.proofs.LegLemmas.{leg-meaning, finish-meaning, leg-each, finish-each}
@@ -7,3 +8,13 @@ pub use Rattle.leg_table.proofs.StrictLaws.{strict-laws}
 pub use Rattle.leg_table.proofs.Realizing.{path-realizes, path-counts, list-path}
 pub use Rattle.leg_table.proofs.Meanings.{legs-mean, hands-realizes}
 pub use Rattle.leg_table.proofs.Traces.{handed-trace}
+pub use Rattle.leg_table.proofs.Matching.{matches-by, left-parts}
+pub use Rattle.leg_table.proofs.StrictLegLaws.{strict-leg_laws}
+pub use Rattle.leg_table.proofs.Paths.{Names, PathFrom, path-hands, path-over, path-down}
+pub use Rattle.leg_table.proofs.ListPlaces.{active-is, next-none, next-some, before_from, before-last, before-next, before-first, address-at, sids-list, flat-list}
+pub use Rattle.leg_table.proofs.Shapes.{shape-is, shapes-share}
+pub use Rattle.leg_table.proofs.ListShapes.{there, suits-by}
+pub use Rattle.leg_table.proofs.Segments.{into-prefix, mid-onward, mid-low, last-exposes}
+pub use Rattle.leg_table.proofs.Executions.{step-parts, stage_into, taken-onward}
+pub use Rattle.leg_table.proofs.HopLimits.{onward-moves}
+pub use Rattle.leg_table.proofs.Inners.{some_inner, some_inner-is}

@@ -2,7 +2,7 @@
 use Rattle.std.proofs.Common.{◌≡◌, ℕ, suc, ◌+◌, ◌<◌, ◌≤◌, Bool, true, false, ◌&&◌, ◌||◌, List, [], ◌∷◌, length, map, take, Option, Some, None, refl, sym, ◌∙◌, ap, subst, arith}
 use Rattle.std.specs.Prelude.{nat_le, is_some}
 use Rattle.std.specs.List.{All}
-use Rattle.std.proofs.lemmas.Bool.{false≢true, and_from, le-leb}
+use Rattle.std.proofs.lemmas.Bool.{false≢true}
 use Rattle.std.proofs.lemmas.List.Elements.{All-nil, All-cons}
 use Rattle.v6_addr.specs.Address.{PrefixValue}
 use Rattle.srv6_rules.specs.declared.sid.Behaviour.{Behaviour}
@@ -34,7 +34,9 @@ use Rattle.list_pack.specs.SidLists.{list_sid, list_in, prefixes_in, IsSidPrefix
 use Rattle.leg_table.proofs.FlatNets.{FlatFacts}
 use Rattle.leg_table.specs.Trace.{handed_over}
 use Rattle.leg_table.specs.Sids.{binds, is_binding, sid_binds, prefix_at}
-use Rattle.leg_table.specs.Leg.{is_start, leg_of}
+use Rattle.leg_table.specs.Leg.{leg_of}
+use Rattle.leg_table.specs.OneLeg.{LegKind, LegLaws}
+use Rattle.leg_table.specs.Value.{strict_kind, AnyWay}
 use Rattle.leg_table.specs.Realizes.{headend_place, encapsulation_of, IsInner, content_lowered, encapsulated_for, HandsOver, AlwaysHandsOver, ReachesAbove, Realizes, Executes, path_need, IsPathAlong}
 use Rattle.leg_table.proofs.Options.{some-same}
 use Rattle.leg_table.proofs.Choices.{row_from, length-row_from, row_agrees}
@@ -42,11 +44,12 @@ use Rattle.leg_table.proofs.Executions.{step-parts}
 use Rattle.leg_table.proofs.NextRides.{leg-ride, finish-ride, middle-sid, last-sid}
 use Rattle.leg_table.proofs.Handing.{hands-agree}
 use Rattle.leg_table.proofs.ListPlaces.{active-first, sids-list, flat-list, before-first}
-use Rattle.leg_table.proofs.PathsUp.{with_hops-some, Names, path-hands}
-use Rattle.leg_table.proofs.Single.{path-executes}
+use Rattle.leg_table.proofs.PathNames.{hops-need, shapes-prefixes}
+use Rattle.leg_table.proofs.Paths.{with_hops-some, Names, path-hands, path-over, path-down}
+use Rattle.leg_table.proofs.StrictLaws.{strict-laws}
+use Rattle.leg_table.proofs.StrictLegLaws.{strict-leg_laws}
 use Rattle.leg_table.proofs.AllWays.{yes}
 use Rattle.leg_table.proofs.AllHands.{Unbound, Hands}
-use Rattle.leg_table.proofs.PathsDown.{path-from}
 use Rattle.leg_table.proofs.Inners.{some_inner, some_inner-is}
 
 -- what is handed over reads as the inner packet, lowered
@@ -105,7 +108,7 @@ module _ (net : Network) (network : IsNetwork net) (flat : IsFlat net) (facts : 
   flat-cs : IsFlatList (list_in net list)
   flat-cs = flat-list net facts list legal.named
 
-  start : (x : places.Place) × (first_of (list_in net list) ≡ Some x)
+  start : (x : places.ListPlace) × (first_of (list_in net list) ≡ Some x)
   start = first-some (list_in net list) legal.rules
 
   abbrev tunnel : Content → Tunnel
@@ -120,45 +123,49 @@ module _ (net : Network) (network : IsNetwork net) (flat : IsFlat net) (facts : 
   named : sids_from start.0 ≡ map (list_sid net) (prefixes_in list)
   named = sids-first (list_in net list) start.0 start.1 ∙ sids-list net list
 
+  abbrev k : LegKind
+  k = strict_kind net intent
+
+  laws : (inner : Content) → LegLaws k AnyWay (tunnel inner)
+  laws inner = strict-leg_laws net network flat facts intent is_intent (tunnel inner) refl
+
   module _ (sids : List ℕ) (need : ℕ) (names : map (prefix_at net) sids ≡ prefixes_in list) where
-    all-named : Names net start.0 sids
-    all-named = named ∙ ap (map (list_sid net)) (sym names)
+    all-named : (inner : Content) (ns : List ℕ) → ns ≡ sids → Names k AnyWay (tunnel inner) (laws inner) start.0 ns
+    all-named inner ns same =
+        named
+        ∙ ap (map (list_sid net)) (sym names ∙ ap (map (prefix_at net)) (sym same) ∙ sym (shapes-prefixes net intent ns))
 
     over : (ns : List ℕ) → ns ≡ sids → path_need net intent 0 None ns ≡ Some need → (inner : Content) → IsInner intent.inner inner
         → (hop : ℕ) → need < hop → (choices : List ℕ) → HandsOver net intent segments inner hop choices
     over [] same h inner ok hop above choices = absurd (cc)
     over (next ∷ more) same h inner ok hop above choices =
-        let got = path-hands net keeps facts intent is_intent (tunnel inner) more next 0 None start.0 hop
-        (encapsulated_for intent segments inner hop) need (choice_at choices) 0 refl (starts inner hop)
-        (all-named ∙ ap (λ ms. map (list_sid net) (map (prefix_at net) ms)) (sym same)) h above in
-        let hand = got.2 in
-        let place : got.0 ≡ headend_place intent = some-same got.0 (headend_place intent) (sym got.1) in
+        let hand = path-hands k AnyWay (tunnel inner) (laws inner) more next 0 None start.0 hop (encapsulated_for intent segments inner hop)
+        need (choice_at choices) 0 (starts inner hop) (all-named inner (next ∷ more) same) (hops-need net intent (next ∷ more) 0 None ∙ h)
+        above in
         record {
-          fuel = hand.fuel;
+          fuel = hand.over.0;
           handed = hand.handed;
-          first =
-              ap (λ (p : Place). handed_over net
-              (walk_of hand.fuel net (Some p) (V6 (encapsulated_for intent segments inner hop)) (choice_at choices) 0)) (sym place)
-              ∙ hand.is_handed;
-          steps = hand.meets_steps;
+          first = hand.over.1;
+          steps = hand.meets;
           content = hand.content ∙ inner-reads intent.inner inner ok;
-          unbound = subst (Unbound net) (sym hand.executes) (path-unbound net intent keeps more next 0 None need h);
+          unbound = subst (Unbound net) (sym hand.sids) (path-unbound net intent keeps more next 0 None need h);
         }
 
     executes : (ns : List ℕ) → ns ≡ sids → path_need net intent 0 None ns ≡ Some need → (inner : Content) (hop : ℕ) (choices : List ℕ)
         → (h : HandsOver net intent segments inner hop choices) → (h.handed.sids ≡ ns) × (0 < hop → need < hop)
     executes [] same h inner hop choices over = absurd (cc)
     executes (next ∷ more) same h inner hop choices over =
-        path-executes net keeps facts intent is_intent (tunnel inner) more next 0 None start.0 hop
-        (encapsulated_for intent segments inner hop) need (headend_place intent) (choice_at choices) 0 over.handed refl (starts inner hop)
-        (all-named ∙ ap (λ ms. map (list_sid net) (map (prefix_at net) ms)) (sym same)) h refl (over.fuel, over.first)
+        let is = path-over k AnyWay (tunnel inner) (laws inner) more next 0 None start.0 hop (encapsulated_for intent segments inner hop) need
+        (choice_at choices) 0 over.handed (starts inner hop) (all-named inner (next ∷ more) same)
+        (hops-need net intent (next ∷ more) 0 None ∙ h) (over.fuel, over.first) in
+        (is.0, is.1 tt)
 
     least : path_need net intent 0 None sids ≡ Some need → (n : ℕ) → ReachesAbove net intent segments n → need ≤ n
     least h n reaches =
         let inner = some_inner intent.inner in
         let over = reaches inner (some_inner-is intent.inner) (n + 1) (omega arith) (0 ∷ []) (omega arith) in
         let above = (executes sids refl h inner (n + 1) (0 ∷ []) over).1 (omega arith) in
-        omega arith
+        omega (arith, above)
 
   -- a path of legs and a finish realizes the intent
   pub path-realizes : (sids : List ℕ) (need : ℕ) → map (prefix_at net) sids ≡ prefixes_in list
@@ -209,19 +216,22 @@ module _ (net : Network) (network : IsNetwork net) (flat : IsFlat net) (facts : 
           × ((choices : List ℕ) (some : 0 < length choices) → (always choices some).handed.sids ≡ sids)
       by_prefixes [] e = let first = active-first start.0 in absurd (cc (first.1, named, ap (map (list_sid net)) e))
       by_prefixes (q ∷ qs) e =
-          let begins : is_start net intent 0 None ≡ true
-          = and_from (nat_le 0 (length intent.steps)) true (le-leb 0 (length intent.steps) (omega arith)) refl in
-          let path = path-from net network flat facts intent is_intent (tunnel inner) refl qs q 0 None start.0 hop
-          (encapsulated_for intent segments inner hop) (headend_place intent) begins refl (named ∙ ap (map (list_sid net)) e)
-          (subst (All (IsSidPrefix net)) e legal.named) (starts inner hop) positive (lists-hands inner hop always) in (
-            path.first ∷ path.more,
+          let path = path-down k AnyWay (tunnel inner) (laws inner) (strict-laws net intent keeps facts is_intent) qs q 0 None start.0 hop
+          (encapsulated_for intent segments inner hop) (omega arith) refl (named ∙ ap (map (list_sid net)) e)
+          (subst (All (IsSidPrefix net)) e legal.named) (starts inner hop) positive (lists-hands inner hop always) in
+          let ns : List ℕ = path.first ∷ path.more in
+          let few = path.few in
+          let last = path.last in (
+            ns,
             path.need,
             record {
-              is_path = path.is_path;
-              names = path.names ∙ ap (take (length (path.first ∷ path.more))) (sym e);
-              few = let l = ap length e in let few = path.few in omega arith;
-              last = let b = before-first net list start.0 start.1 in let l = path.last in omega arith;
+              is_path = sym (hops-need net intent ns 0 None) ∙ path.is_path;
+              names = sym (shapes-prefixes net intent ns) ∙ path.names ∙ ap (take (length ns)) (sym e);
+              few = let l = ap length e in omega (arith, l, few);
+              last = let b = before-first net list start.0 start.1 in omega (arith, b, last);
             },
             path.below,
-            λ choices some. let over = always choices some in path.executes (choice_at choices) 0 over.handed (over.fuel, over.first),
+            λ choices some.
+                let over = always choices some in
+                path.executes (choice_at choices) 0 over.handed tt (over.fuel, over.first),
           )

@@ -116,7 +116,7 @@ same_packet p = ap (λ (h : ℕ). with_hop_limit h p) (sub-zero p.hop_limit)
 abbrev pub arrived : ℕ → Place → Place
 arrived to place = record { node = to; how = Arrived 0; family = place.family }
 
-module _ (net : Network) (end : List Step → walks.Step → Bool) where
+module _ (net : Network) (end : List Step → walks.Stage → Bool) where
   -- the stage that ends a ride, as a fact about the packet there
   abbrev EndsAt : Place → List Step → Packet → Type 0
   EndsAt place left q =

@@ -74,7 +74,7 @@ into-prefix net network flat place m n a s t hm hn held e =
     one_sid_prefix net m n s t a network flat hm hn held holds.3
 
 -- the stage at a place of a list from which a packet comes into a SID of the place's prefix
-module _ (net : Network) (tunnel : Tunnel) (x : lists.Place) (hop : ℕ) (q : Packet) (along : Along tunnel x hop q) (place : Place)
+module _ (net : Network) (tunnel : Tunnel) (x : lists.ListPlace) (hop : ℕ) (q : Packet) (along : Along tunnel x hop q) (place : Place)
     (n choice : ℕ) (s : SidEntry) (into : way_of net place q.destination ≡ Into n) (there : slice_get net.sids n ≡ Some s)
     (on : StandsOn s (active x)) where
   abbrev pub stage : Gave
@@ -90,7 +90,7 @@ module _ (net : Network) (tunnel : Tunnel) (x : lists.Place) (hop : ℕ) (q : Pa
   stage-is = stage_into net place q n s choice into there
 
   -- at a SID that is not the last
-  pub mid-onward : takes_step s ≡ true → (y : lists.Place) → next_of x ≡ Some y → 1 < hop
+  pub mid-onward : takes_step s ≡ true → (y : lists.ListPlace) → next_of x ≡ Some y → 1 < hop
       → (r : Packet) × (stage ≡ goes (outcomes.Again n (onward_from n s.behaviour)) (V6 r)) × Along tunnel y (hop - 1) r
   mid-onward takes y to high = (
     form tunnel y (stays_routed s.psp x y along.routed) (hop - 1),
@@ -99,7 +99,7 @@ module _ (net : Network) (tunnel : Tunnel) (x : lists.Place) (hop : ℕ) (q : Pa
     along-next tunnel x y hop (hop - 1) q s.psp along to,
   )
 
-  pub mid-low : takes_step s ≡ true → (y : lists.Place) → next_of x ≡ Some y → hop ≤ 1
+  pub mid-low : takes_step s ≡ true → (y : lists.ListPlace) → next_of x ≡ Some y → hop ≤ 1
       → stage ≡ dropped net place.node reasons.HopLimit 0 (V6 q)
   mid-low takes y to low = stage-is ∙ ap given (along-tired s allow tunnel x y hop q along on (step-parts s takes).0 to low)
 

@@ -15,9 +15,10 @@ use Rattle.net_model.specs.Rules.{block_of, block_len_of}
 use Rattle.net_model.specs.Keeps.{Keeps, IsBlockOf, SuitsBlock}
 use Rattle.net_model.proofs.PublicLaws.{block_of-is, position_item, position-None}
 use Rattle.list_pack.specs.declared.types.Shape.{Shape}
+use Rattle.list_pack.specs.SidLists.{block_at}
 use Rattle.list_pack.specs.Value.{is_compressed, same_block, IsInBlock, IsShape, ShareBlock}
 use Rattle.leg_table.proofs.FlatNets.{FlatFacts}
-use Rattle.leg_table.specs.Table.{block_at, shape_by, shape_of}
+use Rattle.leg_table.specs.Table.{shape_by, shape_of}
 use Rattle.leg_table.proofs.Options.{some-same}
 
 contains-get : (net : Network) (b : Block) → Contains net.blocks b → (i : ℕ) × (slice_get net.blocks i ≡ Some b)
@@ -28,7 +29,7 @@ get-contains net i b at = (i, slice_get_within net.blocks i b at, get_or_from_sl
 
 module _ (net : Network) (keeps : Keeps net) (p : PrefixValue) where
   -- the number is that of the block
-  numbered : (i : ℕ) → block_at net.blocks p ≡ Some i → (b : Block) × (slice_get net.blocks i ≡ Some b) × (block_of net.blocks p ≡ Some b)
+  pub numbered : (i : ℕ) → block_at net.blocks p ≡ Some i → (b : Block) × (slice_get net.blocks i ≡ Some b) × (block_of net.blocks p ≡ Some b)
   numbered i e =
       let found = position_item (λ (b : Block). is_inside p b.prefix) net.blocks i e in
       let inside = (is_inside_is p found.0.prefix).0 found.2 in
@@ -44,7 +45,7 @@ module _ (net : Network) (keeps : Keeps net) (p : PrefixValue) where
           (b, at, f ∙ sym found ∙ at)
 
   -- a block has a number
-  has-number : (b : Block) → block_of net.blocks p ≡ Some b → (i : ℕ) × (block_at net.blocks p ≡ Some i)
+  pub has-number : (b : Block) → block_of net.blocks p ≡ Some b → (i : ℕ) × (block_at net.blocks p ≡ Some i)
   has-number b e =
       let is = subst (IsBlockOf net.blocks p) e (block_of-is net.blocks p) in
       let at = contains-get net b is.0 in

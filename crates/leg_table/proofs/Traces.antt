@@ -8,7 +8,7 @@ use Rattle.walk_rules.specs.Walk as walks
 use Rattle.leg_table.specs.Trace.{Event, Crossed, executed, events_of, trace_of, Handed, after_events, after_execution, handed_first, handed_over, behind_stage, through_hand}
 use Rattle.leg_table.proofs.Options.{map-some, some-same}
 
-first-trace : (net : Network) (gave : Gave) (o : Outcome) (ss : List walks.Step) (later : Option Handed) (h : Handed)
+first-trace : (net : Network) (gave : Gave) (o : Outcome) (ss : List walks.Stage) (later : Option Handed) (h : Handed)
     → ((k : Handed) → later ≡ Some k → k.trace ≡ trace_of net (through_hand ss))
     → handed_first net gave o later ≡ Some h → h.trace ≡ events_of net o ++ trace_of net (behind_stage o (through_hand ss))
 first-trace net gave (outcomes.Hand n how family) ss later h f e =
@@ -22,7 +22,7 @@ first-trace net gave (outcomes.Send link) ss later h f e =
 first-trace net gave outcomes.Local ss later h f e = absurd (cc)
 first-trace net gave (outcomes.Drop reason error) ss later h f e = absurd (cc)
 
-pub handed-trace : (net : Network) (ss : List walks.Step) (h : Handed) → handed_over net ss ≡ Some h
+pub handed-trace : (net : Network) (ss : List walks.Stage) (h : Handed) → handed_over net ss ≡ Some h
     → h.trace ≡ trace_of net (through_hand ss)
 handed-trace net [] h e = absurd (cc)
 handed-trace net (s ∷ ss) h e = first-trace net s.gave s.gave.outcome ss (handed_over net ss) h (λ k. handed-trace net ss k) e

@@ -36,13 +36,13 @@ Ends (outcomes.Drop reason error) End = ⊥
 
 -- the stages of a walk cross links along the first steps, up to an execution that a test of the steps left and of the
 -- stage accepts
-abbrev pub Rides : (List Step → walks.Step → Bool) → List Step → List walks.Step → Type 0
+abbrev pub Rides : (List Step → walks.Stage → Bool) → List Step → List walks.Stage → Type 0
 Rides end ts [] = ⊥
 Rides end [] (s ∷ ss) = Ends s.gave.outcome (IsTrue (end [] s))
 Rides end (t ∷ ts) (s ∷ ss) = Goes s.gave.outcome t (Rides end ts ss) (IsTrue (end (t ∷ ts) s))
 
 -- for every list of choices some finite part of the walk rides so
-abbrev pub ForAllChoices : Network → (List Step → walks.Step → Bool) → List Step → Place → Content → Type 0
+abbrev pub ForAllChoices : Network → (List Step → walks.Stage → Bool) → List Step → Place → Content → Type 0
 ForAllChoices net end ts place content =
     (choices : List ℕ) → 0 < length choices → (fuel : ℕ) × Rides end ts (walk_of fuel net (Some place) content (choice_at choices) 0)
 
@@ -51,11 +51,11 @@ abbrev pub AtPlace : Option Place → (Place → Type 0) → Type 0
 AtPlace None P = ⊥
 AtPlace (Some place) P = P place
 
-abbrev pub seen_at : Place → Content → Gave → walks.Step
+abbrev pub seen_at : Place → Content → Gave → walks.Stage
 seen_at place content gave = record { place = place; before = content; gave = gave }
 
 -- the same stage by stage: whatever is chosen at each
-abbrev pub EveryWay : Network → (List Step → walks.Step → Bool) → List Step → Place → Content → Type 0
+abbrev pub EveryWay : Network → (List Step → walks.Stage → Bool) → List Step → Place → Content → Type 0
 EveryWay net end [] place content =
     (choice : ℕ) → let gave = step_of net place content choice in Ends gave.outcome (IsTrue (end [] (seen_at place content gave)))
 EveryWay net end (t ∷ ts) place content =

@@ -131,11 +131,11 @@ is_left left None = false
 is_left left (Some m) = m == left
 
 -- the stage executes SID n, with so many steps left then and this hop limit behind it
-abbrev pub stage_executes : Network → ℕ → ℕ → ℕ → List Step → walks.Step → Bool
+abbrev pub stage_executes : Network → ℕ → ℕ → ℕ → List Step → walks.Stage → Bool
 stage_executes net n left limit ts s = is_again n s.gave.outcome && (is_left left (left_after net n ts) && has_limit limit s.gave.after)
 
 -- the stage exposes the packet inside at SID n, with so many steps left then and this hop limit before it
-abbrev pub stage_exposes : Network → ℕ → ℕ → ℕ → List Step → walks.Step → Bool
+abbrev pub stage_exposes : Network → ℕ → ℕ → ℕ → List Step → walks.Stage → Bool
 stage_exposes net n left limit ts s = is_hand n s.gave.outcome && (is_left left (left_after net n ts) && has_limit limit s.before)
 
 -- a packet to an address that has a next segment at SID n is taken from a place along the first steps to SID n and executed there, for

@@ -5,6 +5,7 @@ pub mod Ride
 pub mod Sids
 pub mod Leg
 pub mod Table
+pub mod OneLeg
 pub mod Value
 pub mod Course
 pub mod Realizes

@@ -97,6 +97,15 @@ ListRealizes net intent list need = Realizes net intent (list_values net list) n
 abbrev pub ListExecutes : Network → Intent → List Container → ℕ → Type 0
 ListExecutes net intent list count = Executes net intent (list_values net list) count
 
+-- they hand over even one inner packet at one outer hop limit, for every list of choices
+pub record HandsSome (net : Network) (intent : Intent) (segments : List ℕ) (hop : ℕ) : Type 0 where
+  pub positive : 0 < hop
+  pub inner : Content
+  pub always : AlwaysHandsOver net intent segments inner hop
+
+abbrev pub ListHands : Network → Intent → List Container → ℕ → Type 0
+ListHands net intent list hop = HandsSome net intent (list_values net list) hop
+
 -- ---- paths of legs
 
 -- the lowerings of the path of legs and a finish through these SIDs, if it is one, from a position and the SID that was

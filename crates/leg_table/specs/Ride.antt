@@ -68,7 +68,7 @@ abbrev pub with_hop_limit : ℕ → Packet → Packet
 with_hop_limit n p = record p { hop_limit = n }
 
 -- a packet can go a ride, and the ride ends at an execution that a test of the steps left and of the stage accepts
-abbrev pub RideEnds : Network → (List Step → walks.Step → Bool) → Packet → Option Ride → Type 0
+abbrev pub RideEnds : Network → (List Step → walks.Stage → Bool) → Packet → Option Ride → Type 0
 RideEnds net end p None = ⊥
 RideEnds net end p (Some r) =
     let before = V6 (with_hop_limit (p.hop_limit - r.lowered) p) in let gave = step_of net r.place before 0 in

@@ -1,6 +1,5 @@
 -- The table of an intent's legs.
-use Rattle.std.specs.Prelude.{◌≡◌, ℕ, ◌+◌, ◌≤◌, false, List, length, slice_get, position, Option, Some, None}
-use Rattle.v6_addr.specs.Address.{PrefixValue, is_inside}
+use Rattle.std.specs.Prelude.{◌≡◌, ℕ, ◌+◌, ◌≤◌, false, List, length, slice_get, Option, Some, None}
 use Rattle.srv6_rules.specs.declared.sid.Csid.TheVariants.{Plain}
 use Rattle.srv6_rules.specs.declared.sid.SidEntry.{SidEntry}
 use Rattle.net_model.specs.Network.{Network}
@@ -10,6 +9,7 @@ use Rattle.net_model.specs.Flat.{IsFlat}
 use Rattle.intent_reader.specs.Rules.{IsIntent}
 use Rattle.intent_reader.specs.declared.intent.Intent.{Intent}
 use Rattle.list_pack.specs.declared.types.Shape.{Shape}
+use Rattle.list_pack.specs.SidLists.{block_at}
 use Rattle.leg_table.specs.declared.reach.Reach.{Reach}
 use Rattle.leg_table.specs.Sids.{sids_of, takes_step}
 use Rattle.leg_table.specs.Reach.{AreReaches}
@@ -34,9 +34,6 @@ pub record IsTable (net : Network) (intent : Intent) (rows : List (List ℕ)) (r
   pub are_reaches : AreReaches net intent.headend intent.steps reaches
 
 -- what a SID is to the search: the block that it lies strictly inside by its number, its compression, and whether it is middle
-abbrev pub block_at : List Block → PrefixValue → Option ℕ
-block_at blocks p = position (λ b. is_inside p b.prefix) blocks
-
 abbrev pub shape_by : List Block → Option SidEntry → Shape
 shape_by blocks None = record { prefix = record { value = 0; len = 0 }; block = None; lbl = 0; csid = Plain; middle = false }
 shape_by blocks (Some s) =

@@ -1,6 +1,7 @@
 -- Traces that keep to the steps of an intent.
 use Rattle.std.specs.Prelude.{ℕ, Bool, true, false, ◌==◌, ◌&&◌, if◌then◌else◌, List, [], ◌∷◌, length, Option, Some, None}
 use Rattle.std.specs.List.{list_any}
+use Rattle.std.specs.Option.{option_and_then}
 use Rattle.net_model.specs.Network.{Network}
 use Rattle.intent_reader.specs.declared.intent.Step.{Step}
 use Rattle.intent_reader.specs.declared.intent.Step.TheVariants.{Links, Function}
@@ -23,6 +24,24 @@ matches [] [] = true
 matches [] (e ∷ es) = false
 matches (t ∷ ts) [] = false
 matches (t ∷ ts) (e ∷ es) = meets t e && matches ts es
+
+-- ---- the same event by event
+
+-- the steps that are left behind one event, which has to meet the first of them
+abbrev pub advance : List Step → Event → Option (List Step)
+advance [] e = None
+advance (t ∷ ts) e = if meets t e then Some ts else None
+
+-- and behind events, one after the other
+abbrev pub left_by : List Step → List Event → Option (List Step)
+left_by ts [] = Some ts
+left_by ts (e ∷ es) = option_and_then (λ us. left_by us es) (advance ts e)
+
+-- no step is left
+abbrev pub is_done : Option (List Step) → Bool
+is_done None = false
+is_done (Some []) = true
+is_done (Some (t ∷ ts)) = false
 
 -- how many steps are left once SID n was executed: one with a title has to be the first step's function
 abbrev pub left_after_function : ℕ → List Step → Option ℕ

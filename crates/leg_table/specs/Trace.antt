@@ -35,7 +35,7 @@ events_of net outcomes.Local = []
 events_of net (outcomes.Drop reason error) = []
 
 -- the trace of stages
-abbrev pub trace_of : Network → List walks.Step → List Event
+abbrev pub trace_of : Network → List walks.Stage → List Event
 trace_of net [] = []
 trace_of net (s ∷ ss) = events_of net s.gave.outcome ++ trace_of net ss
 
@@ -61,12 +61,12 @@ handed_first net gave outcomes.Local later = None
 handed_first net gave (outcomes.Drop reason error) later = None
 
 -- what the stages hand over first, if a stage hands over
-abbrev pub handed_over : Network → List walks.Step → Option Handed
+abbrev pub handed_over : Network → List walks.Stage → Option Handed
 handed_over net [] = None
 handed_over net (s ∷ ss) = handed_first net s.gave s.gave.outcome (handed_over net ss)
 
 -- what follows a stage in the stages up to and with the first hand-over
-abbrev pub behind_stage : Outcome → List walks.Step → List walks.Step
+abbrev pub behind_stage : Outcome → List walks.Stage → List walks.Stage
 behind_stage (outcomes.Hand n how family) later = []
 behind_stage (outcomes.Again n how) later = later
 behind_stage (outcomes.Send link) later = later
@@ -74,6 +74,6 @@ behind_stage outcomes.Local later = later
 behind_stage (outcomes.Drop reason error) later = later
 
 -- the stages up to and with the first hand-over
-abbrev pub through_hand : List walks.Step → List walks.Step
+abbrev pub through_hand : List walks.Stage → List walks.Stage
 through_hand [] = []
 through_hand (s ∷ ss) = s ∷ behind_stage s.gave.outcome (through_hand ss)

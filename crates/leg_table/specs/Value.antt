@@ -1,11 +1,15 @@
--- What the table of an intent's legs is to a search.
-use Rattle.std.specs.Prelude.{length}
+-- What the table of an intent's legs is to a search, and what becomes of packets on them.
+use Rattle.std.specs.Prelude.{ℕ, length, Option}
+use Rattle.srv6_rules.specs.Packet.{Packet, V6}
 use Rattle.list_pack.specs.Value.{LegsValue}
 use Rattle.net_model.specs.Network.{Network}
+use Rattle.walk_rules.specs.Walk.{walk_of}
 use Rattle.intent_reader.specs.declared.intent.Intent.{Intent}
-use Rattle.leg_table.specs.Sids.{sids_of}
-use Rattle.leg_table.specs.Leg.{leg_of, finish_of}
+use Rattle.leg_table.specs.Sids.{is_binding, sids_of}
+use Rattle.leg_table.specs.Leg.{place_from, leg_of, finish_of}
+use Rattle.leg_table.specs.OneLeg.{LegKind}
 use Rattle.leg_table.specs.Table.{shape_of, node_of}
+use Rattle.leg_table.specs.Trace.{Handed, handed_over}
 
 abbrev pub legs_value : Network → Intent → LegsValue
 legs_value net intent =
@@ -17,3 +21,21 @@ legs_value net intent =
       leg = leg_of net intent;
       finish = finish_of net intent;
     }
+
+-- the legs of strict steps: a packet goes on from the headend, or from the SID that was executed last, and no SID may bind a policy
+abbrev pub strict_hand : Network → Intent → ℕ → Option ℕ → Packet → (ℕ → ℕ) → ℕ → Option Handed
+strict_hand net intent fuel via p pick taken = handed_over net (walk_of fuel net (place_from net intent via) (V6 p) pick taken)
+
+abbrev pub strict_kind : Network → Intent → LegKind
+strict_kind net intent =
+    record {
+      net = net;
+      intent = intent;
+      legs = legs_value net intent;
+      barred = is_binding net;
+      hand = strict_hand net intent;
+    }
+
+-- all ways of a leg are as long
+abbrev pub AnyWay : Option ℕ → Packet → (ℕ → ℕ) → ℕ → Type 0
+AnyWay via p pick taken = Unit {0}

@@ -1,6 +1,7 @@
 //! Laws about the definitions, each the contract of a function that does nothing.
 
-ghost use Rattle.std.specs.Prelude.{◌≡◌, ◌<◌, ℕ, Bool, List, Option, Some, None, ◌↔◌, IsTrue, is_some, map, length};
+ghost use Rattle.std.specs.Prelude.{◌≡◌, ◌<◌, ℕ, Bool, List, Option, Some, None, ◌↔◌, IsTrue, is_some, map, length, ◌++◌};
+ghost use Rattle.std.specs.Option.{option_and_then};
 ghost use Rattle.srv6_rules.specs.Packet.{Packet, Content, V6};
 ghost use Rattle.net_model.specs.Network.{Network};
 ghost use Rattle.net_model.specs.Keeps.{Keeps};
@@ -19,14 +20,18 @@ ghost use Rattle.list_pack.specs.declared.types.Container.{Container};
 ghost use Rattle.list_pack.specs.SidLists.{IsLegalList, prefixes_in, list_values};
 ghost use Rattle.leg_table.specs.Leg.{leg_of, IsLeg, finish_of, IsFinish, IsAddressOf, IsLastAddressOf};
 ghost use Rattle.leg_table.specs.Sids.{sid_address, prefix_at, sids_of, AreSidsAt};
-ghost use Rattle.leg_table.specs.Trace.{Handed, handed_over, trace_of, through_hand};
+ghost use Rattle.leg_table.specs.Tasks.{matches, left_by, is_done};
+ghost use Rattle.leg_table.specs.Trace.{Event, Handed, handed_over, trace_of, through_hand};
 ghost use Rattle.leg_table.specs.Realizes.{path_need, Realizes, Executes, ListRealizes, AlwaysHandsOver, IsPathAlong};
 ghost use Rattle.net_model.specs.Flat.{IsFlat};
+ghost use Rattle.list_places.specs.Places.{Tunnel};
+ghost use Rattle.leg_table.specs.OneLeg.{LegLaws};
+ghost use Rattle.leg_table.specs.Value.{AnyWay, strict_kind};
 
 /// A way to an execution is there for all lists of choices exactly where it is there whatever is
 /// chosen at each stage. (own rule)
 pub fn every_way_is_for_all_choices()
-    ensures { (net : Network) (end : List Step → walks.Step → Bool) (steps : List Step) →
+    ensures { (net : Network) (end : List Step → walks.Stage → Bool) (steps : List Step) →
         (place : Place) (content : Content) →
         ForAllChoices net end steps place content ↔ EveryWay net end steps place content }
 {}
@@ -35,7 +40,7 @@ pub fn every_way_is_for_all_choices()
 /// ended: a packet has a way to an execution whatever is chosen exactly where the ride by look-ups
 /// alone, which goes to the end of the first equal next hop, has it. (own rule)
 pub fn every_way_is_a_ride()
-    ensures { (net : Network) (end : List Step → walks.Step → Bool) (steps : List Step) →
+    ensures { (net : Network) (end : List Step → walks.Stage → Bool) (steps : List Step) →
         (place : Place) (p : Packet) → Keeps net → IsPlace net place →
         IsTrue (is_some (stand_after net place.node steps)) → 0 < p.hop_limit →
         EveryWay net end steps place (V6 p)
@@ -80,6 +85,14 @@ pub fn a_finish_is_for_all_choices()
 pub fn sids_of_a_position_are_in_order()
     ensures { (net : Network) (intent : Intent) (position : ℕ) → Keeps net →
         AreSidsAt net intent position (sids_of net intent position) }
+{}
+
+/// The legs of strict steps keep the laws of one leg and one finish: what a leg or a finish says comes
+/// of each packet on it, under every row of choices; and a packet that is handed over under all rows
+/// has one. What paths are is shown by these laws alone, whatever kind of legs keeps them. (own rule)
+pub fn strict_legs_keep_the_laws_of_one_leg()
+    ensures { (net : Network) (intent : Intent) (t : Tunnel) → IsNetwork net → IsFlat net →
+        IsIntent net intent → t.inner ≡ intent.inner → LegLaws (strict_kind net intent) AnyWay t }
 {}
 
 /// In a flat network a path of legs and a finish through the SIDs of a legal list realizes the
@@ -127,7 +140,18 @@ pub fn a_list_that_hands_over_has_one_that_realizes()
 /// The trace that comes with what stages hand over is that of the stages up to and with the first
 /// hand-over. (own rule)
 pub fn what_is_handed_over_has_its_trace()
-    ensures { (net : Network) (stages : List walks.Step) (h : Handed) →
+    ensures { (net : Network) (stages : List walks.Stage) (h : Handed) →
         handed_over net stages ≡ Some h →
         h.trace ≡ trace_of net (through_hand stages) }
+{}
+
+/// Whether a trace meets steps is told event by event: each event takes the step that is left first,
+/// which it has to meet, and none is left behind the last. Events that others follow leave the steps
+/// that the others take. (own rule)
+pub fn a_trace_is_matched_event_by_event()
+    ensures matched { (steps : List Step) (events : List Event) →
+        matches steps events ≡ is_done (left_by steps events) }
+    ensures parts { (steps : List Step) (events more : List Event) →
+        left_by steps (events ++ more)
+        ≡ option_and_then (λ (rest : List Step). left_by rest more) (left_by steps events) }
 {}

@@ -10,8 +10,9 @@
 //! of walks, `specs/Realizes.antt` when a list realizes an intent, `specs/Choices.antt` the ways
 //! whichever next hop is chosen, `specs/Ride.antt` those by look-ups alone, `specs/Sids.antt` the
 //! SIDs of a position, `specs/Leg.antt` legs and finishes, `specs/Value.antt` what a search sees of
-//! them. The functions of `laws` do nothing: their contracts are the laws that lead from look-ups
-//! to lists.
+//! them. `specs/OneLeg.antt` has the laws of one leg and one finish, which say what paths are,
+//! whatever kind of legs keeps them. The functions of `laws` do nothing: their contracts are the
+//! laws that lead from look-ups to lists.
 #![tactic(auto)]
 
 mod laws;
@@ -22,8 +23,9 @@ mod strict_legs;
 
 pub use laws::{
     a_finish_is_for_all_choices, a_leg_is_for_all_choices, a_list_that_always_hands_over_is_a_path,
-    a_list_that_hands_over_has_one_that_realizes, a_path_realizes_the_intent, every_way_is_a_ride,
-    every_way_is_for_all_choices, sids_of_a_position_are_in_order,
+    a_list_that_hands_over_has_one_that_realizes, a_path_realizes_the_intent,
+    a_trace_is_matched_event_by_event, every_way_is_a_ride, every_way_is_for_all_choices,
+    sids_of_a_position_are_in_order, strict_legs_keep_the_laws_of_one_leg,
     what_is_handed_over_has_its_trace,
 };
 pub use strict_legs::StrictLegs;

@@ -8,7 +8,7 @@ ghost use Rattle.leg_table.specs.Course.{finish_from_behind, way_behind};
 ghost use Rattle.leg_table.specs.Reach.{IsReach, IsStart, AreLater, way_at};
 ghost use Rattle.leg_table.specs.Leg as legs;
 ghost use Rattle.leg_table.specs.Sids as sids;
-ghost use Rattle.leg_table.specs.Table.{block_at};
+ghost use Rattle.list_pack.specs.SidLists.{block_at};
 ghost use Rattle.net_model.specs.Flat.{IsFlat};
 
 use crate::reach::{Reach, reaches_of, way_at, way_from};
@@ -251,13 +251,15 @@ impl<'a> Legs for StrictLegs<'a> {
 }
 
 impl<'a> ListLegs for StrictLegs<'a> {
-    ghost use Rattle.leg_table.specs.Realizes.{ListRealizes, ListExecutes};
+    ghost use Rattle.leg_table.specs.Realizes.{ListRealizes, ListExecutes, ListHands};
 
     ghost network = { λ t. t.net };
 
     ghost realizes = { λ t. ListRealizes t.net t.intent };
 
     ghost executes = { λ t. ListExecutes t.net t.intent };
+
+    ghost hands = { λ t. ListHands t.net t.intent };
 
     fn keeps_meaning(&self) {
         self.keeps_rules();

@@ -1,8 +1,8 @@
 -- Segment lists of a network's SIDs: containers of their prefixes, and which lists are legal (own profile of RFC 9800 sections 6.2 to 6.4).
-use Rattle.std.specs.Prelude.{◌≡◌, ℕ, Bool, true, false, ◌==◌, if◌then◌else◌, length, List, [], ◌∷◌, map, slice_get, Some, All}
+use Rattle.std.specs.Prelude.{◌≡◌, ℕ, Bool, true, false, ◌==◌, if◌then◌else◌, length, List, [], ◌∷◌, map, position, slice_get, Option, Some, All}
 use Rattle.std.specs.List.{filter, flat_map, list_any}
 use Rattle.std.specs.Option.{option_map}
-use Rattle.v6_addr.specs.Address.{PrefixValue}
+use Rattle.v6_addr.specs.Address.{PrefixValue, is_inside}
 use Rattle.srv6_rules.specs.declared.sid.Csid.{Csid}
 use Rattle.srv6_rules.specs.declared.sid.Csid.TheVariants as csids
 use Rattle.srv6_rules.specs.declared.sid.SidEntry.{SidEntry}
@@ -57,6 +57,10 @@ prefix_csid net p = csid_on (on_prefix net.sids p)
 -- a prefix as a SID of lists
 abbrev pub list_sid : Network → PrefixValue → ListSid
 list_sid net p = record { prefix = p; block = option_map sid_block (block_of net.blocks p); csid = prefix_csid net p }
+
+-- the number of the block that a prefix lies strictly inside, if it lies in one
+abbrev pub block_at : List Block → PrefixValue → Option ℕ
+block_at blocks p = position (λ b. is_inside p b.prefix) blocks
 
 -- each SID of the network stands on its prefix as lists know it, and that is as a flat network has it
 pub record AreListSids (net : Network) : Type 0 where

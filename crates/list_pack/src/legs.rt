@@ -60,8 +60,12 @@ pub trait ListLegs: Legs {
     /// That as many SIDs of a list are executed wherever it hands a packet over. (own rule)
     ghost executes: { Self → List Container → ℕ → Type 0 };
 
+    /// That a list hands over even one packet at such a hop limit, as what the legs are for asks.
+    /// (own rule)
+    ghost hands: { Self → List Container → ℕ → Type 0 };
+
     /// That the legs mean this: a call for the callers' proofs alone. (own rule)
     fn keeps_meaning(&self)
         ensures { Means (Self.seen self.now) (network self.now) (realizes self.now)
-            (executes self.now) };
+            (executes self.now) (hands self.now) };
 }

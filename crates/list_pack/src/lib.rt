@@ -36,9 +36,9 @@ mod types;
 pub use costs::{is_below, move_cost, plus, step_before};
 pub use flavours::flavour_of;
 pub use laws::{
-    a_cost_is_containers_and_hops, a_legal_list_is_a_path, a_path_is_a_legal_list,
-    a_path_of_tight_edges_is_least, least_costs_are_good, sids_of_a_flat_network_suit_lists,
-    unlisted_states_have_no_path,
+    a_cost_is_containers_and_hops, a_legal_list_is_a_path, a_legal_list_is_the_list_of_its_steps,
+    a_path_is_a_legal_list, a_path_of_tight_edges_is_least, a_search_has_one_solution,
+    least_costs_are_good, sids_of_a_flat_network_suit_lists, unlisted_states_have_no_path,
 };
 pub use legs::{Legs, ListLegs};
 pub use lists::{header_bytes, list_of};

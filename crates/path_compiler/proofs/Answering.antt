@@ -43,7 +43,8 @@ bytes-by true few many most = by_sizes (nat_lt 1 few) refl (nat_lt 1 many) refl
         let under = ltb-false 1 many is' in
         absurd (omega (arith, above, under, most))
 
-module _ (v : LegsValue) (net : Network) (Realizes Executes : List Container → ℕ → Type 0) (means : Means v net Realizes Executes) where
+module _ (v : LegsValue) (net : Network) (Realizes Executes Hands : List Container → ℕ → Type 0)
+    (means : Means v net Realizes Executes Hands) where
   module _ (moves : List Move) (c : Cost) (first : IsFirstLeast v start c moves) where
     -- a list that realizes costs no less than the least path
     path-at-most : (other : List Container) (need : ℕ) (path : IsPathOf v Executes other need)
@@ -71,7 +72,7 @@ module _ (v : LegsValue) (net : Network) (Realizes Executes : List Container →
         let its : cost_with (length other) path.hops ≡ c
         = ap (λ (n : ℕ). cost_with n path.hops) count ∙ ap (cost_with c.containers) need in
         let before = first.first path.moves (path.cost ∙ ap Some its) in
-        let all : map (step_of v) path.moves ≡ steps_in other = path.whole whole.executes in
+        let all : map (step_of v) path.moves ≡ steps_in other = (path.whole whole.executes).0 in
         subst (λ (xs : List PathStep). path_before (steps_in other) xs ≡ false) (sym steps)
         (subst (λ (xs : List PathStep). path_before xs (map (step_of v) moves) ≡ false) all before)
 

@@ -21,7 +21,7 @@ use Rattle.list_certificate.specs.Certs.{certificate_of}
 use Rattle.list_certificate.specs.Laws.{IsAcceptedBy}
 use Rattle.list_certificate.specs.Verdicts.{IsVerdict}
 use Rattle.list_certificate.proofs.PublicLaws.{solution-accepted}
-use Rattle.leg_table.specs.Realizes.{ListRealizes, ListExecutes}
+use Rattle.leg_table.specs.Realizes.{ListRealizes, ListExecutes, ListHands}
 use Rattle.leg_table.specs.Value.{legs_value}
 use Rattle.leg_table.proofs.FlatNets.{flat-facts}
 use Rattle.leg_table.proofs.PublicLaws.{strict-laws, legs-mean}
@@ -44,14 +44,15 @@ costs-one a b down up =
     let hops : a.hops ≡ b.hops = omega (arith, three, four) in
     ap (λ (n : ℕ). cost_with n a.hops) containers ∙ ap (cost_with b.containers) hops
 
-module _ (v : LegsValue) (net : Network) (Realizes Executes : List Container → ℕ → Type 0) (means : Means v net Realizes Executes)
+module _ (v : LegsValue) (net : Network) (Realizes Executes Hands : List Container → ℕ → Type 0)
+    (means : Means v net Realizes Executes Hands)
     (laws : KeepsLaws v) where
   -- the least cost of a path is that of a chosen list
   least-chosen : (list : List Container) (need : ℕ) (cost : Cost) → IsChosen net Realizes Executes list need → IsLeast v start (Some cost)
       → cost ≡ cost_with (length list) need
   least-chosen list need cost chosen least =
       let down : AtMost cost (cost_with (length list) need)
-      = under-list v net Realizes Executes means (Some cost) least list need chosen.whole.legal chosen.whole.realizes in
+      = under-list v net Realizes Executes Hands means (Some cost) least list need chosen.whole.legal chosen.whole.realizes in
       let path = least.attains in
       let made = means.lists path.0 cost path.1 in
       let up : AtMost (cost_with (length list) need) cost
@@ -63,7 +64,7 @@ module _ (v : LegsValue) (net : Network) (Realizes Executes : List Container →
     least-by : (path : List PathStep) → c.solution.path ≡ path → IsAcceptedBy v head c.solution path
         → IsVerdict v (certificate_of head c.solution) (Least c.containers c.need)
     least-by [] is accepted =
-        absurd (none-realizes v net Realizes Executes means c.solution found.solution is c.list c.need found.chosen.whole.legal
+        absurd (none-realizes v net Realizes Executes Hands means c.solution found.solution is c.list c.need found.chosen.whole.legal
         found.chosen.whole.realizes)
     least-by (p ∷ ps) is accepted =
         let same : accepted.0 ≡ cost_with c.containers c.need
@@ -86,7 +87,7 @@ pub certifies-found : (net : Network) (intent : Intent) (reduced : Bool) (c : Co
     → IsIntent net intent → IsFound (legs_value net intent) net (ListRealizes net intent) (ListExecutes net intent) reduced c
     → Certifies net intent c.solution (Least c.containers c.need)
 certifies-found net intent reduced c network flat is found =
-    verdict-found (legs_value net intent) net (ListRealizes net intent) (ListExecutes net intent) (legs-mean net intent network flat is)
+    verdict-found (legs_value net intent) net (ListRealizes net intent) (ListExecutes net intent) (ListHands net intent) (legs-mean net intent network flat is)
     (strict net intent network flat is) reduced c found
 
 pub certifies-none : (net : Network) (intent : Intent) (s : Solution) → IsNetwork net → IsFlat net → IsIntent net intent

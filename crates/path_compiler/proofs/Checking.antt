@@ -18,7 +18,8 @@ use Rattle.list_certificate.specs.Verdicts.{IsVerdict}
 use Rattle.list_certificate.proofs.PublicLaws.{shows}
 use Rattle.path_compiler.specs.Checked.{IsLeastPair, Says}
 
-module _ (v : LegsValue) (net : Network) (Realizes Executes : List Container → ℕ → Type 0) (means : Means v net Realizes Executes) where
+module _ (v : LegsValue) (net : Network) (Realizes Executes Hands : List Container → ℕ → Type 0)
+    (means : Means v net Realizes Executes Hands) where
   -- a list that realizes has a path of no greater cost
   pub under-list : (o : Option Cost) → IsLeast v start o → (list : List Container) (need : ℕ) → IsLegalList net list → Realizes list need
       → Under o (Some (cost_with (length list) need))

@@ -1,5 +1,5 @@
--- The least list is the least of the lists, too, that hand over even one inner packet.
-use Rattle.std.proofs.Common.{◌≡◌, ℕ, ◌+◌, ◌<◌, ◌≤◌, arith, List, length, Result, Ok, Err, sym, ◌∙◌, subst}
+-- The least list is the least of the lists, too, that hand over even one packet.
+use Rattle.std.proofs.Common.{◌≡◌, ℕ, ◌+◌, ◌<◌, ◌≤◌, arith, Bool, List, length, map, Result, Ok, Err, sym, ◌∙◌, subst}
 use Rattle.srv6_rules.specs.Encapsulation.{header_bytes}
 use Rattle.net_model.specs.Network.{Network}
 use Rattle.net_model.specs.Rules.{IsNetwork}
@@ -8,26 +8,39 @@ use Rattle.intent_reader.specs.Rules.{IsIntent}
 use Rattle.intent_reader.specs.declared.intent.Intent.{Intent}
 use Rattle.list_pack.specs.declared.types.Container.{Container}
 use Rattle.list_pack.specs.Costs.{AtMost}
+use Rattle.list_pack.specs.Least.{step_of}
+use Rattle.list_pack.specs.Meaning.{Means}
 use Rattle.list_pack.specs.Paths.{cost_with}
+use Rattle.list_pack.specs.PathLists.{list_of}
 use Rattle.list_pack.specs.SidLists.{IsLegalList}
+use Rattle.list_pack.specs.Value.{LegsValue}
 use Rattle.list_certificate.specs.declared.types.Verdict.{Verdict}
 use Rattle.list_certificate.specs.declared.types.Verdict.TheVariants.{Least, NoList, No}
-use Rattle.leg_table.specs.Realizes.{ListRealizes, ListExecutes}
+use Rattle.leg_table.specs.Realizes.{ListRealizes, ListExecutes, ListHands}
 use Rattle.leg_table.specs.Value.{legs_value}
-use Rattle.leg_table.proofs.PublicLaws.{hands-realizes}
+use Rattle.leg_table.proofs.PublicLaws.{legs-mean}
 use Rattle.path_compiler.specs.declared.compiled.Compiled.{Compiled}
 use Rattle.path_compiler.specs.declared.compiled.CompileFault.{CompileFault}
 use Rattle.path_compiler.specs.declared.compiled.CompileFault.TheVariants as faults
-use Rattle.path_compiler.specs.Checked.{Says, SaysOfHanding}
-use Rattle.path_compiler.specs.Compiled.{CompileAnswers, IsFound, IsLeastOfAll, NoLessHandsOver}
-use Rattle.path_compiler.specs.Handing.{HandsSomeOver, IsLeastOfHanding, NoneHandsOver}
+use Rattle.path_compiler.specs.Checked.{Says, SaysOfHanding, SaysOver}
+use Rattle.path_compiler.specs.Compiled.{AnswersOver, IsFound, IsLeastOver, NoneLessOver}
+use Rattle.path_compiler.specs.Handing.{IsLeastOfHanding, NoneHandsOver}
 
-module _ (net : Network) (intent : Intent) (network : IsNetwork net) (flat : IsFlat net) (is : IsIntent net intent) where
+module _ (v : LegsValue) (net : Network) (Realizes Executes Hands : List Container → ℕ → Type 0)
+    (means : Means v net Realizes Executes Hands) where
+  -- where a list hands over even one packet, one of as many containers realizes with a need below that hop limit
+  hands-realizes : (list : List Container) (hop : ℕ) → IsLegalList net list → Hands list hop
+      → (other : List Container) × (need : ℕ) × IsLegalList net other × Realizes other need × (length other ≡ length list) × (need < hop)
+  hands-realizes list hop legal hands =
+      let path = means.handing list hop legal hands in
+      let made = means.lists path.moves (cost_with (length list) path.hops) path.cost in
+      (list_of net (map (step_of v) path.moves), path.hops, made.legal, made.realizes, made.of_path.count, path.below)
+
   least-of-handing : (containers need : ℕ)
-      → ((other : List Container) (n : ℕ) → IsLegalList net other → ListRealizes net intent other n
-      → AtMost (cost_with containers need) (cost_with (length other) n)) → IsLeastOfHanding net intent containers need
-  least-of-handing containers need least list hop hands =
-      let other = hands-realizes net intent network flat is list hands.inner hop hands.legal hands.positive hands.always in
+      → ((other : List Container) (n : ℕ) → IsLegalList net other → Realizes other n
+      → AtMost (cost_with containers need) (cost_with (length other) n)) → IsLeastOfHanding net Hands containers need
+  least-of-handing containers need least list hop legal hands =
+      let other = hands-realizes list hop legal hands in
       let most = least other.0 other.1 other.2 other.3 in
       let few = most.containers in
       let count : length other.0 ≡ length list = other.4 in
@@ -37,18 +50,16 @@ module _ (net : Network) (intent : Intent) (network : IsNetwork net) (flat : IsF
         hops = λ same. let above = most.hops (same ∙ sym count) in omega (arith, above, below);
       }
 
-  none-of-handing : ((other : List Container) (n : ℕ) → IsLegalList net other → ¬ ListRealizes net intent other n)
-      → NoneHandsOver net intent
-  none-of-handing none list hop hands =
-      let other = hands-realizes net intent network flat is list hands.inner hop hands.legal hands.positive hands.always in
+  none-of-handing : ((other : List Container) (n : ℕ) → IsLegalList net other → ¬ Realizes other n) → NoneHandsOver net Hands
+  none-of-handing none list hop legal hands =
+      let other = hands-realizes list hop legal hands in
       none other.0 other.1 other.2 other.3
 
-  least-of-all : (c : Compiled) → IsFound (legs_value net intent) net (ListRealizes net intent) (ListExecutes net intent) intent.reduced c
-      → IsLeastOfAll net intent c
-  least-of-all c found = record {
-    fewest = λ list hop hands.
-        let other = hands-realizes net intent network flat is list hands.inner hop hands.legal hands.positive hands.always in
-        subst (λ (n : ℕ). c.header ≤ header_bytes intent.reduced n) other.4 (found.fewest other.0 other.1 other.2 other.3);
+  least-over : (reduced : Bool) (c : Compiled) → IsFound v net Realizes Executes reduced c → IsLeastOver net Hands reduced c
+  least-over reduced c found = record {
+    fewest = λ list hop legal hands.
+        let other = hands-realizes list hop legal hands in
+        subst (λ (n : ℕ). c.header ≤ header_bytes reduced n) other.4 (found.fewest other.0 other.1 other.2 other.3);
     least =
         least-of-handing c.containers c.need
         (λ other n legal real.
@@ -56,16 +67,23 @@ module _ (net : Network) (intent : Intent) (network : IsNetwork net) (flat : IsF
         (found.chosen.least other n legal real));
   }
 
-  pub no-less-hands : (answer : Result Compiled CompileFault) → CompileAnswers net intent answer → NoLessHandsOver net intent answer
-  no-less-hands (Ok c) answers = least-of-all c answers.found
-  no-less-hands (Err (faults.NotFlat why)) answers = tt
-  no-less-hands (Err (faults.NoList s)) answers = none-of-handing answers.none
-  no-less-hands (Err (faults.TooLong c)) answers = least-of-all c answers.found
-  no-less-hands (Err (faults.HopLimit c)) answers = least-of-all c answers.found
-  no-less-hands (Err faults.NoMemory) answers = tt
+  pub none-less : (intent : Intent) (answer : Result Compiled CompileFault) → AnswersOver v net Realizes Executes intent answer
+      → NoneLessOver net Hands intent.reduced answer
+  none-less intent (Ok c) answers = least-over intent.reduced c answers.found
+  none-less intent (Err (faults.NotFlat why)) answers = tt
+  none-less intent (Err (faults.NoList s)) answers = none-of-handing answers.none
+  none-less intent (Err (faults.TooLong c)) answers = least-over intent.reduced c answers.found
+  none-less intent (Err (faults.HopLimit c)) answers = least-over intent.reduced c answers.found
+  none-less intent (Err faults.NoMemory) answers = tt
 
-  pub says-handing : (verdict : Verdict) → Says net (ListRealizes net intent) (ListExecutes net intent) verdict
-      → SaysOfHanding net intent verdict
-  says-handing (Least containers need) says = least-of-handing containers need says.least
-  says-handing NoList says = none-of-handing says
-  says-handing (No line why) says = tt
+  pub says-over : (verdict : Verdict) → Says net Realizes Executes verdict → SaysOver net Hands verdict
+  says-over (Least containers need) says = least-of-handing containers need says.least
+  says-over NoList says = none-of-handing says
+  says-over (No line why) says = tt
+
+-- over the strict steps of an intent
+pub says-handing : (net : Network) (intent : Intent) → IsNetwork net → IsFlat net → IsIntent net intent → (verdict : Verdict)
+    → Says net (ListRealizes net intent) (ListExecutes net intent) verdict → SaysOfHanding net intent verdict
+says-handing net intent network flat is verdict says =
+    says-over (legs_value net intent) net (ListRealizes net intent) (ListExecutes net intent) (ListHands net intent)
+    (legs-mean net intent network flat is) verdict says

@@ -11,6 +11,7 @@ use Rattle.list_certificate.specs.declared.types.Verdict.{Verdict}
 use Rattle.list_certificate.specs.declared.types.Verdict.TheVariants.{Least, NoList, No}
 use Rattle.list_certificate.specs.Certs.{certificate_of}
 use Rattle.list_certificate.specs.Verdicts.{IsVerdict}
+use Rattle.leg_table.specs.Realizes.{ListHands}
 use Rattle.leg_table.specs.Value.{legs_value}
 use Rattle.path_compiler.specs.declared.compiled.Compiled.{Compiled}
 use Rattle.path_compiler.specs.declared.compiled.CompileFault.{CompileFault}
@@ -33,11 +34,15 @@ Says net Realizes Executes (Least containers hops) = IsLeastPair net Realizes Ex
 Says net Realizes Executes NoList = (list : List Container) (need : ℕ) → IsLegalList net list → ¬ Realizes list need
 Says net Realizes Executes (No line why) = Unit {0}
 
--- what it says of the legal lists that hand over even one inner packet of an intent: the pair is the least of theirs too, or there are none
+-- what it says of the legal lists that hand over even one packet, by a relation that says so: the pair is the least of theirs too, or there
+-- are none
+abbrev pub SaysOver : Network → (List Container → ℕ → Type 0) → Verdict → Type 0
+SaysOver net Hands (Least containers need) = IsLeastOfHanding net Hands containers need
+SaysOver net Hands NoList = NoneHandsOver net Hands
+SaysOver net Hands (No line why) = Unit {0}
+
 abbrev pub SaysOfHanding : Network → Intent → Verdict → Type 0
-SaysOfHanding net intent (Least containers need) = IsLeastOfHanding net intent containers need
-SaysOfHanding net intent NoList = NoneHandsOver net intent
-SaysOfHanding net intent (No line why) = Unit {0}
+SaysOfHanding net intent verdict = SaysOver net (ListHands net intent) verdict
 
 -- the verdict on the certificate of what the search found over the strict steps of an intent, wherever its head stands
 abbrev pub Certifies : Network → Intent → Solution → Verdict → Type 0

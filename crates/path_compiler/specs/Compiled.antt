@@ -15,12 +15,12 @@ use Rattle.list_pack.specs.SidLists.{IsLegalList, prefixes_in, steps_in}
 use Rattle.list_pack.specs.Value.{LegsValue}
 use Rattle.list_pack.specs.Paths.{cost_with}
 use Rattle.list_pack.specs.PathLists.{list_of}
-use Rattle.leg_table.specs.Realizes.{ListRealizes, ListExecutes}
+use Rattle.leg_table.specs.Realizes.{ListRealizes, ListExecutes, ListHands}
 use Rattle.leg_table.specs.Value.{legs_value}
 use Rattle.path_compiler.specs.declared.compiled.Compiled.{Compiled}
 use Rattle.path_compiler.specs.declared.compiled.CompileFault.{CompileFault}
 use Rattle.path_compiler.specs.declared.compiled.CompileFault.TheVariants as faults
-use Rattle.path_compiler.specs.Handing.{HandsSomeOver, IsLeastOfHanding, NoneHandsOver}
+use Rattle.path_compiler.specs.Handing.{IsLeastOfHanding, NoneHandsOver}
 
 abbrev pub cost_in : Potential → Cost
 cost_in q = q.cost
@@ -111,17 +111,27 @@ CompileAnswers net intent answer =
 abbrev pub IsCompiled : Network → Intent → Compiled → Type 0
 IsCompiled net intent c = IsKept (legs_value net intent) net (ListRealizes net intent) (ListExecutes net intent) intent c
 
--- the chosen list is the least of the lists that hand over even one inner packet: none needs fewer header bytes, nor has fewer containers,
--- or as many at a hop limit that is not above its need
-pub record IsLeastOfAll (net : Network) (intent : Intent) (c : Compiled) : Type 0 where
-  pub fewest : (list : List Container) (hop : ℕ) → HandsSomeOver net intent list hop → c.header ≤ header_bytes intent.reduced (length list)
-  pub least : IsLeastOfHanding net intent c.containers c.need
+-- ---- the lists that hand over even one packet
 
--- what an answer says of these lists: the chosen list is the least of them, and where there is none, there are none of them
+-- the chosen list is the least of these: none needs fewer header bytes, nor has fewer containers, or as many at a hop limit that is not
+-- above its need
+pub record IsLeastOver (net : Network) (Hands : List Container → ℕ → Type 0) (reduced : Bool) (c : Compiled) : Type 0 where
+  pub fewest : (list : List Container) (hop : ℕ) → IsLegalList net list → Hands list hop → c.header ≤ header_bytes reduced (length list)
+  pub least : IsLeastOfHanding net Hands c.containers c.need
+
+-- what an answer says of them: the chosen list is the least of them, and where there is none, there are none of them
+abbrev pub NoneLessOver : Network → (List Container → ℕ → Type 0) → Bool → Result Compiled CompileFault → Type 0
+NoneLessOver net Hands reduced (Ok c) = IsLeastOver net Hands reduced c
+NoneLessOver net Hands reduced (Err (faults.NotFlat why)) = Unit {0}
+NoneLessOver net Hands reduced (Err (faults.NoList s)) = NoneHandsOver net Hands
+NoneLessOver net Hands reduced (Err (faults.TooLong c)) = IsLeastOver net Hands reduced c
+NoneLessOver net Hands reduced (Err (faults.HopLimit c)) = IsLeastOver net Hands reduced c
+NoneLessOver net Hands reduced (Err faults.NoMemory) = Unit {0}
+
+-- over the strict steps of an intent
+
+abbrev pub IsLeastOfAll : Network → Intent → Compiled → Type 0
+IsLeastOfAll net intent c = IsLeastOver net (ListHands net intent) intent.reduced c
+
 abbrev pub NoLessHandsOver : Network → Intent → Result Compiled CompileFault → Type 0
-NoLessHandsOver net intent (Ok c) = IsLeastOfAll net intent c
-NoLessHandsOver net intent (Err (faults.NotFlat why)) = Unit {0}
-NoLessHandsOver net intent (Err (faults.NoList s)) = NoneHandsOver net intent
-NoLessHandsOver net intent (Err (faults.TooLong c)) = IsLeastOfAll net intent c
-NoLessHandsOver net intent (Err (faults.HopLimit c)) = IsLeastOfAll net intent c
-NoLessHandsOver net intent (Err faults.NoMemory) = Unit {0}
+NoLessHandsOver net intent answer = NoneLessOver net (ListHands net intent) intent.reduced answer

@@ -1,6 +1,6 @@
 //! Laws of compiled lists and certificates, each the contract of a function that does nothing.
 
-ghost use Rattle.std.specs.Prelude.{◌≡◌, Bool, [], Result};
+ghost use Rattle.std.specs.Prelude.{◌≡◌, ◌≢◌, Bool, [], Result, Err};
 ghost use Rattle.net_model.specs.Network.{Network};
 ghost use Rattle.net_model.specs.Rules.{IsNetwork};
 ghost use Rattle.net_model.specs.Flat.{IsFlat};
@@ -15,6 +15,7 @@ ghost use Rattle.leg_table.specs.Value.{legs_value};
 ghost use Rattle.path_compiler.specs.declared.compiled.Compiled.{Compiled};
 ghost use Rattle.path_compiler.specs.declared.compiled.CompileFault.{CompileFault};
 ghost use Rattle.path_compiler.specs.Checked.{Certifies, CertifiesAnswer, Says, SaysOfHanding};
+ghost use Rattle.path_compiler.specs.declared.compiled.CompileFault.TheVariants as faults;
 ghost use Rattle.path_compiler.specs.Compiled.{CompileAnswers, IsFound};
 
 /// In a flat network the certificate of what the search found, wherever its head stands, is judged
@@ -32,6 +33,14 @@ pub fn a_certificate_tells_what_was_compiled()
     ensures answers { (net : Network) (intent : Intent) (answer : Result Compiled CompileFault)
         → IsNetwork net → IsIntent net intent → CompileAnswers net intent answer
         → CertifiesAnswer net intent answer }
+{}
+
+/// But for want of memory an intent has one answer of `compile` in a network: one refusal, or one list
+/// with its numbers; and what the search found is one too. (own rule)
+pub fn an_intent_has_one_answer()
+    ensures { (net : Network) (intent : Intent) (a b : Result Compiled CompileFault)
+        → CompileAnswers net intent a → CompileAnswers net intent b
+        → a ≢ Err faults.NoMemory → b ≢ Err faults.NoMemory → a ≡ b }
 {}
 
 /// What a verdict says of the legal lists that realize an intent holds in a flat network of those too

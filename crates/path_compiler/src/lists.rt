@@ -5,7 +5,7 @@ ghost use Rattle.std.specs.Option.{option_map};
 ghost use Rattle.net_model.specs.Flat.{flatness_of};
 ghost use Rattle.intent_reader.specs.Rules.{IsIntent};
 ghost use Rattle.list_pack.specs.Least.{IsSolution};
-ghost use Rattle.path_compiler.specs.Compiled.{AnswersOver, CompileAnswers, IsFound, IsListIn, NoLessHandsOver, cost_in};
+ghost use Rattle.path_compiler.specs.Compiled.{AnswersOver, CompileAnswers, IsFound, IsListIn, NoLessHandsOver, NoneLessOver, cost_in};
 
 use crate::compiled::{CompileFault, Compiled};
 use base::NoMemory;
@@ -87,14 +87,8 @@ fn judged<L: ListLegs>(
     Ok(found)
 }
 
-/// Compiles to the least list over any legs of a flat network that mean what their lists realize:
-/// no legal list of the network that realizes it has fewer containers of 16 bytes, or as many and a
-/// smaller need, and of equal ones all of whose SIDs are executed it is the first, SID by SID (own
-/// rule; containers are those of RFC 9800 sections 6.2 to 6.4, the header is that of RFC 8986
-/// sections 5.1 and 5.2). The intent gives the form of the header and the bounds: `NoList` exactly
-/// where no legal list realizes it, else `TooLong` where the least list has more than
-/// `max_containers` containers, else `HopLimit` where its need is not below `hop_limit`.
-pub fn compile_over<L: ListLegs>(
+// the answer over any legs of a flat network
+fn answer_over<L: ListLegs>(
     alloc: Global,
     net: &Net,
     intent: &Intent,
@@ -117,6 +111,32 @@ pub fn compile_over<L: ListLegs>(
         Ok(found) => judged(net, intent, legs, found),
         Err(NoMemory) => Err(CompileFault::NoMemory),
     }
+}
+
+/// Compiles to the least list over any legs of a flat network that mean what their lists realize:
+/// no legal list of the network that realizes it has fewer containers of 16 bytes, or as many and a
+/// smaller need, and of equal ones all of whose SIDs are executed it is the first, SID by SID (own
+/// rule; containers are those of RFC 9800 sections 6.2 to 6.4, the header is that of RFC 8986
+/// sections 5.1 and 5.2). The intent gives the form of the header and the bounds: `NoList` exactly
+/// where no legal list realizes it, else `TooLong` where the least list has more than
+/// `max_containers` containers, else `HopLimit` where its need is not below `hop_limit`. Of the legal
+/// lists that hand over even one packet at one hop limit none is less either: none needs fewer header
+/// bytes, nor has fewer containers, or as many at a hop limit that is not above the need; and with
+/// `NoList` there are none.
+pub fn compile_over<L: ListLegs>(
+    alloc: Global,
+    net: &Net,
+    intent: &Intent,
+    legs: &L,
+) -> Result<Compiled, CompileFault>
+    requires network { L.network legs.now ≡ net.now }
+    requires flat { flatness_of net.now ≡ Ok tt }
+    ensures answer { AnswersOver (L.seen legs.now) net.now (L.realizes legs.now)
+        (L.executes legs.now) intent.now result }
+    ensures handing { NoneLessOver net.now (L.hands legs.now) intent.now.reduced result }
+{
+    legs.keeps_meaning();
+    answer_over(alloc, net, intent, legs)
 }
 
 /// Compiles an intent that keeps the rules in a network to the least legal list of SIDs that takes

@@ -1,11 +1,13 @@
 -- What `Serves` says of each fault and of each want of memory in a sink by itself.
-use Rattle.std.specs.Prelude.{◌≡◌, ◌⊎◌, true, IsTrue}
+use Rattle.std.specs.Prelude.{◌≡◌, ◌⊎◌, ℕ, true, IsTrue, List}
 use Rattle.srx_edge.specs.Edge.{next_count}
 use Rattle.srx_edge.specs.Sinks.{SinkSeen}
 use Rattle.command_output.specs.declared.status.Status.{Status}
 use Rattle.srv6_cli.specs.Command.{shape_of}
 use Rattle.srv6_cli.specs.Words.{Command}
 use Rattle.command_output.specs.Outside.{Outside}
+use Rattle.command_output.specs.Pieces.{Output}
+use Rattle.command_output.specs.Shape.{Held}
 use Rattle.srv6_cli.specs.Serves.{Serves}
 
 -- a sink had one fault, or one want, and no call that did anything came after it
@@ -48,6 +50,11 @@ NoWant old new = (new.sinks.out.wants ≡ old.sinks.out.wants) × (new.sinks.err
 abbrev pub OneFault : Outside → Outside → Type 0
 OneFault old new = (new.files.faults ≡ next_count old.files.faults) ⊎ ((new.input.faults ≡ next_count old.input.faults)
     ⊎ ((new.sinks.out.faults ≡ next_count old.sinks.out.faults) ⊎ (new.sinks.err.faults ≡ next_count old.sinks.err.faults)))
+
+-- with one content of the files and one input, a command has one output
+abbrev pub HasOneOutput : Command → Type 0
+HasOneOutput command = (held : Held) (input : List ℕ) (a b : Output) → (shape_of command).wants held input a
+    → (shape_of command).wants held input b → a ≡ b
 
 -- of what `serve` leaves
 abbrev pub OfServe : (Command → Status → Outside → Outside → Type 0) → Type 0

@@ -1,8 +1,9 @@
 //! What the contract of `serve` says of each fault and of each want of memory in a sink by itself.
 //! Each law is of every call, also over files, an input and sinks that tell nothing.
 
-ghost use Rattle.std.specs.Prelude.{◌≡◌, ◌≢◌};
-ghost use Rattle.srv6_cli.specs.Laws.{OfServe, HadFault, HadWant, AfterFilesFault, AfterInputFault, AfterOutFault, AfterOutWant, NoFault, NoWant, OneFault};
+ghost use Rattle.std.specs.Prelude.{◌≡◌, ◌≢◌, ℕ, List};
+ghost use Rattle.srv6_cli.specs.Laws.{OfServe, HadFault, HadWant, AfterFilesFault, AfterInputFault, AfterOutFault, AfterOutWant, HasOneOutput, NoFault, NoWant, OneFault};
+ghost use Rattle.srv6_cli.specs.Words as commands;
 
 use command_output::Status;
 
@@ -42,4 +43,12 @@ pub fn counts_go_with_their_status()
         status ≢ Status.OutsideFault → NoFault old new) }
     ensures no_want { OfServe (λ command status old new.
         status ≢ Status.NoMemory → NoWant old new) }
+{}
+
+/// The output that `serve` wants of `compile`, and of `walk`, is one: with one content of the files
+/// and one input there are no two. (own rule)
+pub fn compile_and_walk_have_one_output()
+    ensures compile { (file intent : List ℕ) → HasOneOutput (commands.Compile file intent) }
+    ensures walk { (file intent choices schedule : List ℕ) →
+        HasOneOutput (commands.Walk file intent choices schedule) }
 {}

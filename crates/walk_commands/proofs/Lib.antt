@@ -6,5 +6,6 @@ pub mod WalkEnds
 pub mod WalkKeeping
 pub mod WalkStarts
 pub mod WalkSteps
+pub mod OneOutput
 pub mod Scheduling
 pub mod Mixing

@@ -9,7 +9,9 @@ ghost use Rattle.command_inputs.specs.declared.packets.Packets.{Packets};
 ghost use Rattle.command_inputs.specs.Packets.{reading_of};
 ghost use Rattle.run_commands.specs.Capture.{frames_of};
 ghost use Rattle.run_commands.specs.Scheduled.{frames_sent, line_of_walk, lines_told};
-ghost use Rattle.walk_commands.specs.Walk.{WalksKeepTo, comings_at_headend};
+ghost use Rattle.command_output.specs.Pieces.{Output};
+ghost use Rattle.command_output.specs.Shape.{Held};
+ghost use Rattle.walk_commands.specs.Walk.{WalksKeepTo, comings_at_headend, walk_shape};
 
 /// An inner packet of the intent's family whose hop limit or TTL is at least 2, and whose outer
 /// packet is not too big, enters at the headend. Its walk, which `walk` writes, crosses and
@@ -37,4 +39,12 @@ pub fn a_schedule_mixes_walks()
     ensures walks { (net : Network) (intent : Intent) (policy : Policy) (choices : List ℕ)
         (packets : Packets) → All (λ c. 0 < length c.steps)
         (comings_at_headend net intent policy choices (reading_of packets).frames) }
+{}
+
+/// With one description, one intent and one input `walk` has one output, by its choices and its
+/// schedule. (own rule)
+pub fn walk_has_one_output()
+    ensures { (file intent choices schedule : List ℕ) (held : Held) (input : List ℕ) (a b : Output)
+        → (walk_shape file intent choices schedule).wants held input a
+        → (walk_shape file intent choices schedule).wants held input b → a ≡ b }
 {}

@@ -1,5 +1,5 @@
--- A path of legs and a finish hands an encapsulated packet over.
-use Rattle.std.proofs.Common.{◌≡◌, ℕ, suc, ◌+◌, ◌-◌, ◌<◌, ◌≤◌, inr, true, List, [], ◌∷◌, ◌++◌, length, drop, map, Option, Some, None, slice_get, refl, sym, ◌∙◌, ap, subst, arith}
+-- Up from a leg, and from a finish: where an encapsulated packet comes to.
+use Rattle.std.proofs.Common.{◌≡◌, ℕ, suc, ◌+◌, ◌-◌, ◌<◌, ◌≤◌, inr, true, List, [], ◌∷◌, ◌++◌, length, drop, map, Option, Some, None, slice_get, refl, sym, ◌∙◌, ap, subst, arith, append_assoc}
 use Rattle.std.specs.Option.{option_map}
 use Rattle.std.proofs.lemmas.List.{length-drop}
 use Rattle.srv6_rules.specs.declared.sid.Family.TheVariants as families
@@ -17,33 +17,27 @@ use Rattle.intent_reader.specs.Rules.{IsIntent}
 use Rattle.intent_reader.specs.declared.intent.Step.{Step}
 use Rattle.intent_reader.specs.declared.intent.Intent.{Intent}
 use Rattle.list_places.specs.Places as lists
-use Rattle.list_places.specs.Places.{Tunnel, active, sids_from, next_of, StandsOn, Along}
+use Rattle.list_places.specs.Places.{Tunnel, active, next_of, StandsOn, Along}
 use Rattle.list_places.proofs.PublicLaws.{along-hop, along-sent}
 use Rattle.list_pack.specs.declared.types.Leg.{Leg}
 use Rattle.list_pack.specs.SidLists.{list_sid}
 use Rattle.leg_table.proofs.FlatNets.{FlatFacts}
-use Rattle.leg_table.specs.Trace.{executed, Handed, after_events, after_execution, handed_over}
+use Rattle.leg_table.specs.Trace.{Event, executed, Handed, after_events, after_execution, handed_over}
 use Rattle.leg_table.specs.Tasks.{matches}
 use Rattle.leg_table.specs.Ride.{ride_of, with_hop_limit}
 use Rattle.leg_table.specs.Sids.{prefix_by, prefix_at, hands_over}
 use Rattle.leg_table.specs.Leg.{place_behind, place_from, leg_of, finish_of}
-use Rattle.list_pack.specs.Paths.{with_hops}
-use Rattle.leg_table.specs.Realizes.{path_need}
+use Rattle.leg_table.specs.OneLeg.{LegKind, OnWay, IsTakenOn, HandsBy}
+use Rattle.leg_table.specs.Value.{strict_kind}
 use Rattle.leg_table.proofs.Alike.{address-alike}
 use Rattle.leg_table.proofs.Options.{map-some, some-same}
 use Rattle.leg_table.proofs.RideFacts.{RideFacts, ride-facts, StartFacts, start-facts}
 use Rattle.leg_table.proofs.NextRides.{NextRide, leg-ride, finish-ride, middle-sid, last-sid}
-use Rattle.leg_table.proofs.ListPlaces.{active-is, next-none, next-some, address-at}
+use Rattle.leg_table.proofs.ListPlaces.{address-at}
+use Rattle.leg_table.proofs.PathNames.{shape-prefix}
 use Rattle.leg_table.proofs.StrictLaws.{drop-drop}
 use Rattle.leg_table.proofs.Handing.{handed-stage, handed-behind, ride-walk}
 use Rattle.leg_table.proofs.Segments.{behind-again, mid-onward, last-exposes, left-behind, behind-alone}
-
-pub with_hops-some : (o : Option Leg) (later : ℕ → Option ℕ) (need : ℕ) → with_hops o later ≡ Some need
-    → (leg : Leg) × (o ≡ Some leg) × (k : ℕ) × (later leg.to ≡ Some k) × (leg.hops + k ≡ need)
-with_hops-some None later need h = absurd (cc)
-with_hops-some (Some leg) later need h =
-    let got = map-some (λ (n : ℕ). leg.hops + n) (later leg.to) need h in
-    (leg, refl, got.0, got.1, got.2)
 
 -- the steps left behind a ride and an execution are the last ones of the intent
 pub rest-is : (steps ts us : List Step) (position count left : ℕ) → ts ≡ drop count (drop position steps)
@@ -58,14 +52,10 @@ rest-is steps ts us position count left e f g h p few =
     ∙ drop-drop (position + count) (length ts - length us) steps
     ∙ ap (λ (k : ℕ). drop k steps) d
 
--- the SIDs from a place on have these numbers
-abbrev pub Names : Network → lists.Place → List ℕ → Type 0
-Names net x ns = sids_from x ≡ map (list_sid net) (map (prefix_at net) ns)
-
 module _ (net : Network) (keeps : Keeps net) (facts : FlatFacts net) (intent : Intent) (is_intent : IsIntent net intent)
     (tunnel : Tunnel) where
   -- where the packet comes to by the ride to the next SID, whose place in the list it stands at
-  pub record Rides-to (position : ℕ) (via : Option ℕ) (next : ℕ) (x : lists.Place) (hop : ℕ) (p : Packet)
+  pub record Rides-to (position : ℕ) (via : Option ℕ) (next : ℕ) (x : lists.ListPlace) (hop : ℕ) (p : Packet)
       (n : NextRide net intent position via next)
       : Type 0 where
     pub start : StartFacts net intent position n.place
@@ -76,7 +66,7 @@ module _ (net : Network) (keeps : Keeps net) (facts : FlatFacts net) (intent : I
     pub along : (k : ℕ) → hop - n.ride.lowered ≡ k → Along tunnel x k (with_hop_limit (p.hop_limit - n.ride.lowered) p)
     pub hop_limit : p.hop_limit ≡ hop
 
-  pub rides-to : (position : ℕ) (via : Option ℕ) (next : ℕ) (x : lists.Place) (hop : ℕ) (p : Packet)
+  pub rides-to : (position : ℕ) (via : Option ℕ) (next : ℕ) (x : lists.ListPlace) (hop : ℕ) (p : Packet)
       (n : NextRide net intent position via next)
       → (s : SidEntry) → slice_get net.sids next ≡ Some s → active x ≡ list_sid net (prefix_at net next) → Along tunnel x hop p
       → Rides-to position via next x hop p n
@@ -102,56 +92,54 @@ module _ (net : Network) (keeps : Keeps net) (facts : FlatFacts net) (intent : I
         hop_limit = limit;
       }
 
-  pub record Hands (position : ℕ) (p : Packet) (ns : List ℕ) (place : Place) (pick : ℕ → ℕ) (taken : ℕ) : Type 0 where
-    pub fuel : ℕ
-    pub handed : Handed
-    pub is_handed : handed_over net (walk_of fuel net (Some place) (V6 p) pick taken) ≡ Some handed
-    pub meets_steps : matches (drop position intent.steps) handed.trace ≡ true
-    pub executes : handed.sids ≡ ns
-    pub content : handed.content ≡ read_as tunnel.inner tunnel.bytes
-
   none-left : (us : List Step) → length us ≡ 0 → matches us [] ≡ true
   none-left [] h = refl
   none-left (u ∷ us) h = absurd (omega arith)
 
-  finish-hands : (position : ℕ) (via : Option ℕ) (next : ℕ) (x : lists.Place) (hop : ℕ) (p : Packet) (need : ℕ) (pick : ℕ → ℕ) (taken : ℕ)
-      → finish_of net intent position via next ≡ Some need → tunnel.inner ≡ intent.inner
-      → Along tunnel x hop p → Names net x (next ∷ []) → need < hop
-      → (place : Place) × (place_from net intent via ≡ Some place) × Hands position p (next ∷ []) place pick taken
-  finish-hands position via next x hop p need pick taken h family along names high =
-      let got = finish-ride net intent position via next need h in
+  abbrev k : LegKind
+  k = strict_kind net intent
+
+  pub to-sid : (x : lists.ListPlace) (hop : ℕ) (p : Packet) (next : ℕ) → OnWay k tunnel x hop p next
+      → active x ≡ list_sid net (prefix_at net next)
+  to-sid x hop p next on = on.to ∙ ap (list_sid net) (shape-prefix net intent next)
+
+  -- up from a finish
+  pub finish-up : (x : lists.ListPlace) (position : ℕ) (via : Option ℕ) (next lowered : ℕ) (hop : ℕ) (p : Packet) (pick : ℕ → ℕ) (taken : ℕ)
+      → tunnel.inner ≡ intent.inner → finish_of net intent position via next ≡ Some lowered → OnWay k tunnel x hop p next
+      → next_of x ≡ None → lowered < hop → HandsBy k tunnel position via p (next ∷ []) pick taken
+  finish-up x position via next lowered hop p pick taken family h on end high =
+      let got = finish-ride net intent position via next lowered h in
       let n = got.0 in
       let ts = drop position intent.steps in
       let sid = last-sid net intent.inner next got.1 in
-      let a = rides-to position via next x hop p n sid.0 sid.1 (active-is x _ [] names) along in
-      let low : n.ride.lowered < p.hop_limit = omega (arith, got.2, a.hop_limit) in
+      let a = rides-to position via next x hop p n sid.0 sid.1 (to-sid x hop p next on) on.along in
+      let low : n.ride.lowered < p.hop_limit = omega (arith, high, got.2, a.hop_limit) in
       let w = ride-walk net keeps ts n.place p n.ride a.start.how a.start.rest a.ride (inr low) in
       let q = with_hop_limit (p.hop_limit - n.ride.lowered) p in
       let shows = ap (λ f. hands_over f sid.0) family ∙ sid.2 in
       let stage = last-exposes net tunnel x (hop - n.ride.lowered) q (a.along (hop - n.ride.lowered) refl) n.ride.place next
-      (pick (taken + w.count)) sid.0 a.into sid.1 (a.on sid.0 sid.1) (next-none x _ names) shows in
-      let left = left-behind net next n.ride.left 0 (n.left_is ∙ ap Some got.3) in (
-        n.place,
-        n.from,
-        record {
-          fuel = w.count + 1;
-          handed = record {
-            trace = w.events pick taken ++ executed net next;
-            sids = next ∷ [];
-            content = read_as tunnel.inner tunnel.bytes;
-          };
-          is_handed =
-              w.walk pick taken 1
+      (pick (taken + w.count)) sid.0 a.into sid.1 (a.on sid.0 sid.1) end shows in
+      let left = left-behind net next n.ride.left 0 (n.left_is ∙ ap Some got.3) in
+      record {
+        handed = record {
+          trace = w.events pick taken ++ executed net next;
+          sids = next ∷ [];
+          content = read_as tunnel.inner tunnel.bytes;
+        };
+        over = (
+          w.count + 1,
+          ap (λ (o : Option Place). handed_over net (walk_of (w.count + 1) net o (V6 p) pick taken)) n.from
+              ∙ w.walk pick taken 1
               ∙ ap (option_map (after_events (w.events pick taken)))
-              (handed-stage net 0 n.ride.place (V6 q) pick (taken + w.count) _ stage);
-          meets_steps =
-              w.meets_them pick taken (executed net next)
-              ∙ behind-alone net next n.ride.left left.0 left.1
-              ∙ none-left left.0 left.2;
-          executes = refl;
-          content = refl;
-        },
-      )
+              (handed-stage net 0 n.ride.place (V6 q) pick (taken + w.count) _ stage),
+        );
+        meets =
+            w.meets_them pick taken (executed net next)
+            ∙ behind-alone net next n.ride.left left.0 left.1
+            ∙ none-left left.0 left.2;
+        sids = refl;
+        content = refl;
+      }
 
   -- what is handed over behind the execution at a SID that is not the last
   behind : (at : Place) (next : ℕ) (sid : SidEntry) (fuel : ℕ) (q r : Packet) (pick : ℕ → ℕ) (taken : ℕ) (place : Place) (h : Handed)
@@ -167,64 +155,53 @@ module _ (net : Network) (keeps : Keeps net) (facts : FlatFacts net) (intent : I
       handed-behind net fuel at place (V6 q) (V6 r) pick taken next (onward_from next sid.behaviour) h gives
       (behind-again net at next sid node v6 ∙ (sym (ap (option_map (place_behind next)) there) ∙ from)) handed
 
-  leg-hands : (position : ℕ) (via : Option ℕ) (next : ℕ) (x y : lists.Place) (hop : ℕ) (p : Packet) (k : ℕ) (leg : Leg) (ns : List ℕ)
-      (pick : ℕ → ℕ) (taken : ℕ)
-      → leg_of net intent position via next ≡ Some leg → Along tunnel x hop p → active x ≡ list_sid net (prefix_at net next)
-      → next_of x ≡ Some y → leg.hops + k < hop
-      → ((q : Packet) (pick : ℕ → ℕ) (taken : ℕ) → Along tunnel y (hop - leg.hops) q
-      → (place : Place) × (place_from net intent (Some next) ≡ Some place) × Hands leg.to q ns place pick taken)
-      → (place : Place) × (place_from net intent via ≡ Some place) × Hands position p (next ∷ ns) place pick taken
-  leg-hands position via next x y hop p k leg ns pick taken h along is to high later =
+  -- up from a leg
+  pub leg-up : (x y : lists.ListPlace) (position : ℕ) (via : Option ℕ) (next : ℕ) (leg : Leg) (hop : ℕ) (p : Packet) (pick : ℕ → ℕ)
+      (taken : ℕ)
+      → leg_of net intent position via next ≡ Some leg → OnWay k tunnel x hop p next → next_of x ≡ Some y → leg.hops < hop
+      → IsTakenOn k tunnel y position via next leg hop p pick taken
+  leg-up x y position via next leg hop p pick taken h on to high =
       let got = leg-ride net intent position via next leg h in
       let n = got.0 in
       let ts = drop position intent.steps in
       let sid = middle-sid net next got.1 in
-      let a = rides-to position via next x hop p n sid.0 sid.1 is along in
+      let a = rides-to position via next x hop p n sid.0 sid.1 (to-sid x hop p next on) on.along in
       let hops : n.ride.lowered + 1 ≡ leg.hops = ap (λ (l : Leg). l.hops) got.2 in
       let ends : length intent.steps - n.left ≡ leg.to = ap (λ (l : Leg). l.to) got.2 in
-      let low : n.ride.lowered < p.hop_limit = omega (arith, a.hop_limit) in
+      let low : n.ride.lowered < p.hop_limit = omega (arith, hops, high, a.hop_limit) in
       let w = ride-walk net keeps ts n.place p n.ride a.start.how a.start.rest a.ride (inr low) in
       let q = with_hop_limit (p.hop_limit - n.ride.lowered) p in
       let stage = mid-onward net tunnel x (hop - n.ride.lowered) q (a.along (hop - n.ride.lowered) refl) n.ride.place next
-      (pick (taken + w.count)) sid.0 a.into sid.1 (a.on sid.0 sid.1) sid.2 y to (omega arith) in
-      let less : hop - n.ride.lowered - 1 ≡ hop - leg.hops = omega arith in
+      (pick (taken + w.count)) sid.0 a.into sid.1 (a.on sid.0 sid.1) sid.2 y to (omega (arith, hops, high)) in
+      let less : hop - n.ride.lowered - 1 ≡ hop - leg.hops = omega (arith, hops) in
       let left = left-behind net next n.ride.left n.left n.left_is in
-      let rest = later stage.0 pick (taken + w.count + 0) (subst (λ (j : ℕ). Along tunnel y j stage.0) less stage.2) in
-      let hand = rest.2 in
       let us_rest = rest-is intent.steps n.ride.left left.0 position a.ride_facts.count n.left a.ride_facts.left left.1.rest left.2
-      a.ride_facts.within a.start.within left.1.few in (
-        n.place,
-        n.from,
-        record {
-          fuel = w.count + suc hand.fuel;
-          handed = after_events (w.events pick taken) (after_execution net next hand.handed);
-          is_handed =
-              w.walk pick taken (suc hand.fuel)
-              ∙ ap (option_map (after_events (w.events pick taken)))
-              (behind n.ride.place next sid.0 hand.fuel q stage.0 pick (taken + w.count) rest.0 hand.handed
-              (a.ride_facts.family ∙ a.start.family) sid.1 a.into stage.1 rest.1 hand.is_handed);
-          meets_steps =
-              w.meets_them pick taken (executed net next ++ hand.handed.trace)
-              ∙ left.1.same hand.handed.trace
-              ∙ ap (λ (us : List Step). matches us hand.handed.trace) (us_rest ∙ ap (λ (j : ℕ). drop j intent.steps) ends)
-              ∙ hand.meets_steps;
-          executes = ap (λ (ms : List ℕ). next ∷ ms) hand.executes;
-          content = hand.content;
-        },
-      )
-
-  -- a path hands over above its need
-  pub path-hands : (more : List ℕ) (next position : ℕ) (via : Option ℕ) (x : lists.Place) (hop : ℕ) (p : Packet) (need : ℕ) (pick : ℕ → ℕ)
-      (taken : ℕ)
-      → tunnel.inner ≡ intent.inner → Along tunnel x hop p → Names net x (next ∷ more)
-      → path_need net intent position via (next ∷ more) ≡ Some need → need < hop
-      → (place : Place) × (place_from net intent via ≡ Some place) × Hands position p (next ∷ more) place pick taken
-  path-hands [] next position via x hop p need pick taken family along names h high =
-      finish-hands position via next x hop p need pick taken h family along names high
-  path-hands (m ∷ more) next position via x hop p need pick taken family along names h high =
-      let got = with_hops-some (leg_of net intent position via next) (λ to. path_need net intent to (Some next) (m ∷ more)) need h in
-      let further = next-some x _ _ _ names in
-      leg-hands position via next x further.0 hop p got.2 got.0 (m ∷ more) pick taken got.1 along (active-is x _ _ names) further.1
-      (omega (arith, got.4, high))
-      (λ q pick taken at. path-hands more m got.0.to (Some next) further.0 (hop - got.0.hops) q got.2 pick taken family at further.2 got.3
-      (omega (arith, got.4, high)))
+      a.ride_facts.within a.start.within left.1.few in
+      let from : place_from net intent (Some next) ≡ Some (place_behind next sid.0) = ap (option_map (place_behind next)) sid.1 in
+      let events = w.events pick taken in
+      record {
+        lowered = leg.hops;
+        few = omega arith;
+        packet = stage.0;
+        along = subst (λ (j : ℕ). Along tunnel y j stage.0) less stage.2;
+        events = events ++ executed net next;
+        leads = λ more.
+            ap (matches ts) (append_assoc events (executed net next) more)
+            ∙ w.meets_them pick taken (executed net next ++ more)
+            ∙ left.1.same more
+            ∙ ap (λ (us : List Step). matches us more) (us_rest ∙ ap (λ (j : ℕ). drop j intent.steps) ends);
+        count = w.count + 1;
+        chosen = taken + w.count + 0;
+        passes = λ fuel h is.
+            let more : w.count + 1 + fuel ≡ w.count + suc fuel = omega arith in
+            let there : handed_over net (walk_of fuel net (Some (place_behind next sid.0)) (V6 stage.0) pick (taken + w.count + 0)) ≡ Some h
+            = sym (ap (λ (o : Option Place). handed_over net (walk_of fuel net o (V6 stage.0) pick (taken + w.count + 0))) from) ∙ is in
+            ap (λ (m : ℕ). handed_over net (walk_of m net (place_from net intent via) (V6 p) pick taken)) more
+            ∙ ap (λ (o : Option Place). handed_over net (walk_of (w.count + suc fuel) net o (V6 p) pick taken)) n.from
+            ∙ w.walk pick taken (suc fuel)
+            ∙ ap (option_map (after_events events))
+            (behind n.ride.place next sid.0 fuel q stage.0 pick (taken + w.count) (place_behind next sid.0) h
+            (a.ride_facts.family ∙ a.start.family) sid.1 a.into stage.1 from there)
+            ∙ ap (λ (es : List Event). Some (record { trace = es; sids = next ∷ h.sids; content = h.content }))
+            (sym (append_assoc events (executed net next) h.trace));
+      }

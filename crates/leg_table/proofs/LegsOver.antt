@@ -1,4 +1,4 @@
--- A walk that hands over along a path executes the path's SIDs, and its hop limit is above what the path needs.
+-- Over a leg, and over a finish: what is handed over of a packet on it, whose hop limit is above what it needs.
 use Rattle.std.proofs.Common.{◌≡◌, ℕ, ◌+◌, ◌-◌, ◌<◌, ◌≤◌, ◌⊎◌, inl, inr, Bool, true, false, List, [], ◌∷◌, drop, Option, Some, None, slice_get, refl, sym, ◌∙◌, ap, subst, arith}
 use Rattle.std.specs.Prelude.{is_some, nat_le}
 use Rattle.std.specs.List.{list_all}
@@ -26,22 +26,21 @@ use Rattle.intent_reader.specs.declared.intent.Intent.{Intent}
 use Rattle.list_places.specs.Places as lists
 use Rattle.list_places.specs.Places.{Tunnel, active, next_of, StandsOn, Along}
 use Rattle.list_pack.specs.declared.types.Leg.{Leg}
-use Rattle.list_pack.specs.SidLists.{list_sid}
 use Rattle.leg_table.proofs.FlatNets.{FlatFacts}
 use Rattle.leg_table.specs.Trace.{Crossed, executed, Handed, after_events, after_execution, handed_first, handed_over}
 use Rattle.leg_table.specs.Tasks.{has_link}
 use Rattle.leg_table.specs.Ride.{Ride, one_if, more_lowered, ride_on, ride_by, ride_end, ride_of, with_hop_limit}
-use Rattle.leg_table.specs.Sids.{prefix_at, takes_step, hands_over}
+use Rattle.leg_table.specs.Sids.{takes_step, hands_over}
 use Rattle.leg_table.specs.Leg.{place_behind, place_from, leg_of, finish_of}
-use Rattle.leg_table.specs.Realizes.{path_need}
+use Rattle.leg_table.specs.OneLeg.{LegKind, HandsOver, OnWay, GoesOver}
+use Rattle.leg_table.specs.Value.{strict_kind, AnyWay}
 use Rattle.leg_table.proofs.Links.{member-of_all, far_end-is, link_ends, first_end-is, step_opens}
-use Rattle.leg_table.proofs.ListPlaces.{active-is, next-none, next-some}
 use Rattle.leg_table.proofs.Options.{map-some, if-some, some-same}
 use Rattle.leg_table.proofs.Rides.{arrived}
 use Rattle.leg_table.proofs.NextRides.{leg-ride, finish-ride, middle-sid, last-sid}
 use Rattle.leg_table.proofs.Handing.{Free, RideWalk, ride-walk, first-stage, handed-more}
 use Rattle.leg_table.proofs.Segments.{behind-again, mid-onward, mid-low, last-exposes}
-use Rattle.leg_table.proofs.PathsUp.{with_hops-some, Names, rides-to}
+use Rattle.leg_table.proofs.LegsUp.{rides-to, to-sid}
 
 -- a walk that hands over
 abbrev pub Hands-over : Network → Place → Content → (ℕ → ℕ) → ℕ → Handed → Type 0
@@ -183,7 +182,7 @@ module _ (net : Network) (keeps : Keeps net) where
           subst (λ (x : Ride). Free x.lowered p.hop_limit) got.2 (free-on lower got.0.lowered p sends.0 free)
 
 -- behind the execution of a middle SID that is not the last
-pub record Behind (net : Network) (tunnel : Tunnel) (next : ℕ) (sid : SidEntry) (y : lists.Place) (limit : ℕ) (pick : ℕ → ℕ) (taken : ℕ)
+pub record Behind (net : Network) (tunnel : Tunnel) (next : ℕ) (sid : SidEntry) (y : lists.ListPlace) (limit : ℕ) (pick : ℕ → ℕ) (taken : ℕ)
     (h : Handed) : Type 0 where
   pub high : 1 < limit
   pub packet : Packet
@@ -192,7 +191,7 @@ pub record Behind (net : Network) (tunnel : Tunnel) (next : ℕ) (sid : SidEntry
   pub hands : Hands-over net (place_behind next sid) (V6 packet) pick (taken + 0) handed
   pub behind : after_execution net next handed ≡ h
 
-pub mid-over : (net : Network) (tunnel : Tunnel) (at : Place) (next : ℕ) (sid : SidEntry) (x y : lists.Place) (limit : ℕ) (q : Packet)
+pub mid-over : (net : Network) (tunnel : Tunnel) (at : Place) (next : ℕ) (sid : SidEntry) (x y : lists.ListPlace) (limit : ℕ) (q : Packet)
     → Along tunnel x limit q → way_of net at q.destination ≡ Into next → slice_get net.sids next ≡ Some sid → StandsOn sid (active x)
     → takes_step sid ≡ true → next_of x ≡ Some y → at.family ≡ families.V6
     → (pick : ℕ → ℕ) (taken : ℕ) (h : Handed) → Hands-over net at (V6 q) pick taken h → Behind net tunnel next sid y limit pick taken h
@@ -213,54 +212,61 @@ mid-over net tunnel at next sid x y limit q along into there on takes to v6 pick
 
 module _ (net : Network) (keeps : Keeps net) (facts : FlatFacts net) (intent : Intent) (is_intent : IsIntent net intent)
     (tunnel : Tunnel) where
-  -- what is so of a walk that hands over along a path
-  abbrev pub Executes : List ℕ → ℕ → ℕ → Handed → Type 0
-  Executes ns need hop h = (h.sids ≡ ns) × (0 < hop → need < hop)
+  abbrev k : LegKind
+  k = strict_kind net intent
 
   above-free : (k hop : ℕ) → Free k hop → 0 < hop → k < hop
   above-free k hop (inl none) positive = omega arith
   above-free k hop (inr low) positive = low
 
-  finish-executes : (position : ℕ) (via : Option ℕ) (next : ℕ) (x : lists.Place) (hop : ℕ) (p : Packet) (need : ℕ) (place : Place)
-      (pick : ℕ → ℕ) (taken : ℕ) (h : Handed)
-      → finish_of net intent position via next ≡ Some need → tunnel.inner ≡ intent.inner → Along tunnel x hop p → Names net x (next ∷ [])
-      → place_from net intent via ≡ Some place → Hands-over net place (V6 p) pick taken h → Executes (next ∷ []) need hop h
-  finish-executes position via next x hop p need place pick taken h e family along names from hands =
-      let got = finish-ride net intent position via next need e in
+  -- a walk that hands over, from the place where the packet goes on
+  pub from-place : (via : Option ℕ) (p : Packet) (pick : ℕ → ℕ) (taken : ℕ) (h : Handed) (place : Place) → place_from net intent via ≡ Some place
+      → HandsOver k via p pick taken h → Hands-over net place (V6 p) pick taken h
+  from-place via p pick taken h place from over =
+      (over.0, sym (ap (λ (o : Option Place). handed_over net (walk_of over.0 net o (V6 p) pick taken)) from) ∙ over.1)
+
+  -- over a finish
+  pub finish-over : (x : lists.ListPlace) (position : ℕ) (via : Option ℕ) (next lowered : ℕ) (hop : ℕ) (p : Packet) (pick : ℕ → ℕ)
+      (taken : ℕ) (h : Handed)
+      → tunnel.inner ≡ intent.inner → finish_of net intent position via next ≡ Some lowered → OnWay k tunnel x hop p next
+      → next_of x ≡ None → HandsOver k via p pick taken h
+      → (h.sids ≡ next ∷ []) × (AnyWay via p pick taken → 0 < hop → lowered < hop)
+  finish-over x position via next lowered hop p pick taken h family e on end over =
+      let got = finish-ride net intent position via next lowered e in
       let n = got.0 in
       let ts = drop position intent.steps in
       let sid = last-sid net intent.inner next got.1 in
-      let a = rides-to net keeps facts intent is_intent tunnel position via next x hop p n sid.0 sid.1 (active-is x _ [] names) along in
-      let here : place ≡ n.place = some-same place n.place (sym from ∙ n.from) in
-      let started = subst (λ (l : Place). Hands-over net l (V6 p) pick taken h) here hands in
+      let to = to-sid net keeps facts intent is_intent tunnel x hop p next on in
+      let a = rides-to net keeps facts intent is_intent tunnel position via next x hop p n sid.0 sid.1 to on.along in
+      let started = from-place via p pick taken h n.place n.from over in
       let free = ride-free net keeps ts n.place p n.ride a.start.how a.start.rest a.ride pick taken h started in
       let w = ride-walk net keeps ts n.place p n.ride a.start.how a.start.rest a.ride free in
       let rest = ride-over net ts n.place p n.ride pick taken h w started in
       let q = with_hop_limit (p.hop_limit - n.ride.lowered) p in
       let shows = ap (λ f. hands_over f sid.0) family ∙ sid.2 in
       let stage = last-exposes net tunnel x (hop - n.ride.lowered) q (a.along (hop - n.ride.lowered) refl) n.ride.place next
-      (pick (taken + w.count)) sid.0 a.into sid.1 (a.on sid.0 sid.1) (next-none x _ names) shows in
+      (pick (taken + w.count)) sid.0 a.into sid.1 (a.on sid.0 sid.1) end shows in
       let hand = hand-over net n.ride.place (V6 q) _ pick (taken + w.count) rest.0 next _ _ stage rest.1 in (
         sym (ap (λ (k : Handed). k.sids) rest.2) ∙ hand.0,
-        λ positive. let low = above-free n.ride.lowered p.hop_limit free (omega (arith, a.hop_limit)) in omega (arith, got.2, a.hop_limit),
+        λ any positive.
+            let low = above-free n.ride.lowered p.hop_limit free (omega (arith, a.hop_limit, positive)) in
+            omega (arith, got.2, a.hop_limit, low),
       )
 
-  leg-executes : (position : ℕ) (via : Option ℕ) (next : ℕ) (x y : lists.Place) (hop : ℕ) (p : Packet) (k : ℕ) (leg : Leg) (ns : List ℕ)
-      (place : Place) (pick : ℕ → ℕ) (taken : ℕ) (h : Handed)
-      → leg_of net intent position via next ≡ Some leg → Along tunnel x hop p → active x ≡ list_sid net (prefix_at net next)
-      → next_of x ≡ Some y → place_from net intent via ≡ Some place → Hands-over net place (V6 p) pick taken h
-      → ((q : Packet) (at : Place) (pick : ℕ → ℕ) (taken : ℕ) (h : Handed) → Along tunnel y (hop - leg.hops) q
-      → place_from net intent (Some next) ≡ Some at → Hands-over net at (V6 q) pick taken h → Executes ns k (hop - leg.hops) h)
-      → Executes (next ∷ ns) (leg.hops + k) hop h
-  leg-executes position via next x y hop p k leg ns place pick taken h e along is to from hands later =
+  -- over a leg
+  pub leg-over : (x y : lists.ListPlace) (position : ℕ) (via : Option ℕ) (next : ℕ) (leg : Leg) (hop : ℕ) (p : Packet) (pick : ℕ → ℕ)
+      (taken : ℕ) (h : Handed)
+      → leg_of net intent position via next ≡ Some leg → OnWay k tunnel x hop p next → next_of x ≡ Some y
+      → HandsOver k via p pick taken h → GoesOver k AnyWay tunnel y via next leg hop p pick taken h
+  leg-over x y position via next leg hop p pick taken h e on to over =
       let got = leg-ride net intent position via next leg e in
       let n = got.0 in
       let ts = drop position intent.steps in
       let sid = middle-sid net next got.1 in
-      let a = rides-to net keeps facts intent is_intent tunnel position via next x hop p n sid.0 sid.1 is along in
+      let is = to-sid net keeps facts intent is_intent tunnel x hop p next on in
+      let a = rides-to net keeps facts intent is_intent tunnel position via next x hop p n sid.0 sid.1 is on.along in
       let hops : n.ride.lowered + 1 ≡ leg.hops = ap (λ (l : Leg). l.hops) got.2 in
-      let here : place ≡ n.place = some-same place n.place (sym from ∙ n.from) in
-      let started = subst (λ (l : Place). Hands-over net l (V6 p) pick taken h) here hands in
+      let started = from-place via p pick taken h n.place n.from over in
       let free = ride-free net keeps ts n.place p n.ride a.start.how a.start.rest a.ride pick taken h started in
       let w = ride-walk net keeps ts n.place p n.ride a.start.how a.start.rest a.ride free in
       let rest = ride-over net ts n.place p n.ride pick taken h w started in
@@ -268,29 +274,20 @@ module _ (net : Network) (keeps : Keeps net) (facts : FlatFacts net) (intent : I
       let at = a.along (hop - n.ride.lowered) refl in
       let m = mid-over net tunnel n.ride.place next sid.0 x y (hop - n.ride.lowered) q at a.into sid.1 (a.on sid.0 sid.1) sid.2 to
       (a.ride_facts.family ∙ a.start.family) pick (taken + w.count) rest.0 rest.1 in
-      let less : hop - n.ride.lowered - 1 ≡ hop - leg.hops = omega arith in
-      let tail = later m.packet (place_behind next sid.0) pick (taken + w.count + 0) m.handed
-      (subst (λ (j : ℕ). Along tunnel y j m.packet) less m.along) (ap (option_map (place_behind next)) sid.1) m.hands in (
-        sym (ap (λ (k : Handed). k.sids) rest.2) ∙ sym (ap (λ (k : Handed). k.sids) m.behind) ∙ ap (λ (ms : List ℕ). next ∷ ms) tail.0,
-        λ positive. let high = m.high in let low = tail.1 (omega (arith, high)) in omega arith,
-      )
-
-  -- a walk that hands over along a path executes its SIDs, above its need where the hop limit is above 0
-  pub path-executes : (more : List ℕ) (next position : ℕ) (via : Option ℕ) (x : lists.Place) (hop : ℕ) (p : Packet) (need : ℕ)
-      (place : Place)
-      (pick : ℕ → ℕ) (taken : ℕ) (h : Handed)
-      → tunnel.inner ≡ intent.inner → Along tunnel x hop p → Names net x (next ∷ more)
-      → path_need net intent position via (next ∷ more) ≡ Some need → place_from net intent via ≡ Some place
-      → Hands-over net place (V6 p) pick taken h → Executes (next ∷ more) need hop h
-  path-executes [] next position via x hop p need place pick taken h family along names e from hands =
-      finish-executes position via next x hop p need place pick taken h e family along names from hands
-  path-executes (m ∷ more) next position via x hop p need place pick taken h family along names e from hands =
-      let got = with_hops-some (leg_of net intent position via next) (λ to. path_need net intent to (Some next) (m ∷ more)) need e in
-      let further = next-some x _ _ _ names in
-      subst (λ (n : ℕ). Executes (next ∷ m ∷ more) n hop h) got.4
-      (leg-executes position via next x further.0 hop p got.2 got.0 (m ∷ more) place pick taken h got.1 along (active-is x _ _ names)
-      further.1
-      from hands
-      (λ q at pick taken h is start over. path-executes more m got.0.to (Some next) further.0 (hop - got.0.hops) q got.2 at pick taken h
-      family
-      is further.2 got.3 start over))
+      let less : hop - n.ride.lowered - 1 ≡ hop - leg.hops = omega (arith, hops) in
+      let above = m.high in
+      let from : place_from net intent (Some next) ≡ Some (place_behind next sid.0) = ap (option_map (place_behind next)) sid.1 in
+      record {
+        lowered = leg.hops;
+        high = omega (arith, hops, above);
+        packet = m.packet;
+        along = subst (λ (j : ℕ). Along tunnel y j m.packet) less m.along;
+        chosen = taken + w.count + 0;
+        handed = m.handed;
+        over = (
+          m.hands.0,
+          ap (λ (o : Option Place). handed_over net (walk_of m.hands.0 net o (V6 m.packet) pick (taken + w.count + 0))) from ∙ m.hands.1,
+        );
+        sids = sym (ap (λ (k : Handed). k.sids) rest.2) ∙ sym (ap (λ (k : Handed). k.sids) m.behind);
+        longest = λ any. (refl, tt);
+      }

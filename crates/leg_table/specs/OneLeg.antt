@@ -1,0 +1,131 @@
+-- Laws of one leg and of one finish, for each kind of legs: what becomes of a packet on its way along a list, from one SID to the next.
+use Rattle.std.specs.Prelude.{◌≡◌, ℕ, ◌+◌, ◌-◌, ◌<◌, ◌≤◌, Bool, false, List, [], ◌∷◌, ◌++◌, drop, map, All, Option, Some, None, IsTrue}
+use Rattle.v6_addr.specs.Address.{PrefixValue}
+use Rattle.srv6_rules.specs.Packet.{Packet, read_as}
+use Rattle.net_model.specs.Network.{Network}
+use Rattle.intent_reader.specs.declared.intent.Step.{Step}
+use Rattle.intent_reader.specs.declared.intent.Intent.{Intent}
+use Rattle.list_places.specs.Lists.{ListSid}
+use Rattle.list_places.specs.Places.{ListPlace, Tunnel, Along, active, behind_of, next_of}
+use Rattle.list_pack.specs.declared.types.Leg.{Leg}
+use Rattle.list_pack.specs.SidLists.{IsSidPrefix, list_sid}
+use Rattle.list_pack.specs.Value.{LegsValue, IsVia}
+use Rattle.leg_table.specs.Tasks.{matches}
+use Rattle.leg_table.specs.Trace.{Event, Handed}
+
+-- a kind of legs: the steps and the network, what a search sees of the legs, the SIDs that may not be executed, and what is handed over of
+-- a packet that goes on behind the SID that was executed last, or from the headend where none was: in so many stages, under a row of choices
+-- from one of them on
+pub record LegKind : Type 0 where
+  pub net : Network
+  pub intent : Intent
+  pub legs : LegsValue
+  pub barred : ℕ → Bool
+  pub hand : ℕ → Option ℕ → Packet → (ℕ → ℕ) → ℕ → Option Handed
+
+abbrev pub steps_from : LegKind → ℕ → List Step
+steps_from k position = drop position k.intent.steps
+
+-- a SID as lists know it
+abbrev pub prefix_in : LegKind → ℕ → PrefixValue
+prefix_in k n = (k.legs.shape n).prefix
+
+abbrev pub sid_in : LegKind → ℕ → ListSid
+sid_in k n = list_sid k.net (prefix_in k n)
+
+-- some number of stages hands over
+abbrev pub HandsOver : LegKind → Option ℕ → Packet → (ℕ → ℕ) → ℕ → Handed → Type 0
+HandsOver k via p pick taken h = (fuel : ℕ) × (k.hand fuel via p pick taken ≡ Some h)
+
+-- under every row of choices, along exactly these steps and by no SID that may not be executed
+abbrev pub AlwaysHands : LegKind → Option ℕ → Packet → List Step → Type 0
+AlwaysHands k via p ts =
+    (pick : ℕ → ℕ) → (h : Handed) × HandsOver k via p pick 0 h × IsTrue (matches ts h.trace) × All (λ n. k.barred n ≡ false) h.sids
+
+-- a trace that begins with these events meets the steps of a position exactly where its rest meets those of another
+abbrev pub Leads : LegKind → ℕ → List Event → ℕ → Type 0
+Leads k position events to = (more : List Event) → matches (steps_from k position) (events ++ more) ≡ matches (steps_from k to) more
+
+-- what is handed over, behind the events up to the execution of a SID
+abbrev pub after_leg : List Event → ℕ → Handed → Handed
+after_leg events next h = record { trace = events ++ h.trace; sids = next ∷ h.sids; content = h.content }
+
+-- a packet at a place of a list, on its way to a SID: from a position and the SID that was executed last
+pub record OnWay (k : LegKind) (t : Tunnel) (x : ListPlace) (hop : ℕ) (p : Packet) (next : ℕ) : Type 0 where
+  pub along : Along t x hop p
+  pub to : active x ≡ sid_in k next
+
+-- under a row of choices a packet is taken along a leg: to the list's next place, by at most the leg's hops and along its steps; and what
+-- is handed over is what is handed over from there
+pub record IsTakenOn (k : LegKind) (t : Tunnel) (y : ListPlace) (position : ℕ) (via : Option ℕ) (next : ℕ) (leg : Leg) (hop : ℕ) (p : Packet)
+    (pick : ℕ → ℕ) (taken : ℕ)
+    : Type 0 where
+  pub lowered : ℕ
+  pub few : lowered ≤ leg.hops
+  pub packet : Packet
+  pub along : Along t y (hop - lowered) packet
+  pub events : List Event
+  pub leads : Leads k position events leg.to
+  pub count : ℕ
+  pub chosen : ℕ
+  pub passes : (fuel : ℕ) (h : Handed) → k.hand fuel (Some next) packet pick chosen ≡ Some h
+      → k.hand (count + fuel) via p pick taken ≡ Some (after_leg events next h)
+
+-- a packet is handed over by SIDs, along the steps from a position on: the packet inside
+pub record HandsBy (k : LegKind) (t : Tunnel) (position : ℕ) (via : Option ℕ) (p : Packet) (ns : List ℕ) (pick : ℕ → ℕ) (taken : ℕ)
+    : Type 0 where
+  pub handed : Handed
+  pub over : HandsOver k via p pick taken handed
+  pub meets : IsTrue (matches (steps_from k position) handed.trace)
+  pub sids : handed.sids ≡ ns
+  pub content : handed.content ≡ read_as t.inner t.bytes
+
+-- what is handed over of a packet on a leg is handed over from the list's next place; on a longest way as many hops behind as the leg has
+pub record GoesOver (k : LegKind) (Longest : Option ℕ → Packet → (ℕ → ℕ) → ℕ → Type 0) (t : Tunnel) (y : ListPlace) (via : Option ℕ)
+    (next : ℕ) (leg : Leg) (hop : ℕ) (p : Packet) (pick : ℕ → ℕ) (taken : ℕ) (h : Handed)
+    : Type 0 where
+  pub lowered : ℕ
+  pub high : lowered < hop
+  pub packet : Packet
+  pub along : Along t y (hop - lowered) packet
+  pub chosen : ℕ
+  pub handed : Handed
+  pub over : HandsOver k (Some next) packet pick chosen handed
+  pub sids : h.sids ≡ next ∷ handed.sids
+  pub longest : Longest via p pick taken → (lowered ≡ leg.hops) × Longest (Some next) packet pick chosen
+
+-- what becomes of a packet to a prefix that is handed over under every row of choices: there is a finish in the last container, or a leg,
+-- behind which the packet of a longest way is handed over under every row
+pub data BecomesOf (k : LegKind) (Longest : Option ℕ → Packet → (ℕ → ℕ) → ℕ → Type 0) (t : Tunnel) (x : ListPlace) (q : PrefixValue)
+    (position : ℕ) (via : Option ℕ) (hop : ℕ) (p : Packet)
+    : Type 0 where
+  Ended : (n lowered : ℕ) → k.legs.finish position via n ≡ Some lowered → prefix_in k n ≡ q → lowered < hop → behind_of x ≡ []
+      → ((pick : ℕ → ℕ) (taken : ℕ) (h : Handed) → HandsOver k via p pick taken h → h.sids ≡ n ∷ [])
+      → BecomesOf k Longest t x q position via hop p
+  Moved : (n : ℕ) (leg : Leg) (y : ListPlace) (r : Packet) → k.legs.leg position via n ≡ Some leg → prefix_in k n ≡ q → leg.hops < hop
+      → next_of x ≡ Some y → Along t y (hop - leg.hops) r → AlwaysHands k (Some n) r (steps_from k leg.to)
+      → ((pick : ℕ → ℕ) (taken : ℕ) (h : Handed) → Longest via p pick taken → HandsOver k via p pick taken h
+      → (chosen : ℕ) × (g : Handed) × Longest (Some n) r pick chosen × HandsOver k (Some n) r pick chosen g × (h.sids ≡ n ∷ g.sids))
+      → BecomesOf k Longest t x q position via hop p
+
+-- the laws of one leg and of one finish: up from it, over it, and down to it
+pub record LegLaws (k : LegKind) (Longest : Option ℕ → Packet → (ℕ → ℕ) → ℕ → Type 0) (t : Tunnel) : Type 0 where
+  pub leg_up : (x y : ListPlace) (position : ℕ) (via : Option ℕ) (next : ℕ) (leg : Leg) (hop : ℕ) (p : Packet) (pick : ℕ → ℕ) (taken : ℕ)
+      → k.legs.leg position via next ≡ Some leg → OnWay k t x hop p next → next_of x ≡ Some y → leg.hops < hop
+      → IsTakenOn k t y position via next leg hop p pick taken
+  pub finish_up : (x : ListPlace) (position : ℕ) (via : Option ℕ) (next lowered : ℕ) (hop : ℕ) (p : Packet) (pick : ℕ → ℕ) (taken : ℕ)
+      → k.legs.finish position via next ≡ Some lowered → OnWay k t x hop p next → next_of x ≡ None → lowered < hop
+      → HandsBy k t position via p (next ∷ []) pick taken
+  pub leg_over : (x y : ListPlace) (position : ℕ) (via : Option ℕ) (next : ℕ) (leg : Leg) (hop : ℕ) (p : Packet) (pick : ℕ → ℕ) (taken : ℕ)
+      (h : Handed)
+      → k.legs.leg position via next ≡ Some leg → OnWay k t x hop p next → next_of x ≡ Some y → HandsOver k via p pick taken h
+      → GoesOver k Longest t y via next leg hop p pick taken h
+  pub finish_over : (x : ListPlace) (position : ℕ) (via : Option ℕ) (next lowered : ℕ) (hop : ℕ) (p : Packet) (pick : ℕ → ℕ) (taken : ℕ)
+      (h : Handed)
+      → k.legs.finish position via next ≡ Some lowered → OnWay k t x hop p next → next_of x ≡ None → HandsOver k via p pick taken h
+      → (h.sids ≡ next ∷ []) × (Longest via p pick taken → 0 < hop → lowered < hop)
+  pub down : (x : ListPlace) (q : PrefixValue) (position : ℕ) (via : Option ℕ) (hop : ℕ) (p : Packet)
+      → position ≤ k.legs.steps → IsVia k.legs position via → Along t x hop p → active x ≡ list_sid k.net q → IsSidPrefix k.net q
+      → 0 < hop → AlwaysHands k via p (steps_from k position) → BecomesOf k Longest t x q position via hop p
+  -- each packet has a longest way
+  pub some_longest : (via : Option ℕ) (p : Packet) → (pick : ℕ → ℕ) × Longest via p pick 0

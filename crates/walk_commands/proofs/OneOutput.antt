@@ -1,0 +1,28 @@
+-- `walk` has one output.
+use Rattle.std.proofs.Common.{◌≡◌, ℕ, List, Result, Ok, Err, sym, ◌∙◌}
+use Rattle.net_model.specs.Network.{Network}
+use Rattle.intent_reader.specs.declared.intent.Intent.{Intent}
+use Rattle.path_compiler.specs.declared.compiled.Compiled.{Compiled}
+use Rattle.path_compiler.specs.declared.compiled.CompileFault.{CompileFault}
+use Rattle.path_compiler.specs.declared.compiled.CompileFault.TheVariants as faults
+use Rattle.srx_edge.specs.Edge.{file_named}
+use Rattle.command_output.specs.Pieces.{Output}
+use Rattle.command_output.specs.Shape.{Held}
+use Rattle.compile_commands.proofs.PublicLaws.{files-one}
+use Rattle.walk_commands.specs.Walk.{WalkWants, walk_shape}
+
+answer-one : (choices schedule input : List ℕ) (net : Network) (intent : Intent) (answer : Result Compiled CompileFault) (a b : Output)
+    → WalkWants choices schedule input net intent answer a → WalkWants choices schedule input net intent answer b → a ≡ b
+answer-one choices schedule input net intent (Ok c) a b one two = one.0 ∙ sym two.0
+answer-one choices schedule input net intent (Err (faults.NotFlat why)) a b one two = one ∙ sym two
+answer-one choices schedule input net intent (Err (faults.NoList solution)) a b one two = one ∙ sym two
+answer-one choices schedule input net intent (Err (faults.TooLong found)) a b one two = one ∙ sym two
+answer-one choices schedule input net intent (Err (faults.HopLimit found)) a b one two = one ∙ sym two
+answer-one choices schedule input net intent (Err faults.NoMemory) a b one two = absurd one
+
+pub walk-one : (file intent choices schedule : List ℕ) (held : Held) (input : List ℕ) (a b : Output)
+    → (walk_shape file intent choices schedule).wants held input a → (walk_shape file intent choices schedule).wants held input b → a ≡ b
+walk-one file intent choices schedule held input a b one two =
+    files-one (WalkWants choices schedule input)
+    (record { one = answer-one choices schedule input; some = λ net intent output is. is }) (file_named held file) (file_named held intent)
+    a b one two
