@@ -1,5 +1,5 @@
 -- What is answered where a policy's header is put in front of a packet, by what comes of it.
-use Rattle.std.specs.Prelude.{◌≡◌, ℕ, List, Result, Ok, Err}
+use Rattle.std.specs.Prelude.{◌≡◌, ℕ, List, Option, Some, None, Result, Ok, Err}
 use Rattle.srv6_rules.specs.Packet.{Packet, Spells}
 use Rattle.srv6_rules.specs.Policies.{Encapsulating, Outer, TooBig, InnerHop}
 use Rattle.policy_encap.specs.declared.faults.PushFault.{PushFault}
@@ -34,3 +34,10 @@ IsEncapsulated wanted old new (Ok none) = Makes wanted new
 IsEncapsulated wanted old new (Err encapsulating.InnerHop) = Refuses wanted InnerHop old new
 IsEncapsulated wanted old new (Err (encapsulating.TooBig length)) = Refuses wanted (TooBig length) old new
 IsEncapsulated wanted old new (Err encapsulating.NoMemory) = Wants wanted old new
+
+-- why no outer packet comes of it, if none does; want of memory is no cause
+abbrev pub IsFaultOf : Encapsulating → Option EncapFault → Type 0
+IsFaultOf wanted None = (p : Packet) × (wanted ≡ Outer p)
+IsFaultOf wanted (Some encapsulating.InnerHop) = wanted ≡ InnerHop
+IsFaultOf wanted (Some (encapsulating.TooBig length)) = wanted ≡ TooBig length
+IsFaultOf wanted (Some encapsulating.NoMemory) = ⊥

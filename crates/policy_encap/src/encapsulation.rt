@@ -3,7 +3,7 @@
 ghost use Rattle.std.specs.Prelude.{◌≡◌, ◌-◌, ◌<◌, ◌≤◌, length, IfErr, OnErr, OnOk};
 ghost use Rattle.srv6_rules.specs.Encapsulation.{header_bytes};
 ghost use Rattle.srv6_rules.specs.Policies.{IsPolicy, pushed_by, encapsulated_by};
-ghost use Rattle.policy_encap.specs.Answers.{IsPushed, IsEncapsulated};
+ghost use Rattle.policy_encap.specs.Answers.{IsPushed, IsEncapsulated, IsFaultOf};
 ghost use Rattle.policy_encap.specs.Inner.{HoldsInner};
 ghost use Rattle.policy_encap.specs.declared.faults.PushFault.TheVariants as pushing;
 ghost use Rattle.policy_encap.specs.declared.faults.EncapFault.TheVariants as encapsulating;
@@ -51,6 +51,27 @@ pub fn push(
     outer_fits(policy);
     bytes_fit(buf.view());
     Ok(())
+}
+
+/// Why `encap` would answer a fault of the packet of a family that bytes hold, if it would: `InnerHop`
+/// exactly where the hop limit or TTL is at most 1, and else `TooBig` exactly where the outer
+/// packet's payload would pass 65,535 bytes; never `NoMemory`. No memory is taken (RFC 8986 sections
+/// 5.1 and 5.2).
+pub fn encap_fault(policy: &Policy, inner: Family, bytes: &[u8]) -> Option<EncapFault>
+    requires policy { IsPolicy policy.now }
+    requires packet { HoldsInner inner bytes.now }
+    ensures { IsFaultOf (encapsulated_by policy.now inner bytes.now) result }
+{
+    if inner_hop(inner, bytes) <= 1 {
+        return Some(EncapFault::InnerHop);
+    }
+    let length = payload_len(policy, policy.reduced, inner_len(inner, bytes));
+    if length > MAX_PAYLOAD_LEN {
+        return Some(EncapFault::TooBig {
+            length: length as u32,
+        });
+    }
+    None
 }
 
 /// Encapsulates a packet of a family with a policy, in the policy's own form: H.Encaps or

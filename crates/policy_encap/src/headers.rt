@@ -21,6 +21,10 @@ use v6_addr::Addr;
 /// The greatest payload length: 65,535 (RFC 8200 section 3).
 pub(crate) const MAX_PAYLOAD_LEN: usize = MAX_PACKET_LEN - IPV6_HEADER_LEN;
 
+/// The most bytes of a policy's header: an IPv6 header and a segment routing header over 127
+/// segments (own rule).
+pub const MAX_FRONT: usize = IPV6_HEADER_LEN + SEGMENT_LIST_AT + SEGMENT_LEN * MAX_SEGMENTS;
+
 /// The value that names a packet of a family inside a packet.
 fn inner_kind(inner: Family) -> u8
     ensures { result ≡ inner_kind inner }
