@@ -10,9 +10,7 @@ use crate::frames::{Found, Frames};
 use crate::packets::Packets;
 use base::NoMemory;
 use command_output::Refusal;
-use pcap_io::{
-    CaptureFault, CaptureHead, FrameLender, FrameLimit, HEAD_LEN, LentBody, LentFrame,
-};
+use pcap_io::{CaptureFault, CaptureHead, FrameLender, FrameLimit, HEAD_LEN, LentBody, LentFrame};
 
 /// The only frame of a bare packet, which is packet 1. (own rule)
 #[derive(Debug, Drop)]

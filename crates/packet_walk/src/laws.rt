@@ -12,6 +12,8 @@ ghost use Rattle.packet_walk.specs.Flight.{Flight, InFlight, IsCounted, entered,
 ghost use Rattle.packet_walk.specs.Rest.{Move, end_from, given_to, rest_of, turns_of};
 ghost use Rattle.packet_walk.specs.Schedule.{Coming, all_of, comings_of, frame_of, scheduled, stages_of, steps_in, steps_of};
 
+use walk_rules::MAX_STAGES;
+
 /// The rest of a packet's walk is its next stage, and then the rest of the walk after it, and both
 /// end alike; of a packet that has ended there is none. The rest of one that enters is its walk of at
 /// most 10,000 stages (own rule).
