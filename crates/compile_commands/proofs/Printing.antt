@@ -35,7 +35,7 @@ use Rattle.list_certificate.proofs.PublicLaws.{one-verdict, solution-cert, what-
 use Rattle.leg_table.specs.Value.{legs_value}
 use Rattle.leg_table.proofs.FlatNets.{flat-facts}
 use Rattle.leg_table.proofs.PublicLaws.{legs-mean, strict-laws}
-use Rattle.leg_table.specs.Realizes.{ListRealizes, ListExecutes}
+use Rattle.leg_table.specs.Realizes.{ListRealizes, ListExecutes, ListHands}
 use Rattle.path_compiler.specs.declared.compiled.Compiled.{Compiled}
 use Rattle.path_compiler.specs.declared.compiled.CompileFault.{CompileFault}
 use Rattle.path_compiler.specs.declared.compiled.CompileFault.TheVariants as faults
@@ -125,8 +125,8 @@ module _ (net : Network) (intent : Intent) (network : IsNetwork net) (is_intent 
       let cert : Cert = certificate_of (1 + length comments) s in
       let judges : IsVerdict v cert verdict = certifies (1 + length comments) in
       let says : Says net (ListRealizes net intent) (ListExecutes net intent) verdict
-      = says_lists v net (ListRealizes net intent) (ListExecutes net intent) (legs-mean net intent network (flat-by flat) is_intent)
-      cert verdict laws judges in
+      = says_lists v net (ListRealizes net intent) (ListExecutes net intent) (ListHands net intent)
+      (legs-mean net intent network (flat-by flat) is_intent) cert verdict laws judges in
       let handing : SaysOfHanding net intent verdict = says-handing net intent network (flat-by flat) is_intent verdict says in
       let wants : CertWants net intent (Ok cert) output = (verdict, record { is = judges; says = says; handing = handing }, told) in
       let read : FlatWants net intent (Ok tt) (Some text) output
