@@ -134,7 +134,7 @@ FLATNESS = (
 INPUTS = (
     ("11 BadMagic", bytes([1, 2, 3, 4]) + bytes(30), "01020304"),
     ("11 BadMagic", b"\x1f\x8b\x08\x00" + bytes(30), "gzip"),
-    ("11 BadMagic", b"hello, world", "the text 'hello, world'"),
+    ("11 BadMagic", b"some text", "the text 'some text'"),
     ("11 BadMagic", b"\x45\x00\x00\x14" + bytes(16), "bare IPv4 packet"),
     ("12 PcapNg", bytes.fromhex("0a0d0d0a") + bytes(30), "to-raw"),
     ("13 BadVersion", RAW[:6] + b"\3" + RAW[7:], "2.4"),
