@@ -163,7 +163,7 @@ def bad_captures() -> Iterator[tuple[str, bytes]]:
     head = bytes.fromhex("d4c3b2a1020004000000000000000000ffff000065000000")
     yield "nothing", b""
     yield "three bytes", b"\xd4\xc3\xb2"
-    yield "text", b"hello, world\n"
+    yield "text", b"some text\n"
     yield "a cut head", head[:20]
     yield "another version", head[:4] + b"\x03\x00" + head[6:]
     yield "another link type", head[:20] + b"\x93\x00\x00\x00"
