@@ -85,6 +85,7 @@ class Install(ToolCase):
         shut = run_tool("install", "/proc/nothing", SRV6=str(self.program))
         self.assertEqual(shut.status, 5)
 
+    @needs_tool("dpkg")
     @needs_tool("dpkg-deb")
     def test_package(self):
         ran = run_tool("package", self.folder / "deb", SRV6=str(self.program))

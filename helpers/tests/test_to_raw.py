@@ -217,8 +217,8 @@ class Bad(ToolCase):
         for name, content in bad_captures():
             with self.subTest(name):
                 ran = run_here("to-raw", given=content)
-                # There is no frame, or it begins as an IPv6 packet does.
-                if name in ("another link type", "text"):
+                # It has no frame.
+                if name == "another link type":
                     self.assertEqual(ran.status, 0)
                 else:
                     self.named_answer(ran)
