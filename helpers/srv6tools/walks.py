@@ -8,6 +8,7 @@ send. So of walks that come to one node with the same bytes the rest is asked of
 import collections
 from collections.abc import Iterable, Iterator, Sequence
 from dataclasses import dataclass, field
+from typing import NamedTuple
 
 from .captures import FRAME_LIMIT, raw_capture, sent_in
 from .command import Fault, Status, tool_name
@@ -23,8 +24,7 @@ SAY = tool_name("srv6-say")
 MOST_MEMBERS = 64  # of a set of equal next hops
 
 
-@dataclass(frozen=True, slots=True)
-class Visit:
+class Visit(NamedTuple):
     """A packet at a node: as it arrives there, or, with a number, an inner packet that enters at
     the headend.
     """
