@@ -1,5 +1,6 @@
 """to-linux: the commands, by kernel; a namespace that takes them and gives them back; bad input."""
 
+import os
 import subprocess
 import tomllib
 import unittest
@@ -15,6 +16,8 @@ from support import EXAMPLES, HELPERS, ToolCase, bad_tomls, run_here, run_tool
 BEHAVIOURS, CSIDS = EXAMPLES / "behaviours.toml", EXAMPLES / "csids.toml"
 LINUX_NODE = HELPERS.parent / "bench" / "linux-differences.toml"
 MISSING = missing_for_a_lab()
+if not MISSING and "SRV6_TEST_LINUX" not in os.environ:
+    MISSING = "the variable SRV6_TEST_LINUX"
 needs_namespace = unittest.skipIf(MISSING, MISSING or "")
 LONG = "a-link-with-a-long-name"
 # Names that `ip` takes for words, equal next hops, tables 0 and 65535, CSIDs of 32 bits.
