@@ -20,5 +20,5 @@ pub use judge::{
     trace_of_file,
 };
 pub use limits::{MAX_CHOICES, MAX_INPUT_BYTES, MAX_SCHEDULE};
-pub use packets::{Next, Packets, next_of, packets_of_input, unread_of};
+pub use packets::{Next, Packets, next_of, packets_of_input, unread_of, unread_of_frame};
 pub use sources::{BareFrames, CaptureFrames, PacketFrames};

@@ -8,7 +8,9 @@ ghost use Rattle.command_inputs.specs.Packets.{HasHead, Nexts, fault_behind, is_
 use crate::limits::MAX_INPUT_BYTES;
 use base::Seq;
 use command_output::{Failure, Halt, Refusal, Unread};
-use pcap_io::{Body, CaptureFault, CaptureHead, Frame, FrameReader, TakeFault, read_head};
+use pcap_io::{
+    Body, CaptureFault, CaptureHead, Frame, FrameReader, LentBody, LentFrame, TakeFault, read_head,
+};
 use srx_edge::{Source, draw};
 use std::alloc::Global;
 
@@ -74,6 +76,17 @@ pub fn unread_of(body: &Body) -> Option<Unread>
         Body::V6(_) | Body::V4(_) => None,
         Body::ShortFrame => Some(Unread::ShortFrame),
         Body::NotIp => Some(Unread::NotIp),
+    }
+}
+
+/// Why a lent frame's packet is not read, if it isn't. (own rule)
+pub fn unread_of_frame(frame: &LentFrame<'_>) -> Option<Unread>
+    ensures { result ≡ unread_in frame.now.body }
+{
+    match frame.body() {
+        LentBody::V6(_) | LentBody::V4(_) => None,
+        LentBody::ShortFrame => Some(Unread::ShortFrame),
+        LentBody::NotIp => Some(Unread::NotIp),
     }
 }
 
