@@ -118,7 +118,7 @@ returns-in-Some g c = λ (files : FilesSeen). show_refused files _ _ (g.O.Sink.s
     c.in_ok-packets.ensures.judged (g.O.Sink.seen c.show_packets.new.out) c.in-Some.refusal
     (sym c.in-Some.is ∙ c.in_ok-refusal.ensures.fault) c.in_ok-refusal.ensures.wrote
 
-pub returns-in-None : goal.returns-in-None
-returns-in-None g c = λ (files : FilesSeen). show_done files _ _ (g.O.Sink.seen c.args.out.now) c.in_ok-packets.packets
+pub returns : goal.returns
+returns g c = λ (files : FilesSeen). show_done files _ _ (g.O.Sink.seen c.args.out.now) c.in_ok-packets.packets
     c.in_ok-packets.ensures.judged (g.O.Sink.seen c.show_packets.new.out) _
     (sym c.in-None.is ∙ c.in_ok-refusal.ensures.fault) refl refl c.in_ok-refusal.ensures.wrote
