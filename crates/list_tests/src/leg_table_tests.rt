@@ -6,34 +6,15 @@ use net_reader::read_net;
 use srv6_rules::Csid;
 use std::process::Abort;
 use std::test::Fail;
+use test_networks::ROW;
 
-// four nodes in a row, two links between the second and the third
-const ROW: &str = r#"
-node = [
-    { name = "A", address = "2001:db8::a" },
-    { name = "B", address = "2001:db8::b" },
-    { name = "C", address = "2001:db8::c" },
-    { name = "D", address = "2001:db8::d" },
-]
-link = [
-    { name = "ab", from = "A", to = "B" },
-    { name = "bc1", from = "B", to = "C" },
-    { name = "bc2", from = "B", to = "C" },
-    { name = "cd", from = "C", to = "D" },
-    { name = "ce", from = "D" },
-]
-route = [
-    { node = "A", prefix = "fcbb:bb00:2::/48", via = ["ab"] },
-    { node = "A", prefix = "fcbb:bb00:4::/48", via = ["ab"] },
-    { node = "B", prefix = "fcbb:bb00:4::/48", via = ["bc1", "bc2"] },
-    { node = "C", prefix = "fcbb:bb00:4::/48", via = ["cd"] },
-    { node = "D", table = 9, prefix = "::/0", via = ["ce"] },
-]
+// B's End.X over the first of the two links, B's End, D's End and D's End.DT6
+const SIDS: &str = r#"
 sid = [
     { node = "B", prefix = "fcbb:bb00:e001::/48", behaviour = "End.X", links = ["bc1"] },
     { node = "B", prefix = "fcbb:bb00:2::/48", behaviour = "End" },
     { node = "D", prefix = "fcbb:bb00:4::/48", behaviour = "End" },
-    { node = "D", prefix = "fcbb:bb00:f001::/48", behaviour = "End.DT6", title = "vpn", table = 9 },
+    { node = "D", prefix = "fcbb:bb00:f001::/48", behaviour = "End.DT6", title = "vpn", table = 100 },
 ]
 "#;
 
@@ -120,31 +101,11 @@ source = "2001:db8::a"
 mode = "reduced"
 step = [{ links = ["ab"] }, { links = ["bc1"] }, { links = ["cd"] }, { function = "#;
 
-// a block of NEXT SIDs; 4 decapsulates
+// a block of NEXT SIDs behind one of REPLACE; 4 decapsulates
 const NEXT: &str = r#"
 block = [
   { prefix = "fd00::/16", kind = "replace", csid = 16 },
   { prefix = "fcbb:bb00::/32", kind = "next", csid = 16 },
-]
-node = [
-  { name = "A", address = "2001:db8::a" },
-  { name = "B", address = "2001:db8::b" },
-  { name = "C", address = "2001:db8::c" },
-  { name = "D", address = "2001:db8::d" },
-]
-link = [
-  { name = "ab", from = "A", to = "B" },
-  { name = "bc1", from = "B", to = "C" },
-  { name = "bc2", from = "B", to = "C" },
-  { name = "cd", from = "C", to = "D" },
-  { name = "ce", from = "D" },
-]
-route = [
-  { node = "A", prefix = "fcbb:bb00:2::/48", via = ["ab"] },
-  { node = "A", prefix = "fcbb:bb00:4::/48", via = ["ab"] },
-  { node = "B", prefix = "fcbb:bb00:4::/48", via = ["bc1", "bc2"] },
-  { node = "C", prefix = "fcbb:bb00:4::/48", via = ["cd"] },
-  { node = "D", table = 100, prefix = "::/0", via = ["ce"] },
 ]
 sid = [
   { node = "B", prefix = "fcbb:bb00:2::/48", behaviour = "End", csid = "next" },
@@ -172,7 +133,8 @@ fn assert_sids<L: Legs>(rt: &impl Abort, legs: &L, position: u32, want: &[u32]) 
 
 #[test]
 fn legs_of_a_row(rt: HostRuntime) -> Result<(), Fail> {
-    let net = read_net(rt.alloc(), ROW.as_bytes())?;
+    let text = format!(in rt.alloc(); "{ROW}{SIDS}")?;
+    let net = read_net(rt.alloc(), text.as_bytes())?;
     let intent = read_intent(rt.alloc(), ROW_INTENT.as_bytes(), &net)?;
     assert!(rt; compilable(&net).is_ok());
     let legs = StrictLegs::build(rt.alloc(), &net, &intent)?;
@@ -303,7 +265,8 @@ fn finishes_by_family(rt: HostRuntime) -> Result<(), Fail> {
 
 #[test]
 fn legs_of_a_block(rt: HostRuntime) -> Result<(), Fail> {
-    let net = read_net(rt.alloc(), NEXT.as_bytes())?;
+    let text = format!(in rt.alloc(); "{ROW}{NEXT}")?;
+    let net = read_net(rt.alloc(), text.as_bytes())?;
     let intent = read_intent(rt.alloc(), ROW_INTENT.as_bytes(), &net)?;
     assert!(rt; compilable(&net).is_ok());
     let legs = StrictLegs::build(rt.alloc(), &net, &intent)?;

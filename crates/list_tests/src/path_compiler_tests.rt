@@ -5,31 +5,8 @@ use net_reader::read_net;
 use path_compiler::{CompileFault, Compiled, compile};
 use std::process::Abort;
 use std::test::Fail;
+use test_networks::ROW;
 use v6_addr::{Addr, Prefix};
-
-// four nodes in a row, two links between the second and the third
-const ROW: &str = r#"
-node = [
-    { name = "A", address = "2001:db8::a" },
-    { name = "B", address = "2001:db8::b" },
-    { name = "C", address = "2001:db8::c" },
-    { name = "D", address = "2001:db8::d" },
-]
-link = [
-    { name = "ab", from = "A", to = "B" },
-    { name = "bc1", from = "B", to = "C" },
-    { name = "bc2", from = "B", to = "C" },
-    { name = "cd", from = "C", to = "D" },
-    { name = "ce", from = "D" },
-]
-route = [
-    { node = "A", prefix = "fcbb:bb00:2::/48", via = ["ab"] },
-    { node = "A", prefix = "fcbb:bb00:4::/48", via = ["ab"] },
-    { node = "B", prefix = "fcbb:bb00:4::/48", via = ["bc1", "bc2"] },
-    { node = "C", prefix = "fcbb:bb00:4::/48", via = ["cd"] },
-    { node = "D", table = 100, prefix = "::/0", via = ["ce"] },
-]
-"#;
 
 // B's End, D's End and D's End.DT6
 const SIDS: &str = r#"

@@ -5,46 +5,7 @@ use srv6_cli::Status;
 use srx_edge::{MemFiles, MemSource};
 use std::alloc::{AllocError, Global};
 use std::test::Fail;
-
-/// Four nodes in a row, two links between the second and the third.
-const ROW: &str = r#"
-block = [{ prefix = "fcbb:bb00::/32", kind = "next", csid = 16 }]
-node = [
-    { name = "A", address = "2001:db8::a" },
-    { name = "B", address = "2001:db8::b" },
-    { name = "C", address = "2001:db8::c" },
-    { name = "D", address = "2001:db8::d" },
-]
-link = [
-    { name = "ab", from = "A", to = "B" },
-    { name = "bc1", from = "B", to = "C" },
-    { name = "bc2", from = "B", to = "C" },
-    { name = "cd", from = "C", to = "D" },
-]
-route = [
-    { node = "B", prefix = "fcbb:bb00:4::/48", via = ["bc1", "bc2"] },
-    { node = "C", prefix = "fcbb:bb00:4::/48", via = ["cd"] },
-]
-sid = [
-    { node = "B", prefix = "fcbb:bb00:2::/48", behaviour = "End", csid = "next" },
-    { node = "D", prefix = "fcbb:bb00:4::/48", behaviour = "End", csid = "next" },
-]
-"#;
-
-/// A packet as it enters at B: hop limit 64, Segments Left 1.
-const ENTERS: &str = "\
-    6000000000282b4020010db8000100000000000000000001fcbbbb00000200000000000000000000\
-    3b04040101000000fcbbbb00000400000000000000000000fcbbbb00000200000000000000000000";
-
-/// Behind End at B: hop limit 63, Segments Left 0, to the other segment.
-const STEPPED: &str = "\
-    6000000000282b3f20010db8000100000000000000000001fcbbbb00000400000000000000000000\
-    3b04040001000000fcbbbb00000400000000000000000000fcbbbb00000200000000000000000000";
-
-/// Behind C: hop limit 62.
-const LOWERED: &str = "\
-    6000000000282b3e20010db8000100000000000000000001fcbbbb00000400000000000000000000\
-    3b04040001000000fcbbbb00000400000000000000000000fcbbbb00000200000000000000000000";
+use test_networks::{ENTERS, LOWERED, NEXT_SIDS, ROW, STEPPED};
 
 /// What D sends about the drop, since its SID takes no upper layer: Parameter Problem, code 4,
 /// pointer 80.
@@ -61,8 +22,9 @@ const REPLAY_ROW: &[&str] = &["replay", "row.toml", "trace"];
 /// Runs a command in the network of the row over a text as the file `trace`, and an input.
 fn serve_row(alloc: Global, words: &[&str], trace: &str, input: &[u8]) -> Result<Ran, Fail> {
     let mut files = MemFiles::new(alloc, &[])?;
+    let row = format!(in alloc; "{ROW}{NEXT_SIDS}")?;
     if !files.holds("row.toml") {
-        files.hold("row.toml", ROW.as_bytes())?;
+        files.hold("row.toml", row.as_bytes())?;
     }
     if !files.holds("trace") {
         files.hold("trace", trace.as_bytes())?;

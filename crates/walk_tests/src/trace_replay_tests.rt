@@ -13,55 +13,12 @@ use srv6_rules::Family;
 use std::alloc::{AllocError, Global};
 use std::str;
 use std::test::Fail;
+use test_networks::{ENTERS, LOWERED, NEXT_SIDS, ROW, STEPPED};
 use trace_replay::{
     ReplayFault, Replayed, TraceFault, is_numbered, print_end, print_event, print_head,
     print_packet, print_stages, read_trace, replay,
 };
 use walk_rules::{Place, arrival, next_place};
-
-// four nodes in a row, two links between the second and the third
-const ROW: &str = r#"
-block = [{ prefix = "fcbb:bb00::/32", kind = "next", csid = 16 }]
-node = [
-    { name = "A", address = "2001:db8::a" },
-    { name = "B", address = "2001:db8::b" },
-    { name = "C", address = "2001:db8::c" },
-    { name = "D", address = "2001:db8::d" },
-]
-link = [
-    { name = "ab", from = "A", to = "B" },
-    { name = "bc1", from = "B", to = "C" },
-    { name = "bc2", from = "B", to = "C" },
-    { name = "cd", from = "C", to = "D" },
-    { name = "ce", from = "D" },
-]
-route = [
-    { node = "A", prefix = "fcbb:bb00:2::/48", via = ["ab"] },
-    { node = "A", prefix = "fcbb:bb00:4::/48", via = ["ab"] },
-    { node = "B", prefix = "fcbb:bb00:4::/48", via = ["bc1", "bc2"] },
-    { node = "C", prefix = "fcbb:bb00:4::/48", via = ["cd"] },
-    { node = "D", table = 100, prefix = "::/0", via = ["ce"] },
-]
-sid = [
-    { node = "B", prefix = "fcbb:bb00:2::/48", behaviour = "End", csid = "next" },
-    { node = "D", prefix = "fcbb:bb00:4::/48", behaviour = "End", csid = "next" },
-]
-"#;
-
-/// The packet as it enters: hop limit 64, Segments Left 1.
-const ENTERS: &str = "\
-    6000000000282b4020010db8000100000000000000000001fcbbbb00000200000000000000000000\
-    3b04040101000000fcbbbb00000400000000000000000000fcbbbb00000200000000000000000000";
-
-/// Behind End at B: hop limit 63, Segments Left 0, to the other segment.
-const STEPPED: &str = "\
-    6000000000282b3f20010db8000100000000000000000001fcbbbb00000400000000000000000000\
-    3b04040001000000fcbbbb00000400000000000000000000fcbbbb00000200000000000000000000";
-
-/// Behind C: hop limit 62.
-const LOWERED: &str = "\
-    6000000000282b3e20010db8000100000000000000000001fcbbbb00000400000000000000000000\
-    3b04040001000000fcbbbb00000400000000000000000000fcbbbb00000200000000000000000000";
 
 /// The line of B's Send under choice 0.
 const SENT: &str = "send bc1 \
@@ -152,7 +109,8 @@ fn write_walk(
 #[test]
 fn a_walk_is_written(rt: HostRuntime) -> Result<(), Fail> {
     let alloc = rt.alloc();
-    let net = read_net(alloc, ROW.as_bytes())?;
+    let text = format!(in alloc; "{ROW}{NEXT_SIDS}")?;
+    let net = read_net(alloc, text.as_bytes())?;
     let mut out = Vec::new(alloc);
     print_head(alloc, &mut out)?;
     let mut content = Content::enter(Family::V6, hex::decode(alloc, ENTERS)?);
@@ -170,7 +128,8 @@ fn a_walk_is_written(rt: HostRuntime) -> Result<(), Fail> {
 #[test]
 fn traces_are_run_again(rt: HostRuntime) -> Result<(), Fail> {
     let alloc = rt.alloc();
-    let net = read_net(alloc, ROW.as_bytes())?;
+    let text = format!(in alloc; "{ROW}{NEXT_SIDS}")?;
+    let net = read_net(alloc, text.as_bytes())?;
     let no_send = format!(in alloc; "no 4 {SENT}")?;
     let no_drop = format!(in alloc; "no 6 {DROPPED}")?;
     let other = format!(in alloc; "send bc2 {STEPPED}")?;
@@ -204,7 +163,8 @@ fn traces_are_run_again(rt: HostRuntime) -> Result<(), Fail> {
 #[test]
 fn cut_traces_are_bad(rt: HostRuntime) -> Result<(), Fail> {
     let alloc = rt.alloc();
-    let net = read_net(alloc, ROW.as_bytes())?;
+    let text = format!(in alloc; "{ROW}{NEXT_SIDS}")?;
+    let net = read_net(alloc, text.as_bytes())?;
     let text = trace_with(alloc, SENT, DROPPED)?;
     let mut whole = String::new(alloc);
     let mut lines = 0u64;
@@ -230,7 +190,8 @@ fn cut_traces_are_bad(rt: HostRuntime) -> Result<(), Fail> {
 #[test]
 fn lines_are_judged(rt: HostRuntime) -> Result<(), Fail> {
     let alloc = rt.alloc();
-    let net = read_net(alloc, ROW.as_bytes())?;
+    let text = format!(in alloc; "{ROW}{NEXT_SIDS}")?;
+    let net = read_net(alloc, text.as_bytes())?;
     let behind_the_end = format!(in alloc; "packet 1 6 B {ENTERS}00\nend\n")?;
     let cases = [
         ("end\n", "ok 0 0"),
