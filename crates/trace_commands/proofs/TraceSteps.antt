@@ -1,10 +1,8 @@
 -- Lines while walking: what went out so far with the lines of the rest is the text of the whole walk.
-use Rattle.std.proofs.Common.{◌≡◌, ℕ, suc, ◌+◌, List, [], ◌∷◌, ◌++◌, Option, Some, None, Ok, Err, refl, sym, ap, ◌∙◌, append_assoc, append-nil, subst}
+use Rattle.std.proofs.Common.{◌≡◌, ℕ, suc, ◌+◌, List, [], ◌∷◌, ◌++◌, Option, Some, None, refl, sym, ap, ◌∙◌, append_assoc, append-nil, subst}
 use Rattle.std.specs.List.{flat_map}
 use Rattle.std.proofs.lemmas.Grind.{flat_map-append}
 use Rattle.pcap_io.specs.declared.frame.Frame.{Frame}
-use Rattle.pcap_io.specs.Capture.{Reader}
-use Rattle.pcap_io.specs.Frames.{Reading}
 use Rattle.srx_edge.specs.Sinks.{SinkSeen, sent}
 use Rattle.srx_edge.specs.Steps.{Ending, Whole, Fault, Memory, Wrote}
 use Rattle.srx_edge.proofs.PublicLaws.{sent_both, cut_after, cut_none}
@@ -20,9 +18,6 @@ use Rattle.command_output.specs.declared.halt.Failure.{Failure}
 use Rattle.command_output.specs.declared.halt.Failure.TheVariants as failures
 use Rattle.command_output.specs.declared.refusal.Refusal.{Refusal}
 use Rattle.command_output.specs.Answers.{ending_of_failure}
-use Rattle.command_inputs.specs.declared.packets.Next.TheVariants as nexts
-use Rattle.command_inputs.specs.Packets.{Nexts}
-use Rattle.command_inputs.proofs.PublicLaws.{LinesWent, told_all, told_cut, told_failed}
 use Rattle.trace_commands.specs.Trace.{text_by, traced_of, traced_of_frame}
 use Rattle.command_output.specs.Lines.{line}
 use Rattle.run_commands.proofs.PublicLaws.{step_by, walk_begins, walk_goes_on, walk_ends}
@@ -146,45 +141,19 @@ pub ruleset packet = (wrote_one, cut_none)
 
 -- the packets of frames, one frame after the other
 
-abbrev pub frame_trace : Network → ℕ → List ℕ → Frame → List ℕ
-frame_trace net node choices frame = packets_trace net (traced_of_frame node choices frame)
-
 frames-packets : (net : Network) (node : ℕ) (choices : List ℕ) (frames : List Frame)
-    → flat_map (frame_trace net node choices) frames ≡ packets_trace net (traced_of node choices frames)
+    → flat_map (λ frame. packets_trace net (traced_of_frame node choices frame)) frames
+    ≡ packets_trace net (traced_of node choices frames)
 frames-packets net node choices [] = refl
 frames-packets net node choices (frame ∷ frames) =
-    ap (λ (bytes : List ℕ). frame_trace net node choices frame ++ bytes) (frames-packets net node choices frames)
+    ap (λ (bytes : List ℕ). packets_trace net (traced_of_frame node choices frame) ++ bytes) (frames-packets net node choices frames)
     ∙ sym (flat_map-append (packet_trace net) (traced_of_frame node choices frame) (traced_of node choices frames))
 
-wrote_frames : (ending : Ending) (net : Network) (node : ℕ) (choices : List ℕ) (frames : List Frame) (old new : SinkSeen)
-    → Wrote ending (flat_map (frame_trace net node choices) frames) old new
+pub wrote_frames : (ending : Ending) (net : Network) (node : ℕ) (choices : List ℕ) (frames : List Frame) (old new : SinkSeen)
+    → Wrote ending (flat_map (λ frame. packets_trace net (traced_of_frame node choices frame)) frames) old new
     → Wrote ending (packets_trace net (traced_of node choices frames)) old new
 wrote_frames ending net node choices frames old new h =
     subst (λ (bytes : List ℕ). Wrote ending bytes old new) (frames-packets net node choices frames) h
-
--- a frame's packet was cut, the next frame wasn't given, or all were written
-
-pub packets_cut : (net : Network) (node : ℕ) (choices : List ℕ) (whole : Reading) (old new : Reader) (frame : Frame)
-    (first mid sink : SinkSeen) → LinesWent (frame_trace net node choices) whole old first mid → Nexts old (Ok (nexts.Frame frame)) new
-    → (failure : Failure) → Wrote (ending_of_failure failure) (frame_trace net node choices frame) mid sink
-    → Wrote (ending_of_failure failure) (packets_trace net (traced_of node choices whole.frames)) first sink
-packets_cut net node choices whole old new frame first mid sink p h failure wrote =
-    wrote_frames (ending_of_failure failure) net node choices whole.frames first sink
-    (told_cut (frame_trace net node choices) whole old new frame first mid sink p h failure wrote)
-
-pub packets_failed : (net : Network) (node : ℕ) (choices : List ℕ) (whole : Reading) (now new : Reader) (failure : Failure)
-    (first sink : SinkSeen) → LinesWent (frame_trace net node choices) whole now first sink → Nexts now (Err failure) new
-    → Wrote (ending_of_failure failure) (packets_trace net (traced_of node choices whole.frames)) first sink
-packets_failed net node choices whole now new failure first sink p h =
-    wrote_frames (ending_of_failure failure) net node choices whole.frames first sink
-    (told_failed (frame_trace net node choices) whole now new failure first sink p h)
-
-pub packets_all : (net : Network) (node : ℕ) (choices : List ℕ) (whole : Reading) (now : Reader) (fault : Option Refusal)
-    (first sink : SinkSeen) → LinesWent (frame_trace net node choices) whole now first sink → Nexts now (Ok (nexts.End fault)) now
-    → sink ≡ sent (packets_trace net (traced_of node choices whole.frames)) first
-packets_all net node choices whole now fault first sink p h =
-    wrote_frames Whole net node choices whole.frames first sink
-    (told_all (frame_trace net node choices) whole now now fault first sink p h)
 
 -- what wasn't done with a trace that has no end wasn't done with any
 pub unended_cut : (failure : Failure) (net : Network) (packets : List Traced) (fault : Option Refusal) (old new : SinkSeen)

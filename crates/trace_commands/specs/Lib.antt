@@ -1,3 +1,4 @@
 pub mod Replay
 pub mod Trace
 pub mod Replaying
+pub mod Teller

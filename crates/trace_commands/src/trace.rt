@@ -2,11 +2,11 @@
 //! file describes, as text.
 
 ghost use Rattle.std.specs.Prelude.{◌≡◌, ◌<◌, IfOk, Some, length};
-ghost use Rattle.pcap_io.specs.Frames.{frames_of as frames_in};
 ghost use Rattle.srv6_rules.specs.Packet.{bytes_of};
 ghost use Rattle.srx_edge.specs.Steps.{Wrote};
 ghost use Rattle.command_output.specs.Answers.{CommandsOut, ending_of_step};
-ghost use Rattle.trace_commands.specs.Trace.{text_of, trace_shape, traced_as, traced_of, traced_of_frame};
+ghost use Rattle.trace_commands.specs.Trace.{text_of, trace_shape, traced_as, traced_of};
+ghost use Rattle.trace_commands.specs.Teller.{MayTell, frame_trace};
 ghost use Rattle.command_output.specs.Lines.{line};
 ghost use Rattle.command_inputs.specs.Packets.{HasHead, fault_of, reading_of};
 ghost use Rattle.trace_replay.specs.Lines.{outcome_text, stages_text};
@@ -15,13 +15,15 @@ ghost use Rattle.trace_replay.specs.Written.{packet_trace, packets_trace, trace_
 ghost use Rattle.walk_rules.specs.Relation.{IsPlace};
 ghost use Rattle.walk_rules.specs.Walk.{choice_at};
 
-use command_inputs::{Next, Packets, network_of_file, next_of, node_of_name, packets_of_input};
+use command_inputs::{
+    Packets, Tells, network_of_file, node_of_name, packets_of_input, tell_frames,
+};
 use command_output::{Failure, Halt, Refusal, Status, Text, Told, write_all};
 use icmp6_errors::IcmpSlot;
 use net_model::Net;
 use node_stage::Content;
 use packet_walk::decisions_of;
-use pcap_io::{Body, CaptureHead, Frame, FrameReader, HEAD_LEN, MAX_FRAMES};
+use pcap_io::{LentBody, LentFrame};
 use run_commands::staged;
 use srv6_rules::Family;
 use srx_edge::{Files, Sink, Source};
@@ -104,24 +106,32 @@ fn write_stages<O: Sink>(
     write_stopped(alloc, out)
 }
 
+/// What tells a frame by the walk of its packet: the network, the node that packets enter at, and
+/// the choices of each walk.
+#[derive(Drop)]
+struct WalkTeller<'a> {
+    net: &'a Net,
+    node: u32,
+    choices: &'a [u32],
+}
+
 /// Writes the lines of a packet: its bytes as it enters at the node, and its walk from there.
 #[tactic(auto, using(crate::proofs::TraceSteps::lines))]
 fn trace_packet<O: Sink>(
     alloc: Global,
-    net: &Net,
-    node: u32,
-    choices: &[u32],
+    teller: &WalkTeller<'_>,
     number: u32,
     family: Family,
     content: Content,
     out: &mut O,
 ) -> Result<(), Failure>
-    requires node { node < length net.now.nodes }
-    requires choices { 0 < length choices.now }
+    requires { MayTell teller.now }
     ensures { Wrote (ending_of_step result)
-        (packet_trace net.now (traced_as node choices.now number family content))
+        (packet_trace teller.now.net.now
+        (traced_as teller.now.node teller.now.choices.now number family content))
         (O.seen out.old) (O.seen out.new) }
 {
+    let (net, node) = (teller.net, teller.node);
     let mut text = Vec::new(alloc);
     print_packet(alloc, net, number, family, node, content.bytes(), &mut text)?;
     write_all(out, text.as_slice())?;
@@ -130,99 +140,49 @@ fn trace_packet<O: Sink>(
         how: How::Arrived { table: 0 },
         family,
     };
-    write_stages(alloc, net, place, content, choices, out)
+    write_stages(alloc, net, place, content, teller.choices, out)
 }
 
-/// Writes the lines of the packet of a frame, if it is read.
-#[tactic(auto, using(crate::proofs::TraceSteps::packet))]
-fn trace_frame<O: Sink>(
-    alloc: Global,
-    net: &Net,
-    node: u32,
-    choices: &[u32],
-    frame: Frame,
-    out: &mut O,
-) -> Result<(), Failure>
-    requires node { node < length net.now.nodes }
-    requires choices { 0 < length choices.now }
-    ensures { Wrote (ending_of_step result)
-        (packets_trace net.now (traced_of_frame node choices.now frame))
-        (O.seen out.old) (O.seen out.new) }
-{
-    let Frame { number, body } = frame;
-    let (family, bytes) = match body {
-        Body::V6(bytes) => (Family::V6, bytes),
-        Body::V4(bytes) => (Family::V4, bytes),
-        Body::ShortFrame | Body::NotIp => return Ok(()),
-    };
-    let content = Content::enter(family, bytes.into_vec());
-    trace_packet(alloc, net, node, choices, number, family, content, out)
-}
+impl Tells for WalkTeller<'_> {
+    ghost ready = { MayTell };
 
-/// Writes the lines of the packets of the frames behind a capture's head, one after the other, and
-/// gives the refusal of what is behind the frames, if anything is.
-#[tactic(auto, using(command_output::proofs::PublicLaws::writing))]
-fn trace_frames<O: Sink>(
-    alloc: Global,
-    net: &Net,
-    node: u32,
-    choices: &[u32],
-    head: CaptureHead,
-    behind: &[u8],
-    out: &mut O,
-) -> Result<Option<Refusal>, Failure>
-    requires node { node < length net.now.nodes }
-    requires choices { 0 < length choices.now }
-    ensures fault { IfOk result (λ fault.
-        fault ≡ fault_of (frames_in head MAX_FRAMES 1 behind.now)) }
-    ensures wrote { Wrote (ending_of_step result)
-        (packets_trace net.now (traced_of node choices.now
-        (frames_in head MAX_FRAMES 1 behind.now).frames))
-        (O.seen out.old) (O.seen out.new) }
-{
-    let mut reader = FrameReader::new(alloc, head, behind)?;
-    'frames: loop {
-        match next_of(&mut reader)? {
-            Next::Frame(frame) => {
-                trace_frame(alloc, net, node, choices, frame, out)?;
-            }
-            Next::End(fault) => return Ok(fault),
-        }
+    ghost lines = { frame_trace };
+
+    #[tactic(auto, using(crate::proofs::TraceSteps::packet))]
+    fn tell<K: Sink>(
+        &self,
+        alloc: Global,
+        frame: &LentFrame<'_>,
+        sink: &mut K,
+    ) -> Result<(), Failure> {
+        let (family, bytes) = match frame.body() {
+            LentBody::V6(bytes) => (Family::V6, bytes),
+            LentBody::V4(bytes) => (Family::V4, bytes),
+            LentBody::ShortFrame | LentBody::NotIp => return Ok(()),
+        };
+        let content = Content::enter(family, bytes.to_vec(alloc)?);
+        trace_packet(alloc, self, frame.number(), family, content, sink)
     }
 }
 
-/// Writes the lines of the packets of the input, and gives the refusal of what is behind the
+/// Writes the lines of the packets of the input, and gives the refusal of what is after the
 /// frames, if anything is.
 fn trace_packets<O: Sink>(
     alloc: Global,
-    net: &Net,
-    node: u32,
-    choices: &[u32],
-    packets: Packets,
+    teller: &WalkTeller<'_>,
+    packets: &Packets,
     out: &mut O,
 ) -> Result<Option<Refusal>, Failure>
-    requires node { node < length net.now.nodes }
-    requires choices { 0 < length choices.now }
-    requires head { HasHead packets }
-    ensures fault { IfOk result (λ fault. fault ≡ fault_of (reading_of packets)) }
+    requires teller { MayTell teller.now }
+    requires head { HasHead packets.now }
+    ensures fault { IfOk result (λ fault. fault ≡ fault_of (reading_of packets.now)) }
     ensures wrote { Wrote (ending_of_step result)
-        (packets_trace net.now (traced_of node choices.now (reading_of packets).frames))
+        (packets_trace teller.now.net.now
+        (traced_of teller.now.node teller.now.choices.now (reading_of packets.now).frames))
         (O.seen out.old) (O.seen out.new) }
 {
-    match packets {
-        Packets::Bare(packet) => {
-            let frame = Frame {
-                number: 1,
-                body: Body::V6(packet),
-            };
-            trace_frame(alloc, net, node, choices, frame, out)?;
-            Ok(None)
-        }
-        Packets::Capture(head, bytes) => {
-            let behind = bytes.as_slice().split_at(HEAD_LEN).1;
-            trace_frames(alloc, net, node, choices, head, behind, out)
-        }
-    }
+    let mut frames = packets.frames();
+    tell_frames(alloc, teller, &mut frames, out)
 }
 
 /// Writes the last line.
@@ -236,26 +196,24 @@ fn write_end<O: Sink>(alloc: Global, out: &mut O) -> Result<(), Failure>
 }
 
 /// Writes the trace, which has its last line where nothing that is refused follows the frames, and
-/// gives the refusal of what is behind them, if anything is.
+/// gives the refusal of what is after them, if anything is.
 #[tactic(auto, using(crate::proofs::TraceSteps::texts))]
 fn write_trace<O: Sink>(
     alloc: Global,
-    net: &Net,
-    node: u32,
-    choices: &[u32],
-    packets: Packets,
+    teller: &WalkTeller<'_>,
+    packets: &Packets,
     out: &mut O,
 ) -> Result<Option<Refusal>, Failure>
-    requires node { node < length net.now.nodes }
-    requires choices { 0 < length choices.now }
-    requires head { HasHead packets }
-    ensures fault { IfOk result (λ fault. fault ≡ fault_of (reading_of packets)) }
+    requires teller { MayTell teller.now }
+    requires head { HasHead packets.now }
+    ensures fault { IfOk result (λ fault. fault ≡ fault_of (reading_of packets.now)) }
     ensures wrote { Wrote (ending_of_step result)
-        (text_of net.now node choices.now (reading_of packets))
+        (text_of teller.now.net.now teller.now.node teller.now.choices.now
+        (reading_of packets.now))
         (O.seen out.old) (O.seen out.new) }
 {
     write_head(alloc, out)?;
-    let fault = trace_packets(alloc, net, node, choices, packets, out)?;
+    let fault = trace_packets(alloc, teller, packets, out)?;
     match fault {
         Some(refusal) => Ok(Some(refusal)),
         None => {
@@ -268,7 +226,7 @@ fn write_trace<O: Sink>(
 /// Writes the walks of the packets of the input, one after the other, from a node of the network
 /// that a file describes, as text. Decision d of each packet, counted in its sends from 0, takes
 /// the choice at d modulo the number of choices. The file is judged, then the node's name, then the
-/// input, each before the next is read. What is behind the last frame of a capture is refused once
+/// input, each before the next is read. What is after the last frame of a capture is refused once
 /// all packets were written, and then the trace has no last line. (own rule)
 pub fn trace<F: Files, S: Source, O: Sink>(
     alloc: Global,
@@ -287,7 +245,12 @@ pub fn trace<F: Files, S: Source, O: Sink>(
     let net = network_of_file(alloc, files, file)?;
     let node = node_of_name(&net, node)?;
     let packets = packets_of_input(alloc, input)?;
-    match write_trace(alloc, &net, node, choices, packets, out)? {
+    let teller = WalkTeller {
+        net: &net,
+        node,
+        choices,
+    };
+    match write_trace(alloc, &teller, &packets, out)? {
         Some(refusal) => Err(Halt::Refused(refusal)),
         None => Ok(Told {
             line: Text::Fixed(b""),
