@@ -4,7 +4,7 @@ import argparse
 import functools
 import itertools
 import json
-from collections.abc import Iterator, Sequence
+from collections.abc import Hashable, Iterator, Sequence
 from dataclasses import dataclass
 from pathlib import Path
 from typing import Any
@@ -14,7 +14,9 @@ from .description import Network, read_network
 from .drawing import COLOURS, Drawing, end_of, quoted
 from .files import read_input
 from .say_items import near
-from .walks import Hop, Start, View, Visit, Walks, counts_of, crossed, views_of, visits_from
+from .walks import (
+    Hop, Start, View, Visit, Walks, counts_of, crossed, views_of, visits_from, ways_of,
+)  # fmt: skip
 
 VISITS = 100_000
 DESCRIPTION = """\
@@ -40,10 +42,8 @@ class Found:
         """A packet's outermost header, in words."""
         return str(self.views.get(packet) or "to nothing that reads")
 
-    def title(self, start: Start) -> str:
+    def title(self, start: Start, count: int) -> str:
         """The line above the walks of a packet."""
-        counts = counts_of(self.walks, start)
-        count = counts[start.visit]
         entry = "enters at the headend" if start.visit.inner else "arrives at"
         view = "" if start.visit.inner else f", {self.view(start.visit.packet)}"
         return f"packet {start.number} {entry} {start.visit.node}{view}: {_count(count, 'walk')}"
@@ -133,12 +133,17 @@ def _row(found: Found, visit: Visit, hop: Hop) -> list[str]:
 
 def tree_lines(found: Found) -> Iterator[str]:
     """The walks of all packets as trees."""
+    known: dict[Hashable, tuple[int, list[str]]] = {}
     for place, start in enumerate(found.starts):
         if place:
             yield ""
-        yield found.title(start)
-        for line in Tree(found, start).lines():
-            yield f"  {line}"
+        key = ways_of(found.walks, start)
+        if key not in known:
+            count = counts_of(found.walks, start)[start.visit]
+            known[key] = count, [f"  {line}" for line in Tree(found, start).lines()]
+        count, lines = known[key]
+        yield found.title(start, count)
+        yield from lines
 
 
 COLUMNS = ["packet", "walk", "node", "executes", "link", "destination", "hop", "left", "end"]

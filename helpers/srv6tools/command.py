@@ -4,6 +4,7 @@ import argparse
 import contextlib
 import enum
 import errno
+import gc
 import os
 import sys
 import threading
@@ -77,6 +78,7 @@ def run_tool(
     parser: Parser, work: Callable[[argparse.Namespace], int | None], words: Sequence[str]
 ) -> int:
     """Reads the words, does the work, and gives the exit status; a fault is one line on `err`."""
+    gc.disable()  # what a tool makes it keeps to its end, so that looking for garbage is in vain
     for stream in (sys.stdout, sys.stderr):
         stream.reconfigure(encoding="utf-8", errors="surrogateescape")
     try:

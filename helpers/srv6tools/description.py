@@ -9,7 +9,7 @@ from collections.abc import Iterable
 from dataclasses import dataclass, field
 from ipaddress import IPv6Address, IPv6Network
 from pathlib import Path
-from typing import Any
+from typing import Any, NamedTuple
 
 from .command import Fault
 from .files import read_toml
@@ -55,8 +55,7 @@ class Link:
     end: str | None
 
 
-@dataclass(frozen=True, slots=True)
-class Route:
+class Route(NamedTuple):
     """A route of a node's table over equal next hops."""
 
     node: str
@@ -202,7 +201,9 @@ def _links(item: Item, key: str, net: Network) -> tuple[str, ...]:
     names = item.texts(key)
     if not names:
         raise item.fault(f"`{key}` has no links")
-    return tuple(_known(item, key, name, net.links) for name in names)
+    for name in names:
+        _known(item, key, name, net.links)
+    return tuple(names)
 
 
 def _block(item: Item) -> Block:

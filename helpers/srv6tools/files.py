@@ -104,6 +104,8 @@ def _checked(value: Any, name: str) -> Any:
     todo = [value]
     while todo:
         one = todo.pop()
+        if type(one) is str:  # most are
+            continue
         if isinstance(one, dict):
             todo.extend(one.values())
         elif isinstance(one, list):

@@ -5,9 +5,8 @@ item.
 import functools
 import re
 from collections.abc import Iterator
-from dataclasses import dataclass
 from ipaddress import IPv4Address, IPv4Network, IPv6Address, IPv6Network
-from typing import Any
+from typing import Any, NamedTuple
 
 from .command import Fault
 
@@ -35,8 +34,7 @@ def prefix_of(text: str) -> Prefix:
     return IPv4Network((IPv4Address(match[1]), int(match[2])))
 
 
-@dataclass(frozen=True, slots=True)
-class Item:
+class Item(NamedTuple):
     """An item of a table, with its place: the file, the table, and its number from 1."""
 
     path: str
@@ -89,16 +87,18 @@ class Item:
 
     def texts(self, key: str, default: Any = NEEDED) -> Any:
         """A list of texts."""
-        return self._list(key, str, "texts", default)
+        return self._list(key, str, "list of texts", default)
 
     def integers(self, key: str, default: Any = NEEDED) -> Any:
         """A list of integers."""
-        return self._list(key, int, "integers", default)
+        return self._list(key, int, "list of integers", default)
 
     def _list(self, key: str, kind: type, called: str, default: Any) -> Any:
-        value = self._value(key, list, f"list of {called}", default)
-        if value is not default and any(type(one) is not kind for one in value):
-            raise self.fault(f"`{key}` is no list of {called}")
+        value = self._value(key, list, called, default)
+        if value is not default:
+            for one in value:
+                if type(one) is not kind:
+                    raise self.fault(f"`{key}` is no {called}")
         return value
 
     def word(self, key: str, words: tuple[str, ...], default: Any = NEEDED) -> Any:

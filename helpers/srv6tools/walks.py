@@ -6,7 +6,8 @@ send. So of walks that come to one node with the same bytes the rest is asked of
 """
 
 import collections
-from collections.abc import Iterable, Iterator, Sequence
+from collections.abc import Hashable, Iterable, Iterator, Sequence
+from concurrent.futures import ThreadPoolExecutor
 from dataclasses import dataclass, field
 from typing import NamedTuple
 
@@ -15,7 +16,7 @@ from .command import Fault, Status, tool_name
 from .description import Link, Network
 from .err_lines import PacketLine, err_line_of
 from .intent import read_intent
-from .program import run_program
+from .program import Answer, run_program
 from .report import certificate_in
 from .shown import Shown, shown_in
 from .trace import Walk, trace_of
@@ -193,27 +194,35 @@ class _Entry:
     def __init__(self, net: Network, intent: str, given: bytes):
         self.net, self.intent, self.given = net, intent, given
         self.links = list(net.links.values())
-        self.headend, self.sids = self._headend()
-        self._first = self.hops(0)
+        self.headend = read_intent(intent).headend
+        with ThreadPoolExecutor(1) as aside:  # of a large network each call takes a while
+            walked = aside.submit(self._walked, 0)
+            self.sids = self._own_sids()
+            self._first = self._firsts(walked.result())
         self.visits = {visit.inner: visit for visit in self._first}
 
-    def _headend(self) -> tuple[str, tuple[str, ...]]:
-        """The headend, and the SIDs of the list that the headend itself executes."""
-        headend = read_intent(self.intent).headend
+    def _own_sids(self) -> tuple[str, ...]:
+        """The SIDs of the list that the headend itself executes."""
         answer = run_program(["compile", self.net.path, self.intent])
         _refuse(f"srv6 compile {self.net.path} {self.intent}", answer.status, answer.err)
-        own = {sid.prefix for sid in self.net.sids if sid.node == headend}
-        others = {sid.prefix for sid in self.net.sids if sid.node != headend}
+        own = {sid.prefix for sid in self.net.sids if sid.node == self.headend}
+        others = {sid.prefix for sid in self.net.sids if sid.node != self.headend}
         sids = []
         for step in certificate_in(answer.out.decode("latin-1")).path:
             if step.prefix not in own or step.prefix in others:
                 break
             sids.append(str(step.prefix))
-        return headend, tuple(sids)
+        return tuple(sids)
 
     def hops(self, choice: int) -> dict[Visit, Hop]:
         """The first hops of the packets under one choice."""
-        answer = run_program(["walk", self.net.path, self.intent, str(choice)], self.given)
+        return self._firsts(self._walked(choice)) if choice else self._first
+
+    def _walked(self, choice: int) -> Answer:
+        return run_program(["walk", self.net.path, self.intent, str(choice)], self.given)
+
+    def _firsts(self, answer: Answer) -> dict[Visit, Hop]:
+        """The first hops in an answer of `srv6 walk`."""
         _refuse(f"srv6 walk {self.net.path} {self.intent}", answer.status, answer.err)
         firsts: dict[int, Hop] = {}
         for sent in sent_in(answer.out, "srv6 walk"):
@@ -298,6 +307,14 @@ def visits_from(walks: Walks, start: Start) -> list[Visit]:
                 found[then] = None
                 todo.append(then)
     return [visit for visit in found if visit in walks.hops]
+
+
+def ways_of(walks: Walks, start: Start) -> Hashable:
+    """What the walks of a packet depend on: those of two packets for which this is the same, be
+    they one packet twice or inner packets that the headend treats alike, are the same.
+    """
+    visit = start.visit
+    return visit if visit.inner is None else (visit.node, *walks.hops.get(visit, ()))
 
 
 def counts_of(walks: Walks, start: Start) -> dict[Visit, int]:

@@ -43,6 +43,7 @@ class Stub:
 
     def __init__(self, path):
         self.net, self.runs = read_network(path), 0
+        self.walked: list[int] = []  # the choices under which `walk` was asked for
         self.routes = {route.node: route.via for route in self.net.routes}
 
     def run(self, words, given=b"") -> Answer:
@@ -56,6 +57,7 @@ class Stub:
             return Answer(0, "".join(lines).encode(), "")
         self.runs += 1
         if words[0] == "walk":
+            self.walked.append(int(words[3]))
             return self.sent(frames, int(words[3]))
         _, _, node, choice = words
         lines = ["srv6 trace 1"]
@@ -121,7 +123,8 @@ class AllPaths(ToolCase):
         head = INTENT.read_text().replace('"A"', '"n0"')
         intent = self.file("intent.toml", head)
         given = b"".join(raw_capture([(0, 0, packet()), (0, 0, packet(1))]))
-        ran, _ = self.stubbed(2, str(intent), given=given)
+        ran, stub = self.stubbed(2, str(intent), given=given)
+        self.assertEqual(stub.walked, [0, 1])
         self.assertEqual(
             ran.out.splitlines(),
             [
