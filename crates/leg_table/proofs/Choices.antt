@@ -25,6 +25,29 @@ Goes-map (outcomes.Hand n how family) t E f h = h
 Goes-map outcomes.Local t E f h = absurd h
 Goes-map (outcomes.Drop reason error) t E f h = absurd h
 
+pub first-same : (a b : ℕ) (p q : ℕ → ℕ) → p (a + 0) ≡ q (b + 0) → p a ≡ q b
+first-same a b p q e = ap p (omega arith) ∙ (e ∙ ap q (omega arith))
+
+-- so many choices of a row, from one of them on
+abbrev pub row_from : (ℕ → ℕ) → ℕ → ℕ → List ℕ
+row_from pick i zero = []
+row_from pick i (suc n) = pick i ∷ row_from pick (suc i) n
+
+pub length-row_from : (pick : ℕ → ℕ) (i n : ℕ) → length (row_from pick i n) ≡ n
+length-row_from pick i zero = refl
+length-row_from pick i (suc n) = ap suc (length-row_from pick (suc i) n)
+
+row_from-at : (pick : ℕ → ℕ) (i n k : ℕ) → k < n → slice_index (row_from pick i n) k ≡ pick (i + k)
+row_from-at pick i zero k h = absurd (omega arith)
+row_from-at pick i (suc n) zero h = ap pick (omega arith)
+row_from-at pick i (suc n) (suc k) h = row_from-at pick (suc i) n k (omega arith) ∙ ap pick (omega arith)
+
+pub row_agrees : (pick : ℕ → ℕ) (n d : ℕ) → d < n → choice_at (row_from pick 0 n) (0 + d) ≡ pick (0 + d)
+row_agrees pick n d h =
+    let len = length-row_from pick 0 n in
+    let z : 0 + d ≡ d = omega arith in
+    rw (z, len, mod-eq_of_lt h, row_from-at pick 0 n d h) (ap pick z)
+
 module _ (net : Network) (end : List Step → walks.Stage → Bool) where
   -- a row of choices for every list of choices
   abbrev AllPicks : List Step → Place → Content → Type 0
@@ -71,14 +94,11 @@ module _ (net : Network) (end : List Step → walks.Stage → Bool) where
   agree (suc more) [] None content pick qick taken uaken same h = absurd h
   agree (suc more) (t ∷ ts) None content pick qick taken uaken same h = absurd h
   agree (suc more) [] (Some place) content pick qick taken uaken same h =
-      let at_first : pick taken ≡ qick uaken = first_same taken uaken pick qick (same 0 (omega arith)) in
+      let at_first : pick taken ≡ qick uaken = first-same taken uaken pick qick (same 0 (omega arith)) in
       subst (λ (c : ℕ). let gave = step_of net place content c in Ends gave.outcome (IsTrue (end [] (seen_at place content gave))))
       at_first h
-    where
-      first_same : (a b : ℕ) (p q : ℕ → ℕ) → p (a + 0) ≡ q (b + 0) → p a ≡ q b
-      first_same a b p q e = ap p (omega arith) ∙ (e ∙ ap q (omega arith))
   agree (suc more) (t ∷ ts) (Some place) content pick qick taken uaken same h =
-      let at_first : pick taken ≡ qick uaken = first_same taken uaken pick qick (same 0 (omega arith)) in
+      let at_first : pick taken ≡ qick uaken = first-same taken uaken pick qick (same 0 (omega arith)) in
       let gave = step_of net place content (pick taken) in
       subst
       (λ (c : ℕ). let gave = step_of net place content c in
@@ -90,9 +110,6 @@ module _ (net : Network) (end : List Step → walks.Stage → Bool) where
       (λ next r. agree more ts next gave.after pick qick (taken + 1) (uaken + 1) (later taken uaken pick qick same) r)
       h)
     where
-      first_same : (a b : ℕ) (p q : ℕ → ℕ) → p (a + 0) ≡ q (b + 0) → p a ≡ q b
-      first_same a b p q e = ap p (omega arith) ∙ (e ∙ ap q (omega arith))
-
       later : (a b : ℕ) (p q : ℕ → ℕ) → ((d : ℕ) → d ≤ suc (length ts) → p (a + d) ≡ q (b + d))
           → (d : ℕ) → d ≤ length ts → p (a + 1 + d) ≡ q (b + 1 + d)
       later a b p q same d h = ap p (omega arith) ∙ (same (suc d) (omega arith) ∙ ap q (omega arith))
@@ -174,25 +191,6 @@ module _ (net : Network) (end : List Step → walks.Stage → Bool) where
       every_from ts place gave.after choice gave.outcome t _
       (λ pick e. let got = all pick in first_goes t ts place content pick choice got.0 e got.1)
       (λ next rest. all-every ts next gave.after rest)
-
-  abbrev pub row_from : (ℕ → ℕ) → ℕ → ℕ → List ℕ
-  row_from pick i zero = []
-  row_from pick i (suc n) = pick i ∷ row_from pick (suc i) n
-
-  pub length-row_from : (pick : ℕ → ℕ) (i n : ℕ) → length (row_from pick i n) ≡ n
-  length-row_from pick i zero = refl
-  length-row_from pick i (suc n) = ap suc (length-row_from pick (suc i) n)
-
-  row_from-at : (pick : ℕ → ℕ) (i n k : ℕ) → k < n → slice_index (row_from pick i n) k ≡ pick (i + k)
-  row_from-at pick i zero k h = absurd (omega arith)
-  row_from-at pick i (suc n) zero h = ap pick (omega arith)
-  row_from-at pick i (suc n) (suc k) h = row_from-at pick (suc i) n k (omega arith) ∙ ap pick (omega arith)
-
-  pub row_agrees : (pick : ℕ → ℕ) (n d : ℕ) → d < n → choice_at (row_from pick 0 n) (0 + d) ≡ pick (0 + d)
-  row_agrees pick n d h =
-      let len = length-row_from pick 0 n in
-      let z : 0 + d ≡ d = omega arith in
-      rw (z, len, mod-eq_of_lt h, row_from-at pick 0 n d h) (ap pick z)
 
   choices-picks : (ts : List Step) (place : Place) (content : Content) → ForAllChoices net end ts place content → AllPicks ts place content
   choices-picks ts place content all =

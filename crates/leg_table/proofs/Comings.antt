@@ -1,50 +1,35 @@
--- Where a packet that is handed over for all choices comes to from its place in a list, and what comes of it there.
-use Rattle.std.proofs.Common.{◌≡◌, ℕ, ◌-◌, ◌<◌, inr, true, false, not, List, ◌++◌, drop, Option, Some, None, slice_get, refl, sym, ◌∙◌, ap, subst, arith}
-use Rattle.std.specs.Prelude.{is_some}
-use Rattle.std.proofs.lemmas.Bool.{false≢true, and_from}
-use Rattle.std.proofs.lemmas.List.Elements.{All-head, All-tail}
+-- Where a packet that is handed over for all choices comes to from its place in a list.
+use Rattle.std.proofs.Common.{◌≡◌, ℕ, ◌-◌, ◌<◌, inr, true, drop, Option, Some, None, slice_get, refl, sym, ◌∙◌, ap, subst, arith}
 use Rattle.v6_addr.specs.Address.{PrefixValue, Holds}
-use Rattle.srv6_rules.specs.declared.sid.Family.{Family}
 use Rattle.srv6_rules.specs.declared.sid.Family.TheVariants as families
 use Rattle.srv6_rules.specs.declared.sid.SidEntry.{SidEntry}
-use Rattle.srv6_rules.specs.Behaviours.{goes_on, behaviour_policy}
 use Rattle.srv6_rules.specs.Packet.{Packet, V6}
-use Rattle.srv6_rules.specs.Endpoint.{Endpoint, Onward, Exposed, Delivered, Refused, at_sid}
 use Rattle.net_model.specs.Network.{Network}
 use Rattle.net_model.specs.Rules.{IsNetwork}
 use Rattle.net_model.specs.Flat.{IsFlat}
 use Rattle.net_model.specs.Keeps.{Keeps}
 use Rattle.net_model.proofs.PublicLaws.{keeps_from_network}
 use Rattle.walk_rules.specs.declared.place.Place.{Place}
-use Rattle.walk_rules.specs.declared.place.Outcome.TheVariants as outcomes
 use Rattle.walk_rules.specs.Way.{Into, way_of}
-use Rattle.walk_rules.specs.Treatment.{Gave, goes, step_of, onward_from, treated_at_sid, allow_of}
-use Rattle.walk_rules.proofs.PublicLaws.{onward-each}
 use Rattle.intent_reader.specs.Rules.{IsIntent}
-use Rattle.intent_reader.specs.declared.intent.Step.{Step}
 use Rattle.intent_reader.specs.declared.intent.Intent.{Intent}
 use Rattle.list_places.specs.Places as lists
 use Rattle.list_places.specs.Places.{Tunnel, active, behind_of, sids_from, next_of, StandsOn, Along}
-use Rattle.list_places.proofs.PublicLaws.{along-hop, along-holds, along-sent, along-only}
+use Rattle.list_places.proofs.PublicLaws.{along-hop, along-holds, along-sent}
 use Rattle.list_pack.specs.SidLists.{list_sid, IsSidPrefix}
 use Rattle.leg_table.proofs.FlatNets.{FlatFacts}
-use Rattle.leg_table.specs.Trace.{executed, Handed}
-use Rattle.leg_table.specs.Tasks.{matches}
 use Rattle.leg_table.specs.Ride.{Ride, ride_of, with_hop_limit, RideEnds}
-use Rattle.leg_table.specs.Sids.{binds, takes_step, sid_binds, is_binding, prefix_by, prefix_at, sid_address}
-use Rattle.leg_table.specs.Leg.{place_behind, place_from, is_start}
+use Rattle.leg_table.specs.Sids.{prefix_by, prefix_at, sid_address}
+use Rattle.leg_table.specs.Leg.{place_from, is_start}
 use Rattle.leg_table.proofs.Alike.{address-alike}
 use Rattle.leg_table.proofs.AllWays.{yes, hands-every}
-use Rattle.leg_table.proofs.Executions.{stage_into}
-use Rattle.leg_table.proofs.HopLimits.{onward-moves}
 use Rattle.leg_table.proofs.Rides.{every-ride}
 use Rattle.leg_table.proofs.RideFacts.{ride-facts, StartFacts, start-facts}
 use Rattle.leg_table.proofs.ListPlaces.{address-at}
 use Rattle.leg_table.proofs.StrictLaws.{into-stands}
 use Rattle.leg_table.proofs.Handing.{RideWalk, ride-walk}
-use Rattle.leg_table.proofs.LegsOver.{Hands-over, none-dropped, again-over}
-use Rattle.leg_table.proofs.Segments.{behind-again, into-prefix, LeftBehind, meets-behind}
-use Rattle.leg_table.proofs.AllHands.{Unbound, Hands, hands-ways, hands-along, moved-goes}
+use Rattle.leg_table.proofs.Segments.{into-prefix}
+use Rattle.leg_table.proofs.AllHands.{Hands, hands-ways, hands-along}
 
 module _ (net : Network) (network : IsNetwork net) (flat : IsFlat net) (facts : FlatFacts net) (intent : Intent)
     (is_intent : IsIntent net intent) (tunnel : Tunnel) (family : tunnel.inner ≡ intent.inner) where
@@ -113,130 +98,3 @@ module _ (net : Network) (network : IsNetwork net) (flat : IsFlat net) (facts : 
       let ends = (every-ride net yes keeps ts place p s.how s.rest above).0
       (hands-every net ts place (V6 p) (hands-ways net ts place (V6 p) hands)) in
       comes-by position via x q hop p place s along is named hands (ride_of net p.destination ts place) refl ends
-
-  -- the packet where it comes to
-  abbrev pub there-packet : Packet → Ride → Packet
-  there-packet p r = with_hop_limit (p.hop_limit - r.lowered) p
-
-  -- it goes on from there
-  pub record Goes-on (x y : lists.ListPlace) (hop : ℕ) (p : Packet) (ride : Ride) (sid : SidEntry) (r : Packet) : Type 0 where
-    pub middle : takes_step sid ≡ true
-    pub high : 1 < hop - ride.lowered
-    pub next : next_of x ≡ Some y
-    pub along : Along tunnel y (hop - ride.lowered - 1) r
-    pub gives : (choice : ℕ) → step_of net ride.place (V6 (there-packet p ride)) choice
-        ≡ goes (outcomes.Again ride.sid (onward_from ride.sid sid.behaviour)) (V6 r)
-    pub rest : List Step
-    pub behind : LeftBehind net ride.sid ride.left rest
-    pub hands : Hands net (place_behind ride.sid sid) (V6 r) rest
-
-  -- a SID that binds a policy is not executed
-  binds-not : (position : ℕ) (via : Option ℕ) (x : lists.ListPlace) (q : PrefixValue) (hop : ℕ) (p : Packet) (place : Place)
-      → (c : Comes position via x q hop p place) → (number : ℕ) → behaviour_policy c.sid.behaviour ≡ Some number → (after : Packet)
-      → step_of net c.ride.place (V6 (there-packet p c.ride)) 0
-      ≡ goes (outcomes.Again c.ride.sid (onward_from c.ride.sid c.sid.behaviour)) (V6 after) → ⊥
-  binds-not position via x q hop p place c number binding after gives =
-      let n = c.ride.sid in
-      let zeros : ℕ → ℕ = λ d. 0 in
-      let hand = c.hands zeros in
-      let over = again-over net c.ride.place (place_behind n c.sid) (V6 (there-packet p c.ride)) (V6 after) zeros 0 hand.0 n
-      (onward_from n c.sid.behaviour) gives (behind-again net c.ride.place n c.sid c.stands c.is_v6) hand.1 in
-      let first = All-head (λ (m : ℕ). is_binding net m ≡ false) n over.0.sids
-      (subst (Unbound net) (sym (ap (λ (h : Handed). h.sids) over.2)) hand.3) in
-      let is : is_binding net n ≡ true = ap sid_binds c.there ∙ ap (λ (o : Option ℕ). is_some o) binding in
-      absurd (false≢true (sym first ∙ is))
-
-  -- what is handed over behind the execution
-  goes-over : (position : ℕ) (via : Option ℕ) (x : lists.ListPlace) (q : PrefixValue) (hop : ℕ) (p r : Packet) (place : Place)
-      → (c : Comes position via x q hop p place)
-      → ((choice : ℕ) → step_of net c.ride.place (V6 (there-packet p c.ride)) choice
-      ≡ goes (outcomes.Again c.ride.sid (onward_from c.ride.sid c.sid.behaviour)) (V6 r))
-      → (pick : ℕ → ℕ)
-      → (k : Handed) × Hands-over net (place_behind c.ride.sid c.sid) (V6 r) pick 0 k
-      × (matches c.ride.left (executed net c.ride.sid ++ k.trace) ≡ true) × Unbound net k.sids
-  goes-over position via x q hop p r place c gives pick =
-      let n = c.ride.sid in
-      let hand = c.hands pick in
-      let over = again-over net c.ride.place (place_behind n c.sid) (V6 (there-packet p c.ride)) (V6 r) pick 0 hand.0 n
-      (onward_from n c.sid.behaviour) (gives (pick 0)) (behind-again net c.ride.place n c.sid c.stands c.is_v6) hand.1 in (
-        over.0,
-        (over.1.0, over.1.1),
-        ap (λ (h : Handed). matches c.ride.left h.trace) over.2 ∙ hand.2,
-        All-tail (λ (m : ℕ). is_binding net m ≡ false) n over.0.sids
-            (subst (Unbound net) (sym (ap (λ (h : Handed). h.sids) over.2)) hand.3),
-      )
-
-  goes-onwards : (position : ℕ) (via : Option ℕ) (x y : lists.ListPlace) (q : PrefixValue) (hop : ℕ) (p r : Packet) (place : Place)
-      → (c : Comes position via x q hop p place) → takes_step c.sid ≡ true → 1 < hop - c.ride.lowered → next_of x ≡ Some y
-      → Along tunnel y (hop - c.ride.lowered - 1) r
-      → ((choice : ℕ) → step_of net c.ride.place (V6 (there-packet p c.ride)) choice
-      ≡ goes (outcomes.Again c.ride.sid (onward_from c.ride.sid c.sid.behaviour)) (V6 r))
-      → Goes-on x y hop p c.ride c.sid r
-  goes-onwards position via x y q hop p r place c middle high next along gives =
-      let over = goes-over position via x q hop p r place c gives in
-      let zeros : ℕ → ℕ = λ d. 0 in
-      let behind = meets-behind net c.ride.sid c.ride.left (over zeros).0.trace (over zeros).2 in
-      record {
-        middle = middle;
-        high = high;
-        next = next;
-        along = along;
-        gives = gives;
-        rest = behind.0;
-        behind = behind.1;
-        hands = λ pick. let o = over pick in (o.0, o.1, sym (behind.1.same o.0.trace) ∙ o.2, o.3);
-      }
-
-  -- what comes of the packet where it comes to: it is exposed, or goes on
-  pub data Treats (position : ℕ) (via : Option ℕ) (x : lists.ListPlace) (q : PrefixValue) (hop : ℕ) (p : Packet) (place : Place)
-      (c : Comes position via x q hop p place) : Type 0 where
-    Ended : (f : Family) (bytes : List ℕ)
-        → at_sid c.sid (allow_of (slice_get net.nodes c.ride.place.node)) (there-packet p c.ride) ≡ Exposed f bytes
-        → Treats position via x q hop p place c
-    Moved : (y : lists.ListPlace) (r : Packet) → Goes-on x y hop p c.ride c.sid r → Treats position via x q hop p place c
-
-  pub treats : (position : ℕ) (via : Option ℕ) (x : lists.ListPlace) (q : PrefixValue) (hop : ℕ) (p : Packet) (place : Place)
-      → (c : Comes position via x q hop p place) → Treats position via x q hop p place c
-  treats position via x q hop p place c = by_end (at_sid c.sid allow b) refl
-    where
-      b : Packet
-      b = there-packet p c.ride
-
-      allow : List ℕ
-      allow = allow_of (slice_get net.nodes c.ride.place.node)
-
-      n : ℕ
-      n = c.ride.sid
-
-      zeros : ℕ → ℕ
-      zeros d = 0
-
-      gives : (e : Endpoint) → at_sid c.sid allow b ≡ e → (choice : ℕ)
-          → step_of net c.ride.place (V6 b) choice ≡ treated_at_sid net c.ride.place.node n c.sid.behaviour b e
-      gives e is choice =
-          stage_into net c.ride.place b n c.sid choice c.into c.there ∙ ap (treated_at_sid net c.ride.place.node n c.sid.behaviour b) is
-
-      onward : (r : Packet) → at_sid c.sid allow b ≡ Onward r → Treats position via x q hop p place c
-      onward r is =
-          let only = along-only c.sid allow tunnel x (hop - c.ride.lowered) b r c.along c.on is in
-          let moves = onward-moves c.sid b allow r is in
-          let goes-it = moved-goes c.sid x c.on b moves in
-          let Stage : Gave → Type 0
-          = λ gave. ((choice : ℕ) → step_of net c.ride.place (V6 b) choice ≡ gave) → Treats position via x q hop p place c in
-          onward-each net c.ride.place.node n c.sid.behaviour b r Stage
-          (λ none all. Moved only.1 r (goes-onwards position via x only.1 q hop p r place c
-          (and_from (goes_on c.sid) (not (binds c.sid)) goes-it (ap (λ (o : Option ℕ). not (is_some o)) none)) only.0 only.2 only.3 all))
-          (λ number named binding policy fits all. absurd (binds-not position via x q hop p place c number binding _ (all 0)))
-          (λ reason all. absurd (none-dropped net c.ride.place (V6 b) (V6 b) zeros 0 (c.hands zeros).0 _ (all 0) (λ later. refl)
-          (c.hands zeros).1))
-          (gives (Onward r) is)
-
-      by_end : (e : Endpoint) → at_sid c.sid allow b ≡ e → Treats position via x q hop p place c
-      by_end (Onward r) is = onward r is
-      by_end (Exposed f bytes) is = Ended f bytes is
-      by_end (Delivered r) is =
-          absurd (none-dropped net c.ride.place (V6 b) (V6 b) zeros 0 (c.hands zeros).0 _ (gives (Delivered r) is 0) (λ later. refl)
-          (c.hands zeros).1)
-      by_end (Refused reason at) is =
-          absurd (none-dropped net c.ride.place (V6 b) (V6 b) zeros 0 (c.hands zeros).0 _ (gives (Refused reason at) is 0) (λ later. refl)
-          (c.hands zeros).1)

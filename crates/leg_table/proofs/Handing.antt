@@ -1,7 +1,6 @@
 -- What walks hand over: with more fuel, under other choices, and along a ride.
-use Rattle.std.proofs.Common.{◌≡◌, ℕ, zero, suc, ◌+◌, ◌-◌, ◌<◌, ◌≤◌, ◌⊎◌, inl, inr, Bool, true, false, ◌&&◌, if◌then◌else◌, List, [], ◌∷◌, ◌++◌, length, Option, Some, None, slice_get, refl, sym, ◌∙◌, ap, subst, arith, append_assoc, zero-add, add-zero}
+use Rattle.std.proofs.Common.{◌≡◌, ℕ, zero, suc, ◌+◌, ◌-◌, ◌<◌, ◌≤◌, ◌⊎◌, inl, inr, Bool, true, false, ◌&&◌, if◌then◌else◌, List, [], ◌∷◌, ◌++◌, length, Option, Some, None, refl, sym, ◌∙◌, ap, subst, arith, append_assoc, zero-add, add-zero}
 use Rattle.std.specs.Prelude.{is_some}
-use Rattle.std.specs.List.{list_all}
 use Rattle.std.specs.Option.{option_map}
 use Rattle.std.proofs.lemmas.Bool.{false≢true, and_parts}
 use Rattle.srv6_rules.specs.Packet.{Packet, Content, V6}
@@ -11,21 +10,22 @@ use Rattle.walk_rules.specs.declared.place.How.{How}
 use Rattle.walk_rules.specs.declared.place.Place.{Place}
 use Rattle.walk_rules.specs.declared.place.Outcome.{Outcome}
 use Rattle.walk_rules.specs.declared.place.Outcome.TheVariants as outcomes
-use Rattle.walk_rules.specs.Way.{Way, Away, Over, Own, Into, way_of, IsWayFrom}
+use Rattle.walk_rules.specs.Way.{Way, Over, way_of}
 use Rattle.walk_rules.specs.Treatment.{Gave, goes, member_of, lowered, treated, step_of}
 use Rattle.walk_rules.specs.Relation.{IsHow}
 use Rattle.walk_rules.specs.Walk as walks
 use Rattle.walk_rules.specs.Walk.{walk_of, next_place, arrival, decisions}
-use Rattle.walk_rules.proofs.PublicLaws.{sent-high, way-from}
-use Rattle.intent_reader.specs.Rules.{stand_after, first_end, ends_at}
+use Rattle.walk_rules.proofs.PublicLaws.{sent-high}
+use Rattle.intent_reader.specs.Rules.{stand_after}
 use Rattle.intent_reader.specs.declared.intent.Step.{Step}
-use Rattle.intent_reader.specs.declared.intent.Step.TheVariants.{Links, Function}
+use Rattle.intent_reader.specs.declared.intent.Step.TheVariants.{Links}
 use Rattle.leg_table.specs.Trace.{Event, Crossed, Executed, is_titled, executed, Handed, after_events, after_execution, handed_first, handed_over}
 use Rattle.leg_table.specs.Tasks.{has_link, meets, matches}
-use Rattle.leg_table.specs.Ride.{Ride, one_if, more_lowered, ride_on, ride_by, ride_end, ride_of, with_hop_limit}
-use Rattle.leg_table.proofs.Links.{member-of_all, far_end-is, link_ends, first_end-is, step_opens}
-use Rattle.leg_table.proofs.Options.{map-some, if-some, some-same}
+use Rattle.leg_table.specs.Ride.{Ride, one_if, more_lowered, ride_of, with_hop_limit}
+use Rattle.leg_table.proofs.Options.{map-some}
+use Rattle.leg_table.proofs.Choices.{first-same}
 use Rattle.leg_table.proofs.Rides.{arrived, same_packet}
+use Rattle.leg_table.proofs.RideFacts.{IsSent, ride-each}
 
 -- events before events
 pub after-after : (xs ys : List Event) (o : Option Handed)
@@ -82,7 +82,7 @@ module _ (net : Network) where
   walk-same (suc more) None content pick qick taken uaken same = refl
   walk-same (suc more) (Some place) content pick qick taken uaken same =
       let stage : ℕ → walks.Stage = λ c. record { place = place; before = content; gave = step_of net place content c } in
-      let at_first : pick taken ≡ qick uaken = first_same taken uaken pick qick (same 0) in
+      let at_first : pick taken ≡ qick uaken = first-same taken uaken pick qick (same 0) in
       let gave = step_of net place content (pick taken) in
       ap (λ (rest : List walks.Stage). stage (pick taken) ∷ rest)
       (walk-same more (next_place net place gave.outcome) gave.after pick qick (taken + decisions gave.outcome)
@@ -91,9 +91,6 @@ module _ (net : Network) where
       ∙ ap (λ (c : ℕ). let gave = step_of net place content c in
       stage c ∷ walk_of more net (next_place net place gave.outcome) gave.after qick (uaken + decisions gave.outcome)) at_first
     where
-      first_same : (a b : ℕ) (p q : ℕ → ℕ) → p (a + 0) ≡ q (b + 0) → p a ≡ q b
-      first_same a b p q e = ap p (omega arith) ∙ (e ∙ ap q (omega arith))
-
       later : (a b k : ℕ) (p q : ℕ → ℕ) → ((d : ℕ) → p (a + d) ≡ q (b + d)) → (d : ℕ) → p (a + k + d) ≡ q (b + k + d)
       later a b k p q same d = ap p (omega arith) ∙ (same (k + d) ∙ ap q (omega arith))
 
@@ -164,7 +161,7 @@ module _ (net : Network) where
   hands-agree zero ts o content pick qick taken uaken h same m e = absurd (cc)
   hands-agree (suc more) ts None content pick qick taken uaken h same m e = absurd (cc)
   hands-agree (suc more) ts (Some place) content pick qick taken uaken h same m e =
-      let at_first : pick taken ≡ qick uaken = first_same taken uaken pick qick (same 0 (omega arith)) in
+      let at_first : pick taken ≡ qick uaken = first-same taken uaken pick qick (same 0 (omega arith)) in
       let gave = step_of net place content (pick taken) in
       subst
       (λ (c : ℕ). let gave = step_of net place content c in
@@ -179,9 +176,6 @@ module _ (net : Network) where
       (later taken uaken (decisions gave.outcome) (length us) pick qick few same) met)
       m e)
     where
-      first_same : (a b : ℕ) (p q : ℕ → ℕ) → p (a + 0) ≡ q (b + 0) → p a ≡ q b
-      first_same a b p q e = ap p (omega arith) ∙ (e ∙ ap q (omega arith))
-
       later : (a b k u : ℕ) (p q : ℕ → ℕ) → u + k ≤ length ts → ((d : ℕ) → d ≤ length ts → p (a + d) ≡ q (b + d))
           → (d : ℕ) → d ≤ u → p (a + k + d) ≡ q (b + k + d)
       later a b k u p q few same d h = ap p (omega arith) ∙ (same (k + d) (omega arith) ∙ ap q (omega arith))
@@ -235,7 +229,7 @@ module _ (net : Network) (keeps : Keeps net) where
   same_left p true k = ap (λ (h : ℕ). with_hop_limit h p) (omega arith)
   same_left p false k = ap (λ (h : ℕ). with_hop_limit h p) (omega arith)
 
-  same_destination : (p : Packet) (lower : Bool) → (lowered lower p).destination ≡ p.destination
+  pub same_destination : (p : Packet) (lower : Bool) → (lowered lower p).destination ≡ p.destination
   same_destination p true = refl
   same_destination p false = refl
 
@@ -246,17 +240,14 @@ module _ (net : Network) (keeps : Keeps net) where
   high_enough p false k (inr h) = inr (omega arith)
 
   walk-later : (step : List ℕ) (ts : List Step) (place : Place) (p : Packet) (set : List ℕ) (lower : Bool) (to : ℕ) (r : Ride)
-      → way_of net place p.destination ≡ Over set lower → list_all (has_link step) set ≡ true → 0 < length set
-      → list_all (ends_at net to) step ≡ true
-      → Free (one_if lower + r.lowered) p.hop_limit → RideWalk net ts (arrived to place) (lowered lower p) r
-      → RideWalk net (Links step ∷ ts) place p (more_lowered lower r)
-  walk-later step ts place p set lower to r way all some ends high w =
+      → IsSent net p.destination step place set lower to → Free (one_if lower + r.lowered) p.hop_limit
+      → RideWalk net ts (arrived to place) (lowered lower p) r → RideWalk net (Links step ∷ ts) place p (more_lowered lower r)
+  walk-later step ts place p set lower to r sent high w =
       record {
         count = suc w.count;
         events = λ pick taken. Crossed (member_of set (pick taken)) ∷ w.events pick (taken + 1);
         meets_them = λ pick taken more.
-            and_both (has_link step (member_of set (pick taken))) _ (member-of_all (has_link step) set some all (pick taken))
-            ∙ w.meets_them pick (taken + 1) more;
+            and_both (has_link step (member_of set (pick taken))) _ (sent.member (pick taken)) ∙ w.meets_them pick (taken + 1) more;
         walk = λ pick taken fuel. at pick taken fuel;
       }
     where
@@ -273,15 +264,12 @@ module _ (net : Network) (keeps : Keeps net) where
           let link = member_of set (pick taken) in
           let q = lowered lower p in
           let more : suc w.count + fuel ≡ suc (w.count + fuel) = omega arith in
-          let here = member-of_all (has_link step) set some all (pick taken) in
-          let next : next_place net place (outcomes.Send link) ≡ Some (arrived to place)
-          = ap (λ (o : Option ℕ). arrival o place) (far_end-is (slice_get net.links link) ∙ link_ends net to step link ends here) in
           let count : taken + 1 + w.count ≡ taken + suc w.count = omega arith in
           ap (λ (k : ℕ). handed_over net (walk_of k net (Some place) (V6 p) pick taken)) more
           ∙ handed-stage net (w.count + fuel) place (V6 p) pick taken (goes (outcomes.Send link) (V6 q))
-          (sends place p set lower r.lowered way high (pick taken))
+          (sends place p set lower r.lowered sent.way high (pick taken))
           ∙ ap (λ (o : Option Place). option_map (after_events (Crossed link ∷ []))
-          (handed_over net (walk_of (w.count + fuel) net o (V6 q) pick (taken + 1)))) next
+          (handed_over net (walk_of (w.count + fuel) net o (V6 q) pick (taken + 1)))) (sent.leads (pick taken))
           ∙ ap (option_map (after_events (Crossed link ∷ []))) (w.walk pick (taken + 1) fuel)
           ∙ after-after (Crossed link ∷ []) (w.events pick (taken + 1)) _
           ∙ ap (λ (x : Packet). option_map (after_events (Crossed link ∷ w.events pick (taken + 1)))
@@ -294,38 +282,11 @@ module _ (net : Network) (keeps : Keeps net) where
   pub ride-walk : (ts : List Step) (place : Place) (p : Packet) (r : Ride) → IsHow net place.node place.how
       → is_some (stand_after net place.node ts) ≡ true
       → ride_of net p.destination ts place ≡ Some r → Free r.lowered p.hop_limit → RideWalk net ts place p r
-  ride-walk [] place p r how stands h high = by_way (way_of net place p.destination) refl h
-    where
-      by_way : (w : Way) → way_of net place p.destination ≡ w → ride_end place w ≡ Some r → RideWalk net [] place p r
-      by_way (Away reason) e h = absurd (cc)
-      by_way Own e h = absurd (cc)
-      by_way (Over set lower) e h = absurd (cc)
-      by_way (Into n) e h = subst (RideWalk net [] place p) (some-same _ r h) (walk-here [] place p n)
-  ride-walk (t ∷ ts) place p r how stands h high =
-      by_way t (way_of net place p.destination) refl (way-from net place p.destination keeps how) stands h
-      (λ to q k stands h high. ride-walk ts (arrived to place) q k tt stands h high)
-    where
-      by_way : (t : Step) (w : Way) → way_of net place p.destination ≡ w → IsWayFrom net place.node w
-          → is_some (stand_after net place.node (t ∷ ts)) ≡ true
-          → ride_by net place (t ∷ ts) t (ride_of net p.destination ts) w ≡ Some r
-          → ((to : ℕ) (q : Packet) (k : Ride) → is_some (stand_after net to ts) ≡ true
-          → ride_of net q.destination ts (arrived to place) ≡ Some k → Free k.lowered q.hop_limit
-          → RideWalk net ts (arrived to place) q k)
-          → RideWalk net (t ∷ ts) place p r
-      by_way t (Away reason) e links stands h ih = absurd (cc)
-      by_way t Own e links stands h ih = absurd (cc)
-      by_way t (Into n) e links stands h ih = subst (RideWalk net (t ∷ ts) place p) (some-same _ r h) (walk-here (t ∷ ts) place p n)
-      by_way (Function sid) (Over set lower) e links stands h ih = absurd (cc)
-      by_way (Links step) (Over set lower) e links stands h ih =
-          let opened = step_opens net place.node step ts stands in
-          let all = if-some (list_all (has_link step) set) _ r h in
-          let got = map-some (more_lowered lower) _ r all.1 in
-          let at : first_end net set ≡ Some opened.0 = first_end-is net opened.0 step set opened.1 all.0 links.some in
-          let later : ride_of net p.destination ts (arrived opened.0 place) ≡ Some got.0
-          = ap (λ (o : Option ℕ). ride_on (arrival o place) (ride_of net p.destination ts)) (sym at) ∙ got.1 in
-          let low : Free (one_if lower + got.0.lowered) p.hop_limit = subst (λ (x : Ride). Free x.lowered p.hop_limit) (sym got.2) high in
-          subst (RideWalk net (Links step ∷ ts) place p) got.2
-          (walk-later step ts place p set lower opened.0 got.0 e all.0 links.some opened.1 low
-          (ih opened.0 (lowered lower p) got.0 opened.2
-          (ap (λ (d : ℕ). ride_of net d ts (arrived opened.0 place)) (same_destination p lower) ∙ later)
-          (high_enough p lower got.0.lowered low)))
+  ride-walk ts place p r how stands h high =
+      ride-each net keeps p.destination
+      (λ ts place r. (q : Packet) → q.destination ≡ p.destination → Free r.lowered q.hop_limit → RideWalk net ts place q r)
+      (λ ts place n into q to high. walk-here ts place q n)
+      (λ step ts place set lower to r sent rest q is high.
+      walk-later step ts place q set lower to r (subst (λ (d : ℕ). IsSent net d step place set lower to) (sym is) sent) high
+      (rest (lowered lower q) (same_destination q lower ∙ is) (high_enough q lower r.lowered high)))
+      ts place r how stands h p refl high

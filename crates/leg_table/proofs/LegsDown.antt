@@ -1,13 +1,13 @@
 -- Down to a leg, or to a finish: what becomes of a packet on its way along a list that is handed over for all choices.
-use Rattle.std.proofs.Common.{◌≡◌, ℕ, ◌+◌, ◌-◌, ◌<◌, ◌≤◌, true, ◌==◌, ◌&&◌, List, [], length, drop, Option, Some, None, slice_get, refl, sym, ◌∙◌, ap, subst, arith, append-nil}
-use Rattle.std.specs.Prelude.{nat_le}
+use Rattle.std.proofs.Common.{◌≡◌, ℕ, ◌+◌, ◌-◌, ◌<◌, ◌≤◌, true, ◌==◌, ◌&&◌, List, [], length, drop, Option, Some, None, slice_get, refl, sym, ◌∙◌, ap, subst, arith, append-nil, false, not, ◌++◌}
+use Rattle.std.specs.Prelude.{nat_le, is_some}
 use Rattle.std.specs.Option.{option_map}
-use Rattle.std.proofs.lemmas.Bool.{and_from, and_parts, eq-eqb, le-leb}
+use Rattle.std.proofs.lemmas.Bool.{and_from, and_parts, eq-eqb, le-leb, false≢true}
 use Rattle.v6_addr.specs.Address.{PrefixValue}
 use Rattle.srv6_rules.specs.declared.sid.Family.{Family}
 use Rattle.srv6_rules.specs.declared.sid.SidEntry.{SidEntry}
 use Rattle.srv6_rules.specs.Packet.{Packet, V6, read_as}
-use Rattle.srv6_rules.specs.Endpoint.{Exposed, at_sid}
+use Rattle.srv6_rules.specs.Endpoint.{Exposed, at_sid, Endpoint, Onward, Delivered, Refused}
 use Rattle.net_model.specs.Network.{Network}
 use Rattle.net_model.specs.Rules.{IsNetwork}
 use Rattle.net_model.specs.Flat.{IsFlat}
@@ -15,54 +15,49 @@ use Rattle.net_model.specs.Keeps.{Keeps}
 use Rattle.net_model.proofs.PublicLaws.{keeps_from_network}
 use Rattle.walk_rules.specs.declared.place.Place.{Place}
 use Rattle.walk_rules.specs.Walk.{walk_of}
-use Rattle.walk_rules.specs.Treatment.{onward_from, exposed_from, treated_at_sid, allow_of}
+use Rattle.walk_rules.specs.Treatment.{onward_from, exposed_from, treated_at_sid, allow_of, Gave, goes, step_of}
 use Rattle.intent_reader.specs.Rules.{IsIntent}
 use Rattle.intent_reader.specs.declared.intent.Step.{Step}
 use Rattle.intent_reader.specs.declared.intent.Intent.{Intent}
 use Rattle.list_places.specs.Places as lists
-use Rattle.list_places.specs.Places.{Tunnel, Along, active}
-use Rattle.list_places.proofs.PublicLaws.{along-exposes}
+use Rattle.list_places.specs.Places.{Tunnel, Along, active, behind_of, sids_from, next_of, StandsOn}
+use Rattle.list_places.proofs.PublicLaws.{along-exposes, along-only}
 use Rattle.list_pack.specs.SidLists.{list_sid, IsSidPrefix}
 use Rattle.list_pack.specs.Value.{IsVia}
 use Rattle.leg_table.proofs.FlatNets.{FlatFacts}
 use Rattle.leg_table.specs.Trace.{executed, Handed, handed_over}
 use Rattle.leg_table.specs.Tasks.{matches, left_after}
-use Rattle.leg_table.specs.Ride.{Ride}
-use Rattle.leg_table.specs.Sids.{is_sid_at, is_middle, sid_goes_on, sid_exposes, hands_over, sid_address}
+use Rattle.leg_table.specs.Ride.{Ride, with_hop_limit}
+use Rattle.leg_table.specs.Sids.{is_sid_at, is_middle, sid_goes_on, sid_exposes, hands_over, sid_address, binds, takes_step, sid_binds, is_binding}
 use Rattle.leg_table.specs.Leg.{place_behind, place_from, is_start, leg_with}
 use Rattle.leg_table.specs.OneLeg.{LegKind, AlwaysHands, BecomesOf, Ended, Moved}
 use Rattle.leg_table.specs.Realizes.{headend_place}
-use Rattle.leg_table.specs.Table.{shape_by}
 use Rattle.leg_table.specs.Value.{legs_value, strict_kind, AnyWay}
 use Rattle.leg_table.proofs.Executions.{stage_into}
 use Rattle.leg_table.proofs.RideFacts.{ride-facts, start-facts}
 use Rattle.leg_table.proofs.NextRides.{NextRide, leg-from, finish-from, middle-sid}
+use Rattle.leg_table.proofs.StrictLaws.{shape-middle}
 use Rattle.leg_table.proofs.PathNames.{shape-prefix}
 use Rattle.leg_table.proofs.Positions.{are-sids}
-use Rattle.leg_table.proofs.LegsOver.{again-over, ride-over, hand-over, from-place}
-use Rattle.leg_table.proofs.Segments.{behind-again, meets-behind, behind-alone}
+use Rattle.leg_table.proofs.LegsOver.{again-over, ride-over, hand-over, from-place, Hands-over, none-dropped}
+use Rattle.leg_table.proofs.Segments.{behind-again, meets-behind, behind-alone, LeftBehind}
 use Rattle.leg_table.proofs.LegsUp.{rest-is}
-use Rattle.leg_table.proofs.AllHands.{Unbound, no-steps}
+use Rattle.leg_table.proofs.AllHands.{Unbound, no-steps, Hands, moved-goes}
 use Rattle.leg_table.proofs.Comings as comings
+use Rattle.std.proofs.lemmas.List.Elements.{All-head, All-tail}
+use Rattle.srv6_rules.specs.Behaviours.{goes_on, behaviour_policy}
+use Rattle.walk_rules.specs.declared.place.Outcome.TheVariants as outcomes
+use Rattle.walk_rules.proofs.PublicLaws.{onward-each}
+use Rattle.leg_table.proofs.HopLimits.{onward-moves}
 
 module _ (net : Network) (network : IsNetwork net) (flat : IsFlat net) (facts : FlatFacts net) (intent : Intent)
     (is_intent : IsIntent net intent) (tunnel : Tunnel) (family : tunnel.inner ≡ intent.inner) where
   keeps : Keeps net
   keeps = keeps_from_network net network
 
-  -- where a packet comes to, what follows if it goes on from there, and which of both comes of it
+  -- where a packet comes to
   abbrev Comes : ℕ → Option ℕ → lists.ListPlace → PrefixValue → ℕ → Packet → Place → Type 0
   Comes = comings.Comes net network flat facts intent is_intent tunnel family
-
-  abbrev Goes-on : lists.ListPlace → lists.ListPlace → ℕ → Packet → Ride → SidEntry → Packet → Type 0
-  Goes-on = comings.Goes-on net network flat facts intent is_intent tunnel family
-
-  abbrev Treats : (position : ℕ) (via : Option ℕ) (x : lists.ListPlace) (q : PrefixValue) (hop : ℕ) (p : Packet) (place : Place)
-      → Comes position via x q hop p place → Type 0
-  Treats = comings.Treats net network flat facts intent is_intent tunnel family
-
-  abbrev there-packet : Packet → Ride → Packet
-  there-packet = comings.there-packet net network flat facts intent is_intent tunnel family
 
   abbrev k : LegKind
   k = strict_kind net intent
@@ -77,11 +72,7 @@ module _ (net : Network) (network : IsNetwork net) (flat : IsFlat net) (facts : 
       and_from (nat_le position (length intent.steps)) (is_sid_at net intent position n && is_middle net n)
       (le-leb position (length intent.steps) within)
       (and_from (is_sid_at net intent position n) (is_middle net n) (((are-sids net keeps intent position).each n).0 at.0)
-      (sym (shape-middle (slice_get net.sids n)) ∙ at.1))
-    where
-      shape-middle : (o : Option SidEntry) → (shape_by net.blocks o).middle ≡ sid_goes_on o
-      shape-middle None = refl
-      shape-middle (Some s) = refl
+      (sym (shape-middle net.blocks (slice_get net.sids n)) ∙ at.1))
 
   from : (position : ℕ) (via : Option ℕ) → is_start net intent position via ≡ true
       → (place : Place) × (place_from net intent via ≡ Some place)
@@ -96,6 +87,79 @@ module _ (net : Network) (network : IsNetwork net) (flat : IsFlat net) (facts : 
   HandsFrom o p ts =
       (pick : ℕ → ℕ) → (h : Handed) × ((fuel : ℕ) × (handed_over net (walk_of fuel net o (V6 p) pick 0) ≡ Some h))
       × (matches ts h.trace ≡ true) × Unbound net h.sids
+
+  -- the packet where it comes to
+  abbrev there-packet : Packet → Ride → Packet
+  there-packet p r = with_hop_limit (p.hop_limit - r.lowered) p
+
+  -- it goes on from there
+  record Goes-on (x y : lists.ListPlace) (hop : ℕ) (p : Packet) (ride : Ride) (sid : SidEntry) (r : Packet) : Type 0 where
+    pub middle : takes_step sid ≡ true
+    pub high : 1 < hop - ride.lowered
+    pub next : next_of x ≡ Some y
+    pub along : Along tunnel y (hop - ride.lowered - 1) r
+    pub gives : (choice : ℕ) → step_of net ride.place (V6 (there-packet p ride)) choice
+        ≡ goes (outcomes.Again ride.sid (onward_from ride.sid sid.behaviour)) (V6 r)
+    pub rest : List Step
+    pub behind : LeftBehind net ride.sid ride.left rest
+    pub hands : Hands net (place_behind ride.sid sid) (V6 r) rest
+
+  -- a SID that binds a policy is not executed
+  binds-not : (position : ℕ) (via : Option ℕ) (x : lists.ListPlace) (q : PrefixValue) (hop : ℕ) (p : Packet) (place : Place)
+      → (c : Comes position via x q hop p place) → (number : ℕ) → behaviour_policy c.sid.behaviour ≡ Some number → (after : Packet)
+      → step_of net c.ride.place (V6 (there-packet p c.ride)) 0
+      ≡ goes (outcomes.Again c.ride.sid (onward_from c.ride.sid c.sid.behaviour)) (V6 after) → ⊥
+  binds-not position via x q hop p place c number binding after gives =
+      let n = c.ride.sid in
+      let zeros : ℕ → ℕ = λ d. 0 in
+      let hand = c.hands zeros in
+      let over = again-over net c.ride.place (place_behind n c.sid) (V6 (there-packet p c.ride)) (V6 after) zeros 0 hand.0 n
+      (onward_from n c.sid.behaviour) gives (behind-again net c.ride.place n c.sid c.stands c.is_v6) hand.1 in
+      let first = All-head (λ (m : ℕ). is_binding net m ≡ false) n over.0.sids
+      (subst (Unbound net) (sym (ap (λ (h : Handed). h.sids) over.2)) hand.3) in
+      let is : is_binding net n ≡ true = ap sid_binds c.there ∙ ap (λ (o : Option ℕ). is_some o) binding in
+      absurd (false≢true (sym first ∙ is))
+
+  -- what is handed over behind the execution
+  goes-over : (position : ℕ) (via : Option ℕ) (x : lists.ListPlace) (q : PrefixValue) (hop : ℕ) (p r : Packet) (place : Place)
+      → (c : Comes position via x q hop p place)
+      → ((choice : ℕ) → step_of net c.ride.place (V6 (there-packet p c.ride)) choice
+      ≡ goes (outcomes.Again c.ride.sid (onward_from c.ride.sid c.sid.behaviour)) (V6 r))
+      → (pick : ℕ → ℕ)
+      → (k : Handed) × Hands-over net (place_behind c.ride.sid c.sid) (V6 r) pick 0 k
+      × (matches c.ride.left (executed net c.ride.sid ++ k.trace) ≡ true) × Unbound net k.sids
+  goes-over position via x q hop p r place c gives pick =
+      let n = c.ride.sid in
+      let hand = c.hands pick in
+      let over = again-over net c.ride.place (place_behind n c.sid) (V6 (there-packet p c.ride)) (V6 r) pick 0 hand.0 n
+      (onward_from n c.sid.behaviour) (gives (pick 0)) (behind-again net c.ride.place n c.sid c.stands c.is_v6) hand.1 in (
+        over.0,
+        (over.1.0, over.1.1),
+        ap (λ (h : Handed). matches c.ride.left h.trace) over.2 ∙ hand.2,
+        All-tail (λ (m : ℕ). is_binding net m ≡ false) n over.0.sids
+            (subst (Unbound net) (sym (ap (λ (h : Handed). h.sids) over.2)) hand.3),
+      )
+
+  goes-onwards : (position : ℕ) (via : Option ℕ) (x y : lists.ListPlace) (q : PrefixValue) (hop : ℕ) (p r : Packet) (place : Place)
+      → (c : Comes position via x q hop p place) → takes_step c.sid ≡ true → 1 < hop - c.ride.lowered → next_of x ≡ Some y
+      → Along tunnel y (hop - c.ride.lowered - 1) r
+      → ((choice : ℕ) → step_of net c.ride.place (V6 (there-packet p c.ride)) choice
+      ≡ goes (outcomes.Again c.ride.sid (onward_from c.ride.sid c.sid.behaviour)) (V6 r))
+      → Goes-on x y hop p c.ride c.sid r
+  goes-onwards position via x y q hop p r place c middle high next along gives =
+      let over = goes-over position via x q hop p r place c gives in
+      let zeros : ℕ → ℕ = λ d. 0 in
+      let behind = meets-behind net c.ride.sid c.ride.left (over zeros).0.trace (over zeros).2 in
+      record {
+        middle = middle;
+        high = high;
+        next = next;
+        along = along;
+        gives = gives;
+        rest = behind.0;
+        behind = behind.1;
+        hands = λ pick. let o = over pick in (o.0, o.1, sym (behind.1.same o.0.trace) ∙ o.2, o.3);
+      }
 
   -- ---- the packet is exposed at the SID that it comes to
 
@@ -122,7 +186,7 @@ module _ (net : Network) (network : IsNetwork net) (flat : IsFlat net) (facts : 
       = record { start = start; place = place; from = from; ride = c.ride; is_ride = c.is_ride; sid = refl; left = 0; left_is = left } in
       let opens : hands_over intent.inner c.sid ≡ true = ap (λ (g : Family). hands_over g c.sid) (sym family) ∙ shows.1 in
       Ended n c.ride.lowered (finish-from net intent position via n nr (ap (sid_exposes intent.inner) c.there ∙ opens) refl)
-      (shape-prefix net intent n ∙ c.prefix) c.low shows.0
+      (shape-prefix net n ∙ c.prefix) c.low shows.0
       (λ pick taken h over.
       let started = from-place net keeps facts intent is_intent tunnel via p pick taken h place from over in
       let rest = ride-over net ts place p c.ride pick taken h c.walked started in
@@ -156,7 +220,7 @@ module _ (net : Network) (network : IsNetwork net) (flat : IsFlat net) (facts : 
       let high = g.high in
       let less : hop - c.ride.lowered - 1 ≡ hop - (c.ride.lowered + 1) = omega arith in
       Moved n (leg_with (length intent.steps) c.ride.lowered left) y r
-      (leg-from net intent position via n nr (ap sid_goes_on c.there ∙ g.middle)) (shape-prefix net intent n ∙ c.prefix)
+      (leg-from net intent position via n nr (ap sid_goes_on c.there ∙ g.middle)) (shape-prefix net n ∙ c.prefix)
       (omega (arith, high)) g.next (subst (λ (j : ℕ). Along tunnel y j r) less g.along)
       (subst (λ (us : List Step). HandsFrom (place_from net intent (Some n)) r us) rest
       (subst (λ (o : Option Place). HandsFrom o r g.rest) (sym on) g.hands))
@@ -176,12 +240,54 @@ module _ (net : Network) (network : IsNetwork net) (flat : IsFlat net) (facts : 
         sym (ap (λ (k : Handed). k.sids) rest.2) ∙ sym (ap (λ (k : Handed). k.sids) again.2),
       ))
 
-  by-treats : (position : ℕ) (via : Option ℕ) (x : lists.ListPlace) (q : PrefixValue) (hop : ℕ) (p : Packet) (place : Place)
+  -- ---- what comes of the packet where it comes to: it is exposed, or goes on
+
+  becomes : (position : ℕ) (via : Option ℕ) (x : lists.ListPlace) (q : PrefixValue) (hop : ℕ) (p : Packet) (place : Place)
       → is_start net intent position via ≡ true → place_from net intent via ≡ Some place
-      → (c : Comes position via x q hop p place) → Treats position via x q hop p place c → BecomesOf k AnyWay tunnel x q position via hop p
-  by-treats position via x q hop p place start from c (comings.Ended f bytes shown) =
-      ended position via x q hop p place start from c f bytes shown
-  by-treats position via x q hop p place start from c (comings.Moved y r g) = moved position via x y q hop p r place start from c g
+      → (c : Comes position via x q hop p place) → BecomesOf k AnyWay tunnel x q position via hop p
+  becomes position via x q hop p place start from c = by_end (at_sid c.sid allow b) refl
+    where
+      b : Packet
+      b = there-packet p c.ride
+
+      allow : List ℕ
+      allow = allow_of (slice_get net.nodes c.ride.place.node)
+
+      n : ℕ
+      n = c.ride.sid
+
+      zeros : ℕ → ℕ
+      zeros d = 0
+
+      gives : (e : Endpoint) → at_sid c.sid allow b ≡ e → (choice : ℕ)
+          → step_of net c.ride.place (V6 b) choice ≡ treated_at_sid net c.ride.place.node n c.sid.behaviour b e
+      gives e is choice =
+          stage_into net c.ride.place b n c.sid choice c.into c.there ∙ ap (treated_at_sid net c.ride.place.node n c.sid.behaviour b) is
+
+      onward : (r : Packet) → at_sid c.sid allow b ≡ Onward r → BecomesOf k AnyWay tunnel x q position via hop p
+      onward r is =
+          let only = along-only c.sid allow tunnel x (hop - c.ride.lowered) b r c.along c.on is in
+          let moves = onward-moves c.sid b allow r is in
+          let goes-it = moved-goes c.sid x c.on b moves in
+          let Stage : Gave → Type 0
+          = λ gave. ((choice : ℕ) → step_of net c.ride.place (V6 b) choice ≡ gave) → BecomesOf k AnyWay tunnel x q position via hop p in
+          onward-each net c.ride.place.node n c.sid.behaviour b r Stage
+          (λ none all. moved position via x only.1 q hop p r place start from c (goes-onwards position via x only.1 q hop p r place c
+          (and_from (goes_on c.sid) (not (binds c.sid)) goes-it (ap (λ (o : Option ℕ). not (is_some o)) none)) only.0 only.2 only.3 all))
+          (λ number named binding policy fits all. absurd (binds-not position via x q hop p place c number binding _ (all 0)))
+          (λ reason all. absurd (none-dropped net c.ride.place (V6 b) (V6 b) zeros 0 (c.hands zeros).0 _ (all 0) (λ later. refl)
+          (c.hands zeros).1))
+          (gives (Onward r) is)
+
+      by_end : (e : Endpoint) → at_sid c.sid allow b ≡ e → BecomesOf k AnyWay tunnel x q position via hop p
+      by_end (Onward r) is = onward r is
+      by_end (Exposed f bytes) is = ended position via x q hop p place start from c f bytes is
+      by_end (Delivered r) is =
+          absurd (none-dropped net c.ride.place (V6 b) (V6 b) zeros 0 (c.hands zeros).0 _ (gives (Delivered r) is 0) (λ later. refl)
+          (c.hands zeros).1)
+      by_end (Refused reason at) is =
+          absurd (none-dropped net c.ride.place (V6 b) (V6 b) zeros 0 (c.hands zeros).0 _ (gives (Refused reason at) is 0) (λ later. refl)
+          (c.hands zeros).1)
 
   pub leg-down : (x : lists.ListPlace) (q : PrefixValue) (position : ℕ) (via : Option ℕ) (hop : ℕ) (p : Packet)
       → position ≤ length intent.steps → IsVia (legs_value net intent) position via → Along tunnel x hop p → active x ≡ list_sid net q
@@ -191,5 +297,4 @@ module _ (net : Network) (network : IsNetwork net) (flat : IsFlat net) (facts : 
       let place = from position via start in
       let c = comings.comes net network flat facts intent is_intent tunnel family position via x q hop p place.0 start place.1 along to named
       positive (subst (λ (o : Option Place). HandsFrom o p (drop position intent.steps)) place.1 hands) in
-      by-treats position via x q hop p place.0 start place.1 c
-      (comings.treats net network flat facts intent is_intent tunnel family position via x q hop p place.0 c)
+      becomes position via x q hop p place.0 start place.1 c

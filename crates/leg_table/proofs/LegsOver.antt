@@ -1,7 +1,6 @@
 -- Over a leg, and over a finish: what is handed over of a packet on it, whose hop limit is above what it needs.
 use Rattle.std.proofs.Common.{◌≡◌, ℕ, ◌+◌, ◌-◌, ◌<◌, ◌≤◌, ◌⊎◌, inl, inr, Bool, true, false, List, [], ◌∷◌, drop, Option, Some, None, slice_get, refl, sym, ◌∙◌, ap, subst, arith}
 use Rattle.std.specs.Prelude.{is_some, nat_le}
-use Rattle.std.specs.List.{list_all}
 use Rattle.std.specs.Option.{option_map}
 use Rattle.std.proofs.lemmas.Bool.{false≢true, cases_lt}
 use Rattle.std.proofs.lemmas.Bool.Decides.{leb_tells}
@@ -14,31 +13,29 @@ use Rattle.net_model.specs.Keeps.{Keeps}
 use Rattle.walk_rules.specs.declared.place.How.{How}
 use Rattle.walk_rules.specs.declared.place.Place.{Place}
 use Rattle.walk_rules.specs.declared.place.Outcome.TheVariants as outcomes
-use Rattle.walk_rules.specs.Way.{Way, Away, Over, Own, Into, way_of, IsWayFrom}
+use Rattle.walk_rules.specs.Way.{Way, Over, Into, way_of}
 use Rattle.walk_rules.specs.Treatment.{Gave, goes, member_of, lowered, treated, step_of, onward_from}
 use Rattle.walk_rules.specs.Relation.{IsHow}
-use Rattle.walk_rules.specs.Walk.{walk_of, next_place, arrival}
-use Rattle.walk_rules.proofs.PublicLaws.{sent-high, sent-low, way-from, way-into}
-use Rattle.intent_reader.specs.Rules.{IsIntent, stand_after, first_end}
+use Rattle.walk_rules.specs.Walk.{walk_of, next_place}
+use Rattle.walk_rules.proofs.PublicLaws.{sent-high, sent-low, way-into}
+use Rattle.intent_reader.specs.Rules.{IsIntent, stand_after}
 use Rattle.intent_reader.specs.declared.intent.Step.{Step}
-use Rattle.intent_reader.specs.declared.intent.Step.TheVariants.{Links, Function}
 use Rattle.intent_reader.specs.declared.intent.Intent.{Intent}
 use Rattle.list_places.specs.Places as lists
 use Rattle.list_places.specs.Places.{Tunnel, active, next_of, StandsOn, Along}
 use Rattle.list_pack.specs.declared.types.Leg.{Leg}
 use Rattle.leg_table.proofs.FlatNets.{FlatFacts}
 use Rattle.leg_table.specs.Trace.{Crossed, executed, Handed, after_events, after_execution, handed_first, handed_over}
-use Rattle.leg_table.specs.Tasks.{has_link}
-use Rattle.leg_table.specs.Ride.{Ride, one_if, more_lowered, ride_on, ride_by, ride_end, ride_of, with_hop_limit}
+use Rattle.leg_table.specs.Ride.{Ride, one_if, ride_of, with_hop_limit}
 use Rattle.leg_table.specs.Sids.{takes_step, hands_over}
 use Rattle.leg_table.specs.Leg.{place_behind, place_from, leg_of, finish_of}
 use Rattle.leg_table.specs.OneLeg.{LegKind, HandsOver, OnWay, GoesOver}
 use Rattle.leg_table.specs.Value.{strict_kind, AnyWay}
-use Rattle.leg_table.proofs.Links.{member-of_all, far_end-is, link_ends, first_end-is, step_opens}
-use Rattle.leg_table.proofs.Options.{map-some, if-some, some-same}
+use Rattle.leg_table.proofs.Options.{map-some, some-same}
 use Rattle.leg_table.proofs.Rides.{arrived}
 use Rattle.leg_table.proofs.NextRides.{leg-ride, finish-ride, middle-sid, last-sid}
-use Rattle.leg_table.proofs.Handing.{Free, RideWalk, ride-walk, first-stage, handed-more}
+use Rattle.leg_table.proofs.RideFacts.{ride-each}
+use Rattle.leg_table.proofs.Handing.{Free, RideWalk, ride-walk, same_destination, first-stage, handed-more}
 use Rattle.leg_table.proofs.Segments.{behind-again, mid-onward, mid-low, last-exposes}
 use Rattle.leg_table.proofs.LegsUp.{rides-to, to-sid}
 
@@ -113,10 +110,6 @@ module _ (net : Network) (keeps : Keeps net) where
   free-on false k p high (inl none) = inl (omega arith)
   free-on false k p high (inr low) = inr (omega arith)
 
-  same_to : (p : Packet) (lower : Bool) → (lowered lower p).destination ≡ p.destination
-  same_to p true = refl
-  same_to p false = refl
-
   -- the stage over links: a walk that hands over is sent on
   over-sends : (place : Place) (p : Packet) (set : List ℕ) (lower : Bool) (pick : ℕ → ℕ) (taken : ℕ) (h : Handed)
       → way_of net place p.destination ≡ Over set lower → Hands-over net place (V6 p) pick taken h
@@ -141,45 +134,18 @@ module _ (net : Network) (keeps : Keeps net) where
   pub ride-free : (ts : List Step) (place : Place) (p : Packet) (r : Ride) → IsHow net place.node place.how
       → is_some (stand_after net place.node ts) ≡ true → ride_of net p.destination ts place ≡ Some r
       → (pick : ℕ → ℕ) (taken : ℕ) (h : Handed) → Hands-over net place (V6 p) pick taken h → Free r.lowered p.hop_limit
-  ride-free [] place p r how stands ride pick taken h hands = by_way (way_of net place p.destination) ride
-    where
-      by_way : (w : Way) → ride_end place w ≡ Some r → Free r.lowered p.hop_limit
-      by_way (Away reason) h = absurd (cc)
-      by_way Own h = absurd (cc)
-      by_way (Over set lower) h = absurd (cc)
-      by_way (Into n) h = inl (sym (ap (λ (x : Ride). x.lowered) (some-same _ r h)))
-  ride-free (t ∷ ts) place p r how stands ride pick taken h hands =
-      by_way t (way_of net place p.destination) refl (way-from net place p.destination keeps how) stands ride
-      (λ to q k stands ride pick taken h hands. ride-free ts (arrived to place) q k tt stands ride pick taken h hands)
-    where
-      by_way : (t : Step) (w : Way) → way_of net place p.destination ≡ w → IsWayFrom net place.node w
-          → is_some (stand_after net place.node (t ∷ ts)) ≡ true
-          → ride_by net place (t ∷ ts) t (ride_of net p.destination ts) w ≡ Some r
-          → ((to : ℕ) (q : Packet) (k : Ride) → is_some (stand_after net to ts) ≡ true
-          → ride_of net q.destination ts (arrived to place) ≡ Some k → (pick : ℕ → ℕ) (taken : ℕ) (h : Handed)
-          → Hands-over net (arrived to place) (V6 q) pick taken h → Free k.lowered q.hop_limit)
-          → Free r.lowered p.hop_limit
-      by_way t (Away reason) e links stands ride ih = absurd (cc)
-      by_way t Own e links stands ride ih = absurd (cc)
-      by_way t (Into n) e links stands ride ih = inl (sym (ap (λ (x : Ride). x.lowered) (some-same _ r ride)))
-      by_way (Function sid) (Over set lower) e links stands ride ih = absurd (cc)
-      by_way (Links step) (Over set lower) e links stands ride ih =
-          let opened = step_opens net place.node step ts stands in
-          let all = if-some (list_all (has_link step) set) _ r ride in
-          let got = map-some (more_lowered lower) _ r all.1 in
-          let at : first_end net set ≡ Some opened.0 = first_end-is net opened.0 step set opened.1 all.0 links.some in
-          let later : ride_of net p.destination ts (arrived opened.0 place) ≡ Some got.0
-          = ap (λ (o : Option ℕ). ride_on (arrival o place) (ride_of net p.destination ts)) (sym at) ∙ got.1 in
-          let sends = over-sends place p set lower pick taken h e hands in
-          let link = member_of set (pick taken) in
-          let here = member-of_all (has_link step) set links.some all.0 (pick taken) in
-          let next : next_place net place (outcomes.Send link) ≡ Some (arrived opened.0 place)
-          = ap (λ (o : Option ℕ). arrival o place) (far_end-is (slice_get net.links link)
-          ∙ link_ends net opened.0 step link opened.1 here) in
-          let rest = sent-over net place (V6 p) (V6 (lowered lower p)) pick taken h link (arrived opened.0 place) sends.1 next hands in
-          let free = ih opened.0 (lowered lower p) got.0 opened.2
-          (ap (λ (d : ℕ). ride_of net d ts (arrived opened.0 place)) (same_to p lower) ∙ later) pick (taken + 1) rest.0 rest.1 in
-          subst (λ (x : Ride). Free x.lowered p.hop_limit) got.2 (free-on lower got.0.lowered p sends.0 free)
+  ride-free ts place p r how stands ride pick taken h hands =
+      ride-each net keeps p.destination
+      (λ ts place r. (q : Packet) → q.destination ≡ p.destination → (pick : ℕ → ℕ) (taken : ℕ) (h : Handed)
+      → Hands-over net place (V6 q) pick taken h → Free r.lowered q.hop_limit)
+      (λ ts place n into q to pick taken h hands. inl refl)
+      (λ step ts place set lower to r sent rest q is pick taken h hands.
+      let sends = over-sends place q set lower pick taken h (ap (way_of net place) is ∙ sent.way) hands in
+      let on = sent-over net place (V6 q) (V6 (lowered lower q)) pick taken h (member_of set (pick taken)) (arrived to place) sends.1
+      (sent.leads (pick taken)) hands in
+      free-on lower r.lowered q sends.0
+      (rest (lowered lower q) (same_destination net keeps q lower ∙ is) pick (taken + 1) on.0 on.1))
+      ts place r how stands ride p refl pick taken h hands
 
 -- behind the execution of a middle SID that is not the last
 pub record Behind (net : Network) (tunnel : Tunnel) (next : ℕ) (sid : SidEntry) (y : lists.ListPlace) (limit : ℕ) (pick : ℕ → ℕ) (taken : ℕ)

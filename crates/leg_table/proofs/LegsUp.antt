@@ -1,12 +1,19 @@
 -- Up from a leg, and from a finish: where an encapsulated packet comes to.
-use Rattle.std.proofs.Common.{◌≡◌, ℕ, suc, ◌+◌, ◌-◌, ◌<◌, ◌≤◌, inr, true, List, [], ◌∷◌, ◌++◌, length, drop, map, Option, Some, None, slice_get, refl, sym, ◌∙◌, ap, subst, arith, append_assoc}
+use Rattle.std.proofs.Common.{◌≡◌, ℕ, suc, ◌+◌, ◌-◌, ◌<◌, ◌≤◌, inr, Bool, true, false, ◌&&◌, ◌||◌, List, [], ◌∷◌, ◌++◌, length, drop, Option, Some, None, slice_get, refl, sym, ◌∙◌, ap, subst, arith, append_assoc}
 use Rattle.std.specs.Option.{option_map}
 use Rattle.std.proofs.lemmas.List.{length-drop}
+use Rattle.std.specs.Prelude.{is_some}
+use Rattle.std.proofs.lemmas.Bool.{false≢true}
+use Rattle.std.proofs.lemmas.List.Elements.{All-nil, All-cons}
+use Rattle.srv6_rules.specs.declared.sid.Behaviour.{Behaviour}
+use Rattle.srv6_rules.specs.declared.sid.Behaviour.TheVariants as behaviours
+use Rattle.srv6_rules.specs.Behaviours.{behaviour_exposes, behaviour_policy, behaviour_takes_flavours, is_packet_inside, exposes}
+use Rattle.srv6_rules.specs.Policies.{inner_kind}
 use Rattle.srv6_rules.specs.declared.sid.Family.TheVariants as families
 use Rattle.srv6_rules.specs.declared.sid.SidEntry.{SidEntry}
 use Rattle.srv6_rules.specs.Packet.{Packet, V6, read_as}
 use Rattle.net_model.specs.Network.{Network}
-use Rattle.net_model.specs.Keeps.{Keeps}
+use Rattle.net_model.specs.Keeps.{Keeps, KeepsSid}
 use Rattle.walk_rules.specs.declared.place.Place.{Place}
 use Rattle.walk_rules.specs.Way.{Into, way_of}
 use Rattle.walk_rules.specs.Treatment.{goes, step_of, onward_from}
@@ -25,18 +32,19 @@ use Rattle.leg_table.proofs.FlatNets.{FlatFacts}
 use Rattle.leg_table.specs.Trace.{Event, executed, Handed, after_events, after_execution, handed_over}
 use Rattle.leg_table.specs.Tasks.{matches}
 use Rattle.leg_table.specs.Ride.{ride_of, with_hop_limit}
-use Rattle.leg_table.specs.Sids.{prefix_by, prefix_at, hands_over}
+use Rattle.leg_table.specs.Sids.{binds, is_binding, sid_binds, prefix_by, prefix_at, hands_over}
 use Rattle.leg_table.specs.Leg.{place_behind, place_from, leg_of, finish_of}
 use Rattle.leg_table.specs.OneLeg.{LegKind, OnWay, IsTakenOn, HandsBy}
 use Rattle.leg_table.specs.Value.{strict_kind}
 use Rattle.leg_table.proofs.Alike.{address-alike}
-use Rattle.leg_table.proofs.Options.{map-some, some-same}
+use Rattle.leg_table.proofs.Options.{some-same}
 use Rattle.leg_table.proofs.RideFacts.{RideFacts, ride-facts, StartFacts, start-facts}
 use Rattle.leg_table.proofs.NextRides.{NextRide, leg-ride, finish-ride, middle-sid, last-sid}
 use Rattle.leg_table.proofs.ListPlaces.{address-at}
 use Rattle.leg_table.proofs.PathNames.{shape-prefix}
 use Rattle.leg_table.proofs.StrictLaws.{drop-drop}
 use Rattle.leg_table.proofs.Handing.{handed-stage, handed-behind, ride-walk}
+use Rattle.leg_table.proofs.Executions.{step-parts}
 use Rattle.leg_table.proofs.Segments.{behind-again, mid-onward, last-exposes, left-behind, behind-alone}
 
 -- the steps left behind a ride and an execution are the last ones of the intent
@@ -51,6 +59,27 @@ rest-is steps ts us position count left e f g h p few =
     f ∙ ap (drop (length ts - length us)) (e ∙ drop-drop position count steps)
     ∙ drop-drop (position + count) (length ts - length us) steps
     ∙ ap (λ (k : ℕ). drop k steps) d
+
+-- ---- a SID that exposes a packet binds no policy
+
+policy-exposes : (b : Behaviour) (usd : Bool) (kind : ℕ) → (behaviour_takes_flavours b ≡ false → usd ≡ false)
+    → (behaviour_exposes b kind || (usd && is_packet_inside kind)) ≡ true → is_some (behaviour_policy b) ≡ false
+policy-exposes behaviours.End usd kind plain shows = refl
+policy-exposes behaviours.EndX usd kind plain shows = refl
+policy-exposes (behaviours.EndT table) usd kind plain shows = refl
+policy-exposes behaviours.Dx6 usd kind plain shows = refl
+policy-exposes behaviours.Dx4 usd kind plain shows = refl
+policy-exposes (behaviours.Dt6 table) usd kind plain shows = refl
+policy-exposes (behaviours.Dt4 table) usd kind plain shows = refl
+policy-exposes (behaviours.Dt46 table) usd kind plain shows = refl
+policy-exposes (behaviours.B6 policy) usd kind plain shows =
+    absurd (false≢true (sym (ap (λ (u : Bool). u && is_packet_inside kind) (plain refl)) ∙ shows))
+policy-exposes (behaviours.B6Red policy) usd kind plain shows =
+    absurd (false≢true (sym (ap (λ (u : Bool). u && is_packet_inside kind) (plain refl)) ∙ shows))
+
+last-unbound : (net : Network) (s : SidEntry) (kind : ℕ) → KeepsSid net s → exposes s kind ≡ true → binds s ≡ false
+last-unbound net s kind keeps shows =
+    policy-exposes s.behaviour s.usd kind (λ plain. (keeps.behaviour.flavours plain).usd) shows
 
 module _ (net : Network) (keeps : Keeps net) (facts : FlatFacts net) (intent : Intent) (is_intent : IsIntent net intent)
     (tunnel : Tunnel) where
@@ -101,7 +130,7 @@ module _ (net : Network) (keeps : Keeps net) (facts : FlatFacts net) (intent : I
 
   pub to-sid : (x : lists.ListPlace) (hop : ℕ) (p : Packet) (next : ℕ) → OnWay k tunnel x hop p next
       → active x ≡ list_sid net (prefix_at net next)
-  to-sid x hop p next on = on.to ∙ ap (list_sid net) (shape-prefix net intent next)
+  to-sid x hop p next on = on.to ∙ ap (list_sid net) (shape-prefix net next)
 
   -- up from a finish
   pub finish-up : (x : lists.ListPlace) (position : ℕ) (via : Option ℕ) (next lowered : ℕ) (hop : ℕ) (p : Packet) (pick : ℕ → ℕ) (taken : ℕ)
@@ -138,6 +167,9 @@ module _ (net : Network) (keeps : Keeps net) (facts : FlatFacts net) (intent : I
             ∙ behind-alone net next n.ride.left left.0 left.1
             ∙ none-left left.0 left.2;
         sids = refl;
+        allowed = All-cons (λ (m : ℕ). is_binding net m ≡ false) next []
+            (ap sid_binds sid.1 ∙ last-unbound net sid.0 (inner_kind intent.inner) (keeps.sid next sid.0 sid.1) sid.2)
+            (All-nil (λ (m : ℕ). is_binding net m ≡ false));
         content = refl;
       }
 
@@ -184,6 +216,7 @@ module _ (net : Network) (keeps : Keeps net) (facts : FlatFacts net) (intent : I
         few = omega arith;
         packet = stage.0;
         along = subst (λ (j : ℕ). Along tunnel y j stage.0) less stage.2;
+        allowed = ap sid_binds sid.1 ∙ (step-parts sid.0 sid.2).1;
         events = events ++ executed net next;
         leads = λ more.
             ap (matches ts) (append_assoc events (executed net next) more)

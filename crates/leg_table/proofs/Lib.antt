@@ -36,6 +36,7 @@ pub mod Realizing
 pub mod ListShapes
 pub mod PathNames
 pub mod Meanings
+pub mod StrictMeanings
 pub mod Traces
 pub mod Matching
 pub mod PublicLaws

@@ -38,7 +38,7 @@ pub far_end-is : (o : Option Link) → far_end o ≡ end_of_link o
 far_end-is None = refl
 far_end-is (Some l) = refl
 
-is_at-is : (to : ℕ) (o : Option ℕ) → is_at to o ≡ true → o ≡ Some to
+pub is_at-is : (to : ℕ) (o : Option ℕ) → is_at to o ≡ true → o ≡ Some to
 is_at-is to None h = absurd (false≢true h)
 is_at-is to (Some n) h = ap Some (eqb-true n to h)
 

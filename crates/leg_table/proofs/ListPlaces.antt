@@ -1,9 +1,8 @@
 -- Places in lists of a network's SIDs: what is active there, what follows, and the destination there.
 use Rattle.std.proofs.Common.{◌≡◌, ◌⊎◌, inl, inr, ℕ, suc, ◌+◌, ◌-◌, ◌≤◌, ◌==◌, List, [], ◌∷◌, ◌++◌, length, map, Option, Some, None, slice_get, Contains, refl, sym, ◌∙◌, ap, subst, arith}
-use Rattle.std.specs.List.{All}
 use Rattle.std.specs.Option.{option_map}
 use Rattle.std.proofs.lemmas.Option.{slice_get_read}
-use Rattle.std.proofs.lemmas.List.Elements.{All-nil, All-cons, All-head, All-tail}
+use Rattle.std.proofs.lemmas.List.{length-map, map-append}
 use Rattle.v6_addr.specs.Address.{PrefixValue, Holds}
 use Rattle.v6_addr.specs.Kinds.{is_multicast}
 use Rattle.v6_addr.proofs.PublicLaws.{same_above}
@@ -22,7 +21,7 @@ use Rattle.list_places.specs.Places.{ListPlace, InFull, InPacked, Tunnel, active
 use Rattle.list_places.proofs.PublicLaws.{along-holds, destination-holds, sids-next, sids-last}
 use Rattle.list_pack.specs.declared.types.Container.{Container}
 use Rattle.list_pack.specs.declared.types.Container.TheVariants as containers
-use Rattle.list_pack.specs.SidLists.{sid_block, list_sid, container_in, list_in, prefixes_of, prefixes_in, IsSidPrefix}
+use Rattle.list_pack.specs.SidLists.{sid_block, list_sid, container_in, list_in, prefixes_of, prefixes_in}
 use Rattle.leg_table.proofs.FlatNets.{FlatFacts}
 use Rattle.list_pack.specs.PathLists.{before_last}
 use Rattle.leg_table.proofs.Options.{some-same}
@@ -171,27 +170,19 @@ address-at net keeps facts t x hop q n s along there same =
 
 -- ---- lists
 
-map-both : {X Y : Type 0} (f : X → Y) (xs ys : List X) → map f (xs ++ ys) ≡ map f xs ++ map f ys
-map-both f [] ys = refl
-map-both f (x ∷ xs) ys = ap (λ zs. f x ∷ zs) (map-both f xs ys)
-
 -- the SIDs of a list are its prefixes as lists know them
 pub sids-list : (net : Network) (list : List Container) → sids_in (list_in net list) ≡ map (list_sid net) (prefixes_in list)
 sids-list net [] = refl
 sids-list net (containers.Full first more ∷ list) =
     ap (λ xs. list_sid net first ∷ map (list_sid net) more ++ xs) (sids-list net list)
-    ∙ sym (map-both (list_sid net) (first ∷ more) (prefixes_in list))
+    ∙ sym (map-append (list_sid net) (first ∷ more) (prefixes_in list))
 sids-list net (containers.Packed first more ∷ list) =
     ap (λ xs. list_sid net first ∷ map (list_sid net) more ++ xs) (sids-list net list)
-    ∙ sym (map-both (list_sid net) (first ∷ more) (prefixes_in list))
-
-map-length : {X Y : Type 0} (f : X → Y) (xs : List X) → length (map f xs) ≡ length xs
-map-length f [] = refl
-map-length f (x ∷ xs) = ap suc (map-length f xs)
+    ∙ sym (map-append (list_sid net) (first ∷ more) (prefixes_in list))
 
 container-length : (net : Network) (c : Container) → length (lists.sids_of (container_in net c)) ≡ length (prefixes_of c)
-container-length net (containers.Full first more) = ap suc (map-length (list_sid net) more)
-container-length net (containers.Packed first more) = ap suc (map-length (list_sid net) more)
+container-length net (containers.Full first more) = ap suc (length-map more (list_sid net))
+container-length net (containers.Packed first more) = ap suc (length-map more (list_sid net))
 
 list-before : (net : Network) (list : List Container) → before_in (list_in net list) ≡ before_last list
 list-before net [] = refl
@@ -208,30 +199,3 @@ before-first net [] x e = absurd (cc)
 before-first net (c ∷ list) x e =
     to-place (λ z. before_from z ≡ before_last (c ∷ list)) (entered (container_in net c) (list_in net list)) x e
     (before-entered (container_in net c) (list_in net list) ∙ list-before net (c ∷ list))
-
-module _ (net : Network) (facts : FlatFacts net) where
-  -- SIDs of the network are as a flat network has them
-  flat-sids : (ps : List PrefixValue) → All (IsSidPrefix net) ps → All IsFlatSid (map (list_sid net) ps)
-  flat-sids [] all = All-nil IsFlatSid
-  flat-sids (p ∷ ps) all =
-      let head = All-head (IsSidPrefix net) p ps all in
-      All-cons IsFlatSid (list_sid net p) (map (list_sid net) ps)
-      (subst (λ (q : PrefixValue). IsFlatSid (list_sid net q)) head.3 (facts.suits.flat head.0 head.1 head.2))
-      (flat-sids ps (All-tail (IsSidPrefix net) p ps all))
-
-  flat-front : (ps qs : List PrefixValue) → All (IsSidPrefix net) (ps ++ qs) → All (IsSidPrefix net) ps × All (IsSidPrefix net) qs
-  flat-front [] qs all = (All-nil (IsSidPrefix net), all)
-  flat-front (p ∷ ps) qs all =
-      let rest = flat-front ps qs (All-tail (IsSidPrefix net) p (ps ++ qs) all) in
-      (All-cons (IsSidPrefix net) p ps (All-head (IsSidPrefix net) p (ps ++ qs) all) rest.0, rest.1)
-
-  flat-container : (c : Container) → All (IsSidPrefix net) (prefixes_of c) → IsFlatContainer (container_in net c)
-  flat-container (containers.Full first more) all = flat-sids (first ∷ more) all
-  flat-container (containers.Packed first more) all = flat-sids (first ∷ more) all
-
-  -- and so is a list of them
-  pub flat-list : (list : List Container) → All (IsSidPrefix net) (prefixes_in list) → IsFlatList (list_in net list)
-  flat-list [] all = All-nil IsFlatContainer
-  flat-list (c ∷ list) all =
-      let parts = flat-front (prefixes_of c) (prefixes_in list) all in
-      All-cons IsFlatContainer (container_in net c) (list_in net list) (flat-container c parts.0) (flat-list list parts.1)

@@ -1,6 +1,6 @@
 -- The SIDs of an intent's legs are SIDs of lists.
-use Rattle.std.proofs.Common.{◌≡◌, ℕ, ◌-◌, ◌<◌, ◌≤◌, Bool, true, false, ◌==◌, List, length, get_or, Option, Some, None, slice_get, Contains, refl, sym, ◌∙◌, ap, subst, arith, eqb-true}
-use Rattle.std.specs.Prelude.{◌↔◌, IsTrue, IsSome, not, position}
+use Rattle.std.proofs.Common.{◌≡◌, ℕ, ◌-◌, ◌≤◌, Option, Some, None, slice_get, Contains, refl, sym, ◌∙◌, ap, subst, arith, eqb-true}
+use Rattle.std.specs.Prelude.{◌↔◌, IsTrue, IsSome, not}
 use Rattle.std.specs.Option.{option_map}
 use Rattle.std.proofs.lemmas.Bool.{false≢true, and_parts, eq-eqb}
 use Rattle.std.proofs.lemmas.Option.{none-some}
@@ -20,7 +20,7 @@ use Rattle.list_pack.specs.declared.types.Shape.{Shape}
 use Rattle.list_pack.specs.Value.{IsSid, same_block}
 use Rattle.list_pack.specs.Paths.{SuitsLists}
 use Rattle.list_pack.specs.SidLists.{AreListSids, block_at, list_sid, sid_block}
-use Rattle.leg_table.specs.Sids.{binds, takes_step, is_sid_at, sid_suits, sids_of, step_before, node_at}
+use Rattle.leg_table.specs.Sids.{binds, is_sid_at, sid_suits, sids_of, step_before, node_at}
 use Rattle.leg_table.specs.Table.{shape_by, shape_of}
 use Rattle.leg_table.specs.Value.{legs_value}
 use Rattle.leg_table.proofs.Options.{some-same}

@@ -1,149 +1,125 @@
--- The paths of an intent's legs are the legal lists that realize the intent.
+-- The paths of legs of any kind are the legal lists that realize what the legs are for.
 use Rattle.std.proofs.Common.{◌≡◌, ℕ, ◌+◌, ◌<◌, ◌≤◌, arith, List, [], ◌∷◌, length, map, All, Option, Some, None, refl, sym, ◌∙◌, ap, subst}
-use Rattle.std.proofs.lemmas.List.{length-map}
+use Rattle.std.proofs.lemmas.List.{length-map, take_all}
 use Rattle.v6_addr.specs.Address.{PrefixValue}
-use Rattle.srv6_rules.specs.declared.sid.SidEntry.{SidEntry}
-use Rattle.srv6_rules.specs.Packet.{Content}
-use Rattle.net_model.specs.Network.{Network}
-use Rattle.net_model.specs.Keeps.{Keeps}
-use Rattle.net_model.specs.Rules.{IsNetwork}
-use Rattle.net_model.specs.Flat.{IsFlat}
-use Rattle.net_model.proofs.PublicLaws.{keeps_from_network}
-use Rattle.intent_reader.specs.Rules.{IsIntent}
-use Rattle.intent_reader.specs.declared.intent.Intent.{Intent}
+use Rattle.srv6_rules.specs.Packet.{Packet, Content}
 use Rattle.list_pack.specs.declared.types.Container.{Container}
 use Rattle.list_pack.specs.declared.types.Cost.{Cost}
 use Rattle.list_pack.specs.declared.types.PathStep.{PathStep}
-use Rattle.list_pack.specs.Value.{LegsValue, KeepsLaws}
 use Rattle.list_pack.specs.Costs.{Move, cost_of, start}
 use Rattle.list_pack.specs.Least.{step_of}
-use Rattle.list_pack.specs.Paths.{sids_of_moves, cost_with, SuitsLists}
+use Rattle.list_pack.specs.Paths.{sids_of_moves, cost_with}
 use Rattle.list_pack.specs.PathLists.{list_of}
 use Rattle.list_pack.specs.PathLists as lists
-use Rattle.list_pack.specs.SidLists.{IsSidPrefix, IsLegalList, list_sid, list_values, prefixes_in, steps_in}
-use Rattle.list_pack.specs.Meaning.{AreSidsOf, IsShapeOf, IsRealized, IsPathOf, IsPathBelow, Means}
+use Rattle.list_pack.specs.SidLists.{IsSidPrefix, IsLegalList, list_values, prefixes_in, steps_in}
+use Rattle.list_pack.specs.Meaning.{IsRealized, IsPathOf, IsPathBelow, Means}
 use Rattle.list_pack.proofs.PublicLaws.{split-of, path-list, steps-prefixes}
 use Rattle.list_pack.proofs.PublicLaws as packs
-use Rattle.leg_table.specs.Realizes.{path_need, ListRealizes, ListExecutes, ListHands, AlwaysHandsOver, IsPathAlong}
-use Rattle.leg_table.specs.Sids.{prefix_at}
-use Rattle.leg_table.specs.Table.{shape_by, node_by}
-use Rattle.leg_table.specs.Value.{legs_value}
-use Rattle.leg_table.proofs.FlatNets.{FlatFacts, flat-facts}
+use Rattle.leg_table.specs.OneLeg.{LegKind, KindLaws, prefix_in}
+use Rattle.leg_table.specs.Meant.{AlwaysInner, IsRealizing, IsExecuting, IsHanding}
 use Rattle.leg_table.proofs.Inners.{some_inner, some_inner-is}
-use Rattle.leg_table.proofs.ListShapes.{suits-by, there}
-use Rattle.leg_table.proofs.PathNames.{hops-need, path-named, shapes-prefixes, moves-prefixes, take-all}
-use Rattle.leg_table.proofs.Realizing.{path-realizes, path-counts, list-path}
-use Rattle.leg_table.proofs.StrictLaws.{strict-laws}
+use Rattle.leg_table.proofs.ListPlaces.{before-first}
+use Rattle.leg_table.proofs.Realizing.{first-place, one, packet, path-named, path-realizes, path-counts, by-list, PathAlong, list-path}
 
-module _ (net : Network) (intent : Intent) (network : IsNetwork net) (flat : IsFlat net) (is_intent : IsIntent net intent) where
-  abbrev v : LegsValue
-  v = legs_value net intent
-
-  keeps : Keeps net
-  keeps = keeps_from_network net network
-
-  facts : FlatFacts net
-  facts = flat-facts net network flat
-
-  laws : KeepsLaws v
-  laws = strict-laws net intent keeps facts is_intent
-
-  suits : SuitsLists v (list_sid net)
-  suits = suits-by net keeps facts.suits intent
-
-  sids-of : AreSidsOf v net
-  sids-of n is =
-      let s = there net keeps facts.suits intent n is in (
-        s.0,
-        s.1,
-        subst (IsShapeOf net s.0) (sym (ap (shape_by net.blocks) s.1)) (record { prefix = refl; block = refl; lbl = refl; csid = refl }),
-        sym (ap node_by s.1),
-      )
-
+module _ (k : LegKind) (Longest : Option ℕ → Packet → (ℕ → ℕ) → ℕ → Type 0) (laws : KindLaws k Longest) where
   -- ---- a path is a list
 
-  realized : (moves : List Move) (c : Cost) → cost_of v start moves ≡ Some c
-      → IsRealized net (ListRealizes net intent) (ListExecutes net intent) (map (step_of v) moves) c
-  realized moves c cost =
-      let sids : List ℕ = sids_of_moves moves in
-      let list : List Container = list_of net (map (step_of v) moves) in
-      let need : path_need net intent 0 None sids ≡ Some c.hops
-      = sym (hops-need net intent sids 0 None) ∙ (split-of v start moves c cost).hops in
-      let made = path-list v net moves c laws suits cost in
-      let names : map (prefix_at net) sids ≡ prefixes_in list
-      = sym (moves-prefixes net intent moves) ∙ ap (map (λ (p : PathStep). p.prefix)) (sym made.steps) ∙ steps-prefixes list in
-      let legal : IsLegalList net list = record {
+  moves-prefixes : (moves : List Move)
+      → map (λ (p : PathStep). p.prefix) (map (step_of k.legs) moves) ≡ map (prefix_in k) (sids_of_moves moves)
+  moves-prefixes [] = refl
+  moves-prefixes (m ∷ ms) = ap (λ (ps : List PrefixValue). prefix_in k m.sid ∷ ps) (moves-prefixes ms)
+
+  pub realized : (moves : List Move) (c : Cost) → cost_of k.legs start moves ≡ Some c
+      → IsRealized k.net (IsRealizing k) (IsExecuting k) (map (step_of k.legs) moves) c
+  realized [] c cost = let none = (split-of k.legs start [] c cost).hops in absurd (cc)
+  realized (m ∷ ms) c cost =
+      let moves : List Move = m ∷ ms in
+      let list : List Container = list_of k.net (map (step_of k.legs) moves) in
+      let hops = (split-of k.legs start moves c cost).hops in
+      let made = path-list k.legs k.net moves c laws.legs laws.suits cost in
+      let names : map (prefix_in k) (sids_of_moves moves) ≡ prefixes_in list
+      = sym (moves-prefixes moves) ∙ ap (map (λ (p : PathStep). p.prefix)) (sym made.steps) ∙ steps-prefixes list in
+      let legal : IsLegalList k.net list = record {
         rules = made.legal;
-        named = subst (λ (ps : List PrefixValue). All (IsSidPrefix net) ps) names (path-named net intent sids 0 None c.hops need);
+        named = subst (λ (ps : List PrefixValue). All (IsSidPrefix k.net) ps) names
+            (path-named k Longest laws (sids_of_moves ms) m.sid 0 None c.hops hops);
       } in
       record {
         of_path = made;
         legal = legal;
-        realizes = path-realizes net network flat facts intent is_intent list legal sids c.hops names need;
-        executes = path-counts net network flat facts intent is_intent list legal sids c.hops names need;
+        realizes = path-realizes k Longest laws list legal m.sid (sids_of_moves ms) c.hops names hops;
+        executes = path-counts k Longest laws list legal m.sid (sids_of_moves ms) c.hops names hops;
       }
 
   -- ---- a list is a path of no greater cost
 
-  moves-along : (list : List Container) (sids : List ℕ) (hops : ℕ) → IsLegalList net list → IsPathAlong net intent list sids hops
-      → lists.IsPathAlong v list sids hops
-  moves-along list sids hops legal along =
-      packs.list-path v net list sids hops laws suits legal.rules (hops-need net intent sids 0 None ∙ along.is_path)
-      (shapes-prefixes net intent sids ∙ along.names) along.last
+  module _ (list : List Container) (legal : IsLegalList k.net list) where
+    moves-along : (inner : Content) (hop : ℕ) → (p : PathAlong k Longest laws list legal inner hop)
+        → lists.IsPathAlong k.legs list (p.first ∷ p.more) p.need
+    moves-along inner hop p =
+        let last = p.last in
+        let same = before-first k.net list (first-place k Longest laws list legal).0 (first-place k Longest laws list legal).1 in
+        packs.list-path k.legs k.net list (p.first ∷ p.more) p.need laws.legs laws.suits legal.rules p.is_path p.names
+        (omega (arith, last, same))
 
-  -- where all SIDs are executed the path has the list's steps, and its hops are the need
-  whole-path : (list : List Container) (sids : List ℕ) (hops need : ℕ) → IsLegalList net list → IsPathAlong net intent list sids hops
-      → ListRealizes net intent list need → hops ≤ need → (got : lists.IsPathAlong v list sids hops)
-      → length sids ≡ length (prefixes_in list) → (map (step_of v) got.moves ≡ steps_in list) × (hops ≡ need)
-  whole-path list sids hops need legal along real within got all =
-      let long : length (steps_in list) ≡ length (prefixes_in list)
-      = sym (length-map (steps_in list) (λ (p : PathStep). p.prefix)) ∙ ap length (steps-prefixes list) in
-      let names : map (prefix_at net) sids ≡ prefixes_in list
-      = along.names ∙ take-all (prefixes_in list) (length sids) (omega (arith, all)) in
-      let own = path-realizes net network flat facts intent is_intent list legal sids hops names along.is_path in
-      let least = real.least hops own.reaches in (
-        got.steps ∙ take-all (steps_in list) (length sids) (omega (arith, long, all)),
-        omega (arith, within, least),
-      )
+    -- where all SIDs are executed the path has the list's steps, and its hops are the need
+    whole-path : (inner : Content) (hop need : ℕ) → IsRealizing k list need → (p : PathAlong k Longest laws list legal inner hop)
+        → p.need ≤ need → length (p.first ∷ p.more) ≡ length (prefixes_in list)
+        → (map (step_of k.legs) (moves-along inner hop p).moves ≡ steps_in list) × (p.need ≡ need)
+    whole-path inner hop need real p within all =
+        let sids : List ℕ = p.first ∷ p.more in
+        let long : length (steps_in list) ≡ length (prefixes_in list)
+        = sym (length-map (steps_in list) (λ (p : PathStep). p.prefix)) ∙ ap length (steps-prefixes list) in
+        let names : map (prefix_in k) sids ≡ prefixes_in list
+        = p.names ∙ take_all (length sids) (prefixes_in list) (omega (arith, all)) in
+        let least = real.least p.need (path-realizes k Longest laws list legal p.first p.more p.need names p.is_path).reaches in (
+          (moves-along inner hop p).steps ∙ take_all (length sids) (steps_in list) (omega (arith, long, all)),
+          omega (arith, within, least),
+        )
 
-  path-of : (list : List Container) (need : ℕ) → IsLegalList net list → ListRealizes net intent list need
-      → IsPathOf v (ListExecutes net intent) list need
-  path-of list need legal real =
-      let inner = some_inner intent.inner in
-      let always : AlwaysHandsOver net intent (list_values net list) inner (need + 1)
-      = real.reaches inner (some_inner-is intent.inner) (need + 1) (omega arith) in
-      let p = list-path net network flat facts intent is_intent list legal inner (need + 1) (omega arith) always in
-      let below = p.3 in
-      let within : p.1 ≤ need = omega (arith, below) in
-      let got = moves-along list p.0 p.1 legal p.2 in
-      let one : List ℕ = 0 ∷ [] in
-      let some : 0 < length one = omega arith in
+    path-of : (need : ℕ) → IsRealizing k list need → IsPathOf k.legs (IsExecuting k) list need
+    path-of need real =
+        let inner = some_inner k.intent.inner in
+        let hop : ℕ = need + 1 in
+        let always : AlwaysInner k (list_values k.net list) inner hop
+        = real.reaches inner (some_inner-is k.intent.inner) hop (omega arith) in
+        let p = list-path k Longest laws list legal inner hop (omega arith) always in
+        let below = p.below in
+        let within : p.need ≤ need = omega (arith, below) in
+        let longest = (one k Longest laws list legal inner).some_longest None (packet k Longest laws list legal inner hop) in
+        let hand = by-list k Longest laws list legal inner hop always longest.0 in
+        record {
+          moves = (moves-along inner hop p).moves;
+          hops = p.need;
+          cost = (moves-along inner hop p).cost;
+          within = within;
+          whole = λ executes.
+              whole-path inner hop need real p within
+              (sym (ap length (p.executes longest.0 0 _ longest.1 hand.2)) ∙ executes inner hop hand.0 (always hand.0 hand.1));
+        }
+
+    path-below : (hop : ℕ) → IsHanding k list hop → IsPathBelow k.legs list hop
+    path-below hop hands =
+        let p = list-path k Longest laws list legal hands.inner hop hands.positive hands.always in
+        let got = moves-along hands.inner hop p in
+        record { moves = got.moves; hops = p.need; cost = got.cost; below = p.below }
+
+    -- where a list hands over even one inner packet at a hop limit, one of as many containers realizes with a need below that
+    pub hands-realizes : (hop : ℕ) → IsHanding k list hop
+        → (other : List Container) × (need : ℕ) × IsLegalList k.net other × IsRealizing k other need × (length other ≡ length list)
+        × (need < hop)
+    hands-realizes hop hands =
+        let path = path-below hop hands in
+        let made = realized path.moves (cost_with (length list) path.hops) path.cost in
+        (list_of k.net (map (step_of k.legs) path.moves), path.hops, made.legal, made.realizes, made.of_path.count, path.below)
+
+  -- legs that keep the laws of their kind mean the lists that realize
+  pub kind-means : Means k.legs k.net (IsRealizing k) (IsExecuting k) (IsHanding k)
+  kind-means =
       record {
-        moves = got.moves;
-        hops = p.1;
-        cost = got.cost;
-        within = within;
-        whole = λ executes.
-            whole-path list p.0 p.1 need legal p.2 real within got
-            (sym (ap length (p.4 one some)) ∙ executes inner (need + 1) one (always one some));
+        sids = laws.sids;
+        suits = laws.suits;
+        lists = realized;
+        paths = λ list need legal real. path-of list legal need real;
+        handing = λ list hop legal hands. path-below list legal hop hands;
       }
-
-  path-below : (list : List Container) (hop : ℕ) → IsLegalList net list → ListHands net intent list hop → IsPathBelow v list hop
-  path-below list hop legal hands =
-      let p = list-path net network flat facts intent is_intent list legal hands.inner hop hands.positive hands.always in
-      let got = moves-along list p.0 p.1 legal p.2 in
-      record { moves = got.moves; hops = p.1; cost = got.cost; below = p.3 }
-
-  -- where a list hands over even one inner packet for all choices at a hop limit, one of as many containers realizes with a need below that
-  pub hands-realizes : (list : List Container) (inner : Content) (hop : ℕ) → IsLegalList net list → 0 < hop
-      → AlwaysHandsOver net intent (list_values net list) inner hop
-      → (other : List Container) × (need : ℕ) × IsLegalList net other × ListRealizes net intent other need
-      × (length other ≡ length list) × (need < hop)
-  hands-realizes list inner hop legal positive always =
-      let path = path-below list hop legal (record { positive = positive; inner = inner; always = always }) in
-      let made = realized path.moves (cost_with (length list) path.hops) path.cost in
-      (list_of net (map (step_of v) path.moves), path.hops, made.legal, made.realizes, made.of_path.count, path.below)
-
-  -- the legs mean the lists that realize the intent
-  pub legs-mean : Means v net (ListRealizes net intent) (ListExecutes net intent) (ListHands net intent)
-  legs-mean = record { sids = sids-of; suits = suits; lists = realized; paths = path-of; handing = path-below }

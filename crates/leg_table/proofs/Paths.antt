@@ -1,7 +1,7 @@
 -- Paths of legs and a finish, by the laws of one leg and one finish.
-use Rattle.std.proofs.Common.{◌≡◌, ℕ, suc, ◌+◌, ◌-◌, ◌<◌, ◌≤◌, arith, List, [], ◌∷◌, length, take, map, All, Option, Some, None, refl, sym, ◌∙◌, ap, subst}
+use Rattle.std.proofs.Common.{◌≡◌, ℕ, ◌+◌, ◌-◌, ◌<◌, ◌≤◌, arith, false, List, [], ◌∷◌, length, take, map, All, Option, Some, None, refl, sym, ◌∙◌, ap, subst}
 use Rattle.std.specs.Option.{option_map}
-use Rattle.std.proofs.lemmas.List.Elements.{All-head, All-tail}
+use Rattle.std.proofs.lemmas.List.Elements.{All-cons, All-head, All-tail}
 use Rattle.v6_addr.specs.Address.{PrefixValue}
 use Rattle.srv6_rules.specs.Packet.{Packet}
 use Rattle.list_places.specs.Places.{ListPlace, Tunnel, Along, behind_of, next_of, sids_from}
@@ -50,6 +50,7 @@ module _ (k : LegKind) (Longest : Option ℕ → Packet → (ℕ → ℕ) → �
         over = (a.count + rest.over.0, a.passes rest.over.0 rest.handed rest.over.1);
         meets = a.leads rest.handed.trace ∙ rest.meets;
         sids = ap (λ (ms : List ℕ). next ∷ ms) rest.sids;
+        allowed = All-cons (λ (n : ℕ). k.barred n ≡ false) next rest.handed.sids a.allowed rest.allowed;
         content = rest.content;
       }
 

@@ -1,33 +1,17 @@
 -- Rows of SIDs: a number put into its place, and where the walk stands step by step.
-use Rattle.std.proofs.Common.{◌≡◌, ℕ, zero, suc, ◌+◌, ◌<◌, ◌≤◌, ◌⊎◌, inl, inr, true, false, List, [], ◌∷◌, ◌++◌, length, get_or, take, drop, Option, Some, None, slice_get, refl, sym, ◌∙◌, ap, subst, arith, add-one, length-append}
+use Rattle.std.proofs.Common.{◌≡◌, ℕ, suc, ◌+◌, ◌<◌, ◌≤◌, ◌⊎◌, inl, inr, true, false, List, [], ◌∷◌, ◌++◌, length, get_or, take, drop, Option, Some, None, slice_get, refl, sym, ◌∙◌, ap, subst, arith, add-one, length-append}
 use Rattle.std.specs.Prelude.{is_some}
 use Rattle.std.specs.Option.{option_and_then}
 use Rattle.std.proofs.lemmas.Bool.{cases_order}
+use Rattle.std.proofs.Math.Seq.{drop-cons, take-suc}
 use Rattle.net_model.specs.Network.{Network}
 use Rattle.intent_reader.specs.Rules.{IsIntent, stand_after, node_after}
 use Rattle.intent_reader.specs.declared.intent.Step.{Step}
 use Rattle.intent_reader.specs.declared.intent.Intent.{Intent}
-use Rattle.leg_table.specs.Sids.{sid_before, placed, is_sid_at, sids_below, sids_of, node_at}
+use Rattle.leg_table.specs.Sids.{placed, is_sid_at, sids_below, sids_of, node_at}
 use Rattle.leg_table.specs.Table.{AreRows}
+use Rattle.leg_table.proofs.Options.{get-pushed, get-before}
 use Rattle.leg_table.proofs.RideFacts.{stand_after-append, stand_after-split, intent-stands}
-
-pub placed-here : (net : Network) (n : ℕ) (xs : List ℕ) (i : ℕ) → i < length xs
-    → sid_before (slice_get net.sids n) (slice_get net.sids (get_or xs i 0)) ≡ true → placed net n (drop i xs) ≡ n ∷ drop i xs
-placed-here net n [] i h e = absurd (omega arith)
-placed-here net n (x ∷ xs) zero h e = rw e refl
-placed-here net n (x ∷ xs) (suc i) h e = placed-here net n xs i (omega arith) e
-
-placed-suc : (net : Network) (n : ℕ) (xs : List ℕ) (i : ℕ) → i < length xs
-    → sid_before (slice_get net.sids n) (slice_get net.sids (get_or xs i 0)) ≡ false
-    → take i xs ++ placed net n (drop i xs) ≡ take (suc i) xs ++ placed net n (drop (suc i) xs)
-placed-suc net n [] i h e = absurd (omega arith)
-placed-suc net n (x ∷ xs) zero h e = rw e refl
-placed-suc net n (x ∷ xs) (suc i) h e = ap (λ (r : List ℕ). x ∷ r) (placed-suc net n xs i (omega arith) e)
-
-placed-past : (net : Network) (n : ℕ) (xs : List ℕ)
-    → take (length xs) xs ++ placed net n (drop (length xs) xs) ≡ take (length xs) xs ++ n ∷ drop (length xs) xs
-placed-past net n [] = refl
-placed-past net n (x ∷ xs) = ap (λ (r : List ℕ). x ∷ r) (placed-past net n xs)
 
 -- a row by the numbers of its SIDs
 pub sids_below-zero : (net : Network) (intent : Intent) (position : ℕ) → sids_below net intent position 0 ≡ []
@@ -63,23 +47,14 @@ pub row-out : (net : Network) (intent : Intent) (position k : ℕ) (xs ys : List
 row-out net intent position k xs ys e f h = h ∙ e ∙ sym (sids_below-out net intent position k f)
 
 -- where the walk stands, step by step
-take-next : {X : Type 0} (xs : List X) (i : ℕ) (x : X) → i < length xs → get_or xs i x ≡ x → take (suc i) xs ≡ take i xs ++ x ∷ []
-take-next [] i x h e = absurd (omega arith)
-take-next (y ∷ xs) zero x h e = ap (λ z. z ∷ []) e
-take-next (y ∷ xs) (suc i) x h e = ap (λ r. y ∷ r) (take-next xs i x (omega arith) e)
-
-drop-next : {X : Type 0} (xs : List X) (i : ℕ) (x : X) → i < length xs → get_or xs i x ≡ x → drop i xs ≡ x ∷ drop (suc i) xs
-drop-next [] i x h e = absurd (omega arith)
-drop-next (y ∷ xs) zero x h e = ap (λ z. z ∷ xs) e
-drop-next (y ∷ xs) (suc i) x h e = drop-next xs i x (omega arith) e
-
 pub step-opens : (net : Network) (intent : Intent) (i node : ℕ) (step : Step) → IsIntent net intent → node_at net intent i ≡ Some node
     → i < length intent.steps
     → get_or intent.steps i step ≡ step → is_some (node_after net node step) ≡ true
 step-opens net intent i node step is_intent stands h e =
     let whole : is_some (stand_after net node (drop i intent.steps)) ≡ true
     = ap is_some (sym (stand_after-split net intent.headend node intent.steps i stands)) ∙ (intent-stands net intent is_intent).0 in
-    opens (node_after net node step) (ap (λ ts. is_some (stand_after net node ts)) (sym (drop-next intent.steps i step h e)) ∙ whole)
+    opens (node_after net node step) (ap (λ ts. is_some (stand_after net node ts)) (sym (drop-cons intent.steps i step h ∙ ap (λ (s : Step). s ∷ drop (suc i) intent.steps) e))
+    ∙ whole)
   where
     opens : (o : Option ℕ) → is_some (option_and_then (λ next. stand_after net next (drop (suc i) intent.steps)) o) ≡ true
         → is_some o ≡ true
@@ -91,23 +66,13 @@ pub step-lands : (net : Network) (intent : Intent) (i node to : ℕ) (step : Ste
     → get_or intent.steps i step ≡ step → node_after net node step ≡ Some to → node_at net intent (i + 1) ≡ Some to
 step-lands net intent i node to step stands h e after =
     ap (λ n. stand_after net intent.headend (take n intent.steps)) (add-one i)
-    ∙ ap (stand_after net intent.headend) (take-next intent.steps i step h e)
+    ∙ ap (stand_after net intent.headend)
+    (take-suc intent.steps i step h ∙ ap (λ (s : Step). take i intent.steps ++ s ∷ []) e)
     ∙ stand_after-append net intent.headend (take i intent.steps) (step ∷ [])
     ∙ ap (option_and_then (λ n. stand_after net n (step ∷ []))) stands
     ∙ ap (option_and_then (λ n. stand_after net n [])) after
 
 -- rows, one after another
-slice_get-push : (xs : List (List ℕ)) (x : List ℕ) (n : ℕ) → n ≡ length xs → slice_get (xs ++ x ∷ []) n ≡ Some x
-slice_get-push [] x zero e = refl
-slice_get-push [] x (suc n) e = absurd (omega arith)
-slice_get-push (y ∷ xs) x zero e = absurd (omega arith)
-slice_get-push (y ∷ xs) x (suc n) e = slice_get-push xs x n (omega arith)
-
-slice_get-front : (xs : List (List ℕ)) (x : List ℕ) (n : ℕ) → n < length xs → slice_get (xs ++ x ∷ []) n ≡ slice_get xs n
-slice_get-front [] x n h = absurd (omega arith)
-slice_get-front (y ∷ xs) x zero h = refl
-slice_get-front (y ∷ xs) x (suc n) h = slice_get-front xs x n (omega arith)
-
 pub rows-more : (net : Network) (intent : Intent) (last : ℕ) (row : List ℕ) (rows more : List (List ℕ)) → AreRows net intent last rows
     → row ≡ sids_of net intent (last + 1) → more ≡ rows ++ row ∷ [] → AreRows net intent (last + 1) more
 rows-more net intent last row rows more h e f =
@@ -119,9 +84,9 @@ rows-more net intent last row rows more h e f =
     at : (position : ℕ) → ((position ≡ last + 1) ⊎ ((position < last + 1) ⊎ (last + 1 < position))) → position ≤ last + 1
         → slice_get (rows ++ row ∷ []) position ≡ Some (sids_of net intent position)
     at position (inl same) within =
-        slice_get-push rows row position (same ∙ sym h.0) ∙ ap Some (e ∙ ap (sids_of net intent) (sym same))
+        get-pushed rows row position (same ∙ sym h.0) ∙ ap Some (e ∙ ap (sids_of net intent) (sym same))
     at position (inr (inl below)) within =
-        slice_get-front rows row position (omega (arith, h.0)) ∙ h.1 position (omega arith)
+        get-before rows row position (omega (arith, h.0)) ∙ h.1 position (omega arith)
     at position (inr (inr above)) within = absurd (omega arith)
 
 pub in_steps : (xs ys : List Step) (i : ℕ) (x : Step) → xs ≡ ys → i < length xs → x ≡ get_or xs i x → (i < length ys) × (get_or ys i x ≡ x)

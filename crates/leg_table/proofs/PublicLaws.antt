@@ -5,13 +5,13 @@ pub use Rattle.leg_table.proofs.Rides.{every-ride}
 pub use Rattle.leg_table.proofs.LegLemmas.{leg-meaning, finish-meaning, leg-each, finish-each}
 pub use Rattle.leg_table.proofs.Positions.{are-sids}
 pub use Rattle.leg_table.proofs.StrictLaws.{strict-laws}
-pub use Rattle.leg_table.proofs.Realizing.{path-realizes, path-counts, list-path}
-pub use Rattle.leg_table.proofs.Meanings.{legs-mean, hands-realizes}
+pub use Rattle.leg_table.proofs.Meanings.{realized, hands-realizes, kind-means}
+pub use Rattle.leg_table.proofs.StrictMeanings.{strict-kind_laws, legs-mean, path-realizes, list-path}
 pub use Rattle.leg_table.proofs.Traces.{handed-trace}
 pub use Rattle.leg_table.proofs.Matching.{matches-by, left-parts}
 pub use Rattle.leg_table.proofs.StrictLegLaws.{strict-leg_laws}
 pub use Rattle.leg_table.proofs.Paths.{Names, PathFrom, path-hands, path-over, path-down}
-pub use Rattle.leg_table.proofs.ListPlaces.{active-is, next-none, next-some, before_from, before-last, before-next, before-first, address-at, sids-list, flat-list}
+pub use Rattle.leg_table.proofs.ListPlaces.{active-is, next-none, next-some, before_from, before-last, before-next, before-first, address-at, sids-list}
 pub use Rattle.leg_table.proofs.Shapes.{shape-is, shapes-share}
 pub use Rattle.leg_table.proofs.ListShapes.{there, suits-by}
 pub use Rattle.leg_table.proofs.Segments.{into-prefix, mid-onward, mid-low, last-exposes}

@@ -1,5 +1,5 @@
 -- The ways to all SIDs from a node, by those from where the first step ends.
-use Rattle.std.proofs.Common.{◌≡◌, ℕ, zero, suc, ◌+◌, ◌-◌, ◌<◌, ◌≤◌, ◌⊎◌, inl, inr, Bool, true, false, ◌==◌, if◌then◌else◌, List, [], ◌∷◌, ◌++◌, length, Option, Some, None, slice_get, refl, sym, ◌∙◌, ap, subst, arith, length-append}
+use Rattle.std.proofs.Common.{◌≡◌, ℕ, ◌+◌, ◌-◌, ◌<◌, ◌≤◌, ◌⊎◌, inl, inr, Bool, true, false, ◌==◌, if◌then◌else◌, List, [], ◌∷◌, ◌++◌, length, Option, Some, None, slice_get, refl, sym, ◌∙◌, ap, subst, arith, length-append}
 use Rattle.std.specs.Prelude.{is_some, IfSome}
 use Rattle.std.specs.List.{list_all}
 use Rattle.std.specs.Option.{option_map}
@@ -29,7 +29,7 @@ use Rattle.leg_table.specs.Leg.{left_behind}
 use Rattle.leg_table.specs.Course.{behind_with, behind_of}
 use Rattle.leg_table.specs.Reach.{way_along, stand, AreWays, AreLater, way_or_none, way_at, lowered_more, way_by}
 use Rattle.leg_table.proofs.Links.{first_end-is, step_opens}
-use Rattle.leg_table.proofs.Options.{map-some, if-some, some-same}
+use Rattle.leg_table.proofs.Options.{map-some, if-some, some-same, get-pushed, get-before}
 use Rattle.leg_table.proofs.NextRides.{left_after-le}
 use Rattle.leg_table.proofs.RideFacts.{ride-facts}
 use Rattle.leg_table.proofs.Ways.{address-is}
@@ -167,17 +167,6 @@ pub record AreWaysBelow (net : Network) (steps : List Step) (place : Place) (cou
   pub count_is : length ways ≡ count
   pub each : (n : ℕ) → n < count → slice_get ways n ≡ Some (way_along net steps place n)
 
-get-pushed : (xs : List (Option Behind)) (x : Option Behind) (n : ℕ) → n ≡ length xs → slice_get (xs ++ x ∷ []) n ≡ Some x
-get-pushed [] x zero e = refl
-get-pushed [] x (suc n) e = absurd (omega arith)
-get-pushed (y ∷ xs) x zero e = absurd (omega arith)
-get-pushed (y ∷ xs) x (suc n) e = get-pushed xs x n (omega arith)
-
-get-below : (xs : List (Option Behind)) (x : Option Behind) (n : ℕ) → n < length xs → slice_get (xs ++ x ∷ []) n ≡ slice_get xs n
-get-below [] x n h = absurd (omega arith)
-get-below (y ∷ xs) x zero h = refl
-get-below (y ∷ xs) x (suc n) h = get-below xs x n (omega arith)
-
 pub ways-more : (net : Network) (steps : List Step) (place : Place) (count : ℕ) (ways more : List (Option Behind)) (way : Option Behind)
     → AreWaysBelow net steps place count ways → way ≡ way_along net steps place count → more ≡ ways ++ way ∷ []
     → AreWaysBelow net steps place (count + 1) more
@@ -192,5 +181,5 @@ ways-more net steps place count ways more way is e f =
         → slice_get (ways ++ way ∷ []) n ≡ Some (way_along net steps place n)
     by_order n (inl same) h =
         get-pushed ways way n (same ∙ sym is.count_is) ∙ ap Some (e ∙ ap (way_along net steps place) (sym same))
-    by_order n (inr (inl below)) h = get-below ways way n (omega (arith, is.count_is)) ∙ is.each n below
+    by_order n (inr (inl below)) h = get-before ways way n (omega (arith, is.count_is)) ∙ is.each n below
     by_order n (inr (inr above)) h = absurd (omega arith)

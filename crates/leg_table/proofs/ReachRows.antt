@@ -15,7 +15,7 @@ use Rattle.leg_table.specs.declared.ride.Behind.{Behind}
 use Rattle.leg_table.specs.Reach.{stand, AreWays, IsReach, AreReaches, AreLater}
 use Rattle.leg_table.proofs.Courses.{end-within}
 use Rattle.leg_table.proofs.Links.{far_end-is}
-use Rattle.leg_table.proofs.Options.{if-some, some-same}
+use Rattle.leg_table.proofs.Options.{if-some, some-same, get-pushed, get-before}
 
 -- a step that starts at a node ends at one
 pub after-opens : (net : Network) (node : ℕ) (t : Step) (ts : List Step) → is_some (stand_after net node (t ∷ ts)) ≡ true
@@ -53,17 +53,6 @@ after-within net keeps node to (Function sid) here e = by_sid (slice_get net.sid
         let same : node ≡ to = some-same node to got.1 in
         omega arith
 
-get-push : {X : Type 0} (xs : List X) (x y : X) (n : ℕ) → n ≡ length xs → slice_get (xs ++ x ∷ []) n ≡ Some y → x ≡ y
-get-push [] x y zero e h = some-same x y h
-get-push [] x y (suc n) e h = absurd (omega arith)
-get-push (z ∷ xs) x y zero e h = absurd (omega arith)
-get-push (z ∷ xs) x y (suc n) e h = get-push xs x y n (omega arith) h
-
-get-front : {X : Type 0} (xs : List X) (x : X) (n : ℕ) → n < length xs → slice_get (xs ++ x ∷ []) n ≡ slice_get xs n
-get-front [] x n h = absurd (omega arith)
-get-front (y ∷ xs) x zero h = refl
-get-front (y ∷ xs) x (suc n) h = get-front xs x n (omega arith)
-
 -- one step more before the others
 more-reaches : (net : Network) (node to : ℕ) (t : Step) (ts : List Step) (reach : Reach) (reaches : List Reach)
     → AreReaches net to ts reaches → IsReach net (t ∷ ts) node reach → node_after net node t ≡ Some to
@@ -78,13 +67,14 @@ more-reaches net node to t ts reach reaches are is after =
         → slice_get (reaches ++ reach ∷ []) (length (t ∷ ts) - position) ≡ Some r → IsReach net (drop position (t ∷ ts)) at r
     each zero at r within stands there =
         let same : node ≡ at = some-same node at stands in
-        let it : reach ≡ r = get-push reaches reach r (length (t ∷ ts) - 0) (omega (arith, are.count)) there in
+        let it : reach ≡ r = some-same reach r
+        (sym (get-pushed reaches reach (length (t ∷ ts) - 0) (omega (arith, are.count))) ∙ there) in
         subst (λ (q : Reach). IsReach net (t ∷ ts) at q) it (subst (λ (n : ℕ). IsReach net (t ∷ ts) n reach) same is)
     each (suc k) at r within stands there =
         let place : length (t ∷ ts) - suc k ≡ length ts - k = omega arith in
         let below : length ts - k < length reaches = omega (arith, are.count) in
         let front : slice_get reaches (length ts - k) ≡ Some r
-        = sym (get-front reaches reach (length ts - k) below)
+        = sym (get-before reaches reach (length ts - k) below)
         ∙ ap (slice_get (reaches ++ reach ∷ [])) (sym place) ∙ there in
         let on : stand_after net to (take k ts) ≡ Some at
         = ap (option_and_then (λ next. stand_after net next (take k ts))) (sym after) ∙ stands in

@@ -12,7 +12,9 @@ use Rattle.net_model.specs.Keeps.{Keeps}
 use Rattle.walk_rules.specs.declared.place.Place.{Place}
 use Rattle.walk_rules.specs.Way.{Way, Away, Over, Own, Into, way_of, IsWayFrom}
 use Rattle.walk_rules.specs.Relation.{IsHow}
-use Rattle.walk_rules.specs.Walk.{arrival}
+use Rattle.walk_rules.specs.declared.place.Outcome.TheVariants as outcomes
+use Rattle.walk_rules.specs.Treatment.{member_of}
+use Rattle.walk_rules.specs.Walk.{arrival, next_place}
 use Rattle.walk_rules.proofs.PublicLaws.{sid-how, way-from}
 use Rattle.intent_reader.specs.Rules.{stand_after, first_end, node_after, is_at, IsIntent, is_intent, ends_in_function}
 use Rattle.intent_reader.specs.declared.intent.Step.{Step}
@@ -22,9 +24,68 @@ use Rattle.leg_table.specs.Tasks.{has_link}
 use Rattle.leg_table.specs.Ride.{Ride, one_if, more_lowered, ride_on, ride_by, ride_end, ride_of}
 use Rattle.leg_table.specs.Sids.{is_sid_at, sid_suits, title_suits, is_middle, node_at, step_before}
 use Rattle.leg_table.specs.Leg.{place_behind, place_from, is_via, is_start}
-use Rattle.leg_table.proofs.Links.{first_end-is, step_opens}
+use Rattle.leg_table.proofs.Links.{is_at-is, member-of_all, far_end-is, link_ends, first_end-is, step_opens}
 use Rattle.leg_table.proofs.Options.{map-some, if-some, some-same}
 use Rattle.leg_table.proofs.Rides.{arrived}
+
+-- ---- rides, a step at a time
+
+-- a packet to a destination is sent in a step: on links of the step, to where they all end
+pub record IsSent (net : Network) (destination : ℕ) (step : List ℕ) (place : Place) (set : List ℕ) (lower : Bool) (to : ℕ) : Type 0 where
+  pub way : way_of net place destination ≡ Over set lower
+  pub member : (choice : ℕ) → has_link step (member_of set choice) ≡ true
+  pub leads : (choice : ℕ) → next_place net place (outcomes.Send (member_of set choice)) ≡ Some (arrived to place)
+  pub lands : node_after net place.node (Links step) ≡ Some to
+
+-- what holds where a ride comes into a SID, and holds of a ride that begins with a step if it holds from there on, holds of all rides
+module _ (net : Network) (keeps : Keeps net) (destination : ℕ) (P : List Step → Place → Ride → Type 0)
+    (here : (ts : List Step) (place : Place) (n : ℕ) → way_of net place destination ≡ Into n
+    → P ts place (record { sid = n; place = place; left = ts; lowered = 0 }))
+    (later : (step : List ℕ) (ts : List Step) (place : Place) (set : List ℕ) (lower : Bool) (to : ℕ) (r : Ride)
+    → IsSent net destination step place set lower to → P ts (arrived to place) r → P (Links step ∷ ts) place (more_lowered lower r)) where
+  pub ride-each : (ts : List Step) (place : Place) (r : Ride) → IsHow net place.node place.how
+      → is_some (stand_after net place.node ts) ≡ true → ride_of net destination ts place ≡ Some r → P ts place r
+  ride-each [] place r how stands h = by_way (way_of net place destination) refl h
+    where
+      by_way : (w : Way) → way_of net place destination ≡ w → ride_end place w ≡ Some r → P [] place r
+      by_way (Away reason) e h = absurd (cc)
+      by_way Own e h = absurd (cc)
+      by_way (Over set lower) e h = absurd (cc)
+      by_way (Into n) e h = subst (P [] place) (some-same _ r h) (here [] place n e)
+  ride-each (t ∷ ts) place r how stands h =
+      by_way t (way_of net place destination) refl (way-from net place destination keeps how) stands h
+      (λ to q stands h. ride-each ts (arrived to place) q tt stands h)
+    where
+      by_way : (t : Step) (w : Way) → way_of net place destination ≡ w → IsWayFrom net place.node w
+          → is_some (stand_after net place.node (t ∷ ts)) ≡ true
+          → ride_by net place (t ∷ ts) t (ride_of net destination ts) w ≡ Some r
+          → ((to : ℕ) (q : Ride) → is_some (stand_after net to ts) ≡ true → ride_of net destination ts (arrived to place) ≡ Some q
+          → P ts (arrived to place) q)
+          → P (t ∷ ts) place r
+      by_way t (Away reason) e links stands h ih = absurd (cc)
+      by_way t Own e links stands h ih = absurd (cc)
+      by_way t (Into n) e links stands h ih = subst (P (t ∷ ts) place) (some-same _ r h) (here (t ∷ ts) place n e)
+      by_way (Function sid) (Over set lower) e links stands h ih = absurd (cc)
+      by_way (Links step) (Over set lower) e links stands h ih =
+          let opened = step_opens net place.node step ts stands in
+          let all = if-some (list_all (has_link step) set) _ r h in
+          let got = map-some (more_lowered lower) _ r all.1 in
+          let at : first_end net set ≡ Some opened.0 = first_end-is net opened.0 step set opened.1 all.0 links.some in
+          let on : ride_of net destination ts (arrived opened.0 place) ≡ Some got.0
+          = ap (λ (o : Option ℕ). ride_on (arrival o place) (ride_of net destination ts)) (sym at) ∙ got.1 in
+          let member = member-of_all (has_link step) set links.some all.0 in
+          subst (P (Links step ∷ ts) place) got.2
+          (later step ts place set lower opened.0 got.0
+          (record {
+            way = e;
+            member = member;
+            leads = λ choice.
+                ap (λ (o : Option ℕ). arrival o place)
+                (far_end-is (slice_get net.links (member_of set choice))
+                ∙ link_ends net opened.0 step (member_of set choice) opened.1 (member choice));
+            lands = opened.3;
+          })
+          (ih opened.0 got.0 opened.2 on))
 
 pub record RideFacts (net : Network) (destination : ℕ) (ts : List Step) (place : Place) (r : Ride) : Type 0 where
   pub count : ℕ
@@ -35,65 +96,26 @@ pub record RideFacts (net : Network) (destination : ℕ) (ts : List Step) (place
   pub stands : stand_after net place.node (take count ts) ≡ Some r.place.node
   pub family : r.place.family ≡ place.family
 
-module _ (net : Network) (keeps : Keeps net) (destination : ℕ) where
-  facts_here : (ts : List Step) (place : Place) (n : ℕ) → way_of net place destination ≡ Into n
-      → RideFacts net destination ts place (record { sid = n; place = place; left = ts; lowered = 0 })
-  facts_here ts place n e =
-      record { count = 0; within = omega arith; left = refl; lowered = omega arith; into = e; stands = refl; family = refl }
-
-  facts_later : (step : List ℕ) (ts : List Step) (place : Place) (to : ℕ) (lower : Bool) (r : Ride)
-      → node_after net place.node (Links step) ≡ Some to
-      → RideFacts net destination ts (arrived to place) r
-      → RideFacts net destination (Links step ∷ ts) place (more_lowered lower r)
-  facts_later step ts place to lower r e f =
-      record {
-        count = suc f.count;
-        within = omega (arith, f.within);
-        left = f.left;
-        lowered = bound lower;
-        into = f.into;
-        stands = ap (option_and_then (λ next. stand_after net next (take f.count ts))) e ∙ f.stands;
-        family = f.family;
-      }
-    where
-      bound : (lower : Bool) → one_if lower + r.lowered ≤ suc f.count
-      bound true = omega (arith, f.lowered)
-      bound false = omega (arith, f.lowered)
-
-  pub ride-facts : (ts : List Step) (place : Place) (r : Ride) → IsHow net place.node place.how
-      → is_some (stand_after net place.node ts) ≡ true
-      → ride_of net destination ts place ≡ Some r → RideFacts net destination ts place r
-  ride-facts [] place r how stands h = by_way (way_of net place destination) refl h
-    where
-      by_way : (w : Way) → way_of net place destination ≡ w → ride_end place w ≡ Some r → RideFacts net destination [] place r
-      by_way (Away reason) e h = absurd (cc)
-      by_way Own e h = absurd (cc)
-      by_way (Over set lower) e h = absurd (cc)
-      by_way (Into n) e h = subst (RideFacts net destination [] place) (some-same _ r h) (facts_here [] place n e)
-  ride-facts (t ∷ ts) place r how stands h =
-      by_way t (way_of net place destination) refl (way-from net place destination keeps how) stands h
-      (λ to q stands h. ride-facts ts (arrived to place) q tt stands h)
-    where
-      by_way : (t : Step) (w : Way) → way_of net place destination ≡ w → IsWayFrom net place.node w
-          → is_some (stand_after net place.node (t ∷ ts)) ≡ true
-          → ride_by net place (t ∷ ts) t (ride_of net destination ts) w ≡ Some r
-          → ((to : ℕ) (q : Ride) → is_some (stand_after net to ts) ≡ true → ride_of net destination ts (arrived to place) ≡ Some q
-          → RideFacts net destination ts (arrived to place) q)
-          → RideFacts net destination (t ∷ ts) place r
-      by_way t (Away reason) e links stands h ih = absurd (cc)
-      by_way t Own e links stands h ih = absurd (cc)
-      by_way t (Into n) e links stands h ih =
-          subst (RideFacts net destination (t ∷ ts) place) (some-same _ r h) (facts_here (t ∷ ts) place n e)
-      by_way (Function sid) (Over set lower) e links stands h ih = absurd (cc)
-      by_way (Links step) (Over set lower) e links stands h ih =
-          let opened = step_opens net place.node step ts stands in
-          let all = if-some (list_all (has_link step) set) _ r h in
-          let got = map-some (more_lowered lower) _ r all.1 in
-          let at : first_end net set ≡ Some opened.0 = first_end-is net opened.0 step set opened.1 all.0 links.some in
-          let later : ride_of net destination ts (arrived opened.0 place) ≡ Some got.0
-          = ap (λ (o : Option ℕ). ride_on (arrival o place) (ride_of net destination ts)) (sym at) ∙ got.1 in
-          subst (RideFacts net destination (Links step ∷ ts) place) got.2
-          (facts_later step ts place opened.0 lower got.0 opened.3 (ih opened.0 got.0 opened.2 later))
+pub ride-facts : (net : Network) → Keeps net → (destination : ℕ) (ts : List Step) (place : Place) (r : Ride) → IsHow net place.node place.how
+    → is_some (stand_after net place.node ts) ≡ true → ride_of net destination ts place ≡ Some r → RideFacts net destination ts place r
+ride-facts net keeps destination =
+    ride-each net keeps destination (RideFacts net destination)
+    (λ ts place n e.
+    record { count = 0; within = omega arith; left = refl; lowered = omega arith; into = e; stands = refl; family = refl })
+    (λ step ts place set lower to r sent f.
+    record {
+      count = suc f.count;
+      within = omega (arith, f.within);
+      left = f.left;
+      lowered = bound lower r.lowered f.count f.lowered;
+      into = f.into;
+      stands = ap (option_and_then (λ next. stand_after net next (take f.count ts))) sent.lands ∙ f.stands;
+      family = f.family;
+    })
+  where
+    bound : (lower : Bool) (lowered count : ℕ) → lowered ≤ count → one_if lower + lowered ≤ suc count
+    bound true lowered count few = omega arith
+    bound false lowered count few = omega arith
 
 -- where the walk stands after some steps and then others
 pub stand_after-append : (net : Network) (node : ℕ) (xs ys : List Step)
@@ -115,10 +137,6 @@ stand_after-split net node to steps position e =
     ap (stand_after net node) (sym (take-append-drop position steps))
     ∙ stand_after-append net node (take position steps) (drop position steps)
     ∙ ap (option_and_then (λ n. stand_after net n (drop position steps))) e
-
-pub is_at-is : (to : ℕ) (o : Option ℕ) → is_at to o ≡ true → o ≡ Some to
-is_at-is to None h = absurd (false≢true h)
-is_at-is to (Some n) h = ap Some (eqb-true n to h)
 
 -- a SID of a position is there, and stands where the walk stands
 pub sid-at : (net : Network) (intent : Intent) (position n : ℕ) → is_sid_at net intent position n ≡ true

@@ -1,5 +1,5 @@
 -- The place from which a packet goes to the next SID, and the way from it by what was gathered.
-use Rattle.std.proofs.Common.{◌≡◌, ℕ, zero, suc, ◌+◌, ◌<◌, ◌≤◌, true, List, [], ◌∷◌, length, take, drop, Option, Some, None, slice_get, refl, sym, ◌∙◌, ap, subst, arith, add-one}
+use Rattle.std.proofs.Common.{◌≡◌, ℕ, ◌+◌, ◌<◌, ◌≤◌, true, List, [], ◌∷◌, length, take, drop, Option, Some, None, refl, sym, ◌∙◌, ap, subst, arith, add-one}
 use Rattle.std.specs.Prelude.{is_some, IfSome}
 use Rattle.std.specs.Option.{option_and_then}
 use Rattle.std.proofs.lemmas.List.{length-drop}
@@ -17,7 +17,7 @@ use Rattle.leg_table.specs.Leg.{is_start, place_from, start_of}
 use Rattle.leg_table.specs.declared.reach.Reach.{Reach}
 use Rattle.leg_table.specs.Sids.{node_at}
 use Rattle.leg_table.specs.Reach.{way_along, stand, AreWays, IsReach, AreLater, way_at, IsStart}
-use Rattle.leg_table.proofs.Options.{then-some, if-some, some-same}
+use Rattle.leg_table.proofs.Options.{drop-first, then-some, if-some, some-same}
 use Rattle.leg_table.proofs.RideFacts.{start-facts, intent-stands, stand_after-split}
 use Rattle.leg_table.proofs.ReachRows.{after-within, after-opens, after-stands}
 use Rattle.leg_table.proofs.Placing.{step-lands}
@@ -34,14 +34,6 @@ stands-within net keeps node to (t ∷ ts) here e =
 some-there : (o : Option ℕ) → is_some o ≡ true → (x : ℕ) × (o ≡ Some x)
 some-there None h = absurd (false≢true h)
 some-there (Some x) h = (x, refl)
-
--- the first of what is left from a place on, and what is left behind it
-drop-first : (xs : List Step) (n : ℕ) (x : Step) (ys : List Step) → drop n xs ≡ x ∷ ys
-    → (slice_get xs n ≡ Some x) × (drop (suc n) xs ≡ ys)
-drop-first [] zero x ys e = absurd (cc)
-drop-first [] (suc n) x ys e = absurd (cc)
-drop-first (y ∷ xs) zero x ys e = (cc, cc)
-drop-first (y ∷ xs) (suc n) x ys e = drop-first xs n x ys e
 
 module _ (net : Network) (keeps : Keeps net) (intent : Intent) (is_intent : IsIntent net intent) where
   pub start-is : (position : ℕ) (via : Option ℕ) (place : Place) → Some place ≡ start_of net intent position via

@@ -30,13 +30,13 @@ use Rattle.leg_table.specs.Value.{legs_value}
 use Rattle.leg_table.proofs.FlatNets.{FlatFacts}
 use Rattle.net_model.specs.declared.parts.Block.{Block}
 use Rattle.leg_table.proofs.Shapes.{shape-is, shapes-share}
-use Rattle.leg_table.proofs.Options.{some-same, if-some}
+use Rattle.leg_table.proofs.Options.{drop-first, some-same, if-some}
 use Rattle.leg_table.proofs.RideFacts.{ride-facts, start-facts, intent-stands, stand_after-append}
 use Rattle.leg_table.proofs.NextRides.{NextRide, leg-ride, finish-ride}
 use Rattle.leg_table.proofs.Placing.{step-lands}
 use Rattle.leg_table.proofs.Positions.{are-sids, sids-few}
 
-shape-middle : (blocks : List Block) (o : Option SidEntry) → (shape_by blocks o).middle ≡ sid_goes_on o
+pub shape-middle : (blocks : List Block) (o : Option SidEntry) → (shape_by blocks o).middle ≡ sid_goes_on o
 shape-middle blocks None = refl
 shape-middle blocks (Some s) = refl
 
@@ -79,13 +79,6 @@ drop-drop zero m xs = let e : 0 + m ≡ m = omega arith in rw e refl
 drop-drop (suc n) zero [] = let e : suc n + 0 ≡ suc n = omega arith in rw e refl
 drop-drop {X} (suc n) (suc m) [] = let e : suc n + suc m ≡ suc (n + suc m) = omega arith in rw e refl
 drop-drop {X} (suc n) m (x ∷ xs) = let e : suc n + m ≡ suc (n + m) = omega arith in rw e (drop-drop n m xs)
-
--- the first of what is left from a place on
-get-drop : {X : Type 0} (xs : List X) (n : ℕ) (x : X) (ys : List X) → drop n xs ≡ x ∷ ys → slice_get xs n ≡ Some x
-get-drop [] zero x ys e = absurd (cc)
-get-drop [] (suc n) x ys e = absurd (cc)
-get-drop (y ∷ xs) zero x ys e = cc
-get-drop (y ∷ xs) (suc n) x ys e = get-drop xs n x ys e
 
 module _ (net : Network) (keeps : Keeps net) (intent : Intent) (is_intent : IsIntent net intent) where
   -- where a ride ends: the SID stands there, and so many steps are done
@@ -168,7 +161,7 @@ module _ (net : Network) (keeps : Keeps net) (intent : Intent) (is_intent : IsIn
           let count : length ts ≡ left = some-same (length ts) left got.1 in
           let l = ap length e in
           let k = length-drop a.done intent.steps in
-          let at = get-drop intent.steps a.done (Function m) ts e in
+          let at = (drop-first intent.steps a.done (Function m) ts e).0 in
           let below : a.done < length intent.steps = slice_get_within intent.steps a.done (Function m) at in
           let after : node_after net a.sid.node (Function m) ≡ Some a.sid.node
           = ap (λ (j : ℕ). function_node a.sid.node (slice_get net.sids j)) same

@@ -9,4 +9,5 @@ pub mod OneLeg
 pub mod Value
 pub mod Course
 pub mod Realizes
+pub mod Meant
 pub mod Reach

@@ -1,15 +1,19 @@
 -- Laws of one leg and of one finish, for each kind of legs: what becomes of a packet on its way along a list, from one SID to the next.
-use Rattle.std.specs.Prelude.{◌≡◌, ℕ, ◌+◌, ◌-◌, ◌<◌, ◌≤◌, Bool, false, List, [], ◌∷◌, ◌++◌, drop, map, All, Option, Some, None, IsTrue}
+use Rattle.std.specs.Prelude.{◌≡◌, ℕ, ◌+◌, ◌-◌, ◌<◌, ◌≤◌, Bool, false, List, [], ◌∷◌, ◌++◌, drop, All, Option, Some, None, IsTrue}
 use Rattle.v6_addr.specs.Address.{PrefixValue}
 use Rattle.srv6_rules.specs.Packet.{Packet, read_as}
 use Rattle.net_model.specs.Network.{Network}
+use Rattle.net_model.specs.Rules.{IsNetwork}
+use Rattle.net_model.specs.Flat.{IsFlat}
 use Rattle.intent_reader.specs.declared.intent.Step.{Step}
 use Rattle.intent_reader.specs.declared.intent.Intent.{Intent}
 use Rattle.list_places.specs.Lists.{ListSid}
 use Rattle.list_places.specs.Places.{ListPlace, Tunnel, Along, active, behind_of, next_of}
 use Rattle.list_pack.specs.declared.types.Leg.{Leg}
 use Rattle.list_pack.specs.SidLists.{IsSidPrefix, list_sid}
-use Rattle.list_pack.specs.Value.{LegsValue, IsVia}
+use Rattle.list_pack.specs.Meaning.{AreSidsOf}
+use Rattle.list_pack.specs.Paths.{SuitsLists}
+use Rattle.list_pack.specs.Value.{LegsValue, IsVia, KeepsLaws}
 use Rattle.leg_table.specs.Tasks.{matches}
 use Rattle.leg_table.specs.Trace.{Event, Handed}
 
@@ -55,8 +59,8 @@ pub record OnWay (k : LegKind) (t : Tunnel) (x : ListPlace) (hop : ℕ) (p : Pac
   pub along : Along t x hop p
   pub to : active x ≡ sid_in k next
 
--- under a row of choices a packet is taken along a leg: to the list's next place, by at most the leg's hops and along its steps; and what
--- is handed over is what is handed over from there
+-- under a row of choices a packet is taken along a leg: to the list's next place, by at most the leg's hops and along its steps, by a SID
+-- that may be executed; and what is handed over is what is handed over from there
 pub record IsTakenOn (k : LegKind) (t : Tunnel) (y : ListPlace) (position : ℕ) (via : Option ℕ) (next : ℕ) (leg : Leg) (hop : ℕ) (p : Packet)
     (pick : ℕ → ℕ) (taken : ℕ)
     : Type 0 where
@@ -64,6 +68,7 @@ pub record IsTakenOn (k : LegKind) (t : Tunnel) (y : ListPlace) (position : ℕ)
   pub few : lowered ≤ leg.hops
   pub packet : Packet
   pub along : Along t y (hop - lowered) packet
+  pub allowed : k.barred next ≡ false
   pub events : List Event
   pub leads : Leads k position events leg.to
   pub count : ℕ
@@ -71,13 +76,14 @@ pub record IsTakenOn (k : LegKind) (t : Tunnel) (y : ListPlace) (position : ℕ)
   pub passes : (fuel : ℕ) (h : Handed) → k.hand fuel (Some next) packet pick chosen ≡ Some h
       → k.hand (count + fuel) via p pick taken ≡ Some (after_leg events next h)
 
--- a packet is handed over by SIDs, along the steps from a position on: the packet inside
+-- a packet is handed over by SIDs that may be executed, along the steps from a position on: the packet inside
 pub record HandsBy (k : LegKind) (t : Tunnel) (position : ℕ) (via : Option ℕ) (p : Packet) (ns : List ℕ) (pick : ℕ → ℕ) (taken : ℕ)
     : Type 0 where
   pub handed : Handed
   pub over : HandsOver k via p pick taken handed
   pub meets : IsTrue (matches (steps_from k position) handed.trace)
   pub sids : handed.sids ≡ ns
+  pub allowed : All (λ n. k.barred n ≡ false) handed.sids
   pub content : handed.content ≡ read_as t.inner t.bytes
 
 -- what is handed over of a packet on a leg is handed over from the list's next place; on a longest way as many hops behind as the leg has
@@ -129,3 +135,16 @@ pub record LegLaws (k : LegKind) (Longest : Option ℕ → Packet → (ℕ → �
       → 0 < hop → AlwaysHands k via p (steps_from k position) → BecomesOf k Longest t x q position via hop p
   -- each packet has a longest way
   pub some_longest : (via : Option ℕ) (p : Packet) → (pick : ℕ → ℕ) × Longest via p pick 0
+
+-- what a kind of legs keeps, from which follows what lists mean: the laws of legs, SIDs of a flat network, the laws of one leg and one
+-- finish for all packets of the intent, and how many choices matter to a packet from the headend that is handed over along the steps
+pub record KindLaws (k : LegKind) (Longest : Option ℕ → Packet → (ℕ → ℕ) → ℕ → Type 0) : Type 0 where
+  pub network : IsNetwork k.net
+  pub flat : IsFlat k.net
+  pub legs : KeepsLaws k.legs
+  pub sids : AreSidsOf k.legs k.net
+  pub suits : SuitsLists k.legs (list_sid k.net)
+  pub one : (t : Tunnel) → t.inner ≡ k.intent.inner → LegLaws k Longest t
+  pub matter : Packet → ℕ
+  pub agree : (p : Packet) (pick other : ℕ → ℕ) (h : Handed) → ((d : ℕ) → d < matter p → pick d ≡ other d)
+      → HandsOver k None p pick 0 h → IsTrue (matches k.intent.steps h.trace) → HandsOver k None p other 0 h

@@ -11,8 +11,9 @@
 //! whichever next hop is chosen, `specs/Ride.antt` those by look-ups alone, `specs/Sids.antt` the
 //! SIDs of a position, `specs/Leg.antt` legs and finishes, `specs/Value.antt` what a search sees of
 //! them. `specs/OneLeg.antt` has the laws of one leg and one finish, which say what paths are,
-//! whatever kind of legs keeps them. The functions of `laws` do nothing: their contracts are the
-//! laws that lead from look-ups to lists.
+//! whatever kind of legs keeps them, and `specs/Meant.antt` when a list realizes by legs of a kind.
+//! The functions of `laws` do nothing: their contracts are the laws that lead from look-ups to
+//! lists.
 #![tactic(auto)]
 
 mod laws;

@@ -1,11 +1,10 @@
-use Rattle.leg_table.proofs.FlatNets.{flat-facts}
-use Rattle.leg_table.proofs.Realizing.{path-realizes, path-counts}
+use Rattle.leg_table.proofs.StrictMeanings.{path-realizes}
 use Rattle.leg_table.proofs.laws.a_path_realizes_the_intent.Goals as goal
 
 pub returns-clause-realizes : goal.returns-clause-realizes
 returns-clause-realizes c = λ net intent list sids need network flat is_intent legal names is_path.
-    path-realizes net network flat (flat-facts net network flat) intent is_intent list legal sids need names is_path
+    (path-realizes net intent network flat is_intent list legal sids need names is_path).0
 
 pub returns-clause-executes : goal.returns-clause-executes
 returns-clause-executes c = λ net intent list sids need network flat is_intent legal names is_path.
-    path-counts net network flat (flat-facts net network flat) intent is_intent list legal sids need names is_path
+    (path-realizes net intent network flat is_intent list legal sids need names is_path).1

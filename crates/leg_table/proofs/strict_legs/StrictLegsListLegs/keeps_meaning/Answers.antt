@@ -1,4 +1,4 @@
-use Rattle.leg_table.proofs.Meanings.{legs-mean}
+use Rattle.leg_table.proofs.StrictMeanings.{legs-mean}
 use Rattle.leg_table.proofs.strict_legs.StrictLegsListLegs.keeps_meaning.Goals as goal
 
 pub returns : goal.returns

@@ -1,0 +1,171 @@
+-- The paths of strict legs are the legal lists that realize the intent.
+use Rattle.std.proofs.Common.{◌≡◌, ℕ, suc, ◌<◌, arith, List, [], ◌∷◌, length, map, Some, None, refl, sym, ◌∙◌, ap, subst, zero-add}
+use Rattle.srv6_rules.specs.Packet.{Content, V6}
+use Rattle.net_model.specs.Network.{Network}
+use Rattle.net_model.specs.Keeps.{Keeps}
+use Rattle.net_model.specs.Rules.{IsNetwork}
+use Rattle.net_model.specs.Flat.{IsFlat}
+use Rattle.net_model.proofs.PublicLaws.{keeps_from_network}
+use Rattle.walk_rules.specs.Walk.{choice_at}
+use Rattle.intent_reader.specs.Rules.{IsIntent}
+use Rattle.intent_reader.specs.declared.intent.Intent.{Intent}
+use Rattle.list_pack.specs.declared.types.Container.{Container}
+use Rattle.list_pack.specs.SidLists.{IsLegalList, list_values, prefixes_in}
+use Rattle.list_pack.specs.Meaning.{AreSidsOf, IsShapeOf, Means}
+use Rattle.leg_table.specs.OneLeg.{LegKind, KindLaws}
+use Rattle.leg_table.specs.Meant.{HandsInner, IsRealizing, IsExecuting, IsHanding}
+use Rattle.leg_table.specs.Realizes.{headend_place, path_need, HandsOver, AlwaysHandsOver, ListRealizes, ListExecutes, ListHands, IsPathAlong}
+use Rattle.leg_table.specs.Sids.{prefix_at}
+use Rattle.leg_table.specs.Table.{shape_by, node_by}
+use Rattle.leg_table.specs.Value.{legs_value, strict_kind, AnyWay}
+use Rattle.leg_table.proofs.FlatNets.{FlatFacts, flat-facts}
+use Rattle.leg_table.proofs.Handing.{hands-agree}
+use Rattle.leg_table.proofs.ListPlaces.{before-first}
+use Rattle.leg_table.proofs.ListShapes.{suits-by, there}
+use Rattle.leg_table.proofs.Meanings as means
+use Rattle.leg_table.proofs.PathNames.{hops-need, shapes-prefixes}
+use Rattle.leg_table.proofs.Realizing as any
+use Rattle.leg_table.proofs.StrictLaws.{strict-laws}
+use Rattle.leg_table.proofs.StrictLegLaws.{strict-leg_laws}
+
+module _ (net : Network) (intent : Intent) (network : IsNetwork net) (flat : IsFlat net) (is_intent : IsIntent net intent) where
+  abbrev k : LegKind
+  k = strict_kind net intent
+
+  keeps : Keeps net
+  keeps = keeps_from_network net network
+
+  facts : FlatFacts net
+  facts = flat-facts net network flat
+
+  sids-of : AreSidsOf (legs_value net intent) net
+  sids-of n is =
+      let s = there net keeps facts.suits intent n is in (
+        s.0,
+        s.1,
+        subst (IsShapeOf net s.0) (sym (ap (shape_by net.blocks) s.1)) (record { prefix = refl; block = refl; lbl = refl; csid = refl }),
+        sym (ap node_by s.1),
+      )
+
+  -- strict legs keep the laws of their kind; as many choices matter as there are steps, and one more
+  pub strict-kind_laws : KindLaws k AnyWay
+  strict-kind_laws =
+      record {
+        network = network;
+        flat = flat;
+        legs = strict-laws net intent keeps facts is_intent;
+        sids = sids-of;
+        suits = suits-by net keeps facts.suits intent;
+        one = λ t family. strict-leg_laws net network flat facts intent is_intent t family;
+        matter = λ p. suc (length intent.steps);
+        agree = λ p pick other h same over met. (
+          over.0,
+          hands-agree net over.0 intent.steps (Some (headend_place intent)) (V6 p) pick other 0 0 h
+              (λ d few. ap pick (zero-add d) ∙ same d (omega arith) ∙ sym (ap other (zero-add d))) met over.1,
+        );
+      }
+
+  -- ---- realizing by the kind is realizing
+
+  abbrev to-kind : {segments : List ℕ} {inner : Content} {hop : ℕ} {choices : List ℕ} → HandsOver net intent segments inner hop choices
+      → HandsInner k segments inner hop choices
+  to-kind o = record { handed = o.handed; over = (o.fuel, o.first); steps = o.steps; content = o.content; allowed = o.unbound }
+
+  abbrev of-kind : {segments : List ℕ} {inner : Content} {hop : ℕ} {choices : List ℕ} → HandsInner k segments inner hop choices
+      → HandsOver net intent segments inner hop choices
+  of-kind o =
+      record { fuel = o.over.0; handed = o.handed; first = o.over.1; steps = o.steps; content = o.content; unbound = o.allowed }
+
+  realizes-of : (list : List Container) (need : ℕ) → IsRealizing k list need → ListRealizes net intent list need
+  realizes-of list need r =
+      record {
+        reaches = λ inner ok hop above choices some. of-kind (r.reaches inner ok hop above choices some);
+        least = λ n reaches. r.least n (λ inner ok hop above choices some. to-kind (reaches inner ok hop above choices some));
+      }
+
+  to-realizes : (list : List Container) (need : ℕ) → ListRealizes net intent list need → IsRealizing k list need
+  to-realizes list need r =
+      record {
+        reaches = λ inner ok hop above choices some. to-kind (r.reaches inner ok hop above choices some);
+        least = λ n reaches. r.least n (λ inner ok hop above choices some. of-kind (reaches inner ok hop above choices some));
+      }
+
+  executes-of : (list : List Container) (count : ℕ) → IsExecuting k list count → ListExecutes net intent list count
+  executes-of list count e = λ inner hop choices h. e inner hop choices (to-kind h)
+
+  to-handing : (list : List Container) (hop : ℕ) → ListHands net intent list hop → IsHanding k list hop
+  to-handing list hop h =
+      record { positive = h.positive; inner = h.inner; always = λ choices some. to-kind (h.always choices some) }
+
+  -- the legs mean the lists that realize the intent
+  pub legs-mean : Means (legs_value net intent) net (ListRealizes net intent) (ListExecutes net intent) (ListHands net intent)
+  legs-mean =
+      let kind = means.kind-means k AnyWay strict-kind_laws in
+      record {
+        sids = kind.sids;
+        suits = kind.suits;
+        lists = λ moves c cost.
+            let is = kind.lists moves c cost in
+            record {
+              of_path = is.of_path;
+              legal = is.legal;
+              realizes = realizes-of _ _ is.realizes;
+              executes = executes-of _ _ is.executes;
+            };
+        paths = λ list need legal real.
+            let path = kind.paths list need legal (to-realizes list need real) in
+            record {
+              moves = path.moves;
+              hops = path.hops;
+              cost = path.cost;
+              within = path.within;
+              whole = λ executes. path.whole (λ inner hop choices h. executes inner hop choices (of-kind h));
+            };
+        handing = λ list hop legal hands. kind.handing list hop legal (to-handing list hop hands);
+      }
+
+  -- ---- paths as they are said of strict legs
+
+  module _ (list : List Container) (legal : IsLegalList net list) where
+    -- a path of legs and a finish realizes the intent, and wherever it is handed over, all its SIDs are executed
+    pub path-realizes : (sids : List ℕ) (need : ℕ) → map (prefix_at net) sids ≡ prefixes_in list
+        → path_need net intent 0 None sids ≡ Some need
+        → ListRealizes net intent list need × ListExecutes net intent list (length (prefixes_in list))
+    path-realizes [] need names h = absurd (cc)
+    path-realizes (next ∷ more) need names h =
+        let same = shapes-prefixes net (next ∷ more) ∙ names in
+        let path = hops-need net intent (next ∷ more) 0 None ∙ h in (
+          realizes-of _ _ (any.path-realizes k AnyWay strict-kind_laws list legal next more need same path),
+          executes-of _ _ (any.path-counts k AnyWay strict-kind_laws list legal next more need same path),
+        )
+
+    -- a list that hands over for all choices is along a path
+    pub list-path : (inner : Content) (hop : ℕ) → 0 < hop → (always : AlwaysHandsOver net intent (list_values net list) inner hop)
+        → (sids : List ℕ) × (need : ℕ) × IsPathAlong net intent list sids need × (need < hop)
+        × ((choices : List ℕ) (some : 0 < length choices) → (always choices some).handed.sids ≡ sids)
+    list-path inner hop positive always =
+        let p = any.list-path k AnyWay strict-kind_laws list legal inner hop positive (λ choices some. to-kind (always choices some)) in
+        let ns : List ℕ = p.first ∷ p.more in
+        let last = p.last in
+        let first = any.first-place k AnyWay strict-kind_laws list legal in (
+          ns,
+          p.need,
+          record {
+            is_path = sym (hops-need net intent ns 0 None) ∙ p.is_path;
+            names = sym (shapes-prefixes net ns) ∙ p.names;
+            few = p.few;
+            last = let before = before-first net list first.0 first.1 in omega (arith, before, last);
+          },
+          p.below,
+          λ choices some. p.executes (choice_at choices) 0 (always choices some).handed tt
+              ((always choices some).fuel, (always choices some).first),
+        )
+
+    -- where it hands over even one inner packet at a hop limit, one of as many containers realizes with a need below that
+    pub hands-realizes : (inner : Content) (hop : ℕ) → 0 < hop → AlwaysHandsOver net intent (list_values net list) inner hop
+        → (other : List Container) × (need : ℕ) × IsLegalList net other × ListRealizes net intent other need
+        × (length other ≡ length list) × (need < hop)
+    hands-realizes inner hop positive always =
+        let got = means.hands-realizes k AnyWay strict-kind_laws list legal hop
+        (to-handing list hop (record { positive = positive; inner = inner; always = always })) in
+        (got.0, got.1, got.2, realizes-of _ _ got.3, got.4, got.5)
