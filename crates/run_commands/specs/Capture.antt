@@ -1,8 +1,9 @@
 -- Which frames the capture that is written has: those of packets that are sent, and of ICMPv6 errors.
-use Rattle.std.specs.Prelude.{ℕ, ◌+◌, List, [], Option, None, Some}
+use Rattle.std.specs.Prelude.{ℕ, ◌+◌, ◌<◌, ◌≤◌, List, [], length, Option, None, Some, ⊤}
 use Rattle.std.specs.List.{flat_map}
 use Rattle.pcap_io.specs.Capture.{written_frame_bytes}
-use Rattle.srv6_rules.specs.Packet.{Packet, Content, bytes_of, spelling}
+use Rattle.srv6_rules.specs.Packet.{Packet, Content, bytes_of, most_len, spelling}
+use Rattle.net_model.specs.declared.limits.TheConstants.{MAX_LINKS}
 use Rattle.walk_rules.specs.declared.place.Outcome.{Outcome}
 use Rattle.walk_rules.specs.declared.place.Outcome.TheVariants as outcomes
 use Rattle.walk_rules.specs.Treatment.{Gave}
@@ -28,3 +29,11 @@ frame_of_gave number gave = frame_by number gave.outcome gave.after gave.error
 -- the frames of a packet's walk
 abbrev pub frames_of : ℕ → List Stage → List ℕ
 frames_of number steps = flat_map (λ step. frame_of_gave number step.gave) steps
+
+-- what a Send names is there, and its packet is no longer than a packet can be
+abbrev pub IsWritable : Outcome → List ℕ → Type 0
+IsWritable (outcomes.Send link) packet = (link < MAX_LINKS) × (length packet ≤ most_len)
+IsWritable (outcomes.Again sid how) packet = ⊤
+IsWritable (outcomes.Hand sid how family) packet = ⊤
+IsWritable outcomes.Local packet = ⊤
+IsWritable (outcomes.Drop reason told) packet = ⊤

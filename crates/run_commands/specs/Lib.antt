@@ -1,4 +1,6 @@
 pub mod Capture
+pub mod Scheduled
+pub mod Entry
+pub mod AtNode
 pub mod Run
 pub mod Show
-pub mod Scheduled

@@ -1,16 +1,21 @@
-//! The commands `run` and `show`, and packets walked with their frames written.
+//! The commands `run` and `show`, and the one driver of packets.
 //!
 //! `specs/Run.antt` and `specs/Show.antt` have their words, their shapes and their outputs;
-//! `specs/Scheduled.antt` says what packets send in the order of a schedule.
+//! `specs/Entry.antt` says what is written of packets by what becomes of them before their first
+//! stages, and `specs/Scheduled.antt` what they send in the order of a schedule.
 #![tactic(auto)]
 
+mod at_node;
+mod course;
+mod driver;
+mod enters;
 pub mod laws;
 pub mod run;
-mod run_scheduled;
 mod scheduled;
 pub mod show;
 mod walk;
 
-pub use run::write_head;
-pub use scheduled::{Entered, write_turns};
-pub use walk::{Buffers, staged, write_walk};
+pub use course::Course;
+pub use driver::drive;
+pub use enters::{Comes, Enters, Stays};
+pub use walk::staged;

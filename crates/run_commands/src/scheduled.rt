@@ -5,16 +5,17 @@ ghost use Rattle.icmp6_errors.specs.Answer.{error_bytes};
 ghost use Rattle.packet_walk.specs.Flight.{IsGiven, entered, entering, packet_of, turned};
 ghost use Rattle.packet_walk.specs.Schedule.{comings_of, next_of};
 ghost use Rattle.srx_edge.specs.Steps.{Wrote};
-ghost use Rattle.srv6_rules.specs.Packet.{Packet as PacketValue};
+ghost use Rattle.srv6_rules.specs.Packet.{Packet as PacketValue, bytes_of};
 ghost use Rattle.walk_rules.specs.Laws.{TellsOfError};
 ghost use Rattle.walk_rules.specs.Relation.{IsPlace};
 ghost use Rattle.command_output.specs.Answers.{ending_of_step};
-ghost use Rattle.run_commands.specs.Capture.{frame_by};
+ghost use Rattle.run_commands.specs.Capture.{IsWritable, frame_by};
 ghost use Rattle.command_output.specs.Pieces.{WroteAll, sinks_of};
 ghost use Rattle.run_commands.specs.Scheduled.{IsInStep, line_by, pieces_of_stage, scheduled_pieces};
-ghost use Rattle.command_output.specs.Sent.{IsEnd, IsWritable};
+ghost use Rattle.command_output.specs.Sent.{IsEnd};
 
-use crate::walk::write_frame;
+use crate::course::Course;
+use crate::walk::write_sent;
 use base::NoMemory;
 use command_output::{Failure, line_of_packet, write_all};
 use net_model::Net;
@@ -26,16 +27,16 @@ use walk_rules::{Outcome, Place};
 
 /// Packets that entered, with the numbers of their frames. (own rule)
 #[derive(Debug, Drop)]
-pub struct Entered<'a> {
+pub(crate) struct Entered<'a> {
     /// The packets.
-    pub flight: Flight<'a>,
+    pub(crate) flight: Flight<'a>,
     /// The numbers of their frames, in the order of entering, in which they rise.
-    pub numbers: Vec<u32>,
+    pub(crate) numbers: Vec<u32>,
 }
 
 impl<'a> Entered<'a> {
     /// None yet; takes no memory. (own rule)
-    pub fn new(alloc: Global, net: &'a Net) -> Entered<'a>
+    pub(crate) fn new(alloc: Global, net: &'a Net) -> Entered<'a>
         ensures flight { result.flight ≡ record { net = net.now; error = []; packets = [] } }
         ensures numbers { result.numbers.items ≡ [] }
     {
@@ -45,9 +46,9 @@ impl<'a> Entered<'a> {
         }
     }
 
-    /// What stands at a place enters there behind the packets before it, with the number of its frame,
+    /// What stands at a place enters there after the packets before it, with the number of its frame,
     /// and with the choices of its decisions (own rule). `NoMemory` leaves all as it was.
-    pub fn enter(
+    pub(crate) fn enter(
         &mut self,
         number: u32,
         content: Content,
@@ -72,35 +73,31 @@ impl<'a> Entered<'a> {
     }
 }
 
-/// Writes what a packet's stage sends, with the number of its frame: the packet on a link, or the
-/// ICMPv6 error about what is dropped.
-#[tactic(auto, using(crate::proofs::Walking::errors))]
-fn write_stage<O: Sink>(
-    flight: &Flight<'_>,
+/// A packet of a flight, and the number of its frame.
+#[derive(Clone, Copy)]
+struct Turn {
     packet: u32,
     number: u32,
+}
+
+/// Writes what a packet's stage sends, with the number of its frame.
+fn write_stage<O: Sink>(
+    flight: &Flight<'_>,
+    turn: Turn,
     outcome: &Outcome,
     room: &mut Vec<u8>,
     out: &mut O,
 ) -> Result<(), Failure>
-    requires given { IsGiven flight.now packet }
-    requires writable { IfSome (packet_of flight.now packet)
-        (λ p. IsWritable outcome.now p.content) }
-    ensures { IfSome (packet_of flight.now packet) (λ p. (told : Option PacketValue)
+    requires given { IsGiven flight.now turn.packet }
+    requires writable { IfSome (packet_of flight.now turn.packet)
+        (λ p. IsWritable outcome.now (bytes_of p.content)) }
+    ensures { IfSome (packet_of flight.now turn.packet) (λ p. (told : Option PacketValue)
         → TellsOfError outcome.now told → flight.now.error ≡ error_bytes told
-        → Wrote (ending_of_step result) (frame_by number outcome.now p.content told)
+        → Wrote (ending_of_step result) (frame_by turn.number outcome.now p.content told)
         (O.seen out.old) (O.seen out.new)) }
 {
-    match outcome {
-        Outcome::Send { link } => write_frame(number, *link + 1, flight.bytes(packet), room, out),
-        Outcome::Drop { error: told, .. } => {
-            if !*told {
-                return Ok(());
-            }
-            write_frame(number, 0, flight.error(), room, out)
-        }
-        Outcome::Again { .. } | Outcome::Hand { .. } | Outcome::Local => Ok(()),
-    }
+    let (packet, error) = (flight.bytes(turn.packet), flight.error());
+    write_sent(turn.number, outcome, packet, error, room, out)
 }
 
 /// Writes the line of a packet, with the number of its frame, if it has ended.
@@ -109,19 +106,18 @@ fn write_end<E: Sink>(
     alloc: Global,
     net: &Net,
     flight: &Flight<'_>,
-    packet: u32,
-    number: u32,
+    turn: Turn,
     err: &mut E,
 ) -> Result<(), Failure>
-    requires given { IsGiven flight.now packet }
-    requires within { IfSome (packet_of flight.now packet)
+    requires given { IsGiven flight.now turn.packet }
+    requires within { IfSome (packet_of flight.now turn.packet)
         (λ p. IfSome p.ended (IsEnd net.now)) }
-    ensures { IfSome (packet_of flight.now packet) (λ p. Wrote (ending_of_step result)
-        (line_by net.now number p.ended) (E.seen err.old) (E.seen err.new)) }
+    ensures { IfSome (packet_of flight.now turn.packet) (λ p. Wrote (ending_of_step result)
+        (line_by net.now turn.number p.ended) (E.seen err.old) (E.seen err.new)) }
 {
-    match flight.ended(packet) {
+    match flight.ended(turn.packet) {
         Some(ended) => {
-            let line = line_of_packet(alloc, net, number, &ended)?;
+            let line = line_of_packet(alloc, net, turn.number, &ended)?;
             write_all(err, line.as_bytes())
         }
         None => Ok(()),
@@ -129,45 +125,44 @@ fn write_end<E: Sink>(
 }
 
 /// A packet takes its next stage, and what that sends is written with the number of the packet's
-/// frame; behind its last stage its line.
+/// frame; after its last stage its line.
 fn write_turn<O: Sink, E: Sink>(
     alloc: Global,
     net: &Net,
     flight: &mut Flight<'_>,
-    packet: u32,
-    number: u32,
+    turn: Turn,
     room: &mut Vec<u8>,
     out: &mut O,
     err: &mut E,
 ) -> Result<(), Failure>
-    requires given { IsGiven flight.old packet }
-    requires going { IfSome (packet_of flight.old packet) (λ p. p.ended ≡ None) }
+    requires given { IsGiven flight.old turn.packet }
+    requires going { IfSome (packet_of flight.old turn.packet) (λ p. p.ended ≡ None) }
     requires net { flight.old.net ≡ net.now }
-    ensures turned { OnOk result (flight.new ≡ turned packet flight.old) }
-    ensures wrote { IfSome (packet_of flight.old packet) (λ p. WroteAll (ending_of_step result)
-        (pieces_of_stage net.now (next_of number net.now p))
+    ensures turned { OnOk result (flight.new ≡ turned turn.packet flight.old) }
+    ensures wrote { IfSome (packet_of flight.old turn.packet) (λ p.
+        WroteAll (ending_of_step result)
+        (pieces_of_stage net.now (next_of turn.number net.now p))
         (sinks_of (O.seen out.old) (E.seen err.old)) (sinks_of (O.seen out.new) (E.seen err.new))) }
 {
-    flight.keeps_rules(packet);
-    let Some(event) = flight.turn(packet)? else {
+    flight.keeps_rules(turn.packet);
+    let Some(event) = flight.turn(turn.packet)? else {
         return Ok(());
     };
-    write_stage(flight, packet, number, &event.outcome, room, out)?;
-    write_end(alloc, net, flight, packet, number, err)
+    write_stage(flight, turn, &event.outcome, room, out)?;
+    write_end(alloc, net, flight, turn, err)
 }
 
-/// Writes all stages of the packets that entered, in the order of a schedule. (own rule)
-pub fn write_turns<O: Sink, E: Sink>(
+/// Writes all stages of the packets that entered, in the order of the schedule. (own rule)
+pub(crate) fn write_turns<O: Sink, E: Sink>(
     alloc: Global,
-    net: &Net,
-    schedule: &[u32],
+    course: &Course<'_>,
     entered: Entered<'_>,
     out: &mut O,
     err: &mut E,
 ) -> Result<(), Failure>
-    requires { IsInStep net.now entered.numbers.items entered.flight }
+    requires { IsInStep course.now.net.now entered.numbers.items entered.flight }
     ensures { WroteAll (ending_of_step result)
-        (scheduled_pieces net.now schedule.now
+        (scheduled_pieces course.now.net.now course.now.schedule.now
         (comings_of entered.entry.numbers.items entered.entry.flight))
         (sinks_of (O.seen out.old) (E.seen err.old)) (sinks_of (O.seen out.new) (E.seen err.new)) }
 {
@@ -176,10 +171,11 @@ pub fn write_turns<O: Sink, E: Sink>(
         numbers,
     } = entered;
     let mut room = Vec::new(alloc);
-    let mut turns = Turns::new(schedule, numbers.as_slice());
+    let mut turns = Turns::new(course.schedule, numbers.as_slice());
     'turns: while let Some(packet) = turns.next(&flight) {
         let number = numbers[(packet - 1) as usize];
-        write_turn(alloc, net, &mut flight, packet, number, &mut room, out, err)?;
+        let turn = Turn { packet, number };
+        write_turn(alloc, course.net, &mut flight, turn, &mut room, out, err)?;
     }
     Ok(())
 }

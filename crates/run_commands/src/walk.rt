@@ -1,20 +1,22 @@
 //! A packet's walk, written as it goes.
 
-ghost use Rattle.std.specs.Prelude.{◌≡◌, ◌≤◌, ◌<◌, ◌+◌, [], IfOk, IfSome, OnErr, OnOk, Option, Some, length};
+ghost use Rattle.std.specs.Prelude.{◌≡◌, ◌≤◌, ◌<◌, [], IfOk, IfSome, OnErr, OnOk, Option, length};
 ghost use Rattle.icmp6_errors.specs.Answer.{error_bytes};
-ghost use Rattle.pcap_io.specs.Capture.{written_frame_bytes};
+ghost use Rattle.pcap_io.specs.Capture.{written_frame_bytes, written_head_bytes};
 ghost use Rattle.srx_edge.specs.Steps.{Wrote};
-ghost use Rattle.srv6_rules.specs.Packet.{Packet as PacketValue, bytes_of, most_len};
+ghost use Rattle.srv6_rules.specs.Packet.{Content as ContentValue, Packet as PacketValue, bytes_of};
 ghost use Rattle.command_output.specs.Answers.{ending_of_step};
-ghost use Rattle.run_commands.specs.Capture.{frame_by, frames_of};
-ghost use Rattle.command_output.specs.Sent.{IsEnd, IsWritable};
+ghost use Rattle.command_output.specs.Sent.{IsEnd};
+ghost use Rattle.run_commands.specs.Capture.{IsWritable, frame_by, frames_of};
+ghost use Rattle.run_commands.specs.Entry.{walk_of_comes};
 ghost use Rattle.trace_replay.specs.Numbered.{IsNumbered};
 ghost use Rattle.walk_rules.specs.Laws.{TellsOfError};
 ghost use Rattle.walk_rules.specs.Relation.{IsPlace};
 ghost use Rattle.walk_rules.specs.Treatment.{step_of};
-ghost use Rattle.walk_rules.specs.Walk.{next_place as place_after, walk_of, choice_at, end_by, end_of};
-ghost use Rattle.net_model.specs.declared.limits.TheConstants.{MAX_LINKS};
+ghost use Rattle.walk_rules.specs.Walk.{next_place as place_after, end_by, end_of};
 
+use crate::course::Course;
+use crate::enters::Comes;
 use base::NoMemory;
 use command_output::{Failure, write_all};
 use icmp6_errors::IcmpSlot;
@@ -27,86 +29,59 @@ use std::alloc::Global;
 use trace_replay::an_outcome_names_what_is_there;
 use walk_rules::{Ended, MAX_STAGES, Outcome, Place, ended_by, next_place};
 
-/// Room for a packet and for its frame, used again for each packet. (own rule)
-#[derive(Debug, Drop)]
-pub struct Buffers {
-    packet: Vec<u8>,
-    frame: Vec<u8>,
-}
-
-impl Buffers {
-    /// Empty ones; takes no memory. (own rule)
-    pub fn new(alloc: Global) -> Buffers {
-        Buffers {
-            packet: Vec::new(alloc),
-            frame: Vec::new(alloc),
-        }
-    }
+/// Writes the capture's head. (own rule)
+#[tactic(auto, using(command_output::proofs::PublicLaws::writing))]
+pub(crate) fn write_head<O: Sink>(alloc: Global, out: &mut O) -> Result<(), Failure>
+    ensures { Wrote (ending_of_step result) written_head_bytes (O.seen out.old) (O.seen out.new) }
+{
+    let mut head = Vec::new(alloc);
+    pcap_io::write_head(&mut head)?;
+    write_all(out, head.as_slice())
 }
 
 /// Writes the frame of a packet: its number as seconds, and microseconds. (own rule)
 #[tactic(auto, using(command_output::proofs::PublicLaws::writing))]
-pub fn write_frame<O: Sink>(
+fn write_frame<O: Sink>(
     number: u32,
     micros: u32,
     packet: &[u8],
-    frame: &mut Vec<u8>,
+    room: &mut Vec<u8>,
     out: &mut O,
 ) -> Result<(), Failure>
     requires { length packet.now ≤ MAX_PACKET_LEN }
     ensures { Wrote (ending_of_step result) (written_frame_bytes number micros packet.now)
         (O.seen out.old) (O.seen out.new) }
 {
-    frame.clear();
-    pcap_io::write_frame(frame, number, micros, packet)?;
-    write_all(out, frame.as_slice())
+    room.clear();
+    pcap_io::write_frame(room, number, micros, packet)?;
+    write_all(out, room.as_slice())
 }
 
-/// Writes the frame of a packet as it is sent on a link: the link's number from 1 as microseconds.
-#[tactic(auto, using(command_output::proofs::PublicLaws::writing))]
-fn write_sent<O: Sink>(
-    number: u32,
-    link: u32,
-    content: &Content,
-    buffers: &mut Buffers,
-    out: &mut O,
-) -> Result<(), Failure>
-    requires link { link < MAX_LINKS }
-    requires small { length (bytes_of content.now) ≤ most_len }
-    ensures { Wrote (ending_of_step result)
-        (written_frame_bytes number (link + 1) (bytes_of content.now))
-        (O.seen out.old) (O.seen out.new) }
-{
-    buffers.packet.clear();
-    content.append_to(&mut buffers.packet)?;
-    let packet = buffers.packet.as_slice();
-    write_frame(number, link + 1, packet, &mut buffers.frame, out)
-}
-
-/// Writes what a stage sends: the packet on a link, or the ICMPv6 error about what is dropped, with
-/// 0 as microseconds.
+/// Writes what a stage sends: the packet on a link, with the link's number from 1 as microseconds, or
+/// the ICMPv6 error about what is dropped, with 0. (own rule)
 #[tactic(auto, using(crate::proofs::Walking::errors))]
-fn write_outcome<O: Sink>(
+pub(crate) fn write_sent<O: Sink>(
     number: u32,
     outcome: &Outcome,
-    content: &Content,
-    error: &IcmpSlot,
-    buffers: &mut Buffers,
+    packet: &[u8],
+    error: &[u8],
+    room: &mut Vec<u8>,
     out: &mut O,
 ) -> Result<(), Failure>
-    requires { IsWritable outcome.now content.now }
-    ensures { (told : Option PacketValue) → TellsOfError outcome.now told
-        → error.now.items ≡ error_bytes told
-        → Wrote (ending_of_step result) (frame_by number outcome.now content.now told)
+    requires writable { IsWritable outcome.now packet.now }
+    requires error { length error.now ≤ MAX_PACKET_LEN }
+    ensures { (after : ContentValue) (told : Option PacketValue) → TellsOfError outcome.now told
+        → packet.now ≡ bytes_of after → error.now ≡ error_bytes told
+        → Wrote (ending_of_step result) (frame_by number outcome.now after told)
         (O.seen out.old) (O.seen out.new) }
 {
     match outcome {
-        Outcome::Send { link } => write_sent(number, *link, content, buffers, out),
+        Outcome::Send { link } => write_frame(number, *link + 1, packet, room, out),
         Outcome::Drop { error: told, .. } => {
             if !*told {
                 return Ok(());
             }
-            write_frame(number, 0, error.as_slice(), &mut buffers.frame, out)
+            write_frame(number, 0, error, room, out)
         }
         Outcome::Again { .. } | Outcome::Hand { .. } | Outcome::Local => Ok(()),
     }
@@ -130,7 +105,7 @@ pub fn staged(
         ≡ error_bytes (step_of net.now place.now content.old choice).error) }
     ensures tells { IfOk result (λ outcome.
         TellsOfError outcome (step_of net.now place.now content.old choice).error) }
-    ensures writable { IfOk result (λ outcome. IsWritable outcome content.new) }
+    ensures writable { IfOk result (λ outcome. IsWritable outcome (bytes_of content.new)) }
     ensures next { IfOk result (λ outcome.
         IfSome (place_after net.now place.now outcome) (IsPlace net.now)) }
     ensures ends { IfOk result (λ outcome. IsEnd net.now (end_by net.now place.now outcome)) }
@@ -144,36 +119,44 @@ pub fn staged(
     stage(alloc, net, place, content, choice, error)
 }
 
-/// Walks a packet from a place and writes each of its frames, with its number, and that of the
-/// ICMPv6 error about it, if a node sends one. Decision d takes the choice at d modulo the number
+/// Walks a packet from where it enters and writes each of its frames, with its number, and that of
+/// the ICMPv6 error about it, if a node sends one. Decision d takes the choice at d modulo the number
 /// of choices. The walk ends as its last stage does, after at most 10,000 stages. (own rule)
-pub fn write_walk<O: Sink>(
+pub(crate) fn write_walk<O: Sink>(
     alloc: Global,
-    net: &Net,
-    start: Place,
+    course: &Course<'_>,
+    comes: Comes,
     number: u32,
-    content: Content,
-    choices: &[u32],
-    buffers: &mut Buffers,
+    room: &mut Vec<u8>,
     out: &mut O,
 ) -> Result<Ended, Failure>
-    requires place { IsPlace net.now start }
-    requires choices { 0 < length choices.now }
-    ensures ended { IfOk result (λ ended. ended ≡ end_of net.now
-        (walk_of MAX_STAGES net.now (Some start) content (choice_at choices.now) 0)) }
-    ensures within { IfOk result (IsEnd net.now) }
+    requires place { IsPlace course.now.net.now comes.place }
+    requires choices { 0 < length course.now.choices.now }
+    ensures ended { IfOk result (λ ended. ended ≡ end_of course.now.net.now
+        (walk_of_comes course.now.net.now course.now.choices.now comes)) }
+    ensures within { IfOk result (IsEnd course.now.net.now) }
     ensures wrote { Wrote (ending_of_step result)
-        (frames_of number (walk_of MAX_STAGES net.now (Some start) content (choice_at choices.now) 0))
+        (frames_of number (walk_of_comes course.now.net.now course.now.choices.now comes))
         (O.seen out.old) (O.seen out.new) }
 {
-    let mut content = content;
-    let mut place = start;
+    let Comes {
+        mut place,
+        mut content,
+    } = comes;
+    let (net, choices) = (course.net, course.choices);
     let mut error = IcmpSlot::new();
     let mut taken = 0;
     for used in 0..MAX_STAGES {
         let choice = choices[taken % choices.len()];
         let outcome = staged(alloc, net, &place, &mut content, choice, &mut error)?;
-        write_outcome(number, &outcome, &content, &error, buffers, out)?;
+        write_sent(
+            number,
+            &outcome,
+            content.bytes(),
+            error.as_slice(),
+            room,
+            out,
+        )?;
         taken += decisions_of(&outcome);
         match next_place(net, &place, &outcome) {
             Some(next) => place = next,

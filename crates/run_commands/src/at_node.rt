@@ -1,0 +1,70 @@
+//! Packets that enter at a node as they come.
+
+ghost use Rattle.std.specs.Prelude.{◌≡◌, IfOk, ⊤};
+ghost use Rattle.srv6_rules.specs.Packet.{entered};
+ghost use Rattle.run_commands.specs.AtNode.{entry_at, entry_place};
+
+use crate::enters::{Comes, Enters, Stays};
+use base::NoMemory;
+use command_output::Unread;
+use node_stage::Content;
+use pcap_io::{LentBody, LentFrame};
+use pkt_buf::PktBuf;
+use srv6_rules::Family;
+use srv6_rules::numbers::MAX_PACKET_LEN;
+use std::alloc::Global;
+use walk_rules::{How, Place};
+
+/// A node, at which packets enter. (own rule)
+#[derive(Clone, Copy, Debug, Drop)]
+pub(crate) struct AtNode {
+    pub(crate) node: u32,
+}
+
+impl AtNode {
+    /// Where a packet of a family enters.
+    fn place(&self, family: Family) -> Place
+        ensures { result ≡ entry_place self.now.node family }
+    {
+        Place {
+            node: self.node,
+            how: How::Arrived { table: 0 },
+            family,
+        }
+    }
+}
+
+/// A copy of bytes as they enter a node as a packet of a family.
+fn copied(alloc: Global, family: Family, bytes: &[u8]) -> Result<Content, NoMemory>
+    ensures { IfOk result (λ content. content ≡ entered family bytes.now) }
+{
+    let len = MAX_PACKET_LEN.min(bytes.len());
+    let packet = PktBuf::new(alloc, 0, bytes.split_at(len).0)?;
+    Ok(Content::enter_buf(family, packet))
+}
+
+impl Enters for AtNode {
+    ghost ready = { λ _. ⊤ };
+
+    ghost entry = { entry_at };
+
+    fn stays(&self, frame: &LentFrame<'_>) -> Option<Stays> {
+        match frame.body() {
+            LentBody::V6(_) | LentBody::V4(_) => None,
+            LentBody::ShortFrame => Some(Stays::NotRead(Unread::ShortFrame)),
+            LentBody::NotIp => Some(Stays::NotRead(Unread::NotIp)),
+        }
+    }
+
+    fn enter(&self, alloc: Global, frame: &LentFrame<'_>) -> Result<Option<Comes>, NoMemory> {
+        let (family, bytes) = match frame.body() {
+            LentBody::V6(bytes) => (Family::V6, bytes),
+            LentBody::V4(bytes) => (Family::V4, bytes),
+            LentBody::ShortFrame | LentBody::NotIp => return Ok(None),
+        };
+        Ok(Some(Comes {
+            place: self.place(family),
+            content: copied(alloc, family, bytes)?,
+        }))
+    }
+}

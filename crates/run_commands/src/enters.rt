@@ -1,0 +1,49 @@
+//! What becomes of the packets of frames before their first stages.
+
+ghost use Rattle.std.specs.Prelude.{◌≡◌, IfOk};
+ghost use Rattle.pcap_io.specs.declared.frame.Body.{Body as BodyValue};
+ghost use Rattle.run_commands.specs.Entry.{Entry, comes_of, stays_of};
+
+use base::NoMemory;
+use command_output::Unread;
+use node_stage::Content;
+use pcap_io::LentFrame;
+use std::alloc::Global;
+use walk_rules::{Ended, Place};
+
+/// How a frame's packet ends before its first stage. (own rule)
+#[derive(Debug, Drop)]
+pub enum Stays {
+    /// It is not read.
+    NotRead(Unread),
+    /// It ends so where it was to enter.
+    Ends(Ended),
+}
+
+/// A packet that enters the network, and where. (own rule)
+#[derive(Debug, Drop)]
+pub struct Comes {
+    /// Where it stands.
+    pub place: Place,
+    /// The packet, or what doesn't read as one.
+    pub content: Content,
+}
+
+/// What enters the network of a frame. (own rule)
+pub trait Enters {
+    /// What holds of those that may be asked.
+    ghost ready: { Self → Type 0 };
+
+    /// What becomes of a frame's packet before its first stage, by what the frame holds.
+    ghost entry: { Self → BodyValue → Entry };
+
+    /// How a frame's packet stays, if it does; takes no memory.
+    fn stays(&self, frame: &LentFrame<'_>) -> Option<Stays>
+        requires { ready self.now }
+        ensures { result ≡ stays_of (entry self.now frame.now.body) };
+
+    /// A frame's packet as it enters, if it does: a copy of the frame's bytes.
+    fn enter(&self, alloc: Global, frame: &LentFrame<'_>) -> Result<Option<Comes>, NoMemory>
+        requires { ready self.now }
+        ensures { IfOk result (λ comes. comes ≡ comes_of (entry self.now frame.now.body)) };
+}
