@@ -1,5 +1,5 @@
 -- The frames and the line that a schedule gives each packet.
-use Rattle.std.proofs.Common.{◌≡◌, ℕ, zero, suc, ◌+◌, ◌<◌, false, nat_eq, List, [], ◌∷◌, ◌++◌, drop, length, map, Some, refl, sym, ap, ◌∙◌, append-nil, arith, inl, inr, subst}
+use Rattle.std.proofs.Common.{◌≡◌, ℕ, zero, suc, ◌+◌, ◌<◌, false, nat_eq, List, [], ◌∷◌, ◌++◌, drop, length, map, Option, Some, None, refl, sym, ap, ◌∙◌, append-nil, arith, inl, inr, subst}
 use Rattle.std.specs.Prelude.{⊤, All}
 use Rattle.std.specs.List.{flat_map, IsDistinct, AllByRecursion}
 use Rattle.std.proofs.lemmas.Bool.{cases_lt, ne_eqb}
@@ -15,13 +15,14 @@ use Rattle.srv6_rules.specs.declared.sid.Family.TheVariants.{V6, V4}
 use Rattle.srv6_rules.specs.Packet.{Content, entered}
 use Rattle.net_model.specs.Network.{Network}
 use Rattle.walk_rules.specs.declared.place.Place.{Place}
-use Rattle.walk_rules.specs.Walk.{Stage, walk_of, end_of}
+use Rattle.walk_rules.specs.Walk.{Stage, walk_of, choice_at, end_of}
 use Rattle.packet_walk.specs.Schedule.{Coming, Taken, all_of, scheduled, steps_of}
 use Rattle.packet_walk.proofs.PublicLaws.{stages-scheduled}
 use Rattle.command_inputs.specs.declared.packets.Packets.{Packets}
 use Rattle.command_inputs.specs.declared.packets.Packets.TheVariants.{Bare, Capture}
 use Rattle.run_commands.specs.Capture.{frame_of_gave, frames_of}
-use Rattle.run_commands.specs.Run as run
+use Rattle.run_commands.specs.declared.enters.Comes.{Comes}
+use Rattle.run_commands.specs.Entry.{Entry, comes_of, coming_if_comes, coming_of_frame, comings_of_frames}
 use Rattle.command_inputs.specs.Packets.{reading_of}
 use Rattle.run_commands.specs.Scheduled.{coming, frame_of_stage, frames_sent, line_of_stage, line_of_walk, lines_told, pieces_of_stages}
 use Rattle.walk_rules.specs.declared.limits.TheConstants.{MAX_STAGES}
@@ -34,7 +35,7 @@ frames-all : (number : ℕ) (steps : List Stage) → flat_map frame_of_stage (al
 frames-all number [] = refl
 frames-all number (s ∷ behind) = ap (λ (bytes : List ℕ). frame_of_gave number s.gave ++ bytes) (frames-all number behind)
 
-pub frames-sent : (number : ℕ) (schedule : List ℕ) (comings : List Coming) → IsDistinct nat_eq (map (λ (c : Coming). c.number) comings)
+frames-sent : (number : ℕ) (schedule : List ℕ) (comings : List Coming) → IsDistinct nat_eq (map (λ (c : Coming). c.number) comings)
     → frames_sent number (scheduled schedule comings) ≡ frames_of number (steps_of number comings)
 frames-sent number schedule comings apart =
     ap (λ (stages : List Taken). flat_map frame_of_stage stages) (stages-scheduled number schedule comings apart)
@@ -57,14 +58,14 @@ module _ (net : Network) where
   lines-all number (s ∷ []) = append-nil (packet_line net number (end_of net (s ∷ [])))
   lines-all number (s ∷ t ∷ behind) = lines-all number (t ∷ behind)
 
-  pub lines-told : (number : ℕ) (schedule : List ℕ) (comings : List Coming) → IsDistinct nat_eq (map (λ (c : Coming). c.number) comings)
+  lines-told : (number : ℕ) (schedule : List ℕ) (comings : List Coming) → IsDistinct nat_eq (map (λ (c : Coming). c.number) comings)
       → lines_told net number (scheduled schedule comings) ≡ line_of_walk net number (steps_of number comings)
   lines-told number schedule comings apart =
       ap (λ (stages : List Taken). flat_map (line_of_stage net) stages) (stages-scheduled number schedule comings apart)
       ∙ lines-all number (steps_of number comings)
 
   -- a walk has a stage
-  pub walk-steps : (number : ℕ) (place : Place) (content : Content) (pick : ℕ → ℕ)
+  walk-steps : (number : ℕ) (place : Place) (content : Content) (pick : ℕ → ℕ)
       → All (λ (c : Coming). 0 < length c.steps) (coming number (walk_of MAX_STAGES net (Some place) content pick 0))
   walk-steps number place content pick =
       All-cons (λ (c : Coming). 0 < length c.steps) (record { number = number; steps = walk_of MAX_STAGES net (Some place) content pick 0 }) []
@@ -72,7 +73,7 @@ module _ (net : Network) where
       (All-nil (λ (c : Coming). 0 < length c.steps))
 
 -- so each packet of frames has, where each frame's packet has
-pub all-walk : (packets : Frame → List Coming) → ((frame : Frame) → All (λ (c : Coming). 0 < length c.steps) (packets frame))
+all-walk : (packets : Frame → List Coming) → ((frame : Frame) → All (λ (c : Coming). 0 < length c.steps) (packets frame))
     → (frames : List Frame) → All (λ (c : Coming). 0 < length c.steps) (flat_map packets frames)
 all-walk packets each [] = All-nil (λ (c : Coming). 0 < length c.steps)
 all-walk packets each (frame ∷ more) =
@@ -80,7 +81,7 @@ all-walk packets each (frame ∷ more) =
 
 -- frames numbered from n on
 
-abbrev pub AreFrom : ℕ → List Frame → Type 0
+abbrev AreFrom : ℕ → List Frame → Type 0
 AreFrom n [] = ⊤
 AreFrom n (frame ∷ more) = (frame.number ≡ n) × AreFrom (n + 1) more
 
@@ -93,16 +94,16 @@ are-from head (suc most) n bytes =
           (refl, are-from head most (n + 1) (behind head.little bytes))
     ]
 
-pub are-from-packets : (packets : Packets) → AreFrom 1 (reading_of packets).frames
+are-from-packets : (packets : Packets) → AreFrom 1 (reading_of packets).frames
 are-from-packets (Bare packet) = (refl, tt)
 are-from-packets (Capture head input) = are-from head MAX_FRAMES 1 (drop HEAD_LEN input)
 
 -- so the packets of frames differ in their numbers, where each frame has one at most
 
-abbrev pub IsOne : (Frame → List Coming) → Type 1
+abbrev IsOne : (Frame → List Coming) → Type 1
 IsOne packets = (frame : Frame) (P : List Coming → Type 0) → P [] → ((steps : List Stage) → P (coming frame.number steps)) → P (packets frame)
 
-abbrev pub numbers : List Coming → List ℕ
+abbrev numbers : List Coming → List ℕ
 numbers comings = map (λ (c : Coming). c.number) comings
 
 module _ (packets : Frame → List Coming) (one : IsOne packets) where
@@ -114,7 +115,7 @@ module _ (packets : Frame → List Coming) (one : IsOne packets) where
       one frame (λ cs. AllByRecursion (λ y. nat_eq m y ≡ false) (numbers (cs ++ flat_map packets more))) rest
       (λ steps. (ne_eqb m frame.number (λ same. omega (arith, less, from.0, same)), rest))
 
-  pub apart : (n : ℕ) (frames : List Frame) → AreFrom n frames → IsDistinct nat_eq (numbers (flat_map packets frames))
+  apart : (n : ℕ) (frames : List Frame) → AreFrom n frames → IsDistinct nat_eq (numbers (flat_map packets frames))
   unfolding IsDistinct
   apart n [] from = tt
   apart n (frame ∷ more) from =
@@ -122,41 +123,34 @@ module _ (packets : Frame → List Coming) (one : IsOne packets) where
       one frame (λ cs. IsDistinct nat_eq (numbers (cs ++ flat_map packets more))) rest
       (λ steps. (above frame.number (n + 1) (omega (arith, from.0)) more from.1, rest))
 
--- of the packets of `run`
+-- of packets that enter
 
-run-one : (net : Network) (node : ℕ) (choices : List ℕ) (number : ℕ) (body : Body) (P : List Coming → Type 0)
-    → P [] → ((steps : List Stage) → P (coming number steps)) → P (run.coming_by net node choices number body)
-run-one net node choices number (bodies.V6 packet) P none some = some _
-run-one net node choices number (bodies.V4 packet) P none some = some _
-run-one net node choices number bodies.ShortFrame P none some = none
-run-one net node choices number bodies.NotIp P none some = none
+module _ (net : Network) (choices : List ℕ) (entry : Body → Entry) where
+  comes-one : (number : ℕ) (comes : Option Comes) (P : List Coming → Type 0)
+      → P [] → ((steps : List Stage) → P (coming number steps)) → P (coming_if_comes net choices number comes)
+  comes-one number None P none some = none
+  comes-one number (Some comes) P none some = some _
 
-run-apart : (net : Network) (node : ℕ) (choices : List ℕ) (packets : Packets)
-    → IsDistinct nat_eq (numbers (run.comings_from net node choices (reading_of packets).frames))
-run-apart net node choices packets =
-    apart (run.coming_of_frame net node choices) (λ frame P. run-one net node choices frame.number frame.body P) 1
-    (reading_of packets).frames (are-from-packets packets)
+  comes-steps : (number : ℕ) (comes : Option Comes) → All (λ (c : Coming). 0 < length c.steps) (coming_if_comes net choices number comes)
+  comes-steps number None = All-nil (λ (c : Coming). 0 < length c.steps)
+  comes-steps number (Some comes) = walk-steps net number comes.place comes.content (choice_at choices)
 
-pub run-mixes : (net : Network) (node number : ℕ) (choices schedule : List ℕ) (packets : Packets)
-    → let comings = run.comings_from net node choices (reading_of packets).frames in
-    frames_sent number (scheduled schedule comings) ≡ frames_of number (steps_of number comings)
-run-mixes net node number choices schedule packets =
-    frames-sent number schedule (run.comings_from net node choices (reading_of packets).frames) (run-apart net node choices packets)
+  module _ (packets : Packets) where
+    abbrev comings : List Coming
+    comings = comings_of_frames net choices entry (reading_of packets).frames
 
-pub run-tells : (net : Network) (node number : ℕ) (choices schedule : List ℕ) (packets : Packets)
-    → let comings = run.comings_from net node choices (reading_of packets).frames in
-    lines_told net number (scheduled schedule comings) ≡ line_of_walk net number (steps_of number comings)
-run-tells net node number choices schedule packets =
-    lines-told net number schedule (run.comings_from net node choices (reading_of packets).frames) (run-apart net node choices packets)
+    driven-apart : IsDistinct nat_eq (numbers comings)
+    driven-apart = apart (coming_of_frame net choices entry) (λ frame P. comes-one frame.number (comes_of (entry frame.body)) P) 1
+        (reading_of packets).frames (are-from-packets packets)
 
-run-steps : (net : Network) (node : ℕ) (choices : List ℕ) (number : ℕ) (body : Body)
-    → All (λ (c : Coming). 0 < length c.steps) (run.coming_by net node choices number body)
-run-steps net node choices number (bodies.V6 packet) = walk-steps net number _ (entered V6 packet) _
-run-steps net node choices number (bodies.V4 packet) = walk-steps net number _ (entered V4 packet) _
-run-steps net node choices number bodies.ShortFrame = All-nil (λ (c : Coming). 0 < length c.steps)
-run-steps net node choices number bodies.NotIp = All-nil (λ (c : Coming). 0 < length c.steps)
+    pub driven-mixes : (number : ℕ) (schedule : List ℕ)
+        → frames_sent number (scheduled schedule comings) ≡ frames_of number (steps_of number comings)
+    driven-mixes number schedule = frames-sent number schedule comings driven-apart
 
-pub run-walks : (net : Network) (node : ℕ) (choices : List ℕ) (packets : Packets)
-    → All (λ (c : Coming). 0 < length c.steps) (run.comings_from net node choices (reading_of packets).frames)
-run-walks net node choices packets =
-    all-walk (run.coming_of_frame net node choices) (λ frame. run-steps net node choices frame.number frame.body) (reading_of packets).frames
+    pub driven-tells : (number : ℕ) (schedule : List ℕ)
+        → lines_told net number (scheduled schedule comings) ≡ line_of_walk net number (steps_of number comings)
+    driven-tells number schedule = lines-told net number schedule comings driven-apart
+
+    pub driven-walks : All (λ (c : Coming). 0 < length c.steps) comings
+    driven-walks = all-walk (coming_of_frame net choices entry) (λ frame. comes-steps frame.number (comes_of (entry frame.body)))
+        (reading_of packets).frames

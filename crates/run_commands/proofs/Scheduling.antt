@@ -1,5 +1,5 @@
--- Packets one after the other, and a packet alone, as stages in the order of a schedule.
-use Rattle.std.proofs.Common.{◌≡◌, ℕ, suc, ◌-◌, Bool, true, false, if◌then◌else◌, nat_eq, List, [], ◌∷◌, ◌++◌, drop, length, Some, refl, sym, ap, ap₂, ◌∙◌, append_assoc, append-nil, arith}
+-- Packets one after the other, as stages in the order of no schedule.
+use Rattle.std.proofs.Common.{◌≡◌, ℕ, suc, ◌-◌, Bool, true, false, if◌then◌else◌, nat_eq, List, [], ◌∷◌, ◌++◌, length, Option, Some, None, refl, sym, ap, ap₂, ◌∙◌, append_assoc, append-nil, arith}
 use Rattle.std.specs.List.{flat_map}
 use Rattle.std.proofs.lemmas.Bool.{eqb-true}
 use Rattle.std.proofs.lemmas.Grind.{flat_map-append}
@@ -11,7 +11,7 @@ use Rattle.srv6_rules.specs.declared.sid.Family.TheVariants.{V6, V4}
 use Rattle.srv6_rules.specs.Packet.{Content, entered}
 use Rattle.net_model.specs.Network.{Network}
 use Rattle.walk_rules.specs.declared.place.Place.{Place}
-use Rattle.walk_rules.specs.Walk.{Stage, walk_of, walk_on, stage_of, end_of}
+use Rattle.walk_rules.specs.Walk.{Stage, walk_of, walk_on, stage_of, choice_at, end_of}
 use Rattle.walk_rules.proofs.PublicLaws.{walk_of-suc}
 use Rattle.packet_walk.specs.Schedule.{Coming, Taken, first_of, all_of, one_by_one, scheduled}
 use Rattle.walk_rules.specs.declared.limits.TheConstants.{MAX_STAGES}
@@ -20,8 +20,8 @@ use Rattle.srx_edge.specs.Steps.{Ending}
 use Rattle.command_output.specs.Lines.{packet_line}
 use Rattle.command_output.specs.Pieces.{Piece, Sinks, Which, ToOut, ToErr, WroteAll, bytes_in_order}
 use Rattle.run_commands.specs.Scheduled.{coming, pieces_of_stage, pieces_of_stages, scheduled_pieces}
-use Rattle.run_commands.specs.Run as run
-use Rattle.run_commands.specs.Run.{packet_pieces, pieces_of_frame, pieces_one_by_one, walk_from}
+use Rattle.run_commands.specs.declared.enters.Comes.{Comes}
+use Rattle.run_commands.specs.Entry.{Entry, comes_of, coming_if_comes, coming_of_frame, comings_of_frames, packet_pieces, pieces_of_frame, pieces_one_by_one}
 use Rattle.command_output.proofs.PublicLaws.{all_same, marked, bytes_in_order-append}
 
 -- a packet's frames and then its line are the pieces of its stages, one after the other
@@ -50,19 +50,19 @@ module _ (net : Network) where
         let one_more : MAX_STAGES ≡ suc (MAX_STAGES - 1) = omega arith in
         ap (λ (n : ℕ). walk_of n net (Some place) content pick 0) one_more ∙ walk_of-suc (MAX_STAGES - 1) net place content pick 0
 
-    pub walk-same : bytes_in_order (packet_pieces net number steps) ≡ bytes_in_order (pieces_of_stages net (all_of number steps))
+    walk-same : bytes_in_order (packet_pieces net number steps) ≡ bytes_in_order (pieces_of_stages net (all_of number steps))
     walk-same =
         ap (λ (all : List Stage). bytes_in_order (packet_pieces net number all)) first-step
         ∙ (packet-same number (stage_of net place content (pick 0))
         (walk_on (MAX_STAGES - 1) net (stage_of net place content (pick 0)) pick 0)
         ∙ sym (ap (λ (all : List Stage). bytes_in_order (pieces_of_stages net (all_of number all))) first-step))
 
-    pub one-same : bytes_in_order (packet_pieces net number steps) ≡ bytes_in_order (pieces_of_stages net (one_by_one (coming number steps)))
+    one-same : bytes_in_order (packet_pieces net number steps) ≡ bytes_in_order (pieces_of_stages net (one_by_one (coming number steps)))
     one-same = walk-same
         ∙ sym (ap (λ (stages : List Taken). bytes_in_order (pieces_of_stages net stages)) (append-nil (all_of number steps)))
 
   -- packets one after the other
-  pub frames-same : (packets : Frame → List Coming)
+  frames-same : (packets : Frame → List Coming)
       → ((frame : Frame) → bytes_in_order (pieces_of_frame net packets frame) ≡ bytes_in_order (pieces_of_stages net (one_by_one (packets frame))))
       → (frames : List Frame) → bytes_in_order (flat_map (pieces_of_frame net packets) frames)
       ≡ bytes_in_order (scheduled_pieces net [] (flat_map packets frames))
@@ -77,67 +77,23 @@ module _ (net : Network) where
       ∙ ap (pieces_of_stages net)
       (sym (flat_map-append (λ (c : Coming). all_of c.number c.steps) (packets frame) (flat_map packets more))))))
 
--- one packet takes its stages in their order, whatever the schedule
+-- those that enter of frames
 
-module _ (number : ℕ) where
-  by-entry : (entry : ℕ) (schedule : List ℕ) (steps : List Stage)
-      → ((left : List Stage) → scheduled schedule (coming number left) ≡ all_of number left)
-      → (b : Bool) → nat_eq entry number ≡ b
-      → first_of entry (if b then steps else []) ++ scheduled schedule (if b then coming number (drop 1 steps) else coming number steps)
-      ≡ all_of number steps
-  by-entry entry schedule [] alone true is = alone []
-  by-entry entry schedule (s ∷ behind) alone true is =
-      let same : entry ≡ number = eqb-true entry number is in
-      ap₂ (λ (n : ℕ) (more : List Taken). record { number = n; step = s; behind = behind } ∷ more) same (alone behind)
-  by-entry entry schedule steps alone false is = alone steps
+module _ (net : Network) (choices : List ℕ) (entry : Body → Entry) where
+  comes-same : (number : ℕ) (comes : Option Comes) → bytes_in_order (pieces_one_by_one net (coming_if_comes net choices number comes))
+      ≡ bytes_in_order (pieces_of_stages net (one_by_one (coming_if_comes net choices number comes)))
+  comes-same number None = refl
+  comes-same number (Some comes) = one-same net number comes.place comes.content (choice_at choices)
 
-  pub alone : (schedule : List ℕ) (steps : List Stage) → scheduled schedule (coming number steps) ≡ all_of number steps
-  alone [] steps = append-nil (all_of number steps)
-  alone (entry ∷ schedule) steps = by-entry entry schedule steps (alone schedule) (nat_eq entry number) refl
-
-pub no-packet : (schedule : List ℕ) → scheduled schedule [] ≡ []
-no-packet [] = refl
-no-packet (entry ∷ schedule) = no-packet schedule
-
--- the packets of `run`
-
-module _ (net : Network) (node : ℕ) (choices : List ℕ) where
-  run-same : (number : ℕ) (body : Body) → bytes_in_order (pieces_one_by_one net (run.coming_by net node choices number body))
-      ≡ bytes_in_order (pieces_of_stages net (one_by_one (run.coming_by net node choices number body)))
-  run-same number (bodies.V6 packet) = one-same net number _ (entered V6 packet) _
-  run-same number (bodies.V4 packet) = one-same net number _ (entered V4 packet) _
-  run-same number bodies.ShortFrame = refl
-  run-same number bodies.NotIp = refl
-
-  pub run_one_by_one : (frames : List Frame)
-      → bytes_in_order (flat_map (pieces_of_frame net (run.coming_of_frame net node choices)) frames)
-      ≡ bytes_in_order (scheduled_pieces net [] (run.comings_from net node choices frames))
-  run_one_by_one frames = frames-same net (run.coming_of_frame net node choices) (λ frame. run-same frame.number frame.body) frames
-
-  pub run_alone : (number : ℕ) (packet schedule : List ℕ)
-      → bytes_in_order (pieces_one_by_one net (run.coming_by net node choices number (bodies.V6 packet)))
-      ≡ bytes_in_order (scheduled_pieces net schedule
-      (run.comings_from net node choices (record { number = number; body = bodies.V6 packet } ∷ [])))
-  run_alone number packet schedule =
-      walk-same net number _ (entered V6 packet) _
-      ∙ sym (ap (λ (stages : List Taken). bytes_in_order (pieces_of_stages net stages))
-      (alone number schedule (walk_from net node choices V6 (entered V6 packet))))
+  in-order : (frames : List Frame) → bytes_in_order (flat_map (pieces_of_frame net (coming_of_frame net choices entry)) frames)
+      ≡ bytes_in_order (scheduled_pieces net [] (comings_of_frames net choices entry frames))
+  in-order frames = frames-same net (coming_of_frame net choices entry) (λ frame. comes-same frame.number (comes_of (entry frame.body))) frames
 
   -- a step that wrote the packets one after the other wrote them under no schedule
   pub wrote_in_order : (frames : List Frame) (schedule : List ℕ) → length schedule ≡ 0 → (ending : Ending) (old new : Sinks)
-      → WroteAll ending (flat_map (pieces_of_frame net (run.coming_of_frame net node choices)) frames) old new
-      → WroteAll ending (scheduled_pieces net schedule (run.comings_from net node choices frames)) old new
+      → WroteAll ending (flat_map (pieces_of_frame net (coming_of_frame net choices entry)) frames) old new
+      → WroteAll ending (scheduled_pieces net schedule (comings_of_frames net choices entry frames)) old new
   wrote_in_order frames [] none ending old new wrote =
-      all_same (flat_map (pieces_of_frame net (run.coming_of_frame net node choices)) frames)
-      (scheduled_pieces net [] (run.comings_from net node choices frames)) old new (run_one_by_one frames) ending wrote
-  wrote_in_order frames (entry ∷ schedule) none ending old new wrote = absurd (omega (arith, none))
-
-  -- a step that wrote the only packet wrote it under any
-  pub wrote_alone : (number : ℕ) (packet schedule : List ℕ) (ending : Ending) (old new : Sinks)
-      → WroteAll ending (pieces_one_by_one net (run.coming_by net node choices number (bodies.V6 packet))) old new
-      → WroteAll ending (scheduled_pieces net schedule
-      (run.comings_from net node choices (record { number = number; body = bodies.V6 packet } ∷ []))) old new
-  wrote_alone number packet schedule ending old new wrote =
-      all_same (pieces_one_by_one net (run.coming_by net node choices number (bodies.V6 packet)))
-      (scheduled_pieces net schedule (run.comings_from net node choices (record { number = number; body = bodies.V6 packet } ∷ []))) old new
-      (run_alone number packet schedule) ending wrote
+      all_same (flat_map (pieces_of_frame net (coming_of_frame net choices entry)) frames)
+      (scheduled_pieces net [] (comings_of_frames net choices entry frames)) old new (in-order frames) ending wrote
+  wrote_in_order frames (number ∷ schedule) none ending old new wrote = absurd (omega (arith, none))

@@ -20,13 +20,13 @@ use Rattle.packet_walk.specs.Schedule.{Taken, Progress, IsOf, IsTurnOf, due, fra
 use Rattle.packet_walk.proofs.PublicLaws.{packet-same, given-packet, turned-going, turned-net, length-turned, rest-going, rest-ended, end-going, end-ended, staged-counted}
 use Rattle.srx_edge.specs.Sinks.{SinkSeen}
 use Rattle.srx_edge.specs.Steps.{Ending, Whole, Wrote}
-use Rattle.srv6_rules.specs.Packet.{Packet}
+use Rattle.srv6_rules.specs.Packet.{Packet, bytes_of}
 use Rattle.command_output.specs.declared.halt.Failure.{Failure}
 use Rattle.command_output.specs.Answers.{ending_of_failure}
 use Rattle.command_output.specs.Pieces.{Piece, ForErr, Sinks, gone, sinks_of, WroteAll}
-use Rattle.run_commands.specs.Capture.{frame_by, frame_of_gave}
+use Rattle.run_commands.specs.Capture.{IsWritable, frame_by, frame_of_gave}
 use Rattle.run_commands.specs.Scheduled.{line_behind, line_by, pieces_of_stage, pieces_of_stages}
-use Rattle.command_output.specs.Sent.{IsEnd, IsWritable}
+use Rattle.command_output.specs.Sent.{IsEnd}
 use Rattle.command_output.proofs.PublicLaws.{all_longer, all_behind, all_both, cut_at_out, line_behind_out}
 use Rattle.run_commands.proofs.Writable.{gave_writable, end_within}
 
@@ -53,7 +53,7 @@ module _ (net : Network) (p : InFlight) (keeps : Keeps net) (is : IsInFlight net
   abbrev choice : ℕ
   choice = choice_at p.choices p.decisions
 
-  stage-writable : IsWritable step.gave.outcome after.content
+  stage-writable : IsWritable step.gave.outcome (bytes_of after.content)
   stage-writable = gave_writable net p.place p.content choice (step_of net p.place p.content choice) refl keeps is.place is.content
 
   stage-tells : TellsOfError step.gave.outcome step.gave.error
@@ -132,9 +132,9 @@ module _ (f : Flight) (packet : ℕ) (given : IsGiven f packet) (going : IfSome 
       which-fits : IsInFlight f.net which.0
       which-fits = of-there (packet_of f packet) which.0 (IsInFlight f.net) which.1 fits
 
-      pub new-writable : IfSome (packet_of new packet) (λ p. IsWritable event.outcome p.content)
-      new-writable = to-there (packet_of new packet) (staged f.net which.0) (λ p. IsWritable event.outcome p.content) new-there
-          (subst (λ o. IsWritable o (staged f.net which.0).content) (sym event-outcome)
+      pub new-writable : IfSome (packet_of new packet) (λ p. IsWritable event.outcome (bytes_of p.content))
+      new-writable = to-there (packet_of new packet) (staged f.net which.0) (λ p. IsWritable event.outcome (bytes_of p.content)) new-there
+          (subst (λ o. IsWritable o (bytes_of (staged f.net which.0).content)) (sym event-outcome)
           (stage-writable f.net which.0 keeps which-fits which-going))
 
       pub event-tells : TellsOfError event.outcome (stage_in f.net which.0).gave.error

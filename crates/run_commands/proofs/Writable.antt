@@ -26,7 +26,11 @@ use Rattle.walk_rules.specs.Treatment.{Gave, step_of, treated_at_address, treate
 use Rattle.walk_rules.specs.Relation.{Treats, Treats4, IsStage, IsPlace}
 use Rattle.walk_rules.specs.Walk.{far_end, left_or_stages, end_by}
 use Rattle.walk_rules.proofs.PublicLaws.{stage-member, hops-start, stage-step, step-content}
-use Rattle.command_output.specs.Sent.{IsWritable, IsEnd}
+use Rattle.command_output.specs.Sent.{IsEnd}
+use Rattle.pcap_io.specs.declared.frame.Body.TheVariants as bodies
+use Rattle.run_commands.specs.AtNode.{entry_at_node}
+use Rattle.run_commands.specs.Capture.{IsWritable}
+use Rattle.run_commands.specs.Entry.{AllEnterIn}
 use Rattle.net_model.specs.declared.limits.TheConstants.{MAX_LINKS}
 
 -- what holds of what came, by what else does
@@ -124,7 +128,7 @@ link-fits : (net : Network) (node n : ℕ) → Keeps net → StartsAt net.links 
 link-fits net node n keeps there = omega (arith, within net.links n there.0 there.1, keeps.link_count)
 
 writable : (net : Network) (place : Place) (content : Content) (outcome : Outcome) (after : Content) (error : Option Packet)
-    → Keeps net → IsPlace net place → IsStage net place content outcome after error → IsContent after → IsWritable outcome after
+    → Keeps net → IsPlace net place → IsStage net place content outcome after error → IsContent after → IsWritable outcome (bytes_of after)
 writable net place content (outcomes.Send link) after error keeps is stage fits = (
   link-fits net place.node link keeps (hops-start net place content link keeps is (stage-member net place content link after error stage)),
   packet-fits after (stage-packet net place content link after error stage) fits,
@@ -135,16 +139,16 @@ writable net place content outcomes.Local after error keeps is stage fits = tt
 writable net place content (outcomes.Drop reason told) after error keeps is stage fits = tt
 
 step-writable : (net : Network) (place : Place) (content : Content) (choice : ℕ) → Keeps net → IsPlace net place → IsContent content
-    → let gave = step_of net place content choice in IsWritable gave.outcome gave.after
+    → let gave = step_of net place content choice in IsWritable gave.outcome (bytes_of gave.after)
 step-writable net place content choice keeps is fits =
     let gave = step_of net place content choice in
     writable net place content gave.outcome gave.after gave.error keeps is
     (stage-step net place content choice keeps is) (step-content net place content choice keeps fits)
 
 pub gave_writable : (net : Network) (place : Place) (content : Content) (choice : ℕ) (gave : Gave)
-    → gave ≡ step_of net place content choice → Keeps net → IsPlace net place → IsContent content → IsWritable gave.outcome gave.after
+    → gave ≡ step_of net place content choice → Keeps net → IsPlace net place → IsContent content → IsWritable gave.outcome (bytes_of gave.after)
 gave_writable net place content choice gave gives keeps is fits =
-    subst (λ (g : Gave). IsWritable g.outcome g.after) (sym gives) (step-writable net place content choice keeps is fits)
+    subst (λ (g : Gave). IsWritable g.outcome (bytes_of g.after)) (sym gives) (step-writable net place content choice keeps is fits)
 
 -- the end of a walk names what is there
 
@@ -161,3 +165,10 @@ end_within net place content (outcomes.Again sid how) after error keeps is stage
 end_within net place content (outcomes.Hand sid how family) after error keeps is stage = tt
 end_within net place content outcomes.Local after error keeps is stage = is.0
 end_within net place content (outcomes.Drop reason told) after error keeps is stage = is.0
+
+-- where what enters at a node stands is a place of the network
+pub at_node-within : (net : Network) (node : ℕ) → node < length net.nodes → AllEnterIn net (entry_at_node node)
+at_node-within net node there (bodies.V6 packet) = (there, tt)
+at_node-within net node there (bodies.V4 packet) = (there, tt)
+at_node-within net node there bodies.ShortFrame = tt
+at_node-within net node there bodies.NotIp = tt

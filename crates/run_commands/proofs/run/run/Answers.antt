@@ -27,6 +27,7 @@ use Rattle.command_output.specs.Endings.{Takes}
 use Rattle.command_output.specs.Shape.{Held, names_of, WantedOf}
 use Rattle.command_output.proofs.PublicLaws.{each, some-map, front_whole, asks_all, asks_front, refused_commands, files_fault, input_fault, memory_wants, pieces_whole, pieces_refused, pieces_cut}
 use Rattle.std.proofs.lemmas.Result.{err_from_is_err_and}
+use Rattle.run_commands.proofs.Writable.{at_node-within}
 use Rattle.run_commands.proofs.run.run.Goals as goal
 
 -- an output that is wanted of the text, and of the input, that are told
@@ -164,6 +165,9 @@ module _ (file name choices schedule : List ℕ) (f g : FilesSeen) (s t : Source
 
 -- the goals
 
+pub drive-requires-clause-within : goal.drive-requires-clause-within
+drive-requires-clause-within g c = at_node-within c.in_ok-net.net c.in_ok-node.node c.in_ok-node.ensures.there
+
 pub returns-in_err-net : goal.returns-in_err-net
 returns-in_err-net g c =
     let p = err_from_is_err_and c.from_residual.result c.from_residual.ensures.1 in
@@ -194,19 +198,19 @@ returns-in_err-refusal g c =
     rw (p.1, p.2) (run_halted_at_pieces c.args.file.now c.args.node.now c.args.choices.now c.args.schedule.now _ _ _ _ (g.O.Sink.seen c.args.out.now)
     (g.E.Sink.seen c.args.err.now)
     c.in_ok-net.net c.in_ok-net.ensures c.in_ok-node.node (sym c.in_ok-node.ensures.judged) c.in_ok-packets.packets
-    c.in_ok-packets.ensures.judged (g.O.Sink.seen c.run_packets.new.out) (g.E.Sink.seen c.run_packets.new.err)
+    c.in_ok-packets.ensures.judged (g.O.Sink.seen c.drive.new.out) (g.E.Sink.seen c.drive.new.err)
     c.in_err-refusal.field-0.0 c.in_err-refusal.ensures.wrote)
 
 pub returns-in-Some : goal.returns-in-Some
 returns-in-Some g c = run_refused c.args.file.now c.args.node.now c.args.choices.now c.args.schedule.now _ _ _ _ (g.O.Sink.seen c.args.out.now)
     (g.E.Sink.seen c.args.err.now)
     c.in_ok-net.net c.in_ok-net.ensures c.in_ok-node.node (sym c.in_ok-node.ensures.judged) c.in_ok-packets.packets
-    c.in_ok-packets.ensures.judged (g.O.Sink.seen c.run_packets.new.out) (g.E.Sink.seen c.run_packets.new.err)
+    c.in_ok-packets.ensures.judged (g.O.Sink.seen c.drive.new.out) (g.E.Sink.seen c.drive.new.err)
     c.in-Some.refusal (sym c.in-Some.is ∙ c.in_ok-refusal.ensures.fault) c.in_ok-refusal.ensures.wrote
 
 pub returns : goal.returns
 returns g c = run_done c.args.file.now c.args.node.now c.args.choices.now c.args.schedule.now _ _ _ _ (g.O.Sink.seen c.args.out.now)
     (g.E.Sink.seen c.args.err.now)
     c.in_ok-net.net c.in_ok-net.ensures c.in_ok-node.node (sym c.in_ok-node.ensures.judged) c.in_ok-packets.packets
-    c.in_ok-packets.ensures.judged (g.O.Sink.seen c.run_packets.new.out) (g.E.Sink.seen c.run_packets.new.err)
+    c.in_ok-packets.ensures.judged (g.O.Sink.seen c.drive.new.out) (g.E.Sink.seen c.drive.new.err)
     _ (sym c.in-None.is ∙ c.in_ok-refusal.ensures.fault) refl refl c.in_ok-refusal.ensures.wrote

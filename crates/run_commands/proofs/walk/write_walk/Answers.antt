@@ -10,81 +10,81 @@ use Rattle.run_commands.proofs.walk.write_walk.Goals as goal
 
 pub loop-used-preserved : goal.loop-used-preserved
 loop-used-preserved g c =
-    let step : Gave = step_of c.args.net.now c.loop-used.place c.loop-used.content (choice_at c.args.choices.now c.loop-used.taken) in
+    let step : Gave = step_of c.args.course.now.net.now c.loop-used.place c.loop-used.content (choice_at c.args.course.now.choices.now c.loop-used.taken) in
     let tells = c.in_ok-outcome.ensures.tells in
     let slot = c.in_ok-outcome.ensures.error in
     let gave : Gave = record { outcome = c.in_ok-outcome.outcome; after = c.staged.new.content; error = step.error } in
     let left : MAX_STAGES - c.loop-used.used ≡ suc (MAX_STAGES - (c.loop-used.used + 1)) = omega arith in
-    let on = staged_on c.args.number c.args.net.now (MAX_STAGES - c.loop-used.used) (MAX_STAGES - (c.loop-used.used + 1))
+    let on = staged_on c.args.number c.args.course.now.net.now (MAX_STAGES - c.loop-used.used) (MAX_STAGES - (c.loop-used.used + 1))
     c.loop-used.place c.loop-used.content
-    (choice_at c.args.choices.now) c.loop-used.taken gave _ _ _ (g.O.Sink.seen c.write_outcome.new.out)
+    (choice_at c.args.course.now.choices.now) c.loop-used.taken gave _ _ _ (g.O.Sink.seen c.write_sent.new.out)
     left c.in_ok-outcome.ensures.function c.loop-used.invariant.progress
-    c.in-Some.next (sym c.in-Some.ensures) (c.in_ok-write_outcome.ensures step.error tells slot) in
+    c.in-Some.next (sym c.in-Some.ensures) (c.in_ok-write_sent.ensures c.staged.new.content step.error tells c.bytes.ensures (c.as_slice.ensures ∙ slot)) in
     record {
-      place = subst (λ (o : Option Place). IfSome o (IsPlace c.args.net.now)) (sym c.in-Some.ensures) c.in_ok-outcome.ensures.next;
+      place = subst (λ (o : Option Place). IfSome o (IsPlace c.args.course.now.net.now)) (sym c.in-Some.ensures) c.in_ok-outcome.ensures.next;
       taken = omega (arith, c.decisions_of-taken.ensures.few, c.loop-used.invariant.taken);
-      progress = subst (λ (n : ℕ). Progress c.args.number c.args.net.now
-          (walk_of (MAX_STAGES - (c.loop-used.used + 1)) c.args.net.now (Some c.in-Some.next) c.staged.new.content
-          (choice_at c.args.choices.now) (c.loop-used.taken + n))
-          (walk_of MAX_STAGES c.args.net.now (Some c.args.start) c.args.content (choice_at c.args.choices.now) 0)
-          (g.O.Sink.seen c.args.out.now) (g.O.Sink.seen c.write_outcome.new.out)) (sym c.decisions_of-taken.ensures.taken) on;
+      progress = subst (λ (n : ℕ). Progress c.args.number c.args.course.now.net.now
+          (walk_of (MAX_STAGES - (c.loop-used.used + 1)) c.args.course.now.net.now (Some c.in-Some.next) c.staged.new.content
+          (choice_at c.args.course.now.choices.now) (c.loop-used.taken + n))
+          (walk_of MAX_STAGES c.args.course.now.net.now (Some c.args.comes.place) c.args.comes.content (choice_at c.args.course.now.choices.now) 0)
+          (g.O.Sink.seen c.args.out.now) (g.O.Sink.seen c.write_sent.new.out)) (sym c.decisions_of-taken.ensures.taken) on;
     }
 
 pub returns-in_err-outcome-clause-wrote : goal.returns-in_err-outcome-clause-wrote
 returns-in_err-outcome-clause-wrote g c =
     let p = err_from_is_err_and c.from_residual.result c.from_residual.ensures.1 in
-    rw (p.1, p.2) (progress_wants c.args.number c.args.net.now _ _ _ _ c.loop-used.invariant.progress)
+    rw (p.1, p.2) (progress_wants c.args.number c.args.course.now.net.now _ _ _ _ c.loop-used.invariant.progress)
 
-pub returns-in_err-write_outcome-clause-wrote : goal.returns-in_err-write_outcome-clause-wrote
-returns-in_err-write_outcome-clause-wrote g c =
-    let step : Gave = step_of c.args.net.now c.loop-used.place c.loop-used.content (choice_at c.args.choices.now c.loop-used.taken) in
+pub returns-in_err-write_sent-clause-wrote : goal.returns-in_err-write_sent-clause-wrote
+returns-in_err-write_sent-clause-wrote g c =
+    let step : Gave = step_of c.args.course.now.net.now c.loop-used.place c.loop-used.content (choice_at c.args.course.now.choices.now c.loop-used.taken) in
     let tells = c.in_ok-outcome.ensures.tells in
     let slot = c.in_ok-outcome.ensures.error in
     let gave : Gave = record { outcome = c.in_ok-outcome.outcome; after = c.staged.new.content; error = step.error } in
     let left : MAX_STAGES - c.loop-used.used ≡ suc (MAX_STAGES - (c.loop-used.used + 1)) = omega arith in
-    let p = err_from_is_err_and c.from_residual-in_err-write_outcome.result c.from_residual-in_err-write_outcome.ensures.1 in
-    rw (p.1, p.2) (staged_cut c.args.number c.args.net.now
+    let p = err_from_is_err_and c.from_residual-in_err-write_sent.result c.from_residual-in_err-write_sent.ensures.1 in
+    rw (p.1, p.2) (staged_cut c.args.number c.args.course.now.net.now
     (MAX_STAGES - c.loop-used.used) (MAX_STAGES - (c.loop-used.used + 1)) c.loop-used.place c.loop-used.content
-    (choice_at c.args.choices.now) c.loop-used.taken gave _ _ _ (g.O.Sink.seen c.write_outcome.new.out)
-    left c.in_ok-outcome.ensures.function c.loop-used.invariant.progress c.in_err-write_outcome.field-0.0
-    (c.in_err-write_outcome.ensures step.error tells slot))
+    (choice_at c.args.course.now.choices.now) c.loop-used.taken gave _ _ _ (g.O.Sink.seen c.write_sent.new.out)
+    left c.in_ok-outcome.ensures.function c.loop-used.invariant.progress c.in_err-write_sent.field-0.0
+    (c.in_err-write_sent.ensures c.staged.new.content step.error tells c.bytes.ensures (c.as_slice.ensures ∙ slot)))
 
 pub returns-in-None-clause-ended : goal.returns-in-None-clause-ended
 returns-in-None-clause-ended g c =
-    let step : Gave = step_of c.args.net.now c.loop-used.place c.loop-used.content (choice_at c.args.choices.now c.loop-used.taken) in
+    let step : Gave = step_of c.args.course.now.net.now c.loop-used.place c.loop-used.content (choice_at c.args.course.now.choices.now c.loop-used.taken) in
     let tells = c.in_ok-outcome.ensures.tells in
     let slot = c.in_ok-outcome.ensures.error in
     let gave : Gave = record { outcome = c.in_ok-outcome.outcome; after = c.staged.new.content; error = step.error } in
     let left : MAX_STAGES - c.loop-used.used ≡ suc (MAX_STAGES - (c.loop-used.used + 1)) = omega arith in
-    let last = staged_end c.args.number c.args.net.now (MAX_STAGES - c.loop-used.used) (MAX_STAGES - (c.loop-used.used + 1))
+    let last = staged_end c.args.number c.args.course.now.net.now (MAX_STAGES - c.loop-used.used) (MAX_STAGES - (c.loop-used.used + 1))
     c.loop-used.place c.loop-used.content
-    (choice_at c.args.choices.now) c.loop-used.taken gave _ _ _ (g.O.Sink.seen c.write_outcome.new.out)
+    (choice_at c.args.course.now.choices.now) c.loop-used.taken gave _ _ _ (g.O.Sink.seen c.write_sent.new.out)
     left c.in_ok-outcome.ensures.function c.loop-used.invariant.progress (sym c.in-None.ensures)
-    (c.in_ok-write_outcome.ensures step.error tells slot) in
+    (c.in_ok-write_sent.ensures c.staged.new.content step.error tells c.bytes.ensures (c.as_slice.ensures ∙ slot)) in
     c.ended_by.ensures ∙ last.1
 
 pub returns-in-None-clause-wrote : goal.returns-in-None-clause-wrote
 returns-in-None-clause-wrote g c =
-    let step : Gave = step_of c.args.net.now c.loop-used.place c.loop-used.content (choice_at c.args.choices.now c.loop-used.taken) in
+    let step : Gave = step_of c.args.course.now.net.now c.loop-used.place c.loop-used.content (choice_at c.args.course.now.choices.now c.loop-used.taken) in
     let tells = c.in_ok-outcome.ensures.tells in
     let slot = c.in_ok-outcome.ensures.error in
     let gave : Gave = record { outcome = c.in_ok-outcome.outcome; after = c.staged.new.content; error = step.error } in
     let left : MAX_STAGES - c.loop-used.used ≡ suc (MAX_STAGES - (c.loop-used.used + 1)) = omega arith in
-    let last = staged_end c.args.number c.args.net.now (MAX_STAGES - c.loop-used.used) (MAX_STAGES - (c.loop-used.used + 1))
+    let last = staged_end c.args.number c.args.course.now.net.now (MAX_STAGES - c.loop-used.used) (MAX_STAGES - (c.loop-used.used + 1))
     c.loop-used.place c.loop-used.content
-    (choice_at c.args.choices.now) c.loop-used.taken gave _ _ _ (g.O.Sink.seen c.write_outcome.new.out)
+    (choice_at c.args.course.now.choices.now) c.loop-used.taken gave _ _ _ (g.O.Sink.seen c.write_sent.new.out)
     left c.in_ok-outcome.ensures.function c.loop-used.invariant.progress (sym c.in-None.ensures)
-    (c.in_ok-write_outcome.ensures step.error tells slot) in
+    (c.in_ok-write_sent.ensures c.staged.new.content step.error tells c.bytes.ensures (c.as_slice.ensures ∙ slot)) in
     last.0
 
 pub returns-clause-ended : goal.returns-clause-ended
 returns-clause-ended g c =
     let left : MAX_STAGES - c.loop-used.used ≡ 0 = omega arith in
-    (progress_stops c.args.number c.args.net.now _ _ _ _ (walk_is_over c.args.net.now (MAX_STAGES - c.loop-used.used) _ _ _ _ left)
+    (progress_stops c.args.number c.args.course.now.net.now _ _ _ _ (walk_is_over c.args.course.now.net.now (MAX_STAGES - c.loop-used.used) _ _ _ _ left)
     c.loop-used.invariant.progress).1
 
 pub returns-clause-wrote : goal.returns-clause-wrote
 returns-clause-wrote g c =
     let left : MAX_STAGES - c.loop-used.used ≡ 0 = omega arith in
-    (progress_stops c.args.number c.args.net.now _ _ _ _ (walk_is_over c.args.net.now (MAX_STAGES - c.loop-used.used) _ _ _ _ left)
+    (progress_stops c.args.number c.args.course.now.net.now _ _ _ _ (walk_is_over c.args.course.now.net.now (MAX_STAGES - c.loop-used.used) _ _ _ _ left)
     c.loop-used.invariant.progress).0

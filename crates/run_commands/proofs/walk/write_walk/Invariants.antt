@@ -7,8 +7,8 @@ use Rattle.run_commands.proofs.walk.write_walk.Given as goal
 
 abbrev pub invariant-loop-used : goal.invariant-loop-used
 invariant-loop-used g l = record {
-  place : IsPlace l.net l.place;
+  place : IsPlace l.course.net.now l.place;
   taken : l.taken ≤ l.used;
-  progress : Progress l.number l.net (walk_of (MAX_STAGES - l.used) l.net (Some l.place) l.content (choice_at l.choices) l.taken)
-      (walk_of MAX_STAGES l.net (Some l.fn.start) l.fn.content (choice_at l.choices) 0) (g.O.Sink.seen l.fn.out) (g.O.Sink.seen l.out);
+  progress : Progress l.number l.course.net.now (walk_of (MAX_STAGES - l.used) l.course.net.now (Some l.place) l.content (choice_at l.course.choices.now) l.taken)
+      (walk_of MAX_STAGES l.course.net.now (Some l.fn.comes.place) l.fn.comes.content (choice_at l.course.choices.now) 0) (g.O.Sink.seen l.fn.out) (g.O.Sink.seen l.out);
 }

@@ -2,11 +2,11 @@ use Rattle.std.proofs.Common.{[]}
 use Rattle.std.proofs.lemmas.Result.{err_from_is_err_and}
 use Rattle.walk_rules.specs.Walk.{end_of}
 use Rattle.command_output.specs.Answers.{ending_of_step}
-use Rattle.run_commands.specs.Capture.{frames_of}
-use Rattle.run_commands.specs.Run.{walk_from}
 use Rattle.command_output.specs.Lines.{packet_line}
 use Rattle.command_output.proofs.PublicLaws.{cut_at_out, wanting_behind_out, line_behind_out}
-use Rattle.run_commands.proofs.run.walk_packet.Goals as goal
+use Rattle.run_commands.specs.Capture.{frames_of}
+use Rattle.run_commands.specs.Entry.{walk_of_comes}
+use Rattle.run_commands.proofs.driver.walk_packet.Goals as goal
 
 pub returns-in_err-ended : goal.returns-in_err-ended
 returns-in_err-ended g c =
@@ -21,7 +21,8 @@ returns-in_err-line g c =
 
 pub returns : goal.returns
 returns g c =
-    let steps = walk_from c.args.net.now c.args.node c.args.choices.now c.args.family c.args.content in
-    line_behind_out (frames_of c.args.number steps) (packet_line c.args.net.now c.args.number (end_of c.args.net.now steps)) [] _ _ _ _
+    let net = c.args.course.now.net.now in
+    let steps = walk_of_comes net c.args.course.now.choices.now c.args.comes in
+    line_behind_out (frames_of c.args.number steps) (packet_line net c.args.number (end_of net steps)) [] _ _ _ _
     c.in_ok-ended.ensures.wrote (ending_of_step c.write_all.result)
     (rw (c.as_bytes.ensures.value, c.in_ok-line.ensures, c.in_ok-ended.ensures.ended) at c.write_all.ensures)
