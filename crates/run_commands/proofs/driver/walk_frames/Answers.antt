@@ -22,3 +22,11 @@ returns-in_err-walk_at_hand-in-Frame-clause-wrote g c =
     (coming_of_frame c.args.course.now.net.now c.args.course.now.choices.now (g.W.Enters.entry c.args.enters.now)))
     _ _ _ _ _ _ c.frames.invariant (rw c.in-Frame.is at c.in_ok-next.ensures)
     c.in_err-walk_at_hand-in-Frame.field-0.0 c.in_err-walk_at_hand-in-Frame.ensures)
+
+pub returns-in_err-next-clause-wrote : goal.returns-in_err-next-clause-wrote
+returns-in_err-next-clause-wrote g c =
+    let p = err_from_is_err_and c.from_residual.result c.from_residual.ensures.1 in
+    rw (p.1, p.2) (walked_in_part
+    (pieces_of_frame c.args.course.now.net.now
+    (coming_of_frame c.args.course.now.net.now c.args.course.now.choices.now (g.W.Enters.entry c.args.enters.now)))
+    _ _ _ _ c.frames.invariant)

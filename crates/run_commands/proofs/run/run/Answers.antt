@@ -166,7 +166,7 @@ module _ (file name choices schedule : List ℕ) (f g : FilesSeen) (s t : Source
 -- the goals
 
 pub drive-requires-clause-within : goal.drive-requires-clause-within
-drive-requires-clause-within g c = at_node-within c.in_ok-net.net c.in_ok-node.node c.in_ok-node.ensures.there
+drive-requires-clause-within g c = at_node-within c.in_ok-net.net c.in_ok-node.node c.in_ok-node.ensures.within
 
 pub returns-in_err-net : goal.returns-in_err-net
 returns-in_err-net g c =
