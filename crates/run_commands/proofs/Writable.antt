@@ -1,15 +1,17 @@
 -- What a stage sends can be written: its link is there, and its packet is no longer than a packet can be.
-use Rattle.std.proofs.Common.{◌≡◌, ℕ, zero, suc, ◌<◌, ◌≤◌, Bool, true, false, List, [], ◌∷◌, length, drop, ◌^◌, length-append, slice_get, Option, Some, None, sym, arith, subst}
+use Rattle.std.proofs.Common.{◌≡◌, ℕ, zero, suc, ◌<◌, ◌≤◌, Bool, true, false, List, [], ◌∷◌, length, drop, take, ◌^◌, length-append, slice_get, Option, Some, None, sym, ap, ◌∙◌, min, arith, subst}
 use Rattle.std.specs.Prelude.{Result, Ok, Err, IfOk}
+use Rattle.std.proofs.lemmas.List.{take_min, take-take}
 use Rattle.std.proofs.lemmas.List.Elements.{All-drop}
 use Rattle.srv6_rules.specs.declared.sid.Behaviour.{Behaviour}
 use Rattle.srv6_rules.specs.declared.sid.Reason.{Reason}
 use Rattle.srv6_rules.specs.declared.sid.Reason.TheVariants as reasons
 use Rattle.srv6_rules.specs.declared.sid.SidEntry.{SidEntry}
 use Rattle.srv6_rules.specs.Behaviours.{behaviour_policy, behaviour_reduces}
+use Rattle.srv6_rules.specs.declared.sid.Family.{Family}
 use Rattle.srv6_rules.specs.declared.sid.Family.TheVariants as families
 use Rattle.srv6_rules.specs.Policies.{Encapsulating, Outer, TooBig, InnerHop, pushed_by}
-use Rattle.srv6_rules.specs.Packet.{Packet, Content, V6, V4, Unreadable, IsContent, bytes_of, most_len, spelling}
+use Rattle.srv6_rules.specs.Packet.{Packet, Content, V6, V4, Unreadable, IsContent, bytes_of, entered, most_len, read_as, spelling}
 use Rattle.srv6_rules.specs.Packet as packets
 use Rattle.srv6_rules.specs.Packet4.{Packet4, IsSpellable4, spelling4, destination4, total_len}
 use Rattle.srv6_rules.specs.Endpoint.{Endpoint, Onward, Exposed, Delivered, Refused, at_sid, at_address}
@@ -172,3 +174,10 @@ at_node-within net node there (bodies.V6 packet) = (there, tt)
 at_node-within net node there (bodies.V4 packet) = (there, tt)
 at_node-within net node there bodies.ShortFrame = tt
 at_node-within net node there bodies.NotIp = tt
+
+-- of bytes that enter a node no more than a longest packet's are looked at
+pub entered-cut : (family : Family) (bytes cut : List ℕ) (len : ℕ) → len ≡ min most_len (length bytes) → cut ≡ take len bytes
+    → entered family cut ≡ entered family bytes
+entered-cut family bytes cut len least is =
+    let first : cut ≡ take most_len bytes = is ∙ (ap (λ (n : ℕ). take n bytes) least ∙ take_min most_len bytes) in
+    ap (read_as family) (ap (take most_len) first ∙ take-take most_len most_len bytes (omega arith))
