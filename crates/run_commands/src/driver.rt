@@ -9,13 +9,13 @@ ghost use Rattle.command_output.specs.Answers.{ending_of_step};
 ghost use Rattle.command_output.specs.Pieces.{WroteAll, sinks_of};
 ghost use Rattle.command_inputs.specs.Packets.{HasHead, fault_of, reading_of};
 ghost use Rattle.walk_rules.specs.Relation.{IsPlace};
-ghost use Rattle.run_commands.specs.Entry.{AllEnterIn, StaysIn, coming_if_comes, coming_of_frame, comings_of_frames, driven_pieces, in_flight_if_comes, comes_of, line_of_frame, line_of_stays, packet_pieces, pieces_of_frame, pieces_one_by_one, walk_of_comes};
+ghost use Rattle.run_commands.specs.Entry.{AllEnterIn, StaysIn, coming_of_frame, comings_of_frames, driven_pieces, in_flight_if_comes, comes_of, line_of_frame, line_of_stays, packet_pieces, pieces_of_frame, walk_of_comes};
 ghost use Rattle.run_commands.specs.Scheduled.{IsEntered, IsInStep, scheduled_pieces};
 
 use crate::course::Course;
 use crate::enters::{Comes, Enters, Stays};
 use crate::scheduled::{Entered, write_turns};
-use crate::walk::{write_head, write_walk};
+use crate::written::{write_head, write_walk};
 use base::NoMemory;
 use command_inputs::{Found, Frames, Packets, Tells, tell_frames};
 use command_output::{Failure, Refusal, line_of_packet, line_of_unread, write_all};
@@ -96,30 +96,6 @@ fn walk_packet<O: Sink, E: Sink>(
     write_all(err, line.as_bytes())
 }
 
-/// Walks the packet of a frame, if it enters.
-fn walk_frame<W: Enters, O: Sink, E: Sink>(
-    alloc: Global,
-    course: &Course<'_>,
-    enters: &W,
-    frame: &LentFrame<'_>,
-    room: &mut Vec<u8>,
-    out: &mut O,
-    err: &mut E,
-) -> Result<(), Failure>
-    requires ready { W.ready enters.now }
-    requires within { AllEnterIn course.now.net.now (W.entry enters.now) }
-    requires choices { 0 < length course.now.choices.now }
-    ensures { WroteAll (ending_of_step result)
-        (pieces_of_frame course.now.net.now
-        (coming_of_frame course.now.net.now course.now.choices.now (W.entry enters.now)) frame.now)
-        (sinks_of (O.seen out.old) (E.seen err.old)) (sinks_of (O.seen out.new) (E.seen err.new)) }
-{
-    match enters.enter(alloc, frame)? {
-        Some(comes) => walk_packet(alloc, course, comes, frame.number(), room, out, err),
-        None => Ok(()),
-    }
-}
-
 /// Walks the packet of the frame at hand, if it enters.
 fn walk_at_hand<N: Frames, W: Enters, O: Sink, E: Sink>(
     alloc: Global,
@@ -138,8 +114,11 @@ fn walk_at_hand<N: Frames, W: Enters, O: Sink, E: Sink>(
         (coming_of_frame course.now.net.now course.now.choices.now (W.entry enters.now)) frame)
         (sinks_of (O.seen out.old) (E.seen err.old)) (sinks_of (O.seen out.new) (E.seen err.new))) }
 {
-    match frames.frame() {
-        Some(frame) => walk_frame(alloc, course, enters, &frame, room, out, err),
+    let Some(frame) = frames.frame() else {
+        return Ok(());
+    };
+    match enters.enter(alloc, &frame)? {
+        Some(comes) => walk_packet(alloc, course, comes, frame.number(), room, out, err),
         None => Ok(()),
     }
 }
@@ -173,29 +152,6 @@ fn walk_frames<N: Frames, W: Enters, O: Sink, E: Sink>(
     }
 }
 
-/// The packet of a frame enters beside those before it, if it does.
-fn enter_frame<'a, W: Enters>(
-    alloc: Global,
-    course: &Course<'a>,
-    enters: &W,
-    frame: &LentFrame<'_>,
-    entered: &mut Entered<'a>,
-) -> Result<(), NoMemory>
-    requires ready { W.ready enters.now }
-    requires within { AllEnterIn entered.old.flight.net (W.entry enters.now) }
-    requires choices { 0 < length course.now.choices.now }
-    requires few { length entered.old.flight.packets + 1 < 2 ^ 32 }
-    ensures { OnOk result (IsEntered frame.now.number
-        (in_flight_if_comes course.now.choices.now (comes_of (W.entry enters.now frame.now.body)))
-        entered.old.numbers.items entered.old.flight
-        entered.new.numbers.items entered.new.flight) }
-{
-    match enters.enter(alloc, frame)? {
-        Some(comes) => entered.enter(frame.number(), comes.content, comes.place, course.choices),
-        None => Ok(()),
-    }
-}
-
 /// The packet of the frame at hand enters beside those before it, if it does.
 fn enter_at_hand<'a, N: Frames, W: Enters>(
     alloc: Global,
@@ -213,8 +169,11 @@ fn enter_at_hand<'a, N: Frames, W: Enters>(
         entered.old.numbers.items entered.old.flight
         entered.new.numbers.items entered.new.flight)) }
 {
-    match frames.frame() {
-        Some(frame) => enter_frame(alloc, course, enters, &frame, entered),
+    let Some(frame) = frames.frame() else {
+        return Ok(());
+    };
+    match enters.enter(alloc, &frame)? {
+        Some(comes) => entered.enter(frame.number(), comes.content, comes.place, course.choices),
         None => Ok(()),
     }
 }
@@ -246,32 +205,8 @@ fn enter_frames<'a, N: Frames, W: Enters>(
     }
 }
 
-/// Walks the packets of all frames that enter in the order of the schedule, and gives the refusal of
-/// what comes after the frames, if anything does.
-fn walk_in_turns<N: Frames, W: Enters, O: Sink, E: Sink>(
-    alloc: Global,
-    course: &Course<'_>,
-    enters: &W,
-    frames: &mut N,
-    out: &mut O,
-    err: &mut E,
-) -> Result<Option<Refusal>, Failure>
-    requires ready { W.ready enters.now }
-    requires within { AllEnterIn course.now.net.now (W.entry enters.now) }
-    requires choices { 0 < length course.now.choices.now }
-    ensures fault { IfOk result (λ fault. fault ≡ (N.seen frames.old).end) }
-    ensures wrote { WroteAll (ending_of_step result)
-        (scheduled_pieces course.now.net.now course.now.schedule.now
-        (comings_of_frames course.now.net.now course.now.choices.now (W.entry enters.now)
-        (N.seen frames.old).frames))
-        (sinks_of (O.seen out.old) (E.seen err.old)) (sinks_of (O.seen out.new) (E.seen err.new)) }
-{
-    let (entered, fault) = enter_frames(alloc, course, enters, frames)?;
-    write_turns(alloc, course, entered, out, err)?;
-    Ok(fault)
-}
-
-/// The same whether there is a schedule or none.
+/// Walks the packets of all frames that enter, in the order of the schedule or one after the other, and
+/// gives the refusal of what comes after the frames, if anything does.
 fn walk_by_schedule<N: Frames, W: Enters, O: Sink, E: Sink>(
     alloc: Global,
     course: &Course<'_>,
@@ -293,7 +228,9 @@ fn walk_by_schedule<N: Frames, W: Enters, O: Sink, E: Sink>(
     if course.schedule.is_empty() {
         return walk_frames(alloc, course, enters, frames, out, err);
     }
-    walk_in_turns(alloc, course, enters, frames, out, err)
+    let (entered, fault) = enter_frames(alloc, course, enters, frames)?;
+    write_turns(alloc, course, entered, out, err)?;
+    Ok(fault)
 }
 
 /// Writes the capture's head, then the lines of the packets that stay, of a first source of the

@@ -13,9 +13,9 @@ pub mod laws;
 pub mod run;
 mod scheduled;
 pub mod show;
-mod walk;
+mod written;
 
 pub use course::Course;
 pub use driver::drive;
 pub use enters::{Comes, Enters, Stays};
-pub use walk::staged;
+pub use written::staged;

@@ -15,7 +15,7 @@ ghost use Rattle.run_commands.specs.Scheduled.{IsInStep, line_by, pieces_of_stag
 ghost use Rattle.command_output.specs.Sent.{IsEnd};
 
 use crate::course::Course;
-use crate::walk::write_sent;
+use crate::written::write_sent;
 use base::NoMemory;
 use command_output::{Failure, line_of_packet, write_all};
 use net_model::Net;

@@ -6,7 +6,7 @@ use Rattle.walk_rules.specs.Treatment.{Gave, step_of}
 use Rattle.walk_rules.specs.Walk.{walk_of, choice_at}
 use Rattle.walk_rules.specs.declared.limits.TheConstants.{MAX_STAGES}
 use Rattle.run_commands.proofs.Walking.{Progress, progress_stops, progress_wants, walk_is_over, staged_on, staged_end, staged_cut}
-use Rattle.run_commands.proofs.walk.write_walk.Goals as goal
+use Rattle.run_commands.proofs.written.write_walk.Goals as goal
 
 pub loop-used-preserved : goal.loop-used-preserved
 loop-used-preserved g c =
