@@ -2,6 +2,7 @@
 use Rattle.std.proofs.Common.{◌≡◌, ℕ, ◌+◌, ◌≤◌, Bool, true, false, List, length, take, refl, sym, ap, ◌∙◌, subst, arith, take_all}
 use Rattle.std.specs.Prelude.{◌==◌, ◌/◌, nat_lt, slice_index, if◌then◌else◌}
 use Rattle.std.proofs.lemmas.Bool.{ltb-false}
+use Rattle.std.proofs.lemmas.List.{length-take-le}
 use Rattle.srv6_rules.specs.declared.numbers.TheConstants.{IPV6_VERSION}
 use Rattle.srv6_rules.specs.declared.policy.Policy.{Policy}
 use Rattle.srv6_rules.specs.declared.sid.Family.TheVariants as families
@@ -14,8 +15,8 @@ use Rattle.ip6_headers.specs.Reading.{HoldsPacket}
 use Rattle.ip6_headers.proofs.PublicLaws.{holds-spellable, holds-payload_len, holds-front}
 use Rattle.policy_encap.specs.Inner.{HoldsInner}
 use Rattle.policy_encap.specs.Answers.{Makes}
-use Rattle.walk_commands.specs.declared.headend.AtHeadend.TheVariants.{Enters}
-use Rattle.walk_commands.specs.Walk.{of_content, of_encapsulating}
+use Rattle.walk_commands.specs.Walk.{Enters, of_content, of_encapsulating}
+use Rattle.walk_commands.specs.Headend.{IsInnerOf}
 
 pub made_enters : (wanted : Encapsulating) (bytes : List ℕ) → Makes wanted bytes → Enters (entered families.V6 bytes) ≡ of_encapsulating wanted
 made_enters wanted bytes m =
@@ -60,9 +61,9 @@ spelling-holds p ok =
 v6-same : {p q : Packet} → V6 p ≡ V6 q → p ≡ q
 v6-same e = cc
 
--- bytes that hold a packet, cut behind its end
-module _ (bytes cut : List ℕ) (view : Packet) (n : ℕ) (holds : HoldsPacket bytes) (content : content_of bytes ≡ V6 view)
-    (end : n ≡ header_len + length view.payload) (is : cut ≡ take n bytes) where
+-- bytes that hold a packet
+module _ (bytes : List ℕ) (view : Packet) (n : ℕ) (holds : HoldsPacket bytes) (content : content_of bytes ≡ V6 view)
+    (end : n ≡ header_len + length view.payload) where
   view-is : view ≡ packet_at bytes
   view-is = v6-same (sym content ∙ holds.reads)
 
@@ -70,24 +71,44 @@ module _ (bytes cut : List ℕ) (view : Packet) (n : ℕ) (holds : HoldsPacket b
   end-is = end ∙ (ap (λ (p : Packet). header_len + length p.payload) view-is
       ∙ ap (λ (k : ℕ). header_len + k) (holds-payload_len bytes holds))
 
-  cut-spelled : cut ≡ spelling (packet_at bytes)
-  cut-spelled = is ∙ (ap (λ (k : ℕ). take k bytes) end-is ∙ holds-front bytes holds)
+  -- its end is within them
+  pub end_within : n ≤ length bytes
+  end_within = let is = end-is in let whole = holds.whole in omega (arith, is, whole)
 
-  cut-packet : packet_at cut ≡ packet_at bytes
-  cut-packet = ap packet_at cut-spelled ∙ (spelling-holds (packet_at bytes) (holds-spellable bytes holds)).1
+  -- they are cut there
+  module _ (cut : List ℕ) (is : cut ≡ take n bytes) where
+    cut-spelled : cut ≡ spelling (packet_at bytes)
+    cut-spelled = is ∙ (ap (λ (k : ℕ). take k bytes) end-is ∙ holds-front bytes holds)
 
-  cut-holds : HoldsPacket cut
-  cut-holds = subst HoldsPacket (sym cut-spelled) (spelling-holds (packet_at bytes) (holds-spellable bytes holds)).0
+    cut-packet : packet_at cut ≡ packet_at bytes
+    cut-packet = ap packet_at cut-spelled ∙ (spelling-holds (packet_at bytes) (holds-spellable bytes holds)).1
 
-  pub cut_inner : HoldsInner families.V6 cut
-  cut_inner =
-      let payload = holds-payload_len cut cut-holds in
-      let len : length cut ≡ 40 + length (packet_at cut).payload =
-      ap length cut-spelled ∙ (length-spelling (packet_at bytes)
-      ∙ ap (λ (p : Packet). 40 + length p.payload) (sym cut-packet)) in
-      (cut-holds, len ∙ ap (λ (k : ℕ). 40 + k) payload)
+    cut-holds : HoldsPacket cut
+    cut-holds = subst HoldsPacket (sym cut-spelled) (spelling-holds (packet_at bytes) (holds-spellable bytes holds)).0
 
-  pub cut_enters : (policy : Policy) → of_encapsulating (encapsulated_by policy families.V6 cut) ≡ of_content policy (content_of bytes)
-  cut_enters policy =
-      ap (λ (p : Packet). of_encapsulating (headend_by policy families.V6 p.hop_limit (spelling (inner_lowered p)))) cut-packet
-      ∙ ap (of_content policy) (sym holds.reads)
+    cut-inner : HoldsInner families.V6 cut
+    cut-inner =
+        let payload = holds-payload_len cut cut-holds in
+        let len : length cut ≡ 40 + length (packet_at cut).payload =
+        ap length cut-spelled ∙ (length-spelling (packet_at bytes)
+        ∙ ap (λ (p : Packet). 40 + length p.payload) (sym cut-packet)) in
+        (cut-holds, len ∙ ap (λ (k : ℕ). 40 + k) payload)
+
+    cut-enters : (policy : Policy) → of_encapsulating (encapsulated_by policy families.V6 cut) ≡ of_content policy (content_of bytes)
+    cut-enters policy =
+        ap (λ (p : Packet). of_encapsulating (headend_by policy families.V6 p.hop_limit (spelling (inner_lowered p)))) cut-packet
+        ∙ ap (of_content policy) (sym holds.reads)
+
+    cut-short : length bytes ≤ most_len → length cut ≤ most_len
+    cut-short short =
+        let within = end_within in
+        let len : length cut ≡ n = ap length is ∙ length-take-le n bytes end_within in
+        omega (arith, within, len, short)
+
+    -- the cut is the packet alone, of all bytes of which these are the most that may be one
+    pub cut_inner : (all : List ℕ) → bytes ≡ take most_len all → length bytes ≤ most_len → IsInnerOf families.V6 cut all
+    cut_inner all most short = record {
+      holds = cut-inner;
+      short = cut-short short;
+      same = λ policy. cut-enters policy ∙ ap (λ (xs : List ℕ). of_content policy (content_of xs)) most;
+    }

@@ -1,14 +1,15 @@
 -- What enters the headend as IPv4, up to its end, and what it makes of it.
-use Rattle.std.proofs.Common.{◌≡◌, ℕ, ◌^◌, ◌<◌, Bool, true, false, List, length, take, refl, sym, ap, ◌∙◌, subst}
+use Rattle.std.proofs.Common.{◌≡◌, ℕ, ◌^◌, ◌<◌, ◌≤◌, Bool, true, false, List, length, take, refl, sym, ap, ◌∙◌, subst, arith}
 use Rattle.std.specs.Prelude.{◌==◌, ◌/◌, ◌||◌, nat_lt, slice_index, if◌then◌else◌, Result, Ok, Err}
 use Rattle.std.proofs.lemmas.Bool.{ltb-false}
+use Rattle.std.proofs.lemmas.List.{length-take-le}
 use Rattle.std.proofs.lemmas.List.Elements.{All-append}
 use Rattle.srv6_rules.specs.declared.numbers.TheConstants.{IPV4_VERSION, IPV4_HEADER_LEN}
 use Rattle.srv6_rules.specs.declared.policy.Policy.{Policy}
 use Rattle.srv6_rules.specs.declared.sid.Family.TheVariants as families
 use Rattle.srv6_rules.specs.declared.sid.Reason.{Reason}
 use Rattle.srv6_rules.specs.declared.sid.Reason.TheVariants.{Truncated, BadVersion}
-use Rattle.srv6_rules.specs.Packet.{Unreadable, content4_by}
+use Rattle.srv6_rules.specs.Packet.{Unreadable, content4_by, most_len}
 use Rattle.srv6_rules.specs.Packet4.{Packet4, IsSpellable4, ttl, spelling4, read4, packet4_at, stated_header_len, total_len, lowered4}
 use Rattle.srv6_rules.specs.Policies.{headend_by, encapsulated_by}
 use Rattle.srv6_rules.proofs.PublicLaws.{read4-alone}
@@ -18,8 +19,8 @@ use Rattle.ip6_headers.specs.Reading.{unreadable}
 use Rattle.ip6_headers.specs.Reading4.{HoldsPacket4, reason_of}
 use Rattle.ip6_headers.proofs.PublicLaws.{holds4-spellable, holds4-length, holds4-front}
 use Rattle.policy_encap.specs.Inner.{HoldsInner}
-use Rattle.walk_commands.specs.declared.headend.AtHeadend.TheVariants.{Dropped}
-use Rattle.walk_commands.specs.Walk.{of_content, of_encapsulating}
+use Rattle.walk_commands.specs.Walk.{Dropped, of_content, of_encapsulating}
+use Rattle.walk_commands.specs.Headend.{IsInnerOf}
 
 -- bytes that read as a packet hold it
 
@@ -73,32 +74,52 @@ dropped4 policy bytes faults.Truncated reason same reads =
 dropped4 policy bytes faults.BadVersion reason same reads =
     ap (of_content policy) (same bytes) ∙ ap (λ (r : Result Packet4 Reason). of_content policy (content4_by bytes r)) (sym reads)
 
--- bytes that hold a packet, cut behind its end
-module _ (bytes cut : List ℕ) (view : Packet4) (n : ℕ) (holds : HoldsPacket4 bytes) (content : read4 bytes ≡ Ok view)
-    (end : n ≡ length (spelling4 view)) (is : cut ≡ take n bytes) where
+-- bytes that hold a packet
+module _ (bytes : List ℕ) (view : Packet4) (n : ℕ) (holds : HoldsPacket4 bytes) (content : read4 bytes ≡ Ok view)
+    (end : n ≡ length (spelling4 view)) where
   view-is : view ≡ packet4_at bytes
   view-is = v4-same (sym content ∙ holds.reads)
 
   end-is : n ≡ total_len bytes
   end-is = end ∙ (ap (λ (p : Packet4). length (spelling4 p)) view-is ∙ holds4-length bytes holds)
 
-  cut-spelled : cut ≡ spelling4 (packet4_at bytes)
-  cut-spelled = is ∙ (ap (λ (k : ℕ). take k bytes) end-is ∙ holds4-front bytes holds)
+  -- its end is within them
+  pub end_within4 : n ≤ length bytes
+  end_within4 = let is = end-is in let whole = holds.whole in omega (arith, is, whole)
 
-  cut-packet : packet4_at cut ≡ packet4_at bytes
-  cut-packet = ap packet4_at cut-spelled ∙ (spelling-holds (packet4_at bytes) (holds4-spellable bytes holds)).1
+  -- they are cut there
+  module _ (cut : List ℕ) (is : cut ≡ take n bytes) where
+    cut-spelled : cut ≡ spelling4 (packet4_at bytes)
+    cut-spelled = is ∙ (ap (λ (k : ℕ). take k bytes) end-is ∙ holds4-front bytes holds)
 
-  cut-holds : HoldsPacket4 cut
-  cut-holds = subst HoldsPacket4 (sym cut-spelled) (spelling-holds (packet4_at bytes) (holds4-spellable bytes holds)).0
+    cut-packet : packet4_at cut ≡ packet4_at bytes
+    cut-packet = ap packet4_at cut-spelled ∙ (spelling-holds (packet4_at bytes) (holds4-spellable bytes holds)).1
 
-  pub cut_inner4 : HoldsInner families.V4 cut
-  cut_inner4 =
-      let len : length cut ≡ total_len cut =
-      ap length (cut-spelled ∙ ap spelling4 (sym cut-packet)) ∙ holds4-length cut cut-holds in
-      (cut-holds, len)
+    cut-holds : HoldsPacket4 cut
+    cut-holds = subst HoldsPacket4 (sym cut-spelled) (spelling-holds (packet4_at bytes) (holds4-spellable bytes holds)).0
 
-  pub cut_enters4 : (policy : Policy)
-      → of_encapsulating (encapsulated_by policy families.V4 cut) ≡ of_content policy (content4_by bytes (read4 bytes))
-  cut_enters4 policy =
-      ap (λ (p : Packet4). of_encapsulating (headend_by policy families.V4 (ttl p) (spelling4 (lowered4 p)))) cut-packet
-      ∙ ap (λ (r : Result Packet4 Reason). of_content policy (content4_by bytes r)) (sym holds.reads)
+    cut-inner4 : HoldsInner families.V4 cut
+    cut-inner4 =
+        let len : length cut ≡ total_len cut =
+        ap length (cut-spelled ∙ ap spelling4 (sym cut-packet)) ∙ holds4-length cut cut-holds in
+        (cut-holds, len)
+
+    cut-enters4 : (policy : Policy)
+        → of_encapsulating (encapsulated_by policy families.V4 cut) ≡ of_content policy (content4_by bytes (read4 bytes))
+    cut-enters4 policy =
+        ap (λ (p : Packet4). of_encapsulating (headend_by policy families.V4 (ttl p) (spelling4 (lowered4 p)))) cut-packet
+        ∙ ap (λ (r : Result Packet4 Reason). of_content policy (content4_by bytes r)) (sym holds.reads)
+
+    cut-short4 : length bytes ≤ most_len → length cut ≤ most_len
+    cut-short4 short =
+        let within = end_within4 in
+        let len : length cut ≡ n = ap length is ∙ length-take-le n bytes end_within4 in
+        omega (arith, within, len, short)
+
+    -- the cut is the packet alone, of all bytes of which these are the most that may be one
+    pub cut_inner4 : (all : List ℕ) → bytes ≡ take most_len all → length bytes ≤ most_len → IsInnerOf families.V4 cut all
+    cut_inner4 all most short = record {
+      holds = cut-inner4;
+      short = cut-short4 short;
+      same = λ policy. cut-enters4 policy ∙ ap (λ (xs : List ℕ). of_content policy (content4_by xs (read4 xs))) most;
+    }

@@ -1,1 +1,2 @@
+pub mod Headend
 pub mod Walk

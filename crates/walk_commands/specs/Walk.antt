@@ -6,10 +6,10 @@ use Rattle.v6_addr.specs.declared.address.Addr.{Addr}
 use Rattle.pcap_io.specs.declared.frame.Body.{Body}
 use Rattle.pcap_io.specs.declared.frame.Body.TheVariants as bodies
 use Rattle.pcap_io.specs.declared.frame.Frame.{Frame}
-use Rattle.pcap_io.specs.Capture.{written_head_bytes}
 use Rattle.srv6_rules.specs.declared.policy.Policy.{Policy}
 use Rattle.srv6_rules.specs.declared.sid.Family.TheVariants as families
 use Rattle.srv6_rules.specs.declared.sid.Family.{Family}
+use Rattle.srv6_rules.specs.declared.sid.Reason.{Reason}
 use Rattle.srv6_rules.specs.declared.sid.Reason.TheVariants as reasons
 use Rattle.srv6_rules.specs.Encapsulation.{inner_lowered}
 use Rattle.srv6_rules.specs.Packet.{Content, V6, V4, Unreadable, bytes_of, entered, most_len, spelling}
@@ -18,6 +18,8 @@ use Rattle.srv6_rules.specs.Policies.{Encapsulating, Outer, TooBig, InnerHop, he
 use Rattle.net_model.specs.Network.{Network}
 use Rattle.net_model.specs.Rules.{same_family}
 use Rattle.walk_rules.specs.declared.place.Ended.TheVariants as ends
+use Rattle.walk_rules.specs.declared.place.How.TheVariants.{Submitted}
+use Rattle.walk_rules.specs.declared.place.Place.{Place}
 use Rattle.walk_rules.specs.Walk.{Stage, walk_of, choice_at}
 use Rattle.intent_reader.specs.declared.intent.Intent.{Intent}
 use Rattle.list_pack.specs.SidLists.{list_values}
@@ -28,11 +30,9 @@ use Rattle.path_compiler.specs.declared.compiled.Compiled.{Compiled}
 use Rattle.path_compiler.specs.declared.compiled.CompileFault.{CompileFault}
 use Rattle.path_compiler.specs.declared.compiled.CompileFault.TheVariants as faults
 use Rattle.path_compiler.specs.Compiled.{IsCompiled, IsLeastOfAll}
-use Rattle.packet_walk.specs.Flight.{InFlight, entering}
 use Rattle.packet_walk.specs.Schedule.{Coming}
 use Rattle.srx_edge.specs.Edge.{file_named}
-use Rattle.walk_commands.specs.declared.headend.AtHeadend.{AtHeadend}
-use Rattle.walk_commands.specs.declared.headend.AtHeadend.TheVariants.{NotRead, Dropped, Enters}
+use Rattle.walk_commands.specs.declared.headend.Headend.{Headend}
 use Rattle.walk_commands.specs.declared.start.Start.{Start}
 use Rattle.walk_commands.specs.declared.start.Start.TheVariants as starts
 use Rattle.command_output.specs.declared.halt.Failure.TheVariants as failures
@@ -40,6 +40,7 @@ use Rattle.command_output.specs.declared.halt.Halt.{Halt}
 use Rattle.command_output.specs.declared.halt.Halt.TheVariants as halts
 use Rattle.walk_rules.specs.declared.limits.TheConstants.{MAX_STAGES}
 use Rattle.command_inputs.specs.declared.packets.Packets.{Packets}
+use Rattle.command_output.specs.declared.unread.Unread.{Unread}
 use Rattle.command_output.specs.declared.unread.Unread.TheVariants as unreads
 use Rattle.command_output.specs.declared.refusal.Refusal.{Refusal}
 use Rattle.command_output.specs.declared.status.Status.TheVariants as statuses
@@ -47,10 +48,11 @@ use Rattle.compile_commands.specs.Compile.{CompiledWants, NetworkWants, none_lin
 use Rattle.command_output.specs.Halts.{flat_refusal}
 use Rattle.command_inputs.specs.Judgements.{network_in, intent_in, asks_behind_network}
 use Rattle.command_output.specs.Outputs.{refused, after, ended_by}
-use Rattle.command_output.specs.Lines.{bytes_of_text, packet_line, unread_line}
+use Rattle.command_output.specs.Lines.{bytes_of_text}
 use Rattle.command_inputs.specs.Packets.{packets_in, reading_of, fault_of}
-use Rattle.command_output.specs.Pieces.{Piece, ForOut, ForErr, Output}
-use Rattle.run_commands.specs.Scheduled.{coming, scheduled_pieces}
+use Rattle.command_output.specs.Pieces.{Piece, ForErr, Output}
+use Rattle.run_commands.specs.declared.enters.Stays.TheVariants as stays
+use Rattle.run_commands.specs.Entry.{Entry, Staying, Entering, comings_of_frames, driven_pieces}
 use Rattle.command_output.specs.Shape.{Held, Shape}
 use Rattle.command_output.specs.Verbs.{has_two_words}
 
@@ -73,8 +75,17 @@ policy_of net intent c =
       reduced = intent.reduced;
     }
 
+-- the headend of an intent, with the list that it is compiled to
+abbrev pub headend_of : Network → Intent → Compiled → Headend
+headend_of net intent c = record { node = intent.headend; inner = intent.inner; policy = policy_of net intent c }
+
 -- what becomes of a frame's packet at the headend, before the first stage: it isn't read, it is dropped, or it is encapsulated; a packet
 -- of another family than the intent's isn't read
+
+pub data AtHeadend : Type 0 where
+  NotRead : Unread → AtHeadend
+  Dropped : Reason → AtHeadend
+  Enters : Content → AtHeadend
 
 abbrev pub of_encapsulating : Encapsulating → AtHeadend
 of_encapsulating (Outer packet) = Enters (V6 packet)
@@ -96,61 +107,40 @@ at_headend policy inner (bodies.V4 bytes) = of_bytes policy inner families.V4 by
 at_headend policy inner bodies.ShortFrame = NotRead unreads.ShortFrame
 at_headend policy inner bodies.NotIp = NotRead unreads.NotIp
 
--- the line of a packet that ends there
-abbrev pub ended_line : Network → ℕ → ℕ → AtHeadend → List ℕ
-ended_line net node number (NotRead cause) = unread_line number cause
-ended_line net node number (Dropped reason) = packet_line net number (ends.Dropped node reason)
-ended_line net node number (Enters content) = []
+-- where what is encapsulated stands: it is submitted to the node's table 0
+abbrev pub submitted_at : ℕ → Place
+submitted_at node = record { node = node; how = Submitted 0; family = families.V6 }
 
-abbrev pub ended_of_frame : Network → Intent → Policy → Frame → List ℕ
-ended_of_frame net intent policy frame = ended_line net intent.headend frame.number (at_headend policy intent.inner frame.body)
+-- so a packet that isn't read or is dropped stays, and one that is encapsulated enters the network
+
+abbrev pub entry_of : ℕ → AtHeadend → Entry
+entry_of node (NotRead cause) = Staying (stays.NotRead cause)
+entry_of node (Dropped reason) = Staying (stays.Ends (ends.Dropped node reason))
+entry_of node (Enters content) = Entering (record { place = submitted_at node; content = content })
+
+abbrev pub entry_at_headend : Headend → Body → Entry
+entry_at_headend h body = entry_of h.node (at_headend h.policy h.inner body)
 
 -- the walk of what the headend encapsulated: it submits it to table 0
 abbrev pub walk_at_headend : Network → Intent → List ℕ → Content → List Stage
 walk_at_headend net intent choices content = walk_of MAX_STAGES net (Some (headend_place intent)) content (choice_at choices) 0
 
--- a frame's packet by its number and its walk, if the headend encapsulates it
-abbrev pub coming_at : Network → Intent → List ℕ → ℕ → AtHeadend → List Coming
-coming_at net intent choices number (NotRead cause) = []
-coming_at net intent choices number (Dropped reason) = []
-coming_at net intent choices number (Enters content) = coming number (walk_at_headend net intent choices content)
+-- the packets that it encapsulates, by their numbers and their walks
+abbrev pub comings_at_headend : Network → Headend → List ℕ → List Frame → List Coming
+comings_at_headend net headend choices frames = comings_of_frames net choices (entry_at_headend headend) frames
 
-abbrev pub coming_of_frame : Network → Intent → Policy → List ℕ → Frame → List Coming
-coming_of_frame net intent policy choices frame =
-    coming_at net intent choices frame.number (at_headend policy intent.inner frame.body)
+-- the head of the capture that is written; the lines of the packets that stay at the headend, by their numbers; and the stages of
+-- the others in the order of a schedule
+abbrev pub walk_pieces : Network → Headend → List ℕ → List ℕ → List Frame → List Piece
+walk_pieces net headend choices schedule frames = driven_pieces net choices schedule (entry_at_headend headend) frames
 
--- a frame's packet as it enters at the headend, if that encapsulates it
-abbrev pub entering_at : Intent → List ℕ → AtHeadend → Option InFlight
-entering_at intent choices (NotRead cause) = None
-entering_at intent choices (Dropped reason) = None
-entering_at intent choices (Enters content) = Some (entering content (headend_place intent) choices)
-
-abbrev pub entering_of_frame : Intent → Policy → List ℕ → Frame → Option InFlight
-entering_of_frame intent policy choices frame = entering_at intent choices (at_headend policy intent.inner frame.body)
-
--- the packets that it encapsulates
-abbrev pub comings_at_headend : Network → Intent → Policy → List ℕ → List Frame → List Coming
-comings_at_headend net intent policy choices frames = flat_map (coming_of_frame net intent policy choices) frames
-
--- the head of the capture that is written; the lines of the packets that end at the headend, by their numbers; and the
--- stages of the others in the order of a schedule
-
-abbrev pub pieces_behind_head : Network → Intent → Policy → List ℕ → List ℕ → List Frame → List Piece
-pieces_behind_head net intent policy choices schedule frames =
-    ForErr (flat_map (ended_of_frame net intent policy) frames)
-    ∷ scheduled_pieces net schedule (comings_at_headend net intent policy choices frames)
-
-abbrev pub walk_pieces : Network → Intent → Policy → List ℕ → List ℕ → List Frame → List Piece
-walk_pieces net intent policy choices schedule frames =
-    ForOut written_head_bytes ∷ pieces_behind_head net intent policy choices schedule frames
-
-abbrev pub walked : Network → Intent → Policy → List ℕ → List ℕ → Packets → Output
-walked net intent policy choices schedule packets =
-    ended_by (walk_pieces net intent policy choices schedule (reading_of packets).frames) (fault_of (reading_of packets))
+abbrev pub walked : Network → Headend → List ℕ → List ℕ → Packets → Output
+walked net headend choices schedule packets =
+    ended_by (walk_pieces net headend choices schedule (reading_of packets).frames) (fault_of (reading_of packets))
 
 -- the input is judged where there is a list
-abbrev pub walk_output : Network → Intent → Policy → List ℕ → List ℕ → List ℕ → Output
-walk_output net intent policy choices schedule input = after (packets_in input) (walked net intent policy choices schedule)
+abbrev pub walk_output : Network → Headend → List ℕ → List ℕ → List ℕ → Output
+walk_output net headend choices schedule input = after (packets_in input) (walked net headend choices schedule)
 
 -- no list: the line that `compile` has, and no capture
 abbrev pub no_list : List ℕ → Output
@@ -174,7 +164,7 @@ pub record KeepsTo (net : Network) (intent : Intent) (c : Compiled) (choices : L
 -- the output of a list, whose walks keep to the intent
 abbrev pub ListWants : Network → Intent → List ℕ → List ℕ → List ℕ → Compiled → Output → Type 0
 ListWants net intent choices schedule input c output =
-    (output ≡ walk_output net intent (policy_of net intent c) choices schedule input)
+    (output ≡ walk_output net (headend_of net intent c) choices schedule input)
     × ((inner : Content) → IsEncapsulated intent.inner c inner → KeepsTo net intent c choices inner)
 
 -- the output of an answer of the compiler; want of memory has none
@@ -211,10 +201,10 @@ walk_shape file intent choices schedule = record {
       IsSomeAnd (file_named held file) (λ text. NetworkWants (WalkWants choices schedule input) (network_in text) (file_named held intent) output);
 }
 
--- how a walk starts, as its steps answer it: with the policy of a list, or there is no list, or the refusal
+-- how a walk starts, as its steps answer it: at the headend, with a list, or there is no list, or the refusal
 abbrev pub StartsAs : Network → Intent → Result Start Halt → Type 0
-StartsAs net intent (Ok (starts.List policy)) =
-    (c : Compiled) × IsCompiled net intent c × IsLeastOfAll net intent c × (policy ≡ policy_of net intent c)
+StartsAs net intent (Ok (starts.List headend)) =
+    (c : Compiled) × IsCompiled net intent c × IsLeastOfAll net intent c × (headend ≡ headend_of net intent c)
 StartsAs net intent (Ok (starts.NoList told)) =
     (choices schedule input : List ℕ) → CompiledWants (WalkWants choices schedule input) net intent (no_list (bytes_of_text told))
 StartsAs net intent (Err (halts.Refused refusal)) =

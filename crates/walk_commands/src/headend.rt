@@ -1,95 +1,147 @@
-//! What becomes of the inner packets at the headend: they are encapsulated, dropped, or not read.
+//! How packets enter at the headend of an intent: they are not read, they end there, or they are
+//! encapsulated and walk.
 
-ghost use Rattle.std.specs.Prelude.{◌≡◌, IfOk};
-ghost use Rattle.srv6_rules.specs.Packet.{entered};
-ghost use Rattle.srv6_rules.specs.Policies.{IsPolicy, encapsulated_by};
+ghost use Rattle.std.specs.Prelude.{◌≡◌, ◌≤◌, IfOk, MatchResult, length};
+ghost use Rattle.pcap_io.specs.Lending.{body_lent};
+ghost use Rattle.srv6_rules.specs.Packet.{most_len};
+ghost use Rattle.srv6_rules.specs.Policies.{IsPolicy};
 ghost use Rattle.policy_encap.specs.Inner.{HoldsInner};
-ghost use Rattle.walk_commands.specs.Walk.{at_headend, of_content, of_encapsulating};
+ghost use Rattle.walk_rules.specs.declared.place.Ended.TheVariants as ends;
+ghost use Rattle.run_commands.specs.declared.enters.Stays.TheVariants as stays;
+ghost use Rattle.run_commands.specs.Entry.{Staying, comes_of, stays_of};
+ghost use Rattle.walk_commands.specs.Headend.{IsInnerBy, entry_alone, entry_by_bytes};
+ghost use Rattle.walk_commands.specs.Walk.{entry_at_headend, submitted_at};
 
+use crate::inner::inner_packet;
 use base::NoMemory;
 use command_output::Unread;
-use ip6_headers::{Ip4View, Ip6View};
 use node_stage::Content;
-use pcap_io::Body;
+use pcap_io::{LentBody, LentFrame};
 use pkt_buf::PktBuf;
-use policy_encap::{EncapFault, encap};
-use srv6_rules::numbers::{IPV6_HEADER_LEN, MAX_PACKET_LEN};
+use policy_encap::{EncapFault, encap, encap_fault};
+use run_commands::{Comes, Enters, Stays};
+use srv6_rules::numbers::{IPV6_HEADER_LEN, SEGMENT_LEN, SEGMENT_LIST_AT};
 use srv6_rules::{Family, Policy, Reason};
+use std::alloc::Global;
+use walk_rules::{Ended, How, Place};
 
-/// What becomes of a frame's packet at the headend, before the first stage. (RFC 8986 sections 5.1
-/// and 5.2)
+/// The headend of an intent, where inner packets enter. (RFC 8986 sections 5.1 and 5.2)
 #[derive(Drop)]
-pub enum AtHeadend {
-    /// It is not read.
-    NotRead(Unread),
-    /// It is dropped.
-    Dropped(Reason),
-    /// It is encapsulated, and this is the outer packet.
-    Enters(Content),
+pub struct Headend {
+    /// The node's number.
+    pub node: u32,
+    /// The family of the inner packets.
+    pub inner: Family,
+    /// What is put in front of them.
+    pub policy: Policy,
 }
 
-/// A packet of a family that the headend encapsulates, or drops.
-fn encapsulated(policy: &Policy, family: Family, inner: PktBuf) -> Result<AtHeadend, NoMemory>
-    requires policy { IsPolicy policy.now }
-    requires packet { HoldsInner family inner.bytes }
-    ensures { IfOk result (λ at.
-        at ≡ of_encapsulating (encapsulated_by policy.now family inner.bytes)) }
-{
-    let mut buf = inner;
-    match encap(policy, family, &mut buf) {
-        Ok(()) => Ok(AtHeadend::Enters(Content::enter_buf(Family::V6, buf))),
-        Err(EncapFault::InnerHop) => Ok(AtHeadend::Dropped(Reason::InnerHop)),
-        Err(EncapFault::TooBig { .. }) => Ok(AtHeadend::Dropped(Reason::TooBig)),
-        Err(EncapFault::NoMemory) => Err(NoMemory),
+impl Headend {
+    /// What is told of a packet that is dropped here.
+    fn drops(&self, reason: Reason) -> Stays
+        ensures { result ≡ stays.Ends (ends.Dropped self.now.node reason) }
+    {
+        Stays::Ends(Ended::Dropped {
+            node: self.node,
+            reason,
+        })
+    }
+
+    /// Where what is encapsulated here stands.
+    fn place(&self) -> Place
+        ensures { result ≡ submitted_at self.now.node }
+    {
+        Place {
+            node: self.node,
+            how: How::Submitted { table: 0 },
+            family: Family::V6,
+        }
+    }
+
+    /// The inner packet that bytes begin with, or what is told of them.
+    fn inner_of<'a>(&self, bytes: &'a [u8]) -> Result<&'a [u8], Stays>
+        ensures { MatchResult result
+            (λ packet. IsInnerBy self.now (entry_by_bytes self.now bytes.now) packet.now)
+            (λ stays. Staying stays ≡ entry_by_bytes self.now bytes.now) }
+    {
+        match inner_packet(self.inner, bytes) {
+            Ok(packet) => Ok(packet),
+            Err(reason) => Err(self.drops(reason)),
+        }
+    }
+
+    /// The inner packet of a frame, or what is told of the frame.
+    fn inner_in<'a>(&self, body: LentBody<'a>) -> Result<&'a [u8], Stays>
+        ensures { MatchResult result
+            (λ packet. IsInnerBy self.now (entry_at_headend self.now (body_lent body.entry)) packet.now)
+            (λ stays. Staying stays ≡ entry_at_headend self.now (body_lent body.entry)) }
+    {
+        match (body, self.inner) {
+            (LentBody::V6(bytes), Family::V6) | (LentBody::V4(bytes), Family::V4) => {
+                self.inner_of(bytes)
+            }
+            (LentBody::V6(_), Family::V4) | (LentBody::V4(_), Family::V6) => {
+                Err(Stays::NotRead(Unread::WrongVersion))
+            }
+            (LentBody::ShortFrame, Family::V6 | Family::V4) => {
+                Err(Stays::NotRead(Unread::ShortFrame))
+            }
+            (LentBody::NotIp, Family::V6 | Family::V4) => Err(Stays::NotRead(Unread::NotIp)),
+        }
+    }
+
+    /// What is told of an inner packet that cannot be encapsulated; none is made.
+    fn refused(&self, packet: &[u8]) -> Option<Stays>
+        requires policy { IsPolicy self.now.policy }
+        requires packet { HoldsInner self.now.inner packet.now }
+        ensures { result ≡ stays_of (entry_alone self.now packet.now) }
+    {
+        match encap_fault(&self.policy, self.inner, packet) {
+            Some(EncapFault::InnerHop) => Some(self.drops(Reason::InnerHop)),
+            Some(EncapFault::TooBig { .. }) => Some(self.drops(Reason::TooBig)),
+            Some(EncapFault::NoMemory) | None => None,
+        }
+    }
+
+    /// The outer packet round an inner one, if it can be encapsulated.
+    fn encapsulated(&self, alloc: Global, packet: &[u8]) -> Result<Option<Comes>, NoMemory>
+        requires policy { IsPolicy self.now.policy }
+        requires packet { HoldsInner self.now.inner packet.now }
+        requires short { length packet.now ≤ most_len }
+        ensures { IfOk result (λ comes. comes ≡ comes_of (entry_alone self.now packet.now)) }
+    {
+        // The policy's header fits in front, in either form.
+        let front = IPV6_HEADER_LEN
+            + SEGMENT_LIST_AT
+            + SEGMENT_LEN * self.policy.segments.as_slice().len();
+        let mut buf = PktBuf::new(alloc, front, packet)?;
+        match encap(&self.policy, self.inner, &mut buf) {
+            Ok(()) => Ok(Some(Comes {
+                place: self.place(),
+                content: Content::enter_buf(Family::V6, buf),
+            })),
+            Err(EncapFault::InnerHop | EncapFault::TooBig { .. }) => Ok(None),
+            Err(EncapFault::NoMemory) => Err(NoMemory),
+        }
     }
 }
 
-/// Bytes that enter the headend as an IPv6 packet, in place: what stands behind the packet's end is
-/// cut.
-fn entering(policy: &Policy, bytes: Vec<u8>) -> Result<AtHeadend, NoMemory>
-    requires { IsPolicy policy.now }
-    ensures { IfOk result (λ at. at ≡ of_content policy.now (entered Family.V6 bytes.items)) }
-{
-    let mut bytes = bytes;
-    bytes.truncate(MAX_PACKET_LEN);
-    let len = match Ip6View::read(bytes.as_slice()) {
-        Ok(view) => IPV6_HEADER_LEN + usize::from(view.payload_len()),
-        Err(fault) => return Ok(AtHeadend::Dropped(fault.reason())),
-    };
-    bytes.truncate(len);
-    encapsulated(policy, Family::V6, PktBuf::of(bytes))
-}
+impl Enters for Headend {
+    ghost ready = { λ h. IsPolicy h.policy };
 
-/// Bytes that enter the headend as an IPv4 packet, in the same way.
-fn entering4(policy: &Policy, bytes: Vec<u8>) -> Result<AtHeadend, NoMemory>
-    requires { IsPolicy policy.now }
-    ensures { IfOk result (λ at. at ≡ of_content policy.now (entered Family.V4 bytes.items)) }
-{
-    let mut bytes = bytes;
-    bytes.truncate(MAX_PACKET_LEN);
-    let len = match Ip4View::read(bytes.as_slice()) {
-        Ok(view) => usize::from(view.total_len()),
-        Err(fault) => return Ok(AtHeadend::Dropped(fault.reason())),
-    };
-    bytes.truncate(len);
-    encapsulated(policy, Family::V4, PktBuf::of(bytes))
-}
+    ghost entry = { entry_at_headend };
 
-/// What becomes of a frame's packet at the headend, for inner packets of a family. (RFC 8986
-/// sections 5.1 and 5.2)
-pub fn at_headend(policy: &Policy, inner: Family, body: Body) -> Result<AtHeadend, NoMemory>
-    requires { IsPolicy policy.now }
-    ensures { IfOk result (λ at. at ≡ at_headend policy.now inner body) }
-{
-    match (body, inner) {
-        (Body::V6(bytes), Family::V6) => entering(policy, bytes.into_vec()),
-        (Body::V4(bytes), Family::V4) => entering4(policy, bytes.into_vec()),
-        (Body::V6(_), Family::V4) | (Body::V4(_), Family::V6) => {
-            Ok(AtHeadend::NotRead(Unread::WrongVersion))
+    fn stays(&self, frame: &LentFrame<'_>) -> Option<Stays> {
+        match self.inner_in(frame.body()) {
+            Ok(packet) => self.refused(packet),
+            Err(stays) => Some(stays),
         }
-        (Body::ShortFrame, Family::V6 | Family::V4) => {
-            Ok(AtHeadend::NotRead(Unread::ShortFrame))
+    }
+
+    fn enter(&self, alloc: Global, frame: &LentFrame<'_>) -> Result<Option<Comes>, NoMemory> {
+        match self.inner_in(frame.body()) {
+            Ok(packet) => self.encapsulated(alloc, packet),
+            Err(_) => Ok(None),
         }
-        (Body::NotIp, Family::V6 | Family::V4) => Ok(AtHeadend::NotRead(Unread::NotIp)),
     }
 }

@@ -4,10 +4,10 @@
 #![tactic(auto)]
 
 pub mod headend;
+mod inner;
 pub mod laws;
 pub mod start;
 pub mod walk;
-mod walk_scheduled;
 
-pub use headend::{AtHeadend, at_headend};
-pub use start::policy_of;
+pub use headend::Headend;
+pub use start::headend_of;

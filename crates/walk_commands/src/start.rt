@@ -1,11 +1,11 @@
 //! How a walk starts: with the list that an intent is compiled to, as the policy of its headend.
 
-ghost use Rattle.std.specs.Prelude.{◌≡◌, ◌<◌, ◌^◌, IfOk, Ok, length};
-ghost use Rattle.srv6_rules.specs.Policies.{IsPolicy};
+ghost use Rattle.std.specs.Prelude.{◌≡◌, ◌<◌, ◌^◌, IfOk};
 ghost use Rattle.intent_reader.specs.Rules.{IsIntent};
 ghost use Rattle.compile_commands.specs.Compile.{HasValues};
-ghost use Rattle.walk_commands.specs.Walk.{StartsAs, policy_of};
+ghost use Rattle.walk_commands.specs.Walk.{StartsAs, headend_of, policy_of};
 
+use crate::headend::Headend;
 use base::{NoMemory, Seq};
 use command_output::{Failure, Halt, Text, refusal_of_not_flat};
 use compile_commands::{line_of_hop_limit, line_of_none, line_of_too_long};
@@ -19,8 +19,8 @@ use std::alloc::Global;
 /// How a walk starts. (own rule)
 #[derive(Drop)]
 pub enum Start {
-    /// With what the headend puts in front of packets.
-    List(Policy),
+    /// At the headend, with the list that the intent is compiled to.
+    List(Headend),
     /// There is no list; the line says why.
     NoList(Text),
 }
@@ -28,7 +28,7 @@ pub enum Start {
 /// What the headend puts in front of packets: the compiled list, with the intent's fields. (RFC
 /// 8986 sections 5.1 and 5.2)
 #[tactic(auto, using(crate::proofs::WalkStarts::segments))]
-pub fn policy_of(
+fn policy_of(
     alloc: Global,
     net: &Net,
     intent: &Intent,
@@ -48,6 +48,23 @@ pub fn policy_of(
     })
 }
 
+/// The headend of an intent, with the list that it is compiled to. (RFC 8986 sections 5.1 and 5.2)
+pub fn headend_of(
+    alloc: Global,
+    net: &Net,
+    intent: &Intent,
+    compiled: &Compiled,
+) -> Result<Headend, NoMemory>
+    requires { HasValues net.now compiled.now }
+    ensures { IfOk result (λ headend. headend ≡ headend_of net.now intent.now compiled.now) }
+{
+    Ok(Headend {
+        node: intent.headend,
+        inner: intent.inner,
+        policy: policy_of(alloc, net, intent, compiled)?,
+    })
+}
+
 /// How a walk starts for an intent: with the list that it is compiled to, if there is one.
 #[tactic(auto, using(compile_commands::proofs::PublicLaws::valued))]
 pub(crate) fn start_of_intent(alloc: Global, net: &Net, intent: &Intent) -> Result<Start, Halt>
@@ -56,7 +73,7 @@ pub(crate) fn start_of_intent(alloc: Global, net: &Net, intent: &Intent) -> Resu
 {
     net.keeps_rules();
     match path_compiler::compile(alloc, net, intent) {
-        Ok(list) => Ok(Start::List(policy_of(alloc, net, intent, &list)?)),
+        Ok(list) => Ok(Start::List(headend_of(alloc, net, intent, &list)?)),
         Err(CompileFault::NotFlat(why)) => Err(Halt::Refused(refusal_of_not_flat(net, &why))),
         Err(CompileFault::NoList { .. }) => Ok(Start::NoList(line_of_none())),
         Err(CompileFault::TooLong { found }) => {
@@ -74,16 +91,4 @@ pub(crate) fn hop_limit_fits(hop_limit: u8)
     ensures { hop_limit < 2 ^ 8 }
 {
     let _ = hop_limit;
-}
-
-/// The headend is there, and what is compiled makes a policy.
-pub(crate) fn headend_fits(net: &Net, intent: &Intent, policy: &Policy)
-    requires intent { IsIntent net.now intent.now }
-    requires policy { StartsAs net.now intent.now (Ok (Start.List policy.now)) }
-    ensures headend { intent.now.headend < length net.now.nodes }
-    ensures policy { IsPolicy policy.now }
-{
-    let _ = net;
-    let _ = intent;
-    let _ = policy;
 }
