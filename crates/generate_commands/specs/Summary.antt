@@ -1,9 +1,7 @@
 -- What a network, an intent, its list and the walks of generated packets come to, in numbers (own rule).
-use Rattle.std.specs.Prelude.{◌≡◌, ℕ, Bool, true, false, List, [], ◌∷◌, length, sum_by, count_by, Result, Ok, Err}
+use Rattle.std.specs.Prelude.{◌≡◌, ℕ, Bool, true, false, List, [], ◌∷◌, length, sum_by, count_by, Option, Some, None, Result, Ok, Err}
 use Rattle.std.specs.List.{flat_map, range_with_len}
 use Rattle.pcap_io.specs.declared.frame.Body.TheVariants as bodies
-use Rattle.srv6_rules.specs.declared.policy.Policy.{Policy}
-use Rattle.srv6_rules.specs.declared.sid.Family.{Family}
 use Rattle.srv6_rules.specs.Packet.{spelling}
 use Rattle.net_maker.specs.Packets.{generated_packet}
 use Rattle.net_model.specs.Network.{Network}
@@ -16,32 +14,32 @@ use Rattle.intent_reader.specs.declared.intent.Intent.{Intent}
 use Rattle.path_compiler.specs.declared.compiled.Compiled.{Compiled}
 use Rattle.path_compiler.specs.declared.compiled.CompileFault.{CompileFault}
 use Rattle.path_compiler.specs.Compiled.{CompileAnswers, IsCompiled, IsLeastOfAll, NoLessHandsOver}
-use Rattle.walk_commands.specs.declared.headend.AtHeadend.{AtHeadend}
-use Rattle.walk_commands.specs.declared.headend.AtHeadend.TheVariants.{NotRead, Dropped, Enters}
+use Rattle.run_commands.specs.declared.enters.Comes.{Comes}
+use Rattle.run_commands.specs.Entry.{Entry, comes_of, walk_of_comes}
+use Rattle.walk_commands.specs.declared.headend.Headend.{Headend}
 use Rattle.generate_commands.specs.declared.summed.Summary.{Summary}
-use Rattle.walk_commands.specs.Walk.{at_headend, policy_of, walk_at_headend}
+use Rattle.walk_commands.specs.Walk.{entry_at_headend, headend_of}
 
 -- the choices that each walk takes
 abbrev pub summary_choices : List ℕ
 summary_choices = 0 ∷ 1 ∷ []
 
--- generated packet k at the headend, as the command `walk` has it there
-abbrev pub generated_at_headend : Policy → Family → ℕ → AtHeadend
-generated_at_headend policy inner k = at_headend policy inner (bodies.V6 (spelling (generated_packet k)))
+-- generated packet k at a headend, as the command `walk` has it there
+abbrev pub generated_at_headend : Headend → ℕ → Entry
+generated_at_headend headend k = entry_at_headend headend (bodies.V6 (spelling (generated_packet k)))
 
--- the walk of what the headend encapsulated; what isn't read or is dropped there has none
-abbrev pub walks_by : Network → Intent → AtHeadend → List (List Stage)
-walks_by net intent (NotRead cause) = []
-walks_by net intent (Dropped reason) = []
-walks_by net intent (Enters content) = walk_at_headend net intent summary_choices content ∷ []
+-- the walk of what enters; what stays at the headend has none
+abbrev pub walks_by : Network → Option Comes → List (List Stage)
+walks_by net None = []
+walks_by net (Some comes) = walk_of_comes net summary_choices comes ∷ []
 
 -- the walk of generated packet k, if it has one
-abbrev pub walks_of_packet : Network → Intent → Policy → ℕ → List (List Stage)
-walks_of_packet net intent policy k = walks_by net intent (generated_at_headend policy intent.inner k)
+abbrev pub walks_of_packet : Network → Headend → ℕ → List (List Stage)
+walks_of_packet net headend k = walks_by net (comes_of (generated_at_headend headend k))
 
 -- the walks of so many generated packets, numbered from 1
-abbrev pub walks_of : Network → Intent → Policy → ℕ → List (List Stage)
-walks_of net intent policy packets = flat_map (walks_of_packet net intent policy) (range_with_len 1 packets)
+abbrev pub walks_of : Network → Headend → ℕ → List (List Stage)
+walks_of net headend packets = flat_map (walks_of_packet net headend) (range_with_len 1 packets)
 
 -- whether a stage sends the packet over a link
 abbrev pub is_send : Outcome → Bool
@@ -75,7 +73,7 @@ left_in net walks = count_by (leaves net) walks
 -- the summary of a network, an intent, its list and so many packets
 abbrev pub summary_of : Network → Intent → Compiled → ℕ → Summary
 summary_of net intent c packets =
-    let walks = walks_of net intent (policy_of net intent c) packets in
+    let walks = walks_of net (headend_of net intent c) packets in
     record {
       nodes = length net.nodes;
       links = length net.links;

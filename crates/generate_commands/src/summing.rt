@@ -1,29 +1,27 @@
 //! What a network, an intent, its list and the walks of generated packets come to, in numbers.
 
-ghost use Rattle.std.specs.Prelude.{◌≡◌, ◌≤◌, ◌<◌, ◌∷◌, [], cond, IfOk, Some, length};
+ghost use Rattle.std.specs.Prelude.{◌≡◌, ◌≤◌, ◌<◌, ◌∷◌, [], cond, IfOk, length};
 ghost use Rattle.srv6_rules.specs.Policies.{IsPolicy};
 ghost use Rattle.walk_rules.specs.Relation.{IsPlace};
-ghost use Rattle.walk_rules.specs.Walk.{walk_of, choice_at};
 ghost use Rattle.intent_reader.specs.Rules.{IsIntent};
 ghost use Rattle.path_compiler.specs.Compiled.{IsCompiled};
-ghost use Rattle.walk_commands.specs.Walk.{policy_of as policy_for, walk_at_headend};
-ghost use Rattle.generate_commands.specs.Summary.{SummaryAnswers, frames_in, has_left, left_in, summary_choices, summary_of, walks_of, walks_of_packet};
+ghost use Rattle.run_commands.specs.Entry.{AllEnterIn, walk_of_comes};
+ghost use Rattle.walk_commands.specs.Walk.{entry_at_headend};
+ghost use Rattle.generate_commands.specs.Summary.{SummaryAnswers, frames_in, has_left, left_in, summary_of, walks_of, walks_of_packet};
 
 use crate::summed::Summary;
-use base::{NoMemory, Seq};
+use base::NoMemory;
 use icmp6_errors::IcmpSlot;
 use intent_reader::Intent;
 use net_maker::write_packet;
 use net_model::Net;
-use node_stage::Content;
 use packet_walk::decisions_of;
 use path_compiler::{CompileFault, Compiled};
-use pcap_io::Body;
-use run_commands::staged;
-use srv6_rules::{Family, Policy};
+use pcap_io::{LentBody, LentFrame};
+use run_commands::{Comes, Enters, staged};
 use std::alloc::Global;
-use walk_commands::{AtHeadend, at_headend, policy_of};
-use walk_rules::{Ended, How, MAX_STAGES, Place, ended_by, next_place};
+use walk_commands::{Headend, headend_of};
+use walk_rules::{Ended, MAX_STAGES, ended_by, next_place};
 
 /// The most packets of a summary. (own rule)
 pub const MAX_PACKETS: u32 = 65_535;
@@ -63,25 +61,21 @@ fn counts_by(sent: usize, ended: &Ended) -> Counts
     }
 }
 
-/// Walks a packet from a place as `write_walk` does, and counts what it would write.
-fn count_walk(
-    alloc: Global,
-    net: &Net,
-    start: Place,
-    content: Content,
-    choices: &[u32],
-) -> Result<Counts, NoMemory>
-    requires place { IsPlace net.now start }
+/// Walks a packet from where it enters as `drive` does, and counts what it would write.
+fn count_walk(alloc: Global, net: &Net, comes: Comes, choices: &[u32]) -> Result<Counts, NoMemory>
+    requires place { IsPlace net.now comes.place }
     requires choices { 0 < length choices.now }
-    ensures frames { IfOk result (λ counts. counts.frames ≡ frames_in
-        (walk_of MAX_STAGES net.now (Some start) content (choice_at choices.now) 0 ∷ [])) }
-    ensures left { IfOk result (λ counts. counts.left ≡ left_in net.now
-        (walk_of MAX_STAGES net.now (Some start) content (choice_at choices.now) 0 ∷ [])) }
+    ensures frames { IfOk result (λ counts. counts.frames
+        ≡ frames_in (walk_of_comes net.now choices.now comes ∷ [])) }
+    ensures left { IfOk result (λ counts. counts.left
+        ≡ left_in net.now (walk_of_comes net.now choices.now comes ∷ [])) }
     ensures few { IfOk result (λ counts. counts.frames ≤ MAX_STAGES) }
     ensures one { IfOk result (λ counts. counts.left ≤ 1) }
 {
-    let mut content = content;
-    let mut place = start;
+    let Comes {
+        mut place,
+        mut content,
+    } = comes;
     let mut error = IcmpSlot::new();
     let mut taken = 0;
     for used in 0..MAX_STAGES {
@@ -96,52 +90,24 @@ fn count_walk(
     Ok(counts_by(taken, &Ended::Stages))
 }
 
-/// What the walk of a packet that the headend encapsulated comes to: it submits it to table 0.
-fn count_outer(
-    alloc: Global,
-    net: &Net,
-    intent: &Intent,
-    outer: Content,
-) -> Result<Counts, NoMemory>
-    requires { intent.now.headend < length net.now.nodes }
-    ensures frames { IfOk result (λ counts. counts.frames ≡ frames_in
-        (walk_at_headend net.now intent.now summary_choices outer ∷ [])) }
-    ensures left { IfOk result (λ counts. counts.left ≡ left_in net.now
-        (walk_at_headend net.now intent.now summary_choices outer ∷ [])) }
-    ensures few { IfOk result (λ counts. counts.frames ≤ MAX_STAGES) }
-    ensures one { IfOk result (λ counts. counts.left ≤ 1) }
-{
-    let place = Place {
-        node: intent.headend,
-        how: How::Submitted { table: 0 },
-        family: Family::V6,
-    };
-    count_walk(alloc, net, place, outer, &CHOICES)
-}
-
 /// What the walk of generated packet k comes to, if the headend encapsulates it.
-fn count_packet(
-    alloc: Global,
-    net: &Net,
-    intent: &Intent,
-    policy: &Policy,
-    k: u32,
-) -> Result<Counts, NoMemory>
-    requires headend { intent.now.headend < length net.now.nodes }
-    requires policy { IsPolicy policy.now }
+fn count_packet(alloc: Global, net: &Net, headend: &Headend, k: u32) -> Result<Counts, NoMemory>
+    requires ready { IsPolicy headend.now.policy }
+    requires within { AllEnterIn net.now (entry_at_headend headend.now) }
     requires number { k ≤ MAX_PACKETS }
     ensures frames { IfOk result (λ counts. counts.frames
-        ≡ frames_in (walks_of_packet net.now intent.now policy.now k)) }
+        ≡ frames_in (walks_of_packet net.now headend.now k)) }
     ensures left { IfOk result (λ counts. counts.left
-        ≡ left_in net.now (walks_of_packet net.now intent.now policy.now k)) }
+        ≡ left_in net.now (walks_of_packet net.now headend.now k)) }
     ensures few { IfOk result (λ counts. counts.frames ≤ MAX_STAGES) }
     ensures one { IfOk result (λ counts. counts.left ≤ 1) }
 {
     let mut bytes = Vec::new(alloc);
     write_packet(k as u16, &mut bytes)?;
-    match at_headend(policy, intent.inner, Body::V6(Seq::new(bytes)))? {
-        AtHeadend::Enters(outer) => count_outer(alloc, net, intent, outer),
-        AtHeadend::NotRead(_) | AtHeadend::Dropped(_) => Ok(Counts { frames: 0, left: 0 }),
+    let frame = LentFrame::new(k, LentBody::V6(bytes.as_slice()));
+    match headend.enter(alloc, &frame)? {
+        Some(comes) => count_walk(alloc, net, comes, &CHOICES),
+        None => Ok(Counts { frames: 0, left: 0 }),
     }
 }
 
@@ -149,40 +115,25 @@ fn count_packet(
 fn count_packets(
     alloc: Global,
     net: &Net,
-    intent: &Intent,
-    policy: &Policy,
+    headend: &Headend,
     packets: u32,
 ) -> Result<Counts, NoMemory>
-    requires headend { intent.now.headend < length net.now.nodes }
-    requires policy { IsPolicy policy.now }
+    requires ready { IsPolicy headend.now.policy }
+    requires within { AllEnterIn net.now (entry_at_headend headend.now) }
     requires number { packets ≤ MAX_PACKETS }
     ensures frames { IfOk result (λ counts. counts.frames
-        ≡ frames_in (walks_of net.now intent.now policy.now packets)) }
+        ≡ frames_in (walks_of net.now headend.now packets)) }
     ensures left { IfOk result (λ counts. counts.left
-        ≡ left_in net.now (walks_of net.now intent.now policy.now packets)) }
+        ≡ left_in net.now (walks_of net.now headend.now packets)) }
 {
     let mut frames = 0;
     let mut left = 0;
     for before in 0..packets {
-        let counts = count_packet(alloc, net, intent, policy, before + 1)?;
+        let counts = count_packet(alloc, net, headend, before + 1)?;
         frames += counts.frames;
         left += counts.left;
     }
     Ok(Counts { frames, left })
-}
-
-/// The headend is there, and what is compiled makes a policy.
-fn list_fits(net: &Net, intent: &Intent, compiled: &Compiled, policy: &Policy)
-    requires intent { IsIntent net.now intent.now }
-    requires compiled { IsCompiled net.now intent.now compiled.now }
-    requires policy { policy.now ≡ policy_for net.now intent.now compiled.now }
-    ensures headend { intent.now.headend < length net.now.nodes }
-    ensures policy { IsPolicy policy.now }
-{
-    let _ = net;
-    let _ = intent;
-    let _ = compiled;
-    let _ = policy;
 }
 
 /// The summary of a list that the intent is compiled to.
@@ -201,9 +152,8 @@ fn summary_of_list(
         summary ≡ summary_of net.now intent.now compiled.now packets) }
 {
     net.keeps_rules();
-    let policy = policy_of(alloc, net, intent, compiled)?;
-    list_fits(net, intent, compiled, &policy);
-    let counts = count_packets(alloc, net, intent, &policy, packets)?;
+    let headend = headend_of(alloc, net, intent, compiled)?;
+    let counts = count_packets(alloc, net, &headend, packets)?;
     Ok(Summary {
         nodes: net.nodes(),
         links: net.links(),

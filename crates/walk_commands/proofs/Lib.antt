@@ -5,7 +5,4 @@ pub mod PublicLaws
 pub mod WalkEnds
 pub mod WalkKeeping
 pub mod WalkStarts
-pub mod WalkSteps
 pub mod OneOutput
-pub mod Scheduling
-pub mod Mixing

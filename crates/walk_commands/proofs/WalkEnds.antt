@@ -6,9 +6,9 @@ use Rattle.srx_edge.specs.FilesRead.{FilesSeen, asked_for}
 use Rattle.srx_edge.specs.Sources.{SourceSeen}
 use Rattle.srx_edge.specs.Sinks.{SinkSeen}
 use Rattle.srx_edge.specs.Steps.{How}
-use Rattle.srv6_rules.specs.declared.policy.Policy.{Policy}
 use Rattle.net_model.specs.Network.{Network}
 use Rattle.intent_reader.specs.declared.intent.Intent.{Intent}
+use Rattle.walk_commands.specs.declared.headend.Headend.{Headend}
 use Rattle.walk_commands.specs.declared.start.Start.TheVariants as starts
 use Rattle.command_output.specs.declared.halt.Failure.{Failure}
 use Rattle.command_output.specs.declared.halt.Failure.TheVariants as failures
@@ -182,7 +182,7 @@ module _ (file intent choices schedule : List ℕ) where
           (rw status refl) (inr (inr (inl status))) (takes-unread Never f g s (asks-both Never read.1) refl)
           (λ done. cc (sym status ∙ done))
 
-      module _ (policy : Policy) (begins : StartsAs net value (Ok (starts.List policy))) (byte : value.hop_limit < 2 ^ 8)
+      module _ (headend : Headend) (begins : StartsAs net value (Ok (starts.List headend))) (byte : value.hop_limit < 2 ^ 8)
           (some : 0 < length choices) where
         -- so the input is read
         has-list : (told : Option Held) → IfSome told (DescriptionIs (Ok net)) → IfSome told (IntentIs net (Ok value))
@@ -209,7 +209,7 @@ module _ (file intent choices schedule : List ℕ) where
 
         -- what is wanted of an input
         wants-list : (Q : List ℕ → Type 0) (output : Output) → IfSome s.left Q
-            → ((input : List ℕ) → Q input → output ≡ walk_output net value policy choices schedule input)
+            → ((input : List ℕ) → Q input → output ≡ walk_output net headend choices schedule input)
             → WantedOf (walk_shape file intent choices schedule) f.told s.left output
         wants-list Q output q w = wants-answer Q output q
             (λ input h. (
@@ -217,7 +217,7 @@ module _ (file intent choices schedule : List ℕ) where
               begins.1,
               begins.2,
               (
-                w input h ∙ ap (λ (p : Policy). walk_output net value p choices schedule input) begins.3,
+                w input h ∙ ap (λ (h : Headend). walk_output net h choices schedule input) begins.3,
                 λ inner is. walks_keep net value begins.0 choices inner byte begins.1 some is,
               ),
             ))
@@ -235,10 +235,10 @@ module _ (file intent choices schedule : List ℕ) where
 
         module _ (packets : Packets) (drawn : JudgesInput packets_in (Ok packets) s t) (p q : SinkSeen) where
           abbrev before : List Piece
-          before = walk_pieces net value policy choices schedule (reading_of packets).frames
+          before = walk_pieces net headend choices schedule (reading_of packets).frames
 
-          wanted : WantedOf (walk_shape file intent choices schedule) f.told s.left (walked net value policy choices schedule packets)
-          wanted = wants-list (λ input. packets_in input ≡ Ok packets) (walked net value policy choices schedule packets) drawn.0
+          wanted : WantedOf (walk_shape file intent choices schedule) f.told s.left (walked net headend choices schedule packets)
+          wanted = wants-list (λ input. packets_in input ≡ Ok packets) (walked net headend choices schedule packets) drawn.0
               (λ input good. rw good refl)
 
           reads : Reads Never s t

@@ -17,8 +17,7 @@ use Rattle.leg_table.specs.Realizes.{IsInner, encapsulation_of, encapsulated_for
 use Rattle.path_compiler.specs.declared.compiled.Compiled.{Compiled}
 use Rattle.path_compiler.specs.Compiled.{IsCompiled}
 use Rattle.walk_rules.specs.declared.limits.TheConstants.{MAX_STAGES}
-use Rattle.walk_commands.specs.Walk.{WalksKeepTo, of_content, of_encapsulating, policy_of, segment_of}
-use Rattle.walk_commands.specs.declared.headend.AtHeadend.TheVariants.{Enters}
+use Rattle.walk_commands.specs.Walk.{Enters, WalksKeepTo, of_content, of_encapsulating, policy_of, segment_of}
 use Rattle.walk_commands.proofs.HandingOver.{hands-within}
 use Rattle.walk_commands.proofs.WalkStarts.{values-count}
 

@@ -1,4 +1,4 @@
--- What the headend puts in front of packets is a policy.
+-- The headend with the compiled list.
 use Rattle.std.proofs.Common.{◌≡◌, ℕ, ◌^◌, ◌<◌, ◌≤◌, true, List, [], ◌∷◌, length, map, Ok, refl, sym, ap, ◌∙◌, subst, arith}
 use Rattle.std.specs.Prelude.{nat_le, nat_lt}
 use Rattle.std.proofs.lemmas.Bool.{and_parts, leb-true, ltb-true}
@@ -14,8 +14,9 @@ use Rattle.list_pack.specs.declared.types.Container.{Container}
 use Rattle.list_pack.specs.SidLists.{list_in, list_values}
 use Rattle.path_compiler.specs.declared.compiled.Compiled.{Compiled}
 use Rattle.path_compiler.specs.Compiled.{IsCompiled}
-use Rattle.walk_commands.specs.declared.start.Start.TheVariants as starts
-use Rattle.walk_commands.specs.Walk.{StartsAs, policy_of, segment_of}
+use Rattle.run_commands.specs.Entry.{AllEnterIn, EntersIn}
+use Rattle.walk_commands.specs.declared.headend.Headend.{Headend}
+use Rattle.walk_commands.specs.Walk.{AtHeadend, NotRead, Dropped, Enters, at_headend, entry_at_headend, entry_of, headend_of, policy_of, segment_of}
 
 -- ---- the segments
 
@@ -37,7 +38,7 @@ addresses-of (v ∷ vs) (a ∷ more) e =
     tail-same x y xs ys h = cc
 
 -- the rules of an intent that the headend asks for
-pub intent_bounds : (net : Network) (intent : Intent) → IsIntent net intent
+intent_bounds : (net : Network) (intent : Intent) → IsIntent net intent
     → (intent.headend < length net.nodes) × (intent.max_containers ≤ 127) × (intent.flow_label < 2 ^ 20)
 unfolding is_intent
 intent_bounds net intent h =
@@ -60,7 +61,7 @@ pub values-count : (net : Network) (list : List Container) → length (list_valu
 values-count net list = length-map (list_in net list) _ ∙ length-map list _
 
 -- a compiled list makes a policy
-pub list_fits : (net : Network) (intent : Intent) (c : Compiled) → IsIntent net intent → IsCompiled net intent c
+list_fits : (net : Network) (intent : Intent) (c : Compiled) → IsIntent net intent → IsCompiled net intent c
     → IsPolicy (policy_of net intent c)
 list_fits net intent c is compiled =
     let bounds = intent_bounds net intent is in
@@ -76,9 +77,22 @@ list_fits net intent c is compiled =
       flow_label = bounds.2;
     }
 
-pub policy_fits : (net : Network) (intent : Intent) (policy : Policy) → IsIntent net intent
-    → StartsAs net intent (Ok (starts.List policy)) → IsPolicy policy
-policy_fits net intent policy is begins =
-    subst IsPolicy (sym begins.3) (list_fits net intent begins.0 is begins.1)
+-- ---- the headend with a list: what it puts in front of packets is a policy, and packets enter within the network
+
+pub headend_ready : (net : Network) (intent : Intent) (c : Compiled) (h : Headend) → IsIntent net intent → IsCompiled net intent c
+    → h ≡ headend_of net intent c → IsPolicy h.policy
+headend_ready net intent c h is compiled same =
+    subst (λ (h : Headend). IsPolicy h.policy) (sym same) (list_fits net intent c is compiled)
+
+enters-within : (net : Network) (node : ℕ) (at : AtHeadend) → node < length net.nodes → EntersIn net (entry_of node at)
+enters-within net node (NotRead cause) there = tt
+enters-within net node (Dropped reason) there = there
+enters-within net node (Enters content) there = (there, tt)
+
+pub headend_within : (net : Network) (intent : Intent) (c : Compiled) (h : Headend) → IsIntent net intent → h ≡ headend_of net intent c
+    → AllEnterIn net (entry_at_headend h)
+headend_within net intent c h is same body =
+    let there : h.node < length net.nodes = subst (λ (h : Headend). h.node < length net.nodes) (sym same) (intent_bounds net intent is).0 in
+    enters-within net h.node (at_headend h.policy h.inner body) there
 
 pub ruleset segments = (addresses-of)

@@ -1,9 +1,7 @@
 //! What walks from the headend keep to, and what a schedule changes of them.
 
 ghost use Rattle.std.specs.Prelude.{◌≡◌, ◌<◌, ℕ, All, List, length};
-ghost use Rattle.srv6_rules.specs.declared.policy.Policy.{Policy};
 ghost use Rattle.net_model.specs.Network.{Network};
-ghost use Rattle.intent_reader.specs.declared.intent.Intent.{Intent};
 ghost use Rattle.packet_walk.specs.Schedule.{scheduled, steps_of};
 ghost use Rattle.command_inputs.specs.declared.packets.Packets.{Packets};
 ghost use Rattle.command_inputs.specs.Packets.{reading_of};
@@ -11,6 +9,7 @@ ghost use Rattle.run_commands.specs.Capture.{frames_of};
 ghost use Rattle.run_commands.specs.Scheduled.{frames_sent, line_of_walk, lines_told};
 ghost use Rattle.command_output.specs.Pieces.{Output};
 ghost use Rattle.command_output.specs.Shape.{Held};
+ghost use Rattle.walk_commands.specs.declared.headend.Headend.{Headend};
 ghost use Rattle.walk_commands.specs.Walk.{WalksKeepTo, comings_at_headend, walk_shape};
 
 /// An inner packet of the intent's family whose hop limit or TTL is at least 2, and whose outer
@@ -27,18 +26,18 @@ pub fn a_walk_keeps_to_the_intent()
 /// two schedules give each packet the same frames in the same order and the same line, and only their
 /// mixing differs. The packets are those of a capture, or the bare one. (own rule)
 pub fn a_schedule_mixes_walks()
-    ensures frames { (net : Network) (intent : Intent) (policy : Policy) (number : ℕ)
+    ensures frames { (net : Network) (headend : Headend) (number : ℕ)
         (choices schedule : List ℕ) (packets : Packets) →
-        let comings = comings_at_headend net intent policy choices (reading_of packets).frames in
+        let comings = comings_at_headend net headend choices (reading_of packets).frames in
         frames_sent number (scheduled schedule comings) ≡ frames_of number (steps_of number comings) }
-    ensures lines { (net : Network) (intent : Intent) (policy : Policy) (number : ℕ)
+    ensures lines { (net : Network) (headend : Headend) (number : ℕ)
         (choices schedule : List ℕ) (packets : Packets) →
-        let comings = comings_at_headend net intent policy choices (reading_of packets).frames in
+        let comings = comings_at_headend net headend choices (reading_of packets).frames in
         lines_told net number (scheduled schedule comings)
         ≡ line_of_walk net number (steps_of number comings) }
-    ensures walks { (net : Network) (intent : Intent) (policy : Policy) (choices : List ℕ)
+    ensures walks { (net : Network) (headend : Headend) (choices : List ℕ)
         (packets : Packets) → All (λ c. 0 < length c.steps)
-        (comings_at_headend net intent policy choices (reading_of packets).frames) }
+        (comings_at_headend net headend choices (reading_of packets).frames) }
 {}
 
 /// With one description, one intent and one input `walk` has one output, by its choices and its

@@ -9,9 +9,9 @@ invariant-loop-before l = record {
   few : l.frames ≤ l.before * MAX_STAGES;
   each : l.left ≤ l.before;
   frames : l.frames
-      + frames_in (flat_map (walks_of_packet l.net l.intent l.policy) (range_with_len (l.before + 1) (l.packets - l.before)))
-      ≡ frames_in (walks_of l.net l.intent l.policy l.packets);
+      + frames_in (flat_map (walks_of_packet l.net l.headend) (range_with_len (l.before + 1) (l.packets - l.before)))
+      ≡ frames_in (walks_of l.net l.headend l.packets);
   left : l.left
-      + left_in l.net (flat_map (walks_of_packet l.net l.intent l.policy) (range_with_len (l.before + 1) (l.packets - l.before)))
-      ≡ left_in l.net (walks_of l.net l.intent l.policy l.packets);
+      + left_in l.net (flat_map (walks_of_packet l.net l.headend) (range_with_len (l.before + 1) (l.packets - l.before)))
+      ≡ left_in l.net (walks_of l.net l.headend l.packets);
 }

@@ -22,13 +22,13 @@ loop-used-preserved c =
       counted = subst (λ (n : ℕ). Counted c.args.net.now
           (walk_of (MAX_STAGES - (c.loop-used.used + 1)) c.args.net.now (Some c.in-Some.next) c.staged.new.content
           (choice_at c.args.choices.now) (c.loop-used.taken + n))
-          (walk_of MAX_STAGES c.args.net.now (Some c.args.start) c.args.content (choice_at c.args.choices.now) 0)
+          (walk_of MAX_STAGES c.args.net.now (Some c.args.comes.place) c.args.comes.content (choice_at c.args.choices.now) 0)
           (c.loop-used.taken + n)) (sym c.decisions_of-taken.ensures.taken) on;
     }
 
 pub returns-in-None-clause-frames : goal.returns-in-None-clause-frames
 returns-in-None-clause-frames c =
-    let whole = walk_of MAX_STAGES c.args.net.now (Some c.args.start) c.args.content (choice_at c.args.choices.now) 0 in
+    let whole = walk_of MAX_STAGES c.args.net.now (Some c.args.comes.place) c.args.comes.content (choice_at c.args.choices.now) 0 in
     let step : Gave = step_of c.args.net.now c.loop-used.place c.loop-used.content (choice_at c.args.choices.now c.loop-used.taken) in
     let gave : Gave = record { outcome = c.in_ok-outcome.outcome; after = c.staged.new.content; error = step.error } in
     let left : MAX_STAGES - c.loop-used.used ≡ suc (MAX_STAGES - (c.loop-used.used + 1)) = omega arith in
@@ -42,7 +42,7 @@ returns-in-None-clause-frames c =
 
 pub returns-in-None-clause-left : goal.returns-in-None-clause-left
 returns-in-None-clause-left c =
-    let whole = walk_of MAX_STAGES c.args.net.now (Some c.args.start) c.args.content (choice_at c.args.choices.now) 0 in
+    let whole = walk_of MAX_STAGES c.args.net.now (Some c.args.comes.place) c.args.comes.content (choice_at c.args.choices.now) 0 in
     let step : Gave = step_of c.args.net.now c.loop-used.place c.loop-used.content (choice_at c.args.choices.now c.loop-used.taken) in
     let gave : Gave = record { outcome = c.in_ok-outcome.outcome; after = c.staged.new.content; error = step.error } in
     let left : MAX_STAGES - c.loop-used.used ≡ suc (MAX_STAGES - (c.loop-used.used + 1)) = omega arith in
@@ -53,7 +53,7 @@ returns-in-None-clause-left c =
 
 pub returns-clause-frames : goal.returns-clause-frames
 returns-clause-frames c =
-    let whole = walk_of MAX_STAGES c.args.net.now (Some c.args.start) c.args.content (choice_at c.args.choices.now) 0 in
+    let whole = walk_of MAX_STAGES c.args.net.now (Some c.args.comes.place) c.args.comes.content (choice_at c.args.choices.now) 0 in
     let left : MAX_STAGES - c.loop-used.used ≡ 0 = omega arith in
     let over = counted_over c.args.net.now _ whole _ (walk_is_over c.args.net.now (MAX_STAGES - c.loop-used.used) _ _ _ _ left)
     c.loop-used.invariant.counted in
@@ -61,7 +61,7 @@ returns-clause-frames c =
 
 pub returns-clause-left : goal.returns-clause-left
 returns-clause-left c =
-    let whole = walk_of MAX_STAGES c.args.net.now (Some c.args.start) c.args.content (choice_at c.args.choices.now) 0 in
+    let whole = walk_of MAX_STAGES c.args.net.now (Some c.args.comes.place) c.args.comes.content (choice_at c.args.choices.now) 0 in
     let left : MAX_STAGES - c.loop-used.used ≡ 0 = omega arith in
     let over = counted_over c.args.net.now _ whole _ (walk_is_over c.args.net.now (MAX_STAGES - c.loop-used.used) _ _ _ _ left)
     c.loop-used.invariant.counted in

@@ -10,5 +10,5 @@ invariant-loop-used l = record {
   place : IsPlace l.net l.place;
   taken : l.taken ≤ l.used;
   counted : Counted l.net (walk_of (MAX_STAGES - l.used) l.net (Some l.place) l.content (choice_at l.choices) l.taken)
-      (walk_of MAX_STAGES l.net (Some l.fn.start) l.fn.content (choice_at l.choices) 0) l.taken;
+      (walk_of MAX_STAGES l.net (Some l.fn.comes.place) l.fn.comes.content (choice_at l.choices) 0) l.taken;
 }

@@ -1,5 +1,10 @@
-use Rattle.walk_commands.proofs.Mixing.{walk-mixes, walk-tells, walk-walks}
+use Rattle.run_commands.proofs.PublicLaws.{driven-mixes, driven-tells, driven-walks}
+use Rattle.walk_commands.specs.Walk.{entry_at_headend}
 use Rattle.walk_commands.proofs.laws.a_schedule_mixes_walks.Goals as goal
 
 pub returns : goal.returns
-returns c = record { frames = walk-mixes; lines = walk-tells; walks = walk-walks }
+returns c = record {
+  frames = λ net headend number choices schedule packets. driven-mixes net (entry_at_headend headend) number choices schedule packets;
+  lines = λ net headend number choices schedule packets. driven-tells net (entry_at_headend headend) number choices schedule packets;
+  walks = λ net headend choices packets. driven-walks net (entry_at_headend headend) choices packets;
+}

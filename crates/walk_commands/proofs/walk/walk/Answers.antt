@@ -1,6 +1,7 @@
 use Rattle.std.proofs.Common.{refl, sym, ◌∙◌}
 use Rattle.std.proofs.lemmas.Result.{err_from_is_err_and}
 use Rattle.walk_commands.proofs.WalkEnds.{walk_halted_at_file, walk_halted_at_intent, walk_halted_at_start, walk_without_list, walk_halted_at_input, walk_halted_at_pieces, walk_done, walk_refused}
+use Rattle.walk_commands.proofs.WalkStarts.{headend_ready, headend_within}
 use Rattle.walk_commands.proofs.walk.walk.Goals as goal
 
 pub returns-in_err-net : goal.returns-in_err-net
@@ -37,9 +38,19 @@ returns-in_err-packets g c =
     rw (p.1, p.2) (walk_halted_at_input c.args.file.now c.args.intent.now c.args.choices.now c.args.schedule.now _ _ _ _ _
     (g.O.Sink.seen c.args.out.now) (g.E.Sink.seen c.args.err.now)
     c.in_ok-net.net c.in_ok-net.ensures c.in_ok-intent.intent c.in_ok-intent.ensures.judged
-    c.in-List.policy (rw c.in-List.is at c.in_ok-start.ensures) c.hop_limit_fits.ensures
+    c.in-List.headend (rw c.in-List.is at c.in_ok-start.ensures) c.hop_limit_fits.ensures
     c.requires
     c.in_err-packets.field-0.0 c.in_err-packets.ensures.judged)
+
+pub drive-requires-clause-ready : goal.drive-requires-clause-ready
+drive-requires-clause-ready g c =
+    let begins = rw c.in-List.is at c.in_ok-start.ensures in
+    headend_ready c.in_ok-net.net c.in_ok-intent.intent begins.0 c.in-List.headend c.in_ok-intent.ensures.keeps begins.1 begins.3
+
+pub drive-requires-clause-within : goal.drive-requires-clause-within
+drive-requires-clause-within g c =
+    let begins = rw c.in-List.is at c.in_ok-start.ensures in
+    headend_within c.in_ok-net.net c.in_ok-intent.intent begins.0 c.in-List.headend c.in_ok-intent.ensures.keeps begins.3
 
 pub returns-in_err-refusal : goal.returns-in_err-refusal
 returns-in_err-refusal g c =
@@ -47,28 +58,28 @@ returns-in_err-refusal g c =
     rw (p.1, p.2) (walk_halted_at_pieces c.args.file.now c.args.intent.now c.args.choices.now c.args.schedule.now _ _ _ _ _
     (g.O.Sink.seen c.args.out.now) (g.E.Sink.seen c.args.err.now)
     c.in_ok-net.net c.in_ok-net.ensures c.in_ok-intent.intent c.in_ok-intent.ensures.judged
-    c.in-List.policy (rw c.in-List.is at c.in_ok-start.ensures) c.hop_limit_fits.ensures
+    c.in-List.headend (rw c.in-List.is at c.in_ok-start.ensures) c.hop_limit_fits.ensures
     c.requires
     c.in_ok-packets.packets c.in_ok-packets.ensures.judged
-    (g.O.Sink.seen c.walk_packets.new.out) (g.E.Sink.seen c.walk_packets.new.err)
+    (g.O.Sink.seen c.drive.new.out) (g.E.Sink.seen c.drive.new.err)
     c.in_err-refusal.field-0.0 c.in_err-refusal.ensures.wrote)
 
 pub returns-in-Some : goal.returns-in-Some
 returns-in-Some g c = walk_refused c.args.file.now c.args.intent.now c.args.choices.now c.args.schedule.now _ _ _ _ _
     (g.O.Sink.seen c.args.out.now) (g.E.Sink.seen c.args.err.now)
     c.in_ok-net.net c.in_ok-net.ensures c.in_ok-intent.intent c.in_ok-intent.ensures.judged
-    c.in-List.policy (rw c.in-List.is at c.in_ok-start.ensures) c.hop_limit_fits.ensures
+    c.in-List.headend (rw c.in-List.is at c.in_ok-start.ensures) c.hop_limit_fits.ensures
     c.requires
     c.in_ok-packets.packets c.in_ok-packets.ensures.judged
-    (g.O.Sink.seen c.walk_packets.new.out) (g.E.Sink.seen c.walk_packets.new.err)
+    (g.O.Sink.seen c.drive.new.out) (g.E.Sink.seen c.drive.new.err)
     c.in-Some.refusal (sym c.in-Some.is ∙ c.in_ok-refusal.ensures.fault) c.in_ok-refusal.ensures.wrote
 
 pub returns : goal.returns
 returns g c = walk_done c.args.file.now c.args.intent.now c.args.choices.now c.args.schedule.now _ _ _ _ _
     (g.O.Sink.seen c.args.out.now) (g.E.Sink.seen c.args.err.now)
     c.in_ok-net.net c.in_ok-net.ensures c.in_ok-intent.intent c.in_ok-intent.ensures.judged
-    c.in-List.policy (rw c.in-List.is at c.in_ok-start.ensures) c.hop_limit_fits.ensures
+    c.in-List.headend (rw c.in-List.is at c.in_ok-start.ensures) c.hop_limit_fits.ensures
     c.requires
     c.in_ok-packets.packets c.in_ok-packets.ensures.judged
-    (g.O.Sink.seen c.walk_packets.new.out) (g.E.Sink.seen c.walk_packets.new.err)
+    (g.O.Sink.seen c.drive.new.out) (g.E.Sink.seen c.drive.new.err)
     _ (sym c.in-None.is ∙ c.in_ok-refusal.ensures.fault) refl refl c.in_ok-refusal.ensures.wrote
