@@ -1,5 +1,5 @@
 -- What enters the headend, up to its end, and what it makes of it.
-use Rattle.std.proofs.Common.{◌≡◌, ℕ, ◌+◌, ◌≤◌, Bool, true, false, List, length, take, refl, sym, ap, ◌∙◌, subst, arith, take_all}
+use Rattle.std.proofs.Common.{◌≡◌, ℕ, ◌+◌, ◌≤◌, Bool, true, false, List, length, take, refl, sym, ap, ap₂, ◌∙◌, subst, arith, take_all}
 use Rattle.std.specs.Prelude.{◌==◌, ◌/◌, nat_lt, slice_index, if◌then◌else◌}
 use Rattle.std.proofs.lemmas.Bool.{ltb-false}
 use Rattle.std.proofs.lemmas.List.{length-take-le}
@@ -8,17 +8,20 @@ use Rattle.srv6_rules.specs.declared.policy.Policy.{Policy}
 use Rattle.srv6_rules.specs.declared.sid.Family.TheVariants as families
 use Rattle.srv6_rules.specs.declared.sid.Reason.TheVariants.{Truncated, BadVersion}
 use Rattle.srv6_rules.specs.Encapsulation.{inner_lowered}
-use Rattle.srv6_rules.specs.Packet.{Packet, V6, Unreadable, IsSpellable, header_len, most_len, spelling, content_of, packet_at, stated_len, entered}
+use Rattle.srv6_rules.specs.Packet.{Content, Packet, V6, Unreadable, IsSpellable, header_len, most_len, spelling, content_of, packet_at, stated_len, entered}
 use Rattle.srv6_rules.specs.Policies.{Encapsulating, headend_by, encapsulated_by}
 use Rattle.srv6_rules.proofs.PublicLaws.{content_of-spelling_alone, length-spelling, all-spelling}
 use Rattle.ip6_headers.specs.Reading.{HoldsPacket}
 use Rattle.ip6_headers.proofs.PublicLaws.{holds-spellable, holds-payload_len, holds-front}
 use Rattle.policy_encap.specs.Inner.{HoldsInner}
 use Rattle.policy_encap.specs.Answers.{Makes}
-use Rattle.walk_commands.specs.Walk.{Enters, of_content, of_encapsulating}
-use Rattle.walk_commands.specs.Headend.{IsInnerOf}
+use Rattle.walk_rules.specs.declared.place.Place.{Place}
+use Rattle.run_commands.specs.Entry.{Entering, comes_of}
+use Rattle.walk_commands.specs.declared.headend.Headend.{Headend}
+use Rattle.walk_commands.specs.Walk.{AtHeadend, Enters, entry_of, of_content, of_encapsulating, submitted_at}
+use Rattle.walk_commands.specs.Headend.{IsInnerOf, entry_alone}
 
-pub made_enters : (wanted : Encapsulating) (bytes : List ℕ) → Makes wanted bytes → Enters (entered families.V6 bytes) ≡ of_encapsulating wanted
+made_enters : (wanted : Encapsulating) (bytes : List ℕ) → Makes wanted bytes → Enters (entered families.V6 bytes) ≡ of_encapsulating wanted
 made_enters wanted bytes m =
     let fits = m.spelled.0.payload_len in
     let len = length-spelling m.packet in
@@ -27,6 +30,14 @@ made_enters wanted bytes m =
     ap (entered families.V6) m.spelled.1
     ∙ (ap content_of (take_all most_len (spelling m.packet) short) ∙ content_of-spelling_alone m.packet m.spelled.0) in
     ap Enters is ∙ ap of_encapsulating (sym m.outer)
+
+-- so what is made enters there
+pub comes_made : (h : Headend) (inner : List ℕ) (place : Place) (content : Content) (bytes : List ℕ) → place ≡ submitted_at h.node
+    → content ≡ entered families.V6 bytes → Makes (encapsulated_by h.policy h.inner inner) bytes
+    → comes_of (Entering (record { place = place; content = content })) ≡ comes_of (entry_alone h inner)
+comes_made h inner place content bytes there is made =
+    ap₂ (λ (p : Place) (c : Content). comes_of (Entering (record { place = p; content = c }))) there is
+    ∙ ap (λ (at : AtHeadend). comes_of (entry_of h.node at)) (made_enters (encapsulated_by h.policy h.inner inner) bytes made)
 
 -- bytes that read as a packet hold it
 
