@@ -1,10 +1,9 @@
 -- The headend with the compiled list.
-use Rattle.std.proofs.Common.{◌≡◌, ℕ, ◌^◌, ◌<◌, ◌≤◌, true, List, [], ◌∷◌, length, map, Ok, refl, sym, ap, ◌∙◌, subst, arith}
+use Rattle.std.proofs.Common.{◌≡◌, ℕ, ◌^◌, ◌<◌, ◌≤◌, true, List, [], ◌∷◌, length, map, refl, sym, ap, ◌∙◌, subst, arith}
 use Rattle.std.specs.Prelude.{nat_le, nat_lt}
 use Rattle.std.proofs.lemmas.Bool.{and_parts, leb-true, ltb-true}
 use Rattle.std.proofs.lemmas.List.{length-map}
 use Rattle.v6_addr.specs.declared.address.Addr.{Addr}
-use Rattle.srv6_rules.specs.declared.policy.Policy.{Policy}
 use Rattle.srv6_rules.specs.Policies.{IsPolicy}
 use Rattle.net_model.specs.Network.{Network}
 use Rattle.intent_reader.specs.declared.intent.Intent.{Intent}

@@ -8,7 +8,7 @@ use Rattle.srv6_rules.specs.Policies.{encapsulated_by}
 use Rattle.policy_encap.specs.Inner.{HoldsInner}
 use Rattle.walk_commands.specs.declared.headend.Headend.{Headend}
 use Rattle.run_commands.specs.Entry.{Entry}
-use Rattle.walk_commands.specs.Walk.{AtHeadend, Dropped, entry_of, of_content, of_encapsulating}
+use Rattle.walk_commands.specs.Walk.{Dropped, entry_of, of_content, of_encapsulating}
 
 -- a packet of a family that bytes begin with, alone: the headend makes of it what it makes of the bytes
 pub record IsInnerOf (family : Family) (packet bytes : List ℕ) : Type 0 where
