@@ -149,14 +149,8 @@ pub(crate) fn write_walk<O: Sink>(
     for used in 0..MAX_STAGES {
         let choice = choices[taken % choices.len()];
         let outcome = staged(alloc, net, &place, &mut content, choice, &mut error)?;
-        write_sent(
-            number,
-            &outcome,
-            content.bytes(),
-            error.as_slice(),
-            room,
-            out,
-        )?;
+        let (packet, told) = (content.bytes(), error.as_slice());
+        write_sent(number, &outcome, packet, told, room, out)?;
         taken += decisions_of(&outcome);
         match next_place(net, &place, &outcome) {
             Some(next) => place = next,
