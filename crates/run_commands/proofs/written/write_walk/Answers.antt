@@ -19,7 +19,7 @@ loop-used-preserved g c =
     c.loop-used.place c.loop-used.content
     (choice_at c.args.course.now.choices.now) c.loop-used.taken gave _ _ _ (g.O.Sink.seen c.write_sent.new.out)
     left c.in_ok-outcome.ensures.function c.loop-used.invariant.progress
-    c.in-Some.next (sym c.in-Some.ensures) (c.in_ok-write_sent.ensures c.staged.new.content step.error tells c.bytes.ensures (c.as_slice.ensures.value ∙ slot)) in
+    c.in-Some.next (sym c.in-Some.ensures) (c.in_ok-write_sent.ensures c.staged.new.content step.error tells c.bytes-packet.ensures (c.as_slice-told.ensures.value ∙ slot)) in
     record {
       place = subst (λ (o : Option Place). IfSome o (IsPlace c.args.course.now.net.now)) (sym c.in-Some.ensures) c.in_ok-outcome.ensures.next;
       taken = omega (arith, c.decisions_of-taken.ensures.few, c.loop-used.invariant.taken);
@@ -47,7 +47,7 @@ returns-in_err-write_sent-clause-wrote g c =
     (MAX_STAGES - c.loop-used.used) (MAX_STAGES - (c.loop-used.used + 1)) c.loop-used.place c.loop-used.content
     (choice_at c.args.course.now.choices.now) c.loop-used.taken gave _ _ _ (g.O.Sink.seen c.write_sent.new.out)
     left c.in_ok-outcome.ensures.function c.loop-used.invariant.progress c.in_err-write_sent.field-0.0
-    (c.in_err-write_sent.ensures c.staged.new.content step.error tells c.bytes.ensures (c.as_slice.ensures.value ∙ slot)))
+    (c.in_err-write_sent.ensures c.staged.new.content step.error tells c.bytes-packet.ensures (c.as_slice-told.ensures.value ∙ slot)))
 
 pub returns-in-None-clause-ended : goal.returns-in-None-clause-ended
 returns-in-None-clause-ended g c =
@@ -60,7 +60,7 @@ returns-in-None-clause-ended g c =
     c.loop-used.place c.loop-used.content
     (choice_at c.args.course.now.choices.now) c.loop-used.taken gave _ _ _ (g.O.Sink.seen c.write_sent.new.out)
     left c.in_ok-outcome.ensures.function c.loop-used.invariant.progress (sym c.in-None.ensures)
-    (c.in_ok-write_sent.ensures c.staged.new.content step.error tells c.bytes.ensures (c.as_slice.ensures.value ∙ slot)) in
+    (c.in_ok-write_sent.ensures c.staged.new.content step.error tells c.bytes-packet.ensures (c.as_slice-told.ensures.value ∙ slot)) in
     c.ended_by.ensures ∙ last.1
 
 pub returns-in-None-clause-wrote : goal.returns-in-None-clause-wrote
@@ -74,7 +74,7 @@ returns-in-None-clause-wrote g c =
     c.loop-used.place c.loop-used.content
     (choice_at c.args.course.now.choices.now) c.loop-used.taken gave _ _ _ (g.O.Sink.seen c.write_sent.new.out)
     left c.in_ok-outcome.ensures.function c.loop-used.invariant.progress (sym c.in-None.ensures)
-    (c.in_ok-write_sent.ensures c.staged.new.content step.error tells c.bytes.ensures (c.as_slice.ensures.value ∙ slot)) in
+    (c.in_ok-write_sent.ensures c.staged.new.content step.error tells c.bytes-packet.ensures (c.as_slice-told.ensures.value ∙ slot)) in
     last.0
 
 pub returns-clause-ended : goal.returns-clause-ended
