@@ -13,7 +13,7 @@ use Rattle.command_output.specs.declared.refusal.Refusal.{Refusal}
 use Rattle.command_output.specs.declared.refusal.Refusal.TheVariants as refusals
 use Rattle.command_inputs.specs.declared.frames.Found.TheVariants as founds
 use Rattle.command_inputs.specs.Frames.{FramesSeen, FindsFrame, Finds, bare_by, bare_frame, seen_at, all_frames}
-use Rattle.command_inputs.specs.Packets.{fault_behind, fault_of, left_of}
+use Rattle.command_inputs.specs.Packets.{classic_frames, fault_behind, left_of}
 use Rattle.command_inputs.proofs.FrameSteps.{fault-limit}
 
 -- the only frame of a bare packet
@@ -81,7 +81,7 @@ limit_found old at limit =
 
 -- before the first frame a reader has all
 pub all_at_start : (head : CaptureHead) (bytes : List ℕ)
-    → seen_at None (record { head = head; taken = 0; rest = bytes }) ≡ all_frames (frames_of head MAX_FRAMES 1 bytes)
+    → seen_at None (record { head = head; taken = 0; rest = bytes }) ≡ all_frames (classic_frames (frames_of head MAX_FRAMES 1 bytes))
 all_at_start head bytes =
     ap (λ (n : ℕ). let seen : FramesSeen = record {
       at = None;

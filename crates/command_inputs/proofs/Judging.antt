@@ -8,6 +8,7 @@ use Rattle.srx_edge.specs.Sources.{SourceSeen, drained, Draws}
 use Rattle.srx_edge.specs.declared.input.DrawFault.{DrawFault}
 use Rattle.srx_edge.specs.declared.input.DrawFault.TheVariants as draws
 use Rattle.pcap_io.specs.declared.fault.CaptureFault.{CaptureFault}
+use Rattle.pcap_io.specs.declared.fault.CaptureFault.TheVariants as captures
 use Rattle.pcap_io.specs.declared.head.CaptureHead.{CaptureHead}
 use Rattle.pcap_io.specs.Head.{head_of}
 use Rattle.net_model.specs.Network.{Network}
@@ -33,7 +34,7 @@ use Rattle.command_output.specs.Answers.{JudgesFile, JudgesText, JudgesInput}
 use Rattle.command_output.specs.Halts.{halt_of_net, halt_of_intent, halt_of_draw, halt_of_refusal}
 use Rattle.command_inputs.specs.Judgements.{network_by, network_in, intent_by, intent_in}
 use Rattle.command_output.specs.Outside.{AsksForFront}
-use Rattle.command_inputs.specs.Packets.{packets_in, is_bare}
+use Rattle.command_inputs.specs.Packets.{capture_by, ng_in, packets_in, is_bare}
 
 -- what is told of a text that was read is told of the judgement of it
 pub judged-text : {A : Type 0} (judge : List ℕ → Result A Refusal) (judged : Result A Refusal) (text name : List ℕ)
@@ -133,14 +134,30 @@ packets_in-capture input head h bare is =
     let small : nat_lt MAX_INPUT_BYTES (length input) ≡ false = le-ltb MAX_INPUT_BYTES (length input) h in
     rw (small, bare, ← is) refl
 
-pub packets_in-fault : (input : List ℕ) (fault : CaptureFault) → length input ≤ MAX_INPUT_BYTES → is_bare input ≡ false
-    → Err fault ≡ head_of input
-    → packets_in input ≡ Err (refusals.Capture fault)
-packets_in-fault input fault h bare is =
+pub packets_in-ng : (input : List ℕ) (read : Result Packets Refusal) → length input ≤ MAX_INPUT_BYTES → is_bare input ≡ false
+    → Err captures.PcapNg ≡ head_of input → read ≡ ng_in input
+    → packets_in input ≡ read
+packets_in-ng input read h bare is by =
     let small : nat_lt MAX_INPUT_BYTES (length input) ≡ false = le-ltb MAX_INPUT_BYTES (length input) h in
-    rw (small, bare, ← is) refl
+    rw (small, bare, ← is) (sym by)
 
-pub ruleset contents = (packets_in-bare, packets_in-capture, packets_in-fault)
+capture-fault : (fault : CaptureFault) (input : List ℕ) → (fault ≡ captures.PcapNg → ⊥)
+    → capture_by (Err fault) input ≡ Err (refusals.Capture fault)
+capture-fault captures.PcapNg input not = absurd (not refl)
+capture-fault captures.CutHead input not = refl
+capture-fault captures.BadMagic input not = refl
+capture-fault captures.BadVersion input not = refl
+capture-fault (captures.BadLink link) input not = refl
+capture-fault captures.FrameLimit input not = refl
+
+pub packets_in-fault : (input : List ℕ) (fault : CaptureFault) → length input ≤ MAX_INPUT_BYTES → is_bare input ≡ false
+    → Err fault ≡ head_of input → (fault ≡ captures.PcapNg → ⊥)
+    → packets_in input ≡ Err (refusals.Capture fault)
+packets_in-fault input fault h bare is not =
+    let small : nat_lt MAX_INPUT_BYTES (length input) ≡ false = le-ltb MAX_INPUT_BYTES (length input) h in
+    rw (small, bare, ← is) (capture-fault fault input not)
+
+pub ruleset contents = (packets_in-bare, packets_in-capture, packets_in-ng, packets_in-fault)
 
 -- what was drawn is what was left
 drawn : (judged : Result Packets Refusal) (bytes : List ℕ) (left : Option (List ℕ)) → IfSome left (λ input. bytes ≡ input)

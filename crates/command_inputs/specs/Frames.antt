@@ -5,11 +5,11 @@ use Rattle.pcap_io.specs.declared.frame.Body.TheVariants as bodies
 use Rattle.pcap_io.specs.declared.frame.Frame.{Frame}
 use Rattle.pcap_io.specs.declared.numbers.TheConstants.{MAX_FRAMES}
 use Rattle.pcap_io.specs.Capture.{Reader}
-use Rattle.pcap_io.specs.Frames.{Reading}
+use Rattle.pcapng_io.specs.Pieces.{NgComing}
 use Rattle.command_output.specs.declared.refusal.Refusal.{Refusal}
 use Rattle.command_inputs.specs.declared.frames.Found.{Found}
 use Rattle.command_inputs.specs.declared.frames.Found.TheVariants as founds
-use Rattle.command_inputs.specs.Packets.{fault_behind, fault_of, left_of}
+use Rattle.command_inputs.specs.Packets.{InputFrames, fault_behind, fault_of, left_of, refusal_of_end}
 
 -- the frame at hand, if one is; the frames that will come, and the refusal of what is after the last of them, if anything is; and
 -- how many came
@@ -36,7 +36,7 @@ Finds old (Ok (founds.End fault)) new = (old.frames ≡ []) × (fault ≡ old.en
 Finds old (Err want) new = ⊤
 
 -- all frames of an input, before the first
-abbrev pub all_frames : Reading → FramesSeen
+abbrev pub all_frames : InputFrames → FramesSeen
 all_frames read = record { at = None; frames = read.frames; end = fault_of read; taken = 0 }
 
 -- those that a reader has left, with the one at hand
@@ -46,6 +46,15 @@ seen_at at reader = record {
   frames = (left_of reader).frames;
   end = fault_behind (reader.taken + length (left_of reader).frames) (left_of reader).rest;
   taken = reader.taken;
+}
+
+-- those of a pcapng file that will come, with the one at hand
+abbrev pub ng_seen_at : Option Frame → NgComing → FramesSeen
+ng_seen_at at coming = record {
+  at = at;
+  frames = coming.reading.frames;
+  end = refusal_of_end coming.reading.end;
+  taken = coming.taken;
 }
 
 -- the only frame, of a bare packet, before it came and after

@@ -1,34 +1,70 @@
--- The packets of the input, each with its number: one bare packet, or the frames of a capture (own rules).
+-- The packets of the input, each with its number: one bare packet, or the frames of a capture or of a pcapng file (own rules).
 use Rattle.std.specs.Prelude.{◌≡◌, ℕ, ◌+◌, ◌-◌, ◌/◌, ◌<◌, ◌≤◌, Bool, ◌&&◌, ◌==◌, not, nat_lt, if◌then◌else◌, List, [], ◌∷◌, length, drop, slice_index, Option, Some, None, Result, Ok, Err, ⊤}
 use Rattle.pcap_io.specs.declared.fault.CaptureFault.{CaptureFault}
 use Rattle.pcap_io.specs.declared.fault.CaptureFault.TheVariants.{FrameLimit}
+use Rattle.pcap_io.specs.declared.fault.CaptureFault.TheVariants as captures
 use Rattle.pcap_io.specs.declared.frame.Body.{Body}
 use Rattle.pcap_io.specs.declared.frame.Body.TheVariants as bodies
+use Rattle.pcap_io.specs.declared.frame.Frame.{Frame}
 use Rattle.pcap_io.specs.declared.head.CaptureHead.{CaptureHead}
 use Rattle.pcap_io.specs.declared.numbers.TheConstants.{HEAD_LEN, MAX_FRAMES}
 use Rattle.pcap_io.specs.Capture.{Reader}
 use Rattle.pcap_io.specs.Frames.{Reading, with_front, frames_of}
 use Rattle.pcap_io.specs.Head.{head_of}
+use Rattle.pcapng_io.specs.declared.end.NgEnd.{NgEnd}
+use Rattle.pcapng_io.specs.declared.end.NgEnd.TheVariants as ends
+use Rattle.pcapng_io.specs.declared.fault.NgFault.TheVariants as ng
+use Rattle.pcapng_io.specs.declared.numbers.TheConstants.{MAX_INPUT}
+use Rattle.pcapng_io.specs.Reading.{NgReading, end_at_start, ng_capture_of}
 use Rattle.command_output.specs.declared.halt.Failure.{Failure}
 use Rattle.command_output.specs.declared.halt.Failure.TheVariants as failures
 use Rattle.command_inputs.specs.declared.limits.TheConstants.{MAX_INPUT_BYTES}
 use Rattle.command_inputs.specs.declared.packets.Next.{Next}
 use Rattle.command_inputs.specs.declared.packets.Next.TheVariants as nexts
 use Rattle.command_inputs.specs.declared.packets.Packets.{Packets}
-use Rattle.command_inputs.specs.declared.packets.Packets.TheVariants.{Bare, Capture}
+use Rattle.command_inputs.specs.declared.packets.Packets.TheVariants.{Bare, Capture, Ng}
 use Rattle.command_output.specs.declared.unread.Unread.{Unread}
 use Rattle.command_output.specs.declared.unread.Unread.TheVariants as unreads
 use Rattle.command_output.specs.declared.refusal.Refusal.{Refusal}
 use Rattle.command_output.specs.declared.refusal.Refusal.TheVariants as refusals
 
--- what the input is: one bare IPv6 packet, of which the first half byte is 6, or a capture
+-- what the input is: one bare IPv6 packet, of which the first half byte is 6, a classic capture, or a pcapng file
 
 abbrev pub is_bare : List ℕ → Bool
 is_bare input = not (length input == 0) && ((slice_index input 0 / 16) == 6)
 
+-- the refusal of how a pcapng file ends: none where it ends with its last block, and want of memory is no end
+abbrev pub refusal_of_end : NgEnd → Option Refusal
+refusal_of_end ends.Whole = None
+refusal_of_end (ends.CutIn block) = Some (refusals.NgCut block)
+refusal_of_end (ends.Faulty (ng.NgMagic block)) = Some (refusals.NgMagic block)
+refusal_of_end (ends.Faulty (ng.NgBlock block)) = Some (refusals.NgBlock block)
+refusal_of_end (ends.Faulty (ng.NgVersion block)) = Some (refusals.NgVersion block)
+refusal_of_end (ends.Faulty (ng.NgOldBlock block)) = Some (refusals.NgOldBlock block)
+refusal_of_end (ends.Faulty (ng.NgInterface block)) = Some (refusals.NgInterface block)
+refusal_of_end (ends.Faulty ng.FrameLimit) = Some (refusals.Capture FrameLimit)
+refusal_of_end (ends.Faulty ng.NoMemory) = None
+
+-- a pcapng file whose first block is cut or faulty is refused; where a later one is, the packets before it are read
+abbrev pub ng_unless : Option Refusal → List ℕ → Result Packets Refusal
+ng_unless (Some refusal) input = Err refusal
+ng_unless None input = Ok (Ng input)
+
+abbrev pub ng_by : Option NgEnd → List ℕ → Result Packets Refusal
+ng_by (Some end) input = ng_unless (refusal_of_end end) input
+ng_by None input = Ok (Ng input)
+
+abbrev pub ng_in : List ℕ → Result Packets Refusal
+ng_in input = ng_by (end_at_start input) input
+
 abbrev pub capture_by : Result CaptureHead CaptureFault → List ℕ → Result Packets Refusal
 capture_by (Ok head) input = Ok (Capture head input)
-capture_by (Err fault) input = Err (refusals.Capture fault)
+capture_by (Err captures.PcapNg) input = ng_in input
+capture_by (Err captures.CutHead) input = Err (refusals.Capture captures.CutHead)
+capture_by (Err captures.BadMagic) input = Err (refusals.Capture captures.BadMagic)
+capture_by (Err captures.BadVersion) input = Err (refusals.Capture captures.BadVersion)
+capture_by (Err (captures.BadLink link)) input = Err (refusals.Capture (captures.BadLink link))
+capture_by (Err captures.FrameLimit) input = Err (refusals.Capture captures.FrameLimit)
 
 abbrev pub packets_in : List ℕ → Result Packets Refusal
 packets_in input =
@@ -36,15 +72,11 @@ packets_in input =
     else if is_bare input then Ok (Bare input)
     else capture_by (head_of input) input
 
--- the frames, numbered from 1, and what is behind the last one: a bare packet is the only one
-abbrev pub reading_of : Packets → Reading
-reading_of (Bare packet) = record { frames = record { number = 1; body = bodies.V6 packet } ∷ []; rest = [] }
-reading_of (Capture head input) = frames_of head MAX_FRAMES 1 (drop HEAD_LEN input)
-
--- a capture has its head
+-- a capture has its head, and a file is no longer than a reader is fed
 abbrev pub HasHead : Packets → Type 0
 HasHead (Bare packet) = ⊤
 HasHead (Capture head input) = HEAD_LEN ≤ length input
+HasHead (Ng input) = length input ≤ MAX_INPUT
 
 -- why a frame's packet isn't read, if it isn't
 abbrev pub unread_in : Body → Option Unread
@@ -60,8 +92,25 @@ fault_behind count rest =
     else if count == MAX_FRAMES then Some (refusals.Capture FrameLimit)
     else Some (refusals.CutFrame (count + 1))
 
-abbrev pub fault_of : Reading → Option Refusal
-fault_of read = fault_behind (length read.frames) read.rest
+-- the frames of an input, numbered from 1, and the refusal of what is after the last one, if anything is
+pub record InputFrames : Type 0 where
+  pub frames : List Frame
+  pub end : Option Refusal
+
+abbrev pub classic_frames : Reading → InputFrames
+classic_frames read = record { frames = read.frames; end = fault_behind (length read.frames) read.rest }
+
+abbrev pub ng_frames : NgReading → InputFrames
+ng_frames read = record { frames = read.frames; end = refusal_of_end read.end }
+
+-- a bare packet is the only one
+abbrev pub reading_of : Packets → InputFrames
+reading_of (Bare packet) = record { frames = record { number = 1; body = bodies.V6 packet } ∷ []; end = None }
+reading_of (Capture head input) = classic_frames (frames_of head MAX_FRAMES 1 (drop HEAD_LEN input))
+reading_of (Ng input) = ng_frames (ng_capture_of input)
+
+abbrev pub fault_of : InputFrames → Option Refusal
+fault_of read = read.end
 
 -- the frames that a reader has left
 abbrev pub left_of : Reader → Reading

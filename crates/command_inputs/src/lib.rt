@@ -10,6 +10,7 @@ mod choices;
 mod frames;
 mod judge;
 mod limits;
+mod ng_bytes;
 mod packets;
 mod sources;
 
@@ -20,5 +21,6 @@ pub use judge::{
     trace_of_file,
 };
 pub use limits::{MAX_CHOICES, MAX_INPUT_BYTES, MAX_SCHEDULE};
+pub use ng_bytes::NgBytes;
 pub use packets::{Next, Packets, next_of, packets_of_input, unread_of, unread_of_frame};
-pub use sources::{BareFrames, CaptureFrames, PacketFrames};
+pub use sources::{BareFrames, CaptureFrames, NgFrames, PacketFrames};

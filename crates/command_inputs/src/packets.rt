@@ -3,14 +3,16 @@
 ghost use Rattle.std.specs.Prelude.{◌≡◌, ◌≤◌, IfOk, length};
 ghost use Rattle.pcap_io.specs.Capture.{IsDone};
 ghost use Rattle.command_output.specs.Answers.{JudgesInput};
-ghost use Rattle.command_inputs.specs.Packets.{HasHead, Nexts, fault_behind, is_bare, packets_in, unread_in};
+ghost use Rattle.command_inputs.specs.Packets.{HasHead, Nexts, fault_behind, is_bare, ng_in, packets_in, refusal_of_end, unread_in};
 
 use crate::limits::MAX_INPUT_BYTES;
+use crate::ng_bytes::NgBytes;
 use base::Seq;
 use command_output::{Failure, Halt, Refusal, Unread};
 use pcap_io::{
     Body, CaptureFault, CaptureHead, Frame, FrameReader, LentBody, LentFrame, TakeFault, read_head,
 };
+use pcapng_io::{NgEnd, NgFault, end_at_start};
 use srx_edge::{Source, draw};
 use std::alloc::Global;
 
@@ -21,6 +23,8 @@ pub enum Packets {
     Bare(Seq<u8>),
     /// A capture: what its head says, and all its bytes, the head's among them.
     Capture(CaptureHead, Seq<u8>),
+    /// A pcapng file: all its bytes.
+    Ng(NgBytes),
 }
 
 /// What a reader of frames gives next. (own rule)
@@ -42,6 +46,39 @@ fn begins_as_ipv6(input: &[u8]) -> bool
     }
 }
 
+/// The refusal of how a pcapng file ends; `None` where it ends with its last block. (own rule)
+pub(crate) fn refusal_of_end(end: NgEnd) -> Option<Refusal>
+    ensures { result ≡ refusal_of_end end }
+{
+    match end {
+        NgEnd::Whole => None,
+        NgEnd::CutIn(block) => Some(Refusal::NgCut { block }),
+        NgEnd::Faulty(NgFault::NgMagic { block }) => Some(Refusal::NgMagic { block }),
+        NgEnd::Faulty(NgFault::NgBlock { block }) => Some(Refusal::NgBlock { block }),
+        NgEnd::Faulty(NgFault::NgVersion { block }) => Some(Refusal::NgVersion { block }),
+        NgEnd::Faulty(NgFault::NgOldBlock { block }) => Some(Refusal::NgOldBlock { block }),
+        NgEnd::Faulty(NgFault::NgInterface { block }) => Some(Refusal::NgInterface { block }),
+        NgEnd::Faulty(NgFault::FrameLimit) => Some(Refusal::Capture(CaptureFault::FrameLimit)),
+        NgEnd::Faulty(NgFault::NoMemory) => None,
+    }
+}
+
+/// A pcapng file, or the refusal of its first block.
+fn ng_in(bytes: Vec<u8>) -> Result<Packets, Refusal>
+    requires { length bytes.items ≤ MAX_INPUT_BYTES }
+    ensures judged { result ≡ ng_in bytes.items }
+    ensures head { IfOk result HasHead }
+{
+    let refusal = match end_at_start(bytes.as_slice()) {
+        Some(end) => refusal_of_end(end),
+        None => None,
+    };
+    match refusal {
+        Some(refusal) => Err(refusal),
+        None => Ok(Packets::Ng(NgBytes::new(bytes))),
+    }
+}
+
 /// What these bytes are.
 #[tactic(auto, using(crate::proofs::Judging::contents))]
 fn packets_of_bytes(bytes: Vec<u8>) -> Result<Packets, Refusal>
@@ -54,6 +91,7 @@ fn packets_of_bytes(bytes: Vec<u8>) -> Result<Packets, Refusal>
     }
     match read_head(bytes.as_slice()) {
         Ok(head) => Ok(Packets::Capture(head, Seq::new(bytes))),
+        Err(CaptureFault::PcapNg) => ng_in(bytes),
         Err(fault) => Err(Refusal::Capture(fault)),
     }
 }

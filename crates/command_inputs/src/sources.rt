@@ -1,16 +1,24 @@
-//! Where the frames of an input come from: a bare packet, or a capture.
+//! Where the frames of an input come from: a bare packet, a capture, or a pcapng file.
 
 ghost use Rattle.std.specs.Prelude.{◌≡◌, ◌≤◌, false, length, drop, None};
 ghost use Rattle.pcap_io.specs.Capture.{IsDone};
-ghost use Rattle.command_inputs.specs.Frames.{all_frames, bare_by, seen_at};
+ghost use Rattle.pcap_io.specs.Lending.{body_lent};
+ghost use Rattle.pcapng_io.specs.declared.numbers.TheConstants.{MAX_INPUT};
+ghost use Rattle.pcapng_io.specs.Reading.{ng_capture_of};
+ghost use Rattle.pcapng_io.specs.Pieces.{all_of};
+ghost use Rattle.command_inputs.specs.Frames.{all_frames, bare_by, ng_seen_at, seen_at};
 ghost use Rattle.command_inputs.specs.Packets.{HasHead, fault_behind, reading_of};
-ghost use Rattle.command_inputs.specs.Sources.{bare_seen, capture_seen, packets_seen};
+ghost use Rattle.command_inputs.specs.Sources.{bare_seen, capture_seen, ng_seen, packets_seen};
 
 use crate::frames::{Found, Frames};
-use crate::packets::Packets;
+use crate::ng_bytes::NgBytes;
+use crate::packets::{Packets, refusal_of_end};
 use base::NoMemory;
 use command_output::Refusal;
-use pcap_io::{CaptureFault, CaptureHead, FrameLender, FrameLimit, HEAD_LEN, LentBody, LentFrame};
+use pcap_io::{
+    Body, CaptureFault, CaptureHead, Frame, FrameLender, FrameLimit, HEAD_LEN, LentBody, LentFrame,
+};
+use pcapng_io::{NgNext, NgPieces};
 
 /// The only frame of a bare packet, which is packet 1. (own rule)
 #[derive(Debug, Drop)]
@@ -106,6 +114,59 @@ impl Frames for CaptureFrames<'_> {
     }
 }
 
+/// The frames of a pcapng file; the one at hand is lent. (own rule)
+#[derive(Drop)]
+pub struct NgFrames<'a> {
+    pieces: NgPieces<'a>,
+    at: Option<Frame>,
+}
+
+impl<'a> NgFrames<'a> {
+    /// The frames of a file. (own rule)
+    pub fn new(file: &'a NgBytes) -> NgFrames<'a>
+        requires { length file.now ≤ MAX_INPUT }
+        ensures { ng_seen result ≡ ng_seen_at None (all_of (ng_capture_of file.now)) }
+    {
+        NgFrames {
+            pieces: NgPieces::new(file.alloc(), file.as_slice()),
+            at: None,
+        }
+    }
+}
+
+/// What a frame holds, lent.
+fn lent(body: &Body) -> LentBody<'_>
+    ensures { body_lent result ≡ body.now }
+{
+    match body {
+        Body::V6(packet) => LentBody::V6(packet.as_slice()),
+        Body::V4(packet) => LentBody::V4(packet.as_slice()),
+        Body::ShortFrame => LentBody::ShortFrame,
+        Body::NotIp => LentBody::NotIp,
+    }
+}
+
+impl Frames for NgFrames<'_> {
+    ghost seen = { ng_seen };
+
+    fn next(&mut self) -> Result<Found, NoMemory> {
+        match self.pieces.next()? {
+            NgNext::Frame(frame) => {
+                self.at = Some(frame);
+                Ok(Found::Frame)
+            }
+            NgNext::End(end) => Ok(Found::End(refusal_of_end(end))),
+        }
+    }
+
+    fn frame(&self) -> Option<LentFrame<'_>> {
+        match &self.at {
+            Some(frame) => Some(LentFrame::new(frame.number, lent(&frame.body))),
+            None => None,
+        }
+    }
+}
+
 /// The frames of an input, whatever it is. (own rule)
 #[derive(Drop)]
 pub enum PacketFrames<'a> {
@@ -113,6 +174,8 @@ pub enum PacketFrames<'a> {
     Bare(BareFrames<'a>),
     /// Those of a classic capture.
     Capture(CaptureFrames<'a>),
+    /// Those of a pcapng file.
+    Ng(NgFrames<'a>),
 }
 
 impl Frames for PacketFrames<'_> {
@@ -122,6 +185,7 @@ impl Frames for PacketFrames<'_> {
         match self {
             PacketFrames::Bare(frames) => frames.next(),
             PacketFrames::Capture(frames) => frames.next(),
+            PacketFrames::Ng(frames) => frames.next(),
         }
     }
 
@@ -129,6 +193,7 @@ impl Frames for PacketFrames<'_> {
         match self {
             PacketFrames::Bare(frames) => frames.frame(),
             PacketFrames::Capture(frames) => frames.frame(),
+            PacketFrames::Ng(frames) => frames.frame(),
         }
     }
 }
@@ -144,6 +209,7 @@ impl Packets {
             Packets::Capture(head, bytes) => {
                 PacketFrames::Capture(CaptureFrames::new(*head, bytes.as_slice()))
             }
+            Packets::Ng(file) => PacketFrames::Ng(NgFrames::new(file)),
         }
     }
 }

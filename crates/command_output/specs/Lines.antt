@@ -54,6 +54,12 @@ refusal_text (refusals.MixedBlock block prefix) = codes "refused 43 MixedBlock "
 refusal_text (refusals.Clash prefix first second) =
     codes "refused 44 Clash " ++ (prefix_text prefix ++ 32 ∷ (first ++ 32 ∷ second))
 refusal_text (refusals.BadCert line) = codes "refused 45 BadCert " ++ decimal line
+refusal_text (refusals.NgBlock block) = codes "refused 49 NgBlock " ++ decimal block
+refusal_text (refusals.NgMagic block) = codes "refused 50 NgMagic " ++ decimal block
+refusal_text (refusals.NgVersion block) = codes "refused 51 NgVersion " ++ decimal block
+refusal_text (refusals.NgInterface block) = codes "refused 52 NgInterface " ++ decimal block
+refusal_text (refusals.NgCut block) = codes "refused 53 NgCut " ++ decimal block
+refusal_text (refusals.NgOldBlock block) = codes "refused 54 NgOldBlock " ++ decimal block
 
 abbrev pub refusal_line : Refusal → List ℕ
 refusal_line refusal = line (refusal_text refusal)

@@ -19,7 +19,7 @@ pub enum Refusal {
         /// The limit, in bytes.
         limit: usize,
     },
-    /// 11 to 15 and 17: the input is no capture.
+    /// 11 to 15 and 17: the input is no classic capture, or has too many frames.
     Capture(CaptureFault),
     /// 16: the capture ends within a frame.
     CutFrame {
@@ -73,6 +73,36 @@ pub enum Refusal {
         /// The first line that is outside the grammar or names no state, counted from 1; where
         /// there is none and the text ends too early, the line after the last.
         line: u32,
+    },
+    /// 49: a block of a pcapng file has a length that doesn't fit.
+    NgBlock {
+        /// The block's number, from 1 on over all sections.
+        block: u32,
+    },
+    /// 50: the magic of a section of a pcapng file reads 1a2b3c4d in neither byte order.
+    NgMagic {
+        /// The block's number, from 1 on over all sections.
+        block: u32,
+    },
+    /// 51: the major version of a section of a pcapng file is not 1.
+    NgVersion {
+        /// The block's number, from 1 on over all sections.
+        block: u32,
+    },
+    /// 52: the interface of a packet of a pcapng file is not described.
+    NgInterface {
+        /// The block's number, from 1 on over all sections.
+        block: u32,
+    },
+    /// 53: a pcapng file ends within a block.
+    NgCut {
+        /// The block's number, from 1 on over all sections.
+        block: u32,
+    },
+    /// 54: a pcapng file has an obsolete packet block.
+    NgOldBlock {
+        /// The block's number, from 1 on over all sections.
+        block: u32,
     },
 }
 
@@ -137,6 +167,12 @@ impl fmt::Display for Refusal {
                 second,
             } => write!(f, "refused 44 Clash {prefix} {first} {second}"),
             Refusal::BadCert { line } => write!(f, "refused 45 BadCert {line}"),
+            Refusal::NgBlock { block } => write!(f, "refused 49 NgBlock {block}"),
+            Refusal::NgMagic { block } => write!(f, "refused 50 NgMagic {block}"),
+            Refusal::NgVersion { block } => write!(f, "refused 51 NgVersion {block}"),
+            Refusal::NgInterface { block } => write!(f, "refused 52 NgInterface {block}"),
+            Refusal::NgCut { block } => write!(f, "refused 53 NgCut {block}"),
+            Refusal::NgOldBlock { block } => write!(f, "refused 54 NgOldBlock {block}"),
         }
     }
 }

@@ -18,7 +18,8 @@ use Rattle.pcapng_io.specs.declared.fault.NgFault.TheVariants.{FrameLimit}
 use Rattle.pcapng_io.specs.declared.mark.NgMark.{NgMark}
 use Rattle.pcapng_io.specs.declared.mark.PacketBlock.{PacketBlock}
 use Rattle.pcapng_io.specs.Blocks.{block_at, body_of}
-use Rattle.pcapng_io.specs.Reading.{NgPlace, Goes, Faulty, fault_in, after, frame_of, step_over, with_front, ended, reading}
+use Rattle.pcapng_io.specs.declared.end.NgEnd.TheVariants.{Faulty}
+use Rattle.pcapng_io.specs.Reading.{NgPlace, Goes, fault_in, after, frame_of, step_over, with_front, ended, reading}
 use Rattle.pcapng_io.specs.Taking.{NgSeen, ByFault, Refused, coming_with, coming}
 use Rattle.pcapng_io.specs.Passing.{place_of, Lies, IsRoom, Passes, BlocksPassed, IsEnd, IsFault, IsPacket, PassesTo, TakesOver}
 use Rattle.pcapng_io.proofs.Prefix.{Within, block_at-within}

@@ -2,12 +2,13 @@
 use Rattle.std.proofs.Common.{◌≡◌, ℕ, List, [], ◌∷◌, ◌++◌, sym, ap, ◌∙◌}
 use Rattle.std.proofs.lemmas.List.{append_assoc, append-nil}
 use Rattle.pcapng_io.specs.declared.fault.NgFault.{NgFault}
-use Rattle.pcapng_io.specs.Reading.{NgReading, Faulty, end_at, with_front, ng_capture_of}
+use Rattle.pcapng_io.specs.declared.end.NgEnd.TheVariants.{Faulty}
+use Rattle.pcapng_io.specs.Reading.{NgReading, end_at, with_front, ng_capture_of}
 use Rattle.pcapng_io.specs.Taking.{NgSeen, fresh, after_feed, coming_with, coming, IsDone, Refused}
 use Rattle.pcapng_io.specs.Runs.{NgCall, Fed, Took, Waited, Runs, bytes_fed, frames_taken}
 use Rattle.pcapng_io.proofs.Steps.{reading-ends}
 
-feed-coming : (r : NgSeen) (piece more : List ℕ) → coming r (piece ++ more) ≡ coming (after_feed r piece) more
+pub feed-coming : (r : NgSeen) (piece more : List ℕ) → coming r (piece ++ more) ≡ coming (after_feed r piece) more
 feed-coming r piece more = ap (coming_with r.fault r.place) (sym (append_assoc r.rest piece more))
 
 abbrev GoesOn : NgSeen → List NgCall → NgSeen → Type 0

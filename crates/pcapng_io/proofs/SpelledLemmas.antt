@@ -15,7 +15,8 @@ use Rattle.pcapng_io.specs.declared.block.BlockType.TheVariants as types
 use Rattle.pcapng_io.specs.declared.block.Interface.{Interface}
 use Rattle.pcapng_io.specs.declared.numbers.TheConstants.{SECTION, INTERFACE, ENHANCED_PACKET, ORDER_MAGIC, MAJOR, MIN_BLOCK, MIN_ENHANCED, ENHANCED_START}
 use Rattle.pcapng_io.specs.Blocks.{begins_section, order_of, type_of, total_at, least_of, has_form, filled, link_in, section_in, interface_in, enhanced_in, held, formed, whole_at, block_at, body_of}
-use Rattle.pcapng_io.specs.Reading.{NgPlace, Whole, Goes, NgReading, after, step_over, start, with_front, ended, reading, ng_capture_of}
+use Rattle.pcapng_io.specs.declared.end.NgEnd.TheVariants.{Whole}
+use Rattle.pcapng_io.specs.Reading.{NgPlace, Goes, NgReading, after, step_over, start, with_front, ended, reading, ng_capture_of}
 use Rattle.pcapng_io.specs.Spelled.{block_bytes, FitsBody, NgHead, section_body, interface_body, FitsNgHead, NgSpelled, packet_body, FitsNgPacket, packet_bytes, frame_read, frames_read, ng_bytes}
 use Rattle.pcapng_io.proofs.Steps.{step-front, reading-goes, reading-ends}
 

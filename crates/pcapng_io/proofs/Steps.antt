@@ -12,7 +12,9 @@ use Rattle.pcapng_io.specs.declared.fault.BlockFault.{BlockFault}
 use Rattle.pcapng_io.specs.declared.fault.NgFault.{NgFault}
 use Rattle.pcapng_io.specs.declared.numbers.TheConstants.{MIN_BLOCK}
 use Rattle.pcapng_io.specs.Blocks.{block_at}
-use Rattle.pcapng_io.specs.Reading.{NgPlace, NgEnd, Faulty, NgStep, Ends, Goes, NgReading, fault_in, after, step_over, step_with, step, end_at, with_front, ended, blocks_of, reading}
+use Rattle.pcapng_io.specs.declared.end.NgEnd.{NgEnd}
+use Rattle.pcapng_io.specs.declared.end.NgEnd.TheVariants.{Faulty}
+use Rattle.pcapng_io.specs.Reading.{NgPlace, NgStep, Ends, Goes, NgReading, fault_in, after, step_over, step_with, step, start, start_end, end_at, end_at_start, ng_capture_of, with_front, ended, blocks_of, reading}
 use Rattle.pcapng_io.proofs.Prefix.{block_at-more, block_at-within}
 
 -- ---- one step
@@ -102,12 +104,12 @@ step_over-other p bytes total (blocks.Packet packet) other = absurd (other packe
 
 -- ---- many steps
 
-blocks_of-ends : (most : ℕ) (p : NgPlace) (bytes : List ℕ) (end : NgEnd) → step p bytes ≡ Ends end
+pub blocks_of-ends : (most : ℕ) (p : NgPlace) (bytes : List ℕ) (end : NgEnd) → step p bytes ≡ Ends end
     → blocks_of (suc most) p bytes ≡ ended end
 unfolding blocks_of
 blocks_of-ends most p bytes end is = rw (is, blocks_of) refl
 
-blocks_of-goes : (most : ℕ) (p next : NgPlace) (bytes : List ℕ) (frames : List Frame) (total : ℕ) → step p bytes ≡ Goes frames next total
+pub blocks_of-goes : (most : ℕ) (p next : NgPlace) (bytes : List ℕ) (frames : List Frame) (total : ℕ) → step p bytes ≡ Goes frames next total
     → blocks_of (suc most) p bytes ≡ with_front frames (blocks_of most next (drop total bytes))
 unfolding blocks_of
 blocks_of-goes most p next bytes frames total is = rw (is, blocks_of) refl
@@ -147,6 +149,15 @@ reading-goes p next bytes frames total is =
     blocks_of-goes (length bytes) p next bytes frames total is
     ∙ ap (with_front frames) (blocks_of-enough (length bytes) (suc (length (drop total bytes))) next (drop total bytes)
     (omega (arith, len)) (omega arith))
+
+-- a first block that is cut or faulty is the end
+start-with : (bytes : List ℕ) (end : NgEnd) (s : NgStep) → step start bytes ≡ s → start_end s ≡ Some end
+    → ng_capture_of bytes ≡ record { frames = []; end = end }
+start-with bytes end (Ends last) is some = let same : last ≡ end = cc in reading-ends start bytes last is ∙ ap ended same
+start-with bytes end (Goes frames next total) is some = absurd (cc)
+
+pub start-ended : (bytes : List ℕ) (end : NgEnd) → end_at_start bytes ≡ Some end → ng_capture_of bytes ≡ record { frames = []; end = end }
+start-ended bytes end some = start-with bytes end (step start bytes) refl some
 
 -- ---- whatever follows
 

@@ -4,3 +4,4 @@ pub mod Taking
 pub mod Passing
 pub mod Runs
 pub mod Spelled
+pub mod Pieces

@@ -10,7 +10,8 @@ use Rattle.pcapng_io.specs.declared.mark.NgMark.{NgMark}
 use Rattle.pcapng_io.specs.declared.mark.PacketBlock.{PacketBlock}
 use Rattle.pcapng_io.specs.declared.numbers.TheConstants.{MAX_INPUT}
 use Rattle.pcapng_io.specs.Blocks.{block_at}
-use Rattle.pcapng_io.specs.Reading.{NgPlace, Ends, Faulty, end_at, after, step, with_front, reading}
+use Rattle.pcapng_io.specs.declared.end.NgEnd.TheVariants.{Faulty}
+use Rattle.pcapng_io.specs.Reading.{NgPlace, Ends, end_at, after, step, with_front, reading}
 use Rattle.pcapng_io.specs.Taking.{ByFault}
 
 -- the interfaces of the section are the last of all that were described

@@ -1,5 +1,5 @@
 -- A pcapng file as a whole: its blocks one after the other, the frames in them, and how it ends.
-use Rattle.std.specs.Prelude.{◌≡◌, ℕ, zero, suc, ◌+◌, ◌==◌, if◌then◌else◌, Bool, false, List, [], ◌∷◌, ◌++◌, length, take, drop, Option, Some, None, Result, Ok, Err}
+use Rattle.std.specs.Prelude.{◌≡◌, ℕ, zero, suc, ◌+◌, ◌==◌, if◌then◌else◌, Bool, false, List, [], ◌∷◌, ◌++◌, length, take, drop, Option, Some, None, Result, Ok, Err, ⊤}
 use Rattle.pcap_io.specs.declared.frame.Frame.{Frame}
 use Rattle.pcap_io.specs.declared.numbers.TheConstants.{MAX_FRAMES}
 use Rattle.pcapng_io.specs.declared.block.BlockContent.{BlockContent}
@@ -7,6 +7,8 @@ use Rattle.pcapng_io.specs.declared.block.BlockContent.TheVariants as blocks
 use Rattle.pcapng_io.specs.declared.block.Interface.{Interface}
 use Rattle.pcapng_io.specs.declared.block.BlockPacket.{BlockPacket}
 use Rattle.pcapng_io.specs.declared.block.WholeBlock.{WholeBlock}
+use Rattle.pcapng_io.specs.declared.end.NgEnd.{NgEnd}
+use Rattle.pcapng_io.specs.declared.end.NgEnd.TheVariants.{Whole, CutIn, Faulty}
 use Rattle.pcapng_io.specs.declared.fault.BlockFault.{BlockFault}
 use Rattle.pcapng_io.specs.declared.fault.BlockFault.TheVariants as faults
 use Rattle.pcapng_io.specs.declared.fault.NgFault.{NgFault}
@@ -24,12 +26,6 @@ pub record NgPlace : Type 0 where
 -- before the first block, which is a section and brings its own order
 abbrev pub start : NgPlace
 start = record { little = false; interfaces = []; blocks = 0; packets = 0 }
-
--- how a file ends: with its last block, within the block of a number, or at the first fault
-pub data NgEnd : Type 0 where
-  Whole : NgEnd
-  CutIn : ℕ → NgEnd
-  Faulty : NgFault → NgEnd
 
 -- the fault of the block of a number
 abbrev pub fault_in : ℕ → BlockFault → NgFault
@@ -110,3 +106,16 @@ ng_capture_of bytes = reading start bytes
 -- a file has these frames and this end
 abbrev pub NgFrames : List ℕ → List Frame → NgEnd → Type 0
 NgFrames bytes frames end = ng_capture_of bytes ≡ record { frames = frames; end = end }
+
+-- how a file ends whose first block is cut or faulty: none where that block is whole
+abbrev pub start_end : NgStep → Option NgEnd
+start_end (Ends end) = Some end
+start_end (Goes frames next total) = None
+
+abbrev pub end_at_start : List ℕ → Option NgEnd
+end_at_start bytes = start_end (step start bytes)
+
+-- frames numbered from n on
+abbrev pub AreFrom : ℕ → List Frame → Type 0
+AreFrom n [] = ⊤
+AreFrom n (frame ∷ more) = (frame.number ≡ n) × AreFrom (n + 1) more

@@ -3,7 +3,8 @@ use Rattle.std.specs.Prelude.{◌≡◌, ℕ, ◌+◌, List, [], ◌∷◌, ◌+
 use Rattle.pcap_io.specs.declared.frame.Frame.{Frame}
 use Rattle.pcapng_io.specs.declared.fault.NgFault.{NgFault}
 use Rattle.pcapng_io.specs.declared.fault.NgFault.TheVariants as ng
-use Rattle.pcapng_io.specs.Reading.{NgPlace, start, NgReading, Ends, Faulty, end_at, step, with_front, ended, reading}
+use Rattle.pcapng_io.specs.declared.end.NgEnd.TheVariants.{Faulty}
+use Rattle.pcapng_io.specs.Reading.{NgPlace, start, NgReading, Ends, end_at, step, with_front, ended, reading}
 
 -- a reader: how many bytes were fed, those of them that no block has taken, what the blocks before say, and the fault met
 pub record NgSeen : Type 0 where

@@ -1,13 +1,15 @@
 //! Laws about the definitions, each the contract of a function that does nothing.
 
-ghost use Rattle.std.specs.Prelude.{◌≡◌, ◌≤◌, ℕ, true, false, List, ◌∷◌, ◌++◌, length, All, Some, Err};
+ghost use Rattle.std.specs.Prelude.{◌≡◌, ◌≤◌, ℕ, true, false, List, [], ◌∷◌, ◌++◌, length, All, Some, Err};
 ghost use Rattle.pcap_io.specs.declared.numbers.TheConstants.{MAX_FRAMES};
 ghost use Rattle.pcapng_io.specs.declared.block.BlockType.TheVariants as types;
 ghost use Rattle.pcapng_io.specs.declared.fault.NgFault.{NgFault};
 ghost use Rattle.pcapng_io.specs.declared.fault.NgFault.TheVariants as ng;
-ghost use Rattle.pcapng_io.specs.declared.numbers.TheConstants.{MAJOR, MAX_INPUT, SIMPLE_START, ENHANCED_START};
+ghost use Rattle.pcapng_io.specs.declared.numbers.TheConstants.{MAJOR, MAX_INPUT, PIECE, SIMPLE_START, ENHANCED_START};
 ghost use Rattle.pcapng_io.specs.Blocks.{type_of, least_of, order_of, link_in};
-ghost use Rattle.pcapng_io.specs.Reading.{Whole, Faulty, NgFrames, end_at, with_front, ng_capture_of};
+ghost use Rattle.pcapng_io.specs.declared.end.NgEnd.{NgEnd};
+ghost use Rattle.pcapng_io.specs.declared.end.NgEnd.TheVariants.{Whole, Faulty};
+ghost use Rattle.pcapng_io.specs.Reading.{AreFrom, NgFrames, end_at, end_at_start, with_front, ng_capture_of};
 ghost use Rattle.pcapng_io.specs.Taking.{NgSeen, fresh, coming, IsDone, Takes};
 ghost use Rattle.pcapng_io.specs.Runs.{NgCall, Runs, bytes_fed, frames_taken};
 ghost use Rattle.pcapng_io.specs.Spelled.{NgHead, NgSpelled, FitsNgHead, FitsNgPacket, ng_bytes, frames_read};
@@ -34,9 +36,20 @@ pub fn spelled_files_are_read()
         → NgFrames (ng_bytes h packets) (frames_read (link_in h.link) 1 packets) Whole }
 {}
 
+/// A file whose first block is cut or faulty has no frames, and ends there. (own rule)
+pub fn first_block_decides()
+    ensures { (bytes : List ℕ) (end : NgEnd) → end_at_start bytes ≡ Some end → NgFrames bytes [] end }
+{}
+
+/// The frames of a file are numbered from 1 on, over all sections. (own rule)
+pub fn frames_are_numbered()
+    ensures { (bytes : List ℕ) → AreFrom 1 (ng_capture_of bytes).frames }
+{}
+
 /// The figures of the format (draft-ietf-opsawg-pcapng sections 3.1 and 4): the types of blocks,
 /// their least lengths in bytes, the magic in either order, the major version, where packets begin,
-/// and the own limits: 64 MiB and 65,536 packets.
+/// and the own limits: 64 MiB, pieces of
+/// 64 KiB, and 65,536 packets.
 pub fn blocks_have_their_figures()
     ensures section { type_of 0x0a0d0d0a ≡ types.Section }
     ensures interface { type_of 1 ≡ types.Interface }
@@ -51,5 +64,5 @@ pub fn blocks_have_their_figures()
     ensures low_first { (a b c d e f g h : ℕ) (rest : List ℕ)
         → order_of (a ∷ b ∷ c ∷ d ∷ e ∷ f ∷ g ∷ h ∷ 0x4d ∷ 0x3c ∷ 0x2b ∷ 0x1a ∷ rest) ≡ Some true }
     ensures numbers { (MAJOR ≡ 1) × (SIMPLE_START ≡ 12) × (ENHANCED_START ≡ 28)
-        × (MAX_INPUT ≡ 67108864) × (MAX_FRAMES ≡ 65536) }
+        × (MAX_INPUT ≡ 67108864) × (PIECE ≡ 65536) × (MAX_FRAMES ≡ 65536) }
 {}

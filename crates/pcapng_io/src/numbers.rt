@@ -3,6 +3,9 @@
 /// The most bytes that a reader is fed: 64 MiB. (own rule)
 pub const MAX_INPUT: usize = 67_108_864;
 
+/// The bytes of the pieces in which a whole file is fed: 64 KiB. (own rule)
+pub(crate) const PIECE: usize = 65_536;
+
 /// The type of a section header block, the same in either byte order (draft-ietf-opsawg-pcapng
 /// section 4.1).
 pub(crate) const SECTION: u32 = 0x0a0d_0d0a;

@@ -38,6 +38,7 @@ impl Model for NgReader {
 
 impl NgReader {
     ghost use Rattle.std.specs.Prelude.{◌≡◌, ◌+◌, ◌<◌, ◌≤◌, length, IfOk, OnOk, OnErr, MatchResult};
+    ghost use Rattle.pcap_io.specs.declared.numbers.TheConstants.{MAX_FRAMES};
     ghost use Rattle.pcapng_io.specs.declared.numbers.TheConstants.{MAX_INPUT};
     ghost use Rattle.pcapng_io.specs.Taking.{fresh, after_feed, Takes, IsDone};
 
@@ -94,6 +95,7 @@ impl NgReader {
     pub fn take(&mut self) -> Result<Option<Frame>, NgFault>
         ensures takes { Takes self.old self.new result }
         ensures fed { self.new.fed ≡ self.old.fed }
+        ensures few { self.new.place.packets ≤ MAX_FRAMES }
     {
         if let Some(fault) = self.fault {
             return Err(fault);

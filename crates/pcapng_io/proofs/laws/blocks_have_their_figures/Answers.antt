@@ -35,4 +35,4 @@ unfolding order_of number_of
 returns-clause-low_first x = λ a b c d e f g h rest. refl
 
 pub returns-clause-numbers : goal.returns-clause-numbers
-returns-clause-numbers c = (refl, refl, refl, refl, refl)
+returns-clause-numbers c = (refl, refl, refl, refl, refl, refl)

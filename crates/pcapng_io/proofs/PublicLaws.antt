@@ -1,0 +1,2 @@
+-- The lemmas that crates above may cite.
+pub use Rattle.pcapng_io.proofs.Numbered.{numbered-file}
