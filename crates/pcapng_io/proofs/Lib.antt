@@ -6,3 +6,4 @@ pub mod SpelledLemmas
 pub mod Numbered
 pub mod PieceLemmas
 pub mod PublicLaws
+pub mod EachFrame
