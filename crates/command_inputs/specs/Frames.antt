@@ -64,3 +64,8 @@ bare_frame packet = record { number = 1; body = bodies.V6 packet }
 abbrev pub bare_by : Bool → List ℕ → FramesSeen
 bare_by false packet = record { at = None; frames = bare_frame packet ∷ []; end = None; taken = 0 }
 bare_by true packet = record { at = Some (bare_frame packet); frames = []; end = None; taken = 1 }
+
+-- frames numbered from n on
+abbrev pub AreFrom : ℕ → List Frame → Type 0
+AreFrom n [] = ⊤
+AreFrom n (frame ∷ more) = (frame.number ≡ n) × AreFrom (n + 1) more
