@@ -7,10 +7,6 @@ use Rattle.std.proofs.lemmas.List.Elements.{All-append, All-cons, All-nil}
 use Rattle.pcap_io.specs.declared.frame.Body.{Body}
 use Rattle.pcap_io.specs.declared.frame.Body.TheVariants as bodies
 use Rattle.pcap_io.specs.declared.frame.Frame.{Frame}
-use Rattle.pcap_io.specs.declared.head.CaptureHead.{CaptureHead}
-use Rattle.pcap_io.specs.declared.numbers.TheConstants.{HEAD_LEN, MAX_FRAMES}
-use Rattle.pcap_io.specs.Frames.{Reading, behind, frame_len, frames_of as frames_in}
-use Rattle.pcap_io.proofs.PublicLaws.{frames_of-zero, frames_of-whole, frames_of-none}
 use Rattle.srv6_rules.specs.declared.sid.Family.TheVariants.{V6, V4}
 use Rattle.srv6_rules.specs.Packet.{Content, entered}
 use Rattle.net_model.specs.Network.{Network}
@@ -19,11 +15,12 @@ use Rattle.walk_rules.specs.Walk.{Stage, walk_of, choice_at, end_of}
 use Rattle.packet_walk.specs.Schedule.{Coming, Taken, all_of, scheduled, steps_of}
 use Rattle.packet_walk.proofs.PublicLaws.{stages-scheduled}
 use Rattle.command_inputs.specs.declared.packets.Packets.{Packets}
-use Rattle.command_inputs.specs.declared.packets.Packets.TheVariants.{Bare, Capture}
 use Rattle.run_commands.specs.Capture.{frame_of_gave, frames_of}
 use Rattle.run_commands.specs.declared.enters.Comes.{Comes}
 use Rattle.run_commands.specs.Entry.{Entry, comes_of, coming_if_comes, coming_of_frame, comings_of_frames}
+use Rattle.command_inputs.specs.Frames.{AreFrom}
 use Rattle.command_inputs.specs.Packets.{reading_of}
+use Rattle.command_inputs.proofs.PublicLaws.{numbered-packets}
 use Rattle.run_commands.specs.Scheduled.{coming, frame_of_stage, frames_sent, line_of_stage, line_of_walk, lines_told, pieces_of_stages}
 use Rattle.walk_rules.specs.declared.limits.TheConstants.{MAX_STAGES}
 use Rattle.command_output.specs.Lines.{packet_line}
@@ -79,25 +76,6 @@ all-walk packets each [] = All-nil (λ (c : Coming). 0 < length c.steps)
 all-walk packets each (frame ∷ more) =
     All-append (λ (c : Coming). 0 < length c.steps) (packets frame) (flat_map packets more) (each frame) (all-walk packets each more)
 
--- frames numbered from n on
-
-abbrev AreFrom : ℕ → List Frame → Type 0
-AreFrom n [] = ⊤
-AreFrom n (frame ∷ more) = (frame.number ≡ n) × AreFrom (n + 1) more
-
-are-from : (head : CaptureHead) (most n : ℕ) (bytes : List ℕ) → AreFrom n (frames_in head most n bytes).frames
-are-from head zero n bytes = subst (λ (r : Reading). AreFrom n r.frames) (sym (frames_of-zero head n bytes)) tt
-are-from head (suc most) n bytes =
-    elim (cases_lt (length bytes) (frame_len head.little bytes)) [
-      | inl less ↦ subst (λ (r : Reading). AreFrom n r.frames) (sym (frames_of-none head (suc most) n bytes less)) tt
-      | inr whole ↦ subst (λ (r : Reading). AreFrom n r.frames) (sym (frames_of-whole head most n bytes whole))
-          (refl, are-from head most (n + 1) (behind head.little bytes))
-    ]
-
-are-from-packets : (packets : Packets) → AreFrom 1 (reading_of packets).frames
-are-from-packets (Bare packet) = (refl, tt)
-are-from-packets (Capture head input) = are-from head MAX_FRAMES 1 (drop HEAD_LEN input)
-
 -- so the packets of frames differ in their numbers, where each frame has one at most
 
 abbrev IsOne : (Frame → List Coming) → Type 1
@@ -141,7 +119,7 @@ module _ (net : Network) (choices : List ℕ) (entry : Body → Entry) where
 
     driven-apart : IsDistinct nat_eq (numbers comings)
     driven-apart = apart (coming_of_frame net choices entry) (λ frame P. comes-one frame.number (comes_of (entry frame.body)) P) 1
-        (reading_of packets).frames (are-from-packets packets)
+        (reading_of packets).frames (numbered-packets packets)
 
     pub driven-mixes : (number : ℕ) (schedule : List ℕ)
         → frames_sent number (scheduled schedule comings) ≡ frames_of number (steps_of number comings)

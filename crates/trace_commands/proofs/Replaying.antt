@@ -2,19 +2,11 @@
 use Rattle.std.proofs.Common.{◌≡◌, ℕ, zero, suc, ◌+◌, ◌^◌, ◌<◌, ◌≤◌, Bool, true, false, List, [], ◌∷◌, All, length, drop, Option, Some, None, Result, Ok, Err, refl, sym, ap, ◌∙◌, arith, subst, append-nil}
 use Rattle.std.specs.Prelude.{◌↔◌, ◌/◌, ◌==◌, IsSomeAnd, bytes_eq, if◌then◌else◌, nat_le, nat_lt, slice_index}
 use Rattle.std.proofs.lemmas.Bool.{leb-true, leb-false}
-use Rattle.std.proofs.lemmas.List.Elements.{All-append, All-cons, All-drop, All-nil, All-take}
+use Rattle.std.proofs.lemmas.List.Elements.{All-append, All-cons, All-nil, All-tail}
 use Rattle.std.proofs.lemmas.Option.{slice_get_within}
-use Rattle.pcap_io.specs.declared.fault.CaptureFault.{CaptureFault}
 use Rattle.pcap_io.specs.declared.frame.Body.{Body}
 use Rattle.pcap_io.specs.declared.frame.Body.TheVariants as bodies
-use Rattle.pcap_io.specs.declared.head.CaptureHead.{CaptureHead}
-use Rattle.pcap_io.specs.declared.head.LinkType.{LinkType}
-use Rattle.pcap_io.specs.declared.head.LinkType.TheVariants as links
-use Rattle.pcap_io.specs.declared.numbers.TheConstants.{HEAD_LEN, MAX_FRAMES}
-use Rattle.pcap_io.specs.Frames.{Reading, Spelled, behind, body_of, by_ethertype, first_frame, frame_len, frames_of, numbered, packet_in}
-use Rattle.pcap_io.specs.Head.{head_of}
-use Rattle.pcap_io.specs.Numbers.{number_of}
-use Rattle.pcap_io.proofs.PublicLaws.{frames_of-none, frames_of-whole, frames_of-zero}
+use Rattle.pcap_io.specs.declared.frame.Frame.{Frame}
 use Rattle.srv6_rules.specs.declared.sid.Family.{Family}
 use Rattle.srv6_rules.specs.declared.sid.Family.TheVariants as families
 use Rattle.srv6_rules.specs.Packet.{entered}
@@ -29,10 +21,8 @@ use Rattle.trace_replay.proofs.PublicLaws.{unended-bad, written-counts, written-
 use Rattle.srx_edge.specs.Edge.{file_named}
 use Rattle.srx_edge.specs.Sinks.{sent}
 use Rattle.srx_edge.proofs.PublicLaws.{sent_both}
-use Rattle.command_inputs.specs.declared.limits.TheConstants.{MAX_INPUT_BYTES}
 use Rattle.net_model.specs.declared.limits.TheConstants.{MAX_TEXT_BYTES}
 use Rattle.command_inputs.specs.declared.packets.Packets.{Packets}
-use Rattle.command_inputs.specs.declared.packets.Packets.TheVariants.{Bare, Capture}
 use Rattle.command_output.specs.declared.refusal.Refusal.{Refusal}
 use Rattle.command_output.specs.declared.refusal.Refusal.TheVariants as refusals
 use Rattle.command_output.specs.declared.status.Status.TheVariants as statuses
@@ -40,10 +30,10 @@ use Rattle.trace_commands.specs.Replay.{ReplayWants, replay_output, replayed, re
 use Rattle.trace_commands.specs.Trace.{text_by, text_of, trace_output, traced, traced_as, traced_by, traced_of, traced_of_frame}
 use Rattle.command_output.specs.Outputs.{after, ended_by, refused}
 use Rattle.command_inputs.specs.Judgements.{network_in, node_in, node_or}
-use Rattle.command_inputs.specs.Packets.{capture_by, fault_of, is_bare, packets_in, reading_of}
+use Rattle.command_inputs.specs.Packets.{fault_of, packets_in, reading_of}
 use Rattle.command_output.specs.Pieces.{ForErr, ForOut, Output, Piece, bytes_for_out, gone}
 use Rattle.trace_commands.specs.Replaying.{Judged, OutReceives, ReplaysTo, UnendedTracesAreRefused, WholeTracesAreRight, right_with, trace_for_out, traced_under}
-use Rattle.command_inputs.proofs.PublicLaws.{RulesAreKept, rules-kept, trace-small}
+use Rattle.command_inputs.proofs.PublicLaws.{AreBytes, HoldsBytes, IsOfBytes, RulesAreKept, bytes-packets, in-input, rules-kept, trace-small}
 
 -- ---- what `out` receives
 
@@ -56,11 +46,6 @@ out_receives (ForErr bytes ∷ more) old = out_receives more (record old { err =
 
 -- ---- the network and the node
 
-ok-else : {A : Type 0} (too_big : Bool) (refusal : Refusal) (read : Result A Refusal) (a : A)
-    → (if too_big then Err refusal else read) ≡ Ok a → read ≡ Ok a
-ok-else true refusal read a e = absurd (let no : ⊥ = cc in no)
-ok-else false refusal read a e = e
-
 named-some : (found : Option ℕ) (node : ℕ) → node_or found ≡ Ok node → found ≡ Some node
 named-some None node e = absurd (let no : ⊥ = cc in no)
 named-some (Some n) node e = let same : n ≡ node = cc in ap Some same
@@ -69,53 +54,6 @@ named-within : (net : Network) (name : List ℕ) (node : ℕ) → node_in net na
 named-within net name node e =
     let item = position_item (λ n. bytes_eq n.name name) net.nodes node (named-some (node_numbered name net.nodes) node e) in
     slice_get_within net.nodes node item.0 item.1
-
--- ---- the bytes of a frame's packet are among those of the input
-
-abbrev AreBytes : List ℕ → Type 0
-AreBytes bytes = All (λ byte. byte < 2 ^ 8) bytes
-
-abbrev HoldsBytes : Body → Type 0
-HoldsBytes (bodies.V6 packet) = AreBytes packet
-HoldsBytes (bodies.V4 packet) = AreBytes packet
-HoldsBytes bodies.ShortFrame = Unit {0}
-HoldsBytes bodies.NotIp = Unit {0}
-
-version-by : (six four : Bool) (packet : List ℕ) → AreBytes packet
-    → HoldsBytes (if six then bodies.V6 packet else if four then bodies.V4 packet else bodies.NotIp)
-version-by true four packet h = h
-version-by false true packet h = h
-version-by false false packet h = tt
-
-ethertype-by : (short six four : Bool) (packet : List ℕ) → AreBytes packet
-    → HoldsBytes (if short then bodies.NotIp else if six then bodies.V6 packet else if four then bodies.V4 packet else bodies.NotIp)
-ethertype-by true six four packet h = tt
-ethertype-by false six four packet h = version-by six four packet h
-
--- the two EtherTypes are those of IPv6 and of IPv4
-ethertype-bytes : (bytes : List ℕ) → AreBytes bytes → HoldsBytes (by_ethertype bytes)
-ethertype-bytes bytes h =
-    let kind = number_of false 2 (drop 12 bytes) in
-    ethertype-by (nat_lt (length bytes) 14) (kind == 34525) (kind == 2048) (drop 14 bytes) (All-drop (λ byte. byte < 2 ^ 8) 14 bytes h)
-
-packet-bytes : (link : LinkType) (bytes : List ℕ) → AreBytes bytes → HoldsBytes (packet_in link bytes)
-unfolding packet_in
-packet-bytes links.Ethernet bytes h = ethertype-bytes bytes h
-packet-bytes links.Raw bytes h = version-by (slice_index bytes 0 / 16 == 6) (slice_index bytes 0 / 16 == 4) bytes h
-packet-bytes links.Ipv6 bytes h = h
-
-body-bytes : (link : LinkType) (f : Spelled) → AreBytes f.captured → HoldsBytes (body_of link f)
-unfolding body_of
-body-bytes link f h = by-length (nat_lt (length f.captured) f.original)
-  where
-    by-length : (short : Bool) → HoldsBytes (if short then bodies.ShortFrame else packet_in link f.captured)
-    by-length true = tt
-    by-length false = packet-bytes link f.captured h
-
-captured-bytes : (little : Bool) (bytes : List ℕ) → AreBytes bytes → AreBytes (first_frame little bytes).captured
-unfolding first_frame
-captured-bytes little bytes h =
-    All-take (λ byte. byte < 2 ^ 8) _ (drop 16 bytes) (All-drop (λ byte. byte < 2 ^ 8) 16 bytes h)
 
 -- ---- so the packets of the frames are ones that entered
 
@@ -139,64 +77,20 @@ module _ (net : Network) (node : ℕ) (choices : List ℕ) (there : node < lengt
   entered-by number bodies.ShortFrame small h = All-nil (IsTraced net)
   entered-by number bodies.NotIp small h = All-nil (IsTraced net)
 
-  abbrev AllEntered : Reading → Type 0
-  AllEntered read = All (IsTraced net) (traced_of node choices read.frames)
-
-  -- where a whole frame stands at the front, and the frames behind it did
-  entered-first : (head : CaptureHead) (most n : ℕ) (bytes : List ℕ) → AreBytes bytes → n < 2 ^ 32
-      → AllEntered (frames_of head most (n + 1) (behind head.little bytes))
-      → (whole : Bool) → nat_le (frame_len head.little bytes) (length bytes) ≡ whole
-      → AllEntered (frames_of head (suc most) n bytes)
-  entered-first head most n bytes h small more true is = subst AllEntered
-      (sym (frames_of-whole head most n bytes (leb-true (frame_len head.little bytes) (length bytes) is)))
-      (All-append (IsTraced net) (traced_of_frame node choices (numbered head.link n (first_frame head.little bytes)))
-      (traced_of node choices (frames_of head most (n + 1) (behind head.little bytes)).frames)
-      (entered-by n (body_of head.link (first_frame head.little bytes)) small
-      (body-bytes head.link (first_frame head.little bytes) (captured-bytes head.little bytes h)))
-      more)
-  entered-first head most n bytes h small more false is = subst AllEntered
-      (sym (frames_of-none head (suc most) n bytes (leb-false (frame_len head.little bytes) (length bytes) is)))
-      (All-nil (IsTraced net))
-
-  entered-frames : (head : CaptureHead) (most n : ℕ) (bytes : List ℕ) → AreBytes bytes → n + most < 2 ^ 32
-      → AllEntered (frames_of head most n bytes)
-  entered-frames head zero n bytes h small = subst AllEntered (sym (frames_of-zero head n bytes)) (All-nil (IsTraced net))
-  entered-frames head (suc most) n bytes h small =
-      entered-first head most n bytes h (omega (arith, small))
-      (entered-frames head most (n + 1) (behind head.little bytes)
-      (All-drop (λ byte. byte < 2 ^ 8) (frame_len head.little bytes) bytes h) (omega (arith, small)))
-      (nat_le (frame_len head.little bytes) (length bytes)) refl
-
-  abbrev InBytes : Packets → Type 0
-  InBytes (Bare packet) = AreBytes packet
-  InBytes (Capture head bytes) = AreBytes bytes
-
-  entered-packets : (packets : Packets) → InBytes packets → AllEntered (reading_of packets)
-  entered-packets (Bare packet) h = entered-by 1 (bodies.V6 packet) (omega arith) h
-  entered-packets (Capture head bytes) h =
-      entered-frames head MAX_FRAMES 1 (drop HEAD_LEN bytes) (All-drop (λ byte. byte < 2 ^ 8) HEAD_LEN bytes h) (omega arith)
-
-  in-capture : (head : Result CaptureHead CaptureFault) (input : List ℕ) (packets : Packets) → AreBytes input
-      → capture_by head input ≡ Ok packets → InBytes packets
-  in-capture (Ok head) input packets h e = let same : Capture head input ≡ packets = cc in subst InBytes same h
-  in-capture (Err fault) input packets h e = absurd (let no : ⊥ = cc in no)
-
-  in-input-by : (bare : Bool) (input : List ℕ) (packets : Packets) → AreBytes input
-      → (if bare then Ok (Bare input) else capture_by (head_of input) input) ≡ Ok packets → InBytes packets
-  in-input-by true input packets h e = let same : Bare input ≡ packets = cc in subst InBytes same h
-  in-input-by false input packets h e = in-capture (head_of input) input packets h e
-
-  in-input : (input : List ℕ) (packets : Packets) → AreBytes input → packets_in input ≡ Ok packets → InBytes packets
-  in-input input packets h e = in-input-by (is_bare input) input packets h
-      (ok-else (nat_lt MAX_INPUT_BYTES (length input)) (refusals.TooBig MAX_INPUT_BYTES)
-      (if is_bare input then Ok (Bare input) else capture_by (head_of input) input) packets e)
+  entered-frames : (frames : List Frame) → All IsOfBytes frames → All (IsTraced net) (traced_of node choices frames)
+  entered-frames [] h = All-nil (IsTraced net)
+  entered-frames (frame ∷ more) h =
+      let first = h 0 frame (omega arith) in
+      All-append (IsTraced net) (traced_of_frame node choices frame) (traced_of node choices more)
+      (entered-by frame.number frame.body first.0 first.1)
+      (entered-frames more (All-tail IsOfBytes frame more h))
 
 judged-entered : {text name input : List ℕ} (choices : List ℕ) (judged : Judged text name input) → AreBytes input
     → All (IsTraced judged.net) (traced_under choices judged)
 judged-entered {text} {name} {input} choices judged h =
     let there = named-within judged.net name judged.node judged.named in
-    entered-packets judged.net judged.node choices there judged.packets
-    (in-input judged.net judged.node choices there input judged.packets h judged.read)
+    entered-frames judged.net judged.node choices there (reading_of judged.packets).frames
+    (bytes-packets judged.packets (in-input input judged.packets h judged.read))
 
 -- ---- what `trace` writes
 

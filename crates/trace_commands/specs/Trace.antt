@@ -4,7 +4,6 @@ use Rattle.std.specs.List.{flat_map}
 use Rattle.pcap_io.specs.declared.frame.Body.{Body}
 use Rattle.pcap_io.specs.declared.frame.Body.TheVariants as bodies
 use Rattle.pcap_io.specs.declared.frame.Frame.{Frame}
-use Rattle.pcap_io.specs.Frames.{Reading}
 use Rattle.srv6_rules.specs.declared.sid.Family.{Family}
 use Rattle.srv6_rules.specs.declared.sid.Family.TheVariants.{V6, V4}
 use Rattle.srv6_rules.specs.Packet.{Content, entered}
@@ -18,7 +17,7 @@ use Rattle.command_output.specs.declared.status.Status.TheVariants as statuses
 use Rattle.run_commands.specs.Run.{reads_input}
 use Rattle.command_inputs.specs.Judgements.{network_in, node_in}
 use Rattle.command_output.specs.Outputs.{after, ended_by}
-use Rattle.command_inputs.specs.Packets.{packets_in, reading_of, fault_of}
+use Rattle.command_inputs.specs.Packets.{InputFrames, packets_in, reading_of, fault_of}
 use Rattle.command_output.specs.Pieces.{ForOut, Output}
 use Rattle.command_output.specs.Shape.{Shape}
 use Rattle.command_output.specs.Verbs.{has_two_words}
@@ -53,7 +52,7 @@ abbrev pub text_by : Network → List Traced → Option Refusal → List ℕ
 text_by net packets None = trace_text net packets
 text_by net packets (Some refusal) = unended_text net packets
 
-abbrev pub text_of : Network → ℕ → List ℕ → Reading → List ℕ
+abbrev pub text_of : Network → ℕ → List ℕ → InputFrames → List ℕ
 text_of net node choices read = text_by net (traced_of node choices read.frames) (fault_of read)
 
 abbrev pub traced : Network → ℕ → List ℕ → Packets → Output
