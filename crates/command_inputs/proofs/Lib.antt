@@ -6,4 +6,4 @@ pub mod PublicLaws
 pub mod Tracing
 pub mod FramesFound
 pub mod FrameLoops
-pub mod PacketFrames
+pub mod InputsFrames

@@ -4,4 +4,4 @@ pub use Rattle.command_inputs.proofs.FrameSteps.{Left, LinesWent, PiecesWent, al
 pub use Rattle.command_inputs.proofs.Judging.{RulesAreKept, rules-kept}
 pub use Rattle.command_inputs.proofs.Tracing.{trace-small}
 pub use Rattle.command_inputs.proofs.FrameLoops.{FramesLeft, FramesWalked, all_left, at_hand, flat_one, frames_done, one_done, walk_cut, walked_in_part, walked_one, walked_to_the_end}
-pub use Rattle.command_inputs.proofs.PacketFrames.{AreBytes, HoldsBytes, InBytes, IsOfBytes, bytes-packets, in-input, numbered-packets}
+pub use Rattle.command_inputs.proofs.InputsFrames.{AreBytes, HoldsBytes, InBytes, IsOfBytes, bytes-packets, in-input, numbered-packets}
