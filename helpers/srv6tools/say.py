@@ -170,7 +170,7 @@ def _refused(run: Run, said: Refusal) -> Iterator[str]:
     elif number == 2 and fields[:1] == (str(FILE_LIMIT),):
         big = [file for file in run.files if os.path.getsize(file) > FILE_LIMIT] or run.files
         yield f"{big[0]} has more than {FILE_LIMIT} bytes, which is the most that a file may have"
-    elif number == 2 or 11 <= number <= 17:
+    elif number == 2 or 11 <= number <= 17 or 49 <= number <= 54:
         yield from explain_input(number, fields)
     elif 21 <= number <= 32:
         yield from explain_text(TomlFile(net), name, fields)

@@ -8,7 +8,7 @@ import os
 import select
 from collections.abc import Iterator, Sequence
 
-from .captures import GZIP, PCAPNG
+from .captures import GZIP
 from .command import Fault, tool_name
 from .description import TABLES
 from .files import read_lines
@@ -54,6 +54,15 @@ REASONS = {
 }
 
 
+NG_BLOCKS = {
+    49: "has lengths that don't fit",
+    50: "is a section of neither byte order",
+    51: "is a section of another major version than 1",
+    52: "is a packet of an interface that isn't described",
+    54: "is an obsolete packet block",
+}
+
+
 def explain_input(number: int, fields: Sequence[str]) -> Iterator[str]:
     """What a refusal of the input means."""
     name = _name_of_input()
@@ -65,9 +74,6 @@ def explain_input(number: int, fields: Sequence[str]) -> Iterator[str]:
             yield f"{name} begins with {_looks_like(start)}"
             takes = "srv6 takes a classic capture, or one bare IPv6 packet"
             yield CONVERT if start and start[:2] == GZIP else takes
-        case 12:
-            yield f"{name} is a capture of the format pcapng, and srv6 takes classic ones"
-            yield CONVERT
         case 13:
             yield f"{name} is a capture of another version than 2.4"
             yield CONVERT
@@ -86,6 +92,12 @@ def explain_input(number: int, fields: Sequence[str]) -> Iterator[str]:
             yield f"`{TO_RAW} IN > OUT` leaves that frame out"
         case 17:
             yield f"{name} has more than 65536 frames; part it by `editcap -c 65536 IN OUT`"
+        case 53:
+            yield f"{name} ends within block {fields[0]}; the packets before it are done"
+            yield "a capture that is still being written is cut so"
+        case 49 | 50 | 51 | 52 | 54:
+            yield f"{name} is a pcapng file whose block {fields[0]} {NG_BLOCKS[number]}"
+            yield "`editcap IN OUT` writes it anew, where it can be read"
 
 
 def _name_of_input() -> str:
@@ -108,8 +120,6 @@ def _looks_like(start: bytes | None) -> str:
         return "no magic of a classic capture"
     if start[:2] == GZIP:
         return "a gzip head: it is compressed"
-    if start[:4] == PCAPNG:
-        return "a pcapng head"
     if start[:4] in (b"\xa1\xb2\xcd\x34", b"\x34\xcd\xb2\xa1"):
         return "the magic of a modified capture"
     if start[:1] and start[0] >> 4 == 4:
