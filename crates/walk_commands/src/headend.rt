@@ -73,7 +73,8 @@ impl Headend {
     /// The inner packet of a frame, or what is told of the frame.
     fn inner_in<'a>(&self, body: LentBody<'a>) -> Result<&'a [u8], Stays>
         ensures { MatchResult result
-            (λ packet. IsInnerBy self.now (entry_at_headend self.now (body_lent body.entry)) packet.now)
+            (λ packet. IsInnerBy self.now
+            (entry_at_headend self.now (body_lent body.entry)) packet.now)
             (λ stays. Staying stays ≡ entry_at_headend self.now (body_lent body.entry)) }
     {
         match (body, self.inner) {

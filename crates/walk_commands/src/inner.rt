@@ -21,8 +21,8 @@ fn at_most(bytes: &[u8]) -> &[u8]
     }
 }
 
-/// The IPv6 packet that bytes begin with, without what stands after its end, or why they do not read
-/// as one.
+/// The IPv6 packet that bytes begin with, without what stands after its end, or why they do not
+/// read as one.
 fn inner6(bytes: &[u8]) -> Result<&[u8], Reason>
     ensures { MatchResult result (λ packet. IsInnerOf families.V6 packet.now bytes.now)
         (λ reason. AreDropped families.V6 reason bytes.now) }
