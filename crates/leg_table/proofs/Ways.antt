@@ -1,38 +1,43 @@
 -- SIDs as the code finds them: their addresses, and whether a position has them.
-use Rattle.std.proofs.Common.{◌≡◌, ℕ, Bool, true, false, ◌==◌, List, Some, slice_get, refl, sym, ◌∙◌, ap, eqb-true}
-use Rattle.std.specs.Cmp.{IsEquivalence}
-use Rattle.std.specs.List.{list_any}
-use Rattle.std.proofs.lemmas.Cmp.{nat_eq_equiv}
-use Rattle.std.proofs.lemmas.Map.Views.{list_any-from_Contains, Contains-from_any}
-use Rattle.std.proofs.lemmas.Bool.{false≢true, eq-eqb, false_from_ne_true}
+use Rattle.std.proofs.Common.{◌≡◌, ℕ, ◌≤◌, false, ◌==◌, List, [], ◌∷◌, length, Some, slice_get, get_or, Contains, refl, sym, ap, subst, arith}
+use Rattle.std.proofs.lemmas.Bool.{false≢true, false_from_ne_true}
+use Rattle.std.proofs.lemmas.Option.{slice_get_within}
 use Rattle.srv6_rules.specs.declared.sid.SidEntry.{SidEntry}
 use Rattle.net_model.specs.Network.{Network}
 use Rattle.net_model.specs.Keeps.{Keeps}
 use Rattle.intent_reader.specs.declared.intent.Intent.{Intent}
-use Rattle.leg_table.specs.Sids.{is_sid_at, sids_of, first_address, sid_address}
+use Rattle.leg_table.specs.Sids.{is_sid_at, sids_of, first_address, sid_address, node_at}
 use Rattle.leg_table.proofs.Positions.{are-sids}
+use Rattle.leg_table.proofs.RideFacts.{sid-at}
 
 pub address-is : (net : Network) (n : ℕ) (s : SidEntry) → slice_get net.sids n ≡ Some s → s.prefix.value ≡ sid_address net n
 address-is net n s e = sym (ap first_address e)
 
-abbrev is-it : ℕ → ℕ → Bool
-is-it n y = y == n
+module _ (net : Network) (keeps : Keeps net) (intent : Intent) (position : ℕ) (row : List ℕ) (is : row ≡ sids_of net intent position) where
+  -- the SIDs of a position stand where the walk does
+  pub row-stands : (n : ℕ) → Contains row n
+      → (s : SidEntry) × (slice_get net.sids n ≡ Some s) × (node_at net intent position ≡ Some s.node)
+  row-stands n h =
+      let at = ((are-sids net keeps intent position).each n).0 (subst (λ (xs : List ℕ). Contains xs n) is h) in
+      let s = sid-at net intent position n at in
+      (s.0, s.1, s.2)
 
-is-its : IsEquivalence is-it
-is-its =
-    record {
-      refl = λ x. eq-eqb x x refl;
-      symm = λ x y. nat_eq_equiv.symm y x;
-      congr = λ x y z e. ap (λ (n : ℕ). z == n) (sym (eqb-true y x e));
-    }
+  -- where there are none no SID is one of the position
+  pub none-of-none : (n : ℕ) → length row ≡ 0 → is_sid_at net intent position n ≡ false
+  none-of-none n empty =
+      false_from_ne_true (is_sid_at net intent position n) (λ at.
+      let h = subst (λ (xs : List ℕ). Contains xs n) (sym is) (((are-sids net keeps intent position).each n).1 at) in
+      omega (arith, h.1, empty))
 
-pub any-sid : (net : Network) (keeps : Keeps net) (intent : Intent) (position n : ℕ) (row : List ℕ) → row ≡ sids_of net intent position
-    → list_any (λ y. y == n) row ≡ is_sid_at net intent position n
-any-sid net keeps intent position n row e =
-    ap (list_any (λ y. y == n)) e ∙ by_test (is_sid_at net intent position n) refl
-  where
-    by_test : (t : Bool) → is_sid_at net intent position n ≡ t → list_any (λ y. y == n) (sids_of net intent position) ≡ t
-    by_test true f = list_any-from_Contains {eq = is-it} is-its n (sids_of net intent position) (((are-sids net keeps intent position).each n).1 f)
-    by_test false f =
-        false_from_ne_true (list_any (λ y. y == n) (sids_of net intent position))
-        (λ h. false≢true (sym f ∙ ((are-sids net keeps intent position).each n).0 (Contains-from_any {eq = is-it} (λ x y e. sym (eqb-true y x e)) n (sids_of net intent position) h)))
+  -- and none that the network doesn't have
+  pub none-above : (n : ℕ) → length net.sids ≤ n → is_sid_at net intent position n ≡ false
+  none-above n above =
+      false_from_ne_true (is_sid_at net intent position n) (λ at.
+      let s = sid-at net intent position n at in
+      let within = slice_get_within net.sids n s.0 s.1 in
+      omega (arith, within, above))
+
+-- the first of a list that has one
+pub first-in : (row : List ℕ) → (length row == 0) ≡ false → Contains row (get_or row 0 0)
+first-in [] e = absurd (false≢true (sym e))
+first-in (x ∷ xs) e = (0, omega arith, refl)

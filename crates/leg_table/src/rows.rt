@@ -28,8 +28,8 @@ fn is_function_at(steps: &[Step], position: u32, n: u32) -> bool
     }
 }
 
-// a SID may be executed at a position, where the walk stands at a node
-fn is_sid_at(net: &Net, intent: &Intent, position: u32, node: u32, n: u32) -> bool
+/// A SID may be executed at a position, where the walk stands at a node. (own rule)
+pub fn is_sid_at(net: &Net, intent: &Intent, position: u32, node: u32, n: u32) -> bool
     requires is_there { n < length net.now.sids }
     requires within { position ≤ length intent.now.steps }
     requires stands { sids.node_at net.now intent.now position ≡ Some node }

@@ -13,7 +13,7 @@ ghost use Rattle.net_model.specs.Flat.{IsFlat};
 
 use crate::reach::{Reach, reaches_of, way_at, way_from};
 use crate::ride::Behind;
-use crate::rows::{Row, rows_of};
+use crate::rows::{Row, is_sid_at, rows_of};
 use base::NoMemory;
 use intent_reader::{Intent, Step};
 use list_pack::{Leg, Legs, ListLegs, Shape};
@@ -94,13 +94,21 @@ impl<'a> StrictLegs<'a> {
         self.rows[position as usize].as_slice()
     }
 
-    // a SID is one of a position
+    // a SID is one of a position, whose SIDs all stand at one node
     fn has_sid(&self, position: u32, n: u32) -> bool
         requires { position ≤ length self.now.intent.steps }
         ensures { result ≡ sids.is_sid_at self.now.net self.now.intent position n }
     {
         self.keeps_rules();
-        self.row(position).contains(&n)
+        let row = self.row(position);
+        if row.is_empty() {
+            return false;
+        }
+        if n >= self.net.sids() {
+            return false;
+        }
+        let node = self.net.sid(row[0]).node;
+        is_sid_at(self.net, self.intent, position, node, n)
     }
 
     // from where a packet starts to the next SID
