@@ -13,7 +13,7 @@ abbrev pub capture_seen : CaptureFrames → FramesSeen
 capture_seen f = seen_at f.at f.reader
 
 abbrev pub ng_seen : NgFrames → FramesSeen
-ng_seen f = ng_seen_at f.at f.pieces
+ng_seen f = ng_seen_at f.at_hand f.pieces
 
 abbrev pub packets_seen : PacketFrames → FramesSeen
 packets_seen (sources.Bare f) = bare_seen f

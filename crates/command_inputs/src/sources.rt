@@ -118,7 +118,7 @@ impl Frames for CaptureFrames<'_> {
 #[derive(Drop)]
 pub struct NgFrames<'a> {
     pieces: NgPieces<'a>,
-    at: Option<Frame>,
+    at_hand: Option<Frame>,
 }
 
 impl<'a> NgFrames<'a> {
@@ -129,7 +129,7 @@ impl<'a> NgFrames<'a> {
     {
         NgFrames {
             pieces: NgPieces::new(file.alloc(), file.as_slice()),
-            at: None,
+            at_hand: None,
         }
     }
 }
@@ -152,7 +152,7 @@ impl Frames for NgFrames<'_> {
     fn next(&mut self) -> Result<Found, NoMemory> {
         match self.pieces.next()? {
             NgNext::Frame(frame) => {
-                self.at = Some(frame);
+                self.at_hand = Some(frame);
                 Ok(Found::Frame)
             }
             NgNext::End(end) => Ok(Found::End(refusal_of_end(end))),
@@ -160,7 +160,7 @@ impl Frames for NgFrames<'_> {
     }
 
     fn frame(&self) -> Option<LentFrame<'_>> {
-        match &self.at {
+        match &self.at_hand {
             Some(frame) => Some(LentFrame::new(frame.number, lent(&frame.body))),
             None => None,
         }
