@@ -4,7 +4,7 @@ use Rattle.walk_commands.proofs.laws.a_schedule_mixes_walks.Goals as goal
 
 pub returns : goal.returns
 returns c = record {
-  frames = λ net headend number choices schedule packets. driven-mixes net (entry_at_headend headend) number choices schedule packets;
-  lines = λ net headend number choices schedule packets. driven-tells net (entry_at_headend headend) number choices schedule packets;
-  walks = λ net headend choices packets. driven-walks net (entry_at_headend headend) choices packets;
+  frames = λ net headend number choices schedule packets. driven-mixes net choices (entry_at_headend headend) packets number schedule;
+  lines = λ net headend number choices schedule packets. driven-tells net choices (entry_at_headend headend) packets number schedule;
+  walks = λ net headend choices packets. driven-walks net choices (entry_at_headend headend) packets;
 }
