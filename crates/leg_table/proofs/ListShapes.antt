@@ -1,8 +1,8 @@
--- The SIDs of an intent's legs are SIDs of lists.
-use Rattle.std.proofs.Common.{◌≡◌, ℕ, ◌-◌, ◌≤◌, Option, Some, None, slice_get, Contains, refl, sym, ◌∙◌, ap, subst, arith, eqb-true}
-use Rattle.std.specs.Prelude.{◌↔◌, IsTrue, IsSome, not}
+-- The SIDs of legs of any kind are SIDs of lists.
+use Rattle.std.proofs.Common.{true, Bool, ◌≡◌, ℕ, ◌-◌, ◌≤◌, Option, Some, None, slice_get, refl, sym, ◌∙◌, ap, subst, arith, eqb-true}
+use Rattle.std.specs.Prelude.{◌↔◌, IsTrue, IsSome}
 use Rattle.std.specs.Option.{option_map}
-use Rattle.std.proofs.lemmas.Bool.{false≢true, and_parts, eq-eqb}
+use Rattle.std.proofs.lemmas.Bool.{false≢true, eq-eqb}
 use Rattle.std.proofs.lemmas.Option.{none-some}
 use Rattle.v6_addr.specs.Address.{PrefixValue, Holds}
 use Rattle.v6_addr.proofs.PublicLaws.{Holds_own_value}
@@ -17,14 +17,14 @@ use Rattle.net_model.specs.Keeps.{Keeps, SuitsBlock}
 use Rattle.intent_reader.specs.declared.intent.Intent.{Intent}
 use Rattle.list_places.specs.Lists.{SidBlock, block_len, csid_len_in}
 use Rattle.list_pack.specs.declared.types.Shape.{Shape}
-use Rattle.list_pack.specs.Value.{IsSid, same_block}
+use Rattle.list_pack.specs.Meaning.{IsShapeOf, AreSidsOf}
+use Rattle.list_pack.specs.Value.{LegsValue, IsSid, same_block}
 use Rattle.list_pack.specs.Paths.{SuitsLists}
 use Rattle.list_pack.specs.SidLists.{AreListSids, block_at, list_sid, sid_block}
-use Rattle.leg_table.specs.Sids.{binds, is_sid_at, sid_suits, sids_of, step_before, node_at}
-use Rattle.leg_table.specs.Table.{shape_by, shape_of}
 use Rattle.leg_table.specs.Value.{legs_value}
 use Rattle.leg_table.proofs.Options.{some-same}
 use Rattle.leg_table.proofs.Positions.{are-sids}
+use Rattle.leg_table.proofs.RideFacts.{sid-at}
 use Rattle.leg_table.proofs.Shapes.{numbered, has-number}
 
 module _ (net : Network) (keeps : Keeps net) where
@@ -37,8 +37,9 @@ module _ (net : Network) (keeps : Keeps net) where
 
   -- ---- the shape of a SID, and the SID of lists on its prefix
 
-  abbrev shape : SidEntry → Shape
-  shape s = shape_by net.blocks (Some s)
+  abbrev shape : SidEntry → Bool → Shape
+  shape s middle =
+      record { prefix = s.prefix; block = block_at net.blocks s.prefix; lbl = s.block_len; csid = s.csid; middle = middle }
 
   some-block : (b : Block) (p : PrefixValue) → block_of net.blocks p ≡ Some b → (list_sid net p).block ≡ Some (sid_block b)
   some-block b p e = ap (option_map sid_block) e
@@ -99,52 +100,50 @@ module _ (net : Network) (keeps : Keeps net) where
       let long = got.3 in
       ap csid_len_in (some-block got.0 s.prefix (e ∙ got.1)) ∙ omega (arith, lbl, long)
 
-  module _ (are : AreListSids net) (intent : Intent) where
-    pub there : (n : ℕ) → IsSid (legs_value net intent) n → (s : SidEntry) × (slice_get net.sids n ≡ Some s)
-    there n is = by (slice_get net.sids n) refl ((are-sids net keeps intent is.0).each n).0
-      where
-        by : (o : Option SidEntry) → slice_get net.sids n ≡ o
-            → (Contains (sids_of net intent is.0) n → IsTrue (is_sid_at net intent is.0 n))
-            → (s : SidEntry) × (slice_get net.sids n ≡ Some s)
-        by None e each =
-            absurd (false≢true
-            (sym (ap (sid_suits n (node_at net intent is.0) (step_before intent.steps is.0)) e) ∙ each is.2))
-        by (Some s) e each = (s, e)
+  pub there : (intent : Intent) (n : ℕ) → IsSid (legs_value net intent) n → (s : SidEntry) × (slice_get net.sids n ≡ Some s)
+  there intent n is =
+      let s = sid-at net intent is.0 n (((are-sids net keeps intent is.0).each n).0 is.2) in (s.0, s.1)
 
-    shape-is : (n : ℕ) (s : SidEntry) → slice_get net.sids n ≡ Some s → shape_of net n ≡ shape s
-    shape-is n s e = ap (shape_by net.blocks) e
+  module _ (are : AreListSids net) (v : LegsValue) (sids : AreSidsOf v net)
+      (goes : (n : ℕ) (s : SidEntry) → slice_get net.sids n ≡ Some s → (v.shape n).middle ≡ true → goes_on s ≡ true) where
+    shape-is : (s : SidEntry) (x : Shape) → IsShapeOf net s x → x ≡ shape s x.middle
+    shape-is s x is =
+        ap (λ (p : PrefixValue). record x { prefix = p }) is.prefix
+        ∙ ap (λ (b : Option ℕ). record (shape s x.middle) { block = b; lbl = x.lbl; csid = x.csid }) is.block
+        ∙ ap (λ (l : ℕ). record (shape s x.middle) { lbl = l; csid = x.csid }) is.lbl
+        ∙ ap (λ (k : Csid). record (shape s x.middle) { csid = k }) is.csid
 
-    -- the SIDs of the legs suit lists
-    pub suits-by : SuitsLists (legs_value net intent) (list_sid net)
+    -- SIDs of a flat network, of which the middle ones go on, suit lists
+    pub suits-by : SuitsLists v (list_sid net)
     suits-by =
         record {
           prefix = λ p. refl;
           fits = λ n is.
-              let s = there n is in
-              subst (λ (x : Shape). x.prefix.len ≤ 128) (sym (shape-is n s.0 s.1)) (keeps.sid n s.0 s.1).prefix.0;
+              let s = sids n is in
+              subst (λ (x : Shape). x.prefix.len ≤ 128) (sym (shape-is s.0 (v.shape n) s.2)) (keeps.sid n s.0 s.1).prefix.0;
           in_block = λ n is.
-              let s = there n is in
-              subst (λ (x : Shape). IsSome x.block ↔ IsSome (list_sid net x.prefix).block) (sym (shape-is n s.0 s.1))
+              let s = sids n is in
+              subst (λ (x : Shape). IsSome x.block ↔ IsSome (list_sid net x.prefix).block) (sym (shape-is s.0 (v.shape n) s.2))
               (blocked s.0.prefix);
           block_len = λ n is.
-              let s = there n is in
-              subst (λ (x : Shape). x.lbl ≡ block_len (list_sid net x.prefix).block) (sym (shape-is n s.0 s.1))
+              let s = sids n is in
+              subst (λ (x : Shape). x.lbl ≡ block_len (list_sid net x.prefix).block) (sym (shape-is s.0 (v.shape n) s.2))
               ((keeps.sid n s.0 s.1).block_len ∙ sym (len-of (block_of net.blocks s.0.prefix)));
           one_block = λ n m is other.
-              let s = there n is in
-              let t = there m other in
-              subst (λ (x : Shape). IsSome x.block → IsTrue (same_block x.block (shape_of net m).block)
-              ↔ ((list_sid net x.prefix).block ≡ (list_sid net (shape_of net m).prefix).block)) (sym (shape-is n s.0 s.1))
-              (subst (λ (y : Shape). IsSome (shape s.0).block → IsTrue (same_block (shape s.0).block y.block)
-              ↔ ((list_sid net s.0.prefix).block ≡ (list_sid net y.prefix).block)) (sym (shape-is m t.0 t.1))
+              let s = sids n is in
+              let t = sids m other in
+              subst (λ (x : Shape). IsSome x.block → IsTrue (same_block x.block (v.shape m).block)
+              ↔ ((list_sid net x.prefix).block ≡ (list_sid net (v.shape m).prefix).block)) (sym (shape-is s.0 (v.shape n) s.2))
+              (subst (λ (y : Shape). IsSome (block_at net.blocks s.0.prefix) → IsTrue (same_block (block_at net.blocks s.0.prefix) y.block)
+              ↔ ((list_sid net s.0.prefix).block ≡ (list_sid net y.prefix).block)) (sym (shape-is t.0 (v.shape m) t.2))
               (one-number s.0.prefix t.0.prefix));
-          middle = λ n is.
-              let s = there n is in
-              subst (λ (x : Shape). IsTrue x.middle → (list_sid net x.prefix).csid ≡ x.csid) (sym (shape-is n s.0 s.1))
-              (λ middle. sym ((are.stands n s.0 s.1).flavour (and_parts (goes_on s.0) (not (binds s.0)) middle).0));
+          middle = λ n is middle.
+              let s = sids n is in
+              let flavour = (are.stands n s.0 s.1).flavour (goes n s.0 s.1 middle) in
+              subst (λ (x : Shape). (list_sid net x.prefix).csid ≡ x.csid) (sym (shape-is s.0 (v.shape n) s.2)) (sym flavour);
           replace = λ n is.
-              let s = there n is in
+              let s = sids n is in
               subst (λ (x : Shape). x.csid ≡ Replace → csid_len_in (list_sid net x.prefix).block ≡ x.prefix.len - x.lbl)
-              (sym (shape-is n s.0 s.1))
+              (sym (shape-is s.0 (v.shape n) s.2))
               (csid-len s.0 (block_of net.blocks s.0.prefix) refl (keeps.sid n s.0 s.1).csid (keeps.sid n s.0 s.1).block_len);
         }

@@ -1,5 +1,8 @@
 -- The paths of strict legs are the legal lists that realize the intent.
-use Rattle.std.proofs.Common.{◌≡◌, ℕ, suc, ◌<◌, arith, List, [], ◌∷◌, length, map, Some, None, refl, sym, ◌∙◌, ap, subst, zero-add}
+use Rattle.std.proofs.Common.{slice_get, ◌≡◌, ℕ, suc, ◌<◌, arith, List, [], ◌∷◌, length, map, Some, None, refl, sym, ◌∙◌, ap, subst, zero-add}
+use Rattle.std.specs.Prelude.{not}
+use Rattle.std.proofs.lemmas.Bool.{and_parts}
+use Rattle.srv6_rules.specs.Behaviours.{goes_on}
 use Rattle.srv6_rules.specs.Packet.{Content, V6}
 use Rattle.net_model.specs.Network.{Network}
 use Rattle.net_model.specs.Keeps.{Keeps}
@@ -15,7 +18,7 @@ use Rattle.list_pack.specs.Meaning.{AreSidsOf, IsShapeOf, Means}
 use Rattle.leg_table.specs.OneLeg.{LegKind, KindLaws}
 use Rattle.leg_table.specs.Meant.{HandsInner, IsRealizing, IsExecuting, IsHanding}
 use Rattle.leg_table.specs.Realizes.{headend_place, path_need, HandsOver, AlwaysHandsOver, ListRealizes, ListExecutes, ListHands, IsPathAlong}
-use Rattle.leg_table.specs.Sids.{prefix_at}
+use Rattle.leg_table.specs.Sids.{binds, sid_goes_on, prefix_at}
 use Rattle.leg_table.specs.Table.{shape_by, node_by}
 use Rattle.leg_table.specs.Value.{legs_value, strict_kind, AnyWay}
 use Rattle.leg_table.proofs.FlatNets.{FlatFacts, flat-facts}
@@ -25,7 +28,7 @@ use Rattle.leg_table.proofs.ListShapes.{suits-by, there}
 use Rattle.leg_table.proofs.Meanings as means
 use Rattle.leg_table.proofs.PathNames.{hops-need, shapes-prefixes}
 use Rattle.leg_table.proofs.Realizing as any
-use Rattle.leg_table.proofs.StrictLaws.{strict-laws}
+use Rattle.leg_table.proofs.StrictLaws.{shape-middle, strict-laws}
 use Rattle.leg_table.proofs.StrictLegLaws.{strict-leg_laws}
 
 module _ (net : Network) (intent : Intent) (network : IsNetwork net) (flat : IsFlat net) (is_intent : IsIntent net intent) where
@@ -40,7 +43,7 @@ module _ (net : Network) (intent : Intent) (network : IsNetwork net) (flat : IsF
 
   sids-of : AreSidsOf (legs_value net intent) net
   sids-of n is =
-      let s = there net keeps facts.suits intent n is in (
+      let s = there net keeps intent n is in (
         s.0,
         s.1,
         subst (IsShapeOf net s.0) (sym (ap (shape_by net.blocks) s.1)) (record { prefix = refl; block = refl; lbl = refl; csid = refl }),
@@ -55,7 +58,9 @@ module _ (net : Network) (intent : Intent) (network : IsNetwork net) (flat : IsF
         flat = flat;
         legs = strict-laws net intent keeps facts is_intent;
         sids = sids-of;
-        suits = suits-by net keeps facts.suits intent;
+        suits = suits-by net keeps facts.suits (legs_value net intent) sids-of
+            (λ n s is middle. (and_parts (goes_on s) (not (binds s))
+            (sym (ap sid_goes_on is) ∙ sym (shape-middle net.blocks (slice_get net.sids n)) ∙ middle)).0);
         one = λ t family. strict-leg_laws net network flat facts intent is_intent t family;
         matter = λ p. suc (length intent.steps);
         agree = λ p pick other h same over met. (
