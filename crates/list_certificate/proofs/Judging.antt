@@ -11,7 +11,7 @@ use Rattle.list_certificate.specs.declared.types.PotentialLine.{PotentialLine}
 use Rattle.list_certificate.specs.declared.types.Cert.{Cert}
 use Rattle.list_certificate.specs.Certs.{potential_at}
 use Rattle.list_certificate.specs.Verdicts.{ListedPass, AllPass, IsBadWay}
-use Rattle.list_certificate.specs.Tests.{BadLine, FirstFailure, OfAll}
+use Rattle.list_certificate.specs.Tests.{BadLine, FirstFailure, PassAmong, OfAll}
 use Rattle.list_certificate.proofs.Listed.{found}
 
 pub listed-pass : (v : LegsValue) (c : Cert) (lines : List PotentialLine) (o : Option ℕ) → lines ≡ c.potentials → BadLine v lines o
@@ -38,6 +38,11 @@ all-pass v c lines o p e bad no_line failure no_state s is_s =
     (subst (λ (xs : List PotentialLine). FirstFailure v xs OfAll None) e (subst (FirstFailure v lines OfAll) no_state failure)) s is_s
     (potential_at c.potentials s)
     refl
+
+-- where a test assures it
+pub all-assured : (v : LegsValue) (c : Cert) (lines : List PotentialLine) → lines ≡ c.potentials → PassAmong v lines OfAll → AllPass v c
+all-assured v c lines e pass s is_s =
+    subst (λ (xs : List PotentialLine). IsGoodAt v (potential_at xs) s) e (pass s is_s tt)
 
 pub bad-way : (v : LegsValue) (c : Cert) (none : Option ℕ) (line : ℕ) → none ≡ Some line → is_some (potential_at c.potentials start) ≡ true
     → IsBadWay v c none line

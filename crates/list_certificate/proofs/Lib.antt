@@ -2,6 +2,7 @@ pub mod Listed
 pub mod Passing
 pub mod Ranges
 pub mod Pathing
+pub mod Celling
 pub mod Judging
 pub mod States
 pub mod OneVerdict

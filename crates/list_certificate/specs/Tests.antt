@@ -8,16 +8,20 @@ use Rattle.list_pack.specs.declared.types.PathStep.{PathStep}
 use Rattle.list_pack.specs.declared.types.Shape.{Shape}
 use Rattle.list_pack.specs.Order.{lex_before}
 use Rattle.list_pack.specs.Value.{LegsValue}
+use Rattle.list_pack.specs.Rooms.{top_room}
 use Rattle.list_pack.specs.Costs.{Move, Edge, plus, edge_of, last_of, cost_of, behind, Under, start, IsState}
 use Rattle.list_pack.specs.Least.{IsGoodAt, IsBefore, step_of}
 use Rattle.list_certificate.specs.declared.types.PotentialLine.{PotentialLine}
 use Rattle.list_certificate.specs.declared.search.StateKey.{StateKey}
 use Rattle.list_certificate.specs.declared.good.Spot.{Spot}
+use Rattle.list_certificate.specs.declared.cells.Cell.{Cell}
 use Rattle.list_certificate.specs.declared.path.Reached.{Reached}
 use Rattle.list_certificate.specs.declared.path.Spent.{Spent}
 use Rattle.list_certificate.specs.declared.types.PathLine.{PathLine}
 use Rattle.list_certificate.specs.Certs.{potential_at}
-use Rattle.list_certificate.specs.Verdicts.{GoesAlong, Leads, BreaksAt, PathCosts}
+use Rattle.list_certificate.specs.declared.types.Cert.{Cert}
+use Rattle.list_certificate.specs.declared.types.Verdict.{Verdict}
+use Rattle.list_certificate.specs.Verdicts.{GoesAlong, Leads, BreaksAt, PathCosts, AllPass, IsVerdict}
 
 -- the lines list states of the legs in order
 pub record AreSorted (v : LegsValue) (lines : List PotentialLine) : Type 0 where
@@ -89,6 +93,51 @@ ShowsLegs v lines s false = ¬ PassLegs v lines s
 abbrev pub ShowsEnds : LegsValue → List PotentialLine → State → Bool → Type 0
 ShowsEnds v lines s true = PassEnds v lines s
 ShowsEnds v lines s false = ¬ PassEnds v lines s
+
+-- where a test is true a fact holds
+abbrev pub Assures : Type 0 → Bool → Type 0
+Assures P true = P
+Assures P false = Unit {0}
+
+-- the state of a cell with so much room behind its SID
+abbrev pub state_in : Cell → ℕ → State
+state_in cell room = record { position = cell.position; via = Some cell.sid; room = room }
+
+-- a cell has a SID of its position, the place of its states, and how many lines stand before it
+pub record IsCell (v : LegsValue) (lines : List PotentialLine) (cell : Cell) : Type 0 where
+  pub within : cell.position ≤ v.steps
+  pub is_sid : Contains (v.sids_at cell.position) cell.sid
+  pub shape_is : cell.shape ≡ v.shape cell.sid
+  pub place_is : key_of cell.place ≡ place_key_by v cell.position (Some cell.sid)
+  pub splits : Splits v lines (key_of cell.place) cell.first cell.first
+  pub few : cell.first ≤ length lines
+
+-- the moves of all states of a cell pass: by a leg to a SID, by legs to a position, by legs, to the end by a SID, and to the end
+abbrev pub CellPassesLeg : LegsValue → List PotentialLine → Cell → ℕ → Type 0
+CellPassesLeg v lines cell n =
+    (room : ℕ) (stays : Bool) → room ≤ top_room cell.shape → PassesMove v lines (state_in cell room) (move_of n stays)
+
+abbrev pub CellPassesLegsTo : LegsValue → List PotentialLine → Cell → ℕ → Type 0
+CellPassesLegsTo v lines cell to = (room : ℕ) → room ≤ top_room cell.shape → PassLegsTo v lines (state_in cell room) to
+
+abbrev pub CellPassesLegs : LegsValue → List PotentialLine → Cell → Type 0
+CellPassesLegs v lines cell = (room : ℕ) → room ≤ top_room cell.shape → PassLegs v lines (state_in cell room)
+
+abbrev pub CellPassesFinish : LegsValue → List PotentialLine → Cell → ℕ → Type 0
+CellPassesFinish v lines cell n =
+    (room : ℕ) (stays : Bool) → room ≤ top_room cell.shape → PassesLast v lines (state_in cell room) (move_of n stays)
+
+abbrev pub CellPassesEnds : LegsValue → List PotentialLine → Cell → Type 0
+CellPassesEnds v lines cell = (room : ℕ) → room ≤ top_room cell.shape → PassEnds v lines (state_in cell room)
+
+-- all of some states pass
+abbrev pub PassAmong : LegsValue → List PotentialLine → (State → Type 0) → Type 0
+PassAmong v lines Among = (t : State) → IsState v t → Among t → IsGoodAt v (potential_at lines) t
+
+-- the verdict on a state that does not pass, none where all pass
+abbrev pub FirstFault : LegsValue → Cert → Option Verdict → Type 0
+FirstFault v c None = AllPass v c
+FirstFault v c (Some verdict) = IsVerdict v c verdict
 
 -- a state that is not listed does not pass; or it passes where it is not listed
 pub record Fails (v : LegsValue) (lines : List PotentialLine) (s : State) : Type 0 where

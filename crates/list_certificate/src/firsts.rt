@@ -20,8 +20,8 @@ pub(crate) fn shape_of<L: Legs>(legs: &L, state: State) -> Option<Shape>
     }
 }
 
-// a state with its SID's shape and its potential
-fn spot_of<L: Legs>(legs: &L, lines: &[PotentialLine], state: State) -> Spot
+/// A state with its SID's shape and its potential. (own rule)
+pub fn spot_of<L: Legs>(legs: &L, lines: &[PotentialLine], state: State) -> Spot
     requires sorted { tests.AreSorted (L.seen legs.now) lines.now }
     requires state { IsState (L.seen legs.now) state }
     ensures spot { tests.IsSpot (L.seen legs.now) lines.now result }

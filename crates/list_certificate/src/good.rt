@@ -6,7 +6,7 @@ ghost use Rattle.list_pack.specs.Least.{IsGoodAt};
 ghost use Rattle.list_certificate.specs.Certs.{potential_at};
 ghost use Rattle.list_certificate.specs.Tests as tests;
 
-use crate::search::potential_at;
+use crate::cells::{Cell, cell_of, potential_in};
 use crate::types::PotentialLine;
 use list_pack::{Cost, Leg, Legs, Shape, State, is_below, move_cost, room_behind};
 
@@ -44,39 +44,36 @@ fn is_under(potential: Option<Cost>, cost: Cost) -> bool
     }
 }
 
-// a move by a leg passes, which stays in the container or doesn't
-fn passes_move<L: Legs>(
+/// A move by a leg passes, which stays in the container or doesn't. (own rule)
+pub fn passes_move<L: Legs>(
     legs: &L,
     lines: &[PotentialLine],
     spot: &Spot,
-    n: u32,
+    next: &Cell,
     leg: Leg,
     stays: bool,
 ) -> bool
     requires sorted { tests.AreSorted (L.seen legs.now) lines.now }
     requires spot { tests.IsSpot (L.seen legs.now) lines.now spot.now }
-    requires leg { (L.seen legs.now).leg spot.now.state.position spot.now.state.via n ≡ Some leg }
+    requires next { tests.IsCell (L.seen legs.now) lines.now next.now }
+    requires leg { (L.seen legs.now).leg spot.now.state.position spot.now.state.via next.now.sid
+        ≡ Some leg }
+    requires end { leg.to ≡ next.now.position }
     ensures { tests.Tells (tests.PassesMove (L.seen legs.now) lines.now spot.now.state
-        (tests.move_of n stays)) result }
+        (tests.move_of next.now.sid stays)) result }
 {
     legs.steps();
-    let next = legs.shape(n);
-    let Some(room) = room_behind(stays, &spot.from, spot.state.room, &next) else {
+    let Some(room) = room_behind(stays, &spot.from, spot.state.room, &next.shape) else {
         return true;
     };
-    let to = State {
-        position: leg.to,
-        via: Some(n),
-        room,
-    };
-    match potential_at(legs, lines, to) {
+    match potential_in(legs, lines, next, room) {
         None => true,
         Some(rest) => is_under_sum(spot.potential, move_cost(stays, leg.hops), rest),
     }
 }
 
-// a move to the end passes, which stays in the container or doesn't
-fn passes_last<L: Legs>(
+/// A move to the end passes, which stays in the container or doesn't. (own rule)
+pub fn passes_last<L: Legs>(
     legs: &L,
     lines: &[PotentialLine],
     spot: &Spot,
@@ -109,10 +106,11 @@ fn passes_legs_to<L: Legs>(legs: &L, lines: &[PotentialLine], spot: &Spot, to: u
     for n in legs.sids_at(to) {
         if let Some(leg) = legs.leg(spot.state.position, spot.state.via, *n) {
             if leg.to == to {
-                if !passes_move(legs, lines, spot, *n, leg, true) {
+                let next = cell_of(legs, lines, to, *n);
+                if !passes_move(legs, lines, spot, &next, leg, true) {
                     return false;
                 }
-                if !passes_move(legs, lines, spot, *n, leg, false) {
+                if !passes_move(legs, lines, spot, &next, leg, false) {
                     return false;
                 }
             }

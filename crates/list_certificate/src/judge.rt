@@ -4,7 +4,9 @@ ghost use Rattle.std.specs.Prelude.{◌≡◌, ◌<◌, length, Some, None};
 ghost use Rattle.list_pack.specs.Costs.{start};
 ghost use Rattle.list_certificate.specs.Certs.{IsCert, potential_at};
 ghost use Rattle.list_certificate.specs.Verdicts.{AllPass, IsVerdict};
+ghost use Rattle.list_certificate.specs.Tests.{FirstFault};
 
+use crate::all_pass::all_pass;
 use crate::firsts::{first_bad_line, first_failing};
 use crate::path::walked;
 use crate::search::potential_at;
@@ -44,6 +46,30 @@ fn verdict_on_path<L: Legs>(legs: &L, cert: &Cert, potential: Option<Cost>) -> V
     }
 }
 
+// the first state that doesn't pass; all pass where there is none
+fn first_fault<L: Legs>(legs: &L, cert: &Cert) -> Option<Verdict>
+    requires { IsCert (L.seen legs.now) cert.now }
+    ensures { FirstFault (L.seen legs.now) cert.now result }
+{
+    let lines = cert.potentials.as_slice();
+    if all_pass(legs, lines) {
+        return None;
+    }
+    if let Some(line) = first_bad_line(legs, lines) {
+        return Some(Verdict::No {
+            line,
+            why: Why::Edge,
+        });
+    }
+    match first_failing(legs, lines) {
+        None => None,
+        Some(state) => Some(Verdict::No {
+            line: cert.head,
+            why: Why::Unlisted { state },
+        }),
+    }
+}
+
 /// What a certificate shows of legs: the first of its tests that fails with its line, or what it
 /// shows where none does. Costs are compared by containers, then by hops, and added as whole
 /// numbers.
@@ -64,19 +90,10 @@ pub fn check<L: Legs>(legs: &L, cert: &Cert) -> Verdict
     requires { IsCert (L.seen legs.now) cert.now }
     ensures { IsVerdict (L.seen legs.now) cert.now result }
 {
+    if let Some(verdict) = first_fault(legs, cert) {
+        return verdict;
+    }
     let lines = cert.potentials.as_slice();
-    if let Some(line) = first_bad_line(legs, lines) {
-        return Verdict::No {
-            line,
-            why: Why::Edge,
-        };
-    }
-    if let Some(state) = first_failing(legs, lines) {
-        return Verdict::No {
-            line: cert.head,
-            why: Why::Unlisted { state },
-        };
-    }
     let start = State {
         position: 0,
         via: None,

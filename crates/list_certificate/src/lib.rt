@@ -13,6 +13,8 @@
 //! nothing: their contracts are the laws of verdicts, and that what is printed is read back.
 #![tactic(auto)]
 
+mod all_pass;
+mod cells;
 mod draft;
 mod firsts;
 mod good;

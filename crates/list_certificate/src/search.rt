@@ -1,13 +1,13 @@
 //! The potential of a state, by halves.
 
-ghost use Rattle.std.specs.Prelude.{◌≡◌, ◌≤◌, length};
+ghost use Rattle.std.specs.Prelude.{◌≡◌, ◌≤◌, ◌∷◌, [], length};
 ghost use Rattle.list_pack.specs.Order.{lex_before};
 ghost use Rattle.list_pack.specs.Costs.{IsState};
 ghost use Rattle.list_certificate.specs.Certs.{same_via, same_state, potential_at};
 ghost use Rattle.list_certificate.specs.Tests.{AreSorted, place_key, key_of, Splits};
 
 use crate::types::PotentialLine;
-use list_pack::{Cost, Legs, State};
+use list_pack::{Cost, Legs, Shape, State};
 
 /// What the order of states goes by first: the position and the prefix of the SID. (own rule)
 #[derive(Clone, Copy, Debug)]
@@ -20,6 +20,17 @@ pub struct StateKey {
     pub len: u8,
 }
 
+/// The place of the states of a SID at a position. (own rule)
+pub fn place_at(position: u32, shape: &Shape) -> Option<StateKey>
+    ensures { key_of result ≡ position ∷ shape.now.prefix.value ∷ shape.now.prefix.len ∷ [] }
+{
+    Some(StateKey {
+        position,
+        value: shape.prefix.value().value,
+        len: shape.prefix.len(),
+    })
+}
+
 // the place of a state; none at the start
 fn place_of<L: Legs>(legs: &L, state: State) -> Option<StateKey>
     requires { IsState (L.seen legs.now) state }
@@ -28,12 +39,8 @@ fn place_of<L: Legs>(legs: &L, state: State) -> Option<StateKey>
     match state.via {
         None => None,
         Some(n) => {
-            let prefix = legs.shape(n).prefix;
-            Some(StateKey {
-                position: state.position,
-                value: prefix.value().value,
-                len: prefix.len(),
-            })
+            let shape = legs.shape(n);
+            place_at(state.position, &shape)
         }
     }
 }
@@ -57,8 +64,8 @@ fn is_before(a: Option<StateKey>, b: Option<StateKey>) -> bool
     }
 }
 
-// how many lines stand before a place
-fn first_at<L: Legs>(legs: &L, lines: &[PotentialLine], place: Option<StateKey>) -> usize
+/// How many lines stand before a place. (own rule)
+pub fn first_at<L: Legs>(legs: &L, lines: &[PotentialLine], place: Option<StateKey>) -> usize
     requires { AreSorted (L.seen legs.now) lines.now }
     ensures splits { Splits (L.seen legs.now) lines.now (key_of place) result result }
     ensures within { result ≤ length lines.now }
@@ -94,6 +101,36 @@ fn is_same(a: State, b: State) -> bool
     a.position == b.position && (is_same_via(a.via, b.via) && a.room == b.room)
 }
 
+/// The potential of a state by the lines from the first of its place on. (own rule)
+pub fn potential_from<L: Legs>(
+    legs: &L,
+    lines: &[PotentialLine],
+    first: usize,
+    place: Option<StateKey>,
+    state: State,
+) -> Option<Cost>
+    requires sorted { AreSorted (L.seen legs.now) lines.now }
+    requires splits { Splits (L.seen legs.now) lines.now (key_of place) first first }
+    requires within { first ≤ length lines.now }
+    requires place { key_of place ≡ place_key (L.seen legs.now) state }
+    ensures { result ≡ potential_at lines.now state }
+{
+    let (_, rest) = lines.split_at(first);
+    for line in rest {
+        let other = line.potential.state;
+        if is_same(other, state) {
+            return Some(line.potential.cost);
+        }
+        // a state of the same SID stands at the same place, which needn't be asked for
+        if !is_same_via(other.via, state.via) {
+            if is_before(place, place_of(legs, other)) {
+                return None;
+            }
+        }
+    }
+    None
+}
+
 /// The potential of a state by the line that lists it; none where it is not listed. (own rule)
 pub fn potential_at<L: Legs>(legs: &L, lines: &[PotentialLine], state: State) -> Option<Cost>
     requires sorted { AreSorted (L.seen legs.now) lines.now }
@@ -102,14 +139,5 @@ pub fn potential_at<L: Legs>(legs: &L, lines: &[PotentialLine], state: State) ->
 {
     let place = place_of(legs, state);
     let first = first_at(legs, lines, place);
-    let (_, rest) = lines.split_at(first);
-    for line in rest {
-        if is_same(line.potential.state, state) {
-            return Some(line.potential.cost);
-        }
-        if is_before(place, place_of(legs, line.potential.state)) {
-            return None;
-        }
-    }
-    None
+    potential_from(legs, lines, first, place, state)
 }

@@ -1,6 +1,6 @@
 use Rattle.std.proofs.Common.{◌≡◌, ℕ, ◌+◌, ◌<◌, Some, slice_get}
 use Rattle.list_certificate.specs.declared.types.PotentialLine.{PotentialLine}
-use Rattle.list_certificate.proofs.search.potential_at.Given as goal
+use Rattle.list_certificate.proofs.search.potential_from.Given as goal
 
 abbrev pub invariant-loop-line : goal.invariant-loop-line
 invariant-loop-line g l =
