@@ -4,7 +4,6 @@ use Rattle.std.specs.Prelude.{MatchOption, IsSome, replicate}
 use Rattle.std.specs.declared.cmp.Ordering.{Ordering}
 use Rattle.std.specs.declared.cmp.Ordering.TheVariants.{Less, Equal, Greater}
 use Rattle.std.specs.Ordering.{nat_cmp, ordering_then, is_eq, is_gt}
-use Rattle.std.specs.List.{list_any}
 use Rattle.std.specs.BTreeSet.{BTreeSet}
 use Rattle.std.specs.BTreeSet as tree
 use Rattle.std.proofs.lemmas.Bool.{cases_Bool, cases_eq, both_ways, and_parts, and_from, eqb-true, eq-eqb}
@@ -244,14 +243,6 @@ module _ (t : Costs) (waiting mid new : BTreeSet Waiting) (done : List Bool) (to
     still = λ j is. at-other t i j (Some c) (unsettled-other j is);
   }
 
-module _ (t : Costs) (waiting : BTreeSet Waiting) (done : List Bool) (top : Cost) (i : ℕ) (c : Cost) (front : IsFront t waiting done
-    top) where
-  pub kept-at : Under (at t i) (Some c) → IsLoweredAt t t waiting done top i c false
-  kept-at under = record { lowers = record { is = refl; under = under }; front = front; still = λ j is. refl }
-
-  pub settled-at : is_done done i ≡ true → AtMost top c → IsLoweredAt t t waiting done top i c false
-  settled-at is above = kept-at (under-trans (at t i) (Some top) (Some c) (front.settled i is) above)
-
 -- ---- none waits
 
 none-is-some : IsSome {T = Waiting} None → ⊥
@@ -265,12 +256,6 @@ pub none-left : (waiting : BTreeSet Waiting) → (0 < length waiting.keys → Is
 none-left waiting h = none-by waiting.keys h
 
 -- ---- the queue at the start
-
-pub none-before : (t : Costs) (waiting : BTreeSet Waiting) → waiting.keys ≡ [] → AreBefore t 0 waiting
-none-before t waiting none = record {
-  waits = λ i c h. absurd (omega (arith, h));
-  only = λ k waits. absurd (both_ways _ (ap (list_any (λ q. is_eq (waiting_cmp k q))) none) waits);
-}
 
 pub before-more : (t : Costs) (old new : BTreeSet Waiting) (n : ℕ) (c : Cost) → at t n ≡ Some c → AreBefore t n old
     → tree.Updates waiting_cmp old new (waiting_at c n) true → AreBefore t (n + 1) new

@@ -23,16 +23,6 @@ get-set_other (y ∷ ys) zero (suc j) x h = refl
 get-set_other (y ∷ ys) (suc i) zero x h = refl
 get-set_other (y ∷ ys) (suc i) (suc j) x h = get-set_other ys i j x (λ e. h (ap suc e))
 
--- no edge of the end, or of a cell that has no group, is put
-pub puts-none : (groups : Groups) (link : CellEdge) → ((to : ℕ) → link.to ≡ Some to → to < length groups → ⊥)
-    → PutsEdge groups groups link
-puts-none groups link none = record {
-  long = refl;
-  kept = λ to other is. is;
-  put = λ to e h. absurd (none to e h);
-  only = λ to other is. inl is;
-}
-
 pub puts-one : (groups : Groups) (link : CellEdge) (to : ℕ) (group more : Vec CellEdge Global) → link.to ≡ Some to → to < length groups
     → slice_get groups to ≡ Some group → more.items ≡ group.items ++ link ∷ [] → PutsEdge groups (set groups to more) link
 puts-one groups link to group more leads within here items = record {
@@ -69,13 +59,6 @@ puts-one groups link to group more leads within here items = record {
 
 contains-none : (link : CellEdge) → Contains {X = CellEdge} [] link → ⊥
 contains-none link c = omega (arith, c.1)
-
-pub puts-start : (groups : Groups) → PutsEdges groups [] groups
-puts-start groups = record {
-  long = refl;
-  put = λ to link among e h. absurd (contains-none link among);
-  only = λ to link is. inl is;
-}
 
 pub puts-more : (g0 g g1 : Groups) (links : List CellEdge) (link : CellEdge) → PutsEdges g0 links g → PutsEdge g g1 link
     → PutsEdges g0 (links ++ link ∷ []) g1

@@ -2,20 +2,18 @@
 use Rattle.std.proofs.Common.{◌≡◌, ℕ, ◌+◌, ◌*◌, ◌<◌, inl, inr, Bool, true, false, List, length, Option, Some, None, slice_get, Contains, refl, sym, ◌∙◌, ap, subst, arith}
 use Rattle.std.specs.Option.{option_map}
 use Rattle.std.specs.BTreeSet.{BTreeSet}
-use Rattle.std.proofs.lemmas.Bool.{cases_lt, both_ways}
-use Rattle.std.proofs.lemmas.Option.{none-some}
+use Rattle.std.proofs.lemmas.Bool.{cases_lt}
 use Rattle.list_pack.specs.declared.types.Cost.{Cost}
-use Rattle.list_pack.specs.declared.types.Shape.{Shape}
 use Rattle.list_pack.specs.Value.{LegsValue}
 use Rattle.list_pack.specs.Rooms.{room_behind}
 use Rattle.list_pack.specs.Costs.{AtMost, plus, move_cost, Under}
-use Rattle.list_pack.proofs.PublicLaws.{under-itself, under-trans}
+use Rattle.list_pack.proofs.PublicLaws.{under-trans}
 use Rattle.list_encoder.specs.declared.cells.Cell.{Cell}
 use Rattle.list_encoder.specs.declared.table.CellEdge.{CellEdge}
 use Rattle.list_encoder.specs.declared.waiting.Waiting.{Waiting}
 use Rattle.list_encoder.specs.declared.offers.Offer.{Offer}
-use Rattle.list_encoder.specs.Table.{Costs, at, entry, rest_at, IsSound, RoomHolds, RoomRelaxed, LeavesRoom}
-use Rattle.list_encoder.specs.Waiting.{is_done, IsFront, IsLoweredAt}
+use Rattle.list_encoder.specs.Table.{Costs, at, entry, rest_at, RoomHolds, RoomRelaxed, LeavesRoom}
+use Rattle.list_encoder.specs.Waiting.{is_done, IsLoweredAt}
 use Rattle.list_encoder.specs.Offers.{IsSettledAt, IsOffer, Advances, Takes, OffersRoom, LeavesIt, OffersWay, OffersEdge, offer_of, LeadInto, OffersAll}
 use Rattle.list_encoder.proofs.Celling.{some-same}
 
@@ -23,18 +21,6 @@ pub at-most-more : (m d : Cost) → AtMost d (plus m d)
 at-most-more m d = record { containers = omega arith; hops = λ e. omega arith }
 
 -- ---- costs that were lowered
-
-pub advances-none : (v : LegsValue) (cells : List Cell) (t : Costs) (waiting : BTreeSet Waiting) (done : List Bool) (top : Cost)
-    → IsSound v cells t
-    → IsFront t waiting done top → Advances v cells t done t waiting done top
-advances-none v cells t waiting done top sound front = record {
-  sound = sound;
-  front = front;
-  same = refl;
-  falls = λ i. under-itself (at t i);
-  still = λ i is. refl;
-  past = λ i h. refl;
-}
 
 pub advances-then : (v : LegsValue) (cells : List Cell) (t t1 t2 : Costs) (done done1 done2 : List Bool) (w1 w2 : BTreeSet Waiting)
     (top : Cost)
@@ -67,35 +53,11 @@ offer-later v cells t t1 w w1 done done1 offer is advances = record {
   settled = settled-later done done1 offer.link.to offer.left advances.same is.settled;
 }
 
--- the same offer, in the container or by a new one
-pub offer-turned : (v : LegsValue) (cells : List Cell) (t : Costs) (w : BTreeSet Waiting) (done : List Bool) (a : Offer) (stays : Bool)
-    → IsOffer v cells t w done a → IsOffer v cells t w done (record { link = a.link; stays = stays; left = a.left; rest = a.rest })
-offer-turned v cells t w done a stays is = record {
-  is_edge = is.is_edge;
-  sound = is.sound;
-  front = is.front;
-  early = is.early;
-  rest_is = is.rest_is;
-  settled = is.settled;
-}
-
 -- ---- one room
 
 module _ (v : LegsValue) (cells : List Cell) (t : Costs) (w : BTreeSet Waiting) (done : List Bool) (offer : Offer) (is : IsOffer v
     cells t w done offer)
     (room : ℕ) (left : Option ℕ) where
-  pub room-none : left ≡ None → OffersRoom v cells offer room left t done t w done
-  room-none none = record {
-    advances = advances-none v cells t w done offer.rest is.sound is.front;
-    takes = λ some. absurd (none-some offer.left (sym none ∙ some));
-  }
-
-  pub room-other : (after : ℕ) → left ≡ Some after → ¬ (after ≡ offer.left) → OffersRoom v cells offer room left t done t w done
-  room-other after has other = record {
-    advances = advances-none v cells t w done offer.rest is.sound is.front;
-    takes = λ some. absurd (other (some-same after offer.left (sym has ∙ some)));
-  }
-
   pub room-lowered : (after : ℕ) (t1 : Costs) (w1 : BTreeSet Waiting) (done1 : List Bool) (changed : Bool) → left ≡ Some after
       → after ≡ offer.left
       → done1 ≡ done → room < 8
@@ -130,12 +92,6 @@ takes-later offer stays t t1 room falls takes =
 
 module _ (v : LegsValue) (cells : List Cell) (offer : Offer) (t0 t t1 : Costs) (was done done1 : List Bool) (w w1 : BTreeSet Waiting)
   where
-    pub way-none : IsOffer v cells t0 w was offer → OffersWay v cells offer 0 t0 was t0 w was
-    way-none is = record {
-      advances = advances-none v cells t0 w was offer.rest is.sound is.front;
-      takes = λ room h. absurd (omega (arith, h));
-    }
-
     pub way-more : (room : ℕ) (left : Option ℕ) → LeavesRoom v cells offer.link offer.stays room left
         → OffersWay v cells offer room t0 was t w done
         → OffersRoom v cells offer room left t done t1 w1 done1 → OffersWay v cells offer (room + 1) t0 was t1 w1 done1
@@ -151,21 +107,6 @@ module _ (v : LegsValue) (cells : List Cell) (offer : Offer) (t0 t t1 : Costs) (
             subst (Takes offer offer.stays t1) (sym same) (more.takes some)
       ];
     }
-
--- where no room leads to the offer's, nothing is lowered
-pub way-nowhere : (v : LegsValue) (cells : List Cell) (offer : Offer) (t : Costs) (w : BTreeSet Waiting) (done : List Bool)
-    (from : Option Shape)
-    (next : Shape) (b : Bool)
-    → IsOffer v cells t w done offer → ((cell : Cell) → slice_get cells offer.link.from ≡ Some cell → from ≡ option_map v.shape cell.via)
-    → next ≡ v.shape offer.link.sid → b ≡ false
-    → ((room : ℕ) → room < 8 → room_behind offer.stays from room next ≡ Some offer.left → b ≡ true)
-    → OffersWay v cells offer 8 t done t w done
-way-nowhere v cells offer t w done from next b is is_from is_next none leads = record {
-  advances = advances-none v cells t w done offer.rest is.sound is.front;
-  takes = λ room h it. absurd (both_ways b none (leads room h
-      (ap (λ (s : Option Shape). room_behind offer.stays s room next) (is_from it.0 it.1)
-      ∙ (ap (λ (s : Shape). room_behind offer.stays (option_map v.shape it.0.via) room s) is_next ∙ it.2))));
-}
 
 -- ---- both ways
 
@@ -194,12 +135,6 @@ module _ (v : LegsValue) (cells : List Cell) (offer opens stays : Offer) (t t1 t
 module _ (v : LegsValue) (cells : List Cell) (links : List CellEdge) (left : ℕ) (rest : Cost) (t0 t t1 : Costs)
     (was done done1 : List Bool)
     (w0 w w1 : BTreeSet Waiting) where
-  pub all-none : LeadInto v cells t0 w0 was links left rest → OffersAll v cells links 0 left rest t0 was t0 w0 was
-  all-none lead = record {
-    advances = advances-none v cells t0 w0 was rest lead.0 lead.1;
-    takes = λ link i stays room h. absurd (omega (arith, h));
-  }
-
   pub all-offer : (link : CellEdge) → Contains links link → LeadInto v cells t0 w0 was links left rest
       → Advances v cells t0 was t w done rest → IsOffer v cells t w done (offer_of link left rest)
   all-offer link among lead advances = offer-later v cells t0 t w0 w was done (offer_of link left rest) (lead.2 link among) advances

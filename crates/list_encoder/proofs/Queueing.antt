@@ -68,9 +68,6 @@ module _ (v : LegsValue) (cells : List Cell) (groups : Groups) (t0 t : Costs) (w
   pub front-next : IsFront t rest (set done k.place true) (cost_of k)
   front-next = front-settled t waiting rest done so.top k so.front first least update
 
-  pub first-early : k.place < length done
-  first-early = open-first.early
-
   pub first-within : k.place / 8 < length groups
   first-within = let h = open-first.early in let long = so.long in omega (arith, h, long)
 

@@ -189,14 +189,6 @@ pub link-among : (links : List CellEdge) (k : ℕ) → k < length links
     → Contains links (get_or links k (record { from = 0; to = None; sid = 0; hops = 0 }))
 link-among links k h = contains_at links (get_or links k (record { from = 0; to = None; sid = 0; hops = 0 })) k (link-read links k h)
 
--- the cell that a listed link starts from
-pub from-read : (v : LegsValue) (cells : List Cell) (later : ℕ) (links : List CellEdge) (k : ℕ) → AreCellEdges v cells later links
-    → k < length links
-    → (get_or links k (record { from = 0; to = None; sid = 0; hops = 0 })).from < length cells
-from-read v cells later links k are h =
-    let is = (are (get_or links k (record { from = 0; to = None; sid = 0; hops = 0 })) (link-among links k h)).0 in
-    slice_get_within cells (get_or links k (record { from = 0; to = None; sid = 0; hops = 0 })).from is.cell is.from
-
 pub shape-read : (v : LegsValue) (cells : List Cell) (k : ℕ) (shape : Option Shape) → k < length cells
     → shape ≡ option_map v.shape (get_or cells k (record { position = 0; via = None })).via → IsShapeOf v cells k shape
 shape-read v cells k shape h e cell here =
