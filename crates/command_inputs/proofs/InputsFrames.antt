@@ -17,11 +17,10 @@ use Rattle.pcap_io.specs.Frames as classic
 use Rattle.pcap_io.specs.Head.{head_of}
 use Rattle.pcap_io.specs.Numbers.{number_of}
 use Rattle.pcap_io.proofs.PublicLaws.{frames_of-none, frames_of-whole, frames_of-zero}
-use Rattle.pcapng_io.specs.declared.block.BlockPacket.{BlockPacket}
 use Rattle.pcapng_io.specs.declared.end.NgEnd.{NgEnd}
-use Rattle.pcapng_io.specs.Blocks.{body_in, body_of}
+use Rattle.pcapng_io.specs.Blocks.{body_in}
 use Rattle.pcapng_io.specs.Reading as ng
-use Rattle.pcapng_io.proofs.PublicLaws.{each-frame, numbered-file}
+use Rattle.pcapng_io.proofs.PublicLaws.{each-held, numbered-file}
 use Rattle.command_output.specs.declared.refusal.Refusal.{Refusal}
 use Rattle.command_output.specs.declared.refusal.Refusal.TheVariants as refusals
 use Rattle.command_inputs.specs.declared.limits.TheConstants.{MAX_INPUT_BYTES}
@@ -124,16 +123,6 @@ block-bytes : (link : Option LinkType) (captured : List ℕ) → AreBytes captur
 block-bytes (Some link) captured h = packet-bytes link captured h
 block-bytes None captured h = tt
 
-ng-body-bytes : (packet : BlockPacket) (block : List ℕ) → AreBytes block → HoldsBytes (body_of packet block)
-unfolding body_of
-ng-body-bytes packet block h = by-length (nat_lt packet.captured packet.original)
-  where
-    by-length : (short : Bool)
-        → HoldsBytes (if short then bodies.ShortFrame else body_in packet.link (take packet.captured (drop packet.start block)))
-    by-length true = tt
-    by-length false = block-bytes packet.link (take packet.captured (drop packet.start block))
-        (All-take (λ byte. byte < 2 ^ 8) packet.captured (drop packet.start block) (All-drop (λ byte. byte < 2 ^ 8) packet.start block h))
-
 -- of an input
 
 abbrev pub InBytes : Packets → Type 0
@@ -147,7 +136,8 @@ bytes-packets (Bare packet) h =
 bytes-packets (Capture head input) h =
     bytes-frames head MAX_FRAMES 1 (drop HEAD_LEN input) (All-drop (λ byte. byte < 2 ^ 8) HEAD_LEN input h) (omega arith)
 bytes-packets (Ng input) h =
-    each-frame IsOfBytes (λ p packet block few bytes. (omega (arith, few), ng-body-bytes packet block bytes)) input h
+    each-held IsOfBytes (λ n few. (omega (arith, few), tt))
+    (λ n link captured few bytes. (omega (arith, few), block-bytes link captured bytes)) input h
 
 in-unless : (refusal : Option Refusal) (input : List ℕ) (packets : Packets) → AreBytes input
     → ng_unless refusal input ≡ Ok packets → InBytes packets

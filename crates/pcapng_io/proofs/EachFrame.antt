@@ -1,8 +1,11 @@
 -- What holds of the packet of each block holds of each frame of a file.
-use Rattle.std.proofs.Common.{◌≡◌, ℕ, zero, suc, ◌+◌, ◌<◌, ◌≤◌, ◌^◌, ◌==◌, List, [], ◌∷◌, ◌++◌, take, drop, Option, Some, None, Result, Ok, Err, All, refl, sym, ap, ◌∙◌, subst, arith, inl, inr}
+use Rattle.std.proofs.Common.{◌≡◌, ℕ, zero, suc, ◌+◌, ◌<◌, ◌≤◌, ◌^◌, ◌==◌, nat_lt, Bool, true, false, List, [], ◌∷◌, ◌++◌, take, drop, Option, Some, None, Result, Ok, Err, All, refl, sym, ap, ◌∙◌, subst, arith, inl, inr}
+use Rattle.std.specs.Prelude.{if◌then◌else◌}
 use Rattle.std.proofs.lemmas.Bool.{cases_Bool, eqb-false}
 use Rattle.std.proofs.lemmas.List.Elements.{All-nil, All-cons, All-append, All-drop, All-take}
+use Rattle.pcap_io.specs.declared.frame.Body.TheVariants.{ShortFrame}
 use Rattle.pcap_io.specs.declared.frame.Frame.{Frame}
+use Rattle.pcap_io.specs.declared.head.LinkType.{LinkType}
 use Rattle.pcap_io.specs.declared.numbers.TheConstants.{MAX_FRAMES}
 use Rattle.pcapng_io.specs.declared.block.BlockContent.{BlockContent}
 use Rattle.pcapng_io.specs.declared.block.BlockContent.TheVariants as blocks
@@ -10,6 +13,7 @@ use Rattle.pcapng_io.specs.declared.block.BlockPacket.{BlockPacket}
 use Rattle.pcapng_io.specs.declared.block.WholeBlock.{WholeBlock}
 use Rattle.pcapng_io.specs.declared.end.NgEnd.TheVariants.{Faulty}
 use Rattle.pcapng_io.specs.declared.fault.BlockFault.{BlockFault}
+use Rattle.pcapng_io.specs.Blocks.{body_in, body_of}
 use Rattle.pcapng_io.specs.Reading.{NgPlace, NgStep, Ends, Goes, NgReading, fault_in, after, frame_of, step_over, step, start, end_at, blocks_of, reading, ng_capture_of}
 use Rattle.pcapng_io.proofs.Steps.{front_of, step-front, blocks_of-ends, blocks_of-goes}
 
@@ -86,3 +90,25 @@ module _ (P : Frame → Type 0)
     pub each-frame : (bytes : List ℕ) → AreBytes bytes → All P (ng_capture_of bytes).frames
     unfolding reading
     each-frame bytes h = each-blocks _ start bytes (omega arith) h
+
+-- ---- by what a frame holds: the bytes of a packet, or none where some were left out
+
+module _ (P : Frame → Type 0) (short : (n : ℕ) → n < MAX_FRAMES → P (record { number = n + 1; body = ShortFrame }))
+    (held : (n : ℕ) (link : Option LinkType) (captured : List ℕ) → n < MAX_FRAMES → AreBytes captured
+    → P (record { number = n + 1; body = body_in link captured }))
+  where
+    of-body : (n : ℕ) (packet : BlockPacket) (block : List ℕ) → n < MAX_FRAMES → AreBytes block
+        → P (record { number = n + 1; body = body_of packet block })
+    unfolding body_of
+    of-body n packet block few h = by-length (nat_lt packet.captured packet.original)
+      where
+        by-length : (left_out : Bool) → P (record {
+          number = n + 1;
+          body = if left_out then ShortFrame else body_in packet.link (take packet.captured (drop packet.start block));
+        })
+        by-length true = short n few
+        by-length false = held n packet.link (take packet.captured (drop packet.start block)) few
+            (All-take (λ byte. byte < 2 ^ 8) packet.captured (drop packet.start block) (All-drop (λ byte. byte < 2 ^ 8) packet.start block h))
+
+    pub each-held : (bytes : List ℕ) → AreBytes bytes → All P (ng_capture_of bytes).frames
+    each-held bytes h = each-frame P (λ p packet block few bytes. of-body p.packets packet block few bytes) bytes h
