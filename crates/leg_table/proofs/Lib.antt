@@ -29,7 +29,6 @@ pub mod AllWays
 pub mod AllHands
 pub mod Comings
 pub mod LegsDown
-pub mod StrictLegLaws
 pub mod Paths
 pub mod Inners
 pub mod Realizing
@@ -38,5 +37,4 @@ pub mod PathNames
 pub mod Meanings
 pub mod StrictMeanings
 pub mod Traces
-pub mod Matching
 pub mod PublicLaws

@@ -6,10 +6,8 @@ pub use Rattle.leg_table.proofs.LegLemmas.{leg-meaning, finish-meaning, leg-each
 pub use Rattle.leg_table.proofs.Positions.{are-sids}
 pub use Rattle.leg_table.proofs.StrictLaws.{strict-laws}
 pub use Rattle.leg_table.proofs.Meanings.{realized, hands-realizes, kind-means}
-pub use Rattle.leg_table.proofs.StrictMeanings.{strict-kind_laws, legs-mean, path-realizes, list-path}
-pub use Rattle.leg_table.proofs.Traces.{handed-trace}
-pub use Rattle.leg_table.proofs.Matching.{matches-by, left-parts}
-pub use Rattle.leg_table.proofs.StrictLegLaws.{strict-leg_laws}
+pub use Rattle.leg_table.proofs.StrictMeanings.{strict-leg_laws, strict-kind_laws, legs-mean, path-realizes, list-path}
+pub use Rattle.leg_table.proofs.Traces.{matches-by, left-parts, handed-trace}
 pub use Rattle.leg_table.proofs.Paths.{Names, PathFrom, path-hands, path-over, path-down}
 pub use Rattle.leg_table.proofs.ListPlaces.{active-is, next-none, next-some, before_from, before-last, before-next, before-first, address-at, sids-list}
 pub use Rattle.leg_table.proofs.Shapes.{shape-is, shapes-share}

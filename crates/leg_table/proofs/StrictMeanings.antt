@@ -12,10 +12,11 @@ use Rattle.net_model.proofs.PublicLaws.{keeps_from_network}
 use Rattle.walk_rules.specs.Walk.{choice_at}
 use Rattle.intent_reader.specs.Rules.{IsIntent}
 use Rattle.intent_reader.specs.declared.intent.Intent.{Intent}
+use Rattle.list_places.specs.Places.{Tunnel}
 use Rattle.list_pack.specs.declared.types.Container.{Container}
 use Rattle.list_pack.specs.SidLists.{IsLegalList, list_values, prefixes_in}
 use Rattle.list_pack.specs.Meaning.{AreSidsOf, IsShapeOf, Means}
-use Rattle.leg_table.specs.OneLeg.{LegKind, KindLaws}
+use Rattle.leg_table.specs.OneLeg.{LegKind, LegLaws, KindLaws}
 use Rattle.leg_table.specs.Meant.{HandsInner, IsRealizing, IsExecuting, IsHanding}
 use Rattle.leg_table.specs.Realizes.{headend_place, path_need, HandsOver, AlwaysHandsOver, ListRealizes, ListExecutes, ListHands, IsPathAlong}
 use Rattle.leg_table.specs.Sids.{binds, sid_goes_on, prefix_at}
@@ -29,7 +30,9 @@ use Rattle.leg_table.proofs.Meanings as means
 use Rattle.leg_table.proofs.PathNames.{hops-need, shapes-prefixes}
 use Rattle.leg_table.proofs.Realizing as any
 use Rattle.leg_table.proofs.StrictLaws.{shape-middle, strict-laws}
-use Rattle.leg_table.proofs.StrictLegLaws.{strict-leg_laws}
+use Rattle.leg_table.proofs.LegsUp.{finish-up, leg-up}
+use Rattle.leg_table.proofs.LegsOver.{finish-over, leg-over}
+use Rattle.leg_table.proofs.LegsDown.{leg-down}
 
 module _ (net : Network) (intent : Intent) (network : IsNetwork net) (flat : IsFlat net) (is_intent : IsIntent net intent) where
   abbrev k : LegKind
@@ -50,7 +53,24 @@ module _ (net : Network) (intent : Intent) (network : IsNetwork net) (flat : IsF
         sym (ap node_by s.1),
       )
 
-  -- strict legs keep the laws of their kind; as many choices matter as there are steps, and one more
+  -- strict legs keep the laws of one leg and one finish
+  pub strict-leg_laws : (t : Tunnel) → t.inner ≡ intent.inner → LegLaws k AnyWay t
+  strict-leg_laws t family =
+      record {
+        leg_up = λ x y position via next leg hop p pick taken is on to high.
+            leg-up net keeps facts intent is_intent t x y position via next leg hop p pick taken is on to high;
+        finish_up = λ x position via next lowered hop p pick taken is on end high.
+            finish-up net keeps facts intent is_intent t x position via next lowered hop p pick taken family is on end high;
+        leg_over = λ x y position via next leg hop p pick taken h is on to over.
+            leg-over net keeps facts intent is_intent t x y position via next leg hop p pick taken h is on to over;
+        finish_over = λ x position via next lowered hop p pick taken h is on end over.
+            finish-over net keeps facts intent is_intent t x position via next lowered hop p pick taken h family is on end over;
+        down = λ x q position via hop p within at along to named positive hands.
+            leg-down net network flat facts intent is_intent t family x q position via hop p within at along to named positive hands;
+        some_longest = λ via p. (λ d. d, tt);
+      }
+
+  -- and those of their kind; as many choices matter as there are steps, and one more
   pub strict-kind_laws : KindLaws k AnyWay
   strict-kind_laws =
       record {
@@ -61,7 +81,7 @@ module _ (net : Network) (intent : Intent) (network : IsNetwork net) (flat : IsF
         suits = suits-by net keeps facts.suits (legs_value net intent) sids-of
             (λ n s is middle. (and_parts (goes_on s) (not (binds s))
             (sym (ap sid_goes_on is) ∙ sym (shape-middle net.blocks (slice_get net.sids n)) ∙ middle)).0);
-        one = λ t family. strict-leg_laws net network flat facts intent is_intent t family;
+        one = strict-leg_laws;
         matter = λ p. suc (length intent.steps);
         agree = λ p pick other h same over met. (
           over.0,

@@ -1,5 +1,8 @@
--- The trace that comes with what is handed over is that of the stages up to and with the first hand-over.
-use Rattle.std.proofs.Common.{◌≡◌, List, [], ◌∷◌, ◌++◌, Option, Some, sym, ◌∙◌, ap, append-nil}
+-- A trace meets steps event by event; and the one that comes with what is handed over is that of the stages up to the first hand-over.
+use Rattle.std.proofs.Common.{refl, None, if◌then◌else◌, ◌&&◌, false, true, Bool, ◌≡◌, List, [], ◌∷◌, ◌++◌, Option, Some, sym, ◌∙◌, ap, append-nil}
+use Rattle.std.specs.Option.{option_and_then}
+use Rattle.intent_reader.specs.declared.intent.Step.{Step}
+use Rattle.leg_table.specs.Tasks.{meets, matches, advance, left_by, is_done}
 use Rattle.net_model.specs.Network.{Network}
 use Rattle.walk_rules.specs.declared.place.Outcome.{Outcome}
 use Rattle.walk_rules.specs.declared.place.Outcome.TheVariants as outcomes
@@ -7,6 +10,29 @@ use Rattle.walk_rules.specs.Treatment.{Gave}
 use Rattle.walk_rules.specs.Walk as walks
 use Rattle.leg_table.specs.Trace.{Event, Crossed, executed, events_of, trace_of, Handed, after_events, after_execution, handed_first, handed_over, behind_stage, through_hand}
 use Rattle.leg_table.proofs.Options.{map-some, some-same}
+
+pub matches-by : (ts : List Step) (es : List Event) → matches ts es ≡ is_done (left_by ts es)
+matches-by [] [] = refl
+matches-by [] (e ∷ es) = refl
+matches-by (t ∷ ts) [] = refl
+matches-by (t ∷ ts) (e ∷ es) = by_test (meets t e) (matches-by ts es)
+  where
+    by_test : (b : Bool) → matches ts es ≡ is_done (left_by ts es)
+        → (b && matches ts es) ≡ is_done (option_and_then (λ (us : List Step). left_by us es) (if b then Some ts else None))
+    by_test true rest = rest
+    by_test false rest = refl
+
+pub left-parts : (ts : List Step) (es more : List Event)
+    → left_by ts (es ++ more) ≡ option_and_then (λ (us : List Step). left_by us more) (left_by ts es)
+left-parts ts [] more = refl
+left-parts ts (e ∷ es) more = by_steps (advance ts e) (λ us. left-parts us es more)
+  where
+    by_steps : (o : Option (List Step))
+        → ((us : List Step) → left_by us (es ++ more) ≡ option_and_then (λ (ws : List Step). left_by ws more) (left_by us es))
+        → option_and_then (λ (us : List Step). left_by us (es ++ more)) o
+        ≡ option_and_then (λ (us : List Step). left_by us more) (option_and_then (λ (us : List Step). left_by us es) o)
+    by_steps None rest = refl
+    by_steps (Some us) rest = rest us
 
 first-trace : (net : Network) (gave : Gave) (o : Outcome) (ss : List walks.Stage) (later : Option Handed) (h : Handed)
     → ((k : Handed) → later ≡ Some k → k.trace ≡ trace_of net (through_hand ss))

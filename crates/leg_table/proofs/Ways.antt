@@ -13,13 +13,18 @@ use Rattle.leg_table.proofs.RideFacts.{sid-at}
 pub address-is : (net : Network) (n : ℕ) (s : SidEntry) → slice_get net.sids n ≡ Some s → s.prefix.value ≡ sid_address net n
 address-is net n s e = sym (ap first_address e)
 
+-- the first of a list that has one
+first-in : (row : List ℕ) → (length row == 0) ≡ false → Contains row (get_or row 0 0)
+first-in [] e = absurd (false≢true (sym e))
+first-in (x ∷ xs) e = (0, omega arith, refl)
+
 module _ (net : Network) (keeps : Keeps net) (intent : Intent) (position : ℕ) (row : List ℕ) (is : row ≡ sids_of net intent position) where
-  -- the SIDs of a position stand where the walk does
-  pub row-stands : (n : ℕ) → Contains row n
-      → (s : SidEntry) × (slice_get net.sids n ≡ Some s) × (node_at net intent position ≡ Some s.node)
-  row-stands n h =
-      let at = ((are-sids net keeps intent position).each n).0 (subst (λ (xs : List ℕ). Contains xs n) is h) in
-      let s = sid-at net intent position n at in
+  -- the first SID of a position is there, and stands where the walk does
+  pub first-stands : (length row == 0) ≡ false
+      → (s : SidEntry) × (slice_get net.sids (get_or row 0 0) ≡ Some s) × (node_at net intent position ≡ Some s.node)
+  first-stands some =
+      let h = subst (λ (xs : List ℕ). Contains xs (get_or row 0 0)) is (first-in row some) in
+      let s = sid-at net intent position (get_or row 0 0) (((are-sids net keeps intent position).each (get_or row 0 0)).0 h) in
       (s.0, s.1, s.2)
 
   -- where there are none no SID is one of the position
@@ -36,8 +41,3 @@ module _ (net : Network) (keeps : Keeps net) (intent : Intent) (position : ℕ) 
       let s = sid-at net intent position n at in
       let within = slice_get_within net.sids n s.0 s.1 in
       omega (arith, within, above))
-
--- the first of a list that has one
-pub first-in : (row : List ℕ) → (length row == 0) ≡ false → Contains row (get_or row 0 0)
-first-in [] e = absurd (false≢true (sym e))
-first-in (x ∷ xs) e = (0, omega arith, refl)

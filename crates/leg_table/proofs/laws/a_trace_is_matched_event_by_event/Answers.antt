@@ -1,4 +1,4 @@
-use Rattle.leg_table.proofs.Matching.{matches-by, left-parts}
+use Rattle.leg_table.proofs.Traces.{matches-by, left-parts}
 use Rattle.leg_table.proofs.laws.a_trace_is_matched_event_by_event.Goals as goal
 
 pub returns-clause-matched : goal.returns-clause-matched

@@ -3,7 +3,7 @@ use Rattle.std.proofs.lemmas.Option.{same_Some, slice_get_within}
 use Rattle.srv6_rules.specs.declared.sid.SidEntry.{SidEntry}
 use Rattle.leg_table.specs.Sids.{node_at}
 use Rattle.leg_table.specs.Table.{LegTable}
-use Rattle.leg_table.proofs.Ways.{row-stands, none-of-none, none-above, first-in}
+use Rattle.leg_table.proofs.Ways.{first-stands, none-of-none, none-above}
 use Rattle.leg_table.proofs.strict_legs.StrictLegs.has_sid.Goals as goal
 
 pub returns-then-is_empty : goal.returns-then-is_empty
@@ -23,18 +23,16 @@ sid-requires c =
     let row = c.row-row.result.now in
     let same : length c.self.inside.net.now.sids ≡ length c.args.self.now.net.sids =
     ap (λ (t : LegTable). length t.net.sids) c.self.view_is in
-    let here = first-in row (sym c.is_empty.ensures ∙ c.if-is_empty.false) in
-    let stands = row-stands c.args.self.now.net c.keeps_rules.ensures.facts c.args.self.now.intent c.args.position row c.row-row.ensures
-    (get_or row 0 0) here in
+    let stands = first-stands c.args.self.now.net c.keeps_rules.ensures.facts c.args.self.now.intent c.args.position row c.row-row.ensures
+    (sym c.is_empty.ensures ∙ c.if-is_empty.false) in
     let within = slice_get_within c.args.self.now.net.sids (get_or row 0 0) stands.0 stands.1 in
     omega (arith, within, same)
 
 pub is_sid_at-requires-clause-stands : goal.is_sid_at-requires-clause-stands
 is_sid_at-requires-clause-stands c =
     let row = c.row-row.result.now in
-    let here = first-in row (sym c.is_empty.ensures ∙ c.if-is_empty.false) in
-    let stands = row-stands c.args.self.now.net c.keeps_rules.ensures.facts c.args.self.now.intent c.args.position row c.row-row.ensures
-    (get_or row 0 0) here in
+    let stands = first-stands c.args.self.now.net c.keeps_rules.ensures.facts c.args.self.now.intent c.args.position row c.row-row.ensures
+    (sym c.is_empty.ensures ∙ c.if-is_empty.false) in
     let found : slice_get c.args.self.now.net.sids (get_or row 0 0) ≡ Some c.sid.result.now =
     subst (λ (t : LegTable). slice_get t.net.sids (get_or row 0 0) ≡ Some c.sid.result.now) c.self.view_is c.sid.ensures in
     let is : stands.0 ≡ c.sid.result.now = same_Some stands.0 c.sid.result.now (sym stands.1 ∙ found) in
