@@ -5,10 +5,12 @@ use Rattle.std.specs.List.{flat_map, IsDistinct, AllByRecursion}
 use Rattle.std.proofs.lemmas.Bool.{cases_lt, ne_eqb}
 use Rattle.std.proofs.lemmas.List.Elements.{All-append, All-cons, All-nil}
 use Rattle.pcap_io.specs.declared.frame.Body.{Body}
-use Rattle.pcap_io.specs.declared.frame.Body.TheVariants as bodies
 use Rattle.pcap_io.specs.declared.frame.Frame.{Frame}
-use Rattle.srv6_rules.specs.declared.sid.Family.TheVariants.{V6, V4}
-use Rattle.srv6_rules.specs.Packet.{Content, entered}
+use Rattle.pcap_io.specs.declared.head.CaptureHead.{CaptureHead}
+use Rattle.pcap_io.specs.declared.numbers.TheConstants.{HEAD_LEN, MAX_FRAMES}
+use Rattle.pcap_io.specs.Frames.{Reading, behind, frame_len, frames_of as frames_in}
+use Rattle.pcap_io.proofs.PublicLaws.{frames_of-zero, frames_of-whole, frames_of-none}
+use Rattle.srv6_rules.specs.Packet.{Content}
 use Rattle.net_model.specs.Network.{Network}
 use Rattle.walk_rules.specs.declared.place.Place.{Place}
 use Rattle.walk_rules.specs.Walk.{Stage, walk_of, choice_at, end_of}

@@ -1,24 +1,21 @@
 -- Packets one after the other, as stages in the order of no schedule.
-use Rattle.std.proofs.Common.{◌≡◌, ℕ, suc, ◌-◌, Bool, true, false, if◌then◌else◌, nat_eq, List, [], ◌∷◌, ◌++◌, length, Option, Some, None, refl, sym, ap, ap₂, ◌∙◌, append_assoc, append-nil, arith}
+use Rattle.std.proofs.Common.{◌≡◌, ℕ, suc, ◌-◌, List, [], ◌∷◌, ◌++◌, length, Option, Some, None, refl, sym, ap, ap₂, ◌∙◌, append_assoc, append-nil, arith}
 use Rattle.std.specs.List.{flat_map}
-use Rattle.std.proofs.lemmas.Bool.{eqb-true}
 use Rattle.std.proofs.lemmas.Grind.{flat_map-append}
 use Rattle.std.proofs.lemmas.List.{map-append}
 use Rattle.pcap_io.specs.declared.frame.Body.{Body}
-use Rattle.pcap_io.specs.declared.frame.Body.TheVariants as bodies
 use Rattle.pcap_io.specs.declared.frame.Frame.{Frame}
-use Rattle.srv6_rules.specs.declared.sid.Family.TheVariants.{V6, V4}
-use Rattle.srv6_rules.specs.Packet.{Content, entered}
+use Rattle.srv6_rules.specs.Packet.{Content}
 use Rattle.net_model.specs.Network.{Network}
 use Rattle.walk_rules.specs.declared.place.Place.{Place}
 use Rattle.walk_rules.specs.Walk.{Stage, walk_of, walk_on, stage_of, choice_at, end_of}
 use Rattle.walk_rules.proofs.PublicLaws.{walk_of-suc}
-use Rattle.packet_walk.specs.Schedule.{Coming, Taken, first_of, all_of, one_by_one, scheduled}
+use Rattle.packet_walk.specs.Schedule.{Coming, Taken, all_of, one_by_one}
 use Rattle.walk_rules.specs.declared.limits.TheConstants.{MAX_STAGES}
 use Rattle.run_commands.specs.Capture.{frame_of_gave, frames_of}
 use Rattle.srx_edge.specs.Steps.{Ending}
 use Rattle.command_output.specs.Lines.{packet_line}
-use Rattle.command_output.specs.Pieces.{Piece, Sinks, Which, ToOut, ToErr, WroteAll, bytes_in_order}
+use Rattle.command_output.specs.Pieces.{Sinks, Which, ToOut, ToErr, WroteAll, bytes_in_order}
 use Rattle.run_commands.specs.Scheduled.{coming, pieces_of_stage, pieces_of_stages, scheduled_pieces}
 use Rattle.run_commands.specs.declared.enters.Comes.{Comes}
 use Rattle.run_commands.specs.Entry.{Entry, comes_of, coming_if_comes, coming_of_frame, comings_of_frames, packet_pieces, pieces_of_frame, pieces_one_by_one}

@@ -1,7 +1,6 @@
 -- Packets in turns: what a packet's stage writes, and what is due after it.
 use Rattle.std.proofs.Common.{◌≡◌, ℕ, zero, suc, ◌-◌, ◌≤◌, ◌<◌, List, [], ◌∷◌, ◌++◌, length, Option, Some, None, IfSome, Ok, Err, refl, sym, ap, ◌∙◌, subst, append_assoc, append-nil, arith}
 use Rattle.std.specs.Prelude.{OnOk, Result, slice_index, slice_index_or}
-use Rattle.std.specs.List.{flat_map}
 use Rattle.std.proofs.lemmas.Grind.{flat_map-append}
 use Rattle.icmp6_errors.specs.Answer.{error_bytes}
 use Rattle.net_model.specs.Keeps.{Keeps}

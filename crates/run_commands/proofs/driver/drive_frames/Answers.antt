@@ -1,11 +1,8 @@
-use Rattle.std.proofs.Common.{[], refl}
-use Rattle.std.specs.List.{flat_map}
+use Rattle.std.proofs.Common.{[]}
 use Rattle.std.proofs.lemmas.Result.{err_from_is_err_and}
 use Rattle.pcap_io.specs.Capture.{written_head_bytes}
 use Rattle.command_output.specs.Answers.{ending_of_step}
 use Rattle.command_output.proofs.PublicLaws.{cut_at_out, cut_at_line, behind_line}
-use Rattle.run_commands.specs.Entry.{comings_of_frames, line_of_frame}
-use Rattle.run_commands.specs.Scheduled.{scheduled_pieces}
 use Rattle.run_commands.proofs.driver.drive_frames.Goals as goal
 
 pub returns-in_err-write_head-clause-wrote : goal.returns-in_err-write_head-clause-wrote

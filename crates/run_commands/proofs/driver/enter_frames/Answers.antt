@@ -1,5 +1,5 @@
 use Rattle.run_commands.specs.Entry.{coming_of_frame}
-use Rattle.run_commands.proofs.Entering.{entering_all, entering_none, entering_one, entering_room}
+use Rattle.run_commands.proofs.Entering.{entering_none, entering_one}
 use Rattle.run_commands.proofs.driver.enter_frames.Goals as goal
 
 pub frames-init : goal.frames-init

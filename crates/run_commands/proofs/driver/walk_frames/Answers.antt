@@ -1,6 +1,6 @@
 use Rattle.std.proofs.Common.{refl}
 use Rattle.std.proofs.lemmas.Result.{err_from_is_err_and}
-use Rattle.command_inputs.proofs.PublicLaws.{all_left, walk_cut, walked_in_part, walked_one, walked_to_the_end}
+use Rattle.command_inputs.proofs.PublicLaws.{all_left, walk_cut, walked_in_part, walked_one}
 use Rattle.run_commands.specs.Entry.{coming_of_frame, pieces_of_frame}
 use Rattle.run_commands.proofs.driver.walk_frames.Goals as goal
 
