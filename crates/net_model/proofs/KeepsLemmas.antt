@@ -188,9 +188,17 @@ node_from n h =
 
 link_from : (net : Network) (l : Link) → keeps_link (length net.nodes) l ≡ true → KeepsLink net l
 link_from net l h =
-    let name = and_parts _ _ h in
-    let rest = and_parts _ _ name.1 in
-    record { name = name.0; from = ltb-true _ _ rest.0; to = ends_from _ _ l.to rest.1 }
+    let parts = and_parts _ _ h in
+    let name = and_parts _ _ parts.0 in
+    let mtu = and_parts _ _ name.1 in
+    let rest = and_parts _ _ parts.1 in
+    record {
+      name = name.0;
+      from = ltb-true _ _ rest.0;
+      to = ends_from _ _ l.to rest.1;
+      at_least = leb-true _ _ mtu.0;
+      at_most = leb-true _ _ mtu.1;
+    }
 
 route_from : (net : Network) (r : Route) → keeps_route (length net.nodes) net.links r ≡ true → KeepsRoute net r
 route_from net r h =

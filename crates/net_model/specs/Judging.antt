@@ -20,7 +20,7 @@ use Rattle.net_model.specs.declared.parts.Link.{Link}
 use Rattle.net_model.specs.declared.parts.Route.{Route}
 use Rattle.net_model.specs.declared.standing.Standing.{Standing}
 use Rattle.net_model.specs.Network.{Network}
-use Rattle.net_model.specs.Rules.{are_distinct, same_bytes, is_name, is_address, is_prefix, is_prefix_of, is_table, is_block_len, is_csid_len, overlap, keeps_node, same_node_name, same_node_address, same_link_name, starts_at, same_number, same_route, is_segment, keeps_outer, same_policy_name, suits_table, suits_flavours, block_of, block_len_of, suits_block, is_title, same_sid, is_sid_of, title_of}
+use Rattle.net_model.specs.Rules.{are_distinct, same_bytes, is_name, is_address, is_prefix, is_prefix_of, is_mtu, is_table, is_block_len, is_csid_len, overlap, keeps_node, same_node_name, same_node_address, same_link_name, starts_at, same_number, same_route, is_segment, keeps_outer, same_policy_name, suits_table, suits_flavours, block_of, block_len_of, suits_block, is_title, same_sid, is_sid_of, title_of}
 
 -- ---- what the parts hold before they are judged: counts, lengths, numbers and texts in their ranges
 
@@ -32,7 +32,7 @@ abbrev pub block_in_range : Block → Bool
 block_in_range b = is_prefix b.prefix && is_csid_len b.csid
 
 abbrev pub link_in_range : Link → Bool
-link_in_range l = is_name l.name
+link_in_range l = is_name l.name && is_mtu l.mtu
 
 abbrev pub route_in_range : Route → Bool
 route_in_range r = is_table r.table && (is_prefix_of r.family r.prefix && nat_le (length r.via) MAX_LINKS_OF_SET)

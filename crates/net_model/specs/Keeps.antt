@@ -8,7 +8,7 @@ use Rattle.srv6_rules.specs.declared.sid.Csid.TheVariants as csids
 use Rattle.srv6_rules.specs.declared.sid.Family.{Family}
 use Rattle.srv6_rules.specs.declared.sid.Family.TheVariants as families
 use Rattle.srv6_rules.specs.Behaviours.{behaviour_goes_on, behaviour_takes_links, behaviour_table, behaviour_policy, behaviour_takes_flavours}
-use Rattle.net_model.specs.declared.limits.TheConstants.{MAX_BLOCKS, MAX_NODES, MAX_LINKS, MAX_ROUTES, MAX_POLICIES, MAX_SIDS, MAX_SIDS_OF_NODE, MAX_LINKS_OF_SET, MAX_ALLOWED_TYPES, MAX_BLOCK_LEN, MAX_IPV4_PREFIX_LEN, BLOCK_UNIT, SHORT_CSID, LONG_CSID, LAST_TABLE, LAST_OCTET, LAST_FLOW_LABEL}
+use Rattle.net_model.specs.declared.limits.TheConstants.{MAX_BLOCKS, MAX_NODES, MAX_LINKS, MAX_ROUTES, MAX_POLICIES, MAX_SIDS, MAX_SIDS_OF_NODE, MAX_LINKS_OF_SET, MAX_ALLOWED_TYPES, MAX_BLOCK_LEN, MAX_IPV4_PREFIX_LEN, BLOCK_UNIT, SHORT_CSID, LONG_CSID, LAST_TABLE, LAST_OCTET, LAST_FLOW_LABEL, MIN_LINK_MTU, MAX_LINK_MTU}
 use Rattle.srv6_rules.specs.declared.numbers.TheConstants.{MAX_SEGMENTS}
 use Rattle.net_model.specs.declared.parts.Block.{Block}
 use Rattle.net_model.specs.declared.parts.BlockKind.TheVariants.{Next, Replace}
@@ -98,6 +98,8 @@ pub record KeepsLink (net : Network) (l : Link) : Type 0 where
   pub name : IsTrue (is_name l.name)
   pub from : l.from < length net.nodes
   pub to : EndsElsewhere (length net.nodes) l.from l.to
+  pub at_least : MIN_LINK_MTU ≤ l.mtu
+  pub at_most : l.mtu ≤ MAX_LINK_MTU
 
 pub record KeepsRoute (net : Network) (r : Route) : Type 0 where
   pub node : r.node < length net.nodes

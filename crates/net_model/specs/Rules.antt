@@ -9,7 +9,7 @@ use Rattle.srv6_rules.specs.declared.sid.Csid.TheVariants as csids
 use Rattle.srv6_rules.specs.declared.sid.Family.{Family}
 use Rattle.srv6_rules.specs.declared.sid.Family.TheVariants as families
 use Rattle.srv6_rules.specs.Behaviours.{behaviour_goes_on, behaviour_takes_links, behaviour_table, behaviour_policy, behaviour_takes_flavours, is_plain}
-use Rattle.net_model.specs.declared.limits.TheConstants.{MAX_BLOCKS, MAX_NODES, MAX_LINKS, MAX_ROUTES, MAX_POLICIES, MAX_SIDS, MAX_SIDS_OF_NODE, MAX_LINKS_OF_SET, MAX_ALLOWED_TYPES, MAX_NAME_BYTES, MAX_BLOCK_LEN, MAX_IPV4_PREFIX_LEN, BLOCK_UNIT, SHORT_CSID, LONG_CSID, LAST_TABLE, LAST_OCTET, LAST_FLOW_LABEL}
+use Rattle.net_model.specs.declared.limits.TheConstants.{MAX_BLOCKS, MAX_NODES, MAX_LINKS, MAX_ROUTES, MAX_POLICIES, MAX_SIDS, MAX_SIDS_OF_NODE, MAX_LINKS_OF_SET, MAX_ALLOWED_TYPES, MAX_NAME_BYTES, MAX_BLOCK_LEN, MAX_IPV4_PREFIX_LEN, BLOCK_UNIT, SHORT_CSID, LONG_CSID, LAST_TABLE, LAST_OCTET, LAST_FLOW_LABEL, MIN_LINK_MTU, MAX_LINK_MTU}
 use Rattle.srv6_rules.specs.declared.numbers.TheConstants.{MAX_SEGMENTS}
 use Rattle.net_model.specs.declared.parts.Block.{Block}
 use Rattle.net_model.specs.declared.parts.BlockKind.{BlockKind}
@@ -97,8 +97,12 @@ abbrev pub ends_elsewhere : ℕ → ℕ → Option ℕ → Bool
 ends_elsewhere node_count from None = true
 ends_elsewhere node_count from (Some to) = nat_lt to node_count && not (to == from)
 
+-- each link carries 1,280 bytes, and none needs more than a header and the longest payload (RFC 8200 sections 3 and 5)
+abbrev pub is_mtu : ℕ → Bool
+is_mtu mtu = nat_le MIN_LINK_MTU mtu && nat_le mtu MAX_LINK_MTU
+
 abbrev pub keeps_link : ℕ → Link → Bool
-keeps_link node_count l = is_name l.name && (nat_lt l.from node_count && ends_elsewhere node_count l.from l.to)
+keeps_link node_count l = (is_name l.name && is_mtu l.mtu) && (nat_lt l.from node_count && ends_elsewhere node_count l.from l.to)
 
 abbrev pub same_link_name : Link → Link → Bool
 same_link_name m l = same_bytes m.name l.name

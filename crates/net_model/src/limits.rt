@@ -1,6 +1,8 @@
 //! How many of each part a network may have, and the largest numbers of its parts (own rules). The
 //! definitions cite these, and so does the code.
 
+use srv6_rules::numbers::MIN_MTU;
+
 /// Nodes of a network (own rule).
 pub const MAX_NODES: usize = 256;
 
@@ -24,6 +26,13 @@ pub const MAX_ALLOWED_TYPES: usize = 16;
 
 /// Bytes of a name (own rule).
 pub const MAX_NAME_BYTES: usize = 32;
+
+/// The least MTU of a link, in bytes: what each link has that carries IPv6 (RFC 8200 section 5).
+pub const MIN_LINK_MTU: u32 = MIN_MTU as u32;
+
+/// The largest MTU of a link, in bytes, and that of a link for which none is given: each packet
+/// passes it, as a header and its payload have at most so many bytes (RFC 8200 section 3).
+pub const MAX_LINK_MTU: u32 = 65575;
 
 /// The number of the last table of routes; the first is 0 (own rule).
 pub const LAST_TABLE: u32 = 65535;

@@ -102,6 +102,8 @@ pub struct Link {
     pub from: u32,
     /// The number of the node where it ends; with none the link leaves the network.
     pub to: Option<u32>,
+    /// The bytes of the longest packet that it carries, from 1,280 to 65,575 (RFC 8200 section 5).
+    pub mtu: u32,
 }
 
 /// A route of one of a node's tables (own rules).

@@ -11,7 +11,7 @@ use crate::limits::{
 };
 use crate::parts::{Block, Link, NamedPolicy, NetParts, Node, Route};
 use crate::rules::{
-    are_names, are_segments, block_of, each_keeps_node, is_address, is_csid_len, is_name,
+    are_names, are_segments, block_of, each_keeps_node, is_address, is_csid_len, is_mtu, is_name,
     is_prefix, is_prefix_of, is_table, is_title, keeps_outer, suits_table,
 };
 use srv6_rules::SidEntry;
@@ -45,7 +45,7 @@ fn nodes_in_range(nodes: &[Node]) -> bool
 fn link_in_range(l: &Link) -> bool
     ensures { result ≡ link_in_range l.now }
 {
-    is_name(l.name.as_bytes())
+    is_name(l.name.as_bytes()) && is_mtu(l.mtu)
 }
 
 fn each_link_in_range(links: &[Link]) -> bool

@@ -10,14 +10,15 @@ ghost use Rattle.net_model.specs.Rules.{suits_flavours, block_of, is_next_len, s
 ghost use Rattle.net_model.specs.Rules.{keeps_node, same_node_name, same_node_address};
 ghost use Rattle.net_model.specs.Rules.{same_link_name};
 ghost use Rattle.net_model.specs.Rules.{starts_at, same_number, is_link_set};
-ghost use Rattle.net_model.specs.Rules.{is_table, is_prefix_of, same_prefix, same_family};
+ghost use Rattle.net_model.specs.Rules.{is_mtu, is_table, is_prefix_of, same_prefix, same_family};
 ghost use Rattle.net_model.specs.Rules.{suits_table, is_title};
 ghost use Rattle.net_model.specs.Rules.{same_sid};
 
 use crate::limits::{
     BLOCK_UNIT, LAST_FLOW_LABEL, LAST_OCTET, LAST_TABLE, LONG_CSID, MAX_ALLOWED_TYPES,
-    MAX_BLOCK_LEN, MAX_BLOCKS, MAX_IPV4_PREFIX_LEN, MAX_LINKS, MAX_LINKS_OF_SET, MAX_NAME_BYTES,
-    MAX_NODES, MAX_POLICIES, MAX_ROUTES, MAX_SIDS, MAX_SIDS_OF_NODE, SHORT_CSID,
+    MAX_BLOCK_LEN, MAX_BLOCKS, MAX_IPV4_PREFIX_LEN, MAX_LINK_MTU, MAX_LINKS, MAX_LINKS_OF_SET,
+    MAX_NAME_BYTES, MAX_NODES, MAX_POLICIES, MAX_ROUTES, MAX_SIDS, MAX_SIDS_OF_NODE, MIN_LINK_MTU,
+    SHORT_CSID,
 };
 use crate::parts::{Block, BlockKind, Link, Name, NamedPolicy, NetParts, Node, Route};
 use srv6_rules::numbers::MAX_SEGMENTS;
@@ -239,6 +240,13 @@ pub(crate) fn is_link_set(links: &[Link], node: u32, set: &[u32]) -> bool
         && set.len() <= MAX_LINKS_OF_SET
         && are_distinct::<u32, Numbers>(set)
         && each_starts_at(links, node, set)
+}
+
+/// Whether a link may have an MTU.
+pub(crate) fn is_mtu(mtu: u32) -> bool
+    ensures { result ≡ is_mtu mtu }
+{
+    MIN_LINK_MTU <= mtu && mtu <= MAX_LINK_MTU
 }
 
 pub(crate) fn is_table(table: u32) -> bool

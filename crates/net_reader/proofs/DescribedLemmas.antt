@@ -19,9 +19,9 @@ use Rattle.text_faults.specs.declared.place.TableKind.TheVariants as tables
 use Rattle.text_faults.specs.declared.fault.TextFault.{TextFault}
 use Rattle.text_faults.specs.declared.kind.FaultKind.TheVariants as kinds
 use Rattle.text_faults.specs.Faults.{fault_at}
-use Rattle.net_model.specs.declared.limits.TheConstants.{MAX_BLOCKS, MAX_NODES, MAX_LINKS, MAX_ROUTES, MAX_POLICIES, MAX_SIDS, MAX_ALLOWED_TYPES, MAX_LINKS_OF_SET, LAST_TABLE, LAST_OCTET, LAST_FLOW_LABEL, DEFAULT_HOP_LIMIT}
+use Rattle.net_model.specs.declared.limits.TheConstants.{MAX_BLOCKS, MAX_NODES, MAX_LINKS, MAX_ROUTES, MAX_POLICIES, MAX_SIDS, MAX_ALLOWED_TYPES, MAX_LINKS_OF_SET, LAST_TABLE, LAST_OCTET, LAST_FLOW_LABEL, DEFAULT_HOP_LIMIT, MIN_LINK_MTU, MAX_LINK_MTU}
 use Rattle.srv6_rules.specs.declared.numbers.TheConstants.{MAX_SEGMENTS}
-use Rattle.net_model.specs.Rules.{is_name, is_address, is_prefix, is_prefix_of, is_csid_len, is_segment, is_table, keeps_node}
+use Rattle.net_model.specs.Rules.{is_name, is_address, is_prefix, is_prefix_of, is_csid_len, is_segment, is_mtu, is_table, keeps_node}
 use Rattle.net_model.specs.Judging.{block_in_range, policy_in_range}
 use Rattle.toml_words.specs.Tree.{text_in, name_in, addr_of_value, addr_in, prefix_in, word_in, integer_in, number_in, given, array_of, list_in, needed, optional, only, items_at}
 use Rattle.net_words.specs.declared.block.DescribedBlock.{DescribedBlock}
@@ -128,7 +128,7 @@ abbrev pub node_fits : DescribedNode → Bool
 node_fits n = keeps_node (joined_node n)
 
 abbrev pub link_fits : DescribedLink → Bool
-link_fits l = is_name l.name
+link_fits l = is_name l.name && is_mtu l.mtu
 
 abbrev pub route_fits : DescribedRoute → Bool
 route_fits r = is_table r.table && (is_prefix_of r.prefix.family r.prefix.prefix && nat_le (length r.via) MAX_LINKS_OF_SET)
@@ -172,11 +172,14 @@ yields-node p t =
 yields-link : (p : FaultPlace) (t : Members) → Yields (λ l. link_fits l ≡ true) (link_of p t)
 yields-link p t =
     let P : DescribedLink → Type 0 = λ l. link_fits l ≡ true in
-    yields-behind P (only (keys.Name ∷ keys.From ∷ keys.To ∷ []) p t) _ (λ known.
+    yields-behind P (only (keys.Name ∷ keys.From ∷ keys.To ∷ keys.Mtu ∷ []) p t) _ (λ known.
     yields-next (λ n. is_name n ≡ true) P (needed name_in p known keys.Name) _
     (yields-needed (λ n. is_name n ≡ true) name_in yields-name p known keys.Name) (λ name named.
     yields-behind P (needed name_in p known keys.From) _ (λ from.
-    yields-behind P (optional (given name_in) None p known keys.To) _ (λ to. named))))
+    yields-behind P (optional (given name_in) None p known keys.To) _ (λ to.
+    yields-next (IsWithin MIN_LINK_MTU MAX_LINK_MTU) P (optional (number_in MIN_LINK_MTU MAX_LINK_MTU) MAX_LINK_MTU p known keys.Mtu) _
+    (yields-optional (IsWithin MIN_LINK_MTU MAX_LINK_MTU) (number_in MIN_LINK_MTU MAX_LINK_MTU) MAX_LINK_MTU (yields-number MIN_LINK_MTU MAX_LINK_MTU) refl p known keys.Mtu)
+    (λ mtu within. and_from _ _ named within)))))
 
 yields-route : (p : FaultPlace) (t : Members) → Yields (λ r. route_fits r ≡ true) (route_of p t)
 yields-route p t =

@@ -46,7 +46,7 @@ abbrev pub joined_node : DescribedNode → Node
 joined_node n = record { name = n.name; address = n.address; allow = n.allow }
 
 abbrev pub joined_link : List (List ℕ) → DescribedLink → Link
-joined_link nodes l = record { name = l.name; from = number_of nodes l.from; to = option_map (number_of nodes) l.to }
+joined_link nodes l = record { name = l.name; from = number_of nodes l.from; to = option_map (number_of nodes) l.to; mtu = l.mtu }
 
 abbrev pub joined_route : List (List ℕ) → List (List ℕ) → DescribedRoute → Route
 joined_route nodes links r = record {

@@ -114,6 +114,7 @@ impl<'a> Joins<DescribedLink, Link> for Names<'a> {
             name,
             from: self.nodes.number(&link.from),
             to,
+            mtu: link.mtu,
         })
     }
 }

@@ -9,7 +9,7 @@ use Rattle.text_faults.specs.declared.place.TableKind.TheVariants as tables
 use Rattle.text_faults.specs.declared.fault.TextFault.{TextFault}
 use Rattle.text_faults.specs.declared.kind.FaultKind.TheVariants as kinds
 use Rattle.text_faults.specs.Faults.{fault_at}
-use Rattle.net_model.specs.declared.limits.TheConstants.{MAX_BLOCKS, MAX_NODES, MAX_LINKS, MAX_ROUTES, MAX_POLICIES, MAX_SIDS, MAX_ALLOWED_TYPES, MAX_LINKS_OF_SET, LAST_TABLE, LAST_OCTET, LAST_FLOW_LABEL, DEFAULT_HOP_LIMIT}
+use Rattle.net_model.specs.declared.limits.TheConstants.{MAX_BLOCKS, MAX_NODES, MAX_LINKS, MAX_ROUTES, MAX_POLICIES, MAX_SIDS, MAX_ALLOWED_TYPES, MAX_LINKS_OF_SET, LAST_TABLE, LAST_OCTET, LAST_FLOW_LABEL, DEFAULT_HOP_LIMIT, MIN_LINK_MTU, MAX_LINK_MTU}
 use Rattle.srv6_rules.specs.declared.numbers.TheConstants.{MAX_SEGMENTS}
 use Rattle.v6_addr.specs.Address.{PrefixValue}
 use Rattle.srv6_rules.specs.declared.sid.Csid.TheVariants.{Plain}
@@ -49,14 +49,15 @@ node_of p t = do
   allow ← optional (list_in MAX_ALLOWED_TYPES (number_in 0 LAST_OCTET)) [] p known keys.Allow
   Ok (record { name = name; address = address; allow = allow })
 
--- a link; without an end it leaves the network
+-- a link; without an end it leaves the network, and by default each packet passes it
 abbrev pub link_of : FaultPlace → Members → Result DescribedLink TextFault
 link_of p t = do
-  known ← only (keys.Name ∷ keys.From ∷ keys.To ∷ []) p t
+  known ← only (keys.Name ∷ keys.From ∷ keys.To ∷ keys.Mtu ∷ []) p t
   name ← needed name_in p known keys.Name
   from ← needed name_in p known keys.From
   to ← optional (given name_in) None p known keys.To
-  Ok (record { name = name; from = from; to = to })
+  mtu ← optional (number_in MIN_LINK_MTU MAX_LINK_MTU) MAX_LINK_MTU p known keys.Mtu
+  Ok (record { name = name; from = from; to = to; mtu = mtu })
 
 -- a route, in table 0 by default
 abbrev pub route_of : FaultPlace → Members → Result DescribedRoute TextFault

@@ -8,11 +8,11 @@ ghost use Rattle.text_faults.specs.declared.fault.TextFault.{TextFault};
 ghost use Rattle.text_faults.specs.Reading.{Gives};
 ghost use Rattle.net_words.specs.Description.{link_of};
 
-use net_model::Name;
+use net_model::{MAX_LINK_MTU, MIN_LINK_MTU, Name};
 use std::alloc::Global;
 use text_faults::{FaultPlace, Key, NetFault};
 use toml::Table;
-use toml_words::{Describes, needed, only, optional};
+use toml_words::{Describes, needed, only, optional, optional_number};
 
 /// A link, as it is described (own rules).
 #[derive(Debug, Drop)]
@@ -23,6 +23,8 @@ pub struct DescribedLink {
     pub from: Name,
     /// The name of the node where it ends; with none the link leaves the network.
     pub to: Option<Name>,
+    /// The bytes of the longest packet that it carries, from 1,280 to 65,575; by default 65,575.
+    pub mtu: u32,
 }
 
 /// Tables of links.
@@ -32,10 +34,22 @@ impl Describes<DescribedLink> for Links {
     ghost of = { link_of };
 
     fn read(alloc: Global, table: &Table, place: FaultPlace) -> Result<DescribedLink, NetFault> {
-        only(table, &[Key::Name, Key::From, Key::To], place)?;
+        only(table, &[Key::Name, Key::From, Key::To, Key::Mtu], place)?;
         let name = needed::<Name>(alloc, table, place, Key::Name)?;
         let from = needed::<Name>(alloc, table, place, Key::From)?;
         let to = optional::<Option<Name>>(alloc, None, table, place, Key::To)?;
-        Ok(DescribedLink { name, from, to })
+        let mtu = optional_number(
+            (MIN_LINK_MTU, MAX_LINK_MTU),
+            MAX_LINK_MTU,
+            table,
+            place,
+            Key::Mtu,
+        )?;
+        Ok(DescribedLink {
+            name,
+            from,
+            to,
+            mtu,
+        })
     }
 }

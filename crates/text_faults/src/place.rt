@@ -62,6 +62,8 @@ pub enum Key {
     From,
     /// The node where a link ends.
     To,
+    /// The longest packet that a link carries.
+    Mtu,
     /// The number of a table of routes.
     Table,
     /// The links of a route.

@@ -53,6 +53,7 @@ impl Key {
             Key::Allow => "allow",
             Key::From => "from",
             Key::To => "to",
+            Key::Mtu => "mtu",
             Key::Table => "table",
             Key::Via => "via",
             Key::Source => "source",

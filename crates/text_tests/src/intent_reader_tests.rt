@@ -2,7 +2,7 @@
 
 use crate::net_model_tests::at;
 use intent_reader::{Intent, IntentFault, Step, StepFault, is_intent, read_intent};
-use net_model::{Link, Name, Net, NetParts, Node, TypeList, are_in_range};
+use net_model::{Link, MAX_LINK_MTU, Name, Net, NetParts, Node, TypeList, are_in_range};
 use srv6_rules::{Behaviour, Csid, Family, LinkSet, SidEntry};
 use std::alloc::{AllocError, Global};
 use std::process::Abort;
@@ -59,6 +59,7 @@ fn links(alloc: Global) -> Result<Vec<Link>, AllocError> {
             name: name(alloc, text)?,
             from,
             to,
+            mtu: MAX_LINK_MTU,
         })?;
     }
     Ok(links)

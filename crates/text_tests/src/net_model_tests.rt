@@ -1,8 +1,8 @@
 //! A network of two nodes.
 
 use net_model::{
-    Block, BlockKind, Hit, Link, MAX_SIDS_OF_NODE, Name, Net, NetParts, Node, Route, Standing,
-    TypeList, are_in_range,
+    Block, BlockKind, Hit, Link, MAX_LINK_MTU, MAX_SIDS_OF_NODE, Name, Net, NetParts, Node, Route,
+    Standing, TypeList, are_in_range,
 };
 use srv6_rules::{Behaviour, Csid, Family, LinkSet, SidEntry};
 use std::alloc::{AllocError, Global};
@@ -72,6 +72,7 @@ pub(crate) fn two_nodes(
         name: name(alloc, "ab")?,
         from: 0,
         to: Some(1),
+        mtu: MAX_LINK_MTU,
     })?;
     let mut via = Vec::new(alloc);
     via.push(0)?;
@@ -262,6 +263,7 @@ fn an_unknown_end_comes_before_faults_of_routes(rt: HostRuntime) -> Result<(), F
         name: name(alloc, "ac")?,
         from: 0,
         to: Some(2),
+        mtu: MAX_LINK_MTU,
     })?;
     parts.routes.push(Route {
         node: 0,

@@ -5,7 +5,8 @@ ghost use Rattle.std.specs.Prelude.{◌≡◌, length};
 use base::NoMemory;
 use icmp6_errors::IcmpSlot;
 use net_model::{
-    Block, BlockKind, Link, Name, NamedPolicy, Net, NetParts, Node, Route, TypeList, are_in_range,
+    Block, BlockKind, Link, MAX_LINK_MTU, Name, NamedPolicy, Net, NetParts, Node, Route, TypeList,
+    are_in_range,
 };
 use node_stage::{Content, stage};
 use srv6_rules::{Behaviour, Csid, Family, LinkSet, Policy, SegmentList, SidEntry};
@@ -122,11 +123,13 @@ fn net_of(
         name: name(alloc, "ab")?,
         from: 0,
         to: Some(1),
+        mtu: MAX_LINK_MTU,
     })?;
     links.push(Link {
         name: name(alloc, "out")?,
         from: 1,
         to: None,
+        mtu: MAX_LINK_MTU,
     })?;
     let mut policies = Vec::new(alloc);
     policies.push(policy(alloc, "two", &FIRST_AND_LAST, true)?)?;

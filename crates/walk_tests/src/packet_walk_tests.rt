@@ -3,7 +3,7 @@
 ghost use Rattle.std.specs.Prelude.{◌≡◌, ◌<◌, length};
 
 use base::NoMemory;
-use net_model::{Link, Name, Net, NetParts, Node, Route, TypeList, are_in_range};
+use net_model::{Link, MAX_LINK_MTU, Name, Net, NetParts, Node, Route, TypeList, are_in_range};
 use packet_walk::{Flight, Turns, are_rising};
 use pkt_buf::PktBuf;
 use srv6_rules::{Family, LinkSet, Reason};
@@ -51,6 +51,7 @@ fn link(alloc: Global, text: &str, from: u32, to: Option<u32>) -> Result<Link, A
         name: name(alloc, text)?,
         from,
         to,
+        mtu: MAX_LINK_MTU,
     })
 }
 
