@@ -6,9 +6,9 @@ use Rattle.net_model.specs.Network.{Network}
 use Rattle.walk_rules.specs.declared.place.Place.{Place}
 use Rattle.walk_rules.specs.declared.place.Outcome.{Outcome}
 use Rattle.walk_rules.specs.declared.place.Outcome.TheVariants as outcomes
-use Rattle.walk_rules.specs.Treatment.{Gave, step_of}
+use Rattle.walk_rules.specs.Treatment.{Gave, free_step_of as step_of}
 use Rattle.walk_rules.specs.Walk as walks
-use Rattle.walk_rules.specs.Walk.{walk_of, next_place, decisions}
+use Rattle.walk_rules.specs.Walk.{walk_by, free_walk_of as walk_of, next_place, decisions}
 use Rattle.intent_reader.specs.declared.intent.Step.{Step}
 use Rattle.intent_reader.specs.declared.intent.Step.TheVariants.{Links, Function}
 use Rattle.leg_table.specs.Trace.{Crossed, Handed, after_events, handed_first, handed_over}
@@ -39,7 +39,7 @@ module _ (net : Network) where
 
   first-of : (place : Place) (content : Content) (ts : List Step) (pick : ℕ → ℕ) (gave : Gave) → step_of net place content (pick 0) ≡ gave
       → Hands place content ts → First place ts pick gave
-  unfolding walk_of
+  unfolding walk_by
   first-of place content ts pick gave e hands =
       let got = hands pick in by_fuel got.0 got.1 got.2 got.3
     where
@@ -70,7 +70,7 @@ module _ (net : Network) where
 
   walk-none : (fuel : ℕ) (content : Content) (pick : ℕ → ℕ) (taken : ℕ) (h : Handed)
       → handed_over net (walk_of fuel net None content pick taken) ≡ Some h → ⊥
-  unfolding walk_of
+  unfolding walk_by
   walk-none zero content pick taken h e = absurd (cc)
   walk-none (suc more) content pick taken h e = absurd (cc)
 

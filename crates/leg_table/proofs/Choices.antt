@@ -6,9 +6,9 @@ use Rattle.net_model.specs.Network.{Network}
 use Rattle.walk_rules.specs.declared.place.Place.{Place}
 use Rattle.walk_rules.specs.declared.place.Outcome.{Outcome}
 use Rattle.walk_rules.specs.declared.place.Outcome.TheVariants as outcomes
-use Rattle.walk_rules.specs.Treatment.{step_of}
+use Rattle.walk_rules.specs.Treatment.{free_step_of as step_of}
 use Rattle.walk_rules.specs.Walk as walks
-use Rattle.walk_rules.specs.Walk.{walk_of, next_place, choice_at, decisions}
+use Rattle.walk_rules.specs.Walk.{walk_by, free_walk_of as walk_of, next_place, choice_at, decisions}
 use Rattle.intent_reader.specs.declared.intent.Step.{Step}
 use Rattle.intent_reader.specs.declared.intent.Step.TheVariants.{Links, Function}
 use Rattle.leg_table.specs.Choices.{Crosses, Goes, Ends, Rides, ForAllChoices, AtPlace, seen_at, EveryWay}
@@ -62,7 +62,7 @@ module _ (net : Network) (end : List Step → walks.Stage → Bool) where
   -- as many stages as steps and one more are enough
   pub every-rides : (ts : List Step) (place : Place) (content : Content) (pick : ℕ → ℕ) (taken : ℕ) → EveryWay net end ts place content
       → Rides end ts (walk_of (suc (length ts)) net (Some place) content pick taken)
-  unfolding walk_of
+  unfolding walk_by
   every-rides [] place content pick taken every = every (pick taken)
   every-rides (t ∷ ts) place content pick taken every =
       let gave = step_of net place content (pick taken) in
@@ -88,7 +88,7 @@ module _ (net : Network) (end : List Step → walks.Stage → Bool) where
   agree : (fuel : ℕ) (ts : List Step) (o : Option Place) (content : Content) (pick qick : ℕ → ℕ) (taken uaken : ℕ)
       → ((d : ℕ) → d ≤ length ts → pick (taken + d) ≡ qick (uaken + d))
       → Rides end ts (walk_of fuel net o content pick taken) → Rides end ts (walk_of fuel net o content qick uaken)
-  unfolding walk_of
+  unfolding walk_by
   agree zero [] o content pick qick taken uaken same h = absurd h
   agree zero (t ∷ ts) o content pick qick taken uaken same h = absurd h
   agree (suc more) [] None content pick qick taken uaken same h = absurd h
@@ -128,7 +128,7 @@ module _ (net : Network) (end : List Step → walks.Stage → Bool) where
       → ((pick : ℕ → ℕ) → pick 0 ≡ choice → (fuel : ℕ) × Rides end ts (walk_of fuel net o after pick (0 + 1)))
       → ((next : Place) → AllPicks ts next after → EveryWay net end ts next after)
       → AtPlace o (λ next. EveryWay net end ts next after)
-  unfolding walk_of
+  unfolding walk_by
   next_every ts after choice None all ih = let (fuel, r) = all (λ _. choice) refl in none fuel ts r
     where
       none : (fuel : ℕ) (ts : List Step) → Rides end ts (walk_of fuel net None after (λ _. choice) (0 + 1)) → ⊥
@@ -160,7 +160,7 @@ module _ (net : Network) (end : List Step → walks.Stage → Bool) where
   first_end : (place : Place) (content : Content) (pick : ℕ → ℕ) (choice fuel : ℕ) → pick 0 ≡ choice
       → Rides end [] (walk_of fuel net (Some place) content pick 0)
       → let gave = step_of net place content choice in Ends gave.outcome (IsTrue (end [] (seen_at place content gave)))
-  unfolding walk_of
+  unfolding walk_by
   first_end place content pick choice zero e r = absurd r
   first_end place content pick choice (suc more) e r =
       subst (λ (c : ℕ). let gave = step_of net place content c in Ends gave.outcome (IsTrue (end [] (seen_at place content gave)))) e r
@@ -171,7 +171,7 @@ module _ (net : Network) (end : List Step → walks.Stage → Bool) where
       (more : ℕ) × Goes gave.outcome t
       (Rides end ts (walk_of more net (next_place net place gave.outcome) gave.after pick (0 + decisions gave.outcome)))
       (IsTrue (end (t ∷ ts) (seen_at place content gave)))
-  unfolding walk_of
+  unfolding walk_by
   first_goes t ts place content pick choice zero e r = absurd r
   first_goes t ts place content pick choice (suc more) e r = (
     more,

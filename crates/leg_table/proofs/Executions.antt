@@ -15,7 +15,7 @@ use Rattle.walk_rules.specs.declared.place.Place.{Place}
 use Rattle.walk_rules.specs.declared.place.Outcome.{Outcome}
 use Rattle.walk_rules.specs.declared.place.Outcome.TheVariants as outcomes
 use Rattle.walk_rules.specs.Way.{Way, Into, way_of}
-use Rattle.walk_rules.specs.Treatment.{Gave, goes, treated, treated_in, treated_at_sid, onward_at_sid, allow_of, step_of, onward_from, exposed_from, dropped}
+use Rattle.walk_rules.specs.Treatment.{Gave, goes, treated, treated_in, treated_at_sid, onward_at_sid, allow_of, free_step_of as step_of, onward_from, exposed_from, dropped}
 use Rattle.walk_rules.proofs.PublicLaws.{onward-each}
 use Rattle.intent_reader.specs.declared.intent.Step.{Step}
 use Rattle.leg_table.specs.Tasks.{left_after}

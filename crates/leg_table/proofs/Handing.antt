@@ -11,10 +11,10 @@ use Rattle.walk_rules.specs.declared.place.Place.{Place}
 use Rattle.walk_rules.specs.declared.place.Outcome.{Outcome}
 use Rattle.walk_rules.specs.declared.place.Outcome.TheVariants as outcomes
 use Rattle.walk_rules.specs.Way.{Way, Over, way_of}
-use Rattle.walk_rules.specs.Treatment.{Gave, goes, member_of, lowered, treated, step_of}
+use Rattle.walk_rules.specs.Treatment.{Gave, goes, member_of, lowered, treated, free_step_of as step_of}
 use Rattle.walk_rules.specs.Relation.{IsHow}
 use Rattle.walk_rules.specs.Walk as walks
-use Rattle.walk_rules.specs.Walk.{walk_of, next_place, arrival, decisions}
+use Rattle.walk_rules.specs.Walk.{walk_by, free_walk_of as walk_of, next_place, arrival, decisions}
 use Rattle.walk_rules.proofs.PublicLaws.{sent-high}
 use Rattle.intent_reader.specs.Rules.{stand_after}
 use Rattle.intent_reader.specs.declared.intent.Step.{Step}
@@ -45,7 +45,7 @@ module _ (net : Network) where
       → handed_over net (walk_of (suc more) net (Some place) content pick taken)
       ≡ handed_first net gave gave.outcome
       (handed_over net (walk_of more net (next_place net place gave.outcome) gave.after pick (taken + decisions gave.outcome)))
-  unfolding walk_of
+  unfolding walk_by
   handed-stage more place content pick taken gave e =
       ap (λ (g : Gave). handed_first net g g.outcome
       (handed_over net (walk_of more net (next_place net place g.outcome) g.after pick (taken + decisions g.outcome)))) e
@@ -56,7 +56,7 @@ module _ (net : Network) where
       → (more : ℕ)
       × (handed_first net gave gave.outcome
       (handed_over net (walk_of more net (next_place net place gave.outcome) gave.after pick (taken + decisions gave.outcome))) ≡ Some h)
-  unfolding walk_of
+  unfolding walk_by
   first-stage zero place content pick taken h gave gives e = absurd (cc)
   first-stage (suc more) place content pick taken h gave gives e =
       (more, sym (handed-stage more place content pick taken gave gives) ∙ e)
@@ -77,7 +77,7 @@ module _ (net : Network) where
   pub walk-same : (fuel : ℕ) (o : Option Place) (content : Content) (pick qick : ℕ → ℕ) (taken uaken : ℕ)
       → ((d : ℕ) → pick (taken + d) ≡ qick (uaken + d))
       → walk_of fuel net o content pick taken ≡ walk_of fuel net o content qick uaken
-  unfolding walk_of
+  unfolding walk_by
   walk-same zero o content pick qick taken uaken same = refl
   walk-same (suc more) None content pick qick taken uaken same = refl
   walk-same (suc more) (Some place) content pick qick taken uaken same =
@@ -109,7 +109,7 @@ module _ (net : Network) where
   -- more fuel hands over the same
   pub handed-more : (m n : ℕ) (o : Option Place) (content : Content) (pick : ℕ → ℕ) (taken : ℕ) (h : Handed)
       → handed_over net (walk_of m net o content pick taken) ≡ Some h → handed_over net (walk_of (m + n) net o content pick taken) ≡ Some h
-  unfolding walk_of
+  unfolding walk_by
   handed-more zero n o content pick taken h e = absurd (cc)
   handed-more (suc m) n None content pick taken h e = absurd (cc)
   handed-more (suc m) n (Some place) content pick taken h e =
@@ -157,7 +157,7 @@ module _ (net : Network) where
   pub hands-agree : (fuel : ℕ) (ts : List Step) (o : Option Place) (content : Content) (pick qick : ℕ → ℕ) (taken uaken : ℕ) (h : Handed)
       → ((d : ℕ) → d ≤ length ts → pick (taken + d) ≡ qick (uaken + d)) → matches ts h.trace ≡ true
       → handed_over net (walk_of fuel net o content pick taken) ≡ Some h → handed_over net (walk_of fuel net o content qick uaken) ≡ Some h
-  unfolding walk_of
+  unfolding walk_by
   hands-agree zero ts o content pick qick taken uaken h same m e = absurd (cc)
   hands-agree (suc more) ts None content pick qick taken uaken h same m e = absurd (cc)
   hands-agree (suc more) ts (Some place) content pick qick taken uaken h same m e =

@@ -13,7 +13,7 @@ use Rattle.net_model.specs.Network.{Network}
 use Rattle.net_model.specs.Keeps.{Keeps}
 use Rattle.walk_rules.specs.declared.place.Place.{Place}
 use Rattle.walk_rules.specs.Way.{Into, way_of}
-use Rattle.walk_rules.specs.Treatment.{step_of}
+use Rattle.walk_rules.specs.Treatment.{free_step_of as step_of}
 use Rattle.walk_rules.specs.Walk as walks
 use Rattle.intent_reader.specs.Rules.{IsIntent}
 use Rattle.intent_reader.specs.declared.intent.Step.{Step}

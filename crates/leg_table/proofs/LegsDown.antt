@@ -14,8 +14,8 @@ use Rattle.net_model.specs.Flat.{IsFlat}
 use Rattle.net_model.specs.Keeps.{Keeps}
 use Rattle.net_model.proofs.PublicLaws.{keeps_from_network}
 use Rattle.walk_rules.specs.declared.place.Place.{Place}
-use Rattle.walk_rules.specs.Walk.{walk_of}
-use Rattle.walk_rules.specs.Treatment.{onward_from, exposed_from, treated_at_sid, allow_of, Gave, goes, step_of}
+use Rattle.walk_rules.specs.Walk.{free_walk_of as walk_of}
+use Rattle.walk_rules.specs.Treatment.{onward_from, exposed_from, treated_at_sid, allow_of, Gave, goes, free_step_of as step_of}
 use Rattle.intent_reader.specs.Rules.{IsIntent}
 use Rattle.intent_reader.specs.declared.intent.Step.{Step}
 use Rattle.intent_reader.specs.declared.intent.Intent.{Intent}

@@ -14,9 +14,9 @@ use Rattle.walk_rules.specs.declared.place.How.{How}
 use Rattle.walk_rules.specs.declared.place.Place.{Place}
 use Rattle.walk_rules.specs.declared.place.Outcome.TheVariants as outcomes
 use Rattle.walk_rules.specs.Way.{Way, Over, Into, way_of}
-use Rattle.walk_rules.specs.Treatment.{Gave, goes, member_of, lowered, treated, step_of, onward_from}
+use Rattle.walk_rules.specs.Treatment.{Gave, goes, member_of, lowered, treated, free_step_of as step_of, onward_from}
 use Rattle.walk_rules.specs.Relation.{IsHow}
-use Rattle.walk_rules.specs.Walk.{walk_of, next_place}
+use Rattle.walk_rules.specs.Walk.{free_walk_of as walk_of, next_place}
 use Rattle.walk_rules.proofs.PublicLaws.{sent-high, sent-low, way-into}
 use Rattle.intent_reader.specs.Rules.{IsIntent, stand_after}
 use Rattle.intent_reader.specs.declared.intent.Step.{Step}

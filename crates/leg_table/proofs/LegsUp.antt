@@ -16,9 +16,9 @@ use Rattle.net_model.specs.Network.{Network}
 use Rattle.net_model.specs.Keeps.{Keeps, KeepsSid}
 use Rattle.walk_rules.specs.declared.place.Place.{Place}
 use Rattle.walk_rules.specs.Way.{Into, way_of}
-use Rattle.walk_rules.specs.Treatment.{goes, step_of, onward_from}
+use Rattle.walk_rules.specs.Treatment.{goes, free_step_of as step_of, onward_from}
 use Rattle.walk_rules.specs.declared.place.Outcome.TheVariants as outcomes
-use Rattle.walk_rules.specs.Walk.{walk_of}
+use Rattle.walk_rules.specs.Walk.{free_walk_of as walk_of}
 use Rattle.walk_rules.proofs.PublicLaws.{way-into}
 use Rattle.intent_reader.specs.Rules.{IsIntent}
 use Rattle.intent_reader.specs.declared.intent.Step.{Step}

@@ -17,7 +17,7 @@ use Rattle.walk_rules.specs.declared.place.Place.{Place}
 use Rattle.walk_rules.specs.declared.place.Outcome.{Outcome}
 use Rattle.walk_rules.specs.declared.place.Outcome.TheVariants as outcomes
 use Rattle.walk_rules.specs.Way.{Way, Away, Over, Own, Into, way_of, IsWayFrom}
-use Rattle.walk_rules.specs.Treatment.{Gave, dropped, goes, member_of, lowered, sent, treated, treated_in, treated_at_sid, treated_at_address, allow_of, step_of}
+use Rattle.walk_rules.specs.Treatment.{Gave, dropped, goes, member_of, lowered, sent, treated, treated_in, treated_at_sid, treated_at_address, allow_of, free_step_of as step_of}
 use Rattle.walk_rules.specs.Relation.{IsHow}
 use Rattle.walk_rules.specs.Walk as walks
 use Rattle.walk_rules.specs.Walk.{next_place, arrival}

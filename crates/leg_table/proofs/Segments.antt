@@ -20,7 +20,7 @@ use Rattle.walk_rules.specs.declared.place.Place.{Place}
 use Rattle.walk_rules.specs.declared.place.Outcome.TheVariants as outcomes
 use Rattle.walk_rules.specs.Walk.{next_place}
 use Rattle.walk_rules.specs.Way.{Away, Into, is_multicast_of, way_of, way_by, way_by_hit}
-use Rattle.walk_rules.specs.Treatment.{Gave, goes, treated_at_sid, allow_of, step_of, onward_from, exposed_from, dropped}
+use Rattle.walk_rules.specs.Treatment.{Gave, goes, treated_at_sid, allow_of, free_step_of as step_of, onward_from, exposed_from, dropped}
 use Rattle.intent_reader.specs.declared.intent.Step.{Step}
 use Rattle.intent_reader.specs.declared.intent.Step.TheVariants.{Links, Function}
 use Rattle.list_places.specs.Places as lists

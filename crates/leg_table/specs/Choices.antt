@@ -5,9 +5,9 @@ use Rattle.net_model.specs.Network.{Network}
 use Rattle.walk_rules.specs.declared.place.Place.{Place}
 use Rattle.walk_rules.specs.declared.place.Outcome.{Outcome}
 use Rattle.walk_rules.specs.declared.place.Outcome.TheVariants as outcomes
-use Rattle.walk_rules.specs.Treatment.{Gave, step_of}
+use Rattle.walk_rules.specs.Treatment.{Gave, free_step_of as step_of}
 use Rattle.walk_rules.specs.Walk as walks
-use Rattle.walk_rules.specs.Walk.{walk_of, next_place, choice_at}
+use Rattle.walk_rules.specs.Walk.{free_walk_of as walk_of, next_place, choice_at}
 use Rattle.intent_reader.specs.declared.intent.Step.{Step}
 use Rattle.intent_reader.specs.declared.intent.Step.TheVariants.{Links, Function}
 use Rattle.leg_table.specs.Tasks.{has_link}

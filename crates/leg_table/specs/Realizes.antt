@@ -9,7 +9,7 @@ use Rattle.srv6_rules.specs.Policies.{pushed_round}
 use Rattle.net_model.specs.Network.{Network}
 use Rattle.walk_rules.specs.declared.place.How.TheVariants.{Submitted}
 use Rattle.walk_rules.specs.declared.place.Place.{Place}
-use Rattle.walk_rules.specs.Walk.{walk_of, choice_at}
+use Rattle.walk_rules.specs.Walk.{free_walk_of as walk_of, choice_at}
 use Rattle.intent_reader.specs.declared.intent.Intent.{Intent}
 use Rattle.list_pack.specs.declared.types.Container.{Container}
 use Rattle.list_pack.specs.PathLists.{before_last}

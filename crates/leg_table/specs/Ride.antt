@@ -6,7 +6,7 @@ use Rattle.srv6_rules.specs.Packet.{Packet, V6}
 use Rattle.net_model.specs.Network.{Network}
 use Rattle.walk_rules.specs.declared.place.Place.{Place}
 use Rattle.walk_rules.specs.Way.{Way, Away, Over, Own, Into, way_of}
-use Rattle.walk_rules.specs.Treatment.{step_of}
+use Rattle.walk_rules.specs.Treatment.{free_step_of as step_of}
 use Rattle.walk_rules.specs.Walk as walks
 use Rattle.walk_rules.specs.Walk.{arrival}
 use Rattle.intent_reader.specs.Rules.{first_end}

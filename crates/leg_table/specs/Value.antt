@@ -3,7 +3,7 @@ use Rattle.std.specs.Prelude.{ℕ, length, Option}
 use Rattle.srv6_rules.specs.Packet.{Packet, V6}
 use Rattle.list_pack.specs.Value.{LegsValue}
 use Rattle.net_model.specs.Network.{Network}
-use Rattle.walk_rules.specs.Walk.{walk_of}
+use Rattle.walk_rules.specs.Walk.{free_walk_of as walk_of}
 use Rattle.intent_reader.specs.declared.intent.Intent.{Intent}
 use Rattle.leg_table.specs.Sids.{is_binding, sids_of}
 use Rattle.leg_table.specs.Leg.{place_from, leg_of, finish_of}

@@ -10,7 +10,7 @@ use Rattle.walk_rules.specs.declared.place.Outcome.TheVariants as outcomes
 use Rattle.walk_rules.specs.declared.place.Place.{Place}
 use Rattle.walk_rules.specs.Treatment.{step_of}
 use Rattle.walk_rules.specs.Relation.{IsPlace}
-use Rattle.walk_rules.specs.Walk.{Stage, stage_of, far_end, arrival, next_place, decisions, walk_of, place_after, left_or_stages, end_by, end_of}
+use Rattle.walk_rules.specs.Walk.{Stage, stage_of, far_end, arrival, next_place, decisions, walk_by, walk_of, place_after, left_or_stages, end_by, end_of}
 use Rattle.walk_rules.specs.Laws.{AreStages}
 use Rattle.walk_rules.proofs.Walks.{walk_of-short}
 use Rattle.walk_rules.proofs.Places.{stage-step, step-place}
@@ -27,7 +27,7 @@ next-place net place content choice (Some next) keeps is e = step-place net plac
 
 stages-from : (fuel : ℕ) (net : Network) (place : Option Place) (content : Content) (pick : ℕ → ℕ) (taken : ℕ) → Keeps net
     → IfPlace net place → AreStages net (walk_of fuel net place content pick taken)
-unfolding walk_of
+unfolding walk_by
 stages-from zero net place content pick taken keeps is = tt
 stages-from (suc more) net None content pick taken keeps is = tt
 stages-from (suc more) net (Some place) content pick taken keeps is =

@@ -5,7 +5,7 @@ use Rattle.net_model.specs.Network.{Network}
 use Rattle.walk_rules.specs.declared.place.Outcome.{Outcome}
 use Rattle.walk_rules.specs.declared.place.Outcome.TheVariants as outcomes
 use Rattle.walk_rules.specs.declared.place.Place.{Place}
-use Rattle.walk_rules.specs.Walk.{Stage, stage_of, next_place, decisions, walk_of, walk_on, choice_at}
+use Rattle.walk_rules.specs.Walk.{Stage, stage_of, next_place, decisions, walk_by, walk_of, walk_on, choice_at}
 
 decisions-few : (outcome : Outcome) → decisions outcome ≤ 1
 decisions-few (outcomes.Send link) = omega arith
@@ -24,7 +24,7 @@ later-picks pick other taken more few low same = λ d from to. same d (omega ari
 
 pub walk_of-picks : (fuel : ℕ) (net : Network) (place : Option Place) (content : Content) (pick other : ℕ → ℕ) (taken : ℕ)
     → SamePicks pick other taken fuel → walk_of fuel net place content pick taken ≡ walk_of fuel net place content other taken
-unfolding walk_of
+unfolding walk_by
 walk_of-picks zero net place content pick other taken same = refl
 walk_of-picks (suc more) net None content pick other taken same = refl
 walk_of-picks (suc more) net (Some place) content pick other taken same =

@@ -3,13 +3,13 @@ use Rattle.std.proofs.Common.{◌≡◌, ℕ, zero, suc, ◌+◌, ◌<◌, ◌�
 use Rattle.srv6_rules.specs.Packet.{Content}
 use Rattle.net_model.specs.Network.{Network}
 use Rattle.walk_rules.specs.declared.place.Place.{Place}
-use Rattle.walk_rules.specs.Walk.{Stage, stage_of, next_place, decisions, walk_of, walk_on, place_after, content_after, taken_after, IsStageOf, Follows, BeginsAt, IsWalk}
+use Rattle.walk_rules.specs.Walk.{Stage, stage_of, next_place, decisions, walk_by, walk_of, walk_on, place_after, content_after, taken_after, IsStageOf, Follows, BeginsAt, IsWalk}
 use Rattle.walk_rules.specs.Treatment.{step_of}
 
 pub walk_of-suc : (more : ℕ) (net : Network) (place : Place) (content : Content) (pick : ℕ → ℕ) (taken : ℕ)
     → walk_of (suc more) net (Some place) content pick taken
     ≡ stage_of net place content (pick taken) ∷ walk_on more net (stage_of net place content (pick taken)) pick taken
-unfolding walk_of
+unfolding walk_by
 walk_of-suc more net place content pick taken = refl
 
 pub walk_of-add_one : (more : ℕ) (net : Network) (place : Place) (content : Content) (pick : ℕ → ℕ) (taken : ℕ)
@@ -19,19 +19,19 @@ walk_of-add_one more net place content pick taken = rw (add-one more) (walk_of-s
 
 pub walk_of-zero : (net : Network) (place : Option Place) (content : Content) (pick : ℕ → ℕ) (taken : ℕ)
     → walk_of 0 net place content pick taken ≡ []
-unfolding walk_of
+unfolding walk_by
 walk_of-zero net place content pick taken = refl
 
 pub walk_of-none : (fuel : ℕ) (net : Network) (content : Content) (pick : ℕ → ℕ) (taken : ℕ)
     → walk_of fuel net None content pick taken ≡ []
-unfolding walk_of
+unfolding walk_by
 walk_of-none zero net content pick taken = refl
 walk_of-none (suc more) net content pick taken = refl
 
 -- a walk's number of stages, and its beginnings
 pub length-walk_of : (fuel : ℕ) (net : Network) (place : Option Place) (content : Content) (pick : ℕ → ℕ) (taken : ℕ)
     → length (walk_of fuel net place content pick taken) ≤ fuel
-unfolding walk_of
+unfolding walk_by
 length-walk_of zero net place content pick taken = zero-le
 length-walk_of (suc more) net None content pick taken = zero-le
 length-walk_of (suc more) net (Some place) content pick taken =
@@ -40,7 +40,7 @@ length-walk_of (suc more) net (Some place) content pick taken =
 
 pub take-walk_of : (m n : ℕ) (net : Network) (place : Option Place) (content : Content) (pick : ℕ → ℕ) (taken : ℕ)
     → take m (walk_of (m + n) net place content pick taken) ≡ walk_of m net place content pick taken
-unfolding walk_of
+unfolding walk_by
 take-walk_of zero n net place content pick taken = refl
 take-walk_of (suc m) n net None content pick taken = rw (walk_of-none (suc m + n) net content pick taken)
 take-walk_of (suc m) n net (Some place) content pick taken =
@@ -53,7 +53,7 @@ pub walk_of-add : (m n : ℕ) (net : Network) (place : Option Place) (content : 
     → let w = walk_of m net place content pick taken in
     walk_of (m + n) net place content pick taken
     ≡ w ++ walk_of n net (place_after net place w) (content_after content w) pick (taken_after taken w)
-unfolding walk_of
+unfolding walk_by
 walk_of-add zero n net place content pick taken = rw (zero-add n)
 walk_of-add (suc m) n net None content pick taken =
     walk_of-none (suc m + n) net content pick taken ∙ sym (walk_of-none n net content pick taken)
@@ -96,14 +96,14 @@ Follows-tail net pick taken s (t ∷ more) follows = follows.2
 
 pub walk_of-begins : (fuel : ℕ) (net : Network) (place : Option Place) (content : Content) (pick : ℕ → ℕ) (taken : ℕ)
     → BeginsAt place content (walk_of fuel net place content pick taken)
-unfolding walk_of
+unfolding walk_by
 walk_of-begins zero net place content pick taken = tt
 walk_of-begins (suc more) net None content pick taken = tt
 walk_of-begins (suc more) net (Some place) content pick taken = (refl, refl)
 
 pub walk_of-follows : (fuel : ℕ) (net : Network) (place : Option Place) (content : Content) (pick : ℕ → ℕ) (taken : ℕ)
     → Follows net pick taken (walk_of fuel net place content pick taken)
-unfolding walk_of
+unfolding walk_by
 walk_of-follows zero net place content pick taken = tt
 walk_of-follows (suc more) net None content pick taken = tt
 walk_of-follows (suc more) net (Some place) content pick taken =
@@ -116,7 +116,7 @@ walk_of-follows (suc more) net (Some place) content pick taken =
 -- a walk of fewer stages than it may have has ended
 pub walk_of-short : (fuel : ℕ) (net : Network) (place : Option Place) (content : Content) (pick : ℕ → ℕ) (taken : ℕ)
     → let w = walk_of fuel net place content pick taken in length w < fuel → place_after net place w ≡ None
-unfolding walk_of
+unfolding walk_by
 walk_of-short zero net place content pick taken short = absurd (omega (arith, short))
 walk_of-short (suc more) net None content pick taken short = refl
 walk_of-short (suc more) net (Some place) content pick taken short =
@@ -143,7 +143,7 @@ same_stage net s place content choice at before is =
 
 pub walk_of-one : (fuel : ℕ) (net : Network) (place : Option Place) (content : Content) (pick : ℕ → ℕ) (taken : ℕ) (steps : List Stage)
     → IsWalk fuel net place content pick taken steps → steps ≡ walk_of fuel net place content pick taken
-unfolding walk_of
+unfolding walk_by
 walk_of-one zero net place content pick taken [] is = refl
 walk_of-one zero net place content pick taken (s ∷ more) is = absurd (omega (arith, is.at_most))
 walk_of-one (suc fuel) net None content pick taken [] is = refl

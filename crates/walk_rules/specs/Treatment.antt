@@ -161,8 +161,12 @@ treated4 net node (Over set lower) p choice = sent4 net node set lower p choice
 treated4 net node Own p choice = dropped net node reasons.NoRoute 0 (V4 p)
 treated4 net node (Into n) p choice = dropped net node reasons.NoRoute 0 (V4 p)
 
--- the stage: what one node does with what stands at a place, under a choice
+-- the stage where no link has an MTU: what one node does with what stands at a place, under a choice
+abbrev pub free_step_of : Network → Place → Content → ℕ → Gave
+free_step_of net place (Unreadable bytes reason) choice = dropped net place.node reason 0 (Unreadable bytes reason)
+free_step_of net place (V6 p) choice = treated net place.node (way_of net place p.destination) p choice
+free_step_of net place (V4 p) choice = treated4 net place.node (way_of net place (destination4 p)) p choice
+
+-- the stage
 abbrev pub step_of : Network → Place → Content → ℕ → Gave
-step_of net place (Unreadable bytes reason) choice = dropped net place.node reason 0 (Unreadable bytes reason)
-step_of net place (V6 p) choice = treated net place.node (way_of net place p.destination) p choice
-step_of net place (V4 p) choice = treated4 net place.node (way_of net place (destination4 p)) p choice
+step_of net place content choice = free_step_of net place content choice

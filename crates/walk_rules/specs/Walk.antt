@@ -9,7 +9,7 @@ use Rattle.walk_rules.specs.declared.place.Outcome.{Outcome}
 use Rattle.walk_rules.specs.declared.place.Outcome.TheVariants as outcomes
 use Rattle.walk_rules.specs.declared.place.Ended.{Ended}
 use Rattle.walk_rules.specs.declared.place.Ended.TheVariants as ends
-use Rattle.walk_rules.specs.Treatment.{Gave, step_of}
+use Rattle.walk_rules.specs.Treatment.{Gave, free_step_of, step_of}
 
 -- the node where a link ends
 abbrev pub far_end : Option Link → Option ℕ
@@ -47,15 +47,30 @@ pub record Stage : Type 0 where
 abbrev pub stage_of : Network → Place → Content → ℕ → Stage
 stage_of net place content choice = record { place = place; before = content; gave = step_of net place content choice }
 
--- at most so many stages from a place, if there is one, where pick gives the choice of each decision, and `taken`
--- decisions were taken before
-unfoldable pub walk_of : ℕ → Network → Option Place → Content → (ℕ → ℕ) → ℕ → List Stage
-walk_of zero net place content pick taken = []
-walk_of (suc more) net None content pick taken = []
-walk_of (suc more) net (Some place) content pick taken =
-    let gave = step_of net place content (pick taken) in
+-- what a node does with what stands at a place under a choice, and where the packet stands after an outcome, if it goes on
+abbrev pub Steps : Type 0
+Steps = Place → Content → ℕ → Gave
+
+abbrev pub Nexts : Type 0
+Nexts = Place → Outcome → Option Place
+
+-- at most so many stages from a place, if there is one, by what nodes do and where packets go, where pick gives the choice of each
+-- decision, and `taken` decisions were taken before
+unfoldable pub walk_by : Steps → Nexts → ℕ → Option Place → Content → (ℕ → ℕ) → ℕ → List Stage
+walk_by step next zero place content pick taken = []
+walk_by step next (suc more) None content pick taken = []
+walk_by step next (suc more) (Some place) content pick taken =
+    let gave = step place content (pick taken) in
     record { place = place; before = content; gave = gave }
-    ∷ walk_of more net (next_place net place gave.outcome) gave.after pick (taken + decisions gave.outcome)
+    ∷ walk_by step next more (next place gave.outcome) gave.after pick (taken + decisions gave.outcome)
+
+-- the stages in a network
+abbrev pub walk_of : ℕ → Network → Option Place → Content → (ℕ → ℕ) → ℕ → List Stage
+walk_of fuel net place content pick taken = walk_by (step_of net) (next_place net) fuel place content pick taken
+
+-- the stages in a network where no link has an MTU
+abbrev pub free_walk_of : ℕ → Network → Option Place → Content → (ℕ → ℕ) → ℕ → List Stage
+free_walk_of fuel net place content pick taken = walk_by (free_step_of net) (next_place net) fuel place content pick taken
 
 -- at most so many stages after a stage
 abbrev pub walk_on : ℕ → Network → Stage → (ℕ → ℕ) → ℕ → List Stage
