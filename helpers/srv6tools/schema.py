@@ -88,7 +88,9 @@ KEYS = {
         Key("prefix", Form.PREFIX6), _word("kind", "next", "replace"), _number("csid", 16, 32),
     ),
     "node": (_name("name"), Key("address", Form.ADDRESS), _ALLOW),
-    "link": (_name("name"), _name("from"), _name("to", False)),
+    "link": (
+        _name("name"), _name("from"), _name("to", False), _number("mtu", 1280, 65575, "65575"),
+    ),
     "route": (
         _name("node"), _number("table", 0, 65535, "0"), Key("prefix", Form.PREFIX), _names("via"),
     ),
