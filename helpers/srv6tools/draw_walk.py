@@ -12,7 +12,9 @@ from .description import Link, Network, read_network
 from .drawing import COLOURS, Drawing, end_of, quoted
 from .files import opened
 
-ERRORS = {1: "Destination Unreachable", 3: "Time Exceeded", 4: "Parameter Problem"}
+ERRORS = {
+    1: "Destination Unreachable", 2: "Packet Too Big", 3: "Time Exceeded", 4: "Parameter Problem",
+}  # fmt: skip
 DESCRIPTION = """\
 Draws the walks of packets through a network, as Graphviz text on standard output:
 

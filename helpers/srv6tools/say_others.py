@@ -51,6 +51,7 @@ REASONS = {
     "UpperLayer": "the SID doesn't take this upper layer; a node takes those of its key `allow`",
     "TooBig": "with the header in front the packet would be longer than 65,535 bytes",
     "InnerHop": "the inner packet's hop limit or TTL is at most 1, so the headend can't lower it",
+    "MtuExceeded": "the packet is longer than the `mtu` of the link that was taken",
 }
 
 

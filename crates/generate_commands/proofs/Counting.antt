@@ -30,19 +30,12 @@ comes-placed net (Entering other) comes within is =
 abbrev pub sent_in : List Stage → ℕ
 sent_in steps = count_by sends steps
 
--- a send is one decision
-send-decides : (outcome : Outcome) → cond (is_send outcome) 1 0 ≡ decisions outcome
-send-decides (outcomes.Again sid how) = refl
-send-decides (outcomes.Hand sid how family) = refl
-send-decides (outcomes.Send link) = refl
-send-decides outcomes.Local = refl
-send-decides (outcomes.Drop reason told) = refl
+-- the frames of a stage
+abbrev pub frames_by : Outcome → ℕ
+frames_by outcome = cond (is_send outcome) 1 0
 
-sent-cons : (s : Stage) (rest : List Stage) → sent_in (s ∷ rest) ≡ decisions s.gave.outcome + sent_in rest
-sent-cons s rest =
-    let both = sum_by-append (λ (t : Stage). cond (sends t) 1 0) (s ∷ []) rest in
-    let one = send-decides s.gave.outcome in
-    omega (arith, both, one)
+sent-cons : (s : Stage) (rest : List Stage) → sent_in (s ∷ rest) ≡ frames_by s.gave.outcome + sent_in rest
+sent-cons s rest = let both = sum_by-append (λ (t : Stage). cond (sends t) 1 0) (s ∷ []) rest in omega (arith, both)
 
 -- of a whole walk some stages are left: so many sends were counted before, and the end is theirs
 pub record Counted (net : Network) (left whole : List Stage) (sent : ℕ) : Type 0 where
@@ -71,20 +64,21 @@ left_of_one net steps ended n is ends =
 -- a stage of the loop, by what it gave
 
 module _ (net : Network) (all more : ℕ) (place : Place) (content : Content) (pick : ℕ → ℕ) (taken : ℕ) (gave : Gave)
-    (whole : List Stage) (is : all ≡ suc more) (gives : step_of net place content (pick taken) ≡ gave)
-    (p : Counted net (walk_of all net (Some place) content pick taken) whole taken) where
+    (whole : List Stage) (sent : ℕ) (is : all ≡ suc more) (gives : step_of net place content (pick taken) ≡ gave)
+    (p : Counted net (walk_of all net (Some place) content pick taken) whole sent) where
   abbrev stage : Stage
   stage = step_by net all more place content pick taken gave is gives
 
   sum-on : (rest : List Stage) → walk_of all net (Some place) content pick taken ≡ stage ∷ rest
-      → taken + decisions gave.outcome + sent_in rest ≡ sent_in whole
+      → sent + frames_by gave.outcome + sent_in rest ≡ sent_in whole
   sum-on rest begins =
       let sum = p.sum in
       let first = ap sent_in begins ∙ sent-cons stage rest in
       omega (arith, sum, first)
 
   pub counted_on : (next : Place) → next_place net place gave.outcome ≡ Some next
-      → Counted net (walk_of more net (Some next) gave.after pick (taken + decisions gave.outcome)) whole (taken + decisions gave.outcome)
+      → Counted net (walk_of more net (Some next) gave.after pick (taken + decisions gave.outcome)) whole
+      (sent + frames_by gave.outcome)
   counted_on next goes =
       let rest = walk_of more net (Some next) gave.after pick (taken + decisions gave.outcome) in
       let begins = walk_goes_on net all more place content pick taken gave is gives next goes in
@@ -94,7 +88,7 @@ module _ (net : Network) (all more : ℕ) (place : Place) (content : Content) (p
       }
 
   pub counted_end : next_place net place gave.outcome ≡ None
-      → (taken + decisions gave.outcome ≡ sent_in whole) × (end_by net place gave.outcome ≡ end_of net whole)
+      → (sent + frames_by gave.outcome ≡ sent_in whole) × (end_by net place gave.outcome ≡ end_of net whole)
   counted_end stops =
       let begins = walk_ends net all more place content pick taken gave is gives stops in
       let sum = sum-on [] begins in

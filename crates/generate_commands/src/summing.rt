@@ -7,7 +7,7 @@ ghost use Rattle.intent_reader.specs.Rules.{IsIntent};
 ghost use Rattle.path_compiler.specs.Compiled.{IsCompiled};
 ghost use Rattle.run_commands.specs.Entry.{AllEnterIn, walk_of_comes};
 ghost use Rattle.walk_commands.specs.Walk.{entry_at_headend};
-ghost use Rattle.generate_commands.specs.Summary.{SummaryAnswers, frames_in, has_left, left_in, summary_of, walks_of, walks_of_packet};
+ghost use Rattle.generate_commands.specs.Summary.{SummaryAnswers, frames_in, has_left, is_send, left_in, summary_of, walks_of, walks_of_packet};
 
 use crate::summed::Summary;
 use base::NoMemory;
@@ -21,7 +21,7 @@ use pcap_io::{LentBody, LentFrame};
 use run_commands::{Comes, Enters, staged};
 use std::alloc::Global;
 use walk_commands::{Headend, headend_of};
-use walk_rules::{Ended, MAX_STAGES, ended_by, next_place};
+use walk_rules::{Ended, MAX_STAGES, Outcome, ended_by, next_place};
 
 /// The most packets of a summary. (own rule)
 pub const MAX_PACKETS: u32 = 65_535;
@@ -45,6 +45,18 @@ fn has_left(ended: &Ended) -> bool
     match ended {
         Ended::Left { .. } => true,
         Ended::Delivered { .. } | Ended::Dropped { .. } | Ended::Stages => false,
+    }
+}
+
+/// How many frames an outcome writes: one where it sends, and none about a member that is taken but
+/// too small.
+fn frames_of(outcome: &Outcome) -> usize
+    ensures sent { result ≡ cond (is_send outcome.now) 1 0 }
+    ensures few { result ≤ 1 }
+{
+    match outcome {
+        Outcome::Send { .. } => 1,
+        Outcome::Again { .. } | Outcome::Hand { .. } | Outcome::Local | Outcome::Drop { .. } => 0,
     }
 }
 
@@ -78,16 +90,18 @@ fn count_walk(alloc: Global, net: &Net, comes: Comes, choices: &[u32]) -> Result
     } = comes;
     let mut error = IcmpSlot::new();
     let mut taken = 0;
+    let mut sent = 0;
     for used in 0..MAX_STAGES {
         let choice = choices[taken % choices.len()];
         let outcome = staged(alloc, net, &place, &mut content, choice, &mut error)?;
         taken += decisions_of(&outcome);
+        sent += frames_of(&outcome);
         match next_place(net, &place, &outcome) {
             Some(next) => place = next,
-            None => return Ok(counts_by(taken, &ended_by(net, &place, &outcome))),
+            None => return Ok(counts_by(sent, &ended_by(net, &place, &outcome))),
         }
     }
-    Ok(counts_by(taken, &Ended::Stages))
+    Ok(counts_by(sent, &Ended::Stages))
 }
 
 /// What the walk of generated packet k comes to, if the headend encapsulates it.

@@ -4,7 +4,7 @@ use Rattle.std.proofs.lemmas.List.{append_assoc, length-append}
 use Rattle.srv6_rules.specs.declared.icmp.IcmpKind.{IcmpKind}
 use Rattle.srv6_rules.specs.Packet.{Packet, IsSpellable, spelling, header_spelling, first_word, two_bytes, four_bytes, address_bytes}
 use Rattle.srv6_rules.specs.Checksum.{all_ones, word_sum, carried, pseudo_header}
-use Rattle.srv6_rules.specs.Errors.{IsKind, pointer_of, is_unanswered, message_head, quote_of, icmp_packet, error_checksum, error_about, error_packet}
+use Rattle.srv6_rules.specs.Errors.{IsKind, last_word_of, is_unanswered, message_head, quote_of, icmp_packet, error_checksum, error_about, error_packet}
 use Rattle.srv6_rules.proofs.PublicLaws.{length-two_bytes, length-four_bytes, error_checksum-parts}
 
 -- ---- the IPv6 header
@@ -33,8 +33,8 @@ header-written out o1 o2 o3 o4 o5 two one other message source destination len l
 pub length-head : (kind : IcmpKind) (checksum : ℕ) → length (message_head kind checksum) ≡ 8
 length-head kind checksum =
     let two = length-two_bytes checksum in
-    let four = length-four_bytes (pointer_of kind) in
-    let both = length-append (two_bytes checksum) (four_bytes (pointer_of kind)) in
+    let four = length-four_bytes (last_word_of kind) in
+    let both = length-append (two_bytes checksum) (four_bytes (last_word_of kind)) in
     omega arith
 
 pub length-message : (kind : IcmpKind) (checksum : ℕ) (quote : List ℕ) → length (message_head kind checksum ++ quote) ≡ 8 + length quote

@@ -2,7 +2,7 @@
 
 ghost use Rattle.std.specs.Prelude.{◌≡◌, ◌≤◌, length, slice_get};
 ghost use Rattle.srv6_rules.specs.Chain.{ChainPlace as ChainPlaceValue};
-ghost use Rattle.srv6_rules.specs.Errors.{is_about_option, is_error_message, is_error_type, is_later_fragment, is_unanswered};
+ghost use Rattle.srv6_rules.specs.Errors.{may_answer_multicast, is_error_message, is_error_type, is_later_fragment, is_unanswered};
 
 use ip6_headers::{BadChain, ChainStep, Ip6View, chain_start, chain_step, two_at};
 use srv6_rules::IcmpKind;
@@ -54,24 +54,26 @@ fn is_error_message(packet: &Ip6View<'_>) -> bool
     }
 }
 
-/// Parameter Problem for an unknown option.
-fn is_about_option(kind: &IcmpKind) -> bool
-    ensures { result ≡ is_about_option kind.now }
+/// An error that is made about a packet to a multicast destination too: Packet Too Big, and
+/// Parameter Problem for an unknown option (RFC 4443 section 2.4).
+fn may_answer_multicast(kind: &IcmpKind) -> bool
+    ensures { result ≡ may_answer_multicast kind.now }
 {
     match kind {
         IcmpKind::Unreachable | IcmpKind::TimeExceeded => false,
+        IcmpKind::PacketTooBig { .. } => true,
         IcmpKind::Parameter { code, .. } => *code == UNKNOWN_OPTION,
     }
 }
 
 /// No error of the kind is made about the packet: its source is unspecified or multicast, its
-/// destination is multicast (but for an unknown option), or it is itself an error or a redirect.
+/// destination is multicast (but for two kinds), or it is itself an error or a redirect.
 #[tactic(auto, unfolding(srv6_rules::specs::Errors::is_unanswered))]
 pub(crate) fn is_unanswered(packet: &Ip6View<'_>, kind: &IcmpKind) -> bool
     ensures { result ≡ is_unanswered packet.now kind.now }
 {
     packet.source().is_unspecified()
         || packet.source().is_multicast()
-        || (packet.destination().is_multicast() && !is_about_option(kind))
+        || (packet.destination().is_multicast() && !may_answer_multicast(kind))
         || is_error_message(packet)
 }

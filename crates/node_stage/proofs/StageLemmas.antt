@@ -39,10 +39,10 @@ pub tells_same : (told : Told) (slot : List ℕ) (one two : Gave) → one ≡ tw
 tells_same told slot one two same h = let P : Gave → Type 0 = λ g. Tells told slot g in subst P same h
 
 -- the node's own address is the one from which the error goes
-pub drops_from : (net : Network) (node : ℕ) (n : Node) (reason : Reason) (at : ℕ) (content : Content) → slice_get net.nodes node ≡ Some n
-    → dropped_from n.address.value reason at content ≡ dropped net node reason at content
+pub drops_from : (net : Network) (node : ℕ) (n : Node) (reason : Reason) (detail : ℕ) (content : Content) → slice_get net.nodes node ≡ Some n
+    → dropped_from n.address.value reason detail content ≡ dropped net node reason detail content
 unfolding error_of
-drops_from net node n reason at content is = rw is refl
+drops_from net node n reason detail content is = rw is refl
 
 -- what is told of a stage, of a content that is the one that stood there
 pub told_step : (net : Network) (place : Place) (content taken : Content) (choice : ℕ) (told : Told) (slot : List ℕ) → taken ≡ content

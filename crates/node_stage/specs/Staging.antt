@@ -13,12 +13,12 @@ use Rattle.node_stage.specs.declared.staged.Staged.TheVariants.{Goes, Drops}
 -- what a stage at a node of a network gives
 abbrev pub gave_of : Network → ℕ → Staged → Gave
 gave_of net node (Goes outcome after) = goes outcome after
-gave_of net node (Drops reason at content) = dropped net node reason at content
+gave_of net node (Drops reason detail content) = dropped net node reason detail content
 
 -- what is given where a node with an address drops what stands there
 abbrev pub dropped_from : ℕ → Reason → ℕ → Content → Gave
-dropped_from from reason at content =
-    let error = error_from from reason at content in
+dropped_from from reason detail content =
+    let error = error_from from reason detail content in
     record { outcome = outcomes.Drop reason (is_some error); after = content; error = error }
 
 -- what is told is what is given, and the slot has the bytes of the error

@@ -1,13 +1,13 @@
 //! What a node holds: a packet of either family, or bytes that do not read as one.
 
-ghost use Rattle.std.specs.Prelude.{◌≡◌, ◌^◌, ◌<◌, ◌++◌, length, All, OnOk, OnErr};
+ghost use Rattle.std.specs.Prelude.{◌≡◌, ◌^◌, ◌<◌, ◌++◌, length, All, IfOk, OnOk, OnErr};
 ghost use Rattle.srv6_rules.specs.Packet.{bytes_of, IsContent};
 
 use crate::packet::Packet;
 use crate::packet4::Packet4;
 use pkt_buf::PktBuf;
 use srv6_rules::Reason;
-use std::alloc::AllocError;
+use std::alloc::{AllocError, Global};
 use std::marker::Model;
 use std::mem;
 
@@ -78,6 +78,20 @@ impl Content {
             Held::Unreadable(bytes, _) => bytes.no_bytes(),
         };
         mem::replace(self, Content::unreadable(empty, Reason::Truncated))
+    }
+
+    /// The same once more, in memory of its own (own rule).
+    pub fn copy(&self, alloc: Global) -> Result<Content, AllocError>
+        ensures { IfOk result (λ copy. copy ≡ self.now) }
+    {
+        match &self.held {
+            Held::V6(packet) => Ok(Content::of(packet.copy(alloc)?)),
+            Held::V4(packet) => Ok(Content::of4(packet.copy(alloc)?)),
+            Held::Unreadable(bytes, reason) => {
+                let bytes = bytes.view().to_vec(alloc)?;
+                Ok(Content::unreadable(PktBuf::of(bytes), *reason))
+            }
+        }
     }
 
     /// The bytes: those that spell the packet, or those that do not read (own rule).

@@ -103,7 +103,7 @@ fn given(sid: u32, entry: &SidEntry, outcome: EndOutcome, bytes: PktBuf) -> Stag
         },
         EndOutcome::Drop { reason, at } => Staged::Drops {
             reason,
-            at,
+            detail: at,
             content: Content::read(bytes),
         },
     }

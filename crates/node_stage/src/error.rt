@@ -29,17 +29,23 @@ fn answered(packet: &Packet, kind: &IcmpKind, from: Addr, slot: &mut IcmpSlot) -
     error_for(packet.bytes(), kind, from, slot)
 }
 
-/// Writes the error about what a node with an address drops for a reason, with the fault's place in
-/// bytes from its first, into an empty slot, if one is made, and answers whether it is: about an
-/// IPv4 packet and about bytes that do not read none is, and for an IPv6 packet the reason names its
-/// kind (RFC 4443 section 3).
-fn error_about(content: &Content, reason: Reason, at: u32, from: Addr, slot: &mut IcmpSlot) -> bool
+/// Writes the error about what a node with an address drops for a reason, with its detail, into an
+/// empty slot, if one is made, and answers whether it is: about an IPv4 packet and about bytes that
+/// do not read none is, and for an IPv6 packet the reason names its kind (RFC 4443 section 3).
+fn error_about(
+    content: &Content,
+    reason: Reason,
+    detail: u32,
+    from: Addr,
+    slot: &mut IcmpSlot,
+) -> bool
     requires { slot.old.items ≡ [] }
-    ensures made { result ≡ is_some (error_from from.value reason at content.now) }
-    ensures bytes { slot.new.items ≡ error_bytes (error_from from.value reason at content.now) }
+    ensures made { result ≡ is_some (error_from from.value reason detail content.now) }
+    ensures bytes { slot.new.items
+        ≡ error_bytes (error_from from.value reason detail content.now) }
 {
     match &content.held {
-        Held::V6(packet) => match IcmpKind::of(reason, at) {
+        Held::V6(packet) => match IcmpKind::of(reason, detail) {
             Some(kind) => answered(packet, &kind, from, slot),
             None => false,
         },
@@ -48,19 +54,19 @@ fn error_about(content: &Content, reason: Reason, at: u32, from: Addr, slot: &mu
     }
 }
 
-/// What stands at a node with an address is dropped as it is, for a reason, with the fault's place
-/// in bytes from its first; the error about it is written into an empty slot, if one is made.
+/// What stands at a node with an address is dropped as it is, for a reason, with its detail; the
+/// error about it is written into an empty slot, if one is made.
 pub(crate) fn dropped(
     reason: Reason,
-    at: u32,
+    detail: u32,
     content: Content,
     from: Addr,
     slot: &mut IcmpSlot,
 ) -> Told
     requires { slot.old.items ≡ [] }
-    ensures { Tells result slot.new.items (dropped_from from.value reason at content) }
+    ensures { Tells result slot.new.items (dropped_from from.value reason detail content) }
 {
-    let error = error_about(&content, reason, at, from, slot);
+    let error = error_about(&content, reason, detail, from, slot);
     Told {
         outcome: Outcome::Drop { reason, error },
         after: content,

@@ -1,6 +1,6 @@
 //! An IPv6 packet in its bytes.
 
-ghost use Rattle.std.specs.Prelude.{◌≡◌, ◌-◌, ◌≤◌};
+ghost use Rattle.std.specs.Prelude.{◌≡◌, ◌-◌, ◌≤◌, length, IfOk};
 ghost use Rattle.srv6_rules.specs.Packet.{IsSpellable, packet_at, spelling};
 ghost use Rattle.ip6_headers.specs.Reading.{HoldsPacket};
 ghost use Rattle.endpoint_chain.specs.Outcomes.{HoldsAlone};
@@ -8,6 +8,7 @@ ghost use Rattle.endpoint_chain.specs.Outcomes.{HoldsAlone};
 use ip6_headers::Ip6View;
 use pkt_buf::PktBuf;
 use srv6_rules::numbers::{HOP_LIMIT_AT, IPV6_HEADER_LEN};
+use std::alloc::{AllocError, Global};
 use std::marker::Model;
 use v6_addr::Addr;
 
@@ -69,12 +70,29 @@ impl Packet {
         self.bytes.view()
     }
 
+    /// How many bytes the packet has, its header among them.
+    pub(crate) fn len(&self) -> usize
+        ensures { result ≡ length (spelling self.now) }
+    {
+        self.bytes().len()
+    }
+
     /// The packet's bytes, in place.
     pub(crate) fn into_bytes(self) -> PktBuf
         ensures packet { packet_at result.bytes ≡ self }
         ensures alone { HoldsAlone result.bytes }
     {
         self.bytes
+    }
+
+    /// The packet once more, in memory of its own.
+    pub(crate) fn copy(&self, alloc: Global) -> Result<Packet, AllocError>
+        ensures { IfOk result (λ copy. copy ≡ self.now) }
+    {
+        let bytes = self.bytes().to_vec(alloc)?;
+        Ok(Packet {
+            bytes: PktBuf::of(bytes),
+        })
     }
 
     /// No bytes, of the same allocator; takes no memory.

@@ -1,11 +1,12 @@
 //! An IPv4 packet in its bytes.
 
-ghost use Rattle.std.specs.Prelude.{◌≡◌, ◌≤◌};
+ghost use Rattle.std.specs.Prelude.{◌≡◌, ◌≤◌, length, IfOk};
 ghost use Rattle.srv6_rules.specs.Packet4.{IsSpellable4, destination4, lowered4, packet4_at, spelling4, ttl};
 ghost use Rattle.ip6_headers.specs.Reading4.{HoldsPacket4};
 
 use ip6_headers::{Ip4View, lower_ttl};
 use pkt_buf::PktBuf;
+use std::alloc::{AllocError, Global};
 use std::marker::Model;
 use v6_addr::Addr;
 
@@ -74,6 +75,23 @@ impl Packet4 {
         ensures { result.now ≡ spelling4 self.now }
     {
         self.bytes.view()
+    }
+
+    /// How many bytes the packet has, its header among them.
+    pub(crate) fn len(&self) -> usize
+        ensures { result ≡ length (spelling4 self.now) }
+    {
+        self.bytes().len()
+    }
+
+    /// The packet once more, in memory of its own.
+    pub(crate) fn copy(&self, alloc: Global) -> Result<Packet4, AllocError>
+        ensures { IfOk result (λ copy. copy ≡ self.now) }
+    {
+        let bytes = self.bytes.view().to_vec(alloc)?;
+        Ok(Packet4 {
+            bytes: PktBuf::of(bytes),
+        })
     }
 
     /// No bytes, of the same allocator; takes no memory.

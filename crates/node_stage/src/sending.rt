@@ -1,17 +1,18 @@
 //! Packets sent over one of a set of equal next hops.
 
-ghost use Rattle.std.specs.Prelude.{◌≡◌, ℕ, true, ◌<◌, ◌≤◌, length};
+ghost use Rattle.std.specs.Prelude.{◌≡◌, ℕ, true, not, nat_le, ◌<◌, ◌≤◌, length};
+ghost use Rattle.srv6_rules.specs.Packet.{V4, V6};
 ghost use Rattle.srv6_rules.specs.Packet4.{ttl};
-ghost use Rattle.net_model.specs.Network.{Network};
-ghost use Rattle.walk_rules.specs.Treatment.{lowered, member_of, sent, sent4, ttl_lowered};
+ghost use Rattle.walk_rules.specs.Treatment.{judged, lowered, member_of, sent, sent4, ttl_lowered};
 ghost use Rattle.node_stage.specs.Staging.{gave_of};
 
 use crate::content::Content;
 use crate::packet::Packet;
 use crate::packet4::Packet4;
-use crate::staged::{Staged, dropped_for};
+use crate::staged::{Staged, dropped_for, too_long};
+use net_model::Net;
 use srv6_rules::Reason;
-use walk_rules::Outcome;
+use walk_rules::{Outcome, mtu_at};
 
 /// The member of a set of equal next hops that a choice names.
 fn member_of(links: &[u32], choice: u32) -> u32
@@ -32,19 +33,31 @@ fn lowered(lower: bool, mut packet: Packet) -> Packet
     packet
 }
 
-/// An IPv6 packet over one of a set of equal next hops (RFC 8200 section 3).
-pub(crate) fn sent(links: &[u32], lower: bool, packet: Packet, choice: u32) -> Staged
+/// Whether a packet of so many bytes is too long for a link with an MTU (RFC 8200 section 5).
+fn exceeds(len: usize, mtu: u32) -> bool
+    ensures { result ≡ not (nat_le len mtu) }
+{
+    len > mtu as usize
+}
+
+/// An IPv6 packet over one of a set of equal next hops: the hop limit is judged, then a member is
+/// taken, and the packet's length is judged by that link's MTU, before anything of the packet changes
+/// (RFC 8200 sections 3 and 5).
+pub(crate) fn sent(net: &Net, links: &[u32], lower: bool, packet: Packet, choice: u32) -> Staged
     requires { 0 < length links.now }
-    ensures { (net : Network) (node : ℕ)
-        → gave_of net node result ≡ sent net node links.now lower packet choice }
+    ensures { (node : ℕ) → gave_of net.now node result
+        ≡ judged net.now node (V6 packet) (sent net.now node links.now lower packet choice) }
 {
     if lower && packet.hop_limit() <= 1 {
         return dropped_for(Reason::HopLimit, Content::of(packet));
     }
+    let link = member_of(links, choice);
+    let mtu = mtu_at(net, link);
+    if exceeds(packet.len(), mtu) {
+        return too_long(mtu, Content::of(packet));
+    }
     Staged::Goes {
-        outcome: Outcome::Send {
-            link: member_of(links, choice),
-        },
+        outcome: Outcome::Send { link },
         after: Content::of(lowered(lower, packet)),
     }
 }
@@ -60,19 +73,22 @@ fn ttl_lowered(lower: bool, mut packet: Packet4) -> Packet4
     packet
 }
 
-/// An IPv4 packet over one of a set of equal next hops (RFC 791 section 3.2).
-pub(crate) fn sent4(links: &[u32], lower: bool, packet: Packet4, choice: u32) -> Staged
+/// An IPv4 packet over one of a set of equal next hops, likewise (RFC 791 section 3.2).
+pub(crate) fn sent4(net: &Net, links: &[u32], lower: bool, packet: Packet4, choice: u32) -> Staged
     requires { 0 < length links.now }
-    ensures { (net : Network) (node : ℕ)
-        → gave_of net node result ≡ sent4 net node links.now lower packet choice }
+    ensures { (node : ℕ) → gave_of net.now node result
+        ≡ judged net.now node (V4 packet) (sent4 net.now node links.now lower packet choice) }
 {
     if lower && packet.ttl() <= 1 {
         return dropped_for(Reason::Ttl, Content::of4(packet));
     }
+    let link = member_of(links, choice);
+    let mtu = mtu_at(net, link);
+    if exceeds(packet.len(), mtu) {
+        return too_long(mtu, Content::of4(packet));
+    }
     Staged::Goes {
-        outcome: Outcome::Send {
-            link: member_of(links, choice),
-        },
+        outcome: Outcome::Send { link },
         after: Content::of4(ttl_lowered(lower, packet)),
     }
 }

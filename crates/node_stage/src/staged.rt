@@ -21,11 +21,11 @@ pub(crate) enum Staged {
         outcome: Outcome,
         after: Content,
     },
-    /// What stands there is dropped as it is, with the fault's place in bytes from its first, 0
-    /// where the reason has none.
+    /// What stands there is dropped as it is, with the reason's detail: the fault's place in bytes
+    /// from its first, or a link's MTU in bytes, and 0 where the reason has none.
     Drops {
         reason: Reason,
-        at: u32,
+        detail: u32,
         content: Content,
     },
 }
@@ -39,19 +39,32 @@ pub(crate) fn refused(fault: Fault, packet: Packet) -> Staged
     packet.keeps_rules();
     Staged::Drops {
         reason: fault.reason,
-        at: fault.at as u32,
+        detail: fault.at as u32,
         content: Content::of(packet),
     }
 }
 
-/// What stands at a node is dropped as it is, for a reason that has no place.
+/// What stands at a node is dropped as it is, for a reason that has no detail.
 pub(crate) fn dropped_for(reason: Reason, content: Content) -> Staged
     ensures { (net : Network) (node : ℕ)
         → gave_of net node result ≡ dropped net node reason 0 content }
 {
     Staged::Drops {
         reason,
-        at: 0,
+        detail: 0,
+        content,
+    }
+}
+
+/// What stands at a node is dropped as it is, since it is longer than the MTU of the link that was
+/// taken (RFC 8200 section 5).
+pub(crate) fn too_long(mtu: u32, content: Content) -> Staged
+    ensures { (net : Network) (node : ℕ)
+        → gave_of net node result ≡ dropped net node Reason.MtuExceeded mtu content }
+{
+    Staged::Drops {
+        reason: Reason::MtuExceeded,
+        detail: mtu,
         content,
     }
 }

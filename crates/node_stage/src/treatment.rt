@@ -1,11 +1,11 @@
 //! The stage: what one node does with what stands at a place.
 
 ghost use Rattle.std.specs.Prelude.{◌≡◌, ◌<◌, [], length, IfOk, IfSome, OnErr, OnOk};
-ghost use Rattle.srv6_rules.specs.Packet.{V6};
+ghost use Rattle.srv6_rules.specs.Packet.{V4, V6};
 ghost use Rattle.icmp6_errors.specs.Answer.{error_bytes};
 ghost use Rattle.walk_rules.specs.Laws.{TellsOfError};
 ghost use Rattle.walk_rules.specs.Relation.{IsPlace, IsStage};
-ghost use Rattle.walk_rules.specs.Treatment.{step_of, treated, treated4};
+ghost use Rattle.walk_rules.specs.Treatment.{judged, step_of, treated, treated4};
 ghost use Rattle.walk_rules.specs.Walk.{next_place};
 ghost use Rattle.walk_rules.specs.Way.{IsWayFrom, way_in};
 ghost use Rattle.node_stage.specs.Staging.{Stages, TellsOrKeeps, gave_of};
@@ -36,11 +36,11 @@ fn treated(
     requires node { node < length net.now.nodes }
     requires leads { IsWayFrom net.now node (way_in way) }
     ensures { Stages net.now node (V6 packet) result
-        (treated net.now node (way_in way.entry) packet choice) }
+        (judged net.now node (V6 packet) (treated net.now node (way_in way.entry) packet choice)) }
 {
     match way {
         Way::Away { reason } => Ok(dropped_for(reason, Content::of(packet))),
-        Way::Over { links, lower } => Ok(sent(links, lower, packet, choice)),
+        Way::Over { links, lower } => Ok(sent(net, links, lower, packet, choice)),
         Way::Own => Ok(treated_at_address(packet)),
         Way::Into { sid } => treated_in(alloc, net, node, sid, packet),
     }
@@ -50,11 +50,12 @@ fn treated(
 /// would be as where there is no way.
 fn treated4(net: &Net, node: u32, way: Way<'_>, packet: Packet4, choice: u32) -> Staged
     requires { IsWayFrom net.now node (way_in way) }
-    ensures { gave_of net.now node result ≡ treated4 net.now node (way_in way.entry) packet choice }
+    ensures { gave_of net.now node result
+        ≡ judged net.now node (V4 packet) (treated4 net.now node (way_in way.entry) packet choice) }
 {
     match way {
         Way::Away { reason } => dropped_for(reason, Content::of4(packet)),
-        Way::Over { links, lower } => sent4(links, lower, packet, choice),
+        Way::Over { links, lower } => sent4(net, links, lower, packet, choice),
         Way::Own | Way::Into { .. } => dropped_for(Reason::NoRoute, Content::of4(packet)),
     }
 }
@@ -106,16 +107,16 @@ fn told(
         Staged::Goes { outcome, after } => Ok(Told { outcome, after }),
         Staged::Drops {
             reason,
-            at,
+            detail,
             content,
-        } => Ok(dropped(reason, at, content, net.node(place.node).address, slot)),
+        } => Ok(dropped(reason, detail, content, net.node(place.node).address, slot)),
     }
 }
 
 /// One node's treatment of what stands at a place, under a choice among equal next hops; what
 /// stands there afterwards takes its place, a dropped packet as it was (RFC 8200 section 3, RFC
-/// 8754 section 4.3, RFC 8986 section 4). A Send takes the member of its set at `choice` modulo the
-/// number of members. The slot holds the ICMPv6 error that the node sends about what it drops, from
+/// 8754 section 4.3, RFC 8986 section 4). A Send, or a drop for a link's MTU, takes the member of its
+/// set at `choice` modulo the number of members. The slot holds the ICMPv6 error that the node sends about what it drops, from
 /// its own address, exactly where the outcome says so, and else nothing; what it held is gone. The
 /// error's pointer counts in bytes from the first of the packet as it was (RFC 4443 section 3). By
 /// its code, and by no clause, it takes memory only at a SID that binds a policy. `NoMemory` leaves

@@ -9,7 +9,7 @@ use Rattle.walk_rules.specs.declared.place.Outcome.{Outcome}
 use Rattle.walk_rules.specs.declared.place.Outcome.TheVariants as outcomes
 use Rattle.walk_rules.specs.declared.place.Place.{Place}
 use Rattle.walk_rules.specs.Walk.{Stage, walk_of, choice_at, far_end, arrival, next_place, decisions, left_or_stages, end_by, end_of}
-use Rattle.walk_rules.proofs.PublicLaws.{walk_of-suc, walk_of-zero, walk_of-none}
+use Rattle.walk_rules.proofs.PublicLaws.{decisions-few, walk_of-suc, walk_of-zero, walk_of-none}
 use Rattle.walk_rules.specs.declared.limits.TheConstants.{MAX_STAGES}
 use Rattle.packet_walk.specs.Flight.{InFlight, IsCounted, entering, stage_in, place_from, ended_after, advanced, staged}
 use Rattle.packet_walk.specs.Rest.{place_where, rest_of, end_where, end_from}
@@ -116,13 +116,6 @@ end-ended net p end is = ap (end_where (end_of net (rest_of net p))) is
 
 -- counts after a stage
 
-few-decisions : (outcome : Outcome) → decisions outcome ≤ 1
-few-decisions (outcomes.Again sid how) = omega arith
-few-decisions (outcomes.Hand sid how family) = omega arith
-few-decisions (outcomes.Send link) = omega arith
-few-decisions outcomes.Local = omega arith
-few-decisions (outcomes.Drop reason told) = omega arith
-
 left-test : (used : ℕ) (b : Bool) → nat_lt used MAX_STAGES ≡ b → (if b then None else Some ends.Stages) ≡ None → used < MAX_STAGES
 left-test used true is going = ltb-true used MAX_STAGES is
 left-test used false is going = cc
@@ -134,7 +127,7 @@ left-next used end (Some next) going = left-test used (nat_lt used MAX_STAGES) r
 pub advanced-counted : (net : Network) (outcome : Outcome) (after : Content) (p : InFlight) → p.ended ≡ None → IsCounted p
     → IsCounted (advanced net outcome after p)
 advanced-counted net outcome after p going counted =
-    let few : decisions outcome ≤ 1 = few-decisions outcome in
+    let few : decisions outcome ≤ 1 = decisions-few outcome in
     let left : p.stages < MAX_STAGES = counted.left going in
     record {
       choices = counted.choices;

@@ -4,13 +4,14 @@ ghost use Rattle.std.specs.Prelude.{◌≡◌, ◌<◌, ◌≤◌, length, None,
 ghost use Rattle.icmp6_errors.specs.Answer.{error_bytes};
 ghost use Rattle.srv6_rules.specs.Packet.{IsContent, bytes_of};
 ghost use Rattle.walk_rules.specs.Relation.{IsPlace};
-ghost use Rattle.walk_rules.specs.Walk.{choice_at, decisions};
+ghost use Rattle.walk_rules.specs.Walk.{choice_at, decisions, takes_member};
 ghost use Rattle.packet_walk.specs.Flight.{IsCounted, IsInFlight, StagesAs, advanced, entering, stage_in, staged};
 
 use base::NoMemory;
 use icmp6_errors::IcmpSlot;
 use net_model::Net;
 use node_stage::{Content, stage};
+use srv6_rules::Reason;
 use std::alloc::Global;
 use std::marker::Model;
 use walk_rules::{Ended, MAX_STAGES, Outcome, Place, ended_by, next_place};
@@ -37,14 +38,44 @@ impl<'a> Model for InFlight<'a> {
         (packet_value p.content p.place p.choices.now p.decisions p.stages p.ended) };
 }
 
-/// The decisions that an outcome takes. (own rule)
+/// Whether a drop for a reason takes a member of a set of equal next hops: one for the link's MTU
+/// does.
+fn takes_member(reason: Reason) -> bool
+    ensures { result ≡ takes_member reason }
+{
+    match reason {
+        Reason::MtuExceeded => true,
+        Reason::Truncated
+        | Reason::BadVersion
+        | Reason::Multicast
+        | Reason::NoRoute
+        | Reason::HopLimit
+        | Reason::BadChain
+        | Reason::LateHopByHop
+        | Reason::OptionDiscard
+        | Reason::OptionUnknown
+        | Reason::Fragment
+        | Reason::BadSegments
+        | Reason::HmacTlv
+        | Reason::BadTlv
+        | Reason::UnknownRouting
+        | Reason::UpperLayer
+        | Reason::Ttl
+        | Reason::TooBig
+        | Reason::InnerHop => false,
+    }
+}
+
+/// The decisions that an outcome takes: one where a member of a set of equal next hops is taken
+/// (own rule).
 pub fn decisions_of(outcome: &Outcome) -> usize
     ensures taken { result ≡ decisions outcome.now }
     ensures few { result ≤ 1 }
 {
     match outcome {
         Outcome::Send { .. } => 1,
-        Outcome::Again { .. } | Outcome::Hand { .. } | Outcome::Local | Outcome::Drop { .. } => 0,
+        Outcome::Drop { reason, .. } => usize::from(takes_member(*reason)),
+        Outcome::Again { .. } | Outcome::Hand { .. } | Outcome::Local => 0,
     }
 }
 

@@ -25,7 +25,7 @@ use Rattle.walk_rules.specs.declared.place.Outcome.{Outcome}
 use Rattle.walk_rules.specs.declared.place.Outcome.TheVariants as outcomes
 use Rattle.walk_rules.specs.Way.{Way, Away, Over, Own, Into, way_of}
 use Rattle.walk_rules.specs.Treatment.{Gave, step_of, treated_at_address, treated_in, treated_at_sid, pushed_at_sid, bound_at_sid, onward_at_sid, allow_of}
-use Rattle.walk_rules.specs.Relation.{Treats, Treats4, IsStage, IsPlace}
+use Rattle.walk_rules.specs.Relation.{Treats, Treats4, IsFreeStage, IsStage, IsPlace}
 use Rattle.walk_rules.specs.Walk.{far_end, left_or_stages, end_by}
 use Rattle.walk_rules.proofs.PublicLaws.{stage-member, hops-start, stage-step, step-content}
 use Rattle.command_output.specs.Sent.{IsEnd}
@@ -102,7 +102,7 @@ way4-packet net node Own p link after error h = absurd (drop-sends reasons.NoRou
 way4-packet net node (Into n) p link after error h = absurd (drop-sends reasons.NoRoute _ link h.0)
 
 stage-packet : (net : Network) (place : Place) (content : Content) (link : ℕ) (after : Content) (error : Option Packet)
-    → IsStage net place content (outcomes.Send link) after error → IsPacket after
+    → IsFreeStage net place content (outcomes.Send link) after error → IsPacket after
 stage-packet net place (Unreadable bytes reason) link after error h = absurd (drop-sends reason _ link h.0)
 stage-packet net place (V6 p) link after error h = way-packet net place.node (way_of net place p.destination) p link after error h
 stage-packet net place (V4 p) link after error h =
@@ -133,7 +133,7 @@ writable : (net : Network) (place : Place) (content : Content) (outcome : Outcom
     → Keeps net → IsPlace net place → IsStage net place content outcome after error → IsContent after → IsWritable outcome (bytes_of after)
 writable net place content (outcomes.Send link) after error keeps is stage fits = (
   link-fits net place.node link keeps (hops-start net place content link keeps is (stage-member net place content link after error stage)),
-  packet-fits after (stage-packet net place content link after error stage) fits,
+  packet-fits after (stage-packet net place content link after error stage.0) fits,
 )
 writable net place content (outcomes.Again sid how) after error keeps is stage fits = tt
 writable net place content (outcomes.Hand sid how family) after error keeps is stage fits = tt

@@ -1,18 +1,18 @@
 -- ICMPv6 errors: where none is made, their lengths, their spelling and their checksums.
-use Rattle.std.proofs.Common.{◌≡◌, ℕ, ◌+◌, ◌-◌, ◌%◌, ◌^◌, ◌<◌, ◌≤◌, Bool, true, false, not, ◌&&◌, ◌||◌, cond, List, [], ◌∷◌, ◌++◌, length, All, Some, None, refl, sym, ap, subst, ◌∙◌, arith, length-append}
-use Rattle.std.proofs.lemmas.Bool.{or_right}
+use Rattle.std.proofs.Common.{◌≡◌, ℕ, ◌+◌, ◌-◌, ◌%◌, ◌^◌, ◌<◌, ◌≤◌, ◌⊎◌, inl, inr, Bool, true, false, not, ◌&&◌, ◌||◌, cond, List, [], ◌∷◌, ◌++◌, length, All, Some, None, refl, sym, ap, subst, ◌∙◌, arith, length-append}
+use Rattle.std.proofs.lemmas.Bool.{or_right, eqb-true}
 use Rattle.std.proofs.lemmas.List.{length-take, take_all}
 use Rattle.std.proofs.lemmas.List.Elements.{All-nil, All-cons, All-append, All-take}
 use Rattle.std.specs.List.{list_any}
 use Rattle.v6_addr.specs.Kinds.{is_unspecified, is_multicast}
 use Rattle.srv6_rules.specs.declared.icmp.IcmpKind.{IcmpKind}
-use Rattle.srv6_rules.specs.declared.icmp.IcmpKind.TheVariants.{Unreachable, TimeExceeded, Parameter}
+use Rattle.srv6_rules.specs.declared.icmp.IcmpKind.TheVariants.{Unreachable, PacketTooBig, TimeExceeded, Parameter}
 use Rattle.srv6_rules.specs.declared.sid.Reason.{Reason}
 use Rattle.srv6_rules.specs.declared.sid.Reason.TheVariants as reasons
 use Rattle.srv6_rules.specs.Packet.{Packet, IsSpellable, spelling, header_len, address_bytes, two_bytes, four_bytes}
 use Rattle.srv6_rules.specs.Chain.{ChainPlace, Header, Upper, Cut, Chain, is_extension, is_whole, header_in, behind_in, behind, start_of, from_place, chain_from, chain_at}
 use Rattle.srv6_rules.specs.Checksum.{all_ones, word_sum, carried, pseudo_header, upper_layer_sum, checksum_of, Verifies}
-use Rattle.srv6_rules.specs.Errors.{kind_of, type_of, code_of, pointer_of, IsKind, is_later_fragment, ends_in_error, leads_to_error, is_error_message, is_about_option, is_unanswered, message_head, quote_of, error_checksum, error_about, error_packet}
+use Rattle.srv6_rules.specs.Errors.{kind_of, type_of, code_of, last_word_of, IsKind, is_later_fragment, ends_in_error, leads_to_error, is_error_message, may_answer_multicast, is_unanswered, message_head, quote_of, error_checksum, error_about, error_packet}
 use Rattle.srv6_rules.proofs.Bytes.{length-two_bytes, length-four_bytes, length-address_bytes, all-two_bytes, all-four_bytes, all-address_bytes}
 use Rattle.srv6_rules.proofs.Packets.{length-spelling, all-spelling}
 use Rattle.srv6_rules.proofs.Chains.{chain_of-start, chain_at-goes_on}
@@ -64,7 +64,7 @@ error-made p q kind from made = if-some (is_unanswered p kind) (error_about p ki
 unanswered-error : (p : Packet) (kind : IcmpKind) → is_error_message p ≡ true → is_unanswered p kind ≡ true
 unfolding is_unanswered
 unanswered-error p kind is =
-    let to_many : Bool = is_multicast p.destination && not (is_about_option kind) in
+    let to_many : Bool = is_multicast p.destination && not (may_answer_multicast kind) in
     let third : (to_many || is_error_message p) ≡ true = or_right to_many (is_error_message p) is in
     let second : (is_multicast p.source || (to_many || is_error_message p)) ≡ true =
     or_right (is_multicast p.source) (to_many || is_error_message p) third in
@@ -74,9 +74,37 @@ pub error-none : (p : Packet) (kind : IcmpKind) (from : ℕ) → is_error_messag
 unfolding error_packet
 error-none p kind from is = rw (unanswered-error p kind is) refl
 
+-- a kind that is made about a packet to a multicast destination
+many-kinds : (kind : IcmpKind) → may_answer_multicast kind ≡ true
+    → ((mtu : ℕ) × (kind ≡ PacketTooBig mtu)) ⊎ ((at : ℕ) × (kind ≡ Parameter 2 at))
+many-kinds Unreachable e = cc
+many-kinds (PacketTooBig mtu) e = inl (mtu, refl)
+many-kinds TimeExceeded e = cc
+many-kinds (Parameter code at) e = inr (at, ap (λ c. Parameter c at) (eqb-true code 2 e))
+
+answered-many : (one two many about error : Bool) → many ≡ true → (one || (two || ((many && not about) || error))) ≡ false → about ≡ true
+answered-many one two many true error m e = refl
+answered-many true two many false error m e = cc
+answered-many false true many false error m e = cc
+answered-many false false true false error m e = cc
+answered-many false false false false error m e = cc
+
+if-answered : {A : Type 0} (b : Bool) (x y : A) → cond b None (Some x) ≡ Some y → b ≡ false
+if-answered true x y e = cc
+if-answered false x y e = refl
+
+pub error-many : (p q : Packet) (kind : IcmpKind) (from : ℕ) → is_multicast p.destination ≡ true → error_packet p kind from ≡ Some q
+    → ((mtu : ℕ) × (kind ≡ PacketTooBig mtu)) ⊎ ((at : ℕ) × (kind ≡ Parameter 2 at))
+unfolding error_packet is_unanswered
+error-many p q kind from many made =
+    many-kinds kind (answered-many (is_unspecified p.source) (is_multicast p.source) (is_multicast p.destination)
+    (may_answer_multicast kind) (is_error_message p) many
+    (if-answered (is_unanswered p kind) (error_about p kind from) q made))
+
 about-error : (p : Packet) (kind : IcmpKind) (from : ℕ) → is_error_message (error_about p kind from) ≡ true
 unfolding error_about is_error_message chain_from
 about-error p Unreachable from = refl
+about-error p (PacketTooBig mtu) from = refl
 about-error p TimeExceeded from = refl
 about-error p (Parameter code at) from = refl
 
@@ -92,8 +120,8 @@ error-once p q kind other from again made = error-none q other again (error-is_e
 length-message_head : (kind : IcmpKind) (checksum : ℕ) → length (message_head kind checksum) ≡ 8
 length-message_head kind checksum =
     let two = length-two_bytes checksum in
-    let four = length-four_bytes (pointer_of kind) in
-    let both = length-append (two_bytes checksum) (four_bytes (pointer_of kind)) in
+    let four = length-four_bytes (last_word_of kind) in
+    let both = length-append (two_bytes checksum) (four_bytes (last_word_of kind)) in
     omega arith
 
 length-message : (p : Packet) (kind : IcmpKind) (checksum : ℕ)
@@ -147,9 +175,11 @@ kind_of-fits reasons.UpperLayer at kind h e = fits_along (Parameter 4 at) kind (
 kind_of-fits reasons.Ttl at kind h e = cc
 kind_of-fits reasons.TooBig at kind h e = cc
 kind_of-fits reasons.InnerHop at kind h e = cc
+kind_of-fits reasons.MtuExceeded at kind h e = fits_along (PacketTooBig at) kind (omega arith, h) e
 
 type-below : (kind : IcmpKind) → type_of kind < 2 ^ 8
 type-below Unreachable = omega arith
+type-below (PacketTooBig mtu) = omega arith
 type-below TimeExceeded = omega arith
 type-below (Parameter code at) = omega arith
 
@@ -157,9 +187,9 @@ all-message : (p : Packet) (kind : IcmpKind) (checksum : ℕ) → IsSpellable p 
     → All (λ b. b < 2 ^ 8) (message_head kind checksum ++ quote_of p)
 all-message p kind checksum h fits =
     let P : ℕ → Type 0 = λ b. b < 2 ^ 8 in
-    let numbers = All-append P (two_bytes checksum) (four_bytes (pointer_of kind)) (all-two_bytes checksum)
-    (all-four_bytes (pointer_of kind)) in
-    let tail : List ℕ = two_bytes checksum ++ four_bytes (pointer_of kind) in
+    let numbers = All-append P (two_bytes checksum) (four_bytes (last_word_of kind)) (all-two_bytes checksum)
+    (all-four_bytes (last_word_of kind)) in
+    let tail : List ℕ = two_bytes checksum ++ four_bytes (last_word_of kind) in
     let code = All-cons P (code_of kind) tail fits.0 numbers in
     let head = All-cons P (type_of kind) (code_of kind ∷ tail) (type-below kind) code in
     All-append P (message_head kind checksum) (quote_of p) head (All-take P 1232 (spelling p) (all-spelling p h))

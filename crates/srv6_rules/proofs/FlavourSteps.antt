@@ -13,12 +13,13 @@ use Rattle.srv6_rules.proofs.Chains.{lies-bytes}
 use Rattle.srv6_rules.proofs.Without.{without-others, without-room, without-bytes}
 use Rattle.srv6_rules.proofs.EndpointSteps.{entry_of-below}
 
--- ---- what is kept of a packet that goes on or is handed over: what stands in front of a place is there still, the hop limit
--- is so many lower, the fields that no endpoint changes are as they were, and bytes can spell it
+-- ---- what is kept of a packet that goes on or is handed over: what stands in front of a place is there still, it is no longer, the
+-- hop limit is so many lower, the fields that no endpoint changes are as they were, and bytes can spell it
 
 -- where something suits
 pub record Kept (Suits : Type 0) (p : Packet) (at lower : ℕ) (q : Packet) : Type 0 where
   pub room : at ≤ header_len + length q.payload
+  pub shorter : length q.payload ≤ length p.payload
   pub hop_limit : p.hop_limit ≡ q.hop_limit + lower
   pub traffic_class : q.traffic_class ≡ p.traffic_class
   pub flow_label : q.flow_label ≡ p.flow_label
@@ -37,6 +38,7 @@ kept-nearer Suits p at near lower q le k =
     let room = k.room in
     record {
       room = omega arith;
+      shorter = k.shorter;
       hop_limit = k.hop_limit;
       traffic_class = k.traffic_class;
       flow_label = k.flow_label;
@@ -82,9 +84,11 @@ module _ (Suits : Type 0) (p : Packet) (h : Header) (start : header_len ≤ h.pl
   kept-out =
       let room = k.room in
       let len = out-length in
+      let shorter = k.shorter in
       let same = without-others q (as_in q h) in
       record {
         room = omega arith;
+        shorter = omega arith;
         hop_limit = k.hop_limit ∙ ap (λ n. n + lower) (sym (ap (λ (x : Packet). x.hop_limit) same));
         traffic_class = ap (λ (x : Packet). x.traffic_class) same ∙ k.traffic_class;
         flow_label = ap (λ (x : Packet). x.flow_label) same ∙ k.flow_label;
@@ -131,6 +135,7 @@ kept-advanced Suits p h lies above =
     let len = length-set p.payload (h.place.at + segments_left_at - header_len) (segments_left h - 1) in
     record {
       room = omega arith;
+      shorter = omega (arith, len);
       hop_limit = omega arith;
       traffic_class = refl;
       flow_label = refl;

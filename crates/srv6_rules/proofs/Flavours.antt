@@ -1,5 +1,5 @@
 -- What an endpoint keeps of a packet, whichever flavours a SID has: its other fields, and that bytes can spell it.
-use Rattle.std.proofs.Common.{◌≡◌, ℕ, ◌+◌, ◌-◌, ◌^◌, ◌<◌, ◌≤◌, ◌==◌, ◌&&◌, Bool, true, not, nat_le, List, [], ◌∷◌, length, drop, slice_index, ◌*◌, All, refl, sym, ap, subst, ◌∙◌, arith, inl, inr}
+use Rattle.std.proofs.Common.{◌≡◌, ℕ, ◌+◌, ◌-◌, ◌^◌, ◌<◌, ◌≤◌, ◌==◌, ◌&&◌, Bool, true, not, nat_le, List, [], ◌∷◌, length, drop, slice_index, ◌*◌, All, refl, sym, ap, subst, ◌∙◌, arith, inl, inr, le_refl}
 use Rattle.std.proofs.lemmas.Bool.{cases_Bool, leb-false}
 use Rattle.std.proofs.lemmas.List.{length-set}
 use Rattle.std.proofs.lemmas.List.Elements.{All-drop, All-head, All-tail, All-take}
@@ -39,6 +39,7 @@ kept-shifted : (s : SidEntry) (p : Packet) (at : ℕ) → at ≤ header_len + le
 kept-shifted s p at within shifts above =
     record {
       room = within;
+      shorter = le_refl (length p.payload);
       hop_limit = omega arith;
       traffic_class = refl;
       flow_label = refl;
@@ -84,6 +85,7 @@ module _ (s : SidEntry) (p : Packet) (h : Header) (lies : LiesIn p h) (packed : 
       let room = moved-room in
       record {
         room = omega arith;
+        shorter = omega arith;
         hop_limit = step-hop_limit (compression_of s) p q h.place.at (srh_of h.bytes) ended e;
         traffic_class = sym (same_field (λ x. x.traffic_class));
         flow_label = sym (same_field (λ x. x.flow_label));
@@ -207,6 +209,7 @@ module _ (s : SidEntry) (allow : List ℕ) (p : Packet) where
   kept-all at room =
       record {
         room = room;
+        shorter = le_refl (length p.payload);
         hop_limit = omega arith;
         traffic_class = refl;
         flow_label = refl;
@@ -242,6 +245,10 @@ onward-kept s allow p q e = let P : Endpoint → Type 0 = λ x. Sound s p header
 pub at_sid-lowers : (s : SidEntry) (allow : List ℕ) (p q : Packet) → at_sid s allow p ≡ Onward q
     → (1 < p.hop_limit) × (p.hop_limit ≡ q.hop_limit + 1)
 at_sid-lowers s allow p q e = let k = onward-kept s allow p q e in (k.1, k.0.hop_limit)
+
+pub at_sid-shorter : (s : SidEntry) (allow : List ℕ) (p q : Packet) → at_sid s allow p ≡ Onward q
+    → length q.payload ≤ length p.payload
+at_sid-shorter s allow p q e = (onward-kept s allow p q e).0.shorter
 
 pub at_sid-fields : (s : SidEntry) (allow : List ℕ) (p q : Packet) → at_sid s allow p ≡ Onward q
     → (q.traffic_class ≡ p.traffic_class) × ((q.flow_label ≡ p.flow_label) × (q.source ≡ p.source))

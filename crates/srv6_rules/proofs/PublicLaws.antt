@@ -15,7 +15,7 @@ pub use Rattle.srv6_rules.proofs.Treatments.{first-passed, late-refused, options
 pub use Rattle.srv6_rules.proofs.HeadersAtSids.{plain-whole, header-by, at_header-unshifted, at_header-shifts, at_header-options, at_header-routing, at_header-known, at_header-packed, at_header-whole, end-skipped, at_header-either, at_header-skipped, at_header-last, at_header-taken_out, at_header-passed, at_header-passed_other, at_header-after_step, at_header-steps, at_header-pops, at_header-refuses, at_header-unknown, at_address_header-either, at_address_header-passed, at_address_header-refuses}
 pub use Rattle.srv6_rules.proofs.BehaviourLaws.{goes_on-is, exposes-ipv6, exposes-ipv4, exposes-kinds, goes_on-exposes, goes_on-exposes_usd}
 pub use Rattle.srv6_rules.proofs.FlavourSteps.{as_in-lies}
-pub use Rattle.srv6_rules.proofs.Flavours.{at_sid-lowers, at_sid-fields, at_sid-spellable, at_sid-delivered_fields, at_sid-delivered_spellable}
+pub use Rattle.srv6_rules.proofs.Flavours.{at_sid-lowers, at_sid-shorter, at_sid-fields, at_sid-spellable, at_sid-delivered_fields, at_sid-delivered_spellable}
 pub use Rattle.srv6_rules.proofs.Endpoints.{upper-shifts}
 pub use Rattle.srv6_rules.proofs.EndpointSteps.{at_sid-steps, at_sid-steps_psp, at_sid-moves, at_sid-shifted, at_sid-bytes, at_sid-exposes, at_sid-exposed_packet, at_sid-exposed_packet4, at_sid-content, at_sid-exposed_back, at_sid-delivered, at_sid-place, at_address-delivered, at_address-not_onward, at_address-not_exposed, at_address-place}
 pub use Rattle.srv6_rules.proofs.Encapsulations.{outer-chain, outer-inner}

@@ -1,13 +1,14 @@
 //! Which ICMPv6 error a drop gives, and laws about errors and their checksums (RFC 4443, RFC 1071).
 
-ghost use Rattle.std.specs.Prelude.{◌≡◌, ◌+◌, ◌-◌, ◌/◌, ◌%◌, ◌^◌, ◌<◌, ◌≤◌, true, false, ◌&&◌, not, if◌then◌else◌, List, [], ℕ, ◌∷◌, ◌++◌, length, All, Option, Some, None};
+ghost use Rattle.std.specs.Prelude.{◌≡◌, ◌+◌, ◌-◌, ◌/◌, ◌%◌, ◌^◌, ◌<◌, ◌≤◌, ◌⊎◌, true, false, ◌&&◌, not, if◌then◌else◌, List, [], ℕ, ◌∷◌, ◌++◌, length, All, Option, Some, None};
+ghost use Rattle.v6_addr.specs.Kinds.{is_multicast};
 ghost use Rattle.srv6_rules.specs.Chain.{ChainPlace, Header, Chain, Upper, is_extension, is_whole, header_in, behind_in, behind, start_of, chain_at, from_place};
 ghost use Rattle.srv6_rules.specs.Checksum.{all_ones, ones_sum, word_sum, carried, pseudo_header, upper_layer_sum, Verifies};
 ghost use Rattle.srv6_rules.specs.Errors.{kind_of, IsKind, is_error_message, leads_to_error, ends_in_error, is_later_fragment, message_head, quote_of, error_checksum, error_packet};
 ghost use Rattle.srv6_rules.specs.Packet.{Packet, IsSpellable, spelling, header_len, two_bytes, four_bytes};
 ghost use Rattle.srv6_rules.specs.declared.numbers.TheConstants.{ICMPV6, MIN_MTU};
 ghost use Rattle.srv6_rules.specs.declared.icmp.IcmpKind.{IcmpKind as IcmpKindValue};
-ghost use Rattle.srv6_rules.specs.declared.icmp.IcmpKind.TheVariants.{Unreachable, TimeExceeded, Parameter};
+ghost use Rattle.srv6_rules.specs.declared.icmp.IcmpKind.TheVariants.{Unreachable, PacketTooBig, TimeExceeded, Parameter};
 ghost use Rattle.srv6_rules.specs.declared.sid.Reason.{Reason as ReasonValue};
 
 use crate::numbers::{UNKNOWN_OPTION, WRONG_FIELD, WRONG_NEXT_HEADER, WRONG_UPPER_LAYER};
@@ -18,6 +19,11 @@ use crate::sid::Reason;
 pub enum IcmpKind {
     /// Destination Unreachable with code 0, no route: type 1 (RFC 4443 section 3.1).
     Unreachable,
+    /// Packet Too Big with code 0: type 2 (RFC 4443 section 3.2).
+    PacketTooBig {
+        /// The MTU of the link on which the packet would have gone, in bytes.
+        mtu: u32,
+    },
     /// Time Exceeded with code 0, the hop limit: type 3 (RFC 4443 section 3.3).
     TimeExceeded,
     /// Parameter Problem: type 4 (RFC 4443 section 3.4).
@@ -30,13 +36,15 @@ pub enum IcmpKind {
 }
 
 impl IcmpKind {
-    /// The error that a drop of an IPv6 packet gives, by its reason and the place of the fault in
-    /// bytes from the packet's first; none where the reason gives none (RFC 4443 section 3).
-    pub fn of(reason: Reason, at: u32) -> Option<IcmpKind>
-        ensures { result ≡ kind_of reason at }
+    /// The error that a drop of an IPv6 packet gives, by its reason and a detail: the place of the
+    /// fault in bytes from the packet's first, or for `MtuExceeded` the link's MTU in bytes. None
+    /// where the reason gives none (RFC 4443 section 3).
+    pub fn of(reason: Reason, detail: u32) -> Option<IcmpKind>
+        ensures { result ≡ kind_of reason detail }
     {
         let code = match reason {
             Reason::NoRoute => return Some(IcmpKind::Unreachable),
+            Reason::MtuExceeded => return Some(IcmpKind::PacketTooBig { mtu: detail }),
             Reason::HopLimit => return Some(IcmpKind::TimeExceeded),
             Reason::LateHopByHop => WRONG_NEXT_HEADER,
             Reason::OptionUnknown => UNKNOWN_OPTION,
@@ -54,7 +62,7 @@ impl IcmpKind {
             | Reason::TooBig
             | Reason::InnerHop => return None,
         };
-        Some(IcmpKind::Parameter { code, at })
+        Some(IcmpKind::Parameter { code, at: detail })
     }
 }
 
@@ -92,8 +100,9 @@ pub fn error_is_found_along_the_chain()
         ≡ (not (is_later_fragment h) && leads_to_error p c) }
 {}
 
-/// No error is made about an error or a redirect, so none about an error that was made (RFC 4443
-/// section 2.4).
+/// No error is made about an error or a redirect, so none about an error that was made; and about a
+/// packet to a multicast destination Packet Too Big and Parameter Problem about an option alone (RFC
+/// 4443 section 2.4).
 pub fn errors_are_not_answered()
     ensures none { (p : Packet) (kind : IcmpKindValue) (from : ℕ) → is_error_message p ≡ true
         → error_packet p kind from ≡ None }
@@ -101,6 +110,9 @@ pub fn errors_are_not_answered()
         → error_packet p kind from ≡ Some q → is_error_message q ≡ true }
     ensures once { (p q : Packet) (kind other : IcmpKindValue) (from again : ℕ)
         → error_packet p kind from ≡ Some q → error_packet q other again ≡ None }
+    ensures multicast { (p q : Packet) (kind : IcmpKindValue) (from : ℕ)
+        → is_multicast p.destination ≡ true → error_packet p kind from ≡ Some q
+        → ((mtu : ℕ) × (kind ≡ PacketTooBig mtu)) ⊎ ((at : ℕ) × (kind ≡ Parameter 2 at)) }
 {}
 
 /// An error goes over every link, and quotes the packet from its first byte on (RFC 4443 section
@@ -134,13 +146,17 @@ pub fn errors_verify()
         → IsKind kind → from < 2 ^ 128 → error_packet p kind from ≡ Some q → Verifies q }
 {}
 
-/// The figures of errors: Destination Unreachable has type 1, Time Exceeded 3 and Parameter Problem
-/// 4, each with code 0 but for Parameter Problem about a next header, 1, an option, 2, and an upper
-/// layer, 4; its pointer is the message's last four bytes (RFC 4443 sections 3.1, 3.3 and 3.4, RFC
-/// 8200 sections 4 and 4.2, RFC 8986 section 4.1.1).
+/// The figures of errors: Destination Unreachable has type 1, Packet Too Big 2, Time Exceeded 3 and
+/// Parameter Problem 4, each with code 0 but for Parameter Problem about a next header, 1, an
+/// option, 2, and an upper layer, 4; the message's last four bytes are its pointer, and of Packet
+/// Too Big the MTU (RFC 4443 sections 3.1 to 3.4, RFC 8200 sections 4 and 4.2, RFC 8986 section
+/// 4.1.1).
 pub fn errors_have_their_figures()
     ensures unreachable { (checksum : ℕ)
         → message_head Unreachable checksum ≡ 1 ∷ 0 ∷ (two_bytes checksum ++ four_bytes 0) }
+    ensures too_big { (mtu checksum : ℕ)
+        → message_head (PacketTooBig mtu) checksum
+        ≡ 2 ∷ 0 ∷ (two_bytes checksum ++ four_bytes mtu) }
     ensures time_exceeded { (checksum : ℕ)
         → message_head TimeExceeded checksum ≡ 3 ∷ 0 ∷ (two_bytes checksum ++ four_bytes 0) }
     ensures parameter { (code at checksum : ℕ)
@@ -148,6 +164,7 @@ pub fn errors_have_their_figures()
         ≡ 4 ∷ code ∷ (two_bytes checksum ++ four_bytes at) }
     ensures no_route { (at : ℕ) → kind_of ReasonValue.NoRoute at ≡ Some Unreachable }
     ensures hop_limit { (at : ℕ) → kind_of ReasonValue.HopLimit at ≡ Some TimeExceeded }
+    ensures mtu { (mtu : ℕ) → kind_of ReasonValue.MtuExceeded mtu ≡ Some (PacketTooBig mtu) }
     ensures segments { (at : ℕ) → kind_of ReasonValue.BadSegments at ≡ Some (Parameter 0 at) }
     ensures routing { (at : ℕ) → kind_of ReasonValue.UnknownRouting at ≡ Some (Parameter 0 at) }
     ensures next_header { (at : ℕ)

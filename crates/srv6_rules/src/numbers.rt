@@ -122,6 +122,9 @@ pub const ICMPV6_HOP_LIMIT: u8 = 64;
 /// The type of Destination Unreachable: 1 (RFC 4443 section 3.1).
 pub const DESTINATION_UNREACHABLE: u8 = 1;
 
+/// The type of Packet Too Big: 2 (RFC 4443 section 3.2).
+pub const PACKET_TOO_BIG: u8 = 2;
+
 /// The type of Time Exceeded: 3 (RFC 4443 section 3.3).
 pub const TIME_EXCEEDED: u8 = 3;
 

@@ -119,6 +119,8 @@ pub enum Reason {
     TooBig,
     /// The hop limit or TTL of a packet that is to be encapsulated is at most 1.
     InnerHop,
+    /// The packet is longer than the MTU of the link that was taken.
+    MtuExceeded,
 }
 
 impl Display for Reason {
@@ -145,6 +147,7 @@ impl Display for Reason {
             Reason::Ttl => "Ttl",
             Reason::TooBig => "TooBig",
             Reason::InnerHop => "InnerHop",
+            Reason::MtuExceeded => "MtuExceeded",
         })
     }
 }

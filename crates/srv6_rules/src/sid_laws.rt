@@ -35,13 +35,15 @@ pub fn behaviours_go_on_or_expose()
 {}
 
 /// A packet that goes on from a SID, whichever its flavours, had a hop limit above 1 and has one
-/// lower by one, has its traffic class, flow label and source as they were, and stays a packet that
-/// bytes can spell, where the SID's compression suits its prefix (RFC 8754 section 4.3.1.1, RFC
-/// 8986 sections 4.1 to 4.3, RFC 9800 section 4).
+/// lower by one, is no longer than it was, has its traffic class, flow label and source as they
+/// were, and stays a packet that bytes can spell, where the SID's compression suits its prefix (RFC
+/// 8754 section 4.3.1.1, RFC 8986 sections 4.1 to 4.3, RFC 9800 section 4).
 pub fn onward_lowers_the_hop_limit_by_one()
     ensures hop_limit { (s : SidEntry) (allow : List ℕ) (p q : Packet)
         → at_sid s allow p ≡ Onward q
         → (1 < p.hop_limit) × (p.hop_limit ≡ q.hop_limit + 1) }
+    ensures length { (s : SidEntry) (allow : List ℕ) (p q : Packet) → at_sid s allow p ≡ Onward q
+        → length q.payload ≤ length p.payload }
     ensures fields { (s : SidEntry) (allow : List ℕ) (p q : Packet) → at_sid s allow p ≡ Onward q
         → (q.traffic_class ≡ p.traffic_class) × ((q.flow_label ≡ p.flow_label)
         × (q.source ≡ p.source)) }

@@ -12,7 +12,7 @@ use Rattle.walk_rules.proofs.PublicLaws.{step-place}
 use Rattle.trace_replay.specs.declared.state.State.{State}
 use Rattle.trace_replay.specs.Judging.{IsState}
 use Rattle.trace_replay.specs.Replays.{by_choice, choice_given, going}
-use Rattle.trace_replay.specs.Under.{IsRight}
+use Rattle.trace_replay.specs.Judged.{IsRight}
 
 pub going-state : (net : Network) (place : Option Place) (content : Content) (left : ℕ)
     → ((next : Place) → place ≡ Some next → IsPlace net next) → IsState net (going place content left)

@@ -1,4 +1,5 @@
 pub mod Choosing
+pub mod Judging
 pub mod Entering
 pub mod Going
 pub mod NumberLemmas

@@ -1,26 +1,28 @@
 -- The lines of walks are right.
-use Rattle.std.proofs.Common.{◌≡◌, ℕ, zero, suc, ◌+◌, ◌%◌, ◌<◌, ◌≤◌, ◌↔◌, Bool, true, false, cond, List, ◌∷◌, ◌++◌, length, Option, Some, None, IsSome, Ok, refl, sym, ap, ◌∙◌, subst, arith, mod-lt}
+use Rattle.std.proofs.Common.{◌≡◌, ℕ, zero, suc, ◌+◌, ◌%◌, ◌<◌, ◌≤◌, ◌↔◌, ◌⊎◌, inl, inr, nat_le, Bool, true, false, cond, List, [], ◌∷◌, ◌++◌, length, Option, Some, None, IsSome, Ok, refl, sym, ap, ◌∙◌, subst, arith, mod-lt, mod-eq_of_lt}
 use Rattle.std.specs.Prelude.{codes, slice_get, slice_index}
 use Rattle.std.specs.List.{find, range_with_len}
 use Rattle.std.proofs.lemmas.List.{append_cancel_left, append_cancel_right}
 use Rattle.std.proofs.lemmas.Slice.Eq.{bytes_eq-Decides}
-use Rattle.srv6_rules.specs.Packet.{Content, bytes_of}
+use Rattle.std.proofs.lemmas.Bool.Decides.{leb_tells}
+use Rattle.srv6_rules.specs.declared.sid.Reason.{Reason}
+use Rattle.srv6_rules.specs.declared.sid.Reason.TheVariants as reasons
+use Rattle.srv6_rules.specs.Packet.{Packet, Content, bytes_of}
 use Rattle.icmp6_errors.specs.Answer.{error_bytes}
 use Rattle.net_model.specs.Network.{Network}
 use Rattle.net_model.specs.Keeps.{Keeps, StartsAt}
 use Rattle.walk_rules.specs.declared.place.Place.{Place}
 use Rattle.walk_rules.specs.declared.place.Outcome.{Outcome}
 use Rattle.walk_rules.specs.declared.place.Outcome.TheVariants as outcomes
-use Rattle.walk_rules.specs.Laws.{hops_at}
+use Rattle.walk_rules.specs.Laws.{Takes, TakenApart, hops_at}
 use Rattle.walk_rules.specs.Relation.{IsPlace, IsStage}
-use Rattle.walk_rules.specs.Treatment.{Gave, step_of}
-use Rattle.walk_rules.specs.Walk.{decisions, next_place}
-use Rattle.walk_rules.proofs.PublicLaws.{decisions-one, hops-start, stage-choice, stage-member, stage-step, step-member, step-same}
+use Rattle.walk_rules.specs.Treatment.{Gave, goes, member_of, mtu_at, own_len, step_of}
+use Rattle.walk_rules.specs.Walk.{next_place}
+use Rattle.walk_rules.proofs.PublicLaws.{free-unique, hops-start, over_link-fits, over_link-long, stage-choice, stage-step, stage-unique, step-named}
+use Rattle.trace_replay.specs.declared.state.State.{State}
 use Rattle.trace_replay.specs.Laws.{IsChoiceLine, IsOutcomeLine}
-use Rattle.trace_replay.specs.Lines.{name_of_link, outcome_text, send_text, stage_text, hex_text}
+use Rattle.trace_replay.specs.Lines.{name_of_link, drop_text, outcome_text, send_text, stage_text, hex_text}
 use Rattle.trace_replay.specs.Replays.{by_choice, choice_given, choices_at, going, is_given}
-use Rattle.trace_replay.specs.Under.{MayTake, under}
-use Rattle.trace_replay.proofs.Choosing.{gave-parts, step-under, takes-first}
 
 -- the first number of a range that passes a test passes it, and there is one where a number of the range passes
 
@@ -52,51 +54,27 @@ find-some p a (suc n) k passes from below =
 -- each choice gives what one of as many choices as equal next hops gives
 
 module _ (net : Network) (place : Place) (content : Content) (keeps : Keeps net) (is : IsPlace net place) where
-  abbrev one : Gave
-  one = step_of net place content 0
-
   abbrev hops : List ℕ
   hops = hops_at net place content
 
-  same-gave : (choice : ℕ) (o : Outcome) → one.outcome ≡ o → decisions o ≡ 0 → step_of net place content choice ≡ one
-  same-gave choice o e none =
-      let same = step-same net place content 0 choice in
-      gave-parts (step_of net place content choice) one.outcome one.after one.error (same.outcome (ap decisions e ∙ none)) same.after
-      same.error
-
-  first-stage : IsStage net place content one.outcome one.after one.error
-  first-stage = stage-step net place content 0 keeps is
-
-  within-by : (choice : ℕ) (o : Outcome) → one.outcome ≡ o
+  within-by : (choice : ℕ) (set : List ℕ) → hops ≡ set
       → (k : ℕ) × (k < choices_at net place content) × (step_of net place content k ≡ step_of net place content choice)
-  within-by choice (outcomes.Send link) e =
-      let some : MayTake (outcomes.Send link) hops 0 =
-      subst (λ (o : Outcome). MayTake o hops 0) e (takes-first net place content one.outcome one.after one.error first-stage) in
-      let below : choice % length hops < length hops = mod-lt choice some in
-      let member : MayTake one.outcome hops (choice % length hops) =
-      subst (λ (o : Outcome). MayTake o hops (choice % length hops)) (sym e) below in
-      let same = step-same net place content 0 choice in
-      let sends = (decisions-one (step_of net place content choice).outcome).0 (same.decisions_taken ∙ ap decisions e) in
-      let named = step-member net place content choice sends.0 sends.1 in
-      let here : step_of net place content (choice % length hops)
-      ≡ record { outcome = outcomes.Send (slice_index hops (choice % length hops)); after = one.after; error = one.error } =
-      step-under net place content (choice % length hops) member
-      ∙ ap (λ (o : Outcome). record { outcome = under o hops (choice % length hops); after = one.after; error = one.error }) e in
-      let other : step_of net place content choice
-      ≡ record { outcome = outcomes.Send (slice_index hops (choice % length hops)); after = one.after; error = one.error } =
-      gave-parts (step_of net place content choice) _ _ _ (sends.1 ∙ ap outcomes.Send named) same.after same.error in
-      (choice % length hops, omega (arith, below), here ∙ sym other)
-  within-by choice (outcomes.Again sid how) e = (0, omega arith, sym (same-gave choice (outcomes.Again sid how) e refl))
-  within-by choice (outcomes.Hand sid how family) e = (0, omega arith, sym (same-gave choice (outcomes.Hand sid how family) e refl))
-  within-by choice outcomes.Local e = (0, omega arith, sym (same-gave choice outcomes.Local e refl))
-  within-by choice (outcomes.Drop reason told) e = (0, omega arith, sym (same-gave choice (outcomes.Drop reason told) e refl))
+  within-by choice [] e =
+      let none : member_of hops 0 ≡ member_of hops choice = rw e refl in (0, omega arith, step-named net place content 0 choice none)
+  within-by choice (x ∷ xs) e =
+      let n : ℕ = length (x ∷ xs) in
+      let below : choice % n < n = mod-lt choice (omega arith) in
+      let same : member_of (x ∷ xs) (choice % n) ≡ member_of (x ∷ xs) choice = ap (slice_index (x ∷ xs)) (mod-eq_of_lt below) in
+      let named : member_of hops (choice % n) ≡ member_of hops choice =
+      subst (λ (set : List ℕ). member_of set (choice % n) ≡ member_of set choice) (sym e) same in
+      (choice % n, omega (arith, below, ap length e), step-named net place content (choice % n) choice named)
 
   -- the line of what a choice gives is given by a choice
   given-found : (line : List ℕ) (choice : ℕ) → line ≡ stage_text net (step_of net place content choice)
       → Found (choice_given net place content line)
   unfolding choice_given
   given-found line choice e =
-      let k = within-by choice one.outcome refl in
+      let k = within-by choice hops refl in
       let passes : is_given net place content line k.0 ≡ true =
       (bytes_eq-Decides line (stage_text net (step_of net place content k.0))).1 (e ∙ ap (stage_text net) (sym k.2)) in
       find-some (is_given net place content line) 0 (choices_at net place content) k.0 passes (omega arith) (omega (arith, k.1))
@@ -118,45 +96,102 @@ module _ (net : Network) (place : Place) (content : Content) (keeps : Keeps net)
   name-there : (link : ℕ) (there : StartsAt net.links place.node link) → name_of_link (slice_get net.links link) ≡ there.0.name
   name-there link there = ap name_of_link there.1
 
-  link-there : (choice link : ℕ) → (step_of net place content choice).outcome ≡ outcomes.Send link
-      → StartsAt net.links place.node link
-  link-there choice link e =
-      let gave = step_of net place content choice in
-      let stage : IsStage net place content (outcomes.Send link) gave.after gave.error =
-      subst (λ (o : Outcome). IsStage net place content o gave.after gave.error) e (stage-step net place content choice keeps is) in
-      hops-start net place content link keeps is (stage-member net place content link gave.after gave.error stage)
+  -- the lines of a Send and of a drop differ
+  heads : (a b : ℕ) (xs ys : List ℕ) → a ∷ xs ≡ b ∷ ys → a ≡ b
+  heads a b xs ys e = cc
 
-  text-of-send : (choice link : ℕ) → (step_of net place content choice).outcome ≡ outcomes.Send link
-      → stage_text net (step_of net place content choice)
-      ≡ send_text (name_of_link (slice_get net.links link)) (hex_text (bytes_of (step_of net place content choice).after))
-  text-of-send choice link e =
-      let gave = step_of net place content choice in
-      ap (λ (o : Outcome). outcome_text net o (bytes_of gave.after) (error_bytes gave.error)) e
+  send-drop : (name one : List ℕ) (reason : Reason) (other : List ℕ) → send_text name one ≡ drop_text reason other → ⊥
+  unfolding send_text drop_text
+  send-drop name one reason other e = let same = heads 115 100 _ _ e in omega (arith, same)
 
-  same-by-text : (choice other : ℕ) (o : Outcome) → (step_of net place content choice).outcome ≡ o
+  -- what a member's outcome leaves is what is left of the packet, or the packet is dropped
+  abbrev SentOrDropped : ℕ → Outcome → Content → Content → Type 0
+  SentOrDropped link outcome after left =
+      ((outcome ≡ outcomes.Send link) × (after ≡ left)) ⊎ ((told : Bool) × (outcome ≡ outcomes.Drop reasons.MtuExceeded told))
+
+  taken-gives : (link : ℕ) (outcome : Outcome) (after : Content) (error : Option Packet) (t : Takes net place content link outcome after error)
+      → SentOrDropped link outcome after t.left
+  taken-gives link outcome after error t = by_test (leb_tells (own_len content) (mtu_at net link))
+    where
+      sent : Gave
+      sent = goes (outcomes.Send link) t.left
+
+      by_test : ((nat_le (own_len content) (mtu_at net link) ≡ true) × (own_len content ≤ mtu_at net link))
+          ⊎ ((nat_le (own_len content) (mtu_at net link) ≡ false) × (mtu_at net link < own_len content))
+          → SentOrDropped link outcome after t.left
+      by_test (inl fits) =
+          let same = over_link-fits net place.node content sent link fits.1 in
+          inl (t.gives.0 ∙ ap (λ (g : Gave). g.outcome) same, t.gives.1 ∙ ap (λ (g : Gave). g.after) same)
+      by_test (inr long) =
+          let same = over_link-long net place.node content sent link long.1 in
+          inr (_, t.gives.0 ∙ ap (λ (g : Gave). g.outcome) same)
+
+  -- two outcomes with one line lead on alike
+
+  abbrev text_of : Outcome → Content → Option Packet → List ℕ
+  text_of outcome after error = outcome_text net outcome (bytes_of after) (error_bytes error)
+
+  abbrev leads : ℕ → Outcome → Content → State
+  leads left outcome after = going (next_place net place outcome) after left
+
+  module _ (left : ℕ) (one : Outcome) (after : Content) (error : Option Packet) (other : Outcome) (later : Content)
+      (told : Option Packet) (texts : text_of one after error ≡ text_of other later told)
+      (t : TakenApart net place content one after error other later told) where
+    links-differ : one ≡ outcomes.Send t.one_link → other ≡ outcomes.Send t.other_link → after ≡ later → ⊥
+    links-differ a b same =
+        let here = hops-start net place content t.one_link keeps is t.one_member in
+        let there = hops-start net place content t.other_link keeps is t.other_member in
+        let hex = hex_text (bytes_of after) in
+        let lines : send_text (name_of_link (slice_get net.links t.one_link)) hex
+        ≡ send_text (name_of_link (slice_get net.links t.other_link)) hex =
+        ap (λ (o : Outcome). text_of o after error) (sym a)
+        ∙ (texts ∙ (ap (λ (o : Outcome). text_of o later told) b
+        ∙ ap (λ (c : Content). send_text (name_of_link (slice_get net.links t.other_link)) (hex_text (bytes_of c))) (sym same))) in
+        let names : here.0.name ≡ there.0.name =
+        sym (name-there t.one_link here) ∙ (send-names _ _ hex lines ∙ name-there t.other_link there) in
+        t.apart (keeps.link_name t.one_link t.other_link here.0 there.0 here.1 there.1 names)
+
+    lefts : t.one_taken.left ≡ t.other_taken.left
+    lefts =
+        (free-unique net place content (outcomes.Send t.one_link) t.one_taken.left None (outcomes.Send t.other_link) t.other_taken.left
+        None t.one_taken.would t.other_taken.would).0
+
+    apart-leads : leads left other later ≡ leads left one after
+    apart-leads = by_cases (taken-gives t.one_link one after error t.one_taken) (taken-gives t.other_link other later told t.other_taken)
+      where
+        by_cases : SentOrDropped t.one_link one after t.one_taken.left → SentOrDropped t.other_link other later t.other_taken.left
+            → leads left other later ≡ leads left one after
+        by_cases (inl a) (inl b) = absurd (links-differ a.0 b.0 (a.1 ∙ lefts ∙ sym b.1))
+        by_cases (inl a) (inr b) =
+            absurd (send-drop _ _ reasons.MtuExceeded _
+            (ap (λ (o : Outcome). text_of o after error) (sym a.0) ∙ (texts ∙ ap (λ (o : Outcome). text_of o later told) b.1)))
+        by_cases (inr a) (inl b) =
+            absurd (send-drop _ _ reasons.MtuExceeded _
+            (ap (λ (o : Outcome). text_of o later told) (sym b.0) ∙ (sym texts ∙ ap (λ (o : Outcome). text_of o after error) a.1)))
+        by_cases (inr a) (inr b) =
+            ap (λ (o : Outcome). leads left o later) b.1 ∙ sym (ap (λ (o : Outcome). leads left o after) a.1)
+
+  same-leads : (left choice other : ℕ)
       → stage_text net (step_of net place content choice) ≡ stage_text net (step_of net place content other)
-      → (step_of net place content other).outcome ≡ o
-  same-by-text choice other (outcomes.Send link) e texts =
-      let same = step-same net place content choice other in
-      let sends = (decisions-one (step_of net place content other).outcome).0 (same.decisions_taken ∙ ap decisions e) in
-      let here = link-there choice link e in
-      let there = link-there other sends.0 sends.1 in
-      let hex = hex_text (bytes_of (step_of net place content choice).after) in
-      let lines : send_text (name_of_link (slice_get net.links link)) hex ≡ send_text (name_of_link (slice_get net.links sends.0)) hex =
-      sym (text-of-send choice link e) ∙ (texts ∙ (text-of-send other sends.0 sends.1
-      ∙ ap (λ (a : Content). send_text (name_of_link (slice_get net.links sends.0)) (hex_text (bytes_of a))) same.after)) in
-      let names : here.0.name ≡ there.0.name =
-      sym (name-there link here) ∙ (send-names _ _ hex lines ∙ name-there sends.0 there) in
-      let links : link ≡ sends.0 = keeps.link_name link sends.0 here.0 there.0 here.1 there.1 names in
-      sends.1 ∙ ap outcomes.Send (sym links)
-  same-by-text choice other (outcomes.Again sid how) e texts =
-      let same = step-same net place content choice other in same.outcome (ap decisions e) ∙ e
-  same-by-text choice other (outcomes.Hand sid how family) e texts =
-      let same = step-same net place content choice other in same.outcome (ap decisions e) ∙ e
-  same-by-text choice other outcomes.Local e texts =
-      let same = step-same net place content choice other in same.outcome (ap decisions e) ∙ e
-  same-by-text choice other (outcomes.Drop reason told) e texts =
-      let same = step-same net place content choice other in same.outcome (ap decisions e) ∙ e
+      → let gave = step_of net place content choice in let again = step_of net place content other in
+      leads left again.outcome again.after ≡ leads left gave.outcome gave.after
+  same-leads left choice other texts = by_unique (
+      stage-unique net place content gave.outcome gave.after gave.error again.outcome again.after again.error
+      (stage-step net place content choice keeps is) (stage-step net place content other keeps is))
+    where
+      gave : Gave
+      gave = step_of net place content choice
+
+      again : Gave
+      again = step_of net place content other
+
+      by_unique : ((gave.outcome ≡ again.outcome) × ((gave.after ≡ again.after) × (gave.error ≡ again.error)))
+          ⊎ TakenApart net place content gave.outcome gave.after gave.error again.outcome again.after again.error
+          → leads left again.outcome again.after ≡ leads left gave.outcome gave.after
+      by_unique (inl same) =
+          ap (λ (o : Outcome). leads left o again.after) (sym same.0) ∙ ap (leads left gave.outcome) (sym same.1.0)
+      by_unique (inr apart) =
+          apart-leads left gave.outcome gave.after gave.error again.outcome again.after again.error texts apart
 
   -- so the line of what a choice gives leads on as that does
   pub line-leads : (choice left : ℕ) → let gave = step_of net place content choice in
@@ -166,11 +201,7 @@ module _ (net : Network) (place : Place) (content : Content) (keeps : Keeps net)
       let gave = step_of net place content choice in
       let found = given-found (stage_text net gave) choice refl in
       let texts = given-line (stage_text net gave) found.0 found.1 in
-      let same = step-same net place content choice found.0 in
-      let outcome = same-by-text choice found.0 gave.outcome refl texts in
-      ap (by_choice net place content left) found.1
-      ∙ (ap (λ (o : Outcome). Ok (going (next_place net place o) (step_of net place content found.0).after left)) outcome
-      ∙ ap (λ (a : Content). Ok (going (next_place net place gave.outcome) a left)) same.after)
+      ap (by_choice net place content left) found.1 ∙ ap Ok (same-leads left choice found.0 texts)
 
   -- a choice gives a line exactly where the line is that of an outcome, and of what a choice gives
 

@@ -99,6 +99,7 @@ reason-told reasons.UpperLayer = (refl, refl)
 reason-told reasons.Ttl = (refl, refl)
 reason-told reasons.TooBig = (refl, refl)
 reason-told reasons.InnerHop = (refl, refl)
+reason-told reasons.MtuExceeded = (refl, refl)
 
 -- ---- lines of outcomes
 

@@ -3,14 +3,14 @@ use Rattle.std.proofs.Common.{◌≡◌, ℕ, ◌^◌, ◌<◌, ◌≤◌, Bool,
 use Rattle.std.proofs.lemmas.List.Elements.{All-append, All-cons, All-nil, All-take}
 use Rattle.std.proofs.lemmas.Option.{same_Some}
 use Rattle.srv6_rules.specs.declared.icmp.IcmpKind.{IcmpKind}
-use Rattle.srv6_rules.specs.declared.icmp.IcmpKind.TheVariants.{Unreachable, TimeExceeded, Parameter}
+use Rattle.srv6_rules.specs.declared.icmp.IcmpKind.TheVariants.{Unreachable, PacketTooBig, TimeExceeded, Parameter}
 use Rattle.srv6_rules.specs.declared.numbers.TheConstants.{MAX_QUOTE_LEN}
 use Rattle.srv6_rules.specs.declared.sid.Behaviour.{Behaviour}
 use Rattle.srv6_rules.specs.declared.sid.Reason.{Reason}
 use Rattle.srv6_rules.specs.declared.sid.Reason.TheVariants as reasons
 use Rattle.srv6_rules.specs.Behaviours.{behaviour_table, behaviour_takes_links}
 use Rattle.srv6_rules.specs.Endpoint.{Delivered, Endpoint, Exposed, Onward, Refused, at_address, at_sid}
-use Rattle.srv6_rules.specs.Errors.{code_of, error_about, error_checksum, error_packet, is_unanswered, kind_of, message_head, pointer_of, quote_of, type_of}
+use Rattle.srv6_rules.specs.Errors.{code_of, error_about, error_checksum, error_packet, is_unanswered, kind_of, message_head, last_word_of, quote_of, type_of}
 use Rattle.srv6_rules.specs.Packet.{Content, IsContent, IsSpellable, Packet, Unreadable, V4, V6, address_bytes, first_word, four_bytes, header_spelling, spelling, two_bytes}
 use Rattle.srv6_rules.specs.Packet4.{destination4}
 use Rattle.srv6_rules.proofs.PublicLaws.{all-address_bytes, all-four_bytes, all-spelling, all-two_bytes}
@@ -20,10 +20,10 @@ use Rattle.net_model.specs.Network.{Network}
 use Rattle.walk_rules.specs.declared.place.How.{How}
 use Rattle.walk_rules.specs.declared.place.How.TheVariants.{Arrived, Submitted, Through}
 use Rattle.walk_rules.specs.declared.place.Place.{Place}
-use Rattle.walk_rules.specs.Treatment.{Gave, allow_of, dropped, error_by, error_from, error_of, exposed_from, onward_from, step_of, treated_at_address, treated_at_sid, way_on}
+use Rattle.walk_rules.specs.Treatment.{Gave, allow_of, dropped, error_by, error_from, error_of, exposed_from, free_step_of, mtu_at, onward_from, step_of, treated_at_address, treated_at_sid, way_on}
 use Rattle.walk_rules.specs.Way.{way_of}
 use Rattle.walk_rules.proofs.Outcomes.{treated-each, treated4-each}
-use Rattle.walk_rules.proofs.PublicLaws.{onward-each}
+use Rattle.walk_rules.proofs.PublicLaws.{onward-each, step-each}
 
 -- ---- the bytes of an error
 
@@ -58,18 +58,20 @@ code-fits reasons.UpperLayer at kind e = code-along (Parameter 4 at) kind (lit< 
 code-fits reasons.Ttl at kind e = cc
 code-fits reasons.TooBig at kind e = cc
 code-fits reasons.InnerHop at kind e = cc
+code-fits reasons.MtuExceeded at kind e = code-along (PacketTooBig at) kind (lit< tt) e
 
 type-below : (kind : IcmpKind) → type_of kind < 2 ^ 8
 type-below Unreachable = lit< tt
+type-below (PacketTooBig mtu) = lit< tt
 type-below TimeExceeded = lit< tt
 type-below (Parameter code at) = lit< tt
 
 message-bytes : (p : Packet) (kind : IcmpKind) (checksum : ℕ) → IsSpellable p → code_of kind < 2 ^ 8
     → All (λ b. b < 2 ^ 8) (message_head kind checksum ++ quote_of p)
 message-bytes p kind checksum h fits =
-    let numbers = All-append Byte (two_bytes checksum) (four_bytes (pointer_of kind)) (all-two_bytes checksum)
-    (all-four_bytes (pointer_of kind)) in
-    let tail : List ℕ = two_bytes checksum ++ four_bytes (pointer_of kind) in
+    let numbers = All-append Byte (two_bytes checksum) (four_bytes (last_word_of kind)) (all-two_bytes checksum)
+    (all-four_bytes (last_word_of kind)) in
+    let tail : List ℕ = two_bytes checksum ++ four_bytes (last_word_of kind) in
     let head = All-cons Byte (type_of kind) (code_of kind ∷ tail) (type-below kind) (All-cons Byte (code_of kind) tail fits numbers) in
     All-append Byte (message_head kind checksum) (quote_of p) head (All-take Byte MAX_QUOTE_LEN (spelling p) (all-spelling p h))
 
@@ -133,10 +135,10 @@ endpoint-bytes net node n b p (Exposed family bytes) h = All-nil Byte
 endpoint-bytes net node n b p (Delivered q) h = All-nil Byte
 endpoint-bytes net node n b p (Refused reason at) h = dropped-bytes net node reason at (V6 p) h
 
-pub step-bytes : (net : Network) (place : Place) (content : Content) (choice : ℕ) → IsContent content
-    → ErrorIsBytes (step_of net place content choice).error
-step-bytes net place (Unreadable bytes reason) choice h = dropped-bytes net place.node reason 0 (Unreadable bytes reason) h
-step-bytes net place (V6 p) choice h =
+free-bytes : (net : Network) (place : Place) (content : Content) (choice : ℕ) → IsContent content
+    → ErrorIsBytes (free_step_of net place content choice).error
+free-bytes net place (Unreadable bytes reason) choice h = dropped-bytes net place.node reason 0 (Unreadable bytes reason) h
+free-bytes net place (V6 p) choice h =
     treated-each GaveBytes net place.node (way_of net place p.destination) p choice
     (record {
       drop = λ reason at. dropped-bytes net place.node reason at (V6 p) h;
@@ -145,9 +147,15 @@ step-bytes net place (V6 p) choice h =
       sid = λ n s e there.
           endpoint-bytes net place.node n s.behaviour p (at_sid s (allow_of (slice_get net.nodes place.node)) p) h;
     })
-step-bytes net place (V4 p) choice h =
+free-bytes net place (V4 p) choice h =
     treated4-each GaveBytes net place.node (way_of net place (destination4 p)) p choice
     (record { drop = λ reason. dropped-bytes net place.node reason 0 (V4 p) h; send = λ set lower e. All-nil Byte })
+
+pub step-bytes : (net : Network) (place : Place) (content : Content) (choice : ℕ) → IsContent content
+    → ErrorIsBytes (step_of net place content choice).error
+step-bytes net place content choice h =
+    step-each net place content choice GaveBytes (free-bytes net place content choice h)
+    (λ link e long. dropped-bytes net place.node reasons.MtuExceeded (mtu_at net link) content h)
 
 -- ---- the table that a packet goes by
 

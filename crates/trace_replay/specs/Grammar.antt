@@ -65,16 +65,23 @@ family_read word =
 abbrev pub is_prefix : List ℕ → Bool
 is_prefix word = is_some (prefix_of_text word)
 
--- the reasons for a drop
-abbrev pub reasons_of_drops : List Reason
-reasons_of_drops =
-    reasons.Truncated ∷ reasons.BadVersion ∷ reasons.Multicast ∷ reasons.NoRoute ∷ reasons.HopLimit ∷ reasons.BadChain
-    ∷ reasons.LateHopByHop ∷ reasons.OptionDiscard ∷ reasons.OptionUnknown ∷ reasons.Fragment ∷ reasons.BadSegments
-    ∷ reasons.HmacTlv ∷ reasons.BadTlv ∷ reasons.UnknownRouting ∷ reasons.UpperLayer ∷ reasons.Ttl ∷ reasons.TooBig
-    ∷ reasons.InnerHop ∷ []
+-- the reasons for a drop: of what is found in a packet's headers, and the others
+abbrev pub reasons_of_headers : List Reason
+reasons_of_headers =
+    reasons.BadChain ∷ reasons.LateHopByHop ∷ reasons.OptionDiscard ∷ reasons.OptionUnknown ∷ reasons.Fragment
+    ∷ reasons.BadSegments ∷ reasons.HmacTlv ∷ reasons.BadTlv ∷ reasons.UnknownRouting ∷ reasons.UpperLayer ∷ []
+
+abbrev pub other_reasons : List Reason
+other_reasons =
+    reasons.Truncated ∷ reasons.BadVersion ∷ reasons.Multicast ∷ reasons.NoRoute ∷ reasons.HopLimit ∷ reasons.Ttl
+    ∷ reasons.TooBig ∷ reasons.InnerHop ∷ reasons.MtuExceeded ∷ []
+
+-- a word is the name of one of some reasons
+abbrev pub names_one : List Reason → List ℕ → Bool
+names_one some word = list_any (λ reason. bytes_eq word (reason_name reason)) some
 
 abbrev pub is_reason : List ℕ → Bool
-is_reason word = list_any (λ reason. bytes_eq word (reason_name reason)) reasons_of_drops
+is_reason word = names_one reasons_of_headers word || names_one other_reasons word
 
 -- whether words are a stage's line, by how many they are
 abbrev pub is_stage : List (List ℕ) → Bool

@@ -5,5 +5,5 @@ pub mod Lines
 pub mod Numbered
 pub mod Reading
 pub mod Replays
-pub mod Under
+pub mod Judged
 pub mod Written

@@ -1,18 +1,17 @@
 //! The line of a stage, judged.
 
-ghost use Rattle.std.specs.Prelude.{◌≡◌, ◌<◌, IfOk, length, max, string_bytes};
-ghost use Rattle.std.specs.List.{find, range_with_len};
+ghost use Rattle.std.specs.Prelude.{◌≡◌, ◌<◌, IfOk, length, max};
+ghost use Rattle.walk_rules.specs.Laws.{hops_at};
 ghost use Rattle.walk_rules.specs.Relation.{IsPlace};
-ghost use Rattle.trace_replay.specs.Lines.{outcome_text};
-ghost use Rattle.trace_replay.specs.Numbered.{AreLinks, IsNumbered};
-ghost use Rattle.trace_replay.specs.Under.{JudgesStage, MayTake, is_under, under};
+ghost use Rattle.trace_replay.specs.Judged.{IsFound, IsGiven, JudgesStage};
+ghost use Rattle.trace_replay.specs.Replays.{choices_at};
 
 use crate::print::text_of_outcome;
 use base::NoMemory;
 use icmp6_errors::IcmpSlot;
 use net_model::Net;
 use node_stage::{Content, next_hops, stage};
-use std::alloc::{AllocError, Global};
+use std::alloc::Global;
 use walk_rules::{Outcome, Place};
 
 /// The judgement of a stage's line.
@@ -30,64 +29,120 @@ pub(crate) enum LineVerdict {
     },
 }
 
-/// An outcome under a choice among equal next hops: a Send is on the member that the choice names.
-fn outcome_under(outcome: &Outcome, hops: &[u32], choice: usize) -> Outcome
-    requires { MayTake outcome.now hops.now choice }
-    ensures { result ≡ under outcome.now hops.now choice }
-{
-    match outcome {
-        Outcome::Send { .. } => Outcome::Send { link: hops[choice] },
-        Outcome::Again { .. } | Outcome::Hand { .. } | Outcome::Local | Outcome::Drop { .. } => {
-            *outcome
-        }
-    }
+/// What a choice gives, with its line.
+#[derive(Debug, Drop)]
+pub(crate) struct GivenLine {
+    /// The outcome.
+    pub(crate) outcome: Outcome,
+    /// The line.
+    pub(crate) text: String,
 }
 
-/// The line of an outcome under a choice.
-fn text_under(
-    alloc: Global,
-    net: &Net,
-    hops: &[u32],
-    outcome: &Outcome,
-    packet: &[u8],
-    error: &[u8],
-    choice: usize,
-) -> Result<String, AllocError>
-    requires numbered { IsNumbered net.now outcome.now }
-    requires links { AreLinks net.now hops.now }
-    requires member { MayTake outcome.now hops.now choice }
-    ensures { IfOk result (λ text. string_bytes text
-        ≡ outcome_text net.now (under outcome.now hops.now choice) packet.now error.now) }
-{
-    let outcome = outcome_under(outcome, hops, choice);
-    text_of_outcome(alloc, net, &outcome, packet, error)
+/// What a choice gives.
+#[derive(Debug, Drop)]
+pub(crate) struct Given {
+    /// The outcome.
+    pub(crate) outcome: Outcome,
+    /// What stands there afterwards.
+    pub(crate) after: Content,
 }
 
-/// The first choice under which an outcome has a line.
-fn choice_among(
+/// What a choice gives at a place, with its line; what stands there afterwards takes its place.
+fn given_line(
     alloc: Global,
     net: &Net,
-    hops: &[u32],
-    outcome: &Outcome,
-    packet: &[u8],
-    error: &[u8],
+    place: &Place,
+    content: &mut Content,
+    choice: u32,
+) -> Result<GivenLine, NoMemory>
+    requires { IsPlace net.now place.now }
+    ensures { IfOk result (λ given.
+        IsGiven net.now place.now content.old choice given content.new) }
+{
+    net.keeps_rules();
+    let mut slot = IcmpSlot::new();
+    let outcome = stage(alloc, net, place, content, choice, &mut slot)?;
+    let text = text_of_outcome(alloc, net, &outcome, content.bytes(), slot.as_slice())?;
+    Ok(GivenLine { outcome, text })
+}
+
+/// What the first choice that gives a line gives, if one does. Each choice has a copy, since of two
+/// members one may carry a packet that is too long for the other.
+fn given_among(
+    alloc: Global,
+    net: &Net,
+    place: &Place,
+    content: &Content,
+    choices: u32,
     line: &[u8],
-) -> Result<Option<usize>, AllocError>
-    requires numbered { IsNumbered net.now outcome.now }
-    requires links { AreLinks net.now hops.now }
-    requires some { MayTake outcome.now hops.now 0 }
-    ensures { IfOk result (λ choice. choice
-        ≡ find (is_under net.now hops.now outcome.now packet.now error.now line.now)
-        (range_with_len 0 (max 1 (length hops.now)))) }
+) -> Result<Option<Given>, NoMemory>
+    requires place { IsPlace net.now place.now }
+    requires all { choices ≡ choices_at net.now place.now content.now }
+    ensures { IfOk result (λ found. IsFound net.now place.now content.now line.now found) }
 {
-    let choices = hops.len().max(1);
     for choice in 0..choices {
-        let text = text_under(alloc, net, hops, outcome, packet, error, choice)?;
-        if line == text.as_bytes() {
-            return Ok(Some(choice));
+        let mut copy = content.copy(alloc)?;
+        let given = given_line(alloc, net, place, &mut copy, choice)?;
+        if line == given.text.as_bytes() {
+            return Ok(Some(Given {
+                outcome: given.outcome,
+                after: copy,
+            }));
         }
     }
     Ok(None)
+}
+
+/// Judges a line as that of the one stage that there is at a place.
+fn judge_one(
+    alloc: Global,
+    net: &Net,
+    place: &Place,
+    content: &mut Content,
+    line: &[u8],
+) -> Result<LineVerdict, NoMemory>
+    requires place { IsPlace net.now place.now }
+    requires one { choices_at net.now place.now content.old ≡ 1 }
+    ensures { IfOk result (λ judged.
+        JudgesStage net.now place.now content.old line.now judged content.new) }
+{
+    let given = given_line(alloc, net, place, content, 0)?;
+    if line == given.text.as_bytes() {
+        return Ok(LineVerdict::Right {
+            outcome: given.outcome,
+        });
+    }
+    Ok(LineVerdict::Wrong {
+        expected: given.text,
+    })
+}
+
+/// Judges a line as that of one of the stages that there are at a place, one for each choice.
+fn judge_many(
+    alloc: Global,
+    net: &Net,
+    place: &Place,
+    content: &mut Content,
+    choices: u32,
+    line: &[u8],
+) -> Result<LineVerdict, NoMemory>
+    requires place { IsPlace net.now place.now }
+    requires all { choices ≡ choices_at net.now place.now content.old }
+    ensures { IfOk result (λ judged.
+        JudgesStage net.now place.now content.old line.now judged content.new) }
+{
+    match given_among(alloc, net, place, content, choices, line)? {
+        Some(Given { outcome, after }) => {
+            *content = after;
+            Ok(LineVerdict::Right { outcome })
+        }
+        None => {
+            let given = given_line(alloc, net, place, content, 0)?;
+            Ok(LineVerdict::Wrong {
+                expected: given.text,
+            })
+        }
+    }
 }
 
 /// Judges a line as that of the stage at a place; what stands there afterwards takes its place.
@@ -105,16 +160,10 @@ pub(crate) fn judge_stage(
 {
     net.keeps_rules();
     let hops = next_hops(net, place, content);
-    let mut slot = IcmpSlot::new();
-    let outcome = stage(alloc, net, place, content, 0, &mut slot)?;
-    let packet = content.bytes();
-    let error = slot.as_slice();
-    match choice_among(alloc, net, hops, &outcome, packet, error, line)? {
-        Some(choice) => Ok(LineVerdict::Right {
-            outcome: outcome_under(&outcome, hops, choice),
-        }),
-        None => Ok(LineVerdict::Wrong {
-            expected: text_of_outcome(alloc, net, &outcome, packet, error)?,
-        }),
+    if hops.len() <= 1 {
+        judge_one(alloc, net, place, content, line)
+    } else {
+        let choices = hops.len() as u32;
+        judge_many(alloc, net, place, content, choices, line)
     }
 }

@@ -2,7 +2,7 @@
 
 ghost use Rattle.std.specs.Prelude.{◌≡◌, IfOk};
 ghost use Rattle.std.specs.List.{list_all};
-ghost use Rattle.trace_replay.specs.Grammar.{family_read, hex_read, is_digits, is_hex, is_lower_digit, is_prefix, is_reason, items_of};
+ghost use Rattle.trace_replay.specs.Grammar.{family_read, hex_read, is_digits, is_hex, is_lower_digit, is_prefix, is_reason, items_of, names_one, other_reasons, reasons_of_headers};
 
 use base::NoMemory;
 use hex::FromHexError;
@@ -78,17 +78,12 @@ pub(crate) fn is_prefix(word: &str) -> bool
     parse_prefix(word.as_bytes()).is_ok()
 }
 
-/// Whether a word is the name of a reason for a drop.
+/// Whether a word is the name of a reason that is found in a packet's headers.
 #[tactic(auto, unfolding(srv6_rules::specs::Reasons::reason_name))]
-pub(crate) fn is_reason(word: &str) -> bool
-    ensures { result ≡ is_reason word.now }
+fn is_reason_of_headers(word: &str) -> bool
+    ensures { result ≡ names_one reasons_of_headers word.now }
 {
-    word == "Truncated"
-        || word == "BadVersion"
-        || word == "Multicast"
-        || word == "NoRoute"
-        || word == "HopLimit"
-        || word == "BadChain"
+    word == "BadChain"
         || word == "LateHopByHop"
         || word == "OptionDiscard"
         || word == "OptionUnknown"
@@ -98,7 +93,27 @@ pub(crate) fn is_reason(word: &str) -> bool
         || word == "BadTlv"
         || word == "UnknownRouting"
         || word == "UpperLayer"
+}
+
+/// Whether a word is the name of another reason.
+#[tactic(auto, unfolding(srv6_rules::specs::Reasons::reason_name))]
+fn is_other_reason(word: &str) -> bool
+    ensures { result ≡ names_one other_reasons word.now }
+{
+    word == "Truncated"
+        || word == "BadVersion"
+        || word == "Multicast"
+        || word == "NoRoute"
+        || word == "HopLimit"
         || word == "Ttl"
         || word == "TooBig"
         || word == "InnerHop"
+        || word == "MtuExceeded"
+}
+
+/// Whether a word is the name of a reason for a drop.
+pub(crate) fn is_reason(word: &str) -> bool
+    ensures { result ≡ is_reason word.now }
+{
+    is_reason_of_headers(word) || is_other_reason(word)
 }

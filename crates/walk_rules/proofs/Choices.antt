@@ -1,5 +1,6 @@
 -- What a stage has in common at all choices.
-use Rattle.std.proofs.Common.{◌≡◌, ◌≢◌, ℕ, ◌⊎◌, inl, ◌↔◌, List, [], Option, slice_get, refl, sym, ◌∙◌, ap, arith}
+use Rattle.std.proofs.Common.{◌≡◌, ◌≢◌, ℕ, ◌⊎◌, inl, inr, ◌↔◌, Bool, true, false, nat_le, ◌&&◌, if◌then◌else◌, List, [], Option, slice_get, refl, sym, ◌∙◌, ap, arith}
+use Rattle.srv6_rules.specs.declared.sid.Reason.{Reason}
 use Rattle.srv6_rules.specs.declared.sid.Reason.TheVariants as reasons
 use Rattle.srv6_rules.specs.Packet.{Packet, Content, V6, V4, Unreadable}
 use Rattle.srv6_rules.specs.Packet4.{Packet4, ttl, destination4}
@@ -9,11 +10,11 @@ use Rattle.walk_rules.specs.declared.place.Place.{Place}
 use Rattle.walk_rules.specs.declared.place.Outcome.{Outcome}
 use Rattle.walk_rules.specs.declared.place.Outcome.TheVariants as outcomes
 use Rattle.walk_rules.specs.Way.{Way, Away, Over, Own, Into, way_of}
-use Rattle.walk_rules.specs.Treatment.{Gave, lowered, ttl_lowered, treated_at_address, treated_in, treated, treated4, step_of}
-use Rattle.walk_rules.specs.Relation.{GivesOutcome, Treats, Treats4, IsStage}
-use Rattle.walk_rules.specs.Walk.{decisions}
-use Rattle.walk_rules.specs.Laws.{set_of, hops_at, SendsApart, DifferAtMostInLink}
-use Rattle.walk_rules.proofs.Sending.{Agree, drops-agree, sends-by, sends4-by, sends_by-unique, sent_by-same}
+use Rattle.walk_rules.specs.Treatment.{Gave, dropped, goes, member_of, lowered, ttl_lowered, treated_at_address, treated_in, treated, treated4, free_step_of}
+use Rattle.walk_rules.specs.Relation.{GivesOutcome, Treats, Treats4, IsFreeStage}
+use Rattle.walk_rules.specs.Walk.{takes_member, decisions}
+use Rattle.walk_rules.specs.Laws.{set_of, hops_at, SendsApart}
+use Rattle.walk_rules.proofs.Sending.{Agree, drops-agree, sends-by, sends4-by, sends_by-unique}
 
 gives-agree : (set : List ℕ) (gave : Gave) (one : Outcome) (after : Content) (error : Option Packet) (other : Outcome)
     → (later : Content) (told : Option Packet) → GivesOutcome gave one after error → GivesOutcome gave other later told
@@ -52,7 +53,7 @@ module _ (net : Network) (node : ℕ) where
 
 stage-agrees : (net : Network) (place : Place) (content : Content) (one : Outcome) (after : Content) (error : Option Packet)
     → (other : Outcome) (later : Content) (told : Option Packet)
-    → IsStage net place content one after error → IsStage net place content other later told
+    → IsFreeStage net place content one after error → IsFreeStage net place content other later told
     → Agree (hops_at net place content) one after error other later told
 stage-agrees net place (Unreadable bytes reason) one after error other later told h g =
     drops-agree net place.node [] reason 0 (Unreadable bytes reason) one after error other later told h g
@@ -62,53 +63,97 @@ stage-agrees net place (V4 p) one after error other later told h g =
     treats4-unique net place.node (way_of net place (destination4 p)) p one after error other later told h g
 
 -- a stage has several outcomes only where a set of equal next hops has several members
-pub stage-unique : (net : Network) (place : Place) (content : Content) (one : Outcome) (after : Content) (error : Option Packet)
+pub free-unique : (net : Network) (place : Place) (content : Content) (one : Outcome) (after : Content) (error : Option Packet)
     → (other : Outcome) (later : Content) (told : Option Packet)
-    → IsStage net place content one after error → IsStage net place content other later told
+    → IsFreeStage net place content one after error → IsFreeStage net place content other later told
     → (after ≡ later) × (error ≡ told) × ((one ≡ other) ⊎ SendsApart (hops_at net place content) one other)
-stage-unique net place content one after error other later told h g =
+free-unique net place content one after error other later told h g =
     let a = stage-agrees net place content one after error other later told h g in (a.same_after, a.same_error, a.apart)
 
-treated-same : (net : Network) (node : ℕ) (w : Way) (p : Packet) (choice other : ℕ)
-    → DifferAtMostInLink (treated net node w p choice) (treated net node w p other)
-treated-same net node (Away reason) p choice other =
-    record { after = refl; error = refl; decisions_taken = refl; outcome = λ h. refl }
-treated-same net node (Over set lower) p choice other =
-    sent_by-same net node set p.hop_limit reasons.HopLimit (V6 p) (V6 (lowered lower p)) lower choice other
-treated-same net node Own p choice other = record { after = refl; error = refl; decisions_taken = refl; outcome = λ h. refl }
-treated-same net node (Into n) p choice other = record { after = refl; error = refl; decisions_taken = refl; outcome = λ h. refl }
+-- choices that name one member give one answer
+treated-named : (net : Network) (node : ℕ) (w : Way) (p : Packet) (choice other : ℕ)
+    → member_of (set_of w) choice ≡ member_of (set_of w) other → treated net node w p choice ≡ treated net node w p other
+treated-named net node (Away reason) p choice other same = refl
+treated-named net node (Over set lower) p choice other same =
+    ap (λ m. if lower && nat_le p.hop_limit 1 then dropped net node reasons.HopLimit 0 (V6 p)
+    else goes (outcomes.Send m) (V6 (lowered lower p))) same
+treated-named net node Own p choice other same = refl
+treated-named net node (Into n) p choice other same = refl
 
-treated4-same : (net : Network) (node : ℕ) (w : Way) (p : Packet4) (choice other : ℕ)
-    → DifferAtMostInLink (treated4 net node w p choice) (treated4 net node w p other)
-treated4-same net node (Away reason) p choice other =
-    record { after = refl; error = refl; decisions_taken = refl; outcome = λ h. refl }
-treated4-same net node (Over set lower) p choice other =
-    sent_by-same net node set (ttl p) reasons.Ttl (V4 p) (V4 (ttl_lowered lower p)) lower choice other
-treated4-same net node Own p choice other = record { after = refl; error = refl; decisions_taken = refl; outcome = λ h. refl }
-treated4-same net node (Into n) p choice other = record { after = refl; error = refl; decisions_taken = refl; outcome = λ h. refl }
+treated4-named : (net : Network) (node : ℕ) (w : Way) (p : Packet4) (choice other : ℕ)
+    → member_of (set_of w) choice ≡ member_of (set_of w) other → treated4 net node w p choice ≡ treated4 net node w p other
+treated4-named net node (Away reason) p choice other same = refl
+treated4-named net node (Over set lower) p choice other same =
+    ap (λ m. if lower && nat_le (ttl p) 1 then dropped net node reasons.Ttl 0 (V4 p)
+    else goes (outcomes.Send m) (V4 (ttl_lowered lower p))) same
+treated4-named net node Own p choice other same = refl
+treated4-named net node (Into n) p choice other same = refl
 
--- the choice tells at most the link on which a stage sends
-pub step-same : (net : Network) (place : Place) (content : Content) (choice other : ℕ)
-    → DifferAtMostInLink (step_of net place content choice) (step_of net place content other)
-step-same net place (Unreadable bytes reason) choice other =
-    record { after = refl; error = refl; decisions_taken = refl; outcome = λ h. refl }
-step-same net place (V6 p) choice other = treated-same net place.node (way_of net place p.destination) p choice other
-step-same net place (V4 p) choice other = treated4-same net place.node (way_of net place (destination4 p)) p choice other
+pub free-named : (net : Network) (place : Place) (content : Content) (choice other : ℕ)
+    → member_of (hops_at net place content) choice ≡ member_of (hops_at net place content) other
+    → free_step_of net place content choice ≡ free_step_of net place content other
+free-named net place (Unreadable bytes reason) choice other same = refl
+free-named net place (V6 p) choice other same = treated-named net place.node (way_of net place p.destination) p choice other same
+free-named net place (V4 p) choice other same = treated4-named net place.node (way_of net place (destination4 p)) p choice other same
 
--- a Send is the one decision
-pub decisions-one : (outcome : Outcome) → (decisions outcome ≡ 1) ↔ ((link : ℕ) × (outcome ≡ outcomes.Send link))
-decisions-one outcome = (takes outcome, λ h. ap decisions h.1)
+-- a member that is taken is the one decision
+member-taken : (reason : Reason) → takes_member reason ≡ true → reason ≡ reasons.MtuExceeded
+member-taken reasons.Truncated e = cc
+member-taken reasons.BadVersion e = cc
+member-taken reasons.Multicast e = cc
+member-taken reasons.NoRoute e = cc
+member-taken reasons.HopLimit e = cc
+member-taken reasons.BadChain e = cc
+member-taken reasons.LateHopByHop e = cc
+member-taken reasons.OptionDiscard e = cc
+member-taken reasons.OptionUnknown e = cc
+member-taken reasons.Fragment e = cc
+member-taken reasons.BadSegments e = cc
+member-taken reasons.HmacTlv e = cc
+member-taken reasons.BadTlv e = cc
+member-taken reasons.UnknownRouting e = cc
+member-taken reasons.UpperLayer e = cc
+member-taken reasons.Ttl e = cc
+member-taken reasons.TooBig e = cc
+member-taken reasons.InnerHop e = cc
+member-taken reasons.MtuExceeded e = refl
+
+-- how many decisions a drop takes, by whether it takes a member
+abbrev taken_by : Bool → ℕ
+taken_by b = if b then 1 else 0
+
+one-taken : (b : Bool) → taken_by b ≡ 1 → b ≡ true
+one-taken true e = refl
+one-taken false e = absurd (omega (arith, e))
+
+none-taken : (b : Bool) → b ≢ true → taken_by b ≡ 0
+none-taken true e = absurd (e refl)
+none-taken false e = refl
+
+pub decisions-one : (outcome : Outcome)
+    → (decisions outcome ≡ 1)
+    ↔ (((link : ℕ) × (outcome ≡ outcomes.Send link)) ⊎ ((told : Bool) × (outcome ≡ outcomes.Drop reasons.MtuExceeded told)))
+decisions-one outcome = (takes outcome, taken)
   where
-    takes : (o : Outcome) → decisions o ≡ 1 → (link : ℕ) × (o ≡ outcomes.Send link)
-    takes (outcomes.Send link) h = (link, refl)
+    takes : (o : Outcome) → decisions o ≡ 1
+        → ((link : ℕ) × (o ≡ outcomes.Send link)) ⊎ ((told : Bool) × (o ≡ outcomes.Drop reasons.MtuExceeded told))
+    takes (outcomes.Send link) h = inl (link, refl)
     takes (outcomes.Again n how) h = absurd (omega (arith, h))
     takes (outcomes.Hand n how family) h = absurd (omega (arith, h))
     takes outcomes.Local h = absurd (omega (arith, h))
-    takes (outcomes.Drop reason error) h = absurd (omega (arith, h))
+    takes (outcomes.Drop reason told) h =
+        inr (told, ap (λ r. outcomes.Drop r told) (member-taken reason (one-taken (takes_member reason) h)))
 
-pub decisions-zero : (outcome : Outcome) → ((link : ℕ) → outcome ≢ outcomes.Send link) → decisions outcome ≡ 0
-decisions-zero (outcomes.Send link) h = absurd (h link refl)
-decisions-zero (outcomes.Again n how) h = refl
-decisions-zero (outcomes.Hand n how family) h = refl
-decisions-zero outcomes.Local h = refl
-decisions-zero (outcomes.Drop reason error) h = refl
+    taken : ((link : ℕ) × (outcome ≡ outcomes.Send link)) ⊎ ((told : Bool) × (outcome ≡ outcomes.Drop reasons.MtuExceeded told))
+        → decisions outcome ≡ 1
+    taken (inl sent) = ap decisions sent.1
+    taken (inr dropped) = ap decisions dropped.1
+
+pub decisions-zero : (outcome : Outcome) → ((link : ℕ) → outcome ≢ outcomes.Send link)
+    → ((told : Bool) → outcome ≢ outcomes.Drop reasons.MtuExceeded told) → decisions outcome ≡ 0
+decisions-zero (outcomes.Send link) h g = absurd (h link refl)
+decisions-zero (outcomes.Again n how) h g = refl
+decisions-zero (outcomes.Hand n how family) h g = refl
+decisions-zero outcomes.Local h g = refl
+decisions-zero (outcomes.Drop reason told) h g =
+    none-taken (takes_member reason) (λ e. g told (ap (λ r. outcomes.Drop r told) (member-taken reason e)))

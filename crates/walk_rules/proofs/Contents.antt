@@ -16,7 +16,7 @@ use Rattle.walk_rules.specs.declared.place.Place.{Place}
 use Rattle.walk_rules.specs.declared.place.Outcome.{Outcome}
 use Rattle.walk_rules.specs.declared.place.Outcome.TheVariants as outcomes
 use Rattle.walk_rules.specs.Way.{way_of}
-use Rattle.walk_rules.specs.Treatment.{Gave, lowered, ttl_lowered, treated_at_address, treated_at_sid, step_of, allow_of}
+use Rattle.walk_rules.specs.Treatment.{Gave, lowered, ttl_lowered, treated_at_address, treated_at_sid, free_step_of, allow_of}
 use Rattle.walk_rules.specs.Walk.{far_end, arrival, next_place}
 use Rattle.walk_rules.specs.Laws.{family_after}
 use Rattle.walk_rules.proofs.Binding.{outer_of, onward-each}
@@ -82,9 +82,9 @@ endpoint-back net place n s allow p (Delivered q) keeps suits ok same =
     packet-back place.family q (at_sid-delivered_spellable s allow p q ok same)
 endpoint-back net place n s allow p (Refused reason at) keeps suits ok same = packet-back place.family p ok
 
-step-packet : (net : Network) (place : Place) (p : Packet) (choice : ℕ) → Keeps net → IsSpellable p
-    → GaveBack place families.V6 (step_of net place (V6 p) choice)
-step-packet net place p choice keeps ok =
+free-packet : (net : Network) (place : Place) (p : Packet) (choice : ℕ) → Keeps net → IsSpellable p
+    → GaveBack place families.V6 (free_step_of net place (V6 p) choice)
+free-packet net place p choice keeps ok =
     let allow : List ℕ = allow_of (slice_get net.nodes place.node) in
     treated-each (GaveBack place families.V6) net place.node (way_of net place p.destination) p choice
     (record {
@@ -94,9 +94,9 @@ step-packet net place p choice keeps ok =
       sid = λ n s into there. endpoint-back net place n s allow p (at_sid s allow p) keeps (sid-suits net n s keeps there) ok refl;
     })
 
-step-packet4 : (net : Network) (place : Place) (p : Packet4) (choice : ℕ) → IsSpellable4 p
-    → GaveBack place families.V4 (step_of net place (V4 p) choice)
-step-packet4 net place p choice ok =
+free-packet4 : (net : Network) (place : Place) (p : Packet4) (choice : ℕ) → IsSpellable4 p
+    → GaveBack place families.V4 (free_step_of net place (V4 p) choice)
+free-packet4 net place p choice ok =
     treated4-each (GaveBack place families.V4) net place.node (way_of net place (destination4 p)) p choice
     (record {
       drop = λ reason. packet4-back place.family p ok;
@@ -104,21 +104,21 @@ step-packet4 net place p choice ok =
     })
 
 -- what stands there stays a content that bytes can spell
-pub step-content : (net : Network) (place : Place) (content : Content) (choice : ℕ) → Keeps net → IsContent content
-    → IsContent (step_of net place content choice).after
-step-content net place (Unreadable bytes reason) choice keeps is = is
-step-content net place (V6 p) choice keeps is = (step-packet net place p choice keeps is).0
-step-content net place (V4 p) choice keeps is = (step-packet4 net place p choice is).0
+pub free-content : (net : Network) (place : Place) (content : Content) (choice : ℕ) → Keeps net → IsContent content
+    → IsContent (free_step_of net place content choice).after
+free-content net place (Unreadable bytes reason) choice keeps is = is
+free-content net place (V6 p) choice keeps is = (free-packet net place p choice keeps is).0
+free-content net place (V4 p) choice keeps is = (free-packet4 net place p choice is).0
 
 -- what reads again from its bytes does so after the stage
-pub step-back : (net : Network) (place : Place) (content : Content) (choice : ℕ) → Keeps net → IsContent content
+pub free-back : (net : Network) (place : Place) (content : Content) (choice : ℕ) → Keeps net → IsContent content
     → read_as place.family (bytes_of content) ≡ content
-    → let gave = step_of net place content choice in read_as (family_after place gave.outcome) (bytes_of gave.after) ≡ gave.after
-step-back net place (Unreadable bytes reason) choice keeps is same = same
-step-back net place (V6 p) choice keeps is same =
-    (step-packet net place p choice keeps is).1 (read_as-family6 place.family (bytes_of (V6 p)) p same)
-step-back net place (V4 p) choice keeps is same =
-    (step-packet4 net place p choice is).1 (read_as-family4 place.family (bytes_of (V4 p)) p same)
+    → let gave = free_step_of net place content choice in read_as (family_after place gave.outcome) (bytes_of gave.after) ≡ gave.after
+free-back net place (Unreadable bytes reason) choice keeps is same = same
+free-back net place (V6 p) choice keeps is same =
+    (free-packet net place p choice keeps is).1 (read_as-family6 place.family (bytes_of (V6 p)) p same)
+free-back net place (V4 p) choice keeps is same =
+    (free-packet4 net place p choice is).1 (read_as-family4 place.family (bytes_of (V4 p)) p same)
 
 -- the next place has the family of what stands there
 next-family : (place next : Place) (family : Family) → place.family ≡ family → Some place ≡ Some next → next.family ≡ family

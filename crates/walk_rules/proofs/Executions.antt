@@ -15,7 +15,7 @@ use Rattle.walk_rules.specs.declared.place.Place.{Place}
 use Rattle.walk_rules.specs.declared.place.Outcome.{Outcome}
 use Rattle.walk_rules.specs.declared.place.Outcome.TheVariants as outcomes
 use Rattle.walk_rules.specs.Way.{Into, way_of, StandsAt}
-use Rattle.walk_rules.specs.Treatment.{Gave, goes, onward_from, exposed_from, treated_at_address, treated_at_sid, step_of, allow_of}
+use Rattle.walk_rules.specs.Treatment.{Gave, goes, onward_from, exposed_from, treated_at_address, treated_at_sid, free_step_of, allow_of}
 use Rattle.walk_rules.specs.Laws.{IsLoweredByOne, PushesOne, Executes}
 use Rattle.walk_rules.proofs.Binding.{outer_of, onward-each}
 use Rattle.walk_rules.proofs.Outcomes.{at_entry, treated-each, treated4-each}
@@ -86,10 +86,10 @@ stands-there : (net : Network) (node n : ℕ) (s : SidEntry) → slice_get net.s
 stands-there net node n s there at =
     let same : s ≡ at.sid = cc in ap (λ (x : SidEntry). x.node) same ∙ at.stands
 
-step-executes : (net : Network) (place : Place) (content : Content) (choice : ℕ)
-    → IfExecutes net place content (step_of net place content choice)
-step-executes net place (Unreadable bytes reason) choice = tt
-step-executes net place (V6 p) choice =
+free-executes : (net : Network) (place : Place) (content : Content) (choice : ℕ)
+    → IfExecutes net place content (free_step_of net place content choice)
+free-executes net place (Unreadable bytes reason) choice = tt
+free-executes net place (V6 p) choice =
     treated-each (IfExecutes net place (V6 p)) net place.node (way_of net place p.destination) p choice
     (record {
       drop = λ reason at. tt;
@@ -99,23 +99,23 @@ step-executes net place (V6 p) choice =
           endpoint-executes net place p n s (at_sid s (allow_of (slice_get net.nodes place.node)) p) into there
           (stands-there net place.node n s there (way-into net place p.destination n into)) refl;
     })
-step-executes net place (V4 p) choice =
+free-executes net place (V4 p) choice =
     treated4-each (IfExecutes net place (V4 p)) net place.node (way_of net place (destination4 p)) p choice
     (record { drop = λ reason. tt; send = λ set lower e. tt })
 
 -- Again names the SID that was executed
-pub step-again : (net : Network) (place : Place) (content : Content) (choice n : ℕ) (how : How)
-    → (step_of net place content choice).outcome ≡ outcomes.Again n how
-    → Executes onward_from net place content (step_of net place content choice) n how
-step-again net place content choice n how e =
-    subst (λ (o : Outcome). ExecutesBy net place content (step_of net place content choice) o) e (step-executes net place content choice)
+pub free-again : (net : Network) (place : Place) (content : Content) (choice n : ℕ) (how : How)
+    → (free_step_of net place content choice).outcome ≡ outcomes.Again n how
+    → Executes onward_from net place content (free_step_of net place content choice) n how
+free-again net place content choice n how e =
+    subst (λ (o : Outcome). ExecutesBy net place content (free_step_of net place content choice) o) e (free-executes net place content choice)
 
 -- Hand names the SID that was executed
-pub step-hand : (net : Network) (place : Place) (content : Content) (choice n : ℕ) (how : How) (family : Family)
-    → (step_of net place content choice).outcome ≡ outcomes.Hand n how family
-    → Executes exposed_from net place content (step_of net place content choice) n how
-step-hand net place content choice n how family e =
-    subst (λ (o : Outcome). ExecutesBy net place content (step_of net place content choice) o) e (step-executes net place content choice)
+pub free-hand : (net : Network) (place : Place) (content : Content) (choice n : ℕ) (how : How) (family : Family)
+    → (free_step_of net place content choice).outcome ≡ outcomes.Hand n how family
+    → Executes exposed_from net place content (free_step_of net place content choice) n how
+free-hand net place content choice n how family e =
+    subst (λ (o : Outcome). ExecutesBy net place content (free_step_of net place content choice) o) e (free-executes net place content choice)
 
 -- a packet that goes on from a SID had a hop limit above 1, which is one less
 abbrev IsOneLess : Packet → Packet → Type 0
@@ -185,21 +185,21 @@ executes-after net place content gave n how s there x e =
     (x.packet, x.is_packet, subst (λ (o : Outcome). AgainAfter net place x.packet n s o gave.after) e here)
 
 -- an execution after which the packet stays at the node lowers the hop limit by one
-pub step-less : (net : Network) (place : Place) (content : Content) (choice n : ℕ) (how : How) (s : SidEntry)
+pub free-less : (net : Network) (place : Place) (content : Content) (choice n : ℕ) (how : How) (s : SidEntry)
     → slice_get net.sids n ≡ Some s → behaviour_policy s.behaviour ≡ None
-    → (step_of net place content choice).outcome ≡ outcomes.Again n how
-    → IsLoweredByOne content (step_of net place content choice).after
-step-less net place content choice n how s there unbound e =
-    let gave : Gave = step_of net place content choice in
-    let x = executes-after net place content gave n how s there (step-again net place content choice n how e) e in
+    → (free_step_of net place content choice).outcome ≡ outcomes.Again n how
+    → IsLoweredByOne content (free_step_of net place content choice).after
+free-less net place content choice n how s there unbound e =
+    let gave : Gave = free_step_of net place content choice in
+    let x = executes-after net place content gave n how s there (free-again net place content choice n how e) e in
     subst (λ (c : Content). IsLoweredByOne c gave.after) (sym x.1) (x.2.0 unbound)
 
 -- and that of a binding SID then pushes one header
-pub step-pushes : (net : Network) (place : Place) (content : Content) (choice n : ℕ) (how : How) (s : SidEntry) (number : ℕ)
+pub free-pushes : (net : Network) (place : Place) (content : Content) (choice n : ℕ) (how : How) (s : SidEntry) (number : ℕ)
     → slice_get net.sids n ≡ Some s → behaviour_policy s.behaviour ≡ Some number
-    → (step_of net place content choice).outcome ≡ outcomes.Again n how
-    → PushesOne net place content (step_of net place content choice).after n
-step-pushes net place content choice n how s number there binds e =
-    let gave : Gave = step_of net place content choice in
-    let x = executes-after net place content gave n how s there (step-again net place content choice n how e) e in
+    → (free_step_of net place content choice).outcome ≡ outcomes.Again n how
+    → PushesOne net place content (free_step_of net place content choice).after n
+free-pushes net place content choice n how s number there binds e =
+    let gave : Gave = free_step_of net place content choice in
+    let x = executes-after net place content gave n how s there (free-again net place content choice n how e) e in
     subst (λ (c : Content). PushesOne net place c gave.after n) (sym x.1) (x.2.1 number binds)

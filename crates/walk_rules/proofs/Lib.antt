@@ -8,8 +8,9 @@ pub mod Binding
 pub mod Outers
 pub mod Outcomes
 pub mod Executions
-pub mod Places
 pub mod Contents
+pub mod Judged
+pub mod Places
 pub mod Ends
 pub mod Picks
 pub mod PublicLaws

@@ -13,8 +13,8 @@ use Rattle.walk_rules.specs.declared.place.Place.{Place}
 use Rattle.walk_rules.specs.declared.place.Outcome.{Outcome}
 use Rattle.walk_rules.specs.declared.place.Outcome.TheVariants as outcomes
 use Rattle.walk_rules.specs.Way.{Way, Away, Over, Own, Into, way_of}
-use Rattle.walk_rules.specs.Treatment.{Gave, dropped, goes, member_of, lowered, ttl_lowered, treated_at_address, treated_at_sid, treated_in, treated, treated4, step_of, allow_of}
-use Rattle.walk_rules.specs.Relation.{Treats, Treats4, IsStage}
+use Rattle.walk_rules.specs.Treatment.{Gave, dropped, goes, member_of, lowered, ttl_lowered, treated_at_address, treated_at_sid, treated_in, treated, treated4, free_step_of, allow_of}
+use Rattle.walk_rules.specs.Relation.{Treats, Treats4, IsFreeStage}
 use Rattle.walk_rules.specs.Laws.{set_of, hops_at, IsDeliveredBehindUsp, TellsOfError}
 use Rattle.walk_rules.proofs.Binding.{onward-each}
 use Rattle.walk_rules.proofs.Sending.{sends-by, sends4-by, sent_by-either, sends_by-member, sends_by-each}
@@ -112,10 +112,10 @@ endpoint-leaves net place n s allow p (Exposed family bytes) into there same = t
 endpoint-leaves net place n s allow p (Delivered q) into there same = delivered-leaves net place n s allow p q s.usp into there refl same
 endpoint-leaves net place n s allow p (Refused reason at) into there same = refl
 
-step-leaves : (net : Network) (place : Place) (content : Content) (choice : ℕ)
-    → GaveLeaves net place content (step_of net place content choice)
-step-leaves net place (Unreadable bytes reason) choice = refl
-step-leaves net place (V6 p) choice =
+free-leaves : (net : Network) (place : Place) (content : Content) (choice : ℕ)
+    → GaveLeaves net place content (free_step_of net place content choice)
+free-leaves net place (Unreadable bytes reason) choice = refl
+free-leaves net place (V6 p) choice =
     treated-each (GaveLeaves net place (V6 p)) net place.node (way_of net place p.destination) p choice
     (record {
       drop = λ reason at. refl;
@@ -125,22 +125,22 @@ step-leaves net place (V6 p) choice =
           let allow = allow_of (slice_get net.nodes place.node) in
           endpoint-leaves net place n s allow p (at_sid s allow p) into there refl;
     })
-step-leaves net place (V4 p) choice =
+free-leaves net place (V4 p) choice =
     treated4-each (GaveLeaves net place (V4 p)) net place.node (way_of net place (destination4 p)) p choice
     (record { drop = λ reason. refl; send = λ set lower e. tt })
 
-pub step-drop : (net : Network) (place : Place) (content : Content) (choice : ℕ) (reason : Reason) (error : Bool)
-    → (step_of net place content choice).outcome ≡ outcomes.Drop reason error → (step_of net place content choice).after ≡ content
-step-drop net place content choice reason error e =
-    subst (λ (o : Outcome). Leaves net place content o (step_of net place content choice).after) e
-    (step-leaves net place content choice)
+pub free-drop : (net : Network) (place : Place) (content : Content) (choice : ℕ) (reason : Reason) (error : Bool)
+    → (free_step_of net place content choice).outcome ≡ outcomes.Drop reason error → (free_step_of net place content choice).after ≡ content
+free-drop net place content choice reason error e =
+    subst (λ (o : Outcome). Leaves net place content o (free_step_of net place content choice).after) e
+    (free-leaves net place content choice)
 
-pub step-local : (net : Network) (place : Place) (content : Content) (choice : ℕ)
-    → let gave = step_of net place content choice in gave.outcome ≡ outcomes.Local
+pub free-local : (net : Network) (place : Place) (content : Content) (choice : ℕ)
+    → let gave = free_step_of net place content choice in gave.outcome ≡ outcomes.Local
     → (gave.after ≡ content) ⊎ IsDeliveredBehindUsp net place content gave.after
-step-local net place content choice e =
-    subst (λ (o : Outcome). Leaves net place content o (step_of net place content choice).after) e
-    (step-leaves net place content choice)
+free-local net place content choice e =
+    subst (λ (o : Outcome). Leaves net place content o (free_step_of net place content choice).after) e
+    (free-leaves net place content choice)
 
 -- a drop tells whether an error is sent, and with another outcome none is
 abbrev GaveTells : Gave → Type 0
@@ -159,9 +159,9 @@ endpoint-tells net node n b p (Exposed family bytes) = refl
 endpoint-tells net node n b p (Delivered q) = refl
 endpoint-tells net node n b p (Refused reason at) = refl
 
-pub step-tells : (net : Network) (place : Place) (content : Content) (choice : ℕ) → GaveTells (step_of net place content choice)
-step-tells net place (Unreadable bytes reason) choice = refl
-step-tells net place (V6 p) choice =
+pub free-tells : (net : Network) (place : Place) (content : Content) (choice : ℕ) → GaveTells (free_step_of net place content choice)
+free-tells net place (Unreadable bytes reason) choice = refl
+free-tells net place (V6 p) choice =
     treated-each GaveTells net place.node (way_of net place p.destination) p choice
     (record {
       drop = λ reason at. refl;
@@ -169,7 +169,7 @@ step-tells net place (V6 p) choice =
       own = address-tells net place.node p (at_address p);
       sid = λ n s e there. endpoint-tells net place.node n s.behaviour p (at_sid s (allow_of (slice_get net.nodes place.node)) p);
     })
-step-tells net place (V4 p) choice =
+free-tells net place (V4 p) choice =
     treated4-each GaveTells net place.node (way_of net place (destination4 p)) p choice
     (record { drop = λ reason. refl; send = λ set lower e. refl })
 
@@ -178,7 +178,7 @@ abbrev Names : List ℕ → ℕ → Gave → Type 0
 Names set choice gave = (link : ℕ) → outcomes.Send link ≡ gave.outcome → link ≡ member_of set choice
 
 -- a SID or an address sends nothing
-address-quiet : (net : Network) (node : ℕ) (p : Packet) (x : Endpoint) (link : ℕ)
+pub address-quiet : (net : Network) (node : ℕ) (p : Packet) (x : Endpoint) (link : ℕ)
     → outcomes.Send link ≡ (treated_at_address net node p x).outcome → ⊥
 address-quiet net node p (Onward q) link e = cc
 address-quiet net node p (Exposed family bytes) link e = cc
@@ -197,7 +197,7 @@ endpoint-quiet net node n b p (Refused reason at) link e = cc
 drop-quiet : (reason : Reason) (error : Bool) (link : ℕ) → outcomes.Send link ≡ outcomes.Drop reason error → ⊥
 drop-quiet reason error link e = cc
 
-sid-quiet : (net : Network) (node n : ℕ) (o : Option SidEntry) (p : Packet) (link : ℕ)
+pub sid-quiet : (net : Network) (node n : ℕ) (o : Option SidEntry) (p : Packet) (link : ℕ)
     → outcomes.Send link ≡ (treated_in net node n o p).outcome → ⊥
 sid-quiet net node n None p link = λ e. cc
 sid-quiet net node n (Some s) p link =
@@ -245,21 +245,21 @@ module _ (net : Network) (node : ℕ) where
   treats4-each (Into n) p link other after error h there = absurd (drop-quiet reasons.NoRoute _ link h.0)
 
 -- a stage sends on members of its set of equal next hops alone, and on each of them where it sends on one
-pub stage-member : (net : Network) (place : Place) (content : Content) (link : ℕ) (after : Content) (error : Option Packet)
-    → IsStage net place content (outcomes.Send link) after error → Contains (hops_at net place content) link
-stage-member net place (Unreadable bytes reason) link after error h = absurd (drop-quiet reason _ link h.0)
-stage-member net place (V6 p) link after error h =
+pub free-member : (net : Network) (place : Place) (content : Content) (link : ℕ) (after : Content) (error : Option Packet)
+    → IsFreeStage net place content (outcomes.Send link) after error → Contains (hops_at net place content) link
+free-member net place (Unreadable bytes reason) link after error h = absurd (drop-quiet reason _ link h.0)
+free-member net place (V6 p) link after error h =
     treats-member net place.node (way_of net place p.destination) p link after error h
-stage-member net place (V4 p) link after error h =
+free-member net place (V4 p) link after error h =
     treats4-member net place.node (way_of net place (destination4 p)) p link after error h
 
-pub stage-each : (net : Network) (place : Place) (content : Content) (link other : ℕ) (after : Content) (error : Option Packet)
-    → IsStage net place content (outcomes.Send link) after error → Contains (hops_at net place content) other
-    → IsStage net place content (outcomes.Send other) after error
-stage-each net place (Unreadable bytes reason) link other after error h there = absurd (drop-quiet reason _ link h.0)
-stage-each net place (V6 p) link other after error h there =
+pub free-each : (net : Network) (place : Place) (content : Content) (link other : ℕ) (after : Content) (error : Option Packet)
+    → IsFreeStage net place content (outcomes.Send link) after error → Contains (hops_at net place content) other
+    → IsFreeStage net place content (outcomes.Send other) after error
+free-each net place (Unreadable bytes reason) link other after error h there = absurd (drop-quiet reason _ link h.0)
+free-each net place (V6 p) link other after error h there =
     treats-each net place.node (way_of net place p.destination) p link other after error h there
-stage-each net place (V4 p) link other after error h there =
+free-each net place (V4 p) link other after error h there =
     treats4-each net place.node (way_of net place (destination4 p)) p link other after error h there
 
 -- a choice sends on the member that it names
@@ -268,10 +268,10 @@ named : (set other : List ℕ) (choice link : ℕ) → set ≡ other → outcome
 named set other choice link same e =
     let here : link ≡ member_of set choice = cc in here ∙ ap (λ (links : List ℕ). member_of links choice) same
 
-step-names : (net : Network) (place : Place) (content : Content) (choice : ℕ)
-    → Names (hops_at net place content) choice (step_of net place content choice)
-step-names net place (Unreadable bytes reason) choice = λ link e. absurd (drop-quiet reason _ link e)
-step-names net place (V6 p) choice =
+free-naming : (net : Network) (place : Place) (content : Content) (choice : ℕ)
+    → Names (hops_at net place content) choice (free_step_of net place content choice)
+free-naming net place (Unreadable bytes reason) choice = λ link e. absurd (drop-quiet reason _ link e)
+free-naming net place (V6 p) choice =
     let node = place.node in
     let w = way_of net place p.destination in
     treated-each (Names (set_of w) choice) net node w p choice
@@ -281,7 +281,7 @@ step-names net place (V6 p) choice =
       own = λ link e. absurd (address-quiet net node p (at_address p) link e);
       sid = λ n s into there link e. absurd (endpoint-quiet net node n s.behaviour p _ link e);
     })
-step-names net place (V4 p) choice =
+free-naming net place (V4 p) choice =
     let w = way_of net place (destination4 p) in
     treated4-each (Names (set_of w) choice) net place.node w p choice
     (record {
@@ -289,6 +289,6 @@ step-names net place (V4 p) choice =
       send = λ set lower over link e. named set (set_of w) choice link (ap set_of (sym over)) e;
     })
 
-pub step-member : (net : Network) (place : Place) (content : Content) (choice link : ℕ)
-    → (step_of net place content choice).outcome ≡ outcomes.Send link → link ≡ member_of (hops_at net place content) choice
-step-member net place content choice link e = step-names net place content choice link (sym e)
+pub free-names : (net : Network) (place : Place) (content : Content) (choice link : ℕ)
+    → (free_step_of net place content choice).outcome ≡ outcomes.Send link → link ≡ member_of (hops_at net place content) choice
+free-names net place content choice link e = free-naming net place content choice link (sym e)

@@ -1,18 +1,23 @@
 -- A walk depends on the choices of the decisions that it may take alone, so each is a walk of some list of choices.
-use Rattle.std.proofs.Common.{◌≡◌, ℕ, zero, suc, ◌+◌, ◌%◌, ◌<◌, ◌≤◌, List, [], ◌∷◌, length, slice_index, Option, Some, None, refl, sym, ◌∙◌, ap, arith, mod-eq_of_lt, add-zero, le_refl}
+use Rattle.std.proofs.Common.{◌≡◌, ℕ, zero, suc, ◌+◌, ◌%◌, ◌<◌, ◌≤◌, Bool, true, false, if◌then◌else◌, List, [], ◌∷◌, length, slice_index, Option, Some, None, refl, sym, ◌∙◌, ap, arith, mod-eq_of_lt, add-zero, le_refl}
 use Rattle.srv6_rules.specs.Packet.{Content}
 use Rattle.net_model.specs.Network.{Network}
 use Rattle.walk_rules.specs.declared.place.Outcome.{Outcome}
 use Rattle.walk_rules.specs.declared.place.Outcome.TheVariants as outcomes
 use Rattle.walk_rules.specs.declared.place.Place.{Place}
-use Rattle.walk_rules.specs.Walk.{Stage, stage_of, next_place, decisions, walk_by, walk_of, walk_on, choice_at}
+use Rattle.walk_rules.specs.Walk.{Stage, stage_of, next_place, takes_member, decisions, walk_by, walk_of, walk_on, choice_at}
 
-decisions-few : (outcome : Outcome) → decisions outcome ≤ 1
+-- an outcome takes one decision at most
+pub decisions-few : (outcome : Outcome) → decisions outcome ≤ 1
 decisions-few (outcomes.Send link) = omega arith
 decisions-few (outcomes.Again n how) = omega arith
 decisions-few (outcomes.Hand n how family) = omega arith
 decisions-few outcomes.Local = omega arith
-decisions-few (outcomes.Drop reason error) = omega arith
+decisions-few (outcomes.Drop reason error) = few (takes_member reason)
+  where
+    few : (b : Bool) → (if b then 1 else 0) ≤ 1
+    few true = omega arith
+    few false = omega arith
 
 -- the choices of the decisions from one on, so many of them, are the same
 abbrev pub SamePicks : (ℕ → ℕ) → (ℕ → ℕ) → ℕ → ℕ → Type 0

@@ -14,11 +14,11 @@ use Rattle.walk_rules.specs.declared.place.Place.{Place}
 use Rattle.walk_rules.specs.declared.place.Outcome.{Outcome}
 use Rattle.walk_rules.specs.declared.place.Outcome.TheVariants as outcomes
 use Rattle.walk_rules.specs.Way.{Way, Away, Over, Own, Into, way_of, IsWayFrom}
-use Rattle.walk_rules.specs.Treatment.{Gave, way_on, onward_from, exposed_from, step_of}
+use Rattle.walk_rules.specs.Treatment.{Gave, way_on, onward_from, exposed_from, free_step_of, step_of}
 use Rattle.walk_rules.specs.Walk.{far_end, arrival, next_place}
 use Rattle.walk_rules.specs.Laws.{set_of, hops_at, Executes}
-use Rattle.walk_rules.specs.Relation.{IsStage, IsThrough, IsHow, IsPlace}
-use Rattle.walk_rules.proofs.Executions.{step-again, step-hand}
+use Rattle.walk_rules.specs.Relation.{IsFreeStage, IsStage, IsThrough, IsHow, IsPlace}
+use Rattle.walk_rules.proofs.Judged.{step-again, step-hand, step-is}
 use Rattle.walk_rules.proofs.Routing.{way-from}
 use Rattle.walk_rules.proofs.Stages.{HasLinks, treated-treats, treated4-treats}
 
@@ -44,15 +44,19 @@ hops-start net place (V4 p) n keeps is there =
     set-starts net place.node (way_of net place (destination4 p)) (way-from net place (destination4 p) keeps is.1) n there
 
 -- at a place the function gives an outcome of the relation
-pub stage-step : (net : Network) (place : Place) (content : Content) (choice : ℕ) → Keeps net → IsPlace net place
-    → let gave = step_of net place content choice in IsStage net place content gave.outcome gave.after gave.error
-stage-step net place (Unreadable bytes reason) choice keeps is = (refl, refl, refl)
-stage-step net place (V6 p) choice keeps is =
+free-step : (net : Network) (place : Place) (content : Content) (choice : ℕ) → Keeps net → IsPlace net place
+    → let gave = free_step_of net place content choice in IsFreeStage net place content gave.outcome gave.after gave.error
+free-step net place (Unreadable bytes reason) choice keeps is = (refl, refl, refl)
+free-step net place (V6 p) choice keeps is =
     let w = way_of net place p.destination in
     treated-treats net place.node w p choice (has-links net place.node w (way-from net place p.destination keeps is.1))
-stage-step net place (V4 p) choice keeps is =
+free-step net place (V4 p) choice keeps is =
     let w = way_of net place (destination4 p) in
     treated4-treats net place.node w p choice (has-links net place.node w (way-from net place (destination4 p) keeps is.1))
+
+pub stage-step : (net : Network) (place : Place) (content : Content) (choice : ℕ) → Keeps net → IsPlace net place
+    → let gave = step_of net place content choice in IsStage net place content gave.outcome gave.after gave.error
+stage-step net place content choice keeps is = step-is net place content choice (free-step net place content choice keeps is)
 
 -- a SID that takes links has some
 links-some : (links : List Link) (node : ℕ) (takes : Bool) (set : List ℕ) → takes ≡ true

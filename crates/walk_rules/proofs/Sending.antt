@@ -12,7 +12,7 @@ use Rattle.walk_rules.specs.declared.place.Outcome.{Outcome}
 use Rattle.walk_rules.specs.declared.place.Outcome.TheVariants as outcomes
 use Rattle.walk_rules.specs.Treatment.{Gave, dropped, goes, member_of, lowered, ttl_lowered, sent, sent4}
 use Rattle.walk_rules.specs.Relation.{GivesOutcome, Drops, Sends, Sends4}
-use Rattle.walk_rules.specs.Laws.{SendsApart, DifferAtMostInLink}
+use Rattle.walk_rules.specs.Laws.{SendsApart}
 
 -- what is given over links, and each outcome that there is: a drop of the content, or a send of what is left of it
 abbrev pub sent_by : Network → ℕ → List ℕ → Bool → ℕ → Reason → Content → Content → ℕ → Gave
@@ -193,20 +193,6 @@ module _ (net : Network) (node : ℕ) (set : List ℕ) (limit : ℕ) (reason : R
       by_case : DropsAll lower ⊎ SendsEach lower → P (sent_by net node set lower limit reason content left choice)
       by_case (inl drops) = subst P (sym (drops choice)) drop
       by_case (inr sends) = subst P (sym (sends choice)) send
-
-  pub sent_by-same : (lower : Bool) (choice other : ℕ)
-      → DifferAtMostInLink (sent_by net node set lower limit reason content left choice)
-      (sent_by net node set lower limit reason content left other)
-  sent_by-same lower choice other = by_case (sent_by-cases lower)
-    where
-      by_case : DropsAll lower ⊎ SendsEach lower
-          → DifferAtMostInLink (sent_by net node set lower limit reason content left choice)
-          (sent_by net node set lower limit reason content left other)
-      by_case (inl drops) =
-          rw (drops choice, drops other) (record { after = refl; error = refl; decisions_taken = refl; outcome = λ h. refl })
-      by_case (inr sends) =
-          rw (sends choice, sends other)
-          (record { after = refl; error = refl; decisions_taken = refl; outcome = λ h. absurd (omega (arith, h)) })
 
   sends_by-lowered : (one : Outcome) (after : Content) (error : Option Packet) (other : Outcome) (later : Content)
       → (told : Option Packet) → SendsBy net node set true limit reason content left one after error

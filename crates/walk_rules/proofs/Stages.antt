@@ -7,8 +7,8 @@ use Rattle.net_model.specs.Network.{Network}
 use Rattle.walk_rules.specs.declared.place.Place.{Place}
 use Rattle.walk_rules.specs.declared.place.Outcome.{Outcome}
 use Rattle.walk_rules.specs.Way.{Way, Away, Over, Own, Into, way_of}
-use Rattle.walk_rules.specs.Treatment.{Gave, lowered, ttl_lowered, treated, treated4, step_of}
-use Rattle.walk_rules.specs.Relation.{Treats, Treats4, IsStage}
+use Rattle.walk_rules.specs.Treatment.{Gave, lowered, ttl_lowered, treated, treated4, free_step_of}
+use Rattle.walk_rules.specs.Relation.{Treats, Treats4, IsFreeStage}
 use Rattle.walk_rules.proofs.Sending.{given, gives-gave, drops-gave, sends-by, sends4-by, sends_by-choice, sent_by-sends}
 
 module _ (net : Network) (node : ℕ) where
@@ -31,13 +31,13 @@ module _ (net : Network) (node : ℕ) where
   treats4-choice (Into n) p outcome after error h = (0, drops-gave net node reasons.NoRoute 0 (V4 p) outcome after error h)
 
 -- each outcome of the relation is the function's at some choice
-pub stage-choice : (net : Network) (place : Place) (content : Content) (outcome : Outcome) (after : Content) (error : Option Packet)
-    → IsStage net place content outcome after error → (choice : ℕ) × (step_of net place content choice ≡ given outcome after error)
-stage-choice net place (Unreadable bytes reason) outcome after error h =
+pub free-choice : (net : Network) (place : Place) (content : Content) (outcome : Outcome) (after : Content) (error : Option Packet)
+    → IsFreeStage net place content outcome after error → (choice : ℕ) × (free_step_of net place content choice ≡ given outcome after error)
+free-choice net place (Unreadable bytes reason) outcome after error h =
     (0, drops-gave net place.node reason 0 (Unreadable bytes reason) outcome after error h)
-stage-choice net place (V6 p) outcome after error h =
+free-choice net place (V6 p) outcome after error h =
     treats-choice net place.node (way_of net place p.destination) p outcome after error h
-stage-choice net place (V4 p) outcome after error h =
+free-choice net place (V4 p) outcome after error h =
     treats4-choice net place.node (way_of net place (destination4 p)) p outcome after error h
 
 -- the sets that a way goes over are not empty

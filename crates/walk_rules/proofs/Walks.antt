@@ -3,8 +3,31 @@ use Rattle.std.proofs.Common.{◌≡◌, ℕ, zero, suc, ◌+◌, ◌<◌, ◌�
 use Rattle.srv6_rules.specs.Packet.{Content}
 use Rattle.net_model.specs.Network.{Network}
 use Rattle.walk_rules.specs.declared.place.Place.{Place}
-use Rattle.walk_rules.specs.Walk.{Stage, stage_of, next_place, decisions, walk_by, walk_of, walk_on, place_after, content_after, taken_after, IsStageOf, Follows, BeginsAt, IsWalk}
+use Rattle.walk_rules.specs.Walk.{Steps, Nexts, Stage, stage_of, next_place, decisions, walk_by, walk_of, walk_on, place_after, content_after, taken_after, IsStageOf, Follows, BeginsAt, IsWalk}
 use Rattle.walk_rules.specs.Treatment.{step_of}
+
+-- a walk by any stage
+module _ (step : Steps) (next : Nexts) where
+  abbrev pub by_stage : Place → Content → ℕ → Stage
+  by_stage place content choice = record { place = place; before = content; gave = step place content choice }
+
+  pub walk_by-suc : (more : ℕ) (place : Place) (content : Content) (pick : ℕ → ℕ) (taken : ℕ)
+      → let gave = step place content (pick taken) in
+      walk_by step next (suc more) (Some place) content pick taken
+      ≡ by_stage place content (pick taken)
+      ∷ walk_by step next more (next place gave.outcome) gave.after pick (taken + decisions gave.outcome)
+  unfolding walk_by
+  walk_by-suc more place content pick taken = refl
+
+  pub walk_by-zero : (place : Option Place) (content : Content) (pick : ℕ → ℕ) (taken : ℕ)
+      → walk_by step next 0 place content pick taken ≡ []
+  unfolding walk_by
+  walk_by-zero place content pick taken = refl
+
+  pub walk_by-none : (fuel : ℕ) (content : Content) (pick : ℕ → ℕ) (taken : ℕ) → walk_by step next fuel None content pick taken ≡ []
+  unfolding walk_by
+  walk_by-none zero content pick taken = refl
+  walk_by-none (suc more) content pick taken = refl
 
 pub walk_of-suc : (more : ℕ) (net : Network) (place : Place) (content : Content) (pick : ℕ → ℕ) (taken : ℕ)
     → walk_of (suc more) net (Some place) content pick taken

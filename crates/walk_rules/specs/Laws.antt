@@ -16,9 +16,9 @@ use Rattle.walk_rules.specs.declared.place.Place.{Place}
 use Rattle.walk_rules.specs.declared.place.Outcome.{Outcome}
 use Rattle.walk_rules.specs.declared.place.Outcome.TheVariants as outcomes
 use Rattle.walk_rules.specs.Way.{Way, Away, Over, Own, Into, way_of}
-use Rattle.walk_rules.specs.Treatment.{Gave, allow_of, treated_at_sid}
-use Rattle.walk_rules.specs.Relation.{IsStage, IsPlace}
-use Rattle.walk_rules.specs.Walk.{Stage, decisions}
+use Rattle.walk_rules.specs.Treatment.{Gave, allow_of, goes, over_link, treated_at_sid}
+use Rattle.walk_rules.specs.Relation.{GivesOutcome, IsFreeStage, IsStage, IsPlace}
+use Rattle.walk_rules.specs.Walk.{Stage}
 
 -- the set of equal next hops over which a way goes; none where it goes over no links
 abbrev pub set_of : Way → List ℕ
@@ -102,12 +102,23 @@ pub record IsDeliveredBehindUsp (net : Network) (place : Place) (content after :
   pub usp : sid.usp ≡ true
   pub others : left ≡ record before { next_header = left.next_header; payload = left.payload }
 
--- two answers that differ at most in the link on which they send
-pub record DifferAtMostInLink (one other : Gave) : Type 0 where
-  pub after : other.after ≡ one.after
-  pub error : other.error ≡ one.error
-  pub decisions_taken : decisions other.outcome ≡ decisions one.outcome
-  pub outcome : decisions one.outcome ≡ 0 → other.outcome ≡ one.outcome
+-- member `link` of the set of equal next hops was taken: the packet is sent on it where it goes over that link, else dropped
+pub record Takes (net : Network) (place : Place) (content : Content) (link : ℕ) (outcome : Outcome) (after : Content)
+    (error : Option Packet) : Type 0 where
+  pub left : Content
+  pub would : IsFreeStage net place content (outcomes.Send link) left None
+  pub gives : GivesOutcome (over_link net place.node content (goes (outcomes.Send link) left) link) outcome after error
+
+-- two outcomes of different members of one set
+pub record TakenApart (net : Network) (place : Place) (content : Content) (one : Outcome) (after : Content) (error : Option Packet)
+    (other : Outcome) (later : Content) (told : Option Packet) : Type 0 where
+  pub one_link : ℕ
+  pub other_link : ℕ
+  pub one_member : Contains (hops_at net place content) one_link
+  pub other_member : Contains (hops_at net place content) other_link
+  pub apart : one_link ≢ other_link
+  pub one_taken : Takes net place content one_link one after error
+  pub other_taken : Takes net place content other_link other later told
 
 -- a drop tells whether an error is sent, and with another outcome none is
 abbrev pub TellsOfError : Outcome → Option Packet → Type 0

@@ -6,12 +6,13 @@ use Rattle.srv6_rules.specs.declared.sid.Reason.{Reason}
 use Rattle.srv6_rules.specs.declared.sid.Reason.TheVariants as reasons
 use Rattle.srv6_rules.specs.declared.sid.SidEntry.{SidEntry}
 use Rattle.srv6_rules.specs.declared.icmp.IcmpKind.{IcmpKind}
-use Rattle.srv6_rules.specs.Packet.{Packet, Content, V6, V4, Unreadable, read_as, spelling}
+use Rattle.srv6_rules.specs.Packet.{Packet, Content, V6, V4, Unreadable, bytes_of, read_as, spelling}
 use Rattle.srv6_rules.specs.Policies.{Encapsulating, Outer, TooBig, InnerHop, pushed_by}
 use Rattle.srv6_rules.specs.Packet4.{Packet4, ttl, destination4, lowered4}
 use Rattle.srv6_rules.specs.Errors.{kind_of, error_packet}
 use Rattle.srv6_rules.specs.Endpoint.{Endpoint, Onward, Exposed, Delivered, Refused, at_sid, at_address}
 use Rattle.srv6_rules.specs.declared.sid.Family.TheVariants as families
+use Rattle.net_model.specs.declared.parts.Link.{Link}
 use Rattle.net_model.specs.declared.parts.Node.{Node}
 use Rattle.net_model.specs.declared.parts.NamedPolicy.{NamedPolicy}
 use Rattle.net_model.specs.Network.{Network}
@@ -42,21 +43,22 @@ abbrev pub error_by : Option IcmpKind → Packet → ℕ → Option Packet
 error_by None p from = None
 error_by (Some kind) p from = error_packet p kind from
 
--- the ICMPv6 error that is sent from an address about what is dropped for a reason, with the fault's place counted from the
--- first byte of what stood there; about an IPv4 packet, and about bytes that do not read, none is (RFC 4443)
+-- the ICMPv6 error that is sent from an address about what is dropped for a reason, with a detail: the fault's place counted from
+-- the first byte of what stood there, or for MtuExceeded the link's MTU; about an IPv4 packet, and about bytes that do not read,
+-- none is (RFC 4443)
 abbrev pub error_from : ℕ → Reason → ℕ → Content → Option Packet
-error_from from reason at (V6 p) = error_by (kind_of reason at) p from
-error_from from reason at (V4 p) = None
-error_from from reason at (Unreadable bytes why) = None
+error_from from reason detail (V6 p) = error_by (kind_of reason detail) p from
+error_from from reason detail (V4 p) = None
+error_from from reason detail (Unreadable bytes why) = None
 
 -- the error that a node sends about what it drops, from the node's own address
 unfoldable pub error_of : Network → ℕ → Reason → ℕ → Content → Option Packet
-error_of net node reason at content = error_from (address_of (slice_get net.nodes node)) reason at content
+error_of net node reason detail content = error_from (address_of (slice_get net.nodes node)) reason detail content
 
--- what stands at a node is dropped as it is, for a reason, with the fault's place, 0 where the reason has none
+-- what stands at a node is dropped as it is, for a reason, with its detail, 0 where the reason has none
 abbrev pub dropped : Network → ℕ → Reason → ℕ → Content → Gave
-dropped net node reason at content =
-    let error = error_of net node reason at content in
+dropped net node reason detail content =
+    let error = error_of net node reason detail content in
     record { outcome = outcomes.Drop reason (is_some error); after = content; error = error }
 
 -- an outcome, and the packet after it, about which no error is sent
@@ -167,6 +169,36 @@ free_step_of net place (Unreadable bytes reason) choice = dropped net place.node
 free_step_of net place (V6 p) choice = treated net place.node (way_of net place p.destination) p choice
 free_step_of net place (V4 p) choice = treated4 net place.node (way_of net place (destination4 p)) p choice
 
+-- the bytes of a packet, its header among them (RFC 8200 section 3, RFC 791 section 3.1)
+abbrev pub own_len : Content → ℕ
+own_len content = length (bytes_of content)
+
+-- the longest packet that a link carries; a number that no link has carries none
+abbrev pub mtu_of : Option Link → ℕ
+mtu_of None = 0
+mtu_of (Some l) = l.mtu
+
+abbrev pub mtu_at : Network → ℕ → ℕ
+mtu_at net link = mtu_of (slice_get net.links link)
+
+-- over a link that was taken at a node: what was given where the packet that came goes over the link, else it is dropped, and told of
+-- the link's MTU (RFC 8200 section 5, RFC 4443 section 3.2). Lowering a hop limit or TTL leaves the length as it is
+abbrev pub over_link : Network → ℕ → Content → Gave → ℕ → Gave
+over_link net node content gave link =
+    if nat_le (own_len content) (mtu_at net link) then gave
+    else dropped net node reasons.MtuExceeded (mtu_at net link) content
+
+abbrev pub judged_by : Network → ℕ → Content → Gave → Outcome → Gave
+judged_by net node content gave (outcomes.Again sid how) = gave
+judged_by net node content gave (outcomes.Hand sid how family) = gave
+judged_by net node content gave (outcomes.Send link) = over_link net node content gave link
+judged_by net node content gave outcomes.Local = gave
+judged_by net node content gave (outcomes.Drop reason error) = gave
+
+-- what was given where no link has an MTU, with the MTU of the link that it takes, if it takes one
+abbrev pub judged : Network → ℕ → Content → Gave → Gave
+judged net node content gave = judged_by net node content gave gave.outcome
+
 -- the stage
 abbrev pub step_of : Network → Place → Content → ℕ → Gave
-step_of net place content choice = free_step_of net place content choice
+step_of net place content choice = judged net place.node content (free_step_of net place content choice)

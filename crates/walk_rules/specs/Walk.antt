@@ -1,5 +1,7 @@
 -- Walks: stages that follow one another, what they send, and how they end.
-use Rattle.std.specs.Prelude.{◌≡◌, ℕ, zero, suc, ◌+◌, ◌%◌, ◌<◌, ◌≤◌, List, [], ◌∷◌, length, slice_index, slice_get, Option, Some, None}
+use Rattle.std.specs.Prelude.{◌≡◌, ℕ, zero, suc, ◌+◌, ◌%◌, ◌<◌, ◌≤◌, Bool, true, false, if◌then◌else◌, List, [], ◌∷◌, length, slice_index, slice_get, Option, Some, None}
+use Rattle.srv6_rules.specs.declared.sid.Reason.{Reason}
+use Rattle.srv6_rules.specs.declared.sid.Reason.TheVariants as reasons
 use Rattle.srv6_rules.specs.Packet.{Content}
 use Rattle.net_model.specs.declared.parts.Link.{Link}
 use Rattle.net_model.specs.Network.{Network}
@@ -29,13 +31,35 @@ next_place net place (outcomes.Send link) = arrival (far_end (slice_get net.link
 next_place net place outcomes.Local = None
 next_place net place (outcomes.Drop reason error) = None
 
--- the decisions that an outcome takes: a Send is one
+-- a drop for a reason takes a member of a set of equal next hops
+abbrev pub takes_member : Reason → Bool
+takes_member reasons.Truncated = false
+takes_member reasons.BadVersion = false
+takes_member reasons.Multicast = false
+takes_member reasons.NoRoute = false
+takes_member reasons.HopLimit = false
+takes_member reasons.BadChain = false
+takes_member reasons.LateHopByHop = false
+takes_member reasons.OptionDiscard = false
+takes_member reasons.OptionUnknown = false
+takes_member reasons.Fragment = false
+takes_member reasons.BadSegments = false
+takes_member reasons.HmacTlv = false
+takes_member reasons.BadTlv = false
+takes_member reasons.UnknownRouting = false
+takes_member reasons.UpperLayer = false
+takes_member reasons.Ttl = false
+takes_member reasons.TooBig = false
+takes_member reasons.InnerHop = false
+takes_member reasons.MtuExceeded = true
+
+-- the decisions that an outcome takes: one where a member of a set of equal next hops is taken
 abbrev pub decisions : Outcome → ℕ
 decisions (outcomes.Again sid how) = 0
 decisions (outcomes.Hand sid how family) = 0
 decisions (outcomes.Send link) = 1
 decisions outcomes.Local = 0
-decisions (outcomes.Drop reason error) = 0
+decisions (outcomes.Drop reason error) = if takes_member reason then 1 else 0
 
 -- a stage of a walk: where the packet stood, what stood there, and what the stage gave
 pub record Stage : Type 0 where

@@ -4,16 +4,17 @@ ghost use Rattle.std.specs.Prelude.{◌≡◌, ◌≢◌, ℕ, ◌+◌, ◌<◌,
 ghost use Rattle.net_model.specs.Best.{lookup_of};
 ghost use Rattle.net_model.specs.Keeps.{Keeps, StartsAt};
 ghost use Rattle.net_model.specs.Network.{Network};
+ghost use Rattle.net_model.specs.declared.parts.Link.{Link};
 ghost use Rattle.srv6_rules.specs.Packet.{Content, IsContent, Packet, V4, V6, bytes_of, read_as};
-ghost use Rattle.srv6_rules.specs.Packet4.{Packet4, ttl};
+ghost use Rattle.srv6_rules.specs.Packet4.{IsSpellable4, Packet4, total_len, ttl};
 ghost use Rattle.srv6_rules.specs.Behaviours.{behaviour_policy};
 ghost use Rattle.srv6_rules.specs.declared.sid.Behaviour.TheVariants.{B6, B6Red, Dt4, Dt46, Dt6, Dx4, Dx6, End, EndT, EndX};
 ghost use Rattle.srv6_rules.specs.declared.sid.Family.{Family};
 ghost use Rattle.srv6_rules.specs.declared.sid.Reason.{Reason};
 ghost use Rattle.srv6_rules.specs.declared.sid.SidEntry.{SidEntry};
-ghost use Rattle.walk_rules.specs.Laws.{AreStages, DifferAtMostInLink, Executes, IsDeliveredBehindUsp, IsLoweredByOne, PushesOne, SendsApart, TellsOfError, family_after, hops_at};
-ghost use Rattle.walk_rules.specs.Relation.{IsHow, IsPlace, IsStage};
-ghost use Rattle.walk_rules.specs.Treatment.{dropped, exposed_from, goes, lowered, member_of, onward_from, sent, sent4, step_of, ttl_lowered};
+ghost use Rattle.walk_rules.specs.Laws.{AreStages, Executes, IsDeliveredBehindUsp, IsLoweredByOne, PushesOne, TakenApart, TellsOfError, family_after, hops_at};
+ghost use Rattle.walk_rules.specs.Relation.{IsFreeStage, IsHow, IsPlace, IsStage};
+ghost use Rattle.walk_rules.specs.Treatment.{dropped, exposed_from, free_step_of, goes, lowered, member_of, mtu_at, onward_from, over_link, own_len, sent, sent4, step_of, ttl_lowered};
 ghost use Rattle.walk_rules.specs.Walk.{IsWalk, Stage, choice_at, content_after, decisions, end_of, next_place, place_after, stage_of, taken_after, walk_of, walk_on};
 ghost use Rattle.walk_rules.specs.Way.{Into, IsThere, IsWayFrom, StandsAt, way_of};
 ghost use Rattle.walk_rules.specs.declared.place.Ended.{Ended};
@@ -37,8 +38,8 @@ pub fn a_way_leads_from_its_place()
 {}
 
 /// Where the hop limit, or the TTL of an IPv4 packet, is lowered, a packet for which it is at most
-/// 1 is dropped, and each other is sent on the member that the choice names (RFC 8200 section 3,
-/// RFC 791 section 3.2).
+/// 1 is dropped, and where no link has an MTU each other is sent on the member that the choice names
+/// (RFC 8200 section 3, RFC 791 section 3.2).
 pub fn a_low_hop_limit_is_not_sent()
     ensures low { (net : Network) (node : ℕ) (set : List ℕ) (p : Packet) (choice : ℕ) →
         p.hop_limit ≤ 1 →
@@ -53,6 +54,29 @@ pub fn a_low_hop_limit_is_not_sent()
         1 < ttl p →
         sent4 net node set true p choice
         ≡ goes (Outcome.Send (member_of set choice)) (V4 (ttl_lowered true p)) }
+{}
+
+/// Where a stage would take a link, it does so where the packet that came has at most as many bytes
+/// as the link's MTU says, its own header among them; else the packet is dropped as it came, and told
+/// of that MTU. Each other stage is as where no link has an MTU (RFC 8200 section 5, RFC 4443 section
+/// 3.2).
+pub fn a_long_packet_is_not_sent()
+    ensures fits { (net : Network) (place : Place) (content : Content) (choice link : ℕ) →
+        (free_step_of net place content choice).outcome ≡ Outcome.Send link →
+        own_len content ≤ mtu_at net link →
+        step_of net place content choice ≡ free_step_of net place content choice }
+    ensures long { (net : Network) (place : Place) (content : Content) (choice link : ℕ) →
+        (free_step_of net place content choice).outcome ≡ Outcome.Send link →
+        mtu_at net link < own_len content →
+        step_of net place content choice
+        ≡ dropped net place.node Reason.MtuExceeded (mtu_at net link) content }
+    ensures other { (net : Network) (place : Place) (content : Content) (choice : ℕ) →
+        ((link : ℕ) → (free_step_of net place content choice).outcome ≢ Outcome.Send link) →
+        step_of net place content choice ≡ free_step_of net place content choice }
+    ensures len6 { (p : Packet) → own_len (V6 p) ≡ 40 + length p.payload }
+    ensures len4 { (p : Packet4) → IsSpellable4 p → own_len (V4 p) ≡ total_len p.header }
+    ensures mtu { (net : Network) (n : ℕ) (l : Link) → slice_get net.links n ≡ Some l →
+        mtu_at net n ≡ l.mtu }
 {}
 
 /// A walk from a place is the stage there, and then the walk from the next place; a walk from no
@@ -87,8 +111,9 @@ pub fn a_choice_has_an_outcome()
         IsStage net place content gave.outcome gave.after gave.error }
 {}
 
-/// A stage sends on members of its set of equal next hops alone, on each of them where it sends on
-/// one, and each of them is there and starts at the node (own rule).
+/// A stage sends on members of its set of equal next hops alone. Where it would send on one if no
+/// link had an MTU, each member has its outcome: Send where the packet goes over that link, and else
+/// the drop with its MTU. Each member is there and starts at the node (own rule).
 pub fn each_next_hop_is_an_outcome()
     ensures member { (net : Network) (place : Place) (content : Content) (link : ℕ) →
         (after : Content) (error : Option Packet) →
@@ -96,41 +121,49 @@ pub fn each_next_hop_is_an_outcome()
         Contains (hops_at net place content) link }
     ensures each { (net : Network) (place : Place) (content : Content) (link other : ℕ) →
         (after : Content) (error : Option Packet) →
-        IsStage net place content (Outcome.Send link) after error →
+        IsFreeStage net place content (Outcome.Send link) after error →
         Contains (hops_at net place content) other →
-        IsStage net place content (Outcome.Send other) after error }
+        let gave = over_link net place.node content (goes (Outcome.Send other) after) other in
+        IsStage net place content gave.outcome gave.after gave.error }
     ensures starts { (net : Network) (place : Place) (content : Content) (link : ℕ) →
         Keeps net → IsPlace net place → Contains (hops_at net place content) link →
         StartsAt net.links place.node link }
 {}
 
-/// A stage has several outcomes only where a set of equal next hops has several members, and they
-/// leave the same packet and send the same error (own rule).
-pub fn outcomes_differ_in_the_link()
+/// A stage has several outcomes only where a set of equal next hops has several members, and each is
+/// that of its member (own rule).
+pub fn outcomes_differ_in_the_member()
     ensures { (net : Network) (place : Place) (content : Content) →
         (one : Outcome) (after : Content) (error : Option Packet) →
         (other : Outcome) (later : Content) (told : Option Packet) →
         IsStage net place content one after error → IsStage net place content other later told →
-        (after ≡ later) × (error ≡ told) ×
-        ((one ≡ other) ⊎ SendsApart (hops_at net place content) one other) }
+        ((one ≡ other) × ((after ≡ later) × (error ≡ told)))
+        ⊎ TakenApart net place content one after error other later told }
 {}
 
-/// The choice tells at most the link on which a stage sends, which is the member that it names (own
-/// rule).
-pub fn only_a_send_depends_on_the_choice()
+/// The choice tells at most the member that a stage takes, which is the one that it names: choices
+/// that name one member give one stage (own rule).
+pub fn only_the_member_depends_on_the_choice()
     ensures named { (net : Network) (place : Place) (content : Content) (choice link : ℕ) →
         (step_of net place content choice).outcome ≡ Outcome.Send link →
         link ≡ member_of (hops_at net place content) choice }
-    ensures else_same { (net : Network) (place : Place) (content : Content) (choice other : ℕ) →
-        DifferAtMostInLink (step_of net place content choice) (step_of net place content other) }
+    ensures same { (net : Network) (place : Place) (content : Content) (choice other : ℕ) →
+        member_of (hops_at net place content) choice
+        ≡ member_of (hops_at net place content) other →
+        step_of net place content choice ≡ step_of net place content other }
 {}
 
-/// A Send is one decision, and nothing else is one (own rule).
-pub fn a_send_is_one_decision()
+/// A member that is taken is one decision: a Send, and a drop for the link's MTU. Nothing else is one
+/// (own rule).
+pub fn a_member_taken_is_one_decision()
     ensures one { (outcome : Outcome) →
-        (decisions outcome ≡ 1) ↔ ((link : ℕ) × (outcome ≡ Outcome.Send link)) }
+        (decisions outcome ≡ 1)
+        ↔ (((link : ℕ) × (outcome ≡ Outcome.Send link))
+        ⊎ ((told : Bool) × (outcome ≡ Outcome.Drop Reason.MtuExceeded told))) }
     ensures zero { (outcome : Outcome) →
-        ((link : ℕ) → outcome ≢ Outcome.Send link) → decisions outcome ≡ 0 }
+        ((link : ℕ) → outcome ≢ Outcome.Send link) →
+        ((told : Bool) → outcome ≢ Outcome.Drop Reason.MtuExceeded told) →
+        decisions outcome ≡ 0 }
 {}
 
 /// An execution after which the packet stays at the node lowers its hop limit by one, from above 1,

@@ -1,7 +1,7 @@
 //! How a packet goes on from a SID, where it stands after a stage, and how a walk ended.
 
 ghost use Rattle.std.specs.Prelude.{◌≡◌, slice_get};
-ghost use Rattle.walk_rules.specs.Treatment.{exposed_from, onward_from};
+ghost use Rattle.walk_rules.specs.Treatment.{exposed_from, mtu_at, onward_from};
 ghost use Rattle.walk_rules.specs.Walk.{end_by, far_end, next_place};
 
 use crate::place::{Ended, How, Outcome, Place};
@@ -44,6 +44,17 @@ pub fn far_end(net: &Net, link: u32) -> Option<u32>
         net.link(link).to
     } else {
         None
+    }
+}
+
+/// The MTU of a link in bytes: 0 for a number that no link has (RFC 8200 section 5).
+pub fn mtu_at(net: &Net, link: u32) -> u32
+    ensures { result ≡ mtu_at net.now link }
+{
+    if link < net.links() {
+        net.link(link).mtu
+    } else {
+        0
     }
 }
 

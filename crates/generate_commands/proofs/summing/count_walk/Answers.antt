@@ -1,8 +1,8 @@
-use Rattle.std.proofs.Common.{◌≡◌, ℕ, suc, ◌+◌, ◌-◌, Some, IfSome, sym, ◌∙◌, arith, subst, Option}
+use Rattle.std.proofs.Common.{◌≡◌, ℕ, List, suc, ◌+◌, ◌-◌, Some, IfSome, sym, ◌∙◌, arith, subst, Option}
 use Rattle.walk_rules.specs.declared.place.Place.{Place}
 use Rattle.walk_rules.specs.Relation.{IsPlace}
 use Rattle.walk_rules.specs.Treatment.{Gave, step_of}
-use Rattle.walk_rules.specs.Walk.{walk_of, choice_at}
+use Rattle.walk_rules.specs.Walk.{Stage, walk_of, choice_at, decisions}
 use Rattle.walk_rules.specs.declared.limits.TheConstants.{MAX_STAGES}
 use Rattle.generate_commands.proofs.Counting.{Counted, counted_on, counted_end, counted_over, frames_of_one, left_of_one}
 use Rattle.run_commands.proofs.PublicLaws.{walk_is_over}
@@ -15,15 +15,18 @@ loop-used-preserved c =
     let left : MAX_STAGES - c.loop-used.used ≡ suc (MAX_STAGES - (c.loop-used.used + 1)) = omega arith in
     let on = counted_on c.args.net.now (MAX_STAGES - c.loop-used.used) (MAX_STAGES - (c.loop-used.used + 1))
     c.loop-used.place c.loop-used.content (choice_at c.args.choices.now) c.loop-used.taken gave _
-    left c.in_ok-outcome.ensures.function c.loop-used.invariant.counted c.in-Some.next (sym c.in-Some.ensures) in
+    c.loop-used.sent left c.in_ok-outcome.ensures.function c.loop-used.invariant.counted c.in-Some.next (sym c.in-Some.ensures) in
+    let whole = walk_of MAX_STAGES c.args.net.now (Some c.args.comes.place) c.args.comes.content (choice_at c.args.choices.now) 0 in
+    let behind : ℕ → List Stage = λ n. walk_of (MAX_STAGES - (c.loop-used.used + 1)) c.args.net.now (Some c.in-Some.next)
+    c.staged.new.content (choice_at c.args.choices.now) (c.loop-used.taken + n) in
     record {
       place = subst (λ (o : Option Place). IfSome o (IsPlace c.args.net.now)) (sym c.in-Some.ensures) c.in_ok-outcome.ensures.next;
       taken = omega (arith, c.decisions_of-taken.ensures.few, c.loop-used.invariant.taken);
-      counted = subst (λ (n : ℕ). Counted c.args.net.now
-          (walk_of (MAX_STAGES - (c.loop-used.used + 1)) c.args.net.now (Some c.in-Some.next) c.staged.new.content
-          (choice_at c.args.choices.now) (c.loop-used.taken + n))
-          (walk_of MAX_STAGES c.args.net.now (Some c.args.comes.place) c.args.comes.content (choice_at c.args.choices.now) 0)
-          (c.loop-used.taken + n)) (sym c.decisions_of-taken.ensures.taken) on;
+      sent = omega (arith, c.frames_of-sent.ensures.few, c.loop-used.invariant.sent);
+      counted = subst (λ (n : ℕ). Counted c.args.net.now (behind n) whole (c.loop-used.sent + c.frames_of-sent.result))
+          (sym c.decisions_of-taken.ensures.taken)
+          (subst (λ (n : ℕ). Counted c.args.net.now (behind (decisions c.in_ok-outcome.outcome)) whole (c.loop-used.sent + n))
+          (sym c.frames_of-sent.ensures.sent) on);
     }
 
 pub returns-in-None-clause-frames : goal.returns-in-None-clause-frames
@@ -34,11 +37,11 @@ returns-in-None-clause-frames c =
     let left : MAX_STAGES - c.loop-used.used ≡ suc (MAX_STAGES - (c.loop-used.used + 1)) = omega arith in
     let last = counted_end c.args.net.now (MAX_STAGES - c.loop-used.used) (MAX_STAGES - (c.loop-used.used + 1))
     c.loop-used.place c.loop-used.content (choice_at c.args.choices.now) c.loop-used.taken gave _
-    left c.in_ok-outcome.ensures.function c.loop-used.invariant.counted (sym c.in-None.ensures) in
+    c.loop-used.sent left c.in_ok-outcome.ensures.function c.loop-used.invariant.counted (sym c.in-None.ensures) in
     let sent = last.0 in
-    let taken = c.decisions_of-taken.ensures.taken in
+    let frames = c.frames_of-sent.ensures.sent in
     let counts = c.counts_by.ensures.frames in
-    frames_of_one whole c.counts_by.result.frames (omega (arith, sent, taken, counts))
+    frames_of_one whole c.counts_by.result.frames (omega (arith, sent, frames, counts))
 
 pub returns-in-None-clause-left : goal.returns-in-None-clause-left
 returns-in-None-clause-left c =
@@ -48,7 +51,7 @@ returns-in-None-clause-left c =
     let left : MAX_STAGES - c.loop-used.used ≡ suc (MAX_STAGES - (c.loop-used.used + 1)) = omega arith in
     let last = counted_end c.args.net.now (MAX_STAGES - c.loop-used.used) (MAX_STAGES - (c.loop-used.used + 1))
     c.loop-used.place c.loop-used.content (choice_at c.args.choices.now) c.loop-used.taken gave _
-    left c.in_ok-outcome.ensures.function c.loop-used.invariant.counted (sym c.in-None.ensures) in
+    c.loop-used.sent left c.in_ok-outcome.ensures.function c.loop-used.invariant.counted (sym c.in-None.ensures) in
     left_of_one c.args.net.now whole c.ended_by.result c.counts_by.result.left c.counts_by.ensures.left (c.ended_by.ensures ∙ last.1)
 
 pub returns-clause-frames : goal.returns-clause-frames

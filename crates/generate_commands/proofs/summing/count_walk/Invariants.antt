@@ -9,6 +9,7 @@ abbrev pub invariant-loop-used : goal.invariant-loop-used
 invariant-loop-used l = record {
   place : IsPlace l.net l.place;
   taken : l.taken ≤ l.used;
+  sent : l.sent ≤ l.used;
   counted : Counted l.net (walk_of (MAX_STAGES - l.used) l.net (Some l.place) l.content (choice_at l.choices) l.taken)
-      (walk_of MAX_STAGES l.net (Some l.fn.comes.place) l.fn.comes.content (choice_at l.choices) 0) l.taken;
+      (walk_of MAX_STAGES l.net (Some l.fn.comes.place) l.fn.comes.content (choice_at l.choices) 0) l.sent;
 }

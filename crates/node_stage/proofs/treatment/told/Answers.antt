@@ -8,6 +8,6 @@ pub returns-in-Drops : goal.returns-in-Drops
 returns-in-Drops c =
     let net = c.args.net.now in
     let node = c.args.place.now.node in
-    let from = drops_from net node c.node.result.now c.in-Drops.reason c.in-Drops.at c.in-Drops.content c.node.ensures in
+    let from = drops_from net node c.node.result.now c.in-Drops.reason c.in-Drops.detail c.in-Drops.content c.node.ensures in
     let drops = sym (ap (λ (s : Staged). gave_of net node s) c.in-Drops.is) in
     tells_same c.dropped.result c.dropped.new.slot.items _ _ (from ∙ drops ∙ c.in_ok-outcome.ensures) c.dropped.ensures

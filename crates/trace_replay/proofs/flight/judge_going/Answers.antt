@@ -1,6 +1,6 @@
 use Rattle.std.proofs.Common.{subst}
 use Rattle.trace_replay.specs.declared.judge.LineVerdict.{LineVerdict}
-use Rattle.trace_replay.specs.Under.{IsRight, JudgesStage}
+use Rattle.trace_replay.specs.Judged.{IsRight, JudgesStage}
 use Rattle.trace_replay.proofs.Going.{going-right}
 use Rattle.trace_replay.proofs.flight.judge_going.Goals as goal
 

@@ -1,4 +1,4 @@
-use Rattle.walk_rules.proofs.Outcomes.{step-tells}
+use Rattle.walk_rules.proofs.Judged.{step-tells}
 use Rattle.walk_rules.proofs.laws.a_drop_tells_of_its_error.Goals as goal
 
 pub returns : goal.returns

@@ -1,4 +1,5 @@
-use Rattle.walk_rules.proofs.Contents.{step-content, step-back, next_place-family}
+use Rattle.walk_rules.proofs.Contents.{next_place-family}
+use Rattle.walk_rules.proofs.Judged.{step-content, step-back}
 use Rattle.walk_rules.proofs.laws.a_stage_keeps_a_content.Goals as goal
 
 pub returns : goal.returns

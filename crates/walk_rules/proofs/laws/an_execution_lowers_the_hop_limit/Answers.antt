@@ -1,4 +1,4 @@
-use Rattle.walk_rules.proofs.Executions.{step-less, step-pushes}
+use Rattle.walk_rules.proofs.Judged.{step-less, step-pushes}
 use Rattle.walk_rules.proofs.laws.an_execution_lowers_the_hop_limit.Goals as goal
 
 pub returns-clause-lowers : goal.returns-clause-lowers

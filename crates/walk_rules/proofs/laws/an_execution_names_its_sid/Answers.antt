@@ -1,4 +1,4 @@
-use Rattle.walk_rules.proofs.Executions.{step-again, step-hand}
+use Rattle.walk_rules.proofs.Judged.{step-again, step-hand}
 use Rattle.walk_rules.proofs.laws.an_execution_names_its_sid.Goals as goal
 
 pub returns : goal.returns

@@ -1,4 +1,4 @@
-use Rattle.walk_rules.proofs.Stages.{stage-choice}
+use Rattle.walk_rules.proofs.Judged.{stage-choice}
 use Rattle.walk_rules.proofs.laws.an_outcome_has_a_choice.Goals as goal
 
 pub returns : goal.returns

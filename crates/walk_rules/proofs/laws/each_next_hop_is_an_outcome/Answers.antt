@@ -1,4 +1,4 @@
-use Rattle.walk_rules.proofs.Outcomes.{stage-member, stage-each}
+use Rattle.walk_rules.proofs.Judged.{stage-member, stage-each}
 use Rattle.walk_rules.proofs.Places.{hops-start}
 use Rattle.walk_rules.proofs.laws.each_next_hop_is_an_outcome.Goals as goal
 

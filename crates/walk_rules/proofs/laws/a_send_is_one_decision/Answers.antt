@@ -1,5 +1,0 @@
-use Rattle.walk_rules.proofs.Choices.{decisions-one, decisions-zero}
-use Rattle.walk_rules.proofs.laws.a_send_is_one_decision.Goals as goal
-
-pub returns : goal.returns
-returns c = record { one = decisions-one; zero = decisions-zero }
