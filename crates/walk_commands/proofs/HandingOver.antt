@@ -1,4 +1,4 @@
--- A walk that hands over does so within its stages: each stage before that lowers the hop limit, or sends what was submitted.
+-- A walk that hands over where no link has an MTU does so within its stages: each stage before that lowers the hop limit, or sends what was submitted.
 use Rattle.std.proofs.Common.{◌≡◌, ℕ, zero, suc, ◌+◌, ◌*◌, ◌<◌, Bool, true, false, List, [], ◌∷◌, Option, None, Some, refl, sym, ap, ◌∙◌, subst, arith, inl, inr}
 use Rattle.std.specs.Prelude.{slice_get, is_some, All, if◌then◌else◌}
 use Rattle.std.specs.Option.{option_map}
@@ -24,11 +24,11 @@ use Rattle.walk_rules.specs.declared.place.How.TheVariants.{Arrived, Submitted, 
 use Rattle.walk_rules.specs.declared.place.Place.{Place}
 use Rattle.walk_rules.specs.declared.place.Outcome.{Outcome}
 use Rattle.walk_rules.specs.declared.place.Outcome.TheVariants as outcomes
-use Rattle.walk_rules.specs.Treatment.{Gave, step_of, treated, treated_in, treated_at_sid, treated_at_address, sent, pushed_at_sid, bound_at_sid, onward_at_sid, allow_of}
+use Rattle.walk_rules.specs.Treatment.{Gave, free_step_of, treated, treated_in, treated_at_sid, treated_at_address, sent, pushed_at_sid, bound_at_sid, onward_at_sid, allow_of}
 use Rattle.walk_rules.specs.Way.{Way, Away, Over, Own, Into, way_of, way_by, way_by_hit, is_multicast_of}
-use Rattle.walk_rules.specs.Walk.{walk_of, far_end, arrival, next_place, decisions}
+use Rattle.walk_rules.specs.Walk.{free_walk_of, far_end, arrival, next_place, decisions}
 use Rattle.walk_rules.specs.Laws.{IsLoweredByOne}
-use Rattle.walk_rules.proofs.PublicLaws.{walk_of-suc, walk_of-zero, walk_of-none, step-again, step-less, sent-low, sent-high}
+use Rattle.walk_rules.proofs.PublicLaws.{walk_by-suc, walk_by-zero, walk_by-none, free-again, free-less, sent-low, sent-high}
 use Rattle.leg_table.specs.Sids.{sid_binds, is_binding}
 use Rattle.leg_table.specs.Trace.{Handed, after_events, after_execution, Crossed, handed_first, handed_over}
 
@@ -135,7 +135,7 @@ way-less net node how Own p choice n h under = address-less net node n p (at_add
 way-less net node how (Into k) p choice n h under = into-less net node n k p (slice_get net.sids k)
 
 step-sends-less : (net : Network) (place : Place) (content : Content) (choice n : ℕ) → IsUnder place.how content (suc n)
-    → GaveLess n (step_of net place content choice)
+    → GaveLess n (free_step_of net place content choice)
 step-sends-less net place (Unreadable bytes reason) choice n under = absurd under
 step-sends-less net place (V4 p) choice n under = absurd under
 step-sends-less net place (V6 p) choice n under =
@@ -162,11 +162,11 @@ policy-none None e = refl
 policy-none (Some number) e = absurd (cc)
 
 again-lowers : (net : Network) (place : Place) (content : Content) (choice m : ℕ) (how : How) → is_binding net m ≡ false
-    → (step_of net place content choice).outcome ≡ outcomes.Again m how
-    → IsLoweredByOne content (step_of net place content choice).after
+    → (free_step_of net place content choice).outcome ≡ outcomes.Again m how
+    → IsLoweredByOne content (free_step_of net place content choice).after
 again-lowers net place content choice m how free is =
-    let x = step-again net place content choice m how is in
-    step-less net place content choice m how x.sid x.is_there
+    let x = free-again net place content choice m how is in
+    free-less net place content choice m how x.sid x.is_there
     (policy-none (behaviour_policy x.sid.behaviour) (sym (ap sid_binds x.is_there) ∙ free)) is
 
 -- what is handed over behind a stage
@@ -184,22 +184,22 @@ module _ (net : Network) (pick : ℕ → ℕ) where
   -- fewer stages are enough for what a walk hands over, from each place and content that is less
   abbrev Enough : ℕ → ℕ → Type 0
   Enough fuel n = (place : Place) (content : Content) (taken : ℕ) (h : Handed)
-      → handed_over net (walk_of fuel net (Some place) content pick taken) ≡ Some h → Unbound net h.sids → IsUnder place.how content n
-      → handed_over net (walk_of n net (Some place) content pick taken) ≡ Some h
+      → handed_over net (free_walk_of fuel net (Some place) content pick taken) ≡ Some h → Unbound net h.sids → IsUnder place.how content n
+      → handed_over net (free_walk_of n net (Some place) content pick taken) ≡ Some h
 
   module _ (fuel n : ℕ) (enough : Enough fuel n) (gave : Gave) (taken : ℕ) (h : Handed) where
     -- what was handed over behind a stage
     behind : (f : Handed → Handed) (next : Option Place)
-        → option_map f (handed_over net (walk_of fuel net next gave.after pick taken)) ≡ Some h
+        → option_map f (handed_over net (free_walk_of fuel net next gave.after pick taken)) ≡ Some h
         → ((later : Handed) → f later ≡ h → Unbound net later.sids)
         → ((place : Place) → next ≡ Some place → IsUnder place.how gave.after n)
-        → option_map f (handed_over net (walk_of n net next gave.after pick taken)) ≡ Some h
+        → option_map f (handed_over net (free_walk_of n net next gave.after pick taken)) ≡ Some h
     behind f None e free less =
-        let none : handed_over net (walk_of fuel net None gave.after pick taken) ≡ None =
-        ap (handed_over net) (walk_of-none fuel net gave.after pick taken) in
+        let none : handed_over net (free_walk_of fuel net None gave.after pick taken) ≡ None =
+        ap (handed_over net) (walk_by-none (free_step_of net) (next_place net) fuel gave.after pick taken) in
         absurd (cc (sym (ap (option_map f) none) ∙ e))
     behind f (Some place) e free less =
-        let got = behind-some f (handed_over net (walk_of fuel net (Some place) gave.after pick taken)) h e in
+        let got = behind-some f (handed_over net (free_walk_of fuel net (Some place) gave.after pick taken)) h e in
         ap (option_map f) (enough place gave.after taken got.0 got.1 (free got.0 (same-handed got.2)) (less place refl)) ∙ got.2
       where
         same-handed : {x y : Handed} → Some x ≡ Some y → x ≡ y
@@ -220,10 +220,10 @@ module _ (net : Network) (pick : ℕ → ℕ) where
   module _ (fuel n : ℕ) (enough : Enough fuel n) (place : Place) (content : Content) (taken : ℕ) (h : Handed) (free : Unbound net h.sids)
       (within : IsUnder place.how content (suc n)) where
     abbrev gave : Gave
-    gave = step_of net place content (pick taken)
+    gave = free_step_of net place content (pick taken)
 
     abbrev rest : ℕ → Outcome → Option Handed
-    rest k o = handed_over net (walk_of k net (next_place net place o) gave.after pick (taken + decisions o))
+    rest k o = handed_over net (free_walk_of k net (next_place net place o) gave.after pick (taken + decisions o))
 
     -- the SID that was executed, and those behind it
     free-both : (m : ℕ) (later : Handed) → after_execution net m later ≡ h
@@ -259,11 +259,11 @@ module _ (net : Network) (pick : ℕ → ℕ) where
 
   pub hands-within : (fuel n : ℕ) → Enough fuel n
   hands-within zero n place content taken h e free less =
-      absurd (cc (sym (ap (handed_over net) (walk_of-zero net (Some place) content pick taken)) ∙ e))
+      absurd (cc (sym (ap (handed_over net) (walk_by-zero (free_step_of net) (next_place net) (Some place) content pick taken)) ∙ e))
   hands-within (suc fuel) zero place content taken h e free less = absurd (none-under place.how content less)
   hands-within (suc fuel) (suc n) place content taken h e free less =
-      let gave : Gave = step_of net place content (pick taken) in
-      ap (handed_over net) (walk_of-suc n net place content pick taken)
+      let gave : Gave = free_step_of net place content (pick taken) in
+      ap (handed_over net) (walk_by-suc (free_step_of net) (next_place net) n place content pick taken)
       ∙ by-outcome fuel n (hands-within fuel n) place content taken h free less gave.outcome refl
       (step-sends-less net place content (pick taken) n less)
-      (sym (ap (handed_over net) (walk_of-suc fuel net place content pick taken)) ∙ e)
+      (sym (ap (handed_over net) (walk_by-suc (free_step_of net) (next_place net) fuel place content pick taken)) ∙ e)

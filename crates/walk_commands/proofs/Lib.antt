@@ -1,4 +1,5 @@
 pub mod HandingOver
+pub mod Fitting
 pub mod HeadendSteps
 pub mod HeadendSteps4
 pub mod PublicLaws

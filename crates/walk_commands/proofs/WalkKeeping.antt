@@ -8,17 +8,18 @@ use Rattle.srv6_rules.specs.Encapsulation.{inner_lowered, header_bytes}
 use Rattle.srv6_rules.specs.Packet.{Packet, Content, V6, V4, Unreadable, bytes_of, spelling}
 use Rattle.srv6_rules.specs.Packet4.{Packet4, IsSpellable4, ttl, spelling4, lowered4}
 use Rattle.srv6_rules.specs.Policies.{Outer, pushed_round, outer_by, headend_by}
-use Rattle.srv6_rules.proofs.PublicLaws.{length-spelling, by-fits, headend-high, ttl_lowered-length}
+use Rattle.srv6_rules.proofs.PublicLaws.{length-spelling, by-fits, by-payload, headend-high, ttl_lowered-length}
 use Rattle.net_model.specs.Network.{Network}
 use Rattle.walk_rules.specs.Walk.{choice_at}
 use Rattle.intent_reader.specs.declared.intent.Intent.{Intent}
 use Rattle.list_pack.specs.SidLists.{list_values}
-use Rattle.leg_table.specs.Realizes.{IsInner, encapsulation_of, encapsulated_for, HandsOver}
+use Rattle.leg_table.specs.Realizes.{IsInner, content_lowered, encapsulation_of, encapsulated_for, HandsOver}
 use Rattle.path_compiler.specs.declared.compiled.Compiled.{Compiled}
 use Rattle.path_compiler.specs.Compiled.{IsCompiled}
 use Rattle.walk_rules.specs.declared.limits.TheConstants.{MAX_STAGES}
 use Rattle.walk_commands.specs.Walk.{Enters, WalksKeepTo, of_content, of_encapsulating, policy_of, segment_of}
 use Rattle.walk_commands.proofs.HandingOver.{hands-within}
+use Rattle.walk_commands.proofs.Fitting.{carried, walk-joins}
 use Rattle.walk_commands.proofs.WalkStarts.{values-count}
 
 -- a lowered packet is as long
@@ -76,17 +77,42 @@ module _ (net : Network) (intent : Intent) (c : Compiled) (compiled : IsCompiled
   enters families.V4 (V6 p) e is small = absurd is
   enters families.V4 (Unreadable bytes reason) e is small = absurd is
 
+  -- the outer packet has the header's bytes in front of those of the inner one, lowered
+  outer-length : (family : Family) (inner : Content) → intent.inner ≡ family → IsInner family inner
+      → 40 + length (encapsulated_for intent (list_values net c.list) inner intent.hop_limit).payload ≡ c.header + length (bytes_of inner)
+  outer-length family inner e is =
+      let bytes : List ℕ = bytes_of (content_lowered inner) in
+      let same = ap (λ (p : Packet). 40 + length p.payload) (same-outer bytes) in
+      let whole = by-payload (policy_of net intent c) intent.reduced intent.inner bytes in
+      let size = same-size in
+      let inside : length bytes ≡ length (bytes_of inner) = lowered-length family inner is in
+      omega (arith, same, whole, size, inside)
+    where
+      lowered-length : (family : Family) (inner : Content) → IsInner family inner
+          → length (bytes_of (content_lowered inner)) ≡ length (bytes_of inner)
+      lowered-length families.V6 (V6 p) is = length-spelling (inner_lowered p) ∙ sym (length-spelling p)
+      lowered-length families.V6 (V4 p) is = absurd is
+      lowered-length families.V6 (Unreadable bytes reason) is = absurd is
+      lowered-length families.V4 (V4 p) is = lowered4-length p is.0
+      lowered-length families.V4 (V6 p) is = absurd is
+      lowered-length families.V4 (Unreadable bytes reason) is = absurd is
+
 pub walks_keep : WalksKeepTo
 walks_keep net intent c choices inner byte compiled some is =
+    let len : ℕ = c.header + length (bytes_of inner) in
     let segments : List ℕ = list_values net c.list in
     let packet : Packet = encapsulated_for intent segments inner intent.hop_limit in
     let got : HandsOver net intent segments inner intent.hop_limit choices
     = compiled.found.chosen.whole.realizes.reaches inner is.is_inner intent.hop_limit compiled.within choices some in
+    let size = outer-length net intent c compiled intent.inner inner refl is.is_inner in
     record {
       outer = V6 packet;
       enters = enters net intent c compiled intent.inner inner refl is.is_inner is.small;
       handed = got.handed;
-      first = hands-within net (choice_at choices) got.fuel MAX_STAGES _ (V6 packet) 0 got.handed got.first got.unbound (omega (arith, byte));
+      first = walk-joins net len (choice_at choices) MAX_STAGES _ (V6 packet) 0 got.handed
+          (hands-within net (choice_at choices) got.fuel MAX_STAGES _ (V6 packet) 0 got.handed got.first got.unbound (omega (arith, byte)))
+          (got.unbound, carried net len intent.steps got.handed.trace got.steps is.goes_over)
+          (omega (arith, size));
       steps = got.steps;
       lowered = got.content;
     }

@@ -1,6 +1,6 @@
 -- The command `walk`: the inner packets of the input, encapsulated at the headend of the intent of a file with the list that
 -- the intent is compiled to, in the network that another file describes (RFC 8986 sections 5.1 and 5.2).
-use Rattle.std.specs.Prelude.{◌≡◌, ℕ, ◌+◌, ◌^◌, ◌<◌, ◌≤◌, Bool, true, false, IsTrue, if◌then◌else◌, List, [], ◌∷◌, codes, length, map, Option, Some, Result, Ok, Err, IsSomeAnd, ⊤}
+use Rattle.std.specs.Prelude.{◌≡◌, ℕ, ◌+◌, ◌^◌, ◌<◌, ◌≤◌, Bool, true, false, IsTrue, if◌then◌else◌, List, [], ◌∷◌, codes, length, map, All, Option, Some, Result, Ok, Err, IsSomeAnd, ⊤}
 use Rattle.v6_addr.specs.declared.address.Addr.{Addr}
 use Rattle.pcap_io.specs.declared.frame.Body.{Body}
 use Rattle.pcap_io.specs.declared.frame.Body.TheVariants as bodies
@@ -20,7 +20,10 @@ use Rattle.walk_rules.specs.declared.place.Ended.TheVariants as ends
 use Rattle.walk_rules.specs.declared.place.How.TheVariants.{Submitted}
 use Rattle.walk_rules.specs.declared.place.Place.{Place}
 use Rattle.walk_rules.specs.Walk.{Stage, walk_of, choice_at}
+use Rattle.walk_rules.specs.Treatment.{mtu_at}
 use Rattle.intent_reader.specs.declared.intent.Intent.{Intent}
+use Rattle.intent_reader.specs.declared.intent.Step.{Step}
+use Rattle.intent_reader.specs.declared.intent.Step.TheVariants.{Links, Function}
 use Rattle.list_pack.specs.SidLists.{list_values}
 use Rattle.leg_table.specs.Realizes.{headend_place, IsInner, content_lowered}
 use Rattle.leg_table.specs.Tasks.{matches}
@@ -145,10 +148,17 @@ walk_output net headend choices schedule input = after (packets_in input) (walke
 abbrev pub no_list : List ℕ → Output
 no_list told = record { pieces = ForErr told ∷ []; status = statuses.NoAnswer }
 
--- an inner packet that the headend encapsulates: bytes spell it, its hop limit or TTL can be lowered, and the outer packet is not too big
-pub record IsEncapsulated (family : Family) (c : Compiled) (inner : Content) : Type 0 where
-  pub is_inner : IsInner family inner
+-- a packet of so many bytes goes over each link of a step
+abbrev pub GoesOver : Network → ℕ → Step → Type 0
+GoesOver net len (Links set) = All (λ link. len ≤ mtu_at net link) set
+GoesOver net len (Function sid) = Unit {0}
+
+-- an inner packet that the headend encapsulates and that is small enough: bytes spell it, its hop limit or TTL can be lowered, the outer
+-- packet is not too big, and it goes over each link of each of the intent's steps
+pub record IsEncapsulated (net : Network) (intent : Intent) (c : Compiled) (inner : Content) : Type 0 where
+  pub is_inner : IsInner intent.inner inner
   pub small : c.header + length (bytes_of inner) ≤ most_len
+  pub goes_over : All (GoesOver net (c.header + length (bytes_of inner))) intent.steps
 
 -- it enters, its walk's trace up to the first hand-over is the intent's steps, and what is handed over is the inner packet
 -- with its hop limit or TTL lowered by one
@@ -164,7 +174,7 @@ pub record KeepsTo (net : Network) (intent : Intent) (c : Compiled) (choices : L
 abbrev pub ListWants : Network → Intent → List ℕ → List ℕ → List ℕ → Compiled → Output → Type 0
 ListWants net intent choices schedule input c output =
     (output ≡ walk_output net (headend_of net intent c) choices schedule input)
-    × ((inner : Content) → IsEncapsulated intent.inner c inner → KeepsTo net intent c choices inner)
+    × ((inner : Content) → IsEncapsulated net intent c inner → KeepsTo net intent c choices inner)
 
 -- the output of an answer of the compiler; want of memory has none
 abbrev pub WalkWants : List ℕ → List ℕ → List ℕ → Network → Intent → Result Compiled CompileFault → Output → Type 0
@@ -215,5 +225,5 @@ StartsAs net intent (Err (halts.Failed failures.NoMemory)) = ⊤
 abbrev pub WalksKeepTo : Type 0
 WalksKeepTo =
     (net : Network) (intent : Intent) (c : Compiled) (choices : List ℕ) (inner : Content)
-    → intent.hop_limit < 2 ^ 8 → IsCompiled net intent c → 0 < length choices → IsEncapsulated intent.inner c inner
+    → intent.hop_limit < 2 ^ 8 → IsCompiled net intent c → 0 < length choices → IsEncapsulated net intent c inner
     → KeepsTo net intent c choices inner

@@ -13,7 +13,8 @@ ghost use Rattle.walk_commands.specs.declared.headend.Headend.{Headend};
 ghost use Rattle.walk_commands.specs.Walk.{WalksKeepTo, comings_at_headend, walk_shape};
 
 /// An inner packet of the intent's family whose hop limit or TTL is at least 2, and whose outer
-/// packet is not too big, enters at the headend. Its walk, which `walk` writes, crosses and
+/// packet is not too big and no longer than the MTU of each link of each step, enters at the
+/// headend. Its walk, which `walk` writes, crosses and
 /// executes exactly the intent's steps, in order, up to where it first hands a packet over,
 /// whatever is chosen; and that is the inner packet with its hop limit or TTL lowered by one (with
 /// IPv4 the checksum that follows too) and nothing else changed. (RFC 8986 sections 5.1 and 5.2)
