@@ -120,7 +120,7 @@ fn legs_of_flat<'a>(alloc: Global, net: &'a Net, intent: &'a Intent) -> Result<S
     ensures known { IsNetworkOf net.now (legs_value net.now intent.now) }
 {
     net.keeps_rules();
-    if let Err(why) = compilable(net) {
+    if let Err(why) = compilable(alloc, net) {
         return Err(Halt::Refused(refusal_of_not_flat(net, &why)));
     }
     Ok(StrictLegs::build(alloc, net, intent)?)

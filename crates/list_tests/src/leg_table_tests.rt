@@ -136,7 +136,7 @@ fn legs_of_a_row(rt: HostRuntime) -> Result<(), Fail> {
     let text = format!(in rt.alloc(); "{ROW}{SIDS}")?;
     let net = read_net(rt.alloc(), text.as_bytes())?;
     let intent = read_intent(rt.alloc(), ROW_INTENT.as_bytes(), &net)?;
-    assert!(rt; compilable(&net).is_ok());
+    assert!(rt; compilable(rt.alloc(), &net).is_ok());
     let legs = StrictLegs::build(rt.alloc(), &net, &intent)?;
     assert_eq!(rt; legs.steps(), 4);
     assert_sids(&rt, &legs, 0, &[]);
@@ -187,7 +187,7 @@ fn legs_of_a_row(rt: HostRuntime) -> Result<(), Fail> {
 fn legs_of_a_loop(rt: HostRuntime) -> Result<(), Fail> {
     let net = read_net(rt.alloc(), LOOP.as_bytes())?;
     let intent = read_intent(rt.alloc(), LOOP_INTENT.as_bytes(), &net)?;
-    assert!(rt; compilable(&net).is_ok());
+    assert!(rt; compilable(rt.alloc(), &net).is_ok());
     let legs = StrictLegs::build(rt.alloc(), &net, &intent)?;
     assert_sids(&rt, &legs, 0, &[2]);
     assert_sids(&rt, &legs, 1, &[1]);
@@ -205,7 +205,7 @@ fn legs_of_kinds(rt: HostRuntime) -> Result<(), Fail> {
     let net = read_net(rt.alloc(), KINDS.as_bytes())?;
     let text = format!(in rt.alloc(); "{KINDS_INTENT}\"dx6\" }}]\ninner = \"ipv6\"\n")?;
     let intent = read_intent(rt.alloc(), text.as_bytes(), &net)?;
-    assert!(rt; compilable(&net).is_ok());
+    assert!(rt; compilable(rt.alloc(), &net).is_ok());
     let legs = StrictLegs::build(rt.alloc(), &net, &intent)?;
     for (position, via, next, want) in [
         // PSP takes nothing away
@@ -239,7 +239,7 @@ fn legs_of_kinds(rt: HostRuntime) -> Result<(), Fail> {
 #[test]
 fn finishes_by_family(rt: HostRuntime) -> Result<(), Fail> {
     let net = read_net(rt.alloc(), KINDS.as_bytes())?;
-    assert!(rt; compilable(&net).is_ok());
+    assert!(rt; compilable(rt.alloc(), &net).is_ok());
     for (title, next, six, four) in [
         ("usd", 5, true, true),
         ("dx6", 6, true, false),
@@ -268,7 +268,7 @@ fn legs_of_a_block(rt: HostRuntime) -> Result<(), Fail> {
     let text = format!(in rt.alloc(); "{ROW}{NEXT}")?;
     let net = read_net(rt.alloc(), text.as_bytes())?;
     let intent = read_intent(rt.alloc(), ROW_INTENT.as_bytes(), &net)?;
-    assert!(rt; compilable(&net).is_ok());
+    assert!(rt; compilable(rt.alloc(), &net).is_ok());
     let legs = StrictLegs::build(rt.alloc(), &net, &intent)?;
     assert_sids(&rt, &legs, 1, &[0, 1]);
     assert_sids(&rt, &legs, 3, &[5, 3]);

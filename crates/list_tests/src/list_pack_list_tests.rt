@@ -151,7 +151,7 @@ fn segments(alloc: Global, net: &Net, list: &SidList) -> Option<Vec<Addr>> {
     if !is_legal(net, list) {
         return None;
     }
-    match compilable(net) {
+    match compilable(alloc, net) {
         Err(_) => None,
         Ok(()) => values(alloc, net, list).ok(),
     }

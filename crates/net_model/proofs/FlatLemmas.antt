@@ -40,7 +40,7 @@ none_nested_from net none s inner is_sid is_inner inside =
     let (j, at_j) = get_from_contains (inner_entries net) inner is_inner in
     none i j s.prefix inner (prefix_at net.sids i s at_i, at_j, inside)
 
-some_nested : (net : Network) (p q : PrefixValue) → IsFirst IsNested (map sid_prefix net.sids) (inner_entries net) p q → ¬ NoneNested net
+pub some_nested : (net : Network) (p q : PrefixValue) → IsFirst IsNested (map sid_prefix net.sids) (inner_entries net) p q → ¬ NoneNested net
 some_nested net p q first none =
     let (at_i, at_j, inside) = first.pair in
     let (s, at_s, is) = sid_at net.sids first.outer_place p at_i in

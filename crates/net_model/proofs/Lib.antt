@@ -8,6 +8,7 @@ pub mod IsBestLemmas
 pub mod PairLemmas
 pub mod PairMeanings
 pub mod FlatLemmas
+pub mod ApartLemmas
 pub mod BlockLemmas
 pub mod CompressionLaws
 pub mod FlatLaws

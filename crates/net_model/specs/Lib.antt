@@ -6,6 +6,7 @@ pub mod Keeps
 pub mod Named
 pub mod Entries
 pub mod Flat
+pub mod Apart
 pub mod Tables
 pub mod Judging
 pub mod EntryKeys

@@ -1,12 +1,14 @@
 //! Flat networks, over which lists are compiled.
 
-ghost use Rattle.std.specs.Prelude.{◌≡◌, ◌↔◌, ◌≤◌, Bool, List, ◌++◌, map, find, Ok, IsOk};
+ghost use Rattle.std.specs.Prelude.{◌≡◌, ◌↔◌, ◌≤◌, Bool, List, ◌++◌, map, find, Ok, IsOk, IfOk, OnOk, IsTrue, true, false};
 ghost use Rattle.std.specs.List.{filter};
 ghost use Rattle.v6_addr.specs.Address.{PrefixValue, is_inside};
 ghost use Rattle.net_model.specs.Network.{network_of};
 ghost use Rattle.net_model.specs.Flat.{sid_prefix, route_prefix, is_ipv6_route, address_prefix, inner_entries, first_inside};
 ghost use Rattle.net_model.specs.Flat.{is_nested, is_zero_in, zero_csid, has_wrong_length, is_mixed, mixed_block, same_csid, is_clash, clash};
-ghost use Rattle.net_model.specs.Flat.{pair_or, first_pair, no_nested, no_zero, no_mixed, no_clash, flatness_of, IsFlat, IsJudged};
+ghost use Rattle.net_model.specs.Flat.{pair_or, first_pair, no_nested, no_zero, no_mixed, no_clash, flatness_of, NoneNested, IsFlat, IsJudged};
+ghost use Rattle.prefix_table.specs.Table.{HasAround};
+ghost use Rattle.net_model.specs.Apart.{GetsPrefix, HaveTheirPrefixes, Clears};
 ghost use Rattle.net_model.specs.declared.flat.NotFlat.{NotFlat};
 ghost use Rattle.net_model.specs.declared.flat.NotFlat.TheVariants.{Nested};
 
@@ -15,7 +17,10 @@ use crate::net::Net;
 use crate::parts::{Block, BlockKind, NetParts, Node, Route};
 use crate::rules::{same_family, same_prefix};
 use crate::tables::whole;
+use base::NoMemory;
+use prefix_table::{Table, TableFault};
 use srv6_rules::{Csid, Family, SidEntry};
+use std::alloc::Global;
 use v6_addr::{Prefix, field};
 
 /// Why a network is not flat (own rules).
@@ -152,6 +157,102 @@ fn refuse_nested(sids: &[SidEntry], parts: &NetParts) -> Result<(), NotFlat>
     Ok(())
 }
 
+/// A prefix is put into a table, unless it is there.
+fn put_prefix(table: &mut Table<()>, p: Prefix) -> Result<(), NoMemory>
+    ensures { OnOk result (GetsPrefix table.old table.new p) }
+{
+    match table.insert(p, ()) {
+        Ok(()) => Ok(()),
+        Err(TableFault::Taken { .. }) => Ok(()),
+        Err(TableFault::NoMemory) => Err(NoMemory),
+    }
+}
+
+/// A table of SIDs' prefixes.
+fn table_of(alloc: Global, sids: &[SidEntry]) -> Result<Table<()>, NoMemory>
+    ensures { IfOk result (HaveTheirPrefixes sids.now) }
+{
+    let mut table = Table::new(alloc);
+    for s in sids {
+        put_prefix(&mut table, s.prefix)?;
+    }
+    Ok(table)
+}
+
+/// Whether a SID lies strictly inside one of a table's prefixes.
+fn has_sid_inside(table: &Table<()>, sids: &[SidEntry]) -> bool
+    ensures { Clears table.now (map sid_prefix sids.now) result }
+{
+    for s in sids {
+        if table.has_around(s.prefix) {
+            return true;
+        }
+    }
+    false
+}
+
+/// Whether a route is of IPv6 and lies strictly inside one of a table's prefixes.
+fn is_route_inside(table: &Table<()>, r: &Route) -> bool
+    ensures { result ≡ false → is_ipv6_route r.now ≡ true → ¬ HasAround table.now r.now.prefix }
+{
+    if !same_family(r.family, Family::V6) {
+        return false;
+    }
+    table.has_around(r.prefix)
+}
+
+/// Whether an IPv6 route does.
+fn has_route_inside(table: &Table<()>, routes: &[Route]) -> bool
+    ensures { Clears table.now (map route_prefix (filter is_ipv6_route routes.now)) result }
+{
+    for r in routes {
+        if is_route_inside(table, r) {
+            return true;
+        }
+    }
+    false
+}
+
+/// Whether a node's address does.
+fn has_address_inside(table: &Table<()>, nodes: &[Node]) -> bool
+    ensures { Clears table.now (map address_prefix nodes.now) result }
+{
+    for n in nodes {
+        if table.has_around(whole(n.address)) {
+            return true;
+        }
+    }
+    false
+}
+
+/// Whether no entry lies strictly inside the prefix of a SID, as far as look-ups in a table tell:
+/// not where one does, or where the table gets no memory.
+fn are_apart(alloc: Global, parts: &NetParts) -> bool
+    ensures { IsTrue result → NoneNested (network_of parts.now) }
+{
+    let sids = parts.sids.as_slice();
+    let Ok(table) = table_of(alloc, sids) else {
+        return false;
+    };
+    if has_sid_inside(&table, sids) {
+        return false;
+    }
+    if has_route_inside(&table, parts.routes.as_slice()) {
+        return false;
+    }
+    !has_address_inside(&table, parts.nodes.as_slice())
+}
+
+/// Refuses the first nested pair, which is searched for only where there may be one.
+fn refuse_nested_pair(alloc: Global, parts: &NetParts) -> Result<(), NotFlat>
+    ensures { result ≡ no_nested (network_of parts.now) }
+{
+    if are_apart(alloc, parts) {
+        return Ok(());
+    }
+    refuse_nested(parts.sids.as_slice(), parts)
+}
+
 /// SIDs whose CSIDs in a block are 0.
 struct ZeroCsids;
 
@@ -256,10 +357,10 @@ fn refuse_clash(parts: &NetParts) -> Result<(), NotFlat>
 }
 
 /// The first refusal, in their order.
-fn refuse(parts: &NetParts) -> Result<(), NotFlat>
+fn refuse(alloc: Global, parts: &NetParts) -> Result<(), NotFlat>
     ensures { result ≡ flatness_of (network_of parts.now) }
 {
-    refuse_nested(parts.sids.as_slice(), parts)?;
+    refuse_nested_pair(alloc, parts)?;
     refuse_zero(parts)?;
     refuse_mixed(parts)?;
     refuse_clash(parts)
@@ -281,10 +382,13 @@ fn refuse(parts: &NetParts) -> Result<(), NotFlat>
 /// one: of `Nested` the SID and then the entry, where the prefixes of SIDs come before those of the
 /// IPv6 routes of all tables, and these before the nodes' addresses; of `ZeroCsid` the SID; of
 /// `MixedBlock` the block and then the SID; of `Clash` the earlier SID and then the later one.
-pub fn compilable(net: &Net) -> Result<(), NotFlat>
+///
+/// A table of the SIDs' prefixes tells fast that there is no nested pair; where it gets no memory
+/// the pairs are searched as where there is one, which takes longer.
+pub fn compilable(alloc: Global, net: &Net) -> Result<(), NotFlat>
     ensures answer { result ≡ flatness_of net.now }
     ensures flat { IsOk result ↔ IsFlat net.now }
     ensures judged { IsJudged net.now result }
 {
-    refuse(net.parts())
+    refuse(alloc, net.parts())
 }

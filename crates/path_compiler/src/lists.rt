@@ -152,7 +152,7 @@ pub fn compile(alloc: Global, net: &Net, intent: &Intent) -> Result<Compiled, Co
     ensures handing { NoLessHandsOver net.now intent.now result }
 {
     net.keeps_rules();
-    match compilable(net) {
+    match compilable(alloc, net) {
         Err(why) => return Err(CompileFault::NotFlat(why)),
         Ok(()) => {}
     }

@@ -7,7 +7,7 @@ use Rattle.std.specs.Ordering.{nat_cmp, ordering_then, is_eq}
 use Rattle.std.specs.List.{insert}
 use Rattle.std.specs.BTreeMap as map
 use Rattle.std.specs.Map.{lookup}
-use Rattle.std.proofs.lemmas.Bool.{cases_Bool, cases_lt, cases_eq, both_ways, and_parts, eqb-true}
+use Rattle.std.proofs.lemmas.Bool.{cases_Bool, cases_lt, cases_eq, both_ways, and_parts, eqb-true, false≢true}
 use Rattle.std.proofs.lemmas.Bool.Decides.{nat_tests}
 use Rattle.std.proofs.lemmas.List.Edits.{length-insert, get_or-insert_at, get_or-insert_below, get_or-insert_above}
 use Rattle.std.proofs.lemmas.Option.{none-some, slice_get-get_or, slice_get_within, get_or_from_slice_get}
@@ -15,8 +15,8 @@ use Rattle.v6_addr.specs.Address.{PrefixValue, IsPrefix, Holds}
 use Rattle.v6_addr.proofs.PublicLaws.{same_value, Holds_own_value}
 use Rattle.prefix_table.specs.declared.index.Key.{Key}
 use Rattle.prefix_table.specs.declared.index.Index.{Index}
-use Rattle.prefix_table.specs.Table.{HasPrefix, IsTable, HoldsNone, IsBest}
-use Rattle.prefix_table.specs.Index.{key_cmp, key_at, key_of, place_at, AreFalling, HasLength, Keeps, AreLengths, HasNoKey, IsLongest, IsIndex, IsWhole}
+use Rattle.prefix_table.specs.Table.{HasPrefix, IsTable, HoldsNone, IsBest, HasAround}
+use Rattle.prefix_table.specs.Index.{key_cmp, key_at, key_of, place_at, AreFalling, HasLength, Keeps, AreLengths, HasNoKey, IsLongest, HasBelow, HasShorter, IsIndex, IsWhole}
 use Rattle.prefix_table.proofs.TableLemmas.{same_prefix, is_table_push}
 
 -- ---- keys
@@ -207,6 +207,21 @@ longest_found index a n i are within none is =
           ]);
     }
 
+-- the first lengths give no shorter key, and all of them where one has a place
+abbrev pub HasNoneShorter : Index → ℕ → ℕ → ℕ → Type 0
+HasNoneShorter index a len n = (i : ℕ) → i < n → ¬ HasBelow index a len (get_or index.lengths.items i 0)
+
+pub none_shorter : (index : Index) (a len n : ℕ) → AreLengths index → length index.lengths.items ≤ n → HasNoneShorter index a len n
+    → ¬ HasShorter index a len
+none_shorter index a len n are all none shorter =
+    by_place (place_at index (key_at a shorter.0)) refl shorter.1.1
+  where
+    by_place : (o : Option ℕ) → place_at index (key_at a shorter.0) ≡ o → is_some o ≡ true → ⊥
+    by_place None at some = false≢true some
+    by_place (Some j) at some =
+        let has = are.each (key_at a shorter.0) j at in
+        none has.0 (omega (arith, has.1, all)) (subst (HasBelow index a len) (sym has.2) shorter.1)
+
 pub longest_none : (index : Index) (a n : ℕ) → AreLengths index → length index.lengths.items ≤ n → HasNoneBefore index a n
     → HasNoKey index a
 longest_none index a n are all none len =
@@ -345,6 +360,32 @@ module _ {T : Type 0} where
       let found : place_at index (key_at a e.0.len) ≡ Some there.0 =
       subst (λ (k : Key). place_at index k ≡ Some there.0) (key_by_holds e.0 a held) (is.each there.0 e there.1) in
       none-some there.0 (sym (none e.0.len) ∙ found)
+
+  -- ---- whether a prefix lies inside another
+
+  around_by_shorter : (es : List (PrefixValue × T)) (index : Index) (p : PrefixValue) (len : ℕ) (o : Option ℕ) → IsIndex es index
+      → len < p.len → place_at index (key_at p.value len) ≡ o → is_some o ≡ true → HasAround es p
+  around_by_shorter es index p len None is less at some = absurd (false≢true some)
+  around_by_shorter es index p len (Some i) is less at some =
+      let it = is.leads (key_at p.value len) i at in
+      let is_len : it.0.0.len ≡ len = ap (λ (k : Key). k.len) it.2 in
+      (it.0, contains_at es it.0 i it.1, (omega (arith, is_len, less), holds_by_key it.0.0 p.value len it.2))
+
+  shorter_by_around : (es : List (PrefixValue × T)) (index : Index) (p : PrefixValue) → IsIndex es index → HasAround es p
+      → HasShorter index p.value p.len
+  shorter_by_around es index p is around =
+      let e = around.0 in
+      let there = place_of es e around.1 in
+      let found : place_at index (key_at p.value e.0.len) ≡ Some there.0 =
+      subst (λ (k : Key). place_at index k ≡ Some there.0) (key_by_holds e.0 p.value around.2.1) (is.each there.0 e there.1) in
+      (e.0.len, (around.2.0, ap is_some found))
+
+  pub around_tells : (es : List (PrefixValue × T)) (index : Index) (p : PrefixValue) → IsIndex es index
+      → HasShorter index p.value p.len ↔ HasAround es p
+  around_tells es index p is = (
+    λ h. around_by_shorter es index p h.0 (place_at index (key_at p.value h.0)) is h.1.0 refl h.1.1,
+    λ h. shorter_by_around es index p is h,
+  )
 
   -- ---- the whole table
 

@@ -1,5 +1,5 @@
 -- Where the entries of a table stand, by the lengths and the first bits of their prefixes.
-use Rattle.std.specs.Prelude.{◌≡◌, ℕ, ◌-◌, ◌/◌, ◌^◌, ◌<◌, ◌≤◌, List, length, slice_get, slice_index, Option, Some, None}
+use Rattle.std.specs.Prelude.{◌≡◌, ℕ, ◌-◌, ◌/◌, ◌^◌, ◌<◌, ◌≤◌, List, length, slice_get, slice_index, Option, Some, None, IsSome}
 use Rattle.std.specs.declared.cmp.Ordering.{Ordering}
 use Rattle.std.specs.Ordering.{nat_cmp, ordering_then}
 use Rattle.std.specs.BTreeMap as map
@@ -48,6 +48,13 @@ pub record IsLongest (index : Index) (a i : ℕ) : Type 0 where
   pub len : ℕ
   pub is : place_at index (key_at a len) ≡ Some i
   pub none_longer : (longer : ℕ) → len < longer → place_at index (key_at a longer) ≡ None
+
+-- a length is below another, and the key of so many of an address's first bits has a place; some length is such
+abbrev pub HasBelow : Index → ℕ → ℕ → ℕ → Type 0
+HasBelow index a len other = (other < len) × IsSome (place_at index (key_at a other))
+
+abbrev pub HasShorter : Index → ℕ → ℕ → Type 0
+HasShorter index a len = (other : ℕ) × HasBelow index a len other
 
 -- each entry has the place of its prefix's key, and each place is that of an entry with the key
 pub record IsIndex {T : Type 0} (entries : List (PrefixValue × T)) (index : Index) : Type 0 where

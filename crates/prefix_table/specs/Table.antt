@@ -1,6 +1,6 @@
 -- A table of prefixes as a plain list of pairs, each a prefix and its value, in the order of insertion.
 use Rattle.std.specs.Prelude.{◌≡◌, ℕ, ◌<◌, ◌≤◌, List, [], ◌∷◌, Option, Some, None, Contains}
-use Rattle.v6_addr.specs.Address.{PrefixValue, IsPrefix, Holds}
+use Rattle.v6_addr.specs.Address.{PrefixValue, IsPrefix, Holds, IsInside}
 use Rattle.prefix_table.specs.declared.fault.TableFault.{TableFault}
 use Rattle.prefix_table.specs.declared.fault.TableFault.TheVariants.{Taken, NoMemory}
 
@@ -21,6 +21,10 @@ pub record IsTable {T : Type 0} (entries : List (PrefixValue × T)) : Type 0 whe
 -- no entry holds the address
 abbrev pub HoldsNone : {T : Type 0} → List (PrefixValue × T) → ℕ → Type 0
 HoldsNone {T} entries a = (e : PrefixValue × T) → Contains entries e → ¬ Holds e.0 a
+
+-- a prefix lies strictly inside that of an entry (own rule)
+abbrev pub HasAround : {T : Type 0} → List (PrefixValue × T) → PrefixValue → Type 0
+HasAround {T} entries p = (e : PrefixValue × T) × Contains entries e × IsInside p e.0
 
 -- the longest prefix that holds the address (RFC 1812 section 5.2.4.3, rule 2): the entry holds it, and no longer one does
 pub record IsBest {T : Type 0} (entries : List (PrefixValue × T)) (a : ℕ) (e : PrefixValue × T) : Type 0 where

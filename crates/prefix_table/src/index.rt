@@ -3,7 +3,7 @@
 ghost use Rattle.std.specs.Prelude.{◌≡◌, ℕ, ◌/◌, ◌^◌, ◌<◌, ◌≤◌, ◌↔◌, IsTrue, length, slice_index, is_some, Some, None, OnOk, OnErr, MatchOption};
 ghost use Rattle.std.specs.BTreeMap as map;
 ghost use Rattle.v6_addr.specs.Address.{IsPrefix};
-ghost use Rattle.prefix_table.specs.Index.{key_cmp, key_at, key_of, place_at, AreFalling, HasLength, Keeps, AreLengths, HasNoKey, IsLongest};
+ghost use Rattle.prefix_table.specs.Index.{key_cmp, key_at, key_of, place_at, AreFalling, HasLength, Keeps, AreLengths, HasNoKey, IsLongest, HasBelow, HasShorter};
 
 use std::alloc::{AllocError, Global};
 use std::collections::BTreeMap;
@@ -119,6 +119,30 @@ impl Index {
             }
         }
         None
+    }
+
+    /// Whether a length is below another, and that many of an address's first bits have a place.
+    fn has_below(&self, a: Addr, len: u8, other: u8) -> bool
+        requires { other ≤ 128 }
+        ensures { IsTrue result ↔ HasBelow self.now a.value len other }
+    {
+        if other >= len {
+            return false;
+        }
+        self.has(key_at(a, other))
+    }
+
+    /// Whether a key of an address has a place that has fewer bits than a length.
+    pub(crate) fn has_shorter(&self, a: Addr, len: u8) -> bool
+        requires { AreLengths self.now }
+        ensures { IsTrue result ↔ HasShorter self.now a.value len }
+    {
+        for other in &self.lengths {
+            if self.has_below(a, len, *other) {
+                return true;
+            }
+        }
+        false
     }
 
     /// A key gets a place.

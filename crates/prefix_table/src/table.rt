@@ -4,7 +4,7 @@ ghost use Rattle.std.specs.Prelude.{◌≡◌, ℕ, ◌<◌, ◌≤◌, ◌↔�
 ghost use Rattle.std.specs.Vec.{vec_len, vec_capacity};
 ghost use Rattle.std.specs.BTreeMap as map;
 ghost use Rattle.v6_addr.specs.Address.{PrefixValue};
-ghost use Rattle.prefix_table.specs.Table.{HasPrefix, InsertFails, IsTable, HoldsNone, IsBest};
+ghost use Rattle.prefix_table.specs.Table.{HasPrefix, InsertFails, IsTable, HoldsNone, IsBest, HasAround};
 ghost use Rattle.prefix_table.specs.Index.{key_cmp, place_at, AreLengths};
 ghost use Rattle.prefix_table.specs.declared.index.Key.{Key};
 
@@ -116,6 +116,13 @@ impl<T> Table<T> {
             None => None,
             Some(place) => Some(self.entry(place)),
         }
+    }
+
+    /// Whether a prefix lies strictly inside that of an entry (own rule).
+    pub fn has_around(&self, p: Prefix) -> bool
+        ensures { IsTrue result ↔ HasAround self.now p }
+    {
+        self.index.has_shorter(p.value(), p.len())
     }
 
     /// The number of entries (own rule).

@@ -62,7 +62,7 @@ fn flatness(
         let prefix = prefix(rt, block, 32);
         parts.blocks.push(Block { prefix, kind, csid })?;
     }
-    Ok(compilable(&network(rt, alloc, parts)))
+    Ok(compilable(alloc, &network(rt, alloc, parts)))
 }
 
 fn nested(rt: &impl Abort, outer: u128, inner: u128) -> Result<(), NotFlat> {
