@@ -24,7 +24,7 @@ use Rattle.command_output.specs.Pieces.{Piece, Sinks, gone, WroteAll}
 use Rattle.command_output.proofs.PublicLaws.{all_longer, all_behind, all_both, all_wanting}
 use Rattle.command_output.proofs.PublicLaws.{wrote_longer, wrote_after}
 
--- what is behind the last frame
+-- what is after the last frame
 
 pub fault_none : (count : ℕ) (rest : List ℕ) → length rest ≡ 0 → None ≡ fault_behind count rest
 fault_none count rest none = rw none refl

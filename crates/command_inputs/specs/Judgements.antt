@@ -28,7 +28,7 @@ network_by read = refused_as (λ fault. refusals.Net fault) read
 abbrev pub network_in : List ℕ → Result Network Refusal
 network_in text = if nat_lt MAX_TEXT_BYTES (length text) then Err (refusals.TooBig MAX_TEXT_BYTES) else network_by (net_in text)
 
--- a file behind the description is asked for where the description gives a network
+-- a file after the description is asked for where the description gives a network
 abbrev pub asks_behind_network : List (List ℕ) → Bool
 asks_behind_network [] = false
 asks_behind_network (text ∷ more) = is_ok (network_in text)

@@ -85,7 +85,7 @@ unread_in (bodies.V4 packet) = None
 unread_in bodies.ShortFrame = Some unreads.ShortFrame
 unread_in bodies.NotIp = Some unreads.NotIp
 
--- the refusal of what is behind so many frames: more than there may be, or a frame that is cut
+-- the refusal of what is after so many frames: more than there may be, or a frame that is cut
 abbrev pub fault_behind : ℕ → List ℕ → Option Refusal
 fault_behind count rest =
     if length rest == 0 then None

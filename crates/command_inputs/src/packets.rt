@@ -19,7 +19,7 @@ use std::alloc::Global;
 /// What the input is. (own rule)
 #[derive(Debug, Drop)]
 pub enum Packets {
-    /// One bare packet, which is packet 1, and what stands behind its end.
+    /// One bare packet, which is packet 1, and what stands after its end.
     Bare(Seq<u8>),
     /// A capture: what its head says, and all its bytes, the head's among them.
     Capture(CaptureHead, Seq<u8>),
@@ -32,7 +32,7 @@ pub enum Packets {
 pub enum Next {
     /// A frame.
     Frame(Frame),
-    /// There is none: the refusal of what is behind the last one, if there is anything.
+    /// There is none: the refusal of what is after the last one, if there is anything.
     End(Option<Refusal>),
 }
 
@@ -128,7 +128,7 @@ pub fn unread_of_frame(frame: &LentFrame<'_>) -> Option<Unread>
     }
 }
 
-/// The refusal of what is behind the last whole frame, if anything is.
+/// The refusal of what is after the last whole frame, if anything is.
 #[tactic(auto, using(crate::proofs::FrameSteps::ends))]
 fn fault_at_end(reader: &FrameReader) -> Option<Refusal>
     requires { IsDone reader.now }

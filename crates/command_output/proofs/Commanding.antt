@@ -126,7 +126,7 @@ written_whole shape told bytes f g s t o p went wanted whole own takes read = λ
   read_to_end = read;
 }
 
--- a stop at `out` is one behind the files and the input
+-- a stop at `out` is one after the files and the input
 
 out-last : (how : Option How) (err : SinkSeen) (o p : SinkSeen)
     → LinesLast (stop_at ToOut how) (record { out = o; err = err }) (record { out = p; err = err })

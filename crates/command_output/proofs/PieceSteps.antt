@@ -100,7 +100,7 @@ pub all_both : (before more : List Piece) (old mid new : Sinks) → mid ≡ gone
     → new ≡ gone (before ++ more) old
 all_both before more old mid new first next = next ∙ gone-behind before more old mid first
 
--- a step behind others, however it ended
+-- a step after others, however it ended
 pub all_then : (ending : Ending) (before more : List Piece) (old mid new : Sinks) → mid ≡ gone before old → WroteAll ending more mid new
     → WroteAll ending (before ++ more) old new
 all_then Whole before more old mid new first next = all_both before more old mid new first next

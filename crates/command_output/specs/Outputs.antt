@@ -16,7 +16,7 @@ abbrev pub after : {A : Type 0} → Result A Refusal → (A → Output) → Outp
 after (Ok a) follow = follow a
 after (Err refusal) follow = refused refusal
 
--- the output of a command that writes pieces for packets: at the end what is behind their frames is refused, if anything is
+-- the output of a command that writes pieces for packets: at the end what is after their frames is refused, if anything is
 abbrev pub ended_by : List Piece → Option Refusal → Output
 ended_by pieces None = record { pieces = pieces ++ ForErr [] ∷ []; status = statuses.Done }
 ended_by pieces (Some refusal) = record { pieces = pieces ++ ForErr (refusal_line refusal) ∷ []; status = statuses.Refused }

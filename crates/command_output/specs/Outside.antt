@@ -61,7 +61,7 @@ pub record Asks (shape : Shape) (stop : Stop) (old new : FilesSeen) : Type 0 whe
   pub those : IfSome old.told (λ held. AsksAs stop (names_of shape held) names)
   pub seen : new ≡ files_left_by stop (asked_for_all names old)
 
--- a fault of the input is one, and no read came after it; none is read behind a fault of the files
+-- a fault of the input is one, and no read came after it; none is read after a fault of the files
 abbrev pub Reads : Stop → SourceSeen → SourceSeen → Type 0
 Reads Never old new = new.faults ≡ old.faults
 Reads AtFiles old new = new ≡ old

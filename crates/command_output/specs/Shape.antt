@@ -13,7 +13,7 @@ pub record Shape : Type 1 where
   pub goes_on : List (List ℕ) → Bool  -- whether, with these texts of its first files, it asks for the next one
   pub reads : Bool  -- whether it reads the input
   pub leaves_input : Held → Type 0  -- it ends before the input is read
-  pub lines_last : Bool  -- whether each line on `err` stands behind all of `out`
+  pub lines_last : Bool  -- whether each line on `err` stands after all of `out`
   pub statuses : List Status  -- with which it may end, if nothing fails
   pub wants : Held → List ℕ → Output → Type 0  -- an output that is wanted of the files and the input
 

@@ -35,7 +35,7 @@ pub enum Refusal {
     /// 40: the text is no trace of the network.
     BadTrace {
         /// The first bad line, counted from 1; where a line feed is missing, the line that lacks
-        /// it, and where `end` is missing, the line behind the last.
+        /// it, and where `end` is missing, the line after the last.
         line: u32,
     },
     /// 41: an entry's prefix lies strictly inside a SID's.
@@ -45,7 +45,7 @@ pub enum Refusal {
         /// The prefix inside.
         inner: Prefix,
     },
-    /// 42: the bits of a SID behind its block's are all 0.
+    /// 42: the bits of a SID after its block's are all 0.
     ZeroCsid {
         /// The SID's prefix.
         prefix: Prefix,

@@ -26,7 +26,7 @@ use Rattle.command_output.specs.declared.halt.Halt.TheVariants as halts
 use Rattle.compile_commands.proofs.Checking.{knows_states}
 use Rattle.compile_commands.specs.Compile.{HasValues, KnowsStates, GivesAnswer, GivesOf, container_line, numbers_lines, report_of}
 
--- the lines of containers are those of their values, and the numbers' lines are behind them
+-- the lines of containers are those of their values, and the numbers' lines are after them
 
 lines-map : (values : List Addr)
     → flat_map (λ (a : Addr). container_line a.value) values ≡ flat_map container_line (map (λ (a : Addr). a.value) values)

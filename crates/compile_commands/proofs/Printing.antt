@@ -133,7 +133,7 @@ module _ (net : Network) (intent : Intent) (network : IsNetwork net) (is_intent 
       = subst (λ (r : Result Cert Refusal). CertWants net intent r output) (sym (cert-read s comments text laws is all parts small)) wants in
       subst (λ (r : Result (Unit {0}) NotFlat). FlatWants net intent r (Some text) output) (sym flat) read
 
-  -- what is for `out` of a report with a certificate behind it
+  -- what is for `out` of a report with a certificate after it
   out-is : (told report : List ℕ) (status : Status) (s : Solution) (comments : List (List ℕ)) (output : Output)
       → output ≡ reported (printed net report s) told status → report ≡ lines_text comments
       → bytes_for_out output.pieces ≡ lines_text comments ++ spelled net s

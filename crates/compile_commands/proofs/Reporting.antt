@@ -1,4 +1,4 @@
--- The lines of a report are comments to who reads the certificate behind them.
+-- The lines of a report are comments to who reads the certificate after them.
 use Rattle.std.proofs.Common.{◌≡◌, ℕ, zero, suc, ◌+◌, ◌/◌, ◌%◌, ◌^◌, ◌<◌, Bool, true, false, ◌==◌, List, [], ◌∷◌, ◌++◌, map, All, codes, slice_index, refl, sym, ◌∙◌, ap, subst, arith, append_assoc, length-append}
 use Rattle.std.specs.Prelude.{if◌then◌else◌, nat_lt}
 use Rattle.std.specs.Fmt.{decimal, digits, digits_onto, digit_glyph}
@@ -54,7 +54,7 @@ address-lacks a below =
         let longer = length-append xs ys in
         subst NoFeed (get_or_append_left xs ys d k within) (h k d (omega (arith, longer, within)))
 
--- a line behind the mark of a comment, without a line feed
+-- a line after the mark of a comment, without a line feed
 comment : (line : List ℕ) → slice_index line 0 ≡ 35 → Lacks 10 line → IsComment line
 comment line hash lacks = record {
   hash = hash;

@@ -49,7 +49,7 @@ report_of net c = flat_map container_line (list_values net c.list) ++ numbers_li
 unfoldable pub no_report : List ℕ
 no_report = line (codes "# none")
 
--- the report, and the certificate of what the search found behind it
+-- the report, and the certificate of what the search found after it
 abbrev pub printed : Network → List ℕ → Solution → List ℕ
 printed net report solution = report ++ spelled net solution
 

@@ -68,7 +68,7 @@ fn report_of_list(alloc: Global, net: &Net, compiled: &Compiled) -> Result<Strin
     Ok(report)
 }
 
-/// A report, and the certificate of what the search found behind it.
+/// A report, and the certificate of what the search found after it.
 fn with_certificate(
     alloc: Global,
     net: &Net,

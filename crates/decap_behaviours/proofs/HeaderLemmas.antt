@@ -33,7 +33,7 @@ routing-unknown s p h rest kind other =
     let t : (routing_type h == segment_routing) ≡ false = ne_eqb (routing_type h) segment_routing other in
     rw (k, t) refl
 
--- a place of a chain lies behind the IPv6 header, in the packet or at its end
+-- a place of a chain lies after the IPv6 header, in the packet or at its end
 pub comes-within : (treat : Header → Endpoint → Endpoint) (end : ChainEnd → Endpoint) (p : Packet) (e : Endpoint) (q : ChainPlace)
     (rest : List ℕ) → ComesTo treat end p e q rest → IsWithin p q.at
 comes-within treat end p e q rest c =

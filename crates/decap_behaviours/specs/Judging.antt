@@ -14,7 +14,7 @@ abbrev pub has_ended : SidEntry → Packet → Header → Bool
 has_ended s p h =
     if is_replace s.csid then is_at_end (compression_of s) (srh_of h.bytes) p.destination else segments_left h == 0
 
--- a place behind the packet's IPv6 header, in the packet or at its end
+-- a place after the packet's IPv6 header, in the packet or at its end
 pub record IsWithin (p : Packet) (at : ℕ) : Type 0 where
   pub behind : header_len ≤ at
   pub within : at ≤ header_len + length p.payload

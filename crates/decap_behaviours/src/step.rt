@@ -21,7 +21,7 @@ use srv6_rules::SidEntry;
 /// other headers are judged as at every SID (`header_fault` and `unknown_routing_fault` of
 /// `endpoint_chain`), and one that is cut is dropped for `BadChain`.
 ///
-/// Behind them `Hand` comes where the upper layer is a packet that the SID exposes: of IPv6 at
+/// After them `Hand` comes where the upper layer is a packet that the SID exposes: of IPv6 at
 /// End.DX6 and End.DT6, of IPv4 at End.DX4 and End.DT4, of either at End.DT46. The buffer is left
 /// with the bytes from that packet's first on, of which none is changed. `Local` comes for another
 /// upper layer that is allowed, and `Drop` for `UpperLayer` where it is not, at its first byte. But

@@ -32,7 +32,7 @@ module _ (p : Packet) (h : Header) (lies : LiesIn p h) where
   pub same_header : h ≡ header_of p h.place (length h.bytes)
   same_header = ap (λ xs. record { place = h.place; bytes = xs }) lies.bytes
 
-  -- what stands behind it
+  -- what stands after it
   pub stands-behind : StandsIn p (place_behind h)
   stands-behind =
       let start = lies.behind_header in

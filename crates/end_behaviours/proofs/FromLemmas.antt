@@ -70,7 +70,7 @@ module _ (s : SidEntry) (allow : List ℕ) (p : Packet) (start place : ChainPlac
   pub reached-comes : at_sid_from s allow p start ≡ at_header s p h (at_sid_from s allow p (place_behind h))
   reached-comes = comes-header (at_header s p) (at_end s allow p) p (at_sid_from s allow p start) place rest r.comes len is header taken
 
-  -- behind it, where it is passed over
+  -- after it, where it is passed over
   pub reached-behind : (more : List ℕ) (next : ChainPlace) → more ≡ drop len rest → next ≡ place_behind h
       → ((x : Endpoint) → at_header s p h x ≡ x) → Reached s allow p start next more
   reached-behind more next left goes passed =

@@ -101,14 +101,14 @@ shift-leaves s old new suits alone shifts is =
     let r = lent-spells old new q alone (shifted-spellable c p next (alone-spellable old alone)) written refl in
     record { leaves = record { packet = q; is = rw fine refl; spelled = r.spells }; long = r.long }
 
--- ---- a header popped behind a step
+-- ---- a header popped after a step
 
 popped : (pops : Bool) (h : Header) (q : Packet) (final : List ℕ) → Spells final (if pops then without q (as_in q h) else q)
     → Leaves (if pops then outcome_without h (Onward q) else Onward q) Onward final
 popped true h q final s = record { packet = without q (as_in q h); is = refl; spelled = s }
 popped false h q final s = record { packet = q; is = refl; spelled = s }
 
--- the bytes of the packet behind a step, with the header at its place taken out or not
+-- the bytes of the packet after a step, with the header at its place taken out or not
 abbrev pub Popped : Bool → List ℕ → ChainPlace → ℕ → List ℕ → Type 0
 Popped pops bytes place len final =
     Spells final (if pops then without (packet_at bytes) (header_of (packet_at bytes) place len) else packet_at bytes)

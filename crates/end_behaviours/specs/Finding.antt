@@ -39,7 +39,7 @@ pub record IsStep (s : SidEntry) (p : Packet) (first : ℕ) (e : Endpoint) (plac
   pub behind : Endpoint
   pub is : e ≡ at_segment_routing s p (header_of p place len) behind
 
--- the header is taken out of what comes of those behind it
+-- the header is taken out of what comes of those after it
 pub record IsLast (p : Packet) (first : ℕ) (rest : ChainPlace → Endpoint) (e : Endpoint) (place next : ChainPlace) : Type 0 where
   pub header : LiesAt p first place (next.at - place.at)
   pub goes : next ≡ place_behind (header_of p place (next.at - place.at))
@@ -61,7 +61,7 @@ IsFound s p first rest e (Expose family at) = (e ≡ Exposed family (from_place 
 IsFound s p first rest e Deliver = e ≡ Delivered p
 IsFound s p first rest e (Refuse fault) = (e ≡ Refused fault.reason fault.at) × (fault.at ≤ MAX_PACKET_LEN)
 
--- what is found at a header, whatever comes of the packet behind it; none where it is passed over
+-- what is found at a header, whatever comes of the packet after it; none where it is passed over
 abbrev pub IsFoundAt : SidEntry → Packet → Header → Option Found → Type 0
 IsFoundAt s p h None = IsPassed (at_header s p) h
 IsFoundAt s p h (Some found) =

@@ -20,7 +20,7 @@ use srv6_rules::numbers::{
 };
 use srv6_rules::{Csid, Family, SidEntry};
 
-/// What decides what comes of a packet from a place of its chain on, behind headers that are passed
+/// What decides what comes of a packet from a place of its chain on, after headers that are passed
 /// over. Places are in bytes from the packet's first.
 #[derive(Clone, Copy, Debug)]
 pub(crate) enum Found {
@@ -29,7 +29,7 @@ pub(crate) enum Found {
     /// The step is taken over the segment routing header at a place.
     Step { place: ChainPlace, len: usize },
     /// The segment routing header at a place is at its end, and the SID takes it out; what comes of
-    /// the packet is found behind it.
+    /// the packet is found after it.
     Last { place: ChainPlace, next: ChainPlace },
     /// The packet inside, of a family and from a place on, is exposed.
     Expose { family: Family, at: usize },

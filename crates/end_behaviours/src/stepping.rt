@@ -17,7 +17,7 @@ use srv6_rules::Reason;
 use srv6_rules::numbers::{IPV6_HEADER_LEN, ROUTING};
 use v6_addr::Addr;
 
-/// The step over a segment routing header: Segments Left and the destination behind it, or why the
+/// The step over a segment routing header: Segments Left and the destination after it, or why the
 /// packet is dropped.
 #[derive(Clone, Copy, Debug)]
 pub(crate) enum SegmentStep {

@@ -18,7 +18,7 @@ length-header : (p : Packet) → length (header_spelling p) ≡ 40
 unfolding header_spelling
 length-header p = simp (length-append, length-four_bytes, length-two_bytes, length-address_bytes)
 
--- the value that names what stands behind
+-- the value that names what stands after
 pub edit-next_header : (p : Packet) (x : ℕ) → slice_set (spelling p) 6 x ≡ spelling (record p { next_header = x })
 unfolding header_spelling
 edit-next_header p x =
@@ -66,7 +66,7 @@ set-two (x0 ∷ x1 ∷ []) bs long two = absurd (omega arith)
 set-two (x0 ∷ []) bs long two = absurd (omega arith)
 set-two [] bs long two = absurd (omega arith)
 
--- ---- bytes cut out behind the header
+-- ---- bytes cut out after the header
 
 cut-behind : (head ys : List ℕ) (at n : ℕ) → length head ≡ 40 → 40 ≤ at → at + n ≤ 40 + length ys
     → cut_out at n (head ++ ys) ≡ head ++ cut_out (at - 40) n ys
@@ -125,7 +125,7 @@ module _ (bytes : List ℕ) (place : ChainPlace) (len : ℕ) (alone : HoldsAlone
       without-bytes p h (alone-spellable bytes alone) behind (omega arith)
       (All-take P len (drop place.at bytes) (All-drop P place.at bytes alone.holds.in_range))
 
-  -- what is left of a packet whose header names what stands behind, once the bytes are cut out and the length is written
+  -- what is left of a packet whose header names what stands after, once the bytes are cut out and the length is written
   written : (q : Packet) (named cut : List ℕ) (m : ℕ) → named ≡ spelling q → length q.payload ≡ length p.payload
       → cut ≡ take place.at named ++ drop (place.at + len) named → m ≡ length cut - 40
       → with_payload_len m cut ≡ spelling (record q { payload = cut_out (place.at - header_len) len q.payload })

@@ -10,6 +10,6 @@ abbrev pub IsFaultOf : Packet → Endpoint → Option Fault → Type 0
 IsFaultOf p e None = e ≡ Delivered p
 IsFaultOf p e (Some fault) = e ≡ Refused fault.reason fault.at
 
--- the fault of a header, whatever came of those behind it; none where it is passed over
+-- the fault of a header, whatever came of those after it; none where it is passed over
 abbrev pub IsHeaderFault : (Endpoint → Endpoint) → Option Fault → Type 0
 IsHeaderFault treat fault = (rest : Endpoint) → treat rest ≡ unless_fault (fault_in fault) rest

@@ -7,7 +7,7 @@ use Rattle.ip6_headers.specs.Reading.{HoldsPacket}
 use Rattle.endpoint_chain.specs.declared.outcome.EndOutcome.{EndOutcome}
 use Rattle.endpoint_chain.specs.declared.outcome.EndOutcome.TheVariants.{On, Hand, Local, Drop}
 
--- the bytes hold a packet, and nothing stands behind its end
+-- the bytes hold a packet, and nothing stands after its end
 pub record HoldsAlone (bytes : List ℕ) : Type 0 where
   pub holds : HoldsPacket bytes
   pub alone : length bytes ≡ header_len + stated_len bytes

@@ -1,4 +1,4 @@
-//! What is done with an extension header, whatever comes behind it.
+//! What is done with an extension header, whatever comes after it.
 
 ghost use Rattle.std.specs.Prelude.{◌≡◌, ◌≢◌, ◌+◌, ◌≤◌, true, length};
 ghost use Rattle.srv6_rules.specs.Chain.{Header, is_extension};

@@ -1,5 +1,5 @@
 //! What is common to all of a node's endpoints: how the extension headers in front of what decides
-//! are judged, whatever comes behind them, what comes of a packet at the node's own address, what
+//! are judged, whatever comes after them, what comes of a packet at the node's own address, what
 //! comes of one at a SID, and how a header is taken out of a packet's bytes.
 //!
 //! Places are in bytes from the packet's first. Nothing here takes memory.

@@ -22,7 +22,7 @@ fn state_payload_len(buf: &mut PktBuf, len: u16)
 }
 
 /// Takes the extension header of so many bytes that stands at a place of a packet out of the
-/// packet's bytes: the field that named it names what stood behind it, its bytes go, and the
+/// packet's bytes: the field that named it names what stood after it, its bytes go, and the
 /// payload length is as much lower. No other byte changes (RFC 8986 sections 4.16.1 and 4.16.2).
 pub fn take_out(buf: &mut PktBuf, place: ChainPlace, len: usize)
     requires packet { HoldsAlone buf.old.bytes }

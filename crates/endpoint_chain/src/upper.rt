@@ -1,4 +1,4 @@
-//! What stands behind the extension headers.
+//! What stands after the extension headers.
 
 ghost use Rattle.std.specs.Prelude.{◌≡◌};
 ghost use Rattle.srv6_rules.specs.Behaviours.{family_inside};

@@ -97,7 +97,7 @@ module _ (net : Network) (all more : ℕ) (place : Place) (content : Content) (p
 -- packets that are counted: those from a number on are left
 
 module _ (walks : ℕ → List (List Stage)) where
-  -- the walks of so many packets behind so many
+  -- the walks of so many packets after so many
   abbrev walks-from : ℕ → ℕ → List (List Stage)
   walks-from before count = flat_map walks (range_with_len (before + 1) count)
 

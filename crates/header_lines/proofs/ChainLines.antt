@@ -62,7 +62,7 @@ module _ (p : Packet) (bytes first now new : List ℕ) (q : chains.ChainPlace) (
         ++ (if b then [] else chain_lines p (chain_at p next)))) (sym kind)
         ∙ shown-header
 
-    -- nothing is shown behind a fragment header
+    -- nothing is shown after a fragment header
     pub shown-fragment : (q.kind == 44) ≡ true → new ≡ first ++ chain_lines p (chain_of p)
     shown-fragment kind = sym (append-nil new) ∙ shown-by true kind
 

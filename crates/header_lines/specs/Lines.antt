@@ -104,7 +104,7 @@ abbrev pub end_line : ℕ → ChainEnd → List ℕ
 end_line len (Upper place) = upper_line place.kind place.at (len - place.at)
 end_line len (Cut place) = bad_chain_line place.at
 
--- headers in order, and the chain's end; nothing is shown behind a fragment header
+-- headers in order, and the chain's end; nothing is shown after a fragment header
 abbrev pub headers_lines : ℕ → List Header → ChainEnd → List ℕ
 headers_lines len [] end = end_line len end
 headers_lines len (h ∷ hs) end = header_lines h ++ (if h.place.kind == fragment then [] else headers_lines len hs end)
@@ -125,7 +125,7 @@ abbrev pub fault_line : Reason → List ℕ
 fault_line BadVersion = bad_version_line
 fault_line reason = truncated_line
 
--- what bytes read as; nothing is shown behind an IPv4 header
+-- what bytes read as; nothing is shown after an IPv4 header
 abbrev pub content_lines : Content → List ℕ
 content_lines (V6 p) = ip6_line p ++ chain_lines p (chain_of p)
 content_lines (V4 p) = ip4_line p

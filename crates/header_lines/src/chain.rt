@@ -25,7 +25,7 @@ fn append_bad_chain(at: usize, out: &mut String) -> Result<(), AllocError>
     writeln!(out, "bad chain at {at}")
 }
 
-/// Appends the lines of what stands behind a packet's IPv6 header, up to a Fragment header or the
+/// Appends the lines of what stands after a packet's IPv6 header, up to a Fragment header or the
 /// end of the chain.
 pub(crate) fn append_chain(packet: &Ip6View<'_>, out: &mut String) -> Result<(), AllocError>
     ensures { OnOk result (string_bytes out.new

@@ -97,7 +97,7 @@ fn append_content4(bytes: &[u8], out: &mut String) -> Result<(), AllocError>
     }
 }
 
-/// The lines of the packet of a number and a family that bytes begin with; what stands behind its
+/// The lines of the packet of a number and a family that bytes begin with; what stands after its
 /// end is not looked at. `packet NUMBER` is the first; then comes `truncated` or `bad version`
 /// where the bytes do not read.
 ///
@@ -110,7 +110,7 @@ fn append_content4(bytes: &[u8], out: &mut String) -> Result<(), AllocError>
 ///
 /// Of an IPv4 packet the second line is the last: it has the time to live, the protocol's number,
 /// the packet's length in bytes, its header among it, and the addresses of the source and the
-/// destination. Nothing is shown of options and of what stands behind the header (own rule; RFC 791
+/// destination. Nothing is shown of options and of what stands after the header (own rule; RFC 791
 /// section 3.1).
 pub fn lines_of_packet(
     alloc: Global,

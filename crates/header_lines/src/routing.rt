@@ -53,7 +53,7 @@ fn append_entries(srh: &SrhView<'_>, out: &mut String) -> Result<(), AllocError>
 }
 
 /// Appends the line of the type-length-value area: its length, or that the entry at Last Entry,
-/// behind which it would stand, isn't there.
+/// after which it would stand, isn't there.
 #[tactic(auto, unfolding(crate::specs::Lines::tlvs_line, crate::specs::Lines::bad_last_entry_line))]
 fn append_area(srh: &SrhView<'_>, out: &mut String) -> Result<(), AllocError>
     ensures { OnOk result (string_bytes out.new ≡ string_bytes out.old ++ area_line srh.now) }

@@ -41,7 +41,7 @@ const SEGMENTS: [u8; 24] = [
 ];
 
 /// Segments Left 0 of one entry of CSIDs of 16 bits, in front of an IPv6 packet: at index 7 0x0001,
-/// at index 6 0x000d, and none behind it.
+/// at index 6 0x000d, and none after it.
 const PACKED: [u8; 24] = [
     0x29, 0x02, 0x04, 0x00, 0x00, 0x00, 0x00, 0x00, 0x00, 0x00, 0x00, 0x00, 0x00, 0x00, 0x00, 0x00,
     0x00, 0x00, 0x00, 0x00, 0x00, 0x0d, 0x00, 0x01,
@@ -88,7 +88,7 @@ fn sid(rt: &impl Abort, alloc: Global, behaviour: Behaviour, packed: bool) -> Si
     entry(rt, alloc, behaviour, Csid::Plain)
 }
 
-/// A packet to the SID, at an index; a value names what stands behind its header.
+/// A packet to the SID, at an index; a value names what stands after its header.
 fn packet(
     rt: &impl Abort,
     alloc: Global,
@@ -155,8 +155,8 @@ fn exposed(
     assert_eq!(rt; buf.view(), inside);
 }
 
-/// A packet inside of a kind is exposed as one of a family, or refused where it is none, behind no
-/// header and behind a segment routing header.
+/// A packet inside of a kind is exposed as one of a family, or refused where it is none, after no
+/// header and after a segment routing header.
 fn judged(
     rt: &impl Abort,
     alloc: Global,
@@ -203,7 +203,7 @@ fn each_exposes_its_families(rt: HostRuntime) -> Result<(), Fail> {
     Ok(())
 }
 
-/// ICMPv6 is allowed, behind no header and behind a segment routing header.
+/// ICMPv6 is allowed, after no header and after a segment routing header.
 #[test]
 fn allowed_upper_layer_is_taken(rt: HostRuntime) -> Result<(), Fail> {
     let mut segments = SEGMENTS;

@@ -36,7 +36,7 @@ const HEADER: [u8; 40] = [
     0x00, 0x00, 0x00, 0x00, 0x00, 0x00, 0x00, 0x00,
 ];
 
-/// The error about it with the byte 0x81 behind it, in front of what it quotes.
+/// The error about it with the byte 0x81 after it, in front of what it quotes.
 const ODD: [u8; 48] = [
     0x60, 0x00, 0x00, 0x00, 0x00, 0x31, 0x3a, 0x40, 0x20, 0x01, 0x0d, 0xb8, 0x00, 0x00, 0x00, 0x00,
     0x00, 0x00, 0x00, 0x00, 0x00, 0x00, 0x00, 0x0b, 0x20, 0x01, 0x0d, 0xb8, 0x00, 0x01, 0x00, 0x00,
@@ -55,7 +55,7 @@ const LATER_FRAGMENT: [u8; 9] = [0x3a, 0x00, 0x00, 0x08, 0x00, 0x00, 0x00, 0x01,
 /// Destination Options that say 16 bytes, of which 9 are there.
 const CUT_OPTIONS: [u8; 9] = [0x3a, 0x01, 0x01, 0x04, 0x00, 0x00, 0x00, 0x00, 0x01];
 
-/// The packet of a header with a next header, and what stands behind it.
+/// The packet of a header with a next header, and what stands after it.
 fn packet(alloc: Global, next_header: u8, payload: &[u8]) -> Result<Vec<u8>, AllocError>
     requires { length payload.now < 256 }
 {
@@ -96,7 +96,7 @@ fn joined(alloc: Global, a: &[u8], b: &[u8]) -> Result<Vec<u8>, AllocError> {
     Ok(bytes)
 }
 
-/// What stands behind the packet's end is not quoted.
+/// What stands after the packet's end is not quoted.
 #[test]
 fn no_route_is_told(rt: HostRuntime) -> Result<(), Fail> {
     let wanted = joined(rt.alloc(), &NO_ROUTE, &WITHOUT_ROUTE)?;
@@ -117,7 +117,7 @@ fn odd_last_byte_is_filled_behind(rt: HostRuntime) -> Result<(), Fail> {
     Ok(())
 }
 
-/// Of the bytes 0, 1, .., 255, 0, .. behind a header the first 1,192 are quoted.
+/// Of the bytes 0, 1, .., 255, 0, .. after a header the first 1,192 are quoted.
 #[test]
 fn quote_ends_at_1280_bytes(rt: HostRuntime) -> Result<(), Fail> {
     let mut header = HEADER;

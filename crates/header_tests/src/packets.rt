@@ -10,7 +10,7 @@ ghost use Rattle.endpoint_chain.specs.Outcomes.{HoldsAlone};
 use ip6_headers::{Ip4View, Ip6View};
 use std::process::Abort;
 
-/// The bytes hold an IPv6 packet, and nothing stands behind its end.
+/// The bytes hold an IPv6 packet, and nothing stands after its end.
 #[tactic(auto, using(crate::proofs::PacketLengths::lengths))]
 pub(crate) fn is_whole(rt: &impl Abort, bytes: &[u8])
     ensures holds { HoldsPacket bytes.now }
@@ -23,7 +23,7 @@ pub(crate) fn is_whole(rt: &impl Abort, bytes: &[u8])
     assert_eq!(rt; bytes.len(), 40 + usize::from(view.payload_len()));
 }
 
-/// The bytes hold an IPv4 packet, and nothing stands behind its end.
+/// The bytes hold an IPv4 packet, and nothing stands after its end.
 #[tactic(auto, using(crate::proofs::PacketLengths::lengths))]
 pub(crate) fn is_whole4(rt: &impl Abort, bytes: &[u8])
     ensures holds { HoldsPacket4 bytes.now }

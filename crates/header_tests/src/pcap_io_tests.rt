@@ -23,7 +23,7 @@ const RAW: CaptureHead = CaptureHead {
 
 /// The highest byte first, with nanoseconds: version 2.4, zone, sigfigs and snaplen that are not
 /// looked at, Ethernet below 16 bits that are not read; then frames at second 1: an IPv6 packet
-/// behind an Ethernet header, with two bytes of padding; a frame of 2 bytes of which 1 was
+/// after an Ethernet header, with two bytes of padding; a frame of 2 bytes of which 1 was
 /// captured; ARP; an IPv4 packet; 13 bytes of an Ethernet header; and a frame that is cut.
 const BIG: [u8; 24 + 35 + 17 + 30 + 31 + 29 + 15] = [
     0xa1, 0xb2, 0x3c, 0x4d, 0, 2, 0, 4, 1, 2, 3, 4, 5, 6, 7, 8, 0, 0, 0xff, 0xff, 0x12, 0x34, 0, 1,

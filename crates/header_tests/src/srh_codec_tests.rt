@@ -19,7 +19,7 @@ const HEADER: [u8; 40] = [
 ];
 
 /// Next header 17, 32 bytes, routing type 4, Segments Left 1, Last Entry 0, the segment list
-/// fc00:b::1, and behind it a Pad1, an item of type 6 without bytes, and an HMAC of 38 bytes where
+/// fc00:b::1, and after it a Pad1, an item of type 6 without bytes, and an HMAC of 38 bytes where
 /// 3 are left.
 const HEADER_WITH_ITEMS: [u8; 32] = [
     0x11, 0x03, 0x04, 0x01, 0x00, 0x00, 0x00, 0x00, 0xfc, 0x00, 0x00, 0x0b, 0x00, 0x00, 0x00, 0x00,

@@ -8,7 +8,7 @@ use std::io::Write;
 use std::test::Fail;
 use std::{fs, io};
 
-// A call through the bound, as callers make it.
+/// A call through the bound, as callers make it.
 fn read_file<F: Files>(files: &mut F, alloc: Global, name: &str) -> Result<Vec<u8>, FileFault> {
     files.read(alloc, name, 4)
 }
@@ -21,7 +21,7 @@ fn write_some<O: Sink>(sink: &mut O, piece: &[u8]) -> Result<usize, SinkFault> {
     sink.write(piece)
 }
 
-// A writer that takes two bytes at a time, of four in all, and then fails.
+/// A writer that takes two bytes at a time, of four in all, and then fails.
 #[derive(Drop)]
 struct Narrow {
     taken: u8,

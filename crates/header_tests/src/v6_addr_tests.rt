@@ -6,7 +6,7 @@ use v6_addr::{
     write_addr, write_addr4, write_prefix,
 };
 
-// Reads a text as this number, and writes the number as the other text.
+/// Reads a text as this number, and writes the number as the other text.
 fn reads(rt: &impl Abort, text: &[u8], value: u128, written: &str) {
     assert_eq!(rt; parse_addr(text), Ok(Addr { value }));
     let mut out = ArrayString::<39>::new();
@@ -14,7 +14,7 @@ fn reads(rt: &impl Abort, text: &[u8], value: u128, written: &str) {
     assert_eq!(rt; out.as_str(), written);
 }
 
-// The examples of RFC 5952 sections 1, 2 and 4: one address in many texts.
+/// The examples of RFC 5952 sections 1, 2 and 4: one address in many texts.
 #[test]
 fn one_address_in_many_texts(rt: HostRuntime) {
     let value = 0x2001_0db8_0000_0000_0001_0000_0000_0001;
@@ -63,7 +63,7 @@ fn runs_of_zeros(rt: HostRuntime) {
     reads(&rt, b"::", 0, "::");
 }
 
-// Each text with the length of its longest beginning that some address's text begins with.
+/// Each text with the length of its longest beginning that some address's text begins with.
 #[test]
 fn other_texts(rt: HostRuntime) {
     for (text, at) in [
@@ -144,7 +144,7 @@ fn reads_prefix(rt: &impl Abort, text: &[u8], value: u128, len: u8, written: &st
     }
 }
 
-// The examples of RFC 4291 section 2.3, right and wrong.
+/// The examples of RFC 4291 section 2.3, right and wrong.
 #[test]
 fn prefix_texts(rt: HostRuntime) {
     let value = 0x2001_0db8_0000_cd30_0000_0000_0000_0000;
@@ -166,7 +166,7 @@ fn prefix_texts(rt: HostRuntime) {
     reads_prefix(&rt, b"::1/128", 1, 128, "::1/128");
 }
 
-// Each text with the place of its fault: the whole text where only a bit behind the length is set.
+/// Each text with the place of its fault: the whole text where only a bit after the length is set.
 #[test]
 fn other_prefix_texts(rt: HostRuntime) {
     for (text, at) in [

@@ -62,7 +62,7 @@ fn write_error(packet: &Ip6View<'_>, kind: &IcmpKind, from: Addr, out: &mut Icmp
 
 /// Writes the ICMPv6 error of a kind about a packet into a slot, from the address of the node that
 /// dropped it; what the slot held is gone. The packet begins at the first byte, and what stands
-/// behind its end is neither looked at nor quoted. Answers false, with an empty slot, exactly where
+/// after its end is neither looked at nor quoted. Answers false, with an empty slot, exactly where
 /// no error is made: where the packet's source is unspecified or multicast, where its destination
 /// is multicast (but for an unknown option), or where it is itself an ICMPv6 error or a redirect
 /// (RFC 4443 section 2.4). It takes no memory.

@@ -4,7 +4,7 @@ use Rattle.std.specs.Prelude.{Option, None}
 use Rattle.srv6_rules.specs.Areas.{Fault, item_bytes, first_of, area_fault}
 use Rattle.srv6_rules.proofs.PublicLaws.{area_fault-item}
 
--- behind an item that has no fault
+-- after an item that has no fault
 pub area-behind : (judge : ℕ → List ℕ → Option Fault) (at : ℕ) (item : List ℕ) (len : ℕ) → 0 < length item → judge at item ≡ None
     → len ≡ item_bytes item → area_fault judge 0 at item ≡ area_fault judge 0 (at + len) (drop len item)
 area-behind judge at item len some none stated =

@@ -10,7 +10,7 @@ use Rattle.ip6_headers.specs.declared.chain.ChainStep.TheVariants as steps
 use Rattle.ip6_headers.specs.declared.chain.BadChain.{BadChain}
 use Rattle.ip6_headers.specs.Stepping.{IsHeader, IsStep, begun, place_view}
 
--- where the chain goes on behind a whole header
+-- where the chain goes on after a whole header
 pub behind-whole : (q : ChainPlace) (bytes : List ℕ) (len : ℕ) → IsHeader q.kind bytes len
     → place_behind (record { place = q; bytes = take len bytes }) ≡ behind_in q bytes
 behind-whole q bytes len is =

@@ -9,7 +9,7 @@ use Rattle.srv6_rules.specs.declared.sid.Reason.TheVariants.{Truncated, BadVersi
 use Rattle.srv6_rules.specs.Packet.{Packet, V6, Unreadable, content_of, packet_at, stated_len, header_len, two_bytes, address_bytes, two_number, four_number, address_number}
 use Rattle.srv6_rules.proofs.PublicLaws.{two_number-append, four_number-append, address_number-append}
 
--- ---- the parts of at least 40 bytes: of 4, 2, 1, 1, 16 and 16 bytes, and what stands behind them
+-- ---- the parts of at least 40 bytes: of 4, 2, 1, 1, 16 and 16 bytes, and what stands after them
 
 unfoldable laid : List ℕ → List ℕ → ℕ → ℕ → List ℕ → List ℕ → List ℕ → List ℕ
 laid a b n h s d r = a ++ (b ++ (n ∷ h ∷ (s ++ (d ++ r))))
@@ -281,7 +281,7 @@ module _ (xs : List ℕ) (p : Packet) (e : content_of xs ≡ V6 p) where
       ∙ ap (λ k. V6 (record (packet_of a b n h s d r are) { destination = k })) (address-back x below)
       ∙ ap (λ (q : Packet). V6 (record q { destination = x })) packet
 
-  -- another payload length: so many of the bytes behind the header are the payload, where they are there
+  -- another payload length: so many of the bytes after the header are the payload, where they are there
   pub read-payload_len : (x : ℕ) → x < 2 ^ 16 → header_len + x ≤ length xs
       → content_of (take 4 xs ++ (two_bytes x ++ drop 6 xs)) ≡ V6 (record p { payload = take x (drop header_len xs) })
   unfolding packet_of

@@ -39,13 +39,13 @@ IsStanding kind bytes (standing.Header len) = IsHeader kind bytes len
 IsStanding kind bytes standing.Upper = is_extension kind ≡ false
 IsStanding kind bytes standing.Cut = IsCut kind bytes
 
--- the step from a place, where these bytes stand: over a whole header to the place behind it, or none
+-- the step from a place, where these bytes stand: over a whole header to the place after it, or none
 abbrev pub IsStep : chains.ChainPlace → List ℕ → Result ChainStep BadChain → Type 0
 IsStep place bytes (Ok (steps.Header len next)) = IsHeader place.kind bytes len × (place_view next ≡ behind_in place bytes)
 IsStep place bytes (Ok steps.Upper) = is_extension place.kind ≡ false
 IsStep place bytes (Err bad) = IsCut place.kind bytes
 
--- the chain of a packet from a place on that a step begins: the header that was stepped over, and the chain behind it
+-- the chain of a packet from a place on that a step begins: the header that was stepped over, and the chain after it
 abbrev pub begun : Packet → chains.ChainPlace → Result ChainStep BadChain → chains.Chain
 begun p place (Ok (steps.Header len next)) =
     behind (record { place = place; bytes = take len (from_place p place.at) }) (chain_at p (place_view next))

@@ -1,4 +1,4 @@
-//! The chain of extension headers behind an IPv6 header (RFC 8200 section 4), header by header.
+//! The chain of extension headers after an IPv6 header (RFC 8200 section 4), header by header.
 
 ghost use Rattle.std.specs.Prelude.{◌≡◌, ◌+◌, ◌≤◌, length, drop};
 ghost use Rattle.srv6_rules.specs.Packet.{Packet, header_len};
@@ -25,7 +25,7 @@ pub struct ChainPlace {
 }
 
 impl ChainPlace {
-    /// Where the chain of a packet starts: behind its IPv6 header, which names what stands there
+    /// Where the chain of a packet starts: after its IPv6 header, which names what stands there
     /// (RFC 8200 section 4).
     pub fn first(next_header: u8) -> ChainPlace
         ensures { place_view result ≡ first_place next_header }
@@ -37,7 +37,7 @@ impl ChainPlace {
         }
     }
 
-    /// Where the chain goes on behind the header of these bytes that stands here: its first byte
+    /// Where the chain goes on after the header of these bytes that stands here: its first byte
     /// names what stands there (RFC 8200 section 4).
     pub fn behind(self, header: &[u8]) -> ChainPlace
         requires least { EXTENSION_UNIT ≤ length header.now }
@@ -73,7 +73,7 @@ pub enum ChainStep {
     Header {
         /// Its length in bytes.
         len: usize,
-        /// Where the chain goes on behind it.
+        /// Where the chain goes on after it.
         next: ChainPlace,
     },
     /// An upper layer stands at the place, and the chain ends.
@@ -129,7 +129,7 @@ pub fn stands_at(kind: u8, bytes: &[u8]) -> Stands
     }
 }
 
-/// Where the chain of a packet starts: behind its IPv6 header, which names what stands there (RFC
+/// Where the chain of a packet starts: after its IPv6 header, which names what stands there (RFC
 /// 8200 section 4).
 pub fn chain_start(packet: &Ip6View<'_>) -> ChainPlace
     ensures { place_view result ≡ start_of packet.now }
@@ -138,7 +138,7 @@ pub fn chain_start(packet: &Ip6View<'_>) -> ChainPlace
 }
 
 /// The step of a packet's chain from a place on, over the packet's bytes: the whole extension
-/// header that stands there and the place behind it, or an upper layer. `BadChain` comes exactly
+/// header that stands there and the place after it, or an upper layer. `BadChain` comes exactly
 /// where the place's kind names an extension header of which bytes are missing, before the kind is
 /// judged otherwise (RFC 8200 section 4; own rule). From `chain_start` on the steps give the
 /// packet's chain, header by header.

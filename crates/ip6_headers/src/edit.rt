@@ -29,7 +29,7 @@ impl<'a> Ip6Edit<'a> {
         Ip6Edit { bytes }
     }
 
-    /// Writes the payload length, in bytes: how many behind the header are the packet's (RFC 8200
+    /// Writes the payload length, in bytes: how many after the header are the packet's (RFC 8200
     /// section 3).
     pub fn set_payload_len(&mut self, len: u16)
         ensures same_reference { lent_as self.new ≡ lent_as self.old }
@@ -40,7 +40,7 @@ impl<'a> Ip6Edit<'a> {
         put_two(self.bytes, PAYLOAD_LEN_AT, len);
     }
 
-    /// Writes the value that names what stands behind the header (RFC 8200 section 3).
+    /// Writes the value that names what stands after the header (RFC 8200 section 3).
     pub fn set_next_header(&mut self, next_header: u8)
         ensures same_reference { lent_as self.new ≡ lent_as self.old }
         ensures bytes { edited self.new ≡ slice_set (edited self.old) NEXT_HEADER_AT next_header }

@@ -14,7 +14,7 @@ use srv6_rules::numbers::{
 use std::marker::Model;
 use v6_addr::Addr;
 
-/// An IPv4 packet in bytes, which begin with it: what stands behind its end is not part of it (RFC
+/// An IPv4 packet in bytes, which begin with it: what stands after its end is not part of it (RFC
 /// 791 section 3.1).
 #[derive(Debug, Drop)]
 pub struct Ip4View<'a> {
@@ -126,7 +126,7 @@ impl<'a> Ip4View<'a> {
         self.bytes[TTL_AT]
     }
 
-    /// The number that names what stands behind the header (RFC 791 section 3.1).
+    /// The number that names what stands after the header (RFC 791 section 3.1).
     #[tactic(auto, using(crate::proofs::PacketBytes4::fields4))]
     pub fn protocol(&self) -> u8
         ensures { result ≡ protocol self.now }

@@ -6,7 +6,7 @@ ghost use Rattle.srv6_rules.specs.declared.sid.Reason.TheVariants.{Truncated};
 ghost use Rattle.srv6_rules.specs.Packet.{Packet, V6, Unreadable, content_of, header_len, two_bytes, address_bytes};
 
 /// Bytes that read as a packet read, where a field was written, as that packet with this field
-/// alone changed. With another payload length the payload is as many of the bytes behind the
+/// alone changed. With another payload length the payload is as many of the bytes after the
 /// header, and where these are not there the packet is truncated (RFC 8200 section 3).
 pub fn edit_changes_its_field()
     ensures next_header { (bytes : List ℕ) (p : Packet) (v : ℕ) → content_of bytes ≡ V6 p

@@ -1,4 +1,4 @@
-//! Views and edits of IPv6 headers, and what stands behind them: the chain of extension headers,
+//! Views and edits of IPv6 headers, and what stands after them: the chain of extension headers,
 //! and areas of options (RFC 8200 sections 3 and 4); and views of IPv4 packets (RFC 791).
 //!
 //! A view reads bytes as a packet, an edit writes a field in its place, and a step goes from one

@@ -6,7 +6,7 @@ ghost use Rattle.srv6_rules.specs.Packet.{header_len};
 
 use srv6_rules::numbers::IPV6_HEADER_LEN;
 
-/// The 40 bytes of the IPv6 header that bytes begin with, and those behind it, each to be changed
+/// The 40 bytes of the IPv6 header that bytes begin with, and those after it, each to be changed
 /// in its place (RFC 8200 section 3).
 pub fn halves(bytes: &mut [u8]) -> (&mut [u8], &mut [u8])
     requires { header_len ≤ length bytes.old }

@@ -13,7 +13,7 @@ use srv6_rules::numbers::{
 use std::marker::Model;
 use v6_addr::Addr;
 
-/// An IPv6 packet in bytes, which begin with it: what stands behind its end is not part of it (RFC
+/// An IPv6 packet in bytes, which begin with it: what stands after its end is not part of it (RFC
 /// 8200 section 3).
 #[derive(Debug, Drop)]
 pub struct Ip6View<'a> {
@@ -123,7 +123,7 @@ impl<'a> Ip6View<'a> {
         stated_len(self.bytes)
     }
 
-    /// The value that names what stands behind the IPv6 header (RFC 8200 section 3).
+    /// The value that names what stands after the IPv6 header (RFC 8200 section 3).
     #[tactic(auto, unfolding(srv6_rules::specs::Packet::packet_at))]
     pub fn next_header(&self) -> u8
         ensures { result ≡ self.now.next_header }
@@ -155,7 +155,7 @@ impl<'a> Ip6View<'a> {
         address_at(self.bytes, DESTINATION_AT)
     }
 
-    /// The bytes behind the IPv6 header, up to the packet's end (RFC 8200 section 3).
+    /// The bytes after the IPv6 header, up to the packet's end (RFC 8200 section 3).
     #[tactic(auto, unfolding(srv6_rules::specs::Packet::packet_at))]
     pub fn payload(&self) -> &'a [u8]
         ensures { result.now ≡ self.now.payload }

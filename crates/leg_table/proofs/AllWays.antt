@@ -56,7 +56,7 @@ module _ (net : Network) where
       let rest = handed_over net (walk_of f.0 net (next_place net place gave.outcome) gave.after pick (0 + decisions gave.outcome)) in
       absurd (cc (k rest, f.2))
 
-  -- a walk whose first stage sends hands over behind it
+  -- a walk whose first stage sends hands over after it
   sent-first : (place : Place) (ts : List Step) (pick : ℕ → ℕ) (gave : Gave) (link : ℕ) → gave.outcome ≡ outcomes.Send link
       → First place ts pick gave
       → (more : ℕ) × (h : Handed)

@@ -61,7 +61,7 @@ module _ (net : Network) where
   first-stage (suc more) place content pick taken h gave gives e =
       (more, sym (handed-stage more place content pick taken gave gives) ∙ e)
 
-  -- what is handed over behind an execution, by the stage of the execution
+  -- what is handed over after an execution, by the stage of the execution
   pub handed-behind : (fuel : ℕ) (place next : Place) (content after : Content) (pick : ℕ → ℕ) (taken n : ℕ) (how : How) (h : Handed)
       → step_of net place content (pick taken) ≡ goes (outcomes.Again n how) after
       → next_place net place (outcomes.Again n how) ≡ Some next

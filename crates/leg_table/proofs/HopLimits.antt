@@ -71,7 +71,7 @@ alike-unless : {M : Type 0} (o : Option Fault) (f : By) → Alike M f → Alike 
 alike-unless None f same = same
 alike-unless (Some fault) f same = alike-refused fault.reason fault.at
 
--- a header that is taken out of what came of those behind it makes no difference
+-- a header that is taken out of what came of those after it makes no difference
 onward-out : (h : Header) (x : Endpoint) → is_onward (outcome_without h x) ≡ is_onward x
 onward-out h (Onward q) = refl
 onward-out h (Exposed family bytes) = refl

@@ -120,7 +120,7 @@ module _ (net : Network) (network : IsNetwork net) (flat : IsFlat net) (facts : 
       let is : is_binding net n ≡ true = ap sid_binds c.there ∙ ap (λ (o : Option ℕ). is_some o) binding in
       absurd (false≢true (sym first ∙ is))
 
-  -- what is handed over behind the execution
+  -- what is handed over after the execution
   goes-over : (position : ℕ) (via : Option ℕ) (x : lists.ListPlace) (q : PrefixValue) (hop : ℕ) (p r : Packet) (place : Place)
       → (c : Comes position via x q hop p place)
       → ((choice : ℕ) → step_of net c.ride.place (V6 (there-packet p c.ride)) choice

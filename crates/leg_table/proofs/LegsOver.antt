@@ -44,7 +44,7 @@ abbrev pub Hands-over : Network → Place → Content → (ℕ → ℕ) → ℕ 
 Hands-over net place content pick taken h = (fuel : ℕ) × (handed_over net (walk_of fuel net (Some place) content pick taken) ≡ Some h)
 
 module _ (net : Network) where
-  -- nothing is handed over behind a stage that drops
+  -- nothing is handed over after a stage that drops
   pub none-dropped : (place : Place) (content after : Content) (pick : ℕ → ℕ) (taken : ℕ) (h : Handed) (gave : Gave)
       → step_of net place content (pick taken) ≡ gave → ((later : Option Handed) → handed_first net gave gave.outcome later ≡ None)
       → Hands-over net place content pick taken h → ⊥
@@ -53,7 +53,7 @@ module _ (net : Network) where
       let same : None ≡ Some h = sym (none _) ∙ first.1 in
       absurd (cc)
 
-  -- behind a stage that sends
+  -- after a stage that sends
   sent-over : (place : Place) (content after : Content) (pick : ℕ → ℕ) (taken : ℕ) (h : Handed) (link : ℕ) (to : Place)
       → step_of net place content (pick taken) ≡ goes (outcomes.Send link) after → next_place net place (outcomes.Send link) ≡ Some to
       → Hands-over net place content pick taken h → (k : Handed) × Hands-over net to after pick (taken + 1) k
@@ -63,7 +63,7 @@ module _ (net : Network) where
       (handed_over net (walk_of first.0 net (next_place net place (outcomes.Send link)) after pick (taken + 1))) h first.1 in
       (got.0, (first.0, sym (ap (λ (o : Option Place). handed_over net (walk_of first.0 net o after pick (taken + 1))) leads) ∙ got.1))
 
-  -- behind an execution
+  -- after an execution
   pub again-over : (place next : Place) (content after : Content) (pick : ℕ → ℕ) (taken : ℕ) (h : Handed) (n : ℕ) (how : How)
       → step_of net place content (pick taken) ≡ goes (outcomes.Again n how) after → next_place net place (outcomes.Again n how) ≡ Some next
       → Hands-over net place content pick taken h
@@ -81,7 +81,7 @@ module _ (net : Network) where
         got.2,
       )
 
-  -- behind a ride
+  -- after a ride
   pub ride-over : (ts : List Step) (place : Place) (p : Packet) (r : Ride) (pick : ℕ → ℕ) (taken : ℕ) (h : Handed)
       → (w : RideWalk net ts place p r) → Hands-over net place (V6 p) pick taken h
       → (k : Handed) × Hands-over net r.place (V6 (with_hop_limit (p.hop_limit - r.lowered) p)) pick (taken + w.count) k
@@ -147,7 +147,7 @@ module _ (net : Network) (keeps : Keeps net) where
       (rest (lowered lower q) (same_destination net keeps q lower ∙ is) pick (taken + 1) on.0 on.1))
       ts place r how stands ride p refl pick taken h hands
 
--- behind the execution of a middle SID that is not the last
+-- after the execution of a middle SID that is not the last
 pub record Behind (net : Network) (tunnel : Tunnel) (next : ℕ) (sid : SidEntry) (y : lists.ListPlace) (limit : ℕ) (pick : ℕ → ℕ) (taken : ℕ)
     (h : Handed) : Type 0 where
   pub high : 1 < limit

@@ -47,7 +47,7 @@ use Rattle.leg_table.proofs.Handing.{handed-stage, handed-behind, ride-walk}
 use Rattle.leg_table.proofs.Executions.{step-parts}
 use Rattle.leg_table.proofs.Segments.{behind-again, mid-onward, last-exposes, left-behind, behind-alone}
 
--- the steps left behind a ride and an execution are the last ones of the intent
+-- the steps left after a ride and an execution are the last ones of the intent
 pub rest-is : (steps ts us : List Step) (position count left : ℕ) → ts ≡ drop count (drop position steps)
     → us ≡ drop (length ts - length us) ts → length us ≡ left
     → count ≤ length (drop position steps) → position ≤ length steps → length us ≤ length ts → us ≡ drop (length steps - left) steps
@@ -173,7 +173,7 @@ module _ (net : Network) (keeps : Keeps net) (facts : FlatFacts net) (intent : I
         content = refl;
       }
 
-  -- what is handed over behind the execution at a SID that is not the last
+  -- what is handed over after the execution at a SID that is not the last
   behind : (at : Place) (next : ℕ) (sid : SidEntry) (fuel : ℕ) (q r : Packet) (pick : ℕ → ℕ) (taken : ℕ) (place : Place) (h : Handed)
       → at.family ≡ families.V6 → slice_get net.sids next ≡ Some sid → way_of net at q.destination ≡ Into next
       → step_of net at (V6 q) (pick taken) ≡ goes (outcomes.Again next (onward_from next sid.behaviour)) (V6 r)

@@ -46,7 +46,7 @@ last-sid net family n h = by_sid (slice_get net.sids n) refl h
     by_sid None e h = absurd (false≢true h)
     by_sid (Some s) e h = (s, e, h)
 
--- how many steps are left behind an execution is at most how many there were
+-- how many steps are left after an execution is at most how many there were
 pub left_after-le : (net : Network) (n : ℕ) (ts : List Step) (left : ℕ) → left_after net n ts ≡ Some left → left ≤ length ts
 left_after-le net n ts left h = by_title (is_titled net n) ts h
   where

@@ -74,7 +74,7 @@ placed-length net n (x ∷ xs) = by_test (sid_before (slice_get net.sids n) (sli
     by_test true e = refl
     by_test false e = ap suc e
 
--- a number put into its place keeps the order, where it is before or behind each other
+-- a number put into its place keeps the order, where it is before or after each other
 pub placed-order : (net : Network) (n : ℕ) (xs : List ℕ) → in_order net xs ≡ true
     → ((m : ℕ) → Contains xs m → sid_before (slice_get net.sids n) (slice_get net.sids m) ≡ false → sid_before (slice_get net.sids m)
     (slice_get net.sids n) ≡ true)

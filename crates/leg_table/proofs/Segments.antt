@@ -1,4 +1,4 @@
--- Packets at the places of a list: the stage of the SID that is active there, and the steps left behind it.
+-- Packets at the places of a list: the stage of the SID that is active there, and the steps left after it.
 use Rattle.std.proofs.Common.{◌≡◌, ℕ, suc, ◌-◌, ◌<◌, ◌≤◌, Bool, true, false, ◌==◌, ◌&&◌, if◌then◌else◌, List, [], ◌∷◌, ◌++◌, length, drop, Some, None, slice_get, refl, sym, ◌∙◌, ap, arith, eqb-true, append-nil}
 use Rattle.std.proofs.lemmas.Bool.{false≢true, and_parts, eq-eqb}
 use Rattle.v6_addr.specs.Address.{Holds}
@@ -33,7 +33,7 @@ use Rattle.leg_table.specs.Sids.{takes_step, hands_over}
 use Rattle.leg_table.proofs.Options.{if-some, some-same}
 use Rattle.leg_table.proofs.Executions.{step-parts, stage_into, taken-onward}
 
--- behind an execution of an IPv6 packet the packet stands at the SID's node, and goes on in the SID's way
+-- after an execution of an IPv6 packet the packet stands at the SID's node, and goes on in the SID's way
 pub behind-again : (net : Network) (at : Place) (n : ℕ) (s : SidEntry) → s.node ≡ at.node → at.family ≡ families.V6
     → next_place net at (outcomes.Again n (onward_from n s.behaviour)) ≡ Some (place_behind n s)
 behind-again net at n s stands v6 =
@@ -108,7 +108,7 @@ module _ (net : Network) (tunnel : Tunnel) (x : lists.ListPlace) (hop : ℕ) (q 
       → stage ≡ goes (outcomes.Hand n (exposed_from n s.behaviour) tunnel.inner) (read_as tunnel.inner tunnel.bytes)
   last-exposes last shows = stage-is ∙ ap given (along-exposed s allow tunnel x hop q along on last shows)
 
--- the steps left behind an execution that meets the steps
+-- the steps left after an execution that meets the steps
 module _ (net : Network) (n : ℕ) where
   pub record LeftBehind (ts us : List Step) : Type 0 where
     pub left : left_after net n ts ≡ Some (length us)

@@ -44,7 +44,7 @@ abbrev pub ride_to : Network → Intent → ℕ → Option ℕ → ℕ → Optio
 ride_to net intent position via next =
     option_and_then (ride_of net (sid_address net next) (drop position intent.steps)) (place_from net intent via)
 
--- the steps left behind the ride and the execution, where the ride ends at the SID
+-- the steps left after the ride and the execution, where the ride ends at the SID
 abbrev pub left_behind : Network → ℕ → Ride → Option ℕ
 left_behind net next r = if r.sid == next then left_after net next r.left else None
 
@@ -89,7 +89,7 @@ is_exposed (Exposed family bytes) = true
 is_exposed (Delivered q) = false
 is_exposed (Refused reason at) = false
 
--- packets that a SID takes on to a next segment where the hop limit allows it, behind no further header, and packets from which it
+-- packets that a SID takes on to a next segment where the hop limit allows it, after no further header, and packets from which it
 -- exposes one
 abbrev pub takes_on : Option SidEntry → Packet → Bool
 takes_on None p = false
@@ -130,7 +130,7 @@ abbrev pub is_left : ℕ → Option ℕ → Bool
 is_left left None = false
 is_left left (Some m) = m == left
 
--- the stage executes SID n, with so many steps left then and this hop limit behind it
+-- the stage executes SID n, with so many steps left then and this hop limit after it
 abbrev pub stage_executes : Network → ℕ → ℕ → ℕ → List Step → walks.Stage → Bool
 stage_executes net n left limit ts s = is_again n s.gave.outcome && (is_left left (left_after net n ts) && has_limit limit s.gave.after)
 
@@ -170,7 +170,7 @@ pub record IsAddressOf (net : Network) (n address : ℕ) : Type 0 where
   pub held : Holds (prefix_at net n) address
   pub kind : is_multicast address ≡ is_multicast (sid_address net n)
 
--- and which has no further SID behind it there, so that none is moved up (RFC 9800 section 4.1)
+-- and which has no further SID after it there, so that none is moved up (RFC 9800 section 4.1)
 abbrev pub shifts_by : Option SidEntry → ℕ → Bool
 shifts_by None address = false
 shifts_by (Some s) address = shifts (compression_of s) address
@@ -183,7 +183,7 @@ pub record IsLastAddressOf (net : Network) (n address : ℕ) : Type 0 where
 abbrev pub start_of : Network → Intent → ℕ → Option ℕ → Option Place
 start_of net intent position via = if is_start net intent position via then place_from net intent via else None
 
--- from where a packet goes on behind the execution of a middle SID
+-- from where a packet goes on after the execution of a middle SID
 abbrev pub middle_place_by : ℕ → Option SidEntry → Option Place
 middle_place_by v None = None
 middle_place_by v (Some s) = if takes_step s then Some (place_behind v s) else None

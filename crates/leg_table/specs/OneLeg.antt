@@ -18,7 +18,7 @@ use Rattle.leg_table.specs.Tasks.{matches}
 use Rattle.leg_table.specs.Trace.{Event, Handed}
 
 -- a kind of legs: the steps and the network, what a search sees of the legs, the SIDs that may not be executed, and what is handed over of
--- a packet that goes on behind the SID that was executed last, or from the headend where none was: in so many stages, under a row of choices
+-- a packet that goes on after the SID that was executed last, or from the headend where none was: in so many stages, under a row of choices
 -- from one of them on
 pub record LegKind : Type 0 where
   pub net : Network
@@ -50,7 +50,7 @@ AlwaysHands k via p ts =
 abbrev pub Leads : LegKind → ℕ → List Event → ℕ → Type 0
 Leads k position events to = (more : List Event) → matches (steps_from k position) (events ++ more) ≡ matches (steps_from k to) more
 
--- what is handed over, behind the events up to the execution of a SID
+-- what is handed over, after the events up to the execution of a SID
 abbrev pub after_leg : List Event → ℕ → Handed → Handed
 after_leg events next h = record { trace = events ++ h.trace; sids = next ∷ h.sids; content = h.content }
 
@@ -86,7 +86,7 @@ pub record HandsBy (k : LegKind) (t : Tunnel) (position : ℕ) (via : Option ℕ
   pub allowed : All (λ n. k.barred n ≡ false) handed.sids
   pub content : handed.content ≡ read_as t.inner t.bytes
 
--- what is handed over of a packet on a leg is handed over from the list's next place; on a longest way as many hops behind as the leg has
+-- what is handed over of a packet on a leg is handed over from the list's next place; on a longest way as many hops after as the leg has
 pub record GoesOver (k : LegKind) (Longest : Option ℕ → Packet → (ℕ → ℕ) → ℕ → Type 0) (t : Tunnel) (y : ListPlace) (via : Option ℕ)
     (next : ℕ) (leg : Leg) (hop : ℕ) (p : Packet) (pick : ℕ → ℕ) (taken : ℕ) (h : Handed)
     : Type 0 where
@@ -101,7 +101,7 @@ pub record GoesOver (k : LegKind) (Longest : Option ℕ → Packet → (ℕ → 
   pub longest : Longest via p pick taken → (lowered ≡ leg.hops) × Longest (Some next) packet pick chosen
 
 -- what becomes of a packet to a prefix that is handed over under every row of choices: there is a finish in the last container, or a leg,
--- behind which the packet of a longest way is handed over under every row
+-- after which the packet of a longest way is handed over under every row
 pub data BecomesOf (k : LegKind) (Longest : Option ℕ → Packet → (ℕ → ℕ) → ℕ → Type 0) (t : Tunnel) (x : ListPlace) (q : PrefixValue)
     (position : ℕ) (via : Option ℕ) (hop : ℕ) (p : Packet)
     : Type 0 where

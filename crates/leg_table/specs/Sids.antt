@@ -15,7 +15,7 @@ use Rattle.intent_reader.specs.declared.intent.Intent.{Intent}
 abbrev pub binds : SidEntry → Bool
 binds s = is_some (behaviour_policy s.behaviour)
 
--- the packet goes on from the SID to a next segment, behind no further header
+-- the packet goes on from the SID to a next segment, after no further header
 abbrev pub takes_step : SidEntry → Bool
 takes_step s = goes_on s && not (binds s)
 

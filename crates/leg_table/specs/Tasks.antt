@@ -27,12 +27,12 @@ matches (t ∷ ts) (e ∷ es) = meets t e && matches ts es
 
 -- ---- the same event by event
 
--- the steps that are left behind one event, which has to meet the first of them
+-- the steps that are left after one event, which has to meet the first of them
 abbrev pub advance : List Step → Event → Option (List Step)
 advance [] e = None
 advance (t ∷ ts) e = if meets t e then Some ts else None
 
--- and behind events, one after the other
+-- and after events, one after the other
 abbrev pub left_by : List Step → List Event → Option (List Step)
 left_by ts [] = Some ts
 left_by ts (e ∷ es) = option_and_then (λ us. left_by us es) (advance ts e)

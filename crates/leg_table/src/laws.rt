@@ -66,7 +66,7 @@ pub fn a_leg_is_for_all_choices()
 /// The finish by look-ups alone is there exactly where for all choices a packet to the last SID is
 /// taken to that SID along exactly the steps that are left, and the packet inside exposed there: a
 /// packet to the first address of its prefix, and in a flat network one to any address of the
-/// prefix that is multicast exactly where the first one is and has no further SID behind it. (own
+/// prefix that is multicast exactly where the first one is and has no further SID after it. (own
 /// rule)
 pub fn a_finish_is_for_all_choices()
     ensures first { (net : Network) (intent : Intent) (position : ℕ) (via : Option ℕ) (next : ℕ) →
@@ -146,7 +146,7 @@ pub fn what_is_handed_over_has_its_trace()
 {}
 
 /// Whether a trace meets steps is told event by event: each event takes the step that is left first,
-/// which it has to meet, and none is left behind the last. Events that others follow leave the steps
+/// which it has to meet, and none is left after the last. Events that others follow leave the steps
 /// that the others take. (own rule)
 pub fn a_trace_is_matched_event_by_event()
     ensures matched { (steps : List Step) (events : List Event) →

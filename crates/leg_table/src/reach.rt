@@ -1,4 +1,4 @@
-//! The ways from the nodes of an intent to all SIDs, each from those of the node behind it.
+//! The ways from the nodes of an intent to all SIDs, each from those of the node after it.
 
 ghost use Rattle.std.specs.Prelude.{◌≡◌, ◌≤◌, ◌<◌, ℕ, length, IsTrue, is_some, Some, IfSome, IfOk};
 ghost use Rattle.srv6_rules.specs.declared.sid.Family.TheVariants.{V6};
@@ -26,7 +26,7 @@ pub struct Reach {
     pub submitted: Vec<Option<Behind>>,
 }
 
-// the way over links, which have to lie in the first step, on from where that step ends
+/// the way over links, which have to lie in the first step, on from where that step ends
 fn way_over(steps: &[Step], links: &[u32], lower: bool, later: Option<Behind>) -> Option<Behind>
     requires { IfSome later (λ b. b.lowered ≤ 48) }
     ensures { result ≡ way_over steps.now links.now lower later }
@@ -42,8 +42,8 @@ fn way_over(steps: &[Step], links: &[u32], lower: bool, later: Option<Behind>) -
     })
 }
 
-// the way to a next SID by the way that a place gives, where the way to it from the end of the
-// first step is known
+/// the way to a next SID by the way that a place gives, where the way to it from the end of the
+/// first step is known
 fn way_by(
     net: &Net,
     next: u32,
@@ -103,7 +103,7 @@ pub fn way_from(
     way_by(net, next, steps, way_at(later, next), way)
 }
 
-// the ways of packets that are looked up in a node's table
+/// the ways of packets that are looked up in a node's table
 fn ways_of(
     alloc: Global,
     net: &Net,
@@ -131,7 +131,7 @@ fn ways_of(
     Ok(ways)
 }
 
-// the ways from a node, from those where the first step ends
+/// the ways from a node, from those where the first step ends
 fn reach_of(
     alloc: Global,
     net: &Net,

@@ -1,4 +1,4 @@
-//! The links of a step, where they end, and what is left behind an execution.
+//! The links of a step, where they end, and what is left after an execution.
 
 ghost use Rattle.std.specs.Prelude.{◌≡◌, ◌≤◌, ◌<◌, length, IfSome};
 ghost use Rattle.std.specs.List.{list_all};
@@ -37,7 +37,7 @@ pub fn first_end(net: &Net, set: &[u32], node: u32) -> Option<u32>
     far_end(net, set[0])
 }
 
-/// What is behind the execution of a SID at the end of a ride. (own rule)
+/// What is after the execution of a SID at the end of a ride. (own rule)
 #[derive(Clone, Copy, Debug)]
 pub struct Behind {
     /// How many steps are left.
@@ -46,7 +46,7 @@ pub struct Behind {
     pub lowered: u32,
 }
 
-/// How many steps are left behind the execution of a SID. (own rule)
+/// How many steps are left after the execution of a SID. (own rule)
 pub fn left_after(net: &Net, n: u32, steps: &[Step]) -> Option<u32>
     requires is_there { n < length net.now.sids }
     requires few { length steps.now ≤ 48 }

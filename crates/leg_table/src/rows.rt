@@ -14,7 +14,7 @@ use std::alloc::Global;
 /// The SIDs of a position, in order. (own rule)
 pub type Row = Seq<u32>;
 
-// the step that ends at a position is the function
+/// the step that ends at a position is the function
 fn is_function_at(steps: &[Step], position: u32, n: u32) -> bool
     requires { position ≤ length steps.now }
     ensures { result ≡ sids.is_function_of n (sids.step_before steps.now position) }
@@ -45,7 +45,7 @@ pub fn is_sid_at(net: &Net, intent: &Intent, position: u32, node: u32, n: u32) -
     }
 }
 
-// the prefix of the first SID comes before that of the second
+/// the prefix of the first SID comes before that of the second
 fn is_before(net: &Net, n: u32, m: u32) -> bool
     ensures { result ≡ sids.sid_before (slice_get net.now.sids n) (slice_get net.now.sids m) }
 {
@@ -57,7 +57,7 @@ fn is_before(net: &Net, n: u32, m: u32) -> bool
     p.value().value < q.value().value || p.value().value == q.value().value && p.len() < q.len()
 }
 
-// the place of a SID among others in order
+/// the place of a SID among others in order
 fn place_of(net: &Net, among: &[u32], n: u32) -> usize
     ensures within { result ≤ length among.now }
     ensures value { sids.placed net.now n among.now
@@ -71,7 +71,7 @@ fn place_of(net: &Net, among: &[u32], n: u32) -> usize
     among.len()
 }
 
-// the SIDs of a position, where the walk stands at a node
+/// the SIDs of a position, where the walk stands at a node
 fn row_of(
     alloc: Global,
     net: &Net,
@@ -93,7 +93,7 @@ fn row_of(
     Ok(Row::new(row))
 }
 
-/// The node where the walk stands behind a step. (own rule)
+/// The node where the walk stands after a step. (own rule)
 pub fn node_behind(net: &Net, node: u32, step: &Step) -> u32
     requires { IsTrue (is_some (rules.node_after net.now node step.now)) }
     ensures { rules.node_after net.now node step.now ≡ Some result }

@@ -94,7 +94,7 @@ impl<'a> StrictLegs<'a> {
         self.rows[position as usize].as_slice()
     }
 
-    // a SID is one of a position, whose SIDs all stand at one node
+    /// a SID is one of a position, whose SIDs all stand at one node
     fn has_sid(&self, position: u32, n: u32) -> bool
         requires { position ≤ length self.now.intent.steps }
         ensures { result ≡ sids.is_sid_at self.now.net self.now.intent position n }
@@ -111,7 +111,7 @@ impl<'a> StrictLegs<'a> {
         is_sid_at(self.net, self.intent, position, node, n)
     }
 
-    // from where a packet starts to the next SID
+    /// from where a packet starts to the next SID
     fn start(&self, position: u32, via: Option<u32>) -> Option<Place>
         ensures { result ≡ legs.start_of self.now.net self.now.intent position via }
     {
@@ -133,7 +133,7 @@ impl<'a> StrictLegs<'a> {
 }
 
 impl<'a> StrictLegs<'a> {
-    // the same, with what is known of the place
+    /// the same, with what is known of the place
     fn place(&self, position: u32, via: Option<u32>) -> Option<Place>
         ensures value { result ≡ legs.start_of self.now.net self.now.intent position via }
         ensures is_start { IfSome result (λ place.
@@ -143,7 +143,7 @@ impl<'a> StrictLegs<'a> {
         self.start(position, via)
     }
 
-    // the ways from the node where the walk stands at a position
+    /// the ways from the node where the walk stands at a position
     fn reach(&self, position: u32) -> &Reach
         requires { position ≤ length self.now.intent.steps }
         ensures { (at : ℕ) → sids.node_at self.now.net self.now.intent position ≡ Some at →
@@ -153,7 +153,7 @@ impl<'a> StrictLegs<'a> {
         &self.reaches[(count - position) as usize]
     }
 
-    // the steps from a position on
+    /// the steps from a position on
     fn rest(&self, position: u32) -> &[Step]
         requires { position ≤ length self.now.intent.steps }
         ensures value { result.now ≡ drop position self.now.intent.steps }
@@ -164,7 +164,7 @@ impl<'a> StrictLegs<'a> {
         rest
     }
 
-    // the ways from where the step that starts at a position ends, if one does
+    /// the ways from where the step that starts at a position ends, if one does
     fn later(&self, position: u32) -> &[Option<Behind>]
         requires { position ≤ length self.now.intent.steps }
         ensures { (at : ℕ) → sids.node_at self.now.net self.now.intent position ≡ Some at →
@@ -179,7 +179,7 @@ impl<'a> StrictLegs<'a> {
         }
     }
 
-    // the way from the start to a next SID
+    /// the way from the start to a next SID
     fn way_found(&self, position: u32, via: Option<u32>, next: u32) -> Option<Behind>
         requires { next < length self.now.net.sids }
         ensures { result ≡ way_behind self.now.net self.now.intent position via next }
@@ -196,7 +196,7 @@ impl<'a> StrictLegs<'a> {
         }
     }
 
-    // the same, with its bounds
+    /// the same, with its bounds
     fn way_behind(&self, position: u32, via: Option<u32>, next: u32) -> Option<Behind>
         requires { next < length self.now.net.sids }
         ensures value { result ≡ way_behind self.now.net self.now.intent position via next }
@@ -274,7 +274,7 @@ impl<'a> ListLegs for StrictLegs<'a> {
     }
 }
 
-// how often the hop limit was lowered, where no step is left
+/// how often the hop limit was lowered, where no step is left
 fn lowered_at_the_end(behind: &Behind) -> Option<u32>
     ensures { result ≡ finish_from_behind behind.now }
 {
@@ -285,7 +285,7 @@ fn lowered_at_the_end(behind: &Behind) -> Option<u32>
     }
 }
 
-// the number of the block that a prefix lies strictly inside
+/// the number of the block that a prefix lies strictly inside
 #[tactic(auto, using(crate::proofs::Searches::searching))]
 fn block_at(net: &Net, prefix: &Prefix) -> Option<u32>
     ensures { result ≡ block_at net.now.blocks prefix.now }
@@ -298,14 +298,14 @@ fn block_at(net: &Net, prefix: &Prefix) -> Option<u32>
     None
 }
 
-// the packet goes on from the SID to a next segment, behind no further header
+/// the packet goes on from the SID to a next segment, after no further header
 fn takes_step(sid: &SidEntry) -> bool
     ensures { result ≡ sids.takes_step sid.now }
 {
     sid.goes_on() && sid.behaviour.policy().is_none()
 }
 
-// the SID exposes a packet of a family inside
+/// the SID exposes a packet of a family inside
 fn hands_over(sid: &SidEntry, family: Family) -> bool
     ensures { result ≡ sids.hands_over family sid.now }
 {
@@ -315,21 +315,21 @@ fn hands_over(sid: &SidEntry, family: Family) -> bool
     })
 }
 
-// from a SID the packet goes on to a next segment
+/// from a SID the packet goes on to a next segment
 fn is_middle(net: &Net, n: u32) -> bool
     ensures { result ≡ sids.is_middle net.now n }
 {
     n < net.sids() && takes_step(net.sid(n))
 }
 
-// a SID exposes a packet of a family inside
+/// a SID exposes a packet of a family inside
 fn is_last(net: &Net, family: Family, n: u32) -> bool
     ensures { result ≡ sids.is_last net.now family n }
 {
     n < net.sids() && hands_over(net.sid(n), family)
 }
 
-// where the packet stands behind the execution of a middle SID
+/// where the packet stands after the execution of a middle SID
 fn place_behind(net: &Net, v: u32) -> Option<Place>
     ensures { result ≡ legs.middle_place net.now v }
 {

@@ -137,7 +137,7 @@ module _ (net : Network) (v : LegsValue) (rules : IsNetwork net) (laws : KeepsLa
       ∙ ap (option_and_then (placed_in v position room)) (sid-read net v rules laws is_net position n is.0 is.1 is.2)
       ∙ cond-true _ _ _ (le-leb room (top_room (v.shape n)) is.3)
 
-  -- the words of a potential's line, behind its first
+  -- the words of a potential's line, after its first
   abbrev pub words_of : Potential → List ℕ
   words_of q = row_text q.state.position (via_text net q.state.via) q.state.room q.cost.containers q.cost.hops
 
@@ -171,7 +171,7 @@ step-in : (word : List ℕ) (p : PrefixValue) → Lacks 32 word → IsPrefix p �
 unfolding step_in
 step-in word p none is = rw (cut-first 32 word (prefix_text p) none, prefix-read p is)
 
--- the words of a step's line, behind its first
+-- the words of a step's line, after its first
 abbrev pub turn_text : Bool → List ℕ
 turn_text true = codes "stay"
 turn_text false = codes "new"

@@ -197,7 +197,7 @@ before-place v lines s key first e so j m f less is =
     ∙ ap (lex_before (place_key v m.potential.state)) (sym e)
     ∙ so.before j m f less)
 
--- behind a line of a higher place no line lists the state
+-- after a line of a higher place no line lists the state
 pub behind-place : (v : LegsValue) (lines : List PotentialLine) (s : State) (i : ℕ) (l : PotentialLine) → AreSorted v lines
     → slice_get lines i ≡ Some l
     → lex_before (place_key v s) (place_key v l.potential.state) ≡ true

@@ -1,4 +1,4 @@
--- The text of a solution's certificate, behind comments, is read as that certificate.
+-- The text of a solution's certificate, after comments, is read as that certificate.
 use Rattle.std.proofs.Common.{◌≡◌, ℕ, zero, suc, ◌+◌, ◌-◌, ◌<◌, Bool, true, ◌==◌, List, [], ◌∷◌, ◌++◌, length, All, AllPairs, Contains, Option, Some, None, Ok, codes, get_or, slice_get, slice_index, flat_map, refl, sym, ◌∙◌, ap, subst, arith, append_assoc, append-nil, length-append}
 use Rattle.std.specs.List.{slice_split}
 use Rattle.std.proofs.lemmas.Bool.{eq-eqb, ne_eqb, cond-true}
@@ -176,7 +176,7 @@ module _ (net : Network) (v : LegsValue) where
   end-read n r next with_it at =
       reads-item (codes "end") [] n r next items.End (plain-lacks 10 (codes "end") refl) end-item with_it ∙ ended-at next (n + 1) at
 
-  -- the lines behind the potentials
+  -- the lines after the potentials
   way-read : (path : List PathStep) (head n : ℕ) (ls : List PotentialLine) → All (λ (p : PathStep). IsPrefix p.prefix) path
       → reads net v (slice_split is_feed (way_text path ++ end_text)) n (read_so stages.AfterHead head ls [] None)
       ≡ Ok (record { head = head; potentials = ls; path = path_lines n path; none = none_line n path; end = n + way_count path })
@@ -210,7 +210,7 @@ module _ (net : Network) (v : LegsValue) where
 
 -- ---- the potentials
 
--- each potential comes behind the one before it
+-- each potential comes after the one before it
 abbrev Rises : LegsValue → Potential → List Potential → Type 0
 Rises v p [] = Unit {0}
 Rises v p (q ∷ qs) = IsBefore v p.state q.state × Rises v q qs

@@ -55,7 +55,7 @@ item-of-more (z ∷ zs) x (suc i) y e =
       | inr new ↦ inr (omega (arith, new.0), new.1)
     ]
 
--- each line is before a state that is behind the last
+-- each line is before a state that is after the last
 all-before : (v : LegsValue) (r : Read) (s : State) → IsRead v r → is_next v r.potentials s ≡ true → (i : ℕ) (l : PotentialLine)
     → slice_get r.potentials i ≡ Some l
     → IsBefore v l.potential.state s

@@ -10,7 +10,7 @@ use Rattle.list_pack.specs.Least.{state_key, state_key_by}
 use Rattle.list_pack.proofs.Orders.{lex-itself, lex-trans, lex-same}
 use Rattle.list_certificate.proofs.Passing.{place-in}
 
--- a SID of a position is before those that are listed behind it
+-- a SID of a position is before those that are listed after it
 rises : (v : LegsValue) (n : ℕ) (xs : List ℕ) (j m : ℕ) → ascends v (n ∷ xs) ≡ true → slice_get xs j ≡ Some m → sid_before v n m ≡ true
 rises v n [] j m h e = absurd (none-some m e)
 rises v n (x ∷ xs) zero m h e =

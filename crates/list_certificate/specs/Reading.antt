@@ -46,7 +46,7 @@ infixl 10 ◌>>=◌
 abbrev pub ◌>>=◌ : {A B : Type 0} → Option A → (A → Option B) → Option B
 o >>= f = option_and_then f o
 
--- what stands before the first mark and behind it; none where there is no mark
+-- what stands before the first mark and after it; none where there is no mark
 pub record Cut : Type 0 where
   pub front : List ℕ
   pub rest : List ℕ
@@ -89,7 +89,7 @@ row_in text = do
   hops ← number_in d.rest
   Some (record { position = position; sid = b.front; room = room; cost = record { containers = containers; hops = hops } })
 
--- a SID of a position by its prefix, and by its node's name behind `@` exactly where another SID of the network has the prefix
+-- a SID of a position by its prefix, and by its node's name after `@` exactly where another SID of the network has the prefix
 abbrev pub node_of : Network → Option SidEntry → List ℕ
 node_of net None = []
 node_of net (Some s) = name_by (slice_get net.nodes s.node)
@@ -114,7 +114,7 @@ sid_by net v position text (Some parts) = do
 unfoldable pub sid_in : Network → LegsValue → ℕ → List ℕ → Option ℕ
 sid_in net v position text = sid_by net v position text (cut_at 64 text)
 
--- a state: the start as `0 - 0`, or a SID of a position with a room that there may be behind it
+-- a state: the start as `0 - 0`, or a SID of a position with a room that there may be after it
 abbrev pub start_in : ℕ → ℕ → Option State
 start_in position room =
     if (position == 0) && (room == 0) then Some (record { position = 0; via = None; room = 0 }) else None
@@ -249,7 +249,7 @@ unfoldable pub with_line : LegsValue → Read → ℕ → Item → Option Read
 with_line v r line item = with_line_at v r.stage r line item
 
 -- the certificate that the lines from a number on complete, or the first line that is outside the grammar, or names no state; where the
--- text ends too early that is the line behind the last one, and a last line without a line feed is itself outside the grammar
+-- text ends too early that is the line after the last one, and a last line without a line feed is itself outside the grammar
 abbrev pub cert_of : Read → Cert
 cert_of r = record { head = r.head; potentials = r.potentials; path = r.path; none = r.none; end = r.end }
 

@@ -99,7 +99,7 @@ abbrev pub Assures : Type 0 → Bool → Type 0
 Assures P true = P
 Assures P false = Unit {0}
 
--- the state of a cell with so much room behind its SID
+-- the state of a cell with so much room after its SID
 abbrev pub state_in : Cell → ℕ → State
 state_in cell room = record { position = cell.position; via = Some cell.sid; room = room }
 

@@ -10,7 +10,7 @@ use crate::good::{Spot, passes, passes_last, passes_move};
 use crate::types::PotentialLine;
 use list_pack::{Leg, Legs, State, top_room};
 
-// a cell's state with some room behind its SID
+/// a cell's state with some room after its SID
 fn spot_in<L: Legs>(legs: &L, lines: &[PotentialLine], cell: &Cell, room: u8) -> Spot
     requires sorted { tests.AreSorted (L.seen legs.now) lines.now }
     requires cell { tests.IsCell (L.seen legs.now) lines.now cell.now }
@@ -30,7 +30,7 @@ fn spot_in<L: Legs>(legs: &L, lines: &[PotentialLine], cell: &Cell, room: u8) ->
     }
 }
 
-// the moves of a cell's states by a leg pass
+/// the moves of a cell's states by a leg pass
 fn pass_leg<L: Legs>(legs: &L, lines: &[PotentialLine], cell: &Cell, next: &Cell, leg: Leg) -> bool
     requires sorted { tests.AreSorted (L.seen legs.now) lines.now }
     requires cell { tests.IsCell (L.seen legs.now) lines.now cell.now }
@@ -56,7 +56,7 @@ fn pass_leg<L: Legs>(legs: &L, lines: &[PotentialLine], cell: &Cell, next: &Cell
     true
 }
 
-// the moves of a cell's states by legs to a position pass
+/// the moves of a cell's states by legs to a position pass
 fn pass_legs_to<L: Legs>(legs: &L, lines: &[PotentialLine], cell: &Cell, to: u32) -> bool
     requires sorted { tests.AreSorted (L.seen legs.now) lines.now }
     requires cell { tests.IsCell (L.seen legs.now) lines.now cell.now }
@@ -78,7 +78,7 @@ fn pass_legs_to<L: Legs>(legs: &L, lines: &[PotentialLine], cell: &Cell, to: u32
     true
 }
 
-// the moves of a cell's states by legs pass
+/// the moves of a cell's states by legs pass
 fn pass_legs<L: Legs>(legs: &L, lines: &[PotentialLine], cell: &Cell) -> bool
     requires sorted { tests.AreSorted (L.seen legs.now) lines.now }
     requires cell { tests.IsCell (L.seen legs.now) lines.now cell.now }
@@ -94,7 +94,7 @@ fn pass_legs<L: Legs>(legs: &L, lines: &[PotentialLine], cell: &Cell) -> bool
     true
 }
 
-// the moves of a cell's states to the end by a SID pass
+/// the moves of a cell's states to the end by a SID pass
 fn pass_finish<L: Legs>(legs: &L, lines: &[PotentialLine], cell: &Cell, n: u32, hops: u32) -> bool
     requires sorted { tests.AreSorted (L.seen legs.now) lines.now }
     requires cell { tests.IsCell (L.seen legs.now) lines.now cell.now }
@@ -116,7 +116,7 @@ fn pass_finish<L: Legs>(legs: &L, lines: &[PotentialLine], cell: &Cell, n: u32, 
     true
 }
 
-// the moves of a cell's states to the end pass
+/// the moves of a cell's states to the end pass
 fn pass_ends<L: Legs>(legs: &L, lines: &[PotentialLine], cell: &Cell) -> bool
     requires sorted { tests.AreSorted (L.seen legs.now) lines.now }
     requires cell { tests.IsCell (L.seen legs.now) lines.now cell.now }
@@ -133,7 +133,7 @@ fn pass_ends<L: Legs>(legs: &L, lines: &[PotentialLine], cell: &Cell) -> bool
     true
 }
 
-// the states of a SID at a position pass
+/// the states of a SID at a position pass
 fn pass_at_sid<L: Legs>(legs: &L, lines: &[PotentialLine], position: u32, n: u32) -> bool
     requires sorted { tests.AreSorted (L.seen legs.now) lines.now }
     requires within { position ≤ (L.seen legs.now).steps }
@@ -151,7 +151,7 @@ fn pass_at_sid<L: Legs>(legs: &L, lines: &[PotentialLine], position: u32, n: u32
     pass_ends(legs, lines, &cell)
 }
 
-// the states at a position pass
+/// the states at a position pass
 fn pass_at<L: Legs>(legs: &L, lines: &[PotentialLine], position: u32) -> bool
     requires sorted { tests.AreSorted (L.seen legs.now) lines.now }
     requires within { position ≤ (L.seen legs.now).steps }

@@ -44,7 +44,7 @@ pub fn cell_of<L: Legs>(legs: &L, lines: &[PotentialLine], position: u32, n: u32
     }
 }
 
-/// The potential of a cell's state with some room behind its SID. (own rule)
+/// The potential of a cell's state with some room after its SID. (own rule)
 pub fn potential_in<L: Legs>(
     legs: &L,
     lines: &[PotentialLine],

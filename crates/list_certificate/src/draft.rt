@@ -71,7 +71,7 @@ struct Key {
     room: u8,
 }
 
-// the key of a state at a SID
+/// the key of a state at a SID
 fn key_of<L: Legs>(net: &Net, legs: &L, state: State, n: u32) -> Key
     requires net { reading.IsNetworkOf net.now (L.seen legs.now) }
     requires state { IsState (L.seen legs.now) state }
@@ -106,7 +106,7 @@ fn is_key_before(a: Key, b: Key) -> bool
     a.room < b.room
 }
 
-// a state comes before another
+/// a state comes before another
 fn is_before<L: Legs>(net: &Net, legs: &L, a: State, b: State) -> bool
     requires net { reading.IsNetworkOf net.now (L.seen legs.now) }
     requires first { IsState (L.seen legs.now) a }
@@ -120,7 +120,7 @@ fn is_before<L: Legs>(net: &Net, legs: &L, a: State, b: State) -> bool
     }
 }
 
-// a state comes behind all lines
+/// a state comes after all lines
 fn is_next<L: Legs>(net: &Net, legs: &L, lines: &[PotentialLine], state: State) -> bool
     requires net { reading.IsNetworkOf net.now (L.seen legs.now) }
     requires lines { reading.AreStates (L.seen legs.now) lines.now }
@@ -133,7 +133,7 @@ fn is_next<L: Legs>(net: &Net, legs: &L, lines: &[PotentialLine], state: State) 
     }
 }
 
-// with a line before the head
+/// with a line before the head
 fn before_head(draft: Draft, line: u32, item: Item) -> Option<Draft>
     ensures { reading.read_values result ≡ reading.before_head (reading.read_value draft) line item }
 {
@@ -148,7 +148,7 @@ fn before_head(draft: Draft, line: u32, item: Item) -> Option<Draft>
     }
 }
 
-// with the end
+/// with the end
 fn before_end(draft: Draft, line: u32, item: Item) -> Option<Draft>
     ensures { reading.read_values result ≡ reading.before_end (reading.read_value draft) line item }
 {
@@ -163,7 +163,7 @@ fn before_end(draft: Draft, line: u32, item: Item) -> Option<Draft>
     }
 }
 
-// with a step of the path
+/// with a step of the path
 fn with_step(mut draft: Draft, line: u32, step: PathStep) -> Result<Draft, NoMemory>
     ensures { IfOk result (λ d. reading.read_value d
         ≡ reading.with_step (reading.read_value draft) line step) }
@@ -173,7 +173,7 @@ fn with_step(mut draft: Draft, line: u32, step: PathStep) -> Result<Draft, NoMem
     Ok(draft)
 }
 
-// with a potential
+/// with a potential
 fn with_potential(mut draft: Draft, line: u32, potential: Potential) -> Result<Draft, NoMemory>
     ensures { IfOk result (λ d. reading.read_value d
         ≡ reading.with_potential (reading.read_value draft) line potential) }
@@ -182,7 +182,7 @@ fn with_potential(mut draft: Draft, line: u32, potential: Potential) -> Result<D
     Ok(draft)
 }
 
-// with a line of the path
+/// with a line of the path
 fn in_path(draft: Draft, line: u32, item: Item) -> Result<Option<Draft>, NoMemory>
     ensures { IfOk result (λ o. reading.read_values o
         ≡ reading.in_path (reading.read_value draft) line item) }
@@ -194,7 +194,7 @@ fn in_path(draft: Draft, line: u32, item: Item) -> Result<Option<Draft>, NoMemor
     }
 }
 
-// with a line behind the head
+/// with a line after the head
 fn after_head<L: Legs>(
     net: &Net,
     legs: &L,

@@ -9,7 +9,7 @@ use crate::search::potential_at;
 use crate::types::PotentialLine;
 use list_pack::{Legs, Shape, State, top_room};
 
-// the shape of a state's SID; none at the start
+/// the shape of a state's SID; none at the start
 pub(crate) fn shape_of<L: Legs>(legs: &L, state: State) -> Option<Shape>
     requires { IsState (L.seen legs.now) state }
     ensures { tests.IsShapeOf (L.seen legs.now) state result }
@@ -48,7 +48,7 @@ pub fn first_bad_line<L: Legs>(legs: &L, lines: &[PotentialLine]) -> Option<u32>
     None
 }
 
-// a state is not listed and does not pass
+/// a state is not listed and does not pass
 fn fails<L: Legs>(legs: &L, lines: &[PotentialLine], state: State) -> bool
     requires sorted { tests.AreSorted (L.seen legs.now) lines.now }
     requires state { IsState (L.seen legs.now) state }
@@ -61,7 +61,7 @@ fn fails<L: Legs>(legs: &L, lines: &[PotentialLine], state: State) -> bool
     !passes(legs, lines, &spot)
 }
 
-// the first failing state of a SID at a position
+/// the first failing state of a SID at a position
 fn first_of_sid<L: Legs>(legs: &L, lines: &[PotentialLine], position: u32, n: u32) -> Option<State>
     requires sorted { tests.AreSorted (L.seen legs.now) lines.now }
     requires within { position ≤ (L.seen legs.now).steps }
@@ -87,7 +87,7 @@ fn first_of_sid<L: Legs>(legs: &L, lines: &[PotentialLine], position: u32, n: u3
     None
 }
 
-// the first failing state of the SIDs at a position
+/// the first failing state of the SIDs at a position
 fn first_of_position<L: Legs>(legs: &L, lines: &[PotentialLine], position: u32) -> Option<State>
     requires sorted { tests.AreSorted (L.seen legs.now) lines.now }
     requires within { position ≤ (L.seen legs.now).steps }

@@ -21,7 +21,7 @@ pub struct Spot {
     pub potential: Option<Cost>,
 }
 
-// a potential is there and at most the sum of two costs, as whole numbers
+/// a potential is there and at most the sum of two costs, as whole numbers
 fn is_under_sum(potential: Option<Cost>, edge: Cost, rest: Cost) -> bool
     ensures { tests.Tells (Under potential (Some (plus edge rest))) result }
 {
@@ -34,7 +34,7 @@ fn is_under_sum(potential: Option<Cost>, edge: Cost, rest: Cost) -> bool
     own < containers || (own == containers && u64::from(cost.hops) <= hops)
 }
 
-// a potential is there and at most a cost
+/// a potential is there and at most a cost
 fn is_under(potential: Option<Cost>, cost: Cost) -> bool
     ensures { tests.Tells (Under potential (Some cost)) result }
 {
@@ -95,7 +95,7 @@ pub fn passes_last<L: Legs>(
     is_under(spot.potential, move_cost(stays, hops))
 }
 
-// all moves by legs to a position pass
+/// all moves by legs to a position pass
 fn passes_legs_to<L: Legs>(legs: &L, lines: &[PotentialLine], spot: &Spot, to: u32) -> bool
     requires sorted { tests.AreSorted (L.seen legs.now) lines.now }
     requires spot { tests.IsSpot (L.seen legs.now) lines.now spot.now }
@@ -119,7 +119,7 @@ fn passes_legs_to<L: Legs>(legs: &L, lines: &[PotentialLine], spot: &Spot, to: u
     true
 }
 
-// all moves by legs pass
+/// all moves by legs pass
 fn passes_legs<L: Legs>(legs: &L, lines: &[PotentialLine], spot: &Spot) -> bool
     requires sorted { tests.AreSorted (L.seen legs.now) lines.now }
     requires spot { tests.IsSpot (L.seen legs.now) lines.now spot.now }
@@ -134,7 +134,7 @@ fn passes_legs<L: Legs>(legs: &L, lines: &[PotentialLine], spot: &Spot) -> bool
     true
 }
 
-// all moves to the end pass
+/// all moves to the end pass
 fn passes_ends<L: Legs>(legs: &L, lines: &[PotentialLine], spot: &Spot) -> bool
     requires spot { tests.IsSpot (L.seen legs.now) lines.now spot.now }
     ensures { tests.ShowsEnds (L.seen legs.now) lines.now spot.now.state result }

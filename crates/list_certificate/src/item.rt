@@ -47,7 +47,7 @@ fn prefix_of(text: &[u8]) -> Option<Prefix>
     }
 }
 
-// a middle SID has a prefix
+/// a middle SID has a prefix
 fn is_unnamed<L: Legs>(legs: &L, prefix: &Prefix, n: u32) -> bool
     requires { IsSid (L.seen legs.now) n }
     ensures { result ≡ reading.is_unnamed (L.seen legs.now) prefix.now n }
@@ -56,7 +56,7 @@ fn is_unnamed<L: Legs>(legs: &L, prefix: &Prefix, n: u32) -> bool
     is_same_prefix(&shape.prefix, prefix) && shape.middle
 }
 
-// a SID's node has a name
+/// a SID's node has a name
 fn has_name(net: &Net, name: &[u8], n: u32) -> bool
     requires { n < length net.now.sids }
     ensures { result ≡ reading.has_name net.now name.now n }
@@ -66,7 +66,7 @@ fn has_name(net: &Net, name: &[u8], n: u32) -> bool
     is_word(net.node(sid.node).name.as_bytes(), name)
 }
 
-// the middle SID of a position with a prefix
+/// the middle SID of a position with a prefix
 fn unnamed_sid<L: Legs>(legs: &L, position: u32, prefix: &Prefix) -> Option<u32>
     requires { position ≤ (L.seen legs.now).steps }
     ensures { result ≡ find (reading.is_unnamed (L.seen legs.now) prefix.now)
@@ -80,7 +80,7 @@ fn unnamed_sid<L: Legs>(legs: &L, position: u32, prefix: &Prefix) -> Option<u32>
     None
 }
 
-// the middle SID of a position with a prefix, at the node with a name
+/// the middle SID of a position with a prefix, at the node with a name
 fn named_sid<L: Legs>(
     net: &Net,
     legs: &L,
@@ -101,7 +101,7 @@ fn named_sid<L: Legs>(
     None
 }
 
-// the SID of a position that a text names
+/// the SID of a position that a text names
 #[tactic(auto, unfolding(crate::specs::Reading::sid_in))]
 fn sid_of<L: Legs>(net: &Net, legs: &L, position: u32, text: &[u8]) -> Option<u32>
     requires net { reading.IsNetworkOf net.now (L.seen legs.now) }
@@ -128,7 +128,7 @@ fn sid_of<L: Legs>(net: &Net, legs: &L, position: u32, text: &[u8]) -> Option<u3
     }
 }
 
-// the state of a row that is not the start
+/// the state of a row that is not the start
 fn placed_of<L: Legs>(net: &Net, legs: &L, row: &Row<'_>) -> Option<State>
     requires net { reading.IsNetworkOf net.now (L.seen legs.now) }
     ensures value { result ≡ reading.placed_state net.now (L.seen legs.now)
@@ -150,7 +150,7 @@ fn placed_of<L: Legs>(net: &Net, legs: &L, row: &Row<'_>) -> Option<State>
     })
 }
 
-// the state of a row
+/// the state of a row
 #[tactic(auto, unfolding(crate::specs::Reading::state_in))]
 fn state_of<L: Legs>(net: &Net, legs: &L, row: &Row<'_>) -> Option<State>
     requires net { reading.IsNetworkOf net.now (L.seen legs.now) }
@@ -207,7 +207,7 @@ fn step_of(text: &[u8]) -> Option<PathStep>
     None
 }
 
-// a line of more than one word, but for the head
+/// a line of more than one word, but for the head
 fn item_by<L: Legs>(net: &Net, legs: &L, line: &[u8]) -> Item
     requires { reading.IsNetworkOf net.now (L.seen legs.now) }
     ensures value { result ≡ reading.item_by net.now (L.seen legs.now) (reading.cut_at 32 line.now) }

@@ -13,7 +13,7 @@ use crate::search::potential_at;
 use crate::types::{Cert, Verdict, Why};
 use list_pack::{Cost, Legs, State};
 
-// the verdict on a path, by the start's potential
+/// the verdict on a path, by the start's potential
 fn verdict_on_path<L: Legs>(legs: &L, cert: &Cert, potential: Option<Cost>) -> Verdict
     requires pass { AllPass (L.seen legs.now) cert.now }
     requires none { cert.now.none ≡ None }
@@ -46,7 +46,7 @@ fn verdict_on_path<L: Legs>(legs: &L, cert: &Cert, potential: Option<Cost>) -> V
     }
 }
 
-// the first state that doesn't pass; all pass where there is none
+/// the first state that doesn't pass; all pass where there is none
 fn first_fault<L: Legs>(legs: &L, cert: &Cert) -> Option<Verdict>
     requires { IsCert (L.seen legs.now) cert.now }
     ensures { FirstFault (L.seen legs.now) cert.now result }

@@ -38,8 +38,8 @@ pub fn a_solution_is_good()
         → IsAcceptedBy v head s s.path }
 {}
 
-/// What `print` spells of a solution is read back as its certificate, behind any lines that begin
-/// with `#`, where the SIDs of the legs are those of the network. The head stands in the line behind
+/// What `print` spells of a solution is read back as its certificate, after any lines that begin
+/// with `#`, where the SIDs of the legs are those of the network. The head stands in the line after
 /// the comments. (own rule)
 pub fn what_is_printed_is_read_back()
     ensures { (net : Network) (v : LegsValue) (comments : List (List ℕ)) (s : Solution)

@@ -27,7 +27,7 @@ pub struct Spent {
     pub hops: u128,
 }
 
-// two prefixes are one
+/// two prefixes are one
 fn is_same(a: &Prefix, b: &Prefix) -> bool
     ensures { tests.Tells (a.now ≡ b.now) result }
 {
@@ -37,7 +37,7 @@ fn is_same(a: &Prefix, b: &Prefix) -> bool
     a.len() == b.len()
 }
 
-// the edge of a step to a SID at a position
+/// the edge of a step to a SID at a position
 fn edge_by<L: Legs>(
     legs: &L,
     state: State,
@@ -72,7 +72,7 @@ fn edge_by<L: Legs>(
     })
 }
 
-// the edge of a step to a position
+/// the edge of a step to a position
 fn edge_to<L: Legs>(
     legs: &L,
     state: State,
@@ -94,7 +94,7 @@ fn edge_to<L: Legs>(
     None
 }
 
-// the edge of a step from a state
+/// the edge of a step from a state
 fn edge_of<L: Legs>(legs: &L, state: State, step: &PathStep) -> Option<Reached>
     requires { IsState (L.seen legs.now) state }
     ensures { tests.IsEdgeOf (L.seen legs.now) state step.now result }
@@ -109,7 +109,7 @@ fn edge_of<L: Legs>(legs: &L, state: State, step: &PathStep) -> Option<Reached>
     None
 }
 
-// what a step costs that finishes with a SID
+/// what a step costs that finishes with a SID
 fn last_by<L: Legs>(
     legs: &L,
     state: State,
@@ -132,7 +132,7 @@ fn last_by<L: Legs>(
     Some(move_cost(step.stays, hops))
 }
 
-// what a step costs that is the last
+/// what a step costs that is the last
 fn last_of<L: Legs>(legs: &L, state: State, step: &PathStep) -> Option<Cost>
     requires { IsState (L.seen legs.now) state }
     ensures { tests.IsLastOf (L.seen legs.now) state step.now result }
@@ -146,7 +146,7 @@ fn last_of<L: Legs>(legs: &L, state: State, step: &PathStep) -> Option<Cost>
     None
 }
 
-// a cost more
+/// a cost more
 fn add(spent: Spent, cost: Cost) -> Spent
     requires containers { spent.containers + cost.containers < 2 ^ 128 }
     requires hops { spent.hops + cost.hops < 2 ^ 128 }

@@ -13,7 +13,7 @@ use list_pack::Legs;
 use net_model::{MAX_TEXT_BYTES, Net};
 use std::alloc::Global;
 
-// the certificate of what was read, where nothing follows its end
+/// the certificate of what was read, where nothing follows its end
 fn finished(draft: Draft, line: u32, last: &[u8]) -> Result<Cert, CertFault>
     ensures { reading.GivesCertificate result (reading.ended (reading.read_value draft) line last.now) }
 {
@@ -37,7 +37,7 @@ fn finished(draft: Draft, line: u32, last: &[u8]) -> Result<Cert, CertFault>
 /// with `#` may stand before its head; the states of its potentials ascend by position, prefix
 /// value, prefix length, node and room, and the start comes first; a SID is named by any text of
 /// its prefix, and where another SID of the network has that prefix too, by `@` and the name of its
-/// node behind it. `BadCert` has the first line that is outside the grammar or names no state of
+/// node after it. `BadCert` has the first line that is outside the grammar or names no state of
 /// the legs, counted from 1; where there is none and the text ends too early, the line after the
 /// last. `NoMemory` says nothing about the text. (own rule)
 pub fn read<L: Legs>(alloc: Global, net: &Net, legs: &L, text: &[u8]) -> Result<Cert, CertFault>

@@ -31,7 +31,7 @@ pub fn place_at(position: u32, shape: &Shape) -> Option<StateKey>
     })
 }
 
-// the place of a state; none at the start
+/// the place of a state; none at the start
 fn place_of<L: Legs>(legs: &L, state: State) -> Option<StateKey>
     requires { IsState (L.seen legs.now) state }
     ensures { key_of result ≡ place_key (L.seen legs.now) state }
@@ -45,7 +45,7 @@ fn place_of<L: Legs>(legs: &L, state: State) -> Option<StateKey>
     }
 }
 
-// a place comes before another; that of the start comes before all others
+/// a place comes before another; that of the start comes before all others
 fn is_before(a: Option<StateKey>, b: Option<StateKey>) -> bool
     ensures { result ≡ lex_before (key_of a) (key_of b) }
 {
@@ -83,7 +83,7 @@ pub fn first_at<L: Legs>(legs: &L, lines: &[PotentialLine], place: Option<StateK
     low
 }
 
-// two SIDs are one, or none is there
+/// two SIDs are one, or none is there
 fn is_same_via(a: Option<u32>, b: Option<u32>) -> bool
     ensures { result ≡ same_via a b }
 {
@@ -94,7 +94,7 @@ fn is_same_via(a: Option<u32>, b: Option<u32>) -> bool
     }
 }
 
-// two states are one
+/// two states are one
 fn is_same(a: State, b: State) -> bool
     ensures { result ≡ same_state a b }
 {

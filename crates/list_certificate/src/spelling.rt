@@ -11,14 +11,14 @@ use net_model::Net;
 use std::alloc::{AllocError, Global};
 use v6_addr::Prefix;
 
-// two prefixes are one
+/// two prefixes are one
 pub(crate) fn is_same_prefix(a: &Prefix, b: &Prefix) -> bool
     ensures { result ≡ same_prefix a.now b.now }
 {
     a.value().value == b.value().value && a.len() == b.len()
 }
 
-// two SIDs of the network or more have the prefix
+/// two SIDs of the network or more have the prefix
 pub(crate) fn is_shared(net: &Net, prefix: &Prefix) -> bool
     ensures { result ≡ is_shared net.now prefix.now }
 {
@@ -31,7 +31,7 @@ pub(crate) fn is_shared(net: &Net, prefix: &Prefix) -> bool
     count > 1
 }
 
-// the text of a SID is put behind the others
+/// the text of a SID is put after the others
 fn append_sid(net: &Net, n: u32, out: &mut String) -> Result<(), AllocError>
     requires { n < length net.now.sids }
     ensures { OnOk result (string_bytes out.new ≡ string_bytes out.old ++ sid_text net.now n) }
@@ -54,7 +54,7 @@ fn append_start(out: &mut String) -> Result<(), AllocError>
     write!(out, "0 - 0")
 }
 
-// the text of a state at a SID
+/// the text of a state at a SID
 #[tactic(auto, unfolding(crate::specs::Spelling::placed_text))]
 fn append_placed(
     net: &Net,
@@ -74,7 +74,7 @@ fn append_placed(
 
 /// Appends the text of a state: its position, its SID and its room, or `0 - 0` for the start. A SID
 /// is written by its prefix, and where another SID of the network has that prefix too, by `@` and
-/// the name of its node behind it. Only want of memory is an error. (own rule)
+/// the name of its node after it. Only want of memory is an error. (own rule)
 pub fn append_state(net: &Net, state: State, out: &mut String) -> Result<(), AllocError>
     requires { IsKnown net.now state }
     ensures { OnOk result (string_bytes out.new ≡ string_bytes out.old ++ state_text net.now state) }
@@ -85,7 +85,7 @@ pub fn append_state(net: &Net, state: State, out: &mut String) -> Result<(), All
     }
 }
 
-// the line of a potential
+/// the line of a potential
 #[tactic(auto, unfolding(crate::specs::Spelling::potential_of_text))]
 fn append_potential(net: &Net, state: State, cost: Cost, out: &mut String) -> Result<(), AllocError>
     requires { IsKnown net.now state }
@@ -99,7 +99,7 @@ fn append_potential(net: &Net, state: State, cost: Cost, out: &mut String) -> Re
     writeln!(out, " {containers} {hops}")
 }
 
-// the lines of potentials
+/// the lines of potentials
 fn append_potentials(
     net: &Net,
     potentials: &[Potential],
@@ -115,7 +115,7 @@ fn append_potentials(
     Ok(())
 }
 
-// the line of a step of the path
+/// the line of a step of the path
 #[tactic(auto, unfolding(crate::specs::Spelling::stay_text, crate::specs::Spelling::new_text))]
 fn append_step(step: &PathStep, out: &mut String) -> Result<(), AllocError>
     ensures { OnOk result (string_bytes out.new ≡ string_bytes out.old ++ step_text step.now) }
@@ -145,7 +145,7 @@ fn append_steps(path: &[PathStep], out: &mut String) -> Result<(), AllocError>
     Ok(())
 }
 
-// the lines of the path, or the one that says that there is none
+/// the lines of the path, or the one that says that there is none
 fn append_way(path: &[PathStep], out: &mut String) -> Result<(), AllocError>
     ensures { OnOk result (string_bytes out.new ≡ string_bytes out.old ++ way_text path.now) }
 {
@@ -170,7 +170,7 @@ fn append_end(out: &mut String) -> Result<(), AllocError>
     writeln!(out, "end")
 }
 
-// the text of a solution's certificate
+/// the text of a solution's certificate
 fn text_of(alloc: Global, net: &Net, solution: &Solution) -> Result<String, AllocError>
     requires { All (λ (q : Potential). IsKnown net.now q.state) solution.now.potentials }
     ensures { IfOk result (λ text. string_bytes text ≡ spelled net.now solution.now) }

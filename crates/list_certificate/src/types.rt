@@ -2,7 +2,6 @@
 
 use base::{NoMemory, Seq};
 use list_pack::{PathStep, Potential, State};
-use thiserror::Error;
 
 /// A line with the potential of a state. (own rule)
 #[derive(Clone, Copy, Debug, PartialEq, Eq)]
@@ -77,17 +76,15 @@ pub enum Verdict {
 }
 
 /// Why a text gives no certificate. (own rule)
-#[derive(Clone, Copy, Debug, PartialEq, Eq, Error)]
+#[derive(Clone, Copy, Debug, PartialEq, Eq)]
 pub enum CertFault {
     /// A line is outside the grammar or names no state. (own rule)
-    #[error("BadCert {line}")]
     BadCert {
         /// The first such line, counted from 1; where there is none and the text ends too early,
         /// the line after the last.
         line: u32,
     },
     /// Want of memory.
-    #[error("NoMemory")]
     NoMemory,
 }
 

@@ -19,12 +19,12 @@ pub struct Row<'a> {
     pub cost: Cost,
 }
 
-/// What stands before a mark in a text, and behind it. (own rule)
+/// What stands before a mark in a text, and after it. (own rule)
 #[derive(Clone, Copy, Debug)]
 pub struct Parts<'a> {
     /// What stands before it.
     pub front: &'a [u8],
-    /// What stands behind it.
+    /// What stands after it.
     pub rest: &'a [u8],
 }
 
@@ -35,7 +35,7 @@ fn find(text: &[u8], mark: u8) -> Option<usize>
     text.iter().position(|b| *b == mark)
 }
 
-/// The parts of a text before the first of a mark and behind it; none where the mark isn't there.
+/// The parts of a text before the first of a mark and after it; none where the mark isn't there.
 /// (own rule)
 #[tactic(auto, unfolding(crate::specs::Reading::cut_at))]
 pub fn cut(text: &[u8], mark: u8) -> Option<Parts<'_>>
@@ -49,7 +49,7 @@ pub fn cut(text: &[u8], mark: u8) -> Option<Parts<'_>>
     })
 }
 
-// a number with a digit more
+/// a number with a digit more
 fn digit_after(value: u32, b: u8) -> Option<u32>
     ensures { result ≡ digit_after value b }
 {
@@ -64,7 +64,7 @@ fn digit_after(value: u32, b: u8) -> Option<u32>
     }
 }
 
-// the number that digits complete
+/// the number that digits complete
 fn digits(word: &[u8]) -> Option<u32>
     ensures { result ≡ digits_from 0 word.now }
 {

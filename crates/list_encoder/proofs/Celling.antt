@@ -24,7 +24,7 @@ contains_at xs x k e = (k, slice_get_within xs k x e, get_or_from_slice_get xs k
 pub some-same : {X : Type 0} (x y : X) → Some x ≡ Some y → x ≡ y
 some-same x y h = cc
 
--- places of a list and of one put behind it
+-- places of a list and of one put after it
 pub append-left : {X : Type 0} (xs ys : List X) (k : ℕ) → k < length xs → slice_get (xs ++ ys) k ≡ slice_get xs k
 append-left [] ys k h = absurd (omega arith)
 append-left (x ∷ xs) ys zero h = refl

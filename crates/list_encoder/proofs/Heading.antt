@@ -19,7 +19,7 @@ use Rattle.list_encoder.proofs.Rooms.{behind-few}
 use Rattle.list_encoder.proofs.Tables.{link-shape, plus-nothing}
 use Rattle.list_encoder.proofs.Leasting.{edge-link}
 
--- what is behind the first move of a path: nothing, or the rest of it from the state of a cell
+-- what is after the first move of a path: nothing, or the rest of it from the state of a cell
 abbrev pub Behind : LegsValue → List Cell → ℕ → List Move → Cost → Option ℕ → Type 0
 Behind v cells left more rest None = more ≡ []
 Behind v cells left more rest (Some j) = (cell : Cell) × (slice_get cells j ≡ Some cell) × (cost_of v (state_at cell left) more ≡ Some rest)
@@ -55,7 +55,7 @@ edge-some v s c None later h = absurd (none-some c h)
 edge-some v s c (Some e) later h = (e, refl, h)
 
 module _ (v : LegsValue) (laws : KeepsLaws v) (cells : List Cell) (are : AreCells v cells) (t : Costs) (least : AreLeast v cells t) where
-  -- what is left behind a tight edge is the least that there is behind it
+  -- what is left after a tight edge is the least that there is after it
   rest-least : (spot : Spot) (n : Move) (e : Edge) (more : List Move) (d : Cost) (o : Option Cost) → IsSpot cells t spot
       → edge_of v (state_at spot.cell spot.room) n ≡ Some e → cost_of v e.to more ≡ Some d → plus e.cost d ≡ spot.cost → IsLeast v e.to o
       → o ≡ Some d

@@ -40,7 +40,7 @@ key-parts p q e =
     let step : (x : ℕ) → PrefixValue = λ x. record { value = x; len = p.prefix.len } in
     (ap step value ∙ ap (λ (y : ℕ). record { value = q.prefix.value; len = y }) len, turn-same p.stays q.stays turn)
 
--- a path is not before one whose first step is not behind its own, unless the steps are one and the rest is before
+-- a path is not before one whose first step is not after its own, unless the steps are one and the rest is before
 pub not-before : (p q : PathStep) (ps qs : List PathStep) → path_before (p ∷ []) (q ∷ []) ≡ false
     → (p.prefix ≡ q.prefix → p.stays ≡ q.stays → path_before ps qs ≡ false) → path_before (p ∷ ps) (q ∷ qs) ≡ false
 not-before p q ps qs h rest =
@@ -89,7 +89,7 @@ not-both-tight v cells laws cell sid a b to stays rest c finish leg e f =
 abbrev pub pick_move : (pick : Pick) (sid : ℕ) → Move
 pick_move pick sid = record { stays = pick.step.stays; sid = sid }
 
--- what is behind a pick: nothing, or the first least path from there
+-- what is after a pick: nothing, or the first least path from there
 abbrev pub FirstBehind : LegsValue → List Cell → Pick → List Move → Option ℕ → Type 0
 FirstBehind v cells pick rest None = rest ≡ []
 FirstBehind v cells pick rest (Some j) = (cell : Cell) × (slice_get cells j ≡ Some cell) × IsFirstLeast v (state_at cell pick.room)

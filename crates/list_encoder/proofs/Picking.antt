@@ -208,7 +208,7 @@ legs-picked v cells t spot count best h so =
           so.covers link to from e is (omega (arith, h, w));
     }
 
--- the room behind a move, as it was asked for
+-- the room after a move, as it was asked for
 pub room-at : (v : LegsValue) (stays : Bool) (from : Option Shape) (next : Shape) (via : Option ℕ) (sid room : ℕ) (o p : Option ℕ)
     → from ≡ option_map v.shape via → next ≡ v.shape sid → o ≡ room_behind stays from room next → o ≡ p
     → room_behind stays (option_map v.shape via) room (v.shape sid) ≡ p

@@ -16,7 +16,7 @@ use Rattle.list_encoder.specs.Table.{Costs, at, entry, rest_at, offer, LeadsTo, 
 use Rattle.list_encoder.proofs.Celling.{some-same}
 use Rattle.list_encoder.proofs.Tables.{passed-then}
 
--- what is left behind a link falls where the table does
+-- what is left after a link falls where the table does
 pub rest-falls : (before after : Costs) (to : Option ℕ) (left : ℕ) → ((i : ℕ) → Under (at after i) (at before i))
     → Under (rest_at after to left) (rest_at before to left)
 rest-falls before after None left h = under-itself (Some nothing)
@@ -102,7 +102,7 @@ leaves v cells link stays room from next p is_from is_next e cell here =
     e ∙ ap (λ (s : Option Shape). room_behind stays s room next) (is_from cell here)
     ∙ ap (λ (s : Shape). room_behind stays (option_map v.shape cell.via) room s) is_next
 
--- what holds of a link between two tables holds in a later one that leaves what is behind the link as it was
+-- what holds of a link between two tables holds in a later one that leaves what is after the link as it was
 pub holds-later : (v : LegsValue) (cells : List Cell) (link : CellEdge) (a b c : Costs) → EdgeHolds v cells link a b
     → ((i : ℕ) → Under (at c i) (at b i))
     → ((left : ℕ) → rest_at c link.to left ≡ rest_at a link.to left) → Holds v cells c link

@@ -195,7 +195,7 @@ module _ (v : LegsValue) (laws : KeepsLaws v) (cells : List Cell) where
       bounded-opens n left room hops d b (open-few (option_map v.shape o) (v.shape link.sid) room left (link-shape link is) r)
       (subst (λ (x : ℕ). x ≤ 1000) e (link-hops link is))
 
-  -- behind a link, what is left is that of a path, and so it is in front
+  -- after a link, what is left is that of a path, and so it is in front
   link-attains : (t : Costs) (cell : Cell) (sid hops : ℕ) (to : Option ℕ) (stays : Bool) (room left : ℕ) (d : Cost) → IsSound v cells t
       → LeadsTo v cells cell sid hops to → left < 8 → room_behind stays (option_map v.shape cell.via) room (v.shape sid) ≡ Some left
       → rest_at t to left ≡ Some d → Attains v (state_at cell room) (Some (plus (move_cost stays hops) d))
@@ -298,7 +298,7 @@ module _ (v : LegsValue) (laws : KeepsLaws v) (cells : List Cell) where
       let many : filled t ≤ length t = count_by-le-length is_some t in
       omega (arith, bound, many, sound.long, few)
 
-  -- lowering a room of a link's first cell by what is left behind the link
+  -- lowering a room of a link's first cell by what is left after the link
   module _ (are : AreCells v cells) (t : Costs) (link : CellEdge) (stays : Bool) (room : ℕ) (o : Option ℕ) (left : ℕ) (is : IsCellEdge v cells link)
       (sound : IsSound v cells t) (low : room < 8) (leaves : LeavesRoom v cells link stays room o) (some : o ≡ Some left) where
     pub room-is : room_behind stays (option_map v.shape is.cell.via) room (v.shape link.sid) ≡ Some left

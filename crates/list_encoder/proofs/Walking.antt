@@ -22,7 +22,7 @@ use Rattle.list_encoder.proofs.RelaxedRooms.{leg-parts}
 use Rattle.list_encoder.proofs.Heading.{head-of}
 use Rattle.list_encoder.proofs.Pathing.{pick_move, first-least, FirstBehind}
 
--- so far: the moves that were made, behind which the first least path from the spot makes the first least one from the start
+-- so far: the moves that were made, after which the first least path from the spot makes the first least one from the start
 pub record Walked (v : LegsValue) (cells : List Cell) (t : Costs) (begin : Spot) (steps : List PathStep) (spot : Spot) : Type 0 where
   pub is_spot : IsSpot cells t spot
   pub moves : List Move

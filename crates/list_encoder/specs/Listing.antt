@@ -31,6 +31,6 @@ pub record IsListed (v : LegsValue) (cells : List Cell) (t : Costs) (n : ℕ) (p
 abbrev pub ListsFewContainers : List Potential → Type 0
 ListsFewContainers ps = All (λ (p : Potential). p.cost.containers ≤ MAX_PATH_CONTAINERS) ps
 
--- the most room behind a cell's SID
+-- the most room after a cell's SID
 abbrev pub IsTop : LegsValue → List Cell → ℕ → ℕ → Type 0
 IsTop v cells k top = (cell : Cell) → slice_get cells k ≡ Some cell → top ≡ top_at v cell

@@ -28,7 +28,7 @@ pub record IsSpot (cells : List Cell) (t : Costs) (spot : Spot) : Type 0 where
   pub few : spot.room < 8
   pub is : entry t spot.place spot.room ≡ Some spot.cost
 
--- a move by a link is tight: its cost with what is left behind it is what is left in front of it
+-- a move by a link is tight: its cost with what is left after it is what is left in front of it
 pub record IsTight (v : LegsValue) (t : Costs) (spot : Spot) (link : CellEdge) (stays : Bool) (left : ℕ) (rest : Cost) : Type 0 where
   pub room_is : room_behind stays (option_map v.shape spot.cell.via) spot.room (v.shape link.sid) ≡ Some left
   pub rest_is : rest_at t link.to left ≡ Some rest

@@ -21,7 +21,7 @@ at t i = slice_index_or t i None
 abbrev pub entry : Costs → ℕ → ℕ → Option Cost
 entry t cell room = at t (8 * cell + room)
 
--- what is left to the end behind a link: nothing at the end itself
+-- what is left to the end after a link: nothing at the end itself
 abbrev pub rest_at : Costs → Option ℕ → ℕ → Option Cost
 rest_at t None room = Some nothing
 rest_at t (Some cell) room = entry t cell room
@@ -88,7 +88,7 @@ pub record Passed (cell : ℕ) (before after : Costs) (changed : Bool) : Type 0 
   pub same : changed ≡ false → after ≡ before
   pub smaller : changed ≡ true → total after < total before
 
--- the cost of a link, with what is left behind it in one table, bounds what is left in front of it in another
+-- the cost of a link, with what is left after it in one table, bounds what is left in front of it in another
 abbrev pub EdgeHolds : LegsValue → List Cell → CellEdge → Costs → Costs → Type 0
 EdgeHolds v cells link before after =
     (cell : Cell) (stays : Bool) (room left : ℕ) → slice_get cells link.from ≡ Some cell → room < 8
@@ -145,7 +145,7 @@ abbrev pub AreInRange : Costs → Option ℕ → ℕ → Type 0
 AreInRange t None room = Unit {0}
 AreInRange t (Some cell) room = 8 * cell + room < length t
 
--- the room behind a link's SID, from a room behind its first cell's
+-- the room after a link's SID, from a room after its first cell's
 abbrev pub LeavesRoom : LegsValue → List Cell → CellEdge → Bool → ℕ → Option ℕ → Type 0
 LeavesRoom v cells link stays room left =
     (cell : Cell) → slice_get cells link.from ≡ Some cell → left ≡ room_behind stays (option_map v.shape cell.via) room (v.shape link.sid)

@@ -21,7 +21,7 @@ pub struct Cell {
     pub via: Option<u32>,
 }
 
-// the cells of a position are put behind the others
+/// the cells of a position are put after the others
 fn add_cells(cells: &mut Vec<Cell>, position: u32, sids: &[u32]) -> Result<(), NoMemory>
     ensures { OnOk result (cells.new.items ≡ cells.old.items ++ map (cell_at position) sids.now) }
 {
@@ -77,7 +77,7 @@ pub fn shape_of<L: Legs>(legs: &L, cell: Cell) -> Option<Shape>
     }
 }
 
-/// The most room behind a cell's SID; 0 at the start. (own rule)
+/// The most room after a cell's SID; 0 at the start. (own rule)
 pub fn top_of<L: Legs>(legs: &L, cell: Cell) -> u8
     requires { IsCell (L.seen legs.now) cell }
     ensures value { result ≡ top_at (L.seen legs.now) cell }

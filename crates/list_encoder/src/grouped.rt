@@ -7,7 +7,7 @@ use crate::table::CellEdge;
 use base::NoMemory;
 use std::alloc::Global;
 
-// an edge is put to those that lead to its cell
+/// an edge is put to those that lead to its cell
 fn put_edge(groups: &mut [Vec<CellEdge>], link: CellEdge) -> Result<(), NoMemory>
     ensures { OnOk result (PutsEdge groups.old groups.new link) }
 {
@@ -21,7 +21,7 @@ fn put_edge(groups: &mut [Vec<CellEdge>], link: CellEdge) -> Result<(), NoMemory
     Ok(())
 }
 
-// each edge is put to those that lead to its cell
+/// each edge is put to those that lead to its cell
 fn put_edges(groups: &mut [Vec<CellEdge>], links: &[CellEdge]) -> Result<(), NoMemory>
     ensures { OnOk result (PutsEdges groups.old links.now groups.new) }
 {
@@ -31,7 +31,7 @@ fn put_edges(groups: &mut [Vec<CellEdge>], links: &[CellEdge]) -> Result<(), NoM
     Ok(())
 }
 
-// so many groups without edges
+/// so many groups without edges
 fn no_groups(alloc: Global, count: usize) -> Result<Vec<Vec<CellEdge>>, NoMemory>
     ensures { IfOk result (λ groups. AreEmpty count groups.items) }
 {

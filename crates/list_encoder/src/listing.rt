@@ -13,7 +13,7 @@ use base::NoMemory;
 use list_pack::{Cost, Legs, Potential, State};
 use std::alloc::Global;
 
-// the costs of a cell are put behind the others
+/// the costs of a cell are put after the others
 fn list_cell<L: Legs>(
     legs: &L,
     cells: &[Cell],

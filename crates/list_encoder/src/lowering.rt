@@ -11,7 +11,7 @@ use base::NoMemory;
 use list_pack::{Cost, Legs, Shape, move_cost, plus, room_behind};
 use std::alloc::Global;
 
-// one room of a link's first cell is lowered by the link, where a room is left behind it
+/// one room of a link's first cell is lowered by the link, where a room is left after it
 fn relax_room<L: Legs>(
     legs: &L,
     cells: &[Cell],
@@ -40,8 +40,8 @@ fn relax_room<L: Legs>(
     lower(table, 8 * link.from + room as usize, cost)
 }
 
-// the rooms of a link's first cell are lowered by the link where it stays in the container; where
-// it can't stay with the most room that there may be, it can't with less
+/// the rooms of a link's first cell are lowered by the link where it stays in the container; where
+/// it can't stay with the most room that there may be, it can't with less
 fn relax_stays<L: Legs>(
     legs: &L,
     cells: &[Cell],
@@ -71,8 +71,8 @@ fn relax_stays<L: Legs>(
     changed
 }
 
-// the rooms of a link's first cell above 0 are lowered by the link where it opens a container,
-// which with some room in front is the same for all
+/// the rooms of a link's first cell above 0 are lowered by the link where it opens a container,
+/// which with some room in front is the same for all
 fn relax_opens<L: Legs>(
     legs: &L,
     cells: &[Cell],
@@ -99,7 +99,7 @@ fn relax_opens<L: Legs>(
     changed
 }
 
-// the rooms of a link's first cell, whose SID's shape is given, are lowered by the link
+/// the rooms of a link's first cell, whose SID's shape is given, are lowered by the link
 fn relax<L: Legs>(
     legs: &L,
     cells: &[Cell],
@@ -123,7 +123,7 @@ fn relax<L: Legs>(
     either(opens, stays)
 }
 
-// the costs of a cell are lowered by the finishes from it
+/// the costs of a cell are lowered by the finishes from it
 fn relax_ends<L: Legs>(
     legs: &L,
     cells: &[Cell],
@@ -175,8 +175,8 @@ pub fn link_into<L: Legs>(legs: &L, cells: &[Cell], from: usize, to: usize) -> O
     })
 }
 
-// the costs of a cell are lowered by the legs from it to later positions; those within its position
-// are put behind the others in the list
+/// the costs of a cell are lowered by the legs from it to later positions; those within its position
+/// are put after the others in the list
 fn relax_legs<L: Legs>(
     legs: &L,
     cells: &[Cell],

@@ -27,8 +27,8 @@ pub struct Offer {
     pub rest: Cost,
 }
 
-// one room of an edge's first cell is lowered by an offer, where it is the offer's room that is
-// left after it
+/// one room of an edge's first cell is lowered by an offer, where it is the offer's room that is
+/// left after it
 fn offer_room<L: Legs>(
     legs: &L,
     cells: &[Cell],
@@ -58,9 +58,9 @@ fn offer_room<L: Legs>(
     Ok(())
 }
 
-// some room of an edge's first cell may leave the offer's room; where it can't stay in the
-// container with the most room that there may be, it can't with less, and it opens a container with
-// some room in front as it does with any other
+/// some room of an edge's first cell may leave the offer's room; where it can't stay in the
+/// container with the most room that there may be, it can't with less, and it opens a container with
+/// some room in front as it does with any other
 fn may_lead(offer: &Offer, from: &Option<Shape>, next: &Shape) -> bool
     requires { IsShape next.now }
     ensures { (room : ℕ) → room < 8 → room_behind offer.now.stays from.now room next.now
@@ -73,7 +73,7 @@ fn may_lead(offer: &Offer, from: &Option<Shape>, next: &Shape) -> bool
         || is_room(room_behind(false, from, 1, next), offer.left)
 }
 
-// the room is there and is the other
+/// the room is there and is the other
 fn is_room(room: Option<u8>, other: u8) -> bool
     ensures { IsTrue result ↔ (room ≡ Some other) }
 {
@@ -83,7 +83,7 @@ fn is_room(room: Option<u8>, other: u8) -> bool
     }
 }
 
-// all rooms of an edge's first cell are lowered by an offer
+/// all rooms of an edge's first cell are lowered by an offer
 fn offer_way<L: Legs>(
     legs: &L,
     cells: &[Cell],
@@ -112,7 +112,7 @@ fn offer_way<L: Legs>(
     Ok(())
 }
 
-// the states of an edge's first cell are lowered by an offer, in the container and by a new one
+/// the states of an edge's first cell are lowered by an offer, in the container and by a new one
 fn offer_edge<L: Legs>(
     legs: &L,
     cells: &[Cell],

@@ -13,7 +13,7 @@ use base::NoMemory;
 use list_pack::{Cost, Legs, PathStep};
 use std::alloc::Global;
 
-// the first least path from a state
+/// the first least path from a state
 fn path_from<L: Legs>(
     alloc: Global,
     legs: &L,

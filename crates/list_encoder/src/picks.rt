@@ -1,4 +1,4 @@
-//! The first tight move from a state: one whose cost, with what is left behind it, is what is left
+//! The first tight move from a state: one whose cost, with what is left after it, is what is left
 //! in front of it.
 
 ghost use Rattle.std.specs.Prelude.{◌≡◌, ◌*◌, length};
@@ -32,13 +32,13 @@ pub struct Pick {
     pub step: PathStep,
     /// The place of the cell that it leads to; none at the end.
     pub to: Option<usize>,
-    /// The room behind it, below 8.
+    /// The room after it, below 8.
     pub room: u8,
-    /// The least cost behind it.
+    /// The least cost after it.
     pub rest: Cost,
 }
 
-// the move whose step comes first, where one is there
+/// the move whose step comes first, where one is there
 fn better(best: Option<Pick>, other: Option<Pick>) -> Option<Pick>
     ensures { result ≡ better_of best other }
 {
@@ -57,7 +57,7 @@ fn better(best: Option<Pick>, other: Option<Pick>) -> Option<Pick>
     }
 }
 
-// a cost is the sum of two others
+/// a cost is the sum of two others
 fn is_sum(a: Cost, b: Cost, sum: Cost) -> bool
     ensures { result ≡ is_sum a b sum }
 {
@@ -66,7 +66,7 @@ fn is_sum(a: Cost, b: Cost, sum: Cost) -> bool
     containers == u64::from(sum.containers) && hops == u64::from(sum.hops)
 }
 
-// the move by a link that stays in the container, or the one that doesn't, where it is tight
+/// the move by a link that stays in the container, or the one that doesn't, where it is tight
 fn pick_move<L: Legs>(
     legs: &L,
     cells: &[Cell],
@@ -102,7 +102,7 @@ fn pick_move<L: Legs>(
     })
 }
 
-// the first tight move by a link
+/// the first tight move by a link
 fn pick_link<L: Legs>(
     legs: &L,
     cells: &[Cell],
@@ -124,7 +124,7 @@ fn pick_link<L: Legs>(
     better(stays, opens)
 }
 
-// the first tight finish
+/// the first tight finish
 fn pick_end<L: Legs>(
     legs: &L,
     cells: &[Cell],
@@ -153,7 +153,7 @@ fn pick_end<L: Legs>(
     best
 }
 
-// the first tight leg
+/// the first tight leg
 fn pick_leg<L: Legs>(
     legs: &L,
     cells: &[Cell],

@@ -18,8 +18,8 @@ use base::NoMemory;
 use list_pack::{Cost, Legs};
 use std::alloc::Global;
 
-// the states that wait are settled, from the least cost up, and those in front of each are lowered
-// by what it offers
+/// the states that wait are settled, from the least cost up, and those in front of each are lowered
+/// by what it offers
 fn settle_waiting<L: Legs>(
     legs: &L,
     cells: &[Cell],
@@ -44,7 +44,7 @@ fn settle_waiting<L: Legs>(
     Ok(())
 }
 
-// the costs of the cells of a position become the least ones
+/// the costs of the cells of a position become the least ones
 fn settle<L: Legs>(
     alloc: Global,
     legs: &L,
@@ -69,7 +69,7 @@ fn settle<L: Legs>(
     Ok(())
 }
 
-// the costs of all positions become the least ones, from the last position to the first
+/// the costs of all positions become the least ones, from the last position to the first
 fn settle_all<L: Legs>(
     alloc: Global,
     legs: &L,

@@ -35,7 +35,7 @@ pub struct Queue {
     pub done: Vec<bool>,
 }
 
-// a state that waits with a cost
+/// a state that waits with a cost
 fn waiting_at(cost: Cost, place: usize) -> Waiting
     ensures { result ≡ waiting_at cost place }
 {
@@ -56,7 +56,7 @@ pub fn cost_of(next: Waiting) -> Cost
     }
 }
 
-// a cost is below what an entry has
+/// a cost is below what an entry has
 fn is_lower(was: Option<Cost>, cost: Cost) -> bool
     ensures { MatchBool result (Improves was cost) (Under was (Some cost)) }
 {
@@ -66,7 +66,7 @@ fn is_lower(was: Option<Cost>, cost: Cost) -> bool
     }
 }
 
-// a state that waits with a cost no longer waits with it
+/// a state that waits with a cost no longer waits with it
 fn take_out(waiting: &mut BTreeSet<Waiting>, was: Option<Cost>, place: usize)
     ensures { MatchOption was (waiting.new ≡ waiting.old)
         (λ old. set.Updates waiting_cmp waiting.old waiting.new (waiting_at old place) false) }
@@ -76,7 +76,7 @@ fn take_out(waiting: &mut BTreeSet<Waiting>, was: Option<Cost>, place: usize)
     }
 }
 
-// the state of a place is settled
+/// the state of a place is settled
 fn mark(done: &mut Vec<bool>, place: usize)
     requires { place < length done.old.items }
     ensures { done.new.items ≡ slice_set done.old.items place true }
@@ -130,7 +130,7 @@ pub fn lower_open(
     Ok(true)
 }
 
-// a state waits with the cost that it has
+/// a state waits with the cost that it has
 fn put_in(waiting: &mut BTreeSet<Waiting>, has: Option<Cost>, place: usize) -> Result<(), NoMemory>
     ensures { OnOk result (MatchOption has (waiting.new ≡ waiting.old)
         (λ cost. set.Updates waiting_cmp waiting.old waiting.new (waiting_at cost place) true)) }
@@ -142,7 +142,7 @@ fn put_in(waiting: &mut BTreeSet<Waiting>, has: Option<Cost>, place: usize) -> R
     Ok(())
 }
 
-// the states of a table's first places that have a cost
+/// the states of a table's first places that have a cost
 fn waiting_of(
     alloc: Global,
     table: &[Option<Cost>],
@@ -158,7 +158,7 @@ fn waiting_of(
     Ok(waiting)
 }
 
-// so many states that are not settled
+/// so many states that are not settled
 fn none_done(alloc: Global, count: usize) -> Result<Vec<bool>, NoMemory>
     ensures { IfOk result (λ done. done.items ≡ replicate count false) }
 {

@@ -150,7 +150,7 @@ opened-packed (Some b) s ss cs follow =
     } in
     record { first = (own, omega (arith, few)); open_here = from-packed b 1 s ss cs own parts }
 
--- ---- what is asked for behind a whole container
+-- ---- what is asked for after a whole container
 
 abbrev pub asked_end : Option SidBlock → ℕ → ListSid → List ListSid → Option SidBlock
 asked_end k u s [] = asked_at k u s

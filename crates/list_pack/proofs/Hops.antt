@@ -25,7 +25,7 @@ hops-parts (Some leg) later h e = by (later leg.to) refl e
     by None same f = absurd (none-some h f)
     by (Some rest) same f = (leg, refl, rest, same)
 
--- two SIDs of a search, one behind the other, of which the first is a middle one
+-- two SIDs of a search, one after the other, of which the first is a middle one
 pub record Here (v : LegsValue) (via n : ℕ) : Type 0 where
   pub via_sid : IsSid v via
   pub middle : (v.shape via).middle ≡ true

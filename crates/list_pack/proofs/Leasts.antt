@@ -9,7 +9,7 @@ use Rattle.list_pack.specs.Costs.{Move, Edge, plus, edge_of, last_of, behind, co
 use Rattle.list_pack.specs.Least.{Attains, IsLeast, IsGoodAt}
 use Rattle.list_pack.proofs.Costing.{under-none, under-trans, under-plus, edge-state}
 
--- what is under each edge's cost with what is behind it is under the cost of a path that begins with it
+-- what is under each edge's cost with what is after it is under the cost of a path that begins with it
 pub under-behind : (v : LegsValue) (o : Option Cost) (edge : Option Edge) (later : State → Option Cost)
     → ((e : Edge) → edge ≡ Some e → Under o (option_map (plus e.cost) (later e.to))) → Under o (behind edge later)
 under-behind v o None later h = under-none o
@@ -47,7 +47,7 @@ pub unlisted-none : (v : LegsValue) (p : State → Option Cost) (s : State) (mov
 unlisted-none v p s moves laws good is_s e =
     none-only (cost_of v s moves) (subst (λ (o : Option Cost). Under o (cost_of v s moves)) e (bounds v p laws good moves s is_s))
 
--- behind an edge, what a path attains is attained with the edge in front
+-- after an edge, what a path attains is attained with the edge in front
 pub attained : (v : LegsValue) (s : State) (m : Move) (e : Edge) (moves : List Move) (d : Cost) → edge_of v s m ≡ Some e
     → cost_of v e.to moves ≡ Some d
     → cost_of v s (m ∷ moves) ≡ Some (plus e.cost d)

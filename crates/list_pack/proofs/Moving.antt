@@ -34,7 +34,7 @@ asked-plain k u s e = asked-none k u s (asked-by s Plain e)
 pub asked-next : (k : Option SidBlock) (u : ℕ) (s : ListSid) → s.csid ≡ Next → asked_at k u s ≡ None
 asked-next k u s e = asked-none k u s (asked-by s Next e)
 
--- behind a REPLACE SID: its block where no room is left, else nothing
+-- after a REPLACE SID: its block where no room is left, else nothing
 pub asked-end : (k : Option SidBlock) (u room : ℕ) (s : ListSid) → s.csid ≡ Replace → Stands k u room s → room ≡ 0
     → asked_at k u s ≡ s.block
 asked-end None u room s e at z = asked-by s Replace e
@@ -160,7 +160,7 @@ pub entered : (k : Option SidBlock) (a n : Shape) (s t : ListSid) (u room q : �
     → new_room a room n ≡ Some q → Entered (asked_at k u s) q n t
 entered k a n s t u room q p at r = entered-by k a n s t u room q p at a.csid refl r
 
--- ---- a step that a legal list allows has a room behind it
+-- ---- a step that a legal list allows has a room after it
 
 some-stay : (b : Bool) (x : ℕ) → b ≡ true → (if b then Some x else None) ≡ Some x
 some-stay b x e = ap (λ (t : Bool). if t then Some x else None) e

@@ -148,7 +148,7 @@ lex-same (x ∷ xs) (y ∷ ys) h k =
           ]
     ]
 
--- behind one beginning the order is that of what follows
+-- after one beginning the order is that of what follows
 pub lex-after : (xs ys us ws : List ℕ) → xs ≡ ys → lex_before us ws ≡ false → lex_before (xs ++ us) (ys ++ ws) ≡ false
 lex-after xs ys us ws e h = subst (λ (zs : List ℕ). lex_before (xs ++ us) (zs ++ ws) ≡ false) e (after xs)
   where

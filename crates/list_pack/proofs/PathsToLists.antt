@@ -28,7 +28,7 @@ by-stays P one other m = by m.stays m.sid
 abbrev pub steps_by : LegsValue → List Move → List PathStep
 steps_by v moves = map (step_of v) moves
 
--- the containers that steps open behind an open one
+-- the containers that steps open after an open one
 abbrev behind_open : (PrefixValue → ListSid) → Option SidBlock → ℕ → PrefixValue → List PathStep → List lists.Container
 behind_open sid_on k u p steps =
     map (container_by sid_on) (list_from sid_on (asked_end k u (sid_on p) (map sid_on (staying steps))) steps)

@@ -1,4 +1,4 @@
--- The room behind a SID is at most the most that there may be behind it.
+-- The room after a SID is at most the most that there may be after it.
 use Rattle.std.proofs.Common.{◌≡◌, ℕ, zero, suc, ◌+◌, ◌-◌, ◌*◌, ◌/◌, ◌≤◌, Bool, true, false, ◌&&◌, Option, Some, None, refl, sym, ◌∙◌, ap, subst, arith, nat_le}
 use Rattle.std.specs.Prelude.{is_some}
 use Rattle.std.proofs.lemmas.Bool.{false≢true, and_parts, leb-true}
@@ -26,7 +26,7 @@ packed-top Plain s = omega arith
 packed-top Next s = omega arith
 packed-top Replace s = omega arith
 
--- 16-bit units behind a NEXT SID
+-- 16-bit units after a NEXT SID
 next-fits : (lbl a b la lb room : ℕ) → la ≡ lbl + 16 * a → lb ≡ lbl + 16 * b → 1 ≤ a → room ≤ (128 - la) / 16 → b ≤ room
     → room - b ≤ (128 - lb) / 16
 next-fits lbl a b la lb room e f one h k = omega arith
@@ -94,7 +94,7 @@ opens-top s next zero q Replace r =
     subst (λ (x : ℕ). x ≤ top_room next) both.1 (packed-top next.csid next)
 opens-top s next (suc room) q Replace r = some-full next q r
 
--- behind a next SID there is at most the most room that there may be behind it
+-- after a next SID there is at most the most room that there may be after it
 pub behind-top : (stays : Bool) (s next : Shape) (room q : ℕ) → IsShape s → IsShape next
     → (same_block s.block next.block ≡ true → ShareBlock s next)
     → room ≤ top_room s → room_behind stays (Some s) room next ≡ Some q → q ≤ top_room next

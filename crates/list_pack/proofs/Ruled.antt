@@ -106,7 +106,7 @@ is-opens (Some b) s h =
     and_from (same_sid_block s.block (Some b)) (nat_le 1 (limit (Some b))) (block-from s.block (Some b) h.0)
     (le-leb 1 (limit (Some b)) h.1)
 
--- ---- containers, one behind the other
+-- ---- containers, one after the other
 
 kept-follows : (k : Option SidBlock) (s : ListSid) (ss : List ListSid) (cs : List lists.Container) → keeps_test k s ss ≡ true
     → Follow (asked_after k s ss) cs → Opened k s ss cs

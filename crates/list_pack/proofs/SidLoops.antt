@@ -11,7 +11,7 @@ use Rattle.net_model.specs.Rules.{same_prefix}
 use Rattle.list_pack.specs.Value.{is_compressed}
 use Rattle.list_pack.specs.SidLists.{either_csid, csid_among, on_prefix, going_on}
 
--- an item and those behind it
+-- an item and those after it
 pub drop-item : {X : Type 0} (xs : List X) (n : ℕ) (x : X) → slice_get xs n ≡ Some x → drop n xs ≡ x ∷ drop (n + 1) xs
 drop-item [] n x e = absurd (cc)
 drop-item (y ∷ ys) zero x e =

@@ -12,7 +12,7 @@ use Rattle.list_pack.specs.Rooms.{kept_room, stay_room, stay_room_by}
 use Rattle.list_pack.proofs.Rooming.{both-blocks}
 use Rattle.list_pack.specs.OpenContainers.{taken, limit, StaysIn}
 
--- the room that is left behind the last SID of an open container where so much is taken
+-- the room that is left after the last SID of an open container where so much is taken
 abbrev pub room_in : Option SidBlock → Csid → ℕ → ℕ
 room_in None Plain u = 0
 room_in None Next u = (128 - u) / 16
@@ -97,7 +97,7 @@ left-replace a n s t b u room p e both l Next k =
     absurd (cc)
 left-replace a n s t b u room p e both l Replace k = omega (arith, l)
 
--- behind a REPLACE SID in its block no NEXT SID comes
+-- after a REPLACE SID in its block no NEXT SID comes
 pub not-next : (a n : Shape) (s t : ListSid) → Pair a n s t → a.csid ≡ Replace → same_block a.block n.block ≡ true → n.csid ≡ Next → ⊥
 not-next a n s t p e both k =
     let one : is_compressed a.csid ≡ true = ap is_compressed e in
@@ -108,7 +108,7 @@ not-next a n s t p e both k =
 pub room-as : (k : Option SidBlock) (s : ListSid) (u room : ℕ) (c : Csid) → Stands k u room s → s.csid ≡ c → room ≡ room_in k c u
 room-as k s u room c at e = subst (λ (x : Csid). room ≡ room_in k x u) e at.left
 
--- in a full container behind a NEXT SID
+-- in a full container after a NEXT SID
 stayed-next : (a n : Shape) (s t : ListSid) (u room q : ℕ) → Pair a n s t → a.csid ≡ Next → Stands None u room s
     → stay_room_by Next a room n ≡ Some q → Stayed None u q n s t
 stayed-next a n s t u room q p e at r =
@@ -159,7 +159,7 @@ stayed-replace a n s t b u room q p e at r =
           };
     }
 
--- no room is left in a full container behind a REPLACE SID
+-- no room is left in a full container after a REPLACE SID
 stays-no : (a n : Shape) (room q : ℕ) → room ≡ 0 → stay_room_by Replace a room n ≡ Some q → ⊥
 stays-no a n room q z r =
     let both = cond_some (same_block a.block n.block && nat_le 1 room) (kept_room n.csid (room - 1)) q r in

@@ -10,7 +10,7 @@ use Rattle.list_pack.specs.PathLists.{container_by, staying, asked_after, list_f
 use Rattle.list_pack.specs.SidLists.{list_sid, list_in, stays, steps_in}
 use Rattle.list_pack.proofs.PathLaws.{list-same}
 
--- behind the steps that stay comes one that opens a container
+-- after the steps that stay comes one that opens a container
 none-stay : (cs : List Container) → staying (steps_in cs) ≡ []
 none-stay [] = refl
 none-stay (Full p ps ∷ cs) = refl

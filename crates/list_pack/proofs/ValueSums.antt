@@ -62,7 +62,7 @@ entry-is w cs (inr e) few =
     let few_32 : length cs ≤ 4 = subst (λ (n : ℕ). length cs ≤ 128 / n) e few in
     subst (λ (n : ℕ). packed_entry n cs ≡ stacked n 0 cs) (sym e) (downward-is 32 3 0 cs refl few_32)
 
--- a CSID in front of the bits behind it
+-- a CSID in front of the bits after it
 pub put-before : (v behind w c : ℕ) → behind + w ≤ 128 → v < 2 ^ behind → with_field_of v (128 - behind - w) w c ≡ c * 2 ^ behind + v
 unfolding with_field_of
 put-before v behind w c fits below =
@@ -140,7 +140,7 @@ packed-end b w value behind index first more csid few told past =
     none ∙ ap (λ (ps : List PrefixValue). value + stacked w behind (map (csid_of b) ps)) (sym (drop-past more index past)) ∙ told
     ∙ sym (entry-is w (map (csid_of b) (first ∷ more)) csid (subst (λ (n : ℕ). n ≤ csid_count w) (sym same) few))
 
--- an item that a loop comes to, and those behind it
+-- an item that a loop comes to, and those after it
 pub drop-got : (xs : List PrefixValue) (i : ℕ) (p : PrefixValue) → i < length xs → p ≡ get_or xs i p → drop i xs ≡ p ∷ drop (i + 1) xs
 drop-got xs i p within is = drop-item xs i p (slice_get-get_or xs i p within ∙ ap (λ (x : PrefixValue). Some x) (sym is))
 

@@ -191,7 +191,7 @@ valued-first net (Some b) (Packed p ps) cs follow flat asks =
       flat_behind = All-nil IsFlatContainer;
     }
 
--- what is asked for behind the first container
+-- what is asked for after the first container
 record Behind (net : Network) (cs : List Container) : Type 0 where
   asked : Option SidBlock
   follow : Follow asked (list_in net cs)

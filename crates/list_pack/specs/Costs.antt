@@ -38,7 +38,7 @@ nothing = record { containers = 0; hops = 0 }
 abbrev pub move_cost : Bool → ℕ → Cost
 move_cost stays hops = record { containers = if stays then 0 else 1; hops = hops }
 
--- the room behind a move, none where its SID can't stand so
+-- the room after a move, none where its SID can't stand so
 abbrev pub room_of : LegsValue → State → Move → Option ℕ
 room_of v s m = room_behind m.stays (option_map v.shape s.via) s.room (v.shape m.sid)
 
@@ -74,7 +74,7 @@ Under (Some c) (Some d) = AtMost c d
 abbrev pub start : State
 start = record { position = 0; via = None; room = 0 }
 
--- the start, or a middle SID of a position with as much room as there may be behind it
+-- the start, or a middle SID of a position with as much room as there may be after it
 abbrev pub IsStateBy : LegsValue → ℕ → Option ℕ → ℕ → Type 0
 IsStateBy v position None room = (position ≡ 0) × (room ≡ 0)
 IsStateBy v position (Some n) room =

@@ -14,7 +14,7 @@ use Rattle.list_pack.specs.PathLists.{list_of, IsListOfPath}
 use Rattle.list_pack.specs.SidLists.{IsLegalList, block_at, list_sid, prefixes_in, steps_in}
 
 -- what a search sees of a SID is what it is in the network: its prefix, the number of its block, how many bits that shares, and how the SID
--- is compressed; what the prefix has behind those bits is its CSID
+-- is compressed; what the prefix has after those bits is its CSID
 pub record IsShapeOf (net : Network) (s : SidEntry) (shape : Shape) : Type 0 where
   pub prefix : shape.prefix ≡ s.prefix
   pub block : shape.block ≡ block_at net.blocks s.prefix

@@ -11,7 +11,7 @@ use Rattle.list_pack.specs.declared.types.Container.TheVariants.{Full, Packed}
 use Rattle.list_pack.specs.PathLists.{asked_after}
 
 -- a container that is open is a REPLACE container of a block, or a full one where there is none: the flavour of its SIDs that have others
--- behind them; what a further SID takes, and the first one; and what there is: bits of a full container, CSIDs of a REPLACE container
+-- after them; what a further SID takes, and the first one; and what there is: bits of a full container, CSIDs of a REPLACE container
 abbrev pub flavour : Option SidBlock → Csid
 flavour None = Next
 flavour (Some b) = Replace
@@ -28,18 +28,18 @@ abbrev pub limit : Option SidBlock → ℕ
 limit None = 128
 limit (Some b) = csid_count (csid_len_in (Some b))
 
--- the block asked for behind a SID of an open container where so much is taken
+-- the block asked for after a SID of an open container where so much is taken
 abbrev pub asked_at : Option SidBlock → ℕ → ListSid → Option SidBlock
 asked_at None u last = asked_behind last
 asked_at (Some b) u last = asked_behind_packed (Some b) u last
 
--- a SID stays in an open container behind another one
+-- a SID stays in an open container after another one
 pub record StaysIn (k : Option SidBlock) (u : ℕ) (s t : ListSid) : Type 0 where
   pub kind : s.csid ≡ flavour k
   pub block : t.block ≡ s.block
   pub fits : u + taken k t ≤ limit k
 
--- SIDs may follow in an open container whose last SID so far is known, and containers behind them
+-- SIDs may follow in an open container whose last SID so far is known, and containers after them
 abbrev pub Open : Option SidBlock → ℕ → ListSid → List ListSid → List Container → Type 0
 Open k u s [] cs = Follow (asked_at k u s) cs
 Open k u s (t ∷ ts) cs = StaysIn k u s t × Open k (u + taken k t) t ts cs

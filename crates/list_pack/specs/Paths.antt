@@ -28,7 +28,7 @@ abbrev pub with_room : Option ℕ → (ℕ → Bool) → Bool
 with_room None later = false
 with_room (Some room) later = later room
 
--- each SID of a path can stand as its move says, by rooms alone, behind the SID that was executed last and the room that is left behind it
+-- each SID of a path can stand as its move says, by rooms alone, after the SID that was executed last and the room that is left after it
 abbrev pub may_move : LegsValue → Option ℕ → ℕ → List Move → Bool
 may_move v via room [] = true
 may_move v via room (m ∷ ms) =

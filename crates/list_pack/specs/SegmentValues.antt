@@ -8,13 +8,13 @@ use Rattle.list_places.specs.Places.{entered, IsPlace}
 abbrev pub addr_value : Addr → ℕ
 addr_value a = a.value
 
--- SIDs longer than their block, whose bits behind it fit one behind the other from a bit on
+-- SIDs longer than their block, whose bits after it fit one after the other from a bit on
 abbrev pub FitBehind : ℕ → ℕ → List PrefixValue → Type 0
 FitBehind block_len at [] = Unit {0}
 FitBehind block_len at (p ∷ ps) =
     (block_len < p.len) × (at + (p.len - block_len) ≤ 128) × FitBehind block_len (at + (p.len - block_len)) ps
 
--- SIDs with so many bits behind their block
+-- SIDs with so many bits after their block
 abbrev pub HaveCsids : ℕ → ℕ → List PrefixValue → Type 0
 HaveCsids block_len csid_len [] = Unit {0}
 HaveCsids block_len csid_len (p ∷ ps) = (p.len ≡ block_len + csid_len) × HaveCsids block_len csid_len ps

@@ -38,7 +38,7 @@ is_compressed Plain = false
 is_compressed Next = true
 is_compressed Replace = true
 
--- how many 16-bit units a SID's prefix has behind the bits that its block shares
+-- how many 16-bit units a SID's prefix has after the bits that its block shares
 abbrev pub units_of : Shape → ℕ
 units_of s = (s.prefix.len - s.lbl) / 16
 

@@ -1,4 +1,4 @@
-//! The room that is left in a container behind a SID.
+//! The room that is left in a container after a SID.
 
 ghost use Rattle.std.specs.Prelude.{◌≡◌};
 ghost use Rattle.list_pack.specs.Value.{IsShape, same_block, units_of};
@@ -7,7 +7,7 @@ ghost use Rattle.list_pack.specs.Rooms.{full_room, packed_room, kept_room, stay_
 use crate::types::Shape;
 use srv6_rules::Csid;
 
-// both lie in one block
+/// both lie in one block
 fn same_block(a: Option<u32>, b: Option<u32>) -> bool
     ensures { result ≡ same_block a b }
 {
@@ -17,7 +17,7 @@ fn same_block(a: Option<u32>, b: Option<u32>) -> bool
     }
 }
 
-// how many 16-bit units the prefix has behind the bits of its block
+/// how many 16-bit units the prefix has after the bits of its block
 fn units_of(shape: &Shape) -> u8
     requires { IsShape shape.now }
     ensures { result ≡ units_of shape.now }
@@ -25,8 +25,8 @@ fn units_of(shape: &Shape) -> u8
     shape.prefix.len().saturating_sub(shape.lbl) / 16
 }
 
-/// The room behind a SID that opens a full container (RFC 9800 section 4.1): the whole 16-bit units
-/// behind the prefix of a NEXT SID, 0 behind any other.
+/// The room after a SID that opens a full container (RFC 9800 section 4.1): the whole 16-bit units
+/// after the prefix of a NEXT SID, 0 after any other.
 pub fn full_room(shape: &Shape) -> u8
     ensures { result ≡ full_room shape.now }
 {
@@ -37,8 +37,8 @@ pub fn full_room(shape: &Shape) -> u8
     }
 }
 
-// the room behind a SID that opens a REPLACE container (RFC 9800 section 4.2): the CSIDs that
-// follow its own
+/// the room after a SID that opens a REPLACE container (RFC 9800 section 4.2): the CSIDs that
+/// follow its own
 fn packed_room(shape: &Shape) -> u8
     requires { IsShape shape.now }
     ensures { result ≡ packed_room shape.now }
@@ -49,8 +49,8 @@ fn packed_room(shape: &Shape) -> u8
     }
 }
 
-/// The most room that there is behind a SID: 16-bit units behind a NEXT SID, CSIDs behind a REPLACE
-/// SID, 0 behind any other. (RFC 9800 sections 4.1 and 4.2)
+/// The most room that there is after a SID: 16-bit units after a NEXT SID, CSIDs after a REPLACE
+/// SID, 0 after any other. (RFC 9800 sections 4.1 and 4.2)
 pub fn top_room(shape: &Shape) -> u8
     requires { IsShape shape.now }
     ensures { result ≡ top_room shape.now }
@@ -62,7 +62,7 @@ pub fn top_room(shape: &Shape) -> u8
     }
 }
 
-// what is left behind a SID that may hold further ones
+/// what is left after a SID that may hold further ones
 fn kept_room(csid: Csid, left: u8) -> u8
     ensures { result ≡ kept_room csid left }
 {
@@ -72,7 +72,7 @@ fn kept_room(csid: Csid, left: u8) -> u8
     }
 }
 
-// the room behind the next SID in the same container, where it may stand there
+/// the room after the next SID in the same container, where it may stand there
 fn stay_room(from: &Shape, room: u8, next: &Shape) -> Option<u8>
     requires { IsShape next.now }
     ensures { result ≡ stay_room from.now room next.now }
@@ -89,7 +89,7 @@ fn stay_room(from: &Shape, room: u8, next: &Shape) -> Option<u8>
     }
 }
 
-// the room behind the next SID in a new container, where it may open one
+/// the room after the next SID in a new container, where it may open one
 fn new_room(from: &Shape, room: u8, next: &Shape) -> Option<u8>
     requires { IsShape next.now }
     ensures { result ≡ new_room from.now room next.now }
@@ -106,10 +106,10 @@ fn new_room(from: &Shape, room: u8, next: &Shape) -> Option<u8>
     }
 }
 
-/// The room behind the next SID, which stays in the container of the SID before it or opens a new
-/// one; none where it can't stand so. Behind a NEXT SID the next one stays where it is of the same
-/// block and its 16-bit units are within the room, behind a REPLACE SID where it is of the same
-/// block and room is left. A new container is a REPLACE container behind a REPLACE SID without
+/// The room after the next SID, which stays in the container of the SID before it or opens a new
+/// one; none where it can't stand so. After a NEXT SID the next one stays where it is of the same
+/// block and its 16-bit units are within the room, after a REPLACE SID where it is of the same
+/// block and room is left. A new container is a REPLACE container after a REPLACE SID without
 /// room, and the next SID is then of the same block; else it is a full one, also from the start,
 /// where no SID was executed (RFC 9800 sections 6.2 to 6.4, and own rule).
 pub fn room_behind(stays: bool, from: &Option<Shape>, room: u8, next: &Shape) -> Option<u8>

@@ -15,7 +15,7 @@ use net_model::{Block, BlockKind, Net};
 use srv6_rules::Csid;
 use v6_addr::Prefix;
 
-// both flavours are one
+/// both flavours are one
 fn same_csid(a: Csid, b: Csid) -> bool
     ensures { result ≡ rules.same_csid a b }
 {
@@ -29,7 +29,7 @@ fn same_csid(a: Csid, b: Csid) -> bool
     }
 }
 
-// the flavour of the SIDs of a block
+/// the flavour of the SIDs of a block
 fn flavour_in(kind: BlockKind) -> Csid
     ensures { result ≡ kind_csid kind }
 {
@@ -39,7 +39,7 @@ fn flavour_in(kind: BlockKind) -> Csid
     }
 }
 
-// both blocks are one, or none is there
+/// both blocks are one, or none is there
 fn same_block(a: &Option<Block>, b: &Option<Block>) -> bool
     ensures { result ≡ rules.same_sid_block (option_map sid_block a.now)
         (option_map sid_block b.now) }
@@ -55,7 +55,7 @@ fn same_block(a: &Option<Block>, b: &Option<Block>) -> bool
     }
 }
 
-// the flavour that SIDs with others behind them have in an open container
+/// the flavour that SIDs with others after them have in an open container
 fn flavour(asked: &Option<Block>) -> Csid
     ensures { result ≡ rules.flavour (option_map sid_block asked.now) }
 {
@@ -65,7 +65,7 @@ fn flavour(asked: &Option<Block>) -> Csid
     }
 }
 
-// how much there is in an open container
+/// how much there is in an open container
 fn limit(asked: &Option<Block>) -> u32
     requires { IfSome asked.now (λ b. 0 < b.csid) }
     ensures value { result ≡ rules.limit (option_map sid_block asked.now) }
@@ -77,7 +77,7 @@ fn limit(asked: &Option<Block>) -> u32
     }
 }
 
-// the bits of a SID behind its block
+/// the bits of a SID after its block
 fn csid_bits(net: &Net, sid: &Prefix) -> u32
     ensures value { result ≡ rules.taken None (list_sid net.now sid.now) }
     ensures few { result ≤ 128 }
@@ -88,7 +88,7 @@ fn csid_bits(net: &Net, sid: &Prefix) -> u32
     }
 }
 
-// how much is taken with one more SID
+/// how much is taken with one more SID
 fn taken_with(net: &Net, asked: &Option<Block>, used: u32, sid: &Prefix) -> u32
     requires { used ≤ 128 }
     ensures { result ≡ used + rules.taken (option_map sid_block asked.now)
@@ -100,7 +100,7 @@ fn taken_with(net: &Net, asked: &Option<Block>, used: u32, sid: &Prefix) -> u32
     }
 }
 
-// how much the first SID of a container takes
+/// how much the first SID of a container takes
 fn first_taken(net: &Net, asked: &Option<Block>, sid: &Prefix) -> u32
     ensures value { result ≡ rules.first_taken (option_map sid_block asked.now)
         (list_sid net.now sid.now) }
@@ -113,7 +113,7 @@ fn first_taken(net: &Net, asked: &Option<Block>, sid: &Prefix) -> u32
     }
 }
 
-// a SID may stand in an open container behind another, with so much taken with it
+/// a SID may stand in an open container after another, with so much taken with it
 fn stays_in(net: &Net, asked: &Option<Block>, taken: u32, last: &Prefix, sid: &Prefix) -> bool
     requires { IfSome asked.now (λ b. 0 < b.csid) }
     ensures { result ≡ (rules.same_csid (list_sid net.now last.now).csid
@@ -126,7 +126,7 @@ fn stays_in(net: &Net, asked: &Option<Block>, taken: u32, last: &Prefix, sid: &P
         && taken <= limit(asked)
 }
 
-// a SID may be the first of a container
+/// a SID may be the first of a container
 fn opens(net: &Net, asked: &Option<Block>, sid: &Prefix) -> bool
     requires { IfSome asked.now (λ b. 0 < b.csid) }
     ensures { result ≡ rules.opens_test (option_map sid_block asked.now)
@@ -138,7 +138,7 @@ fn opens(net: &Net, asked: &Option<Block>, sid: &Prefix) -> bool
     }
 }
 
-// a container keeps the rules by itself
+/// a container keeps the rules by itself
 fn keeps(net: &Net, asked: &Option<Block>, first: &Prefix, more: &[Prefix]) -> bool
     requires { IfSome asked.now (λ b. 0 < b.csid) }
     ensures { result ≡ rules.keeps_test (option_map sid_block asked.now)
@@ -160,7 +160,7 @@ fn keeps(net: &Net, asked: &Option<Block>, first: &Prefix, more: &[Prefix]) -> b
     true
 }
 
-// a container is of the kind that has to come
+/// a container is of the kind that has to come
 fn is_due(asked: &Option<Block>, container: &Container) -> bool
     ensures { result ≡ rules.is_due (option_map sid_block asked.now) container.now }
 {
@@ -170,7 +170,7 @@ fn is_due(asked: &Option<Block>, container: &Container) -> bool
     }
 }
 
-// the first prefix of a container
+/// the first prefix of a container
 fn first_in(container: &Container) -> &Prefix
     ensures { result.now ≡ rules.first_in container.now }
 {
@@ -179,7 +179,7 @@ fn first_in(container: &Container) -> &Prefix
     }
 }
 
-// the prefixes behind it
+/// the prefixes after it
 fn more_in(container: &Container) -> &[Prefix]
     ensures { result.now ≡ rules.more_in container.now }
 {
@@ -188,7 +188,7 @@ fn more_in(container: &Container) -> &[Prefix]
     }
 }
 
-// containers keep the rules, one behind the other
+/// containers keep the rules, one after the other
 fn follow(net: &Net, list: &[Container]) -> bool
     ensures { result ≡ rules.follow_test (list_sid net.now) None list.now }
 {
@@ -204,7 +204,7 @@ fn follow(net: &Net, list: &[Container]) -> bool
     true
 }
 
-// a SID of the network has the prefix
+/// a SID of the network has the prefix
 fn is_named(net: &Net, prefix: &Prefix) -> bool
     ensures { result ≡ is_named net.now prefix.now }
 {
@@ -216,7 +216,7 @@ fn is_named(net: &Net, prefix: &Prefix) -> bool
     false
 }
 
-// SIDs of the network have all of the prefixes
+/// SIDs of the network have all of the prefixes
 fn are_named(net: &Net, prefixes: &[Prefix]) -> bool
     ensures { result ≡ list_all (is_named net.now) prefixes.now }
 {
@@ -228,7 +228,7 @@ fn are_named(net: &Net, prefixes: &[Prefix]) -> bool
     true
 }
 
-// SIDs of the network have all of the prefixes of containers
+/// SIDs of the network have all of the prefixes of containers
 fn all_named(net: &Net, list: &[Container]) -> bool
     ensures { result ≡ list_all (is_named net.now) (prefixes_in list.now) }
 {

@@ -16,7 +16,7 @@ use net_model::{Block, Net};
 use std::alloc::Global;
 use v6_addr::{Addr, Prefix, field, with_field};
 
-// the bits of a block; 0 where there is none
+/// the bits of a block; 0 where there is none
 fn block_bits(block: &Option<Block>) -> u8
     ensures { result ≡ block_len (option_map sid_block block.now) }
 {
@@ -26,7 +26,7 @@ fn block_bits(block: &Option<Block>) -> u8
     }
 }
 
-// a full container: the first SID, and directly behind it the CSIDs of the others
+/// a full container: the first SID, and directly after it the CSIDs of the others
 fn full_value(block_bits: u8, first: &Prefix, more: &[Prefix]) -> Addr
     requires { FitBehind block_bits first.now.len more.now }
     ensures { result.value ≡ container_of block_bits (first.now ∷ more.now) }
@@ -41,7 +41,7 @@ fn full_value(block_bits: u8, first: &Prefix, more: &[Prefix]) -> Addr
     value
 }
 
-// an entry with the CSID of a SID put in front of the bits that are left behind it
+/// an entry with the CSID of a SID put in front of the bits that are left after it
 fn with_csid(entry: Addr, block: &Block, behind: u8, sid: &Prefix) -> Addr
     requires some { 0 < block.now.csid }
     requires fits { behind + block.now.csid ≤ 128 }
@@ -54,7 +54,7 @@ fn with_csid(entry: Addr, block: &Block, behind: u8, sid: &Prefix) -> Addr
     with_field(entry, 128 - behind - block.csid, block.csid, csid)
 }
 
-// a REPLACE container: the CSIDs of its SIDs, the first at the greatest index
+/// a REPLACE container: the CSIDs of its SIDs, the first at the greatest index
 fn packed_value(block: &Block, first: &Prefix, more: &[Prefix]) -> Addr
     requires csid { IsCsidLen block.now.csid }
     requires long { HaveCsids block.now.prefix.len block.now.csid (first.now ∷ more.now) }
@@ -72,7 +72,7 @@ fn packed_value(block: &Block, first: &Prefix, more: &[Prefix]) -> Addr
     value
 }
 
-// the value of a container
+/// the value of a container
 fn value_of(net: &Net, container: &Container) -> Addr
     requires { IsValued (container_in net.now container.now) }
     ensures { result.value ≡ value_of (container_in net.now container.now) }

@@ -11,8 +11,8 @@ pub struct State {
     pub position: u32,
     /// The number of the SID that was executed last; none at the start.
     pub via: Option<u32>,
-    /// How much room is left in the container: 16-bit units behind a NEXT SID, CSIDs behind a
-    /// REPLACE SID, 0 behind any other and at the start.
+    /// How much room is left in the container: 16-bit units after a NEXT SID, CSIDs after a
+    /// REPLACE SID, 0 after any other and at the start.
     pub room: u8,
 }
 
@@ -45,7 +45,7 @@ pub struct Shape {
 /// A way from the execution of one SID to that of the next. (own rule)
 #[derive(Clone, Copy, Debug, PartialEq, Eq)]
 pub struct Leg {
-    /// How many steps of the intent are done behind it.
+    /// How many steps of the intent are done after it.
     pub to: u32,
     /// How often the hop limit is lowered on it, with the execution at its end.
     pub hops: u32,
@@ -78,15 +78,15 @@ pub struct Solution {
     pub path: Seq<PathStep>,
 }
 
-/// The prefixes of SIDs in a container behind its first, in the order in which they are visited.
+/// The prefixes of SIDs in a container after its first, in the order in which they are visited.
 /// (RFC 9800 section 6)
 pub type Prefixes = Seq<Prefix>;
 
 /// 16 bytes of a segment list, by the prefixes of its SIDs: the first to be visited, and those
-/// behind it. (RFC 9800 section 6)
+/// after it. (RFC 9800 section 6)
 #[derive(Debug, Drop)]
 pub enum Container {
-    /// An address that begins with its first SID; behind it the CSIDs of the others (RFC 8754
+    /// An address that begins with its first SID; after it the CSIDs of the others (RFC 8754
     /// section 2, RFC 9800 section 4.1).
     Full(Prefix, Prefixes),
     /// A REPLACE container, of CSIDs alone (RFC 9800 section 4.2).

@@ -18,7 +18,7 @@ use Rattle.list_places.proofs.Steps.{header_in, read_back, header-out, at-whole,
 
 -- ---- the header
 
--- the entry between those in front of it and those behind it
+-- the entry between those in front of it and those after it
 pub entry-is : (t : Tunnel) (left i v : ℕ) (front rest : List ℕ) → segment_list t.encapsulation ≡ front ++ v ∷ rest → length front ≡ i
     → All (λ a. a < 2 ^ 128) (segment_list t.encapsulation) → entry_of (header_with t left) i ≡ v
 entry-is t left i v front rest split place all =

@@ -38,7 +38,7 @@ upper-is e allow t routed left hop d =
     ap (λ family. to family (from_place (on_way t routed left hop d) (inner_at t routed))) (own_family t.inner)
     ∙ ap (to t.inner) (inner-bytes t routed left hop d)
 
--- behind the routing header, which USP takes out
+-- after the routing header, which USP takes out
 last-is : (e : SidEntry) (allow : List ℕ) (t : Tunnel) (left hop d : ℕ) (shows takes usp : Bool)
     → (if usp then outcome_without (header_in t left) (if shows then Exposed t.inner t.bytes
     else if takes then Delivered (on_way t true left hop d)

@@ -5,7 +5,7 @@ use Rattle.std.proofs.lemmas.List.{append_assoc, reverse-append, length-reverse,
 use Rattle.list_places.specs.Lists.{ListSid, Container, prefix_of, value_of, values_of}
 use Rattle.list_places.specs.Places.{InFull, InPacked, may_lack}
 
--- the last container in front of those that are written stands behind them
+-- the last container in front of those that are written stands after them
 pub listed_behind : (entries rest : List ℕ) (c : Container) (cs : List Container) → entries ≡ reverse (values_of (c ∷ cs)) ++ rest
     → entries ≡ reverse (values_of cs) ++ (value_of c ∷ rest)
 listed_behind entries rest c cs e =

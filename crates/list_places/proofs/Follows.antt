@@ -15,7 +15,7 @@ use Rattle.list_places.proofs.Packs.{flat_own}
 
 -- ---- what has to follow
 
--- behind a SID that asks for a REPLACE container
+-- after a SID that asks for a REPLACE container
 pub asked-some : (l : ListSid) (b : SidBlock) → asked_behind l ≡ Some b → (l.csid ≡ Replace) × (l.block ≡ Some b)
 asked-some l b e = by l.csid refl e
   where
@@ -24,7 +24,7 @@ asked-some l b e = by l.csid refl e
     by Next same asked = cc
     by Replace same asked = (same, asked)
 
--- behind one that doesn't
+-- after one that doesn't
 pub asked-none : (l : ListSid) → IsFlatSid l → asked_behind l ≡ None → is_replace l.csid ≡ false
 asked-none l flat e = by l.csid refl e
   where

@@ -30,7 +30,7 @@ AreAddresses xs = All (λ a. a < 2 ^ 128) xs
 
 -- ---- which SIDs shift
 
--- a SID with nothing behind it in its container has no argument
+-- a SID with nothing after it in its container has no argument
 pub still-one : (s : ListSid) → IsFlatSid s → shifts (compression s) (full_value s []) ≡ false
 unfolding argument_of
 still-one s flat =

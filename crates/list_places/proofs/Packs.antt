@@ -126,7 +126,7 @@ module _ (t : Tunnel) (bs : List ListSid) (s u : ListSid) (us : List ListSid) (c
       ∙ ap (λ w. to (length (bs ++ s ∷ [])) w last) (own_width bs s (u ∷ us) cs is ∙ sym width_u)
       ∙ ap (to (length (bs ++ s ∷ [])) (csid_len u)) (left-packed (bs ++ s ∷ []) u us cs)
 
--- ---- to a full container behind it
+-- ---- to a full container after it
 
 module _ (t : Tunnel) (bs : List ListSid) (s f : ListSid) (fs : List ListSid) (cs : List Container) (rest : List ℕ)
     (is : IsInPacked bs s [] (Full f fs ∷ cs))

@@ -84,7 +84,7 @@ pub full-block : (s t : ListSid) (ts : List ListSid) → IsFull s (t ∷ ts) →
     → (b : SidBlock) × (s.block ≡ Some b) × (b.kind ≡ Next)
 full-block s t ts is flat = block_of s Next (λ e. cc) (All-head IsFlatSid s (t ∷ ts) flat) (full-first s t ts is)
 
--- what is left behind its first SID
+-- what is left after its first SID
 pub full-rest : (s t : ListSid) (ts : List ListSid) → IsFull s (t ∷ ts) → All IsFlatSid (s ∷ t ∷ ts) → IsFull t ts
 full-rest s t ts is flat =
     let (b, e, kind) = full-block s t ts is flat in

@@ -24,7 +24,7 @@ next_list =
 abbrev pub next_values : List ℕ
 next_values = 0xfcbb_bb00_0002_e001_0004_f001_0000_0000 ∷ []
 
--- each shift moves the SIDs behind up to the block
+-- each shift moves the SIDs after up to the block
 abbrev pub next_destinations : List ℕ
 next_destinations =
     0xfcbb_bb00_0002_e001_0004_f001_0000_0000 ∷
@@ -39,7 +39,7 @@ replace_block = record { prefix = record { value = 0x2001_0db8_000b_0000_0000_00
 abbrev pub replace_sid : ℕ → ListSid
 replace_sid value = record { prefix = record { value = value; len = 80 }; block = Some replace_block; csid = Replace }
 
--- 2001:db8:b:1:1::/80 whole, and behind it the CSIDs of 2001:db8:b:2:1::/80, 2001:db8:b:3:1::/80 and 2001:db8:b:4:f1::/80
+-- 2001:db8:b:1:1::/80 whole, and after it the CSIDs of 2001:db8:b:2:1::/80, 2001:db8:b:3:1::/80 and 2001:db8:b:4:f1::/80
 abbrev pub replace_list : List Container
 replace_list =
     Full (replace_sid 0x2001_0db8_000b_0001_0001_0000_0000_0000) [] ∷

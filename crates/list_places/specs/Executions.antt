@@ -29,7 +29,7 @@ StandInOrder [] ss = Unit {0}
 StandInOrder (x ∷ xs) [] = Unit {0}
 StandInOrder (x ∷ xs) (s ∷ ss) = StandsOn x.sid s × StandInOrder xs ss
 
--- the place so many SIDs behind a place
+-- the place so many SIDs after a place
 abbrev pub after_next : ℕ → ListPlace → Option ListPlace
 after_next zero x = Some x
 after_next (suc n) x = option_and_then (after_next n) (next_of x)

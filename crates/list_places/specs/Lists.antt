@@ -38,7 +38,7 @@ compression s = record { kind = s.csid; prefix_len = s.prefix.len; block_len = b
 abbrev pub csid_len : ListSid → ℕ
 csid_len s = s.prefix.len - block_len s.block
 
--- the bits that SIDs take in a full container, each behind the one before it
+-- the bits that SIDs take in a full container, each after the one before it
 abbrev pub csid_bits : List ListSid → ℕ
 csid_bits [] = 0
 csid_bits (s ∷ ss) = csid_len s + csid_bits ss
@@ -50,7 +50,7 @@ last_of s (t ∷ ts) = last_of t ts
 
 -- ---- containers
 
--- a container is full: a whole SID, and behind it the CSIDs of others; or it is a REPLACE container, of CSIDs alone
+-- a container is full: a whole SID, and after it the CSIDs of others; or it is a REPLACE container, of CSIDs alone
 pub data Container : Type 0 where
   Full : ListSid → List ListSid → Container
   Packed : ListSid → List ListSid → Container
@@ -68,7 +68,7 @@ sids_in (c ∷ cs) = sids_of c ++ sids_in cs
 abbrev pub prefix_of : ListSid → PrefixValue
 prefix_of s = s.prefix
 
--- the value of a full container: its first SID, and directly behind it the CSIDs of the others, one by one (RFC 9800 section 4.1)
+-- the value of a full container: its first SID, and directly after it the CSIDs of the others, one by one (RFC 9800 section 4.1)
 abbrev pub full_value : ListSid → List ListSid → ℕ
 full_value s ss = container_of (block_len s.block) (map prefix_of (s ∷ ss))
 
@@ -106,7 +106,7 @@ pub record IsPacked (block : Option SidBlock) (sids : List ListSid) : Type 0 whe
   pub replace : HaveButLast Replace sids
   pub few : length sids ≤ csid_count (csid_len_in block)
 
--- the block whose REPLACE container has to follow, if one has to: behind a last SID with REPLACE-CSID, in a full container or in a REPLACE
+-- the block whose REPLACE container has to follow, if one has to: after a last SID with REPLACE-CSID, in a full container or in a REPLACE
 -- container without room for more
 abbrev pub asked_behind : ListSid → Option SidBlock
 asked_behind last = if is_replace last.csid then last.block else None

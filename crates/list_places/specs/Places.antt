@@ -1,4 +1,4 @@
--- A packet's place in a list: the SID that is active, what is behind it, and the packet there (RFC 8754 section 4.3, RFC 9800 section 4).
+-- A packet's place in a list: the SID that is active, what is after it, and the packet there (RFC 8754 section 4.3, RFC 9800 section 4).
 use Rattle.std.specs.Prelude.{◌≡◌, ℕ, ◌+◌, ◌*◌, ◌^◌, ◌<◌, Bool, true, false, ◌&&◌, not, if◌then◌else◌, List, [], ◌∷◌, ◌++◌, length, reverse, All, Option, Some, None, ◌⊎◌}
 use Rattle.srv6_rules.specs.declared.sid.Csid.TheVariants.{Plain, Next, Replace}
 use Rattle.srv6_rules.specs.declared.sid.Reason.TheVariants as reasons
@@ -17,7 +17,7 @@ use Rattle.list_places.specs.Lists.{SidBlock, ListSid, Container, Full, Packed, 
 
 -- ---- places
 
--- a place is what is left of a list: the active SID, those behind it in its container, and the containers behind; in a REPLACE container
+-- a place is what is left of a list: the active SID, those after it in its container, and the containers after; in a REPLACE container
 -- also the SIDs before it
 pub data ListPlace : Type 0 where
   InFull : ListSid → List ListSid → List Container → ListPlace
@@ -28,12 +28,12 @@ abbrev pub active : ListPlace → ListSid
 active (InFull s ss cs) = s
 active (InPacked bs s ss cs) = s
 
--- the containers behind the active SID's: as many segments are left
+-- the containers after the active SID's: as many segments are left
 abbrev pub behind_of : ListPlace → List Container
 behind_of (InFull s ss cs) = cs
 behind_of (InPacked bs s ss cs) = cs
 
--- the active SID and all that are visited behind it
+-- the active SID and all that are visited after it
 abbrev pub sids_from : ListPlace → List ListSid
 sids_from (InFull s ss cs) = (s ∷ ss) ++ sids_in cs
 sids_from (InPacked bs s ss cs) = (s ∷ ss) ++ sids_in cs
@@ -48,7 +48,7 @@ abbrev pub first_of : List Container → Option ListPlace
 first_of [] = None
 first_of (c ∷ cs) = Some (entered c cs)
 
--- the place of the next SID, none behind the last
+-- the place of the next SID, none after the last
 abbrev pub next_of : ListPlace → Option ListPlace
 next_of (InFull s (t ∷ ts) cs) = Some (InFull t ts cs)
 next_of (InFull s [] cs) = first_of cs
@@ -104,25 +104,25 @@ abbrev pub inner_at : Tunnel → Bool → ℕ
 inner_at t routed =
     if routed then header_len + SEGMENT_LIST_AT + SEGMENT_LEN * length (segment_list t.encapsulation) else header_len
 
--- the packet at a place: Segments Left counts the containers behind
+-- the packet at a place: Segments Left counts the containers after
 abbrev pub form : Tunnel → ListPlace → Bool → ℕ → Packet
 form t x routed hop = on_way t routed (length (behind_of x)) hop (destination_of x)
 
--- whether the segment routing header is there behind the step from a place to the next: a shift leaves it, and another step takes it out
+-- whether the segment routing header is there after the step from a place to the next: a shift leaves it, and another step takes it out
 -- with PSP where it may lack there (RFC 8986 section 4.16.1)
 abbrev pub stays_routed : Bool → ListPlace → ListPlace → Bool → Bool
 stays_routed psp x y routed = if shifts_in x then routed else not (psp && may_lack y)
 
 -- ---- the rules of lists at a place
 
--- in a full container: it keeps the rules from the active SID on, and so do the containers behind; and all SIDs are as in a flat network
+-- in a full container: it keeps the rules from the active SID on, and so do the containers after; and all SIDs are as in a flat network
 pub record IsInFull (s : ListSid) (ss : List ListSid) (cs : List Container) : Type 0 where
   pub container : IsFull s ss
   pub behind : Follow (asked_behind (last_of s ss)) cs
   pub flat : All IsFlatSid (s ∷ ss)
   pub flat_behind : IsFlatList cs
 
--- in a REPLACE container: the whole of it keeps the rules, and so do the containers behind
+-- in a REPLACE container: the whole of it keeps the rules, and so do the containers after
 pub record IsInPacked (bs : List ListSid) (s : ListSid) (ss : List ListSid) (cs : List Container) : Type 0 where
   pub block : SidBlock
   pub own_block : s.block ≡ Some block
@@ -142,7 +142,7 @@ abbrev pub own_of : ListPlace → List ℕ
 own_of (InFull s ss cs) = []
 own_of (InPacked bs s ss cs) = packed_value s.block (bs ++ s ∷ ss) ∷ []
 
--- the entries of a segment list at a place: the containers behind, the last of them first, the place's own, and those in front
+-- the entries of a segment list at a place: the containers after, the last of them first, the place's own, and those in front
 pub record IsListed (x : ListPlace) (entries : List ℕ) : Type 0 where
   pub front : List ℕ
   pub split : entries ≡ reverse (values_of (behind_of x)) ++ (own_of x ++ front)

@@ -42,7 +42,7 @@ pub fn places_go_through_the_list()
 {}
 
 /// A packet at a place has its destination in the prefix of the place's active SID, whatever stands
-/// behind that SID in the container (RFC 9800 section 4).
+/// after that SID in the container (RFC 9800 section 4).
 pub fn destination_is_in_the_active_sid()
     ensures place { (x : ListPlace) → IsPlace x → Holds (active x).prefix (destination_of x) }
     ensures packet { (t : Tunnel) (x : ListPlace) (hop : ℕ) (p : Packet) → Along t x hop p
@@ -91,7 +91,7 @@ pub fn sid_leads_to_the_next_place()
 
 /// At the last SID of a list a SID that exposes packets of the inner family, by its behaviour or by
 /// USD, exposes the packet inside, whatever the hop limit. Another has that packet as the upper
-/// layer, with USP behind no segment routing header (RFC 8986 sections 4.1 to 4.8, 4.16.2 and
+/// layer, with USP after no segment routing header (RFC 8986 sections 4.1 to 4.8, 4.16.2 and
 /// 4.16.3).
 pub fn last_sid_has_the_packet_inside()
     ensures exposed { (s : SidEntry) (allow : List ℕ) (t : Tunnel) (x : ListPlace) (hop : ℕ)
@@ -139,7 +139,7 @@ pub fn executions_go_along_the_list()
 {}
 
 /// Two lists by hand: a NEXT-CSID container of four SIDs, and a SID of REPLACE-CSID with three more
-/// in one container behind it. Both are legal, over SIDs as a flat network has them. Their values,
+/// in one container after it. Both are legal, over SIDs as a flat network has them. Their values,
 /// and the destinations on the way, are the ones written out (RFC 9800 sections 4.1 and 4.2).
 pub fn lists_by_hand_are_legal()
     ensures next { IsLegal next_list × IsFlatList next_list }

@@ -8,7 +8,7 @@ use list_pack::{Leg, Legs, Shape};
 use srv6_rules::Csid;
 use v6_addr::{Addr, Prefix};
 
-/// Legs whose SIDs are compressed alike, with so many positions behind the first; a walk has an end
+/// Legs whose SIDs are compressed alike, with so many positions after the first; a walk has an end
 /// where they are open.
 #[derive(Clone, Copy, Debug)]
 pub(crate) struct Grid {
@@ -18,7 +18,7 @@ pub(crate) struct Grid {
     ghost few: { steps ≤ 2 },
 }
 
-// what a SID is followed by: the number's prefix stands in the bits from 16 to 48
+/// what a SID is followed by: the number's prefix stands in the bits from 16 to 48
 pub(crate) fn prefix_of(csid: Csid, sid: u32) -> Prefix
     ensures { result ≡ record { value = sid * 2 ^ 80; len = grid_len csid } }
 {
@@ -36,7 +36,7 @@ fn is_middle(sid: u32) -> bool
     sid % 3 != 0
 }
 
-// a SID may have been executed last at a position, and what follows it has a higher number
+/// a SID may have been executed last at a position, and what follows it has a higher number
 fn is_via(steps: u32, position: u32, via: Option<u32>, next: u32) -> bool
     ensures { result ≡ is_grid_via steps position via next }
 {

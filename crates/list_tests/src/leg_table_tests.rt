@@ -8,7 +8,7 @@ use std::process::Abort;
 use std::test::Fail;
 use test_networks::ROW;
 
-// B's End.X over the first of the two links, B's End, D's End and D's End.DT6
+/// B's End.X over the first of the two links, B's End, D's End and D's End.DT6
 const SIDS: &str = r#"
 sid = [
     { node = "B", prefix = "fcbb:bb00:e001::/48", behaviour = "End.X", links = ["bc1"] },
@@ -26,7 +26,7 @@ mode = "reduced"
 step = [{ links = ["ab"] }, { links = ["bc1"] }, { links = ["cd"] }, { function = "vpn" }]
 "#;
 
-// two nodes that route a SID of a third to each other, and that have a SID of one prefix
+/// two nodes that route a SID of a third to each other, and that have a SID of one prefix
 const LOOP: &str = r#"
 node = [
     { name = "A", address = "2001:db8::a" },
@@ -57,8 +57,8 @@ mode = "full"
 step = [{ links = ["ab"] }, { links = ["ba"] }, { function = "vpn" }]
 "#;
 
-// the same row with a SID of each kind: at B an End with PSP, an End.X, an End.T with a table of its
-// own and one that binds a policy; at D an End, an End with USD and those that decapsulate
+/// the same row with a SID of each kind: at B an End with PSP, an End.X, an End.T with a table of its
+/// own and one that binds a policy; at D an End, an End with USD and those that decapsulate
 const KINDS: &str = r#"
 node = [
   { name = "A", address = "2001:db8::a" },
@@ -101,7 +101,7 @@ source = "2001:db8::a"
 mode = "reduced"
 step = [{ links = ["ab"] }, { links = ["bc1"] }, { links = ["cd"] }, { function = "#;
 
-// a block of NEXT SIDs behind one of REPLACE; 4 decapsulates
+/// a block of NEXT SIDs after one of REPLACE; 4 decapsulates
 const NEXT: &str = r#"
 block = [
   { prefix = "fd00::/16", kind = "replace", csid = 16 },
@@ -117,7 +117,7 @@ sid = [
 ]
 "#;
 
-// the shape of a SID of a position, by its place there
+/// the shape of a SID of a position, by its place there
 fn shape_at<L: Legs>(rt: &impl Abort, legs: &L, position: u32, place: usize) -> Shape {
     assert!(rt; position <= legs.steps());
     let sids = legs.sids_at(position);

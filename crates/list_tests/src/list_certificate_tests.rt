@@ -19,14 +19,14 @@ use std::process::Abort;
 use std::test::Fail;
 use v6_addr::{Addr, Prefix};
 
-// two prefixes are one
+/// two prefixes are one
 fn is_same_prefix(a: &Prefix, b: &Prefix) -> bool
     ensures { result ≡ same_prefix a.now b.now }
 {
     a.value().value == b.value().value && a.len() == b.len()
 }
 
-// a network whose SIDs are those of the grid: each at the node of its number
+/// a network whose SIDs are those of the grid: each at the node of its number
 fn grid_net(rt: &impl Abort, alloc: Global) -> Result<Net, AllocError> {
     let mut nodes = Vec::new(alloc);
     let mut sids = Vec::new(alloc);
@@ -64,7 +64,7 @@ fn grid_net(rt: &impl Abort, alloc: Global) -> Result<Net, AllocError> {
     Ok(Net::build(alloc, parts, &[]).ok().expect(rt, "a network"))
 }
 
-// the network's SIDs are those of the grid
+/// the network's SIDs are those of the grid
 fn is_grid_net(net: &Net, grid: &Grid) -> bool
     ensures { IsTrue result → IsNetworkOf net.now
         (grid_value grid.now.csid grid.now.steps grid.now.is_open) }
@@ -99,7 +99,7 @@ const LINES: [&str; 12] = [
     "end",
 ];
 
-// the certificate's text with another text in place of one of its lines, counted from 0
+/// the certificate's text with another text in place of one of its lines, counted from 0
 fn edited(alloc: Global, at: usize, text: &str) -> Result<String, AllocError> {
     let mut all = String::new(alloc);
     for (k, line) in LINES.iter().enumerate() {
@@ -113,7 +113,7 @@ fn edited(alloc: Global, at: usize, text: &str) -> Result<String, AllocError> {
     Ok(all)
 }
 
-// the verdict on a text, in an open grid of three rows
+/// the verdict on a text, in an open grid of three rows
 fn judged(
     rt: &impl Abort,
     alloc: Global,

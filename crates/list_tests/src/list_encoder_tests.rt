@@ -7,10 +7,10 @@ use srv6_rules::Csid;
 use std::process::Abort;
 use std::test::Fail;
 
-// 2 to the power of 80
+/// 2 to the power of 80
 const SCALE: u128 = 0x1_0000_0000_0000_0000_0000;
 
-// the path's steps, each by its SID's number
+/// the path's steps, each by its SID's number
 fn assert_path(rt: &impl Abort, solution: &Solution, want: &[(bool, u32)]) {
     let path = solution.path.as_slice();
     assert_eq!(rt; path.len(), want.len());
@@ -20,7 +20,7 @@ fn assert_path(rt: &impl Abort, solution: &Solution, want: &[(bool, u32)]) {
     }
 }
 
-// the cost that is listed at a place among the potentials
+/// the cost that is listed at a place among the potentials
 fn assert_cost(rt: &impl Abort, solution: &Solution, at: usize, state: State, cost: Cost) {
     match solution.potentials.as_slice().get(at) {
         Some(potential) => {
@@ -41,7 +41,7 @@ fn solved<L: Legs>(rt: &HostRuntime, legs: &L) -> Result<Solution, Fail> {
     Ok(solve(rt.alloc(), legs)?)
 }
 
-// each SID in a container of its own; of SIDs that cost the same the lower prefix
+/// each SID in a container of its own; of SIDs that cost the same the lower prefix
 #[test]
 fn plain_sids(rt: HostRuntime) -> Result<(), Fail> {
     let grid = Grid {
@@ -83,7 +83,7 @@ fn no_path(rt: HostRuntime) -> Result<(), Fail> {
     Ok(())
 }
 
-// all in one container: its first SID leaves five units of room
+/// all in one container: its first SID leaves five units of room
 #[test]
 fn next_sids(rt: HostRuntime) -> Result<(), Fail> {
     let grid = Grid {
@@ -99,7 +99,7 @@ fn next_sids(rt: HostRuntime) -> Result<(), Fail> {
         hops: 5,
     };
     assert_cost(&rt, &solution, 0, START, cost);
-    // with no room left behind it, a new container
+    // with no room left after it, a new container
     let last = State {
         position: 2,
         via: Some(8),
@@ -113,7 +113,7 @@ fn next_sids(rt: HostRuntime) -> Result<(), Fail> {
     Ok(())
 }
 
-// a whole SID first, and then a container of CSIDs, of which four of 32 bits would find room
+/// a whole SID first, and then a container of CSIDs, of which four of 32 bits would find room
 #[test]
 fn replace_sids(rt: HostRuntime) -> Result<(), Fail> {
     let grid = Grid {

@@ -36,7 +36,7 @@ fn prefix(rt: &impl Abort, value: u128, len: u8) -> Prefix {
     Prefix::new(Addr { value }, len).expect(rt, "a prefix")
 }
 
-// a SID of the one node
+/// a SID of the one node
 fn sid(alloc: Global, prefix: Prefix, block_len: u8, behaviour: Behaviour, csid: Csid) -> SidEntry {
     SidEntry {
         node: 0,
@@ -52,7 +52,7 @@ fn sid(alloc: Global, prefix: Prefix, block_len: u8, behaviour: Behaviour, csid:
     }
 }
 
-// a network of one node
+/// a network of one node
 fn network(
     rt: &impl Abort,
     alloc: Global,
@@ -80,7 +80,7 @@ fn network(
     Ok(Net::build(alloc, parts, &[]).ok().expect(rt, "a network"))
 }
 
-// SIDs of NEXT-CSID, and one that is not compressed
+/// SIDs of NEXT-CSID, and one that is not compressed
 fn next_network(rt: &impl Abort, alloc: Global) -> Result<Net, AllocError> {
     let mut sids = Vec::new(alloc);
     for value in [B, BC1, MARK, D] {
@@ -101,7 +101,7 @@ fn next_network(rt: &impl Abort, alloc: Global) -> Result<Net, AllocError> {
     network(rt, alloc, block, sids)
 }
 
-// SIDs of REPLACE-CSID
+/// SIDs of REPLACE-CSID
 fn replace_network(rt: &impl Abort, alloc: Global) -> Result<Net, AllocError> {
     let mut sids = Vec::new(alloc);
     for value in [P, Q, R] {
@@ -128,7 +128,7 @@ fn replace_network(rt: &impl Abort, alloc: Global) -> Result<Net, AllocError> {
     network(rt, alloc, block, sids)
 }
 
-// a path of SIDs of so many bits; the ones with `true` stay in the container
+/// a path of SIDs of so many bits; the ones with `true` stay in the container
 fn path(
     rt: &impl Abort,
     alloc: Global,
@@ -145,7 +145,7 @@ fn path(
     Ok(path)
 }
 
-// the segments of a list, where it is a legal one of a flat network
+/// the segments of a list, where it is a legal one of a flat network
 fn segments(alloc: Global, net: &Net, list: &SidList) -> Option<Vec<Addr>> {
     net.keeps_rules();
     if !is_legal(net, list) {
@@ -157,7 +157,7 @@ fn segments(alloc: Global, net: &Net, list: &SidList) -> Option<Vec<Addr>> {
     }
 }
 
-// the list of a path has these segments, and so many bytes of headers
+/// the list of a path has these segments, and so many bytes of headers
 fn assert_list(
     rt: &impl Abort,
     alloc: Global,

@@ -8,7 +8,7 @@ use std::test::Fail;
 use test_networks::ROW;
 use v6_addr::{Addr, Prefix};
 
-// B's End, D's End and D's End.DT6
+/// B's End, D's End and D's End.DT6
 const SIDS: &str = r#"
 [[sid]]
 node = "B"
@@ -28,7 +28,7 @@ title = "vpn"
 table = 100
 "#;
 
-// B's End.X over the first of the two links
+/// B's End.X over the first of the two links
 const CROSS: &str = r#"
 [[sid]]
 node = "B"
@@ -37,7 +37,7 @@ behaviour = "End.X"
 links = ["bc1"]
 "#;
 
-// a SID inside the prefix of B's End
+/// a SID inside the prefix of B's End
 const INSIDE: &str = r#"
 [[sid]]
 node = "B"
@@ -66,7 +66,7 @@ const VPN_D: u128 = 0xfcbb_bb00_f001_0000_0000_0000_0000_0000;
 /// fcbb:bb00:2:e001::
 const INSIDE_B: u128 = 0xfcbb_bb00_0002_e001_0000_0000_0000_0000;
 
-// each container holds one SID alone: B's End, B's End.X, D's End, D's End.DT6
+/// each container holds one SID alone: B's End, B's End.X, D's End, D's End.DT6
 fn assert_row(rt: &impl Abort, compiled: &Compiled, header: u64) {
     let want = [END_B, CROSS_B, END_D, VPN_D];
     assert_eq!(rt; compiled.list.as_slice().len(), want.len());
@@ -95,7 +95,7 @@ fn assert_row(rt: &impl Abort, compiled: &Compiled, header: u64) {
     assert_eq!(rt; compiled.solution.path.as_slice().len(), 4);
 }
 
-// the refusal of a network that is not flat
+/// the refusal of a network that is not flat
 fn not_flat(answer: &Result<Compiled, CompileFault>) -> Option<NotFlat> {
     match answer {
         Err(CompileFault::NotFlat(why)) => Some(*why),
@@ -166,7 +166,7 @@ fn a_row_has_no_list(rt: HostRuntime) -> Result<(), Fail> {
     Ok(())
 }
 
-// the far SID is come to from B alone, whose link an End.X crosses: no route leads from B
+/// the far SID is come to from B alone, whose link an End.X crosses: no route leads from B
 const PAIR: &str = r#"
 node = [
     { name = "B", address = "2001:db8::b" },
@@ -206,7 +206,7 @@ max_containers = 2
 step = [{ links = ["bc"] }, { function = "vpn" }]
 "#;
 
-// by B's End, its End.X and C's End.DT6 there is a list of three containers too
+/// by B's End, its End.X and C's End.DT6 there is a list of three containers too
 #[test]
 fn the_least_list_is_taken(rt: HostRuntime) -> Result<(), Fail> {
     let alloc = rt.alloc();
@@ -222,7 +222,7 @@ fn the_least_list_is_taken(rt: HostRuntime) -> Result<(), Fail> {
     Ok(())
 }
 
-// NEXT-CSIDs of 16 bits, and an End.DT6 of the same block that is not compressed
+/// NEXT-CSIDs of 16 bits, and an End.DT6 of the same block that is not compressed
 const COMPRESSED: &str = r#"
 block = [{ prefix = "fcbb:bb00::/32", kind = "next", csid = 16 }]
 

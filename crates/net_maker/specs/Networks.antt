@@ -84,7 +84,7 @@ chain_tables n = flat_map link_tables (from_to 1 n)
 abbrev pub all_link_tables : ℕ → List ℕ
 all_link_tables n = chain_tables n ++ out_table n
 
--- node i's routes to the nodes behind it
+-- node i's routes to the nodes after it
 abbrev pub routes_of : ℕ → ℕ → List ℕ
 routes_of n i = flat_map (route_table i) (from_to (i + 1) n)
 

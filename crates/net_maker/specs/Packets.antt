@@ -2,7 +2,7 @@
 use Rattle.std.specs.Prelude.{ℕ, ◌+◌, ◌%◌, replicate}
 use Rattle.srv6_rules.specs.Packet.{Packet}
 
--- packet k: from 2001:db8:1::k to 2001:db8:2::1, with k % 64 bytes of zeros behind its header and no upper layer (next header
+-- packet k: from 2001:db8:1::k to 2001:db8:2::1, with k % 64 bytes of zeros after its header and no upper layer (next header
 -- 59, RFC 8200 section 4.7)
 unfoldable pub generated_packet : ℕ → Packet
 generated_packet k = record {

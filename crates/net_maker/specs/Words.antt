@@ -27,7 +27,7 @@ word text = text ∷ []
 abbrev pub hex : ℕ → List ℕ
 hex n = digits 16 false n
 
--- a name with a number behind it
+-- a name with a number after it
 abbrev pub numbered : List ℕ → ℕ → Pieces
 numbered name i = name ∷ decimal i ∷ []
 

@@ -40,7 +40,7 @@ fn append_nodes(n: u32, out: &mut String) -> Result<(), AllocError>
     Ok(())
 }
 
-/// Appends the table of a link to node i; the link's name is a text with i behind it.
+/// Appends the table of a link to node i; the link's name is a text with i after it.
 #[tactic(auto, unfolding(crate::specs::Networks::link_table))]
 fn append_link(name: &str, i: u32, out: &mut String) -> Result<(), AllocError>
     requires { 1 ≤ i }
@@ -108,7 +108,7 @@ fn text_of_net(alloc: Global, size: Size) -> Result<String, AllocError>
 
 /// Appends the description of the network of a size, in TOML: nodes `n0` to `nN` in a chain, links
 /// `a` and `b` of its number to each next node, and a link `out` that leaves from the last; each
-/// node's routes to the nodes behind it, its SIDs End and End.X, and the last node's End.DT6 with
+/// node's routes to the nodes after it, its SIDs End and End.X, and the last node's End.DT6 with
 /// the title `vpn`. `NoMemory` leaves the bytes as they were. (own rule)
 pub fn write_net(alloc: Global, size: Size, out: &mut Vec<u8>) -> Result<(), NoMemory>
     ensures ok { OnOk result (out.new.items ≡ out.old.items ++ net_text size) }

@@ -52,7 +52,7 @@ fn packet_of(k: u16) -> Slot
 }
 
 /// Appends the bytes of generated packet k: an IPv6 packet from 2001:db8:1::k, k in hexadecimal, to
-/// 2001:db8:2::1, with hop limit 64, next header 59 and, behind the header, as many bytes of zeros
+/// 2001:db8:2::1, with hop limit 64, next header 59 and, after the header, as many bytes of zeros
 /// as k leaves divided by 64. `NoMemory` leaves the bytes as they were. (own rule)
 pub fn write_packet(k: u16, out: &mut Vec<u8>) -> Result<(), NoMemory>
     ensures ok { OnOk result (out.new.items ≡ out.old.items ++ spelling (generated_packet k)) }

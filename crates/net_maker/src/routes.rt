@@ -20,7 +20,7 @@ fn append_route(i: u32, j: u32, out: &mut String) -> Result<(), AllocError>
     )
 }
 
-/// Appends the tables of node i's routes to the nodes behind it, of which n is the last.
+/// Appends the tables of node i's routes to the nodes after it, of which n is the last.
 fn append_routes_of(n: u32, i: u32, out: &mut String) -> Result<(), AllocError>
     requires { i < MAX_NODES }
     ensures { OnOk result (string_bytes out.new ≡ string_bytes out.old ++ routes_of n i) }

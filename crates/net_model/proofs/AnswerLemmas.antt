@@ -19,7 +19,7 @@ longest_with a es e h = longest-append a es (e ∷ []) ∙ rw h refl
 longest_without : (a : ℕ) (es : List Entry) (e : Entry) → holds_address e.prefix a ≡ false → longest a (es ++ e ∷ []) ≡ longest a es
 longest_without a es e h = longest-append a es (e ∷ []) ∙ rw h (longer_none (longest a es))
 
--- an entry behind the others of a table
+-- an entry after the others of a table
 best_with : (t : HitTable) (a : ℕ) (o : Option Entry) (e : Entry) → IsBestMatch t a (paired o) → Holds e.prefix a
     → IsBestMatch (t ++ (e.prefix, e.hit) ∷ []) a (paired (longer o (Some e)))
 best_with t a None e best held = best_taken t a (e.prefix, e.hit) None best held

@@ -121,7 +121,7 @@ units_by_kind b s kinds.Next longer even csid next =
       | inr other ↦ next (csid_or s.csid csids.Next (λ plain. even (plain, other)))
     ]
 
--- behind its block's bits a SID has some whole units
+-- after its block's bits a SID has some whole units
 pub sid-units : (net : Network) (n : ℕ) (s : SidEntry) (b : Block) → IsNetwork net → IsFlat net → slice_get net.sids n ≡ Some s
     → block_of net.blocks s.prefix ≡ Some b → HasWholeUnits b s
 sid-units net n s b rules flat at e =

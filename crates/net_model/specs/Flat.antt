@@ -52,8 +52,8 @@ IsZeroIn s b = IsInside s.prefix b.prefix × (csid_of b.prefix.len s.prefix ≡ 
 abbrev pub Overlap : PrefixValue → PrefixValue → Type 0
 Overlap p q = (a : ℕ) × Holds p a × Holds q a
 
--- the SID is not as long as SIDs of such a block are: in a REPLACE block it has other bits behind the block's than a compressed SID
--- of the block; in a NEXT block it is not of NEXT-CSID, and its bits behind the block's are no multiple of BLOCK_UNIT
+-- the SID is not as long as SIDs of such a block are: in a REPLACE block it has other bits after the block's than a compressed SID
+-- of the block; in a NEXT block it is not of NEXT-CSID, and its bits after the block's are no multiple of BLOCK_UNIT
 abbrev pub HasWrongLength : BlockKind → Block → SidEntry → Type 0
 HasWrongLength kinds.Next b s = (s.csid ≢ csids.Next) × ((s.prefix.len - b.prefix.len) % BLOCK_UNIT ≢ 0)
 HasWrongLength kinds.Replace b s = s.prefix.len ≢ b.prefix.len + b.csid
@@ -95,7 +95,7 @@ pub record IsFlat (net : Network) : Type 0 where
   pub mixed : NoneMixed net
   pub clash : NoneClash net
 
--- behind the block's bits the SID has some whole units of 16 bits
+-- after the block's bits the SID has some whole units of 16 bits
 pub record HasWholeUnits (b : Block) (s : SidEntry) : Type 0 where
   pub units : ℕ
   pub some : 1 ≤ units

@@ -55,7 +55,7 @@ IsBlockOf blocks p None = (b : Block) → Contains blocks b → ¬ IsInside p b.
 IsBlockOf blocks p (Some b) = Contains blocks b × IsInside p b.prefix
 
 -- a SID with NEXT goes on and lies strictly inside a NEXT block, with the bits of a compressed SID of the block or of a long
--- one behind the block's; a SID with REPLACE lies strictly inside a REPLACE block, with those of a compressed SID of the block
+-- one after the block's; a SID with REPLACE lies strictly inside a REPLACE block, with those of a compressed SID of the block
 abbrev pub SuitsBlock : Csid → SidEntry → Option Block → Type 0
 SuitsBlock csids.Plain s block = Unit {0}
 SuitsBlock csids.Next s block = (b : Block) × (block ≡ Some b) × (b.kind ≡ Next) × (behaviour_goes_on s.behaviour ≡ true)

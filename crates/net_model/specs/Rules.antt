@@ -218,7 +218,7 @@ abbrev pub block_len_of : Option Block → ℕ
 block_len_of None = 0
 block_len_of (Some b) = b.prefix.len
 
--- the bits behind a block's are as many as its compressed SIDs have, or as a long one has
+-- the bits after a block's are as many as its compressed SIDs have, or as a long one has
 abbrev pub is_next_len : Block → ℕ → Bool
 is_next_len b len = (len == b.prefix.len + b.csid) || (len == b.prefix.len + LONG_CSID)
 
@@ -227,7 +227,7 @@ abbrev pub suits_next : BlockKind → Block → ℕ → Bool → Bool
 suits_next Next b len goes_on = goes_on && is_next_len b len
 suits_next Replace b len goes_on = false
 
--- a SID with REPLACE lies in a REPLACE block, and the bits behind the block's are a compressed SID of it (RFC 9800 section
+-- a SID with REPLACE lies in a REPLACE block, and the bits after the block's are a compressed SID of it (RFC 9800 section
 -- 4.2)
 abbrev pub suits_replace : BlockKind → Block → ℕ → Bool
 suits_replace Next b len = false

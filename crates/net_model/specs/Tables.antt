@@ -82,7 +82,7 @@ abbrev pub AreTaken : BTreeSet EntryKey → BTreeMap TableKey HitTable → Type 
 AreTaken taken tables = (node table : ℕ) (family : Family) (p : PrefixValue)
     → (tree.contains entry_key_cmp taken (entry_key node table family p) ≡ true) ↔ HasPrefix (table_at tables node table family) p
 
--- the tables with one entry more, behind the others of its table
+-- the tables with one entry more, after the others of its table
 abbrev pub HasOneMore : TableEntry → BTreeMap TableKey HitTable → BTreeMap TableKey HitTable → Type 0
 HasOneMore e old new = (node table : ℕ) (family : Family) → table_at new node table family
     ≡ (if is_entry_of node table family e then table_at old node table family ++ (e.prefix, e.hit) ∷ [] else table_at old node table family)

@@ -34,15 +34,15 @@ pub enum NotFlat {
         /// 128 bits.
         inner: Prefix,
     },
-    /// A SID lies strictly inside a block, and its CSID, the bits behind the block's up to its
+    /// A SID lies strictly inside a block, and its CSID, the bits after the block's up to its
     /// length, is 0.
     ZeroCsid {
         /// The SID's prefix.
         prefix: Prefix,
     },
     /// A SID overlaps a block and is no longer than it; or it lies strictly inside a REPLACE block
-    /// with other bits behind the block's than a compressed SID of the block has; or it lies
-    /// strictly inside a NEXT block, has no NEXT, and its bits behind the block's are no multiple
+    /// with other bits after the block's than a compressed SID of the block has; or it lies
+    /// strictly inside a NEXT block, has no NEXT, and its bits after the block's are no multiple
     /// of `BLOCK_UNIT`.
     MixedBlock {
         /// The block's prefix.
@@ -372,7 +372,7 @@ fn refuse(alloc: Global, parts: &NetParts) -> Result<(), NotFlat>
 ///   any table, or a node's address (`Nested`);
 /// - no SID that lies strictly inside a block has the CSID 0 (`ZeroCsid`);
 /// - each SID that overlaps a block is longer than it; in a REPLACE block it has as many bits
-///   behind the block's as a compressed SID of the block, and in a NEXT block, where it is not of
+///   after the block's as a compressed SID of the block, and in a NEXT block, where it is not of
 ///   NEXT-CSID, a multiple of `BLOCK_UNIT` (`MixedBlock`);
 /// - SIDs of two nodes on one prefix that make the next segment the destination are compressed
 ///   alike (`Clash`).

@@ -95,7 +95,7 @@ pub fn flat_networks_are_refused_for_nothing()
 {}
 
 /// In a flat network each SID that lies strictly inside a block has some whole units of 16 bits
-/// behind the block's, in a REPLACE block as many bits as a compressed SID of the block, and its
+/// after the block's, in a REPLACE block as many bits as a compressed SID of the block, and its
 /// CSID is not 0 (own rules). A SID in no block is not compressed (RFC 9800 section 3).
 pub fn sids_of_blocks_are_whole_units()
     ensures units { (net : Network) (n : ℕ) (s : SidEntry) (b : Block) → IsNetwork net

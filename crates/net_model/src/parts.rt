@@ -78,7 +78,7 @@ pub struct Block {
     pub prefix: Prefix,
     /// How its SIDs are compressed.
     pub kind: BlockKind,
-    /// The bits of its compressed SIDs behind the block's, 16 or 32.
+    /// The bits of its compressed SIDs after the block's, 16 or 32.
     pub csid: u8,
 }
 

@@ -130,7 +130,7 @@ fn take_table(alloc: Global, tables: &mut Tables, key: TableKey) -> Table<Hit>
     }
 }
 
-/// An entry is put behind the others of its table, which has none with its prefix.
+/// An entry is put after the others of its table, which has none with its prefix.
 fn append(alloc: Global, tables: &mut Tables, e: &TableEntry) -> Result<(), AllocError>
     requires { ¬ HasPrefix (table_at tables.old e.now.node e.now.table e.now.family) e.now.prefix }
     ensures { OnOk result (HasOneMore e.now tables.old tables.new) }
@@ -142,7 +142,7 @@ fn append(alloc: Global, tables: &mut Tables, e: &TableEntry) -> Result<(), Allo
     Ok(())
 }
 
-/// An entry is put behind the others of its table, unless one with its prefix is there: of equal
+/// An entry is put after the others of its table, unless one with its prefix is there: of equal
 /// prefixes the first stays (own rule).
 fn put(
     alloc: Global,

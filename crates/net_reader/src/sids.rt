@@ -130,7 +130,7 @@ fn link_numbers(
     }
 }
 
-/// Puts a title behind the titles, and gives its number.
+/// Puts a title after the titles, and gives its number.
 fn push_title(
     alloc: Global,
     titles: &mut Vec<Name>,

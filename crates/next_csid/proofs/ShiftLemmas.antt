@@ -58,7 +58,7 @@ last_cleared x r within =
     ap (λ n. x / 2 ^ n * 2 ^ n + 0 * 2 ^ (128 - (128 - r) - r) + x % 2 ^ (128 - (128 - r) - r)) place
     ∙ ap (λ n. x / 2 ^ r * 2 ^ r + 0 * 2 ^ n + x % 2 ^ n) none ∙ one
 
--- the argument written behind the block
+-- the argument written after the block
 moved_is : (d block len a r : ℕ) → block < len → len ≤ 128 → r ≡ len - block
     → with_field_of d block (128 - len) a
     ≡ d / 2 ^ (128 - block) * 2 ^ (r + (128 - len)) + a * 2 ^ r + d % 2 ^ r

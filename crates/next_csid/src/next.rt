@@ -21,7 +21,7 @@ pub enum ShiftOutcome {
     Drop,
 }
 
-/// The bits of an address behind a SID of so many bits.
+/// The bits of an address after a SID of so many bits.
 #[tactic(auto, using(crate::proofs::ShiftLemmas::arguments))]
 fn argument_in(destination: Addr, sid_len: u8) -> u128
     requires { sid_len ≤ 128 }
@@ -47,7 +47,7 @@ fn shifted(destination: Addr, compression: Compression) -> Addr
     with_field(moved, 128 - csid_len, csid_len, 0)
 }
 
-/// The argument of a packet's destination at a SID: the bits behind the SID, as a number. At a SID
+/// The argument of a packet's destination at a SID: the bits after the SID, as a number. At a SID
 /// with NEXT-CSID it is 0 exactly where no SID follows in the destination (RFC 9800 section 4.1).
 pub fn argument(compression: Compression, bytes: &[u8]) -> u128
     requires packet { HoldsPacket bytes.now }
@@ -72,7 +72,7 @@ pub fn shifts(compression: Compression, bytes: &[u8]) -> bool
 }
 
 /// Shifts a packet at a SID with NEXT-CSID and an argument that is not 0: the argument moves up to
-/// directly behind the SID's block, the destination's bits behind it become 0, and the hop limit
+/// directly after the SID's block, the destination's bits after it become 0, and the hop limit
 /// falls by 1. No other byte changes, those of a segment routing header among them. `Drop` comes
 /// exactly where the hop limit is at most 1, and then no byte changes (RFC 9800 section 4.1).
 #[tactic(auto, using(crate::proofs::ShiftLemmas::shifting))]

@@ -3,7 +3,7 @@ use Rattle.std.specs.Prelude.{◌≡◌, ℕ, List, length}
 use Rattle.srv6_rules.specs.Packet4.{total_len}
 use Rattle.ip6_headers.specs.Reading4.{HoldsPacket4}
 
--- the bytes hold a packet, and nothing stands behind its end
+-- the bytes hold a packet, and nothing stands after its end
 pub record HoldsAlone4 (bytes : List ℕ) : Type 0 where
   pub holds : HoldsPacket4 bytes
   pub alone : length bytes ≡ total_len bytes

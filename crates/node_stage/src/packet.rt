@@ -12,7 +12,7 @@ use std::alloc::{AllocError, Global};
 use std::marker::Model;
 use v6_addr::Addr;
 
-/// An IPv6 packet (RFC 8200 section 3) in bytes that spell it: nothing stands behind its end.
+/// An IPv6 packet (RFC 8200 section 3) in bytes that spell it: nothing stands after its end.
 #[derive(Debug, Drop)]
 pub(crate) struct Packet {
     bytes: PktBuf,
@@ -30,7 +30,7 @@ impl Model for Packet {
 }
 
 impl Packet {
-    /// The packet that bytes begin with, in place: what stands behind its end is cut.
+    /// The packet that bytes begin with, in place: what stands after its end is cut.
     pub(crate) fn at_front(mut bytes: PktBuf) -> Packet
         requires { HoldsPacket bytes.bytes }
         ensures { result ≡ packet_at bytes.bytes }

@@ -10,7 +10,7 @@ use std::alloc::{AllocError, Global};
 use std::marker::Model;
 use v6_addr::Addr;
 
-/// An IPv4 packet (RFC 791 section 3.1) in bytes that spell it: nothing stands behind its end.
+/// An IPv4 packet (RFC 791 section 3.1) in bytes that spell it: nothing stands after its end.
 #[derive(Debug, Drop)]
 pub(crate) struct Packet4 {
     bytes: PktBuf,
@@ -39,7 +39,7 @@ fn view_of(bytes: &[u8]) -> Ip4View<'_>
 }
 
 impl Packet4 {
-    /// The packet that bytes begin with, in place: what stands behind its end is cut.
+    /// The packet that bytes begin with, in place: what stands after its end is cut.
     pub(crate) fn at_front(mut bytes: PktBuf) -> Packet4
         requires { HoldsPacket4 bytes.bytes }
         ensures { result ≡ packet4_at bytes.bytes }

@@ -13,7 +13,7 @@ use srv6_rules::Family;
 use srv6_rules::numbers::MAX_PACKET_LEN;
 
 impl Content {
-    /// How bytes read as IPv6, in place: what stands behind the packet's end is cut (RFC 8200
+    /// How bytes read as IPv6, in place: what stands after the packet's end is cut (RFC 8200
     /// section 3).
     pub(crate) fn read(bytes: PktBuf) -> Content
         ensures { result ≡ content_of bytes.bytes }
@@ -24,7 +24,7 @@ impl Content {
         }
     }
 
-    /// How bytes read as IPv4, in place: what stands behind the packet's end is cut (RFC 791 section
+    /// How bytes read as IPv4, in place: what stands after the packet's end is cut (RFC 791 section
     /// 3.1).
     fn read4(bytes: PktBuf) -> Content
         ensures { result ≡ read_as V4 bytes.bytes }

@@ -1,4 +1,4 @@
--- The packets of a flight under a schedule: what an entry gives, what is due behind the last, and what a turn leaves.
+-- The packets of a flight under a schedule: what an entry gives, what is due after the last, and what a turn leaves.
 use Rattle.std.proofs.Common.{◌≡◌, ◌≢◌, ℕ, zero, suc, ◌<◌, nat_eq, List, [], ◌∷◌, ◌++◌, length, map, drop, get_or, slice_get, slice_set, Option, Some, None, IsSome, is_some, refl, sym, ap, ◌∙◌, arith, subst}
 use Rattle.std.specs.List.{IsDistinct}
 use Rattle.std.specs.List.Sorted.{IsStrictlyIncreasing}
@@ -80,7 +80,7 @@ module _ (net : Network) where
         ∙ ap (λ cs. at number r ∷ cs)
         (without-at q later numbers packets k entry (omega (arith, each)) there is (λ i before. below (suc i) (omega (arith, before))))
 
-  -- behind the last entry
+  -- after the last entry
 
   all-none : (number : ℕ) (p : InFlight) (more : List Taken) → rest_of net p ≡ [] → all_of number (rest_of net p) ++ more ≡ more
   all-none number p more none = ap (λ steps. all_of number steps ++ more) none

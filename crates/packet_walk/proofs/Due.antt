@@ -1,4 +1,4 @@
--- How far a schedule has come in a flight: what an entry gives, what is due behind the last, and what a turn leaves.
+-- How far a schedule has come in a flight: what an entry gives, what is due after the last, and what a turn leaves.
 use Rattle.std.proofs.Common.{◌≡◌, ◌≢◌, ℕ, zero, suc, ◌+◌, ◌-◌, ◌<◌, ◌≤◌, eqb, nat_lt, Bool, true, false, List, [], ◌∷◌, ◌++◌, length, take, drop, get_or, Option, Some, None, IfSome, IsSome, is_some, Ok, Err, nat_cmp, refl, sym, ap, ap₂, ◌∙◌, ◌⊎◌, inl, inr, arith, subst, length-append}
 use Rattle.std.specs.List.Sorted.{IsStrictlyIncreasing, IsBinarySearchResult}
 use Rattle.std.proofs.lemmas.List.Sorted.{searched}
@@ -144,7 +144,7 @@ module _ (f : Flight) (numbers : List ℕ) (entry place number : ℕ) (next : nu
       subst (GivesTo numbers f entry) (sym next)
       (gives-to f numbers entry place p.0 rising each p.1 (sym (search-found numbers entry place rising found).1) (sym going) fits.counted)
 
--- behind the last entry
+-- after the last entry
 
 module _ (f : Flight) (old new : Progress) (of : IsOf f new) (behind : old.schedule ≡ []) (numbers : new.numbers ≡ old.numbers) where
   due-behind : (at : Progress) (g : Flight) → at.schedule ≡ [] → due at g ≡ one_by_one (comings_of at.numbers g)
@@ -201,7 +201,7 @@ module _ (f : Flight) (old new : Progress) (of : IsOf f new) (behind : old.sched
       let fits : IsInFlight f.net p.0 = subst (λ (o : Option InFlight). IfSome o (IsInFlight f.net)) there in_flight in
       subst (λ (m : ℕ). IsTurnOf old f m new) (sym next) (going-turn p.0 p.1 (sym going) fits.counted left)
 
--- entries that were left behind
+-- entries that were left after
 
 pub split-first : (xs : List ℕ) → 1 ≤ length xs → xs ≡ get_or xs 0 0 ∷ take (length xs - 1) (drop 1 xs)
 split-first [] some = absurd (omega (arith, some))
@@ -256,7 +256,7 @@ rising-told xs false told = (
       absurd (let rises : get_or xs told.0 0 < get_or xs (told.0 + 1) 0 = rising told.0 told.1 in omega (arith, falls, rises)),
 )
 
--- a number above all that rise rises behind them
+-- a number above all that rise rises after them
 pub rising-push : (xs : List ℕ) (x : ℕ) → IsStrictlyIncreasing xs → ((k : ℕ) → k < length xs → get_or xs k 0 < x)
     → IsStrictlyIncreasing (xs ++ x ∷ [])
 rising-push xs x rising above k within =

@@ -12,7 +12,7 @@ pub record Coming : Type 0 where
   pub number : ℕ
   pub steps : List Stage
 
--- a stage that a packet takes: the packet's number, the step, and the steps of its walk behind it; where there are none it is the
+-- a stage that a packet takes: the packet's number, the step, and the steps of its walk after it; where there are none it is the
 -- packet's last
 pub record Taken : Type 0 where
   pub number : ℕ
@@ -45,7 +45,7 @@ abbrev pub one_by_one : List Coming → List Taken
 one_by_one comings = flat_map (λ c. all_of c.number c.steps) comings
 
 -- the stages that a schedule gives packets: for each entry the first step of the packet of that number, if it has one to come, and
--- behind the last entry all that are still to come
+-- after the last entry all that are still to come
 abbrev pub scheduled : List ℕ → List Coming → List Taken
 scheduled [] comings = one_by_one comings
 scheduled (entry ∷ schedule) comings =
@@ -132,13 +132,13 @@ EntryGives numbers f entry None =
     (schedule : List ℕ) → scheduled (entry ∷ schedule) (comings_of numbers f) ≡ scheduled schedule (comings_of numbers f)
 EntryGives numbers f entry (Some number) = GivesTo numbers f entry number
 
--- entries were left behind that gave no packet a stage: the same stages are due
+-- entries were left after that gave no packet a stage: the same stages are due
 pub record IsLeft (old : Progress) (f : Flight) (new : Progress) : Type 0 where
   pub due : due new f ≡ due old f
   pub numbers : new.numbers ≡ old.numbers
   pub later : IsOf f new
 
--- what the entries give: the first that gives a packet a stage, or they are all left behind
+-- what the entries give: the first that gives a packet a stage, or they are all left after
 abbrev pub EntriesGive : Progress → Flight → Option ℕ → Progress → Type 0
 EntriesGive old f None new = IsLeft old f new × (new.schedule ≡ [])
 EntriesGive old f (Some number) new = IsTurnOf old f number new

@@ -102,7 +102,7 @@ impl<'a> Flight<'a> {
     }
 
     /// A packet's bytes enter at a place, in place: they are read as a packet of the place's family,
-    /// and what stands behind its end is cut; of bytes that do not read at most 65,575 are kept (own
+    /// and what stands after its end is cut; of bytes that do not read at most 65,575 are kept (own
     /// rule). The choices, the answer and `NoMemory` are as in `enter_content`; for want of memory the
     /// buffer is given up.
     pub fn enter(&mut self, buf: PktBuf, place: Place, choices: &'a [u32]) -> Result<u32, NoMemory>

@@ -91,7 +91,7 @@ pub fn a_schedule_takes_all_steps()
         length (scheduled schedule comings) ≡ sum_by (λ c. length c.steps) comings }
 {}
 
-/// A packet's stage is its last, with no step behind it, exactly where it has ended after it (own
+/// A packet's stage is its last, with no step after it, exactly where it has ended after it (own
 /// rule).
 pub fn the_last_stage_ends_a_packet()
     ensures last { (net : Network) (p : InFlight) → IsCounted p → p.ended ≡ None →

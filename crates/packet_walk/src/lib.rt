@@ -2,7 +2,7 @@
 //!
 //! `Flight` has the packets of a network by numbers from 1, in the order in which they entered:
 //! `turn` takes one stage of one of them, and `walk` all that are left of it. `Turns` says whose
-//! turn is next by a schedule of the numbers of frames, and behind its last entry lets the packets
+//! turn is next by a schedule of the numbers of frames, and after its last entry lets the packets
 //! end one after the other. `specs/Flight.antt` says what a turn changes, `specs/Rest.antt` what is
 //! left of a walk, and `specs/Schedule.antt` in which order turns are taken.
 #![tactic(auto)]

@@ -11,7 +11,7 @@ use std::marker::Model;
 
 /// Whose turn is next among a flight's packets, which a schedule names by the numbers of their
 /// frames. An entry gives the named packet one stage; one that names no packet in flight takes none.
-/// Behind the last entry the packets still in flight are run to their ends in the order of their
+/// After the last entry the packets still in flight are run to their ends in the order of their
 /// numbers. (own rule)
 #[derive(Debug, Drop)]
 pub struct Turns<'a> {
@@ -84,7 +84,7 @@ impl<'a> Turns<'a> {
         None
     }
 
-    /// Behind the last entry, the first packet that has not ended. Those before it are passed, and
+    /// After the last entry, the first packet that has not ended. Those before it are passed, and
     /// not seen again.
     fn next_going(&mut self, flight: &Flight<'_>) -> Option<u32>
         requires of { IsOf flight.now self.old }
@@ -104,7 +104,7 @@ impl<'a> Turns<'a> {
 
     /// The number of the packet whose turn is next, in the order of entering as `Flight::turn` takes
     /// it: it has not ended. None exactly where all packets have ended. The turn is to be taken before
-    /// the next call. A call takes a step for each entry that it leaves behind, with a search among
+    /// the next call. A call takes a step for each entry that it leaves after, with a search among
     /// the numbers, and for each packet that it passes (own rule).
     pub fn next(&mut self, flight: &Flight<'_>) -> Option<u32>
         requires { IsOf flight.now self.old }

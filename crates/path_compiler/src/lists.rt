@@ -16,7 +16,7 @@ use list_pack::{Cost, ListLegs, Potential, Solution, header_bytes, list_of};
 use net_model::{Net, compilable};
 use std::alloc::Global;
 
-// the cost of the state that is listed first: the start, where a path leads from it to the end
+/// the cost of the state that is listed first: the start, where a path leads from it to the end
 fn first_cost(potentials: &[Potential]) -> Cost
     requires { 0 < length potentials.now }
     ensures { option_map cost_in (slice_get potentials.now 0) ≡ Some result }
@@ -24,7 +24,7 @@ fn first_cost(potentials: &[Potential]) -> Cost
     potentials[0].cost
 }
 
-// the list of a solution's path, with its numbers
+/// the list of a solution's path, with its numbers
 fn compiled_of(
     alloc: Global,
     net: &Net,
@@ -45,7 +45,7 @@ fn compiled_of(
     })
 }
 
-// the chosen list, where there is a path
+/// the chosen list, where there is a path
 fn found_over<L: ListLegs>(
     alloc: Global,
     net: &Net,
@@ -63,7 +63,7 @@ fn found_over<L: ListLegs>(
     compiled_of(alloc, net, reduced, solution)
 }
 
-// a list that was found, judged by the intent's bounds
+/// a list that was found, judged by the intent's bounds
 fn judged<L: ListLegs>(
     net: &Net,
     intent: &Intent,
@@ -87,7 +87,7 @@ fn judged<L: ListLegs>(
     Ok(found)
 }
 
-// the answer over any legs of a flat network
+/// the answer over any legs of a flat network
 fn answer_over<L: ListLegs>(
     alloc: Global,
     net: &Net,

@@ -28,7 +28,7 @@ module _ (a b c d r : List ℕ) (la : length a ≡ 4) (lb : length b ≡ 4) (lc 
   drop16 : drop 16 (a ++ (b ++ (c ++ (d ++ r)))) ≡ r
   drop16 = sym (drop-drop 4 12 (a ++ (b ++ (c ++ (d ++ r))))) ∙ ap (drop 4) drop12 ∙ drop_at d r 4 ld
 
--- the numbers of a frame, and more behind it
+-- the numbers of a frame, and more after it
 spelled_from : Bool → Spelled → List ℕ → List ℕ
 spelled_from little f rest =
     number_bytes little 4 f.seconds ++ (number_bytes little 4 f.fraction ++
@@ -160,13 +160,13 @@ none-spelled little bytes more f none fits is =
 
 -- ---- what is read was spelled
 
--- a number and what is behind it
+-- a number and what is after it
 pub piece : (little : Bool) (n : ℕ) (bytes : List ℕ) → n ≤ length bytes → All (λ b. b < 2 ^ 8) bytes
     → bytes ≡ number_bytes little n (number_of little n bytes) ++ drop n bytes
 piece little n bytes h all =
     sym (take-append-drop n bytes) ∙ ap (λ front. front ++ drop n bytes) (sym (number_bytes-of little n bytes h all))
 
--- the number in the n bytes from a place on, and what is behind it
+-- the number in the n bytes from a place on, and what is after it
 pub piece_at : (little : Bool) (at n : ℕ) (bytes : List ℕ) → at + n ≤ length bytes → All (λ b. b < 2 ^ 8) bytes
     → drop at bytes ≡ number_bytes little n (number_of little n (drop at bytes)) ++ drop (at + n) bytes
 piece_at little at n bytes h all =
@@ -174,7 +174,7 @@ piece_at little at n bytes h all =
     piece little n (drop at bytes) (omega (arith, len)) (All-drop (λ b. b < 2 ^ 8) at bytes all)
     ∙ ap (λ bs. number_bytes little n (number_of little n (drop at bytes)) ++ bs) (drop-drop n at bytes)
 
--- the first frame, whole, with what is behind it
+-- the first frame, whole, with what is after it
 module _ (little : Bool) (bytes : List ℕ) (all : All (λ b. b < 2 ^ 8) bytes) (whole : frame_len little bytes ≤ length bytes) where
   enough : 16 + number_of little 4 (drop 8 bytes) ≤ length bytes
   unfolding frame_len

@@ -119,7 +119,7 @@ module _ (head : CaptureHead) (u : Unread) (rest : List ℕ) where
   parts20 : drop 20 (parts head u rest) ≡ from20 head u rest
   parts20 = sym (drop-drop 4 16 (parts head u rest)) ∙ ap (drop 4) parts16 ∙ drop_number head.little 4 u.snaplen (from20 head u rest)
 
-  -- what is behind a head
+  -- what is after a head
   pub behind-parts : drop 24 (parts head u rest) ≡ rest
   behind-parts = sym (drop-drop 4 20 (parts head u rest)) ∙ ap (drop 4) parts20 ∙ drop_number head.little 4 (last_number head u) rest
 
@@ -160,13 +160,13 @@ head-read head u rest fits =
     (other-spelled head.little head.nanos (from4 head u rest)) (magic-spelled head.little head.nanos (from4 head u rest))
     (parts-version head u rest) (parts-link head u rest fits)
 
--- what is behind a head that is spelled
+-- what is after a head that is spelled
 pub behind-head : (head : CaptureHead) (u : Unread) (rest : List ℕ) → drop HEAD_LEN (head_bytes head u ++ rest) ≡ rest
 behind-head head u rest = ap (drop 24) (head_bytes-parts head u rest) ∙ behind-parts head u rest
 
 -- ---- what is read was spelled
 
--- behind a test whose fault does not come
+-- after a test whose fault does not come
 guard_ok : {X : Type 0} (b : Bool) (fault : CaptureFault) (r : Result X CaptureFault) (x : X) → cond b (Err fault) r ≡ Ok x
     → (b ≡ false) × (r ≡ Ok x)
 guard_ok true fault r x is = absurd (cc is)

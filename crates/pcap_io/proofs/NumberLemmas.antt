@@ -44,7 +44,7 @@ unfolding number_bytes
 number_bytes-all true n x = all-low_first 0 n x
 number_bytes-all false n x = all-high_first n x
 
--- the number of the bytes is the number, whatever stands behind them
+-- the number of the bytes is the number, whatever stands after them
 pub number_of-bytes : (little : Bool) (n x : ℕ) (rest : List ℕ) → x < 256 ^ n → number_of little n (number_bytes little n x ++ rest) ≡ x
 unfolding number_of number_bytes
 number_of-bytes true n x rest h = little_number-reads_back n x rest h

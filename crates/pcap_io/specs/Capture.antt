@@ -37,7 +37,7 @@ IsDone r = (length r.rest < frame_len r.head.little r.rest) × (r.taken ≡ MAX_
 abbrev pub next_frame : Reader → Frame
 next_frame r = numbered r.head.link (r.taken + 1) (first_frame r.head.little r.rest)
 
--- the reader behind it
+-- the reader after it
 abbrev pub after_frame : Reader → Reader
 after_frame r = record { head = r.head; taken = r.taken + 1; rest = behind r.head.little r.rest }
 
@@ -58,7 +58,7 @@ ReadsAll old new (Err takes.FrameLimit) =
     × (0 < length (frames_of old.head MAX_FRAMES 1 old.rest).rest)
 ReadsAll old new (Err takes.NoMemory) = Unit {0}
 
--- the capture of the frames and of what is behind them: a rest is a cut frame, or too many frames
+-- the capture of the frames and of what is after them: a rest is a cut frame, or too many frames
 abbrev pub capture_with : Reading → Result Capture CaptureFault
 capture_with r =
     if length r.rest == 0 then Ok (record { frames = r.frames; cut = None })

@@ -1,4 +1,4 @@
--- The frames of a classic capture, one after the other behind its head: four numbers and the captured bytes (own rule
+-- The frames of a classic capture, one after the other after its head: four numbers and the captured bytes (own rule
 -- for the format that is read).
 use Rattle.std.specs.Prelude.{◌≡◌, ℕ, zero, suc, ◌+◌, ◌/◌, ◌^◌, ◌<◌, ◌≤◌, ◌==◌, nat_lt, nat_le, if◌then◌else◌, Bool, true, false, List, [], ◌∷◌, ◌++◌, length, take, drop, slice_index, All}
 use Rattle.std.specs.List.{flat_map}
@@ -53,7 +53,7 @@ first_frame little bytes =
       captured = take (number_of little 4 (drop 8 bytes)) (drop 16 bytes);
     }
 
--- what is behind it
+-- what is after it
 abbrev pub behind : Bool → List ℕ → List ℕ
 behind little bytes = drop (frame_len little bytes) bytes
 
@@ -64,7 +64,7 @@ by_version bytes =
     else if slice_index bytes 0 / 16 == 4 then V4 bytes
     else NotIp
 
--- a packet by the EtherType behind the two addresses
+-- a packet by the EtherType after the two addresses
 abbrev pub by_ethertype : List ℕ → Body
 by_ethertype bytes =
     if nat_lt (length bytes) 14 then NotIp
@@ -90,7 +90,7 @@ abbrev pub numbered_from : LinkType → ℕ → List Spelled → List Frame
 numbered_from link n [] = []
 numbered_from link n (f ∷ fs) = numbered link n f ∷ numbered_from link (n + 1) fs
 
--- the first frames of bytes, and what is behind them
+-- the first frames of bytes, and what is after them
 pub record Reading : Type 0 where
   pub frames : List Frame
   pub rest : List ℕ

@@ -69,7 +69,7 @@ abbrev pub with_link : Magic → Result LinkType CaptureFault → Result Capture
 with_link m (Ok link) = Ok (record { little = m.little; nanos = m.nanos; link = link })
 with_link m (Err fault) = Err fault
 
--- the head behind a known magic
+-- the head after a known magic
 abbrev pub head_behind : Option Magic → List ℕ → Result CaptureHead CaptureFault
 head_behind None bytes = Err BadMagic
 head_behind (Some m) bytes =
@@ -78,7 +78,7 @@ head_behind (Some m) bytes =
     else Err BadVersion
 
 -- The head that bytes begin with, or the first of the faults in this order: fewer than 4 bytes, the magic of pcapng, no
--- magic of a capture, fewer than 24 bytes behind a magic, another version than 2.4, another link type.
+-- magic of a capture, fewer than 24 bytes after a magic, another version than 2.4, another link type.
 unfoldable pub head_of : List ℕ → Result CaptureHead CaptureFault
 head_of bytes =
     if nat_lt (length bytes) 4 then Err CutHead

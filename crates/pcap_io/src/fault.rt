@@ -2,64 +2,51 @@
 
 use base::NoMemory;
 use std::alloc::AllocFailed;
-use thiserror::Error;
 
 /// Why bytes are no capture. (own rules)
-#[derive(Debug, Clone, Copy, PartialEq, Eq, Error)]
+#[derive(Debug, Clone, Copy, PartialEq, Eq)]
 pub enum CaptureFault {
     /// Fewer than 4 bytes, or a known magic and fewer than 24 bytes.
-    #[error("the head of the capture is cut")]
     CutHead,
     /// The first 4 bytes are 0a0d0d0a: another format, which is not read.
-    #[error("pcapng is not read")]
     PcapNg,
     /// The first 4 bytes are none of the four magics: a1b2c3d4 and a1b23c4d in either byte order.
-    #[error("no magic of a capture")]
     BadMagic,
     /// The version is not 2.4.
-    #[error("the version of the capture is not 2.4")]
     BadVersion,
     /// The link type is not 1, 101 or 229.
-    #[error("link type {link} is not read")]
     BadLink {
         /// The link type: the low 16 bits of the head's last number, the only ones that are read.
         link: u32,
     },
     /// At least one byte follows frame 65,536. The head never has this fault.
-    #[error("more than 65536 frames")]
     FrameLimit,
 }
 
 /// Why `read_capture` gives no capture. (own rules)
-#[derive(Debug, Clone, Copy, PartialEq, Eq, Error)]
+#[derive(Debug, Clone, Copy, PartialEq, Eq)]
 pub enum ReadFault {
     /// The bytes are no capture.
-    #[error("{0}")]
     Fault(CaptureFault),
     /// Memory ran out, which says nothing about the bytes.
-    #[error("out of memory")]
     NoMemory,
 }
 
 /// Why `FrameReader::take` gives no answer. (own rules)
-#[derive(Debug, Clone, Copy, PartialEq, Eq, Error)]
+#[derive(Debug, Clone, Copy, PartialEq, Eq)]
 pub enum TakeFault {
     /// 65,536 frames were taken, and a further byte is there.
-    #[error("more than 65536 frames")]
     FrameLimit,
     /// Memory ran out.
-    #[error("out of memory")]
     NoMemory,
 }
 
 /// 65,536 frames were taken, and a further byte is there. (own rule)
-#[derive(Debug, Clone, Copy, PartialEq, Eq, Error)]
-#[error("more than 65536 frames")]
+#[derive(Debug, Clone, Copy, PartialEq, Eq)]
 pub struct FrameLimit;
 
 /// Bytes are left over, and they are no whole frame. (own rule)
-#[derive(Debug, Clone, Copy, PartialEq, Eq, Error)]
-#[error("frame {number} is cut")]
+#[derive(Debug, Clone, Copy, PartialEq, Eq)]
 pub struct CutFrame {
     /// The number of the frame that is cut, from 1 on.
     pub number: u32,

@@ -8,8 +8,8 @@ use crate::numbers::{ETHERTYPE_V4, ETHERTYPE_V6, four_at, two_at};
 use base::{NoMemory, Seq};
 use std::alloc::Global;
 
-/// What a frame holds. The bytes are those behind the link header, as they are in the capture:
-/// bytes behind a packet's own end are among them. (own rule)
+/// What a frame holds. The bytes are those after the link header, as they are in the capture:
+/// bytes after a packet's own end are among them. (own rule)
 #[derive(Debug, Drop)]
 pub enum Body {
     /// An IPv6 packet.
@@ -40,7 +40,7 @@ fn copied(alloc: Global, bytes: &[u8]) -> Result<Seq<u8>, NoMemory>
     Ok(Seq::new(bytes.to_vec(alloc)?))
 }
 
-/// The packet behind an Ethernet header, by its EtherType.
+/// The packet after an Ethernet header, by its EtherType.
 fn by_ethertype(alloc: Global, bytes: &[u8]) -> Result<Body, NoMemory>
     ensures { IfOk result (λ body. body ≡ by_ethertype bytes.now) }
 {

@@ -21,7 +21,7 @@ pub enum LinkType {
     Ipv6,
 }
 
-/// What the head of a capture says of the frames behind it (libpcap's savefile format).
+/// What the head of a capture says of the frames after it (libpcap's savefile format).
 #[derive(Clone, Copy, Debug, PartialEq, Eq)]
 pub struct CaptureHead {
     /// Whether the lowest byte of each number comes first.
@@ -76,7 +76,7 @@ pub fn link_of(link: u32) -> Result<LinkType, CaptureFault>
     }
 }
 
-/// The head behind a known magic, of at least 24 bytes.
+/// The head after a known magic, of at least 24 bytes.
 fn head_behind(magic: Magic, bytes: &[u8]) -> Result<CaptureHead, CaptureFault>
     requires { HEAD_LEN ≤ length bytes.now }
     ensures { result ≡ head_behind (Some magic) bytes.now }

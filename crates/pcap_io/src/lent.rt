@@ -75,7 +75,7 @@ impl<'a> LentFrame<'a> {
     }
 }
 
-/// The packet behind an Ethernet header, by its EtherType.
+/// The packet after an Ethernet header, by its EtherType.
 fn by_ethertype(bytes: &[u8]) -> LentBody<'_>
     ensures { body_lent result ≡ by_ethertype bytes.now }
 {

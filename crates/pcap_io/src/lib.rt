@@ -1,6 +1,6 @@
 //! Classic captures in and out (the file format that libpcap calls savefile).
 //!
-//! `read_head` reads the 24 bytes of the head, `FrameReader` takes the frames behind it one by
+//! `read_head` reads the 24 bytes of the head, `FrameReader` takes the frames after it one by
 //! one, and `read_capture` reads all of a capture. `write_head` and `write_frame` write one. The
 //! laws about the definitions are the contracts of empty functions.
 #![tactic(auto)]

@@ -9,7 +9,7 @@ use std::alloc::Global;
 use std::marker::Model;
 
 /// Takes the frames of a capture one by one (own rule). It is seen as the head, the number of
-/// frames taken, and the bytes behind the head that no frame has taken.
+/// frames taken, and the bytes after the head that no frame has taken.
 #[derive(Drop)]
 pub struct FrameReader {
     alloc: Global,

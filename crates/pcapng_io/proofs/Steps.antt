@@ -161,7 +161,7 @@ start-ended bytes end some = start-with bytes end (step start bytes) refl some
 
 -- ---- whatever follows
 
--- what comes behind a step, of these bytes and of any that follow
+-- what comes after a step, of these bytes and of any that follow
 pub goes-more : (p next : NgPlace) (bytes : List ℕ) (frames : List Frame) (total : ℕ) → step p bytes ≡ Goes frames next total
     → (more : List ℕ) → reading p (bytes ++ more) ≡ with_front frames (reading next (drop total bytes ++ more))
 goes-more p next bytes frames total is more =

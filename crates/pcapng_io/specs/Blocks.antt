@@ -25,7 +25,7 @@ use Rattle.pcapng_io.specs.declared.numbers.TheConstants.{SECTION, INTERFACE, OL
 abbrev pub begins_section : List ℕ → Bool
 begins_section bytes = number_of false 4 bytes == SECTION
 
--- the order in which the magic of a section, behind its total length, reads 1a2b3c4d: `true` is the lowest byte first
+-- the order in which the magic of a section, after its total length, reads 1a2b3c4d: `true` is the lowest byte first
 unfoldable pub order_of : List ℕ → Option Bool
 order_of bytes =
     if number_of true 4 (drop 8 bytes) == ORDER_MAGIC then Some true

@@ -15,7 +15,7 @@ use Rattle.pcapng_io.specs.declared.fault.NgFault.{NgFault}
 use Rattle.pcapng_io.specs.declared.fault.NgFault.TheVariants as ng
 use Rattle.pcapng_io.specs.Blocks.{block_at, body_of}
 
--- what the blocks so far say to those behind them: the byte order and the interfaces of their section, how many blocks there
+-- what the blocks so far say to those after them: the byte order and the interfaces of their section, how many blocks there
 -- were in all, and how many packets
 pub record NgPlace : Type 0 where
   pub little : Bool
@@ -35,7 +35,7 @@ fault_in n faults.Version = ng.NgVersion n
 fault_in n faults.OldBlock = ng.NgOldBlock n
 fault_in n faults.Interface = ng.NgInterface n
 
--- behind a block: a section begins with no interfaces, and an interface is numbered behind those before it
+-- after a block: a section begins with no interfaces, and an interface is numbered after those before it
 abbrev pub after : NgPlace → BlockContent → NgPlace
 after p (blocks.Section little) = record { little = little; interfaces = []; blocks = p.blocks + 1; packets = p.packets }
 after p (blocks.Interface i) =
@@ -53,7 +53,7 @@ pub data NgStep : Type 0 where
 abbrev pub frame_of : NgPlace → BlockPacket → List ℕ → Frame
 frame_of p packet block = record { number = p.packets + 1; body = body_of packet block }
 
--- what a block of so many bytes at the front of bytes comes to: no packet comes behind so many
+-- what a block of so many bytes at the front of bytes comes to: no packet comes after so many
 abbrev pub step_over : NgPlace → List ℕ → ℕ → BlockContent → NgStep
 step_over p bytes total (blocks.Section little) = Goes [] (after p (blocks.Section little)) total
 step_over p bytes total (blocks.Interface i) = Goes [] (after p (blocks.Interface i)) total

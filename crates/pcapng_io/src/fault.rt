@@ -2,7 +2,6 @@
 
 use base::NoMemory;
 use std::alloc::AllocFailed;
-use thiserror::Error;
 
 /// What is wrong with a block. (own rules)
 #[derive(Debug, Clone, Copy, PartialEq, Eq)]
@@ -22,10 +21,9 @@ pub(crate) enum BlockFault {
 
 /// Why `NgReader::take` gives no answer. Blocks are numbered from 1 on over all sections. (own
 /// rules)
-#[derive(Debug, Clone, Copy, PartialEq, Eq, Error)]
+#[derive(Debug, Clone, Copy, PartialEq, Eq)]
 pub enum NgFault {
     /// The magic of a section reads 1a2b3c4d in neither byte order.
-    #[error("block {block}: no byte order of a section")]
     NgMagic {
         /// The number of the block.
         block: u32,
@@ -33,40 +31,33 @@ pub enum NgFault {
     /// The total length of a block is no multiple of 4, below 12 or less than its type needs, or
     /// another at the block's end; or the packet's bytes, filled up to a multiple of 4, don't fit
     /// (of a simple packet only where interface 0 is described).
-    #[error("block {block}: its lengths don't fit")]
     NgBlock {
         /// The number of the block.
         block: u32,
     },
     /// The major version of a section is not 1.
-    #[error("block {block}: the version of the section is not 1")]
     NgVersion {
         /// The number of the block.
         block: u32,
     },
     /// The block has type 2, the obsolete packet block.
-    #[error("block {block}: obsolete packet blocks are not read")]
     NgOldBlock {
         /// The number of the block.
         block: u32,
     },
     /// The interface of a packet is not described before it in its section.
-    #[error("block {block}: the packet's interface is not described")]
     NgInterface {
         /// The number of the block.
         block: u32,
     },
     /// Packet 65,537 begins.
-    #[error("more than 65536 frames")]
     FrameLimit,
     /// Memory ran out, which says nothing about the bytes.
-    #[error("out of memory")]
     NoMemory,
 }
 
 /// Bytes are left over, and they are no whole block. (own rule)
-#[derive(Debug, Clone, Copy, PartialEq, Eq, Error)]
-#[error("block {block} is cut")]
+#[derive(Debug, Clone, Copy, PartialEq, Eq)]
 pub struct NgCut {
     /// The number of the block that is cut, from 1 on over all sections.
     pub block: u32,

@@ -1,4 +1,4 @@
--- A packet's bytes behind spare ones, cut.
+-- A packet's bytes after spare ones, cut.
 use Rattle.std.proofs.Common.{◌≡◌, ℕ, ◌+◌, ◌-◌, ◌≤◌, List, [], ◌++◌, length, take, drop, sym, ap, ◌∙◌, arith, length-append, length-drop}
 use Rattle.std.proofs.lemmas.List.{append-nil, drop-append-le, drop-drop, drop-take, drop_all, drop_at, length-take-le, take_all}
 use Rattle.pkt_buf.specs.BufferView.{Buffer}
@@ -22,7 +22,7 @@ left_whole bytes left same =
     ∙ ap (take (length bytes)) (append-nil left)
     ∙ take_all (length bytes) left (omega arith)
 
--- bytes taken out behind spare ones
+-- bytes taken out after spare ones
 pub cut-behind : (front at n : ℕ) (held : List ℕ) → front + at + n ≤ length held
     → drop front (take (front + at) held ++ drop (front + at + n) held)
     ≡ take at (drop front held) ++ drop (at + n) (drop front held)
@@ -34,7 +34,7 @@ cut-behind front at n held room =
     ∙ ap (λ k. take at (drop front held) ++ drop k held) sum
     ∙ ap (λ xs. take at (drop front held) ++ xs) (sym (drop-drop (at + n) front held))
 
--- bytes that were lent behind spare ones, as they were left
+-- bytes that were lent after spare ones, as they were left
 pub lent-behind : (front : ℕ) (held left : List ℕ) → front ≤ length held
     → let lent : List ℕ = left ++ drop (length left) (drop front held) in let all : List ℕ = take front held ++ lent in
     drop front (take (length held) (all ++ drop (length all) held)) ≡ take (length (drop front held)) lent

@@ -7,7 +7,7 @@ use Rattle.srv6_rules.specs.Packet4.{total_len}
 use Rattle.ip6_headers.specs.Reading.{HoldsPacket}
 use Rattle.ip6_headers.specs.Reading4.{HoldsPacket4}
 
--- the bytes hold a packet of a family, and nothing stands behind its end
+-- the bytes hold a packet of a family, and nothing stands after its end
 abbrev pub HoldsInner : Family → List ℕ → Type 0
 HoldsInner V6 bytes = HoldsPacket bytes × (length bytes ≡ header_len + stated_len bytes)
 HoldsInner V4 bytes = HoldsPacket4 bytes × (length bytes ≡ total_len bytes)

@@ -8,7 +8,7 @@ use Rattle.prefix_table.specs.declared.fault.TableFault.TheVariants.{Taken, NoMe
 abbrev pub HasPrefix : {T : Type 0} → List (PrefixValue × T) → PrefixValue → Type 0
 HasPrefix {T} entries p = (t : T) × Contains entries (p, t)
 
--- each prefix stands once: none stands again behind its entry
+-- each prefix stands once: none stands again after its entry
 abbrev pub EachOnce : {T : Type 0} → List (PrefixValue × T) → Type 0
 EachOnce [] = Unit {0}
 EachOnce (e ∷ es) = (¬ HasPrefix es e.0) × EachOnce es

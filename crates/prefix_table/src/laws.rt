@@ -11,7 +11,7 @@ pub fn best_is_one<T>()
         → IsBest entries a e → IsBest entries a f → e ≡ f }
 {}
 
-/// A law: an entry behind the others is the best match where it holds the address and is longer
+/// A law: an entry after the others is the best match where it holds the address and is longer
 /// than the best match before it, and else that stays (RFC 1812 section 5.2.4.3, rule 2).
 pub fn best_with_one_more<T>()
     ensures better { (entries : List (PrefixValue × T)) (a : ℕ) (e : PrefixValue × T)

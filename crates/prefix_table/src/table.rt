@@ -65,7 +65,7 @@ impl<T> Table<T> {
         }
     }
 
-    /// Adds an entry behind the others. `Taken` exactly where the prefix is there, whatever its
+    /// Adds an entry after the others. `Taken` exactly where the prefix is there, whatever its
     /// value (own rule); want of memory is free. After both the table is as it was.
     pub fn insert(&mut self, p: Prefix, t: T) -> Result<(), TableFault>
     where
@@ -88,7 +88,7 @@ impl<T> Table<T> {
         self.index.has(key_of(p))
     }
 
-    /// Adds an entry, whose prefix is known not to be there, behind the others (own rule). After
+    /// Adds an entry, whose prefix is known not to be there, after the others (own rule). After
     /// want of memory the table is as it was.
     pub fn insert_new(&mut self, p: Prefix, t: T) -> Result<(), AllocFailed<(Prefix, T)>>
         requires { ¬ HasPrefix self.old p }

@@ -45,7 +45,7 @@ fn with_index(compression: Compression, destination: Addr, index: u8) -> Addr
     }
 }
 
-/// The address with another CSID behind its block and another index.
+/// The address with another CSID after its block and another index.
 #[tactic(auto, unfolding(srv6_rules::specs::Compressed::replace_of))]
 pub(crate) fn replaced(compression: Compression, destination: Addr, csid: u128, index: u8) -> Addr
     requires replace { IsReplace compression }
@@ -71,7 +71,7 @@ pub(crate) fn lacks_entry(compression: Compression, srh: &SrhView<'_>, destinati
     srh.segments_left() == 0 && index_in(compression, destination) != 0 && srh.entries() == 0
 }
 
-/// No segment is left: the entry at 0 is in use, and it has no CSID behind the active one.
+/// No segment is left: the entry at 0 is in use, and it has no CSID after the active one.
 pub(crate) fn is_ended(
     compression: Compression,
     srh: &SrhView<'_>,

@@ -14,7 +14,7 @@ use srv6_rules::numbers::{MAX_PACKET_LEN, SEGMENTS_LEFT_AT};
 use srv6_rules::{Compression, Reason};
 use v6_addr::Addr;
 
-/// Segments Left and the destination behind a step, and whether no segment is left then.
+/// Segments Left and the destination after a step, and whether no segment is left then.
 #[derive(Clone, Copy, Debug)]
 pub(crate) struct Step {
     pub segments_left: u8,

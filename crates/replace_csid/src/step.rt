@@ -22,7 +22,7 @@ pub enum ReplaceOutcome {
     /// The next SID is active, and the hop limit is one lower.
     Moved {
         /// No segment is left now: after a whole entry Segments Left is 0; after a CSID Segments
-        /// Left is 0 and the entry has no CSID behind it.
+        /// Left is 0 and the entry has no CSID after it.
         end: bool,
     },
     /// No segment was left, so the header is passed over; its bytes are as they were.

@@ -42,7 +42,7 @@ abbrev pub coming_if : Network → ℕ → Option InFlight → List Coming
 coming_if net number None = []
 coming_if net number (Some p) = coming number (rest_of net p)
 
--- one that enters, with a number above those before it, is behind them
+-- one that enters, with a number above those before it, is after them
 module _ (net : Network) (last : ℕ) (before : List Coming) (f : Flight) (numbers : List ℕ) (number : ℕ) (above : last < number)
     (h : HasEntered net last before numbers f) where
   enters_none : HasEntered net number (before ++ []) numbers f

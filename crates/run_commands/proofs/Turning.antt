@@ -76,7 +76,7 @@ module _ (net : Network) (p : InFlight) (keeps : Keeps net) (is : IsInFlight net
       ap (line_behind net number step) (rest-ended net after end over)
       ∙ ap (line_by net number) (ap (λ (e : Ended). Some e) (sym (end-is end over)))
 
-  -- its line is behind its last stage
+  -- its line is after its last stage
   stage-line : (number : ℕ) → line_behind net number step (rest_of net after) ≡ line_by net number after.ended
   stage-line number = line-where number after.ended refl
 

@@ -16,7 +16,7 @@ use Rattle.run_commands.specs.Entry.{comings_of_frames, driven_pieces}
 use Rattle.command_output.specs.Shape.{Shape}
 use Rattle.command_output.specs.Verbs.{has_two_words}
 
--- its first words: the file and the node; the choices may follow, and behind them the schedule
+-- its first words: the file and the node; the choices may follow, and after them the schedule
 abbrev pub is_run : List ℕ → List ℕ → List ℕ → Bool
 is_run verb file node = has_two_words (codes "run") verb file node
 

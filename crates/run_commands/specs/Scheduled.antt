@@ -15,7 +15,7 @@ use Rattle.command_output.specs.Pieces.{Piece, ForOut, ForErr}
 abbrev pub coming : ℕ → List Stage → List Coming
 coming number steps = record { number = number; steps = steps } ∷ []
 
--- the line of a packet of a number whose walk ends with a step; none where there are more behind it
+-- the line of a packet of a number whose walk ends with a step; none where there are more after it
 abbrev pub line_behind : Network → ℕ → Stage → List Stage → List ℕ
 line_behind net number step [] = packet_line net number (end_of net (step ∷ []))
 line_behind net number step (next ∷ more) = []
@@ -24,11 +24,11 @@ line_behind net number step (next ∷ more) = []
 abbrev pub frame_of_stage : Taken → List ℕ
 frame_of_stage t = frame_of_gave t.number t.step.gave
 
--- the line behind a stage: none but behind the packet's last one
+-- the line after a stage: none but after the packet's last one
 abbrev pub line_of_stage : Network → Taken → List ℕ
 line_of_stage net t = line_behind net t.number t.step t.behind
 
--- a stage's frame, and behind the packet's last stage its line
+-- a stage's frame, and after the packet's last stage its line
 abbrev pub pieces_of_stage : Network → Taken → List Piece
 pieces_of_stage net t = ForOut (frame_of_stage t) ∷ ForErr (line_of_stage net t) ∷ []
 
@@ -43,7 +43,7 @@ scheduled_pieces net schedule comings = pieces_of_stages net (scheduled schedule
 abbrev pub frames_sent : ℕ → List Taken → List ℕ
 frames_sent number stages = flat_map frame_of_stage (stages_of number stages)
 
--- the lines behind stages of the packet of a number, in order
+-- the lines after stages of the packet of a number, in order
 abbrev pub lines_told : Network → ℕ → List Taken → List ℕ
 lines_told net number stages = flat_map (line_of_stage net) (stages_of number stages)
 
@@ -63,7 +63,7 @@ pub record IsInStep (net : Network) (numbers : List ℕ) (f : Flight) : Type 0 w
   pub each : length numbers ≡ length f.packets
   pub rising : IsStrictlyIncreasing numbers
 
--- a packet, if there is one, entered behind the others, with the number of its frame
+-- a packet, if there is one, entered after the others, with the number of its frame
 abbrev pub IsEntered : ℕ → Option InFlight → List ℕ → Flight → List ℕ → Flight → Type 0
 IsEntered number None numbers_old old numbers_new new = (numbers_new ≡ numbers_old) × (new ≡ old)
 IsEntered number (Some p) numbers_old old numbers_new new = (numbers_new ≡ numbers_old ++ number ∷ []) × (new ≡ entered old p)

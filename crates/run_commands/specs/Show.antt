@@ -41,7 +41,7 @@ frame_lines frame = lines_by frame.number frame.body
 abbrev pub frames_lines : List Frame → List ℕ
 frames_lines frames = flat_map frame_lines frames
 
--- the frames one after the other, and at the end the refusal of what is behind them
+-- the frames one after the other, and at the end the refusal of what is after them
 abbrev pub shown : Packets → Output
 shown packets = ended_by (ForOut (frames_lines (reading_of packets).frames) ∷ []) (fault_of (reading_of packets))
 

@@ -12,7 +12,7 @@ ghost use Rattle.run_commands.specs.Run.{comings_from};
 ghost use Rattle.run_commands.specs.Scheduled.{frame_of_stage, frames_sent, line_of_stage, line_of_walk, lines_told, scheduled_pieces};
 
 /// What is for `out` of the pieces in the order of a schedule are the frames that the stages send, in
-/// that order, and what is for `err` the lines behind the packets' last stages. (own rule)
+/// that order, and what is for `err` the lines after the packets' last stages. (own rule)
 pub fn pieces_are_those_of_stages()
     ensures out { (net : Network) (schedule : List ℕ) (comings : List Coming) →
         bytes_for_out (scheduled_pieces net schedule comings)

@@ -98,7 +98,7 @@ function = "vpn"
 pub const CERT: &str =
     "srv6 certificate 1\npotential 0 - 0 1 1\npath new fcbb:bb00:f001::/48\nend\n";
 
-/// To the SID of C, with nothing behind the header: hop limit 64, next header 59.
+/// To the SID of C, with nothing after the header: hop limit 64, next header 59.
 pub const PACKET: [u8; 40] = [
     0x60, 0, 0, 0, 0, 0, 59, 64, 0x20, 0x01, 0x0d, 0xb8, 0, 1, 0, 0, 0, 0, 0, 0, 0, 0, 0, 1, 0xfc,
     0xbb, 0xbb, 0x00, 0xf0, 0x01, 0, 0, 0, 0, 0, 0, 0, 0, 0, 0,

@@ -7,7 +7,7 @@ use std::alloc::Global;
 use std::process::Abort;
 use std::test::Fail;
 
-/// A capture of two packets to the SID of C, with nothing behind their headers.
+/// A capture of two packets to the SID of C, with nothing after their headers.
 const CAPTURE: [u8; 136] = [
     // lowest byte first, version 2.4, microseconds, raw IP
     0xd4, 0xc3, 0xb2, 0xa1, 2, 0, 4, 0, 0, 0, 0, 0, 0, 0, 0, 0, 0, 0, 4, 0, 101, 0, 0, 0,
@@ -44,7 +44,7 @@ fn has_bytes(rt: &impl Abort, out: &[u8], bytes: &[(usize, u8)]) {
     }
 }
 
-/// Where the numbers of the frames stand that `walk` gives of two packets, and what they are: behind
+/// Where the numbers of the frames stand that `walk` gives of two packets, and what they are: after
 /// a head of 24 bytes and each frame before, of 96 bytes, or at last 56.
 const WALKED_MIXED: [(usize, u8); 6] = [(24, 2), (120, 1), (216, 2), (312, 1), (408, 1), (464, 2)];
 
@@ -72,7 +72,7 @@ fn a_schedule_mixes_the_packets(rt: HostRuntime) -> Result<(), Fail> {
 }
 
 /// Where the numbers and the microseconds of the frames stand that these two packets give, and what
-/// they are: behind a head of 24 bytes and each frame before, of 56 bytes, or 104 of an error.
+/// they are: after a head of 24 bytes and each frame before, of 56 bytes, or 104 of an error.
 const FRAMES_MIXED: [(usize, u8); 12] = [
     (24, 2),
     (28, 1),

@@ -74,7 +74,7 @@ header-spellable next_header left entries next small most =
     } in
     subst P (sym (header-over next_header left entries)) fields
 
--- ---- entries written one behind the other
+-- ---- entries written one after the other
 
 -- one entry more is written
 pub entries-more : (at k : ℕ) (out buf post rest : List ℕ) (entries : List Addr) (d : Addr) → at + 16 ≤ length out

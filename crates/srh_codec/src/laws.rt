@@ -9,7 +9,7 @@ ghost use Rattle.srh_codec.specs.Reading.{IsRead};
 ghost use Rattle.srh_codec.specs.Writing.{header_over};
 ghost use Rattle.ip6_headers.specs.declared.chain.BadChain.{BadChain};
 
-/// Bytes that begin with a header's spelling are read as that header, whatever stands behind it
+/// Bytes that begin with a header's spelling are read as that header, whatever stands after it
 /// (RFC 8754 section 2).
 pub fn spelled_header_is_read()
     ensures { (s : Srh) (rest : List ℕ) (read : Result Srh BadChain) → IsSrhSpellable s

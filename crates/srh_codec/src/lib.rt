@@ -1,7 +1,7 @@
 //! The segment routing header in bytes (RFC 8754 section 2).
 //!
 //! `SrhView` reads a header, `SrhEdit` changes one in place, `write_srh` writes one, and `tlvs`
-//! looks at the items behind its segment list. Nothing here takes memory. What a header says is the
+//! looks at the items after its segment list. Nothing here takes memory. What a header says is the
 //! value `Srh` of `srv6_rules`, and its bytes are that value's spelling. Lengths and places are in
 //! bytes; entries of a segment list are counted from 0.
 #![tactic(auto)]

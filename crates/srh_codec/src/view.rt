@@ -32,7 +32,7 @@ impl<'a> Model for SrhView<'a> {
 }
 
 impl<'a> SrhView<'a> {
-    /// Reads the header that these bytes begin with; what stands behind it is not looked at.
+    /// Reads the header that these bytes begin with; what stands after it is not looked at.
     /// `BadChain` comes exactly where fewer than 8 bytes are there, or fewer than the header's
     /// length says (RFC 8200 section 4). The routing type is not looked at: where it is 4 the
     /// header's bytes are the spelling of what is read.
@@ -47,21 +47,21 @@ impl<'a> SrhView<'a> {
         })
     }
 
-    /// The value that names what stands behind the header (RFC 8754 section 2).
+    /// The value that names what stands after the header (RFC 8754 section 2).
     pub fn next_header(&self) -> u8
         ensures { result ≡ self.now.next_header }
     {
         self.bytes[0]
     }
 
-    /// The header's length in units of 8 bytes behind its first 8 (RFC 8754 section 2).
+    /// The header's length in units of 8 bytes after its first 8 (RFC 8754 section 2).
     pub fn extension_len(&self) -> u8
         ensures { result ≡ self.now.extension_len }
     {
         self.bytes[EXTENSION_LEN_AT]
     }
 
-    /// Segments Left: how many segments are to be visited behind the active one (RFC 8754 section
+    /// Segments Left: how many segments are to be visited after the active one (RFC 8754 section
     /// 2).
     pub fn segments_left(&self) -> u8
         ensures { result ≡ self.now.segments_left }

@@ -13,7 +13,7 @@ use v6_addr::Addr;
 /// area (RFC 8754 section 2).
 #[derive(Clone, Copy, Debug)]
 pub struct SrhParts<'a> {
-    /// The value that names what stands behind the header.
+    /// The value that names what stands after the header.
     pub next_header: u8,
     /// Segments Left.
     pub segments_left: u8,
@@ -21,7 +21,7 @@ pub struct SrhParts<'a> {
     pub entries: &'a [Addr],
 }
 
-/// Writes the entries of a segment list one behind the other.
+/// Writes the entries of a segment list one after the other.
 fn write_entries(out: &mut [u8], entries: &[Addr])
     requires { length out.old ≡ SEGMENT_LEN * length entries.now }
     ensures { out.new ≡ flat_map address_bytes (numbers_of entries.now) }

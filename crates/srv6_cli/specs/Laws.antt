@@ -20,7 +20,7 @@ HadWant old new = (new.wants ≡ next_count old.wants) × (new.faults ≡ old.fa
 
 -- after a fault of the files the input and the sinks are as they were; after one of the input no read that did anything came,
 -- and the sinks are as they were; where `out` was stopped, `err` had no fault and no want, and received nothing where the
--- command's lines stand behind all of `out`
+-- command's lines stand after all of `out`
 
 abbrev pub AfterFilesFault : Outside → Outside → Type 0
 AfterFilesFault old new = (new.files.faults ≡ next_count old.files.faults) × (new.input ≡ old.input) × (new.sinks ≡ old.sinks)

@@ -17,7 +17,7 @@ pub record Serves (command : Command) (status : Status) (old new : Outside) : Ty
   pub stop : Stop
   pub ending : ending_by stop ≡ ending_of_status status
   -- What was written is one of the outputs that are wanted of what the files and the input tell: all of it, or up to the
-  -- place where the call stopped. Where the command's lines stand behind all of `out`, none went out before that.
+  -- place where the call stopped. Where the command's lines stand after all of `out`, none went out before that.
   pub output : Output
   pub wanted : OrNothing stop output (WantedOf (shape_of command) old.files.told old.input.left output)
   pub went : Went stop output.pieces old.sinks new.sinks

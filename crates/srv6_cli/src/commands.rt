@@ -180,7 +180,7 @@ fn gen_with<'a>(size: &str, made: &str) -> Words<'a>
     Words::Gen { size, made }
 }
 
-/// What a verb with two words behind it spells.
+/// What a verb with two words after it spells.
 fn words_of_three<'a>(
     alloc: Global,
     verb: &str,
@@ -232,7 +232,7 @@ fn words_of_three<'a>(
     Ok(Words::Unknown)
 }
 
-/// What a verb with three words behind it spells, the last of which are choices or a file.
+/// What a verb with three words after it spells, the last of which are choices or a file.
 fn words_of_four<'a>(
     alloc: Global,
     verb: &str,
@@ -263,7 +263,7 @@ fn words_of_four<'a>(
     Ok(Words::Unknown)
 }
 
-/// What a verb with four words behind it spells, the last of which are choices and a schedule.
+/// What a verb with four words after it spells, the last of which are choices and a schedule.
 fn words_of_five<'a>(
     alloc: Global,
     verb: &str,
@@ -325,7 +325,7 @@ fn usage() -> Result<Told, Halt>
     })
 }
 
-/// Runs the command that the words name, up to its last line. The words are those behind the
+/// Runs the command that the words name, up to its last line. The words are those after the
 /// program's name. (own rule)
 pub fn command<F: Files, S: Source, O: Sink, E: Sink>(
     alloc: Global,

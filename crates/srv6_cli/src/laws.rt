@@ -10,7 +10,7 @@ use command_output::Status;
 /// Where a count of faults changed, it went on by one. After a fault of the files the input and
 /// both sinks are as they were. After one of the input no later read gave anything, and both sinks
 /// are as they were. After one of a sink no later write to it sent anything; where that is `out`,
-/// `err` had no fault and no want, and is as it was where the command's lines stand behind all of
+/// `err` had no fault and no want, and is as it was where the command's lines stand after all of
 /// `out`. (own rule)
 pub fn a_fault_is_the_last_thing()
     ensures files { OfServe (λ command status old new.
@@ -25,7 +25,7 @@ pub fn a_fault_is_the_last_thing()
 
 /// Where a sink's count of wants changed, it went on by one, the sink had no fault, and no later
 /// write to it sent anything. Where it is `out`, `err` had no fault and no want, and is as it was
-/// where the command's lines stand behind all of `out`. (own rule)
+/// where the command's lines stand after all of `out`. (own rule)
 pub fn a_want_in_a_sink_is_the_last_thing()
     ensures out { OfServe (λ command status old new.
         new.sinks.out.wants ≢ old.sinks.out.wants → AfterOutWant command old new) }

@@ -49,7 +49,7 @@ fn conclude<E: Sink>(alloc: Global, answer: Result<Told, Halt>, err: &mut E) -> 
     }
 }
 
-/// Runs a command: words, files and input to output and a status. The words are those behind the
+/// Runs a command: words, files and input to output and a status. The words are those after the
 /// program's name. After a fault of the outside and after want of memory nothing more is written.
 /// (own rule)
 ///

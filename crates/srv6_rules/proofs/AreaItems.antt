@@ -25,7 +25,7 @@ area_fault-skip judge (suc n) at (b ∷ bytes) =
 pub area_fault-empty : (judge : ℕ → List ℕ → Option Fault) (at : ℕ) → area_fault judge 0 at [] ≡ None
 area_fault-empty judge at = refl
 
--- the first fault of an area is that of its first item, or else that of the area behind it
+-- the first fault of an area is that of its first item, or else that of the area after it
 pub area_fault-item : (judge : ℕ → List ℕ → Option Fault) (at : ℕ) (item : List ℕ) → 0 < length item
     → area_fault judge 0 at item ≡ first_of (judge at item) (area_fault judge 0 (at + item_bytes item) (drop (item_bytes item) item))
 area_fault-item judge at [] some = absurd (omega arith)
@@ -97,7 +97,7 @@ tlv-own_by at f false false e = cc
 pub tlv-own : (at : ℕ) (item : List ℕ) (f : Fault) → tlv_fault at item ≡ Some f → f.at ≡ at
 tlv-own at item f e = tlv-own_by at f (slice_index item 0 == HMAC) (passes_end item) e
 
--- the fault of a header's options stands in the header, behind its first two bytes
+-- the fault of a header's options stands in the header, after its first two bytes
 pub options_fault-within : (p : Packet) (h : Header) (f : Fault) → LiesIn p h → options_fault h ≡ Some f
     → (h.place.at + 2 ≤ f.at) × (f.at < h.place.at + length h.bytes)
 options_fault-within p h f lies e =
@@ -106,7 +106,7 @@ options_fault-within p h f lies e =
     let is = area_fault-within option_fault option-own 0 (h.place.at + 2) (drop 2 h.bytes) f e in
     (is.0, omega arith)
 
--- the fault of a segment routing header's area stands in the header, behind the entry at Last Entry
+-- the fault of a segment routing header's area stands in the header, after the entry at Last Entry
 pub tlvs_fault-within : (p : Packet) (h : Header) (f : Fault) → LiesIn p h → tlvs_fault h.place.at (srh_of h.bytes) ≡ Some f
     → (h.place.at + 8 + 16 * ((srh_of h.bytes).last_entry + 1) ≤ f.at) × (f.at < h.place.at + length h.bytes)
 tlvs_fault-within p h f lies e =

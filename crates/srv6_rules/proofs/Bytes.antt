@@ -88,7 +88,7 @@ pub address_number-below : (bytes : List ℕ) → All (λ b. b < 2 ^ 8) bytes �
 unfolding address_number
 address_number-below bytes h = big_number-below 16 bytes h
 
--- the number of the bytes is the number, whatever stands behind them
+-- the number of the bytes is the number, whatever stands after them
 pub two_number-bytes : (n : ℕ) (rest : List ℕ) → n < 2 ^ 16 → two_number (two_bytes n ++ rest) ≡ n
 unfolding two_number two_bytes
 two_number-bytes n rest h = big_number-reads_back 2 n rest h
@@ -115,7 +115,7 @@ pub address_bytes-number : (bytes : List ℕ) → 16 ≤ length bytes → All (�
 unfolding address_number address_bytes
 address_bytes-number bytes h all = big_bytes-back 16 bytes h all
 
--- what stands behind the first bytes makes no difference
+-- what stands after the first bytes makes no difference
 pub two_number-append : (xs ys : List ℕ) → 2 ≤ length xs → two_number (xs ++ ys) ≡ two_number xs
 unfolding two_number
 two_number-append xs ys h = big_from-append 2 xs ys h

@@ -44,14 +44,14 @@ is_whole-from kind bytes h =
     and_from (nat_le 8 (length bytes)) (nat_le (extension_bytes kind bytes) (length bytes))
     (le-leb 8 (length bytes) (omega arith)) (le-leb (extension_bytes kind bytes) (length bytes) h)
 
--- the chain behind so many bytes is the chain of those that are left
+-- the chain after so many bytes is the chain of those that are left
 chain_from-skip : (n : ℕ) (q : ChainPlace) (bytes : List ℕ) → chain_from n q bytes ≡ chain_from 0 q (drop n bytes)
 unfolding chain_from
 chain_from-skip zero q bytes = refl
 chain_from-skip (suc n) q [] = refl
 chain_from-skip (suc n) q (b ∷ bytes) = chain_from-skip n q bytes
 
--- the chain where a header may stand, by the two tests, the header and the chain behind it
+-- the chain where a header may stand, by the two tests, the header and the chain after it
 went_on : Bool → Bool → ChainPlace → Header → Chain → Chain
 went_on ext whole q h tail =
     if ext then (if whole then behind h tail else record { headers = []; end = Cut q }) else record { headers = []; end = Upper q }
@@ -79,7 +79,7 @@ chain_from-went_on q (b ∷ bytes) =
     ∙ ap (λ k. chain_from 0 (behind_in q (b ∷ bytes)) (drop k (b ∷ bytes))) sum in
     ap (went_on (is_extension q.kind) (is_whole q.kind (b ∷ bytes)) q (header_in q (b ∷ bytes))) tail
 
--- what stands a header's length behind a place of a packet
+-- what stands a header's length after a place of a packet
 from_place-behind : (p : Packet) (at n : ℕ) → header_len ≤ at → drop n (from_place p at) ≡ from_place p (at + n)
 from_place-behind p at n start =
     let sum : at - header_len + n ≡ at + n - header_len = omega arith in
@@ -117,20 +117,20 @@ pub chain_at-cut : (p : Packet) (q : ChainPlace) → header_len ≤ q.at → is_
     → is_whole q.kind (from_place p q.at) ≡ false → chain_at p q ≡ record { headers = []; end = Cut q }
 chain_at-cut p q start e w = chain_at-goes_on p q start ∙ rw (e, w) refl
 
--- a chain goes on behind a whole header
+-- a chain goes on after a whole header
 pub chain_at-header : (p : Packet) (q : ChainPlace) → header_len ≤ q.at → is_extension q.kind ≡ true
     → is_whole q.kind (from_place p q.at) ≡ true
     → chain_at p q ≡ behind (header_in q (from_place p q.at)) (chain_at p (behind_in q (from_place p q.at)))
 chain_at-header p q start e w = chain_at-goes_on p q start ∙ rw (e, w) refl
 
--- a packet's chain starts behind its IPv6 header
+-- a packet's chain starts after its IPv6 header
 pub chain_of-start : (p : Packet) → chain_of p ≡ chain_at p (start_of p)
 unfolding chain_at
 chain_of-start p = refl
 
 -- ---- what is so of each chain
 
--- what holds at an upper layer and at a header that is cut, and in front of each whole header if it holds behind it,
+-- what holds at an upper layer and at a header that is cut, and in front of each whole header if it holds after it,
 -- holds of the chain of a packet from each place
 module _ (p : Packet) (P : ChainPlace → Chain → Type 0)
     (cut : (q : ChainPlace) → is_extension q.kind ≡ true → is_whole q.kind (from_place p q.at) ≡ false
@@ -235,7 +235,7 @@ lies-stated p h lies =
 
 -- ---- how places follow one another
 
--- where a chain goes on behind a whole header
+-- where a chain goes on after a whole header
 pub behind-header_in : (q : ChainPlace) (bytes : List ℕ) → is_whole q.kind bytes ≡ true
     → place_behind (header_in q bytes) ≡ behind_in q bytes
 behind-header_in q bytes w =

@@ -62,7 +62,7 @@ unfolding field_of
 csid_below block_len s =
     mod_below (s.value / 2 ^ (128 - block_len - (s.len - block_len))) (2 ^ (s.len - block_len)) (pow_pos (s.len - block_len))
 
--- ---- CSIDs one behind the other
+-- ---- CSIDs one after the other
 
 pub packed_below : (block : PrefixValue) (room : ℕ) (ss : List PrefixValue) → FitIn block room ss → packed block.len room ss < 2 ^ room
 packed_below block room [] fit = pow_pos room
@@ -113,7 +113,7 @@ packed_some block room s ss fit =
 
 -- ---- containers
 
--- the room behind the first SID
+-- the room after the first SID
 rest_is : (block s : PrefixValue) → IsSidOf block s → 128 - block.len - (s.len - block.len) ≡ 128 - s.len
 rest_is block s is =
     let longer : block.len < s.len = is.inside.0 in
@@ -146,7 +146,7 @@ container_parts block s ss fit =
     ∙ ap (λ n. high + c * 2 ^ n + packed block.len n ss) (sym (rest_is block s fit.0))
     ∙ grouped high (c * 2 ^ r) (packed block.len r ss)
 
--- the argument is what is packed behind the first SID
+-- the argument is what is packed after the first SID
 pub argument-container : (block s : PrefixValue) (ss : List PrefixValue) → IsContainer block (s ∷ ss)
     → argument_of (container_of block.len (s ∷ ss)) s.len ≡ packed block.len (128 - s.len) ss
 unfolding argument_of

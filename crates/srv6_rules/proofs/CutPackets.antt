@@ -20,7 +20,7 @@ module _ (a n : ℕ) (xs : List ℕ) (within : a + n ≤ length xs) where
       let whole = length-append (take a xs) (drop (a + n) xs) in
       omega arith
 
-  -- what stands behind them
+  -- what stands after them
   drop-cut : (k : ℕ) → a + n ≤ k → drop (k - n) (cut_out a n xs) ≡ drop k xs
   drop-cut k far =
       let j : ℕ = k - (a + n) in
@@ -60,7 +60,7 @@ pub without-later : (p : Packet) (h : Header) → is_first h.place ≡ false
     }
 without-later p h later = rw later refl
 
--- the chain behind a header of a chain is the headers that stand behind it
+-- the chain after a header of a chain is the headers that stand after it
 split-nil : (before after : List Header) (h : Header) → [] ≡ before ++ h ∷ after → ⊥
 split-nil [] after h e = cc
 split-nil (x ∷ before) after h e = cc
@@ -76,7 +76,7 @@ split-cons p x h hs [] after c is same more e =
     ap (λ y. chain_at p (place_behind y)) first ∙ is ∙ ap (λ ys. record { headers = ys; end = c.end }) (same ∙ rest)
 split-cons p x h hs (y ∷ before) after c is same more e = more before after h cc
 
--- the chain behind a header of a chain is the headers that stand behind it there, to the same end
+-- the chain after a header of a chain is the headers that stand after it there, to the same end
 pub chain_at-split : (p : Packet) (q : ChainPlace) → header_len ≤ q.at → (before after : List Header) (h : Header)
     → (chain_at p q).headers ≡ before ++ h ∷ after
     → chain_at p (place_behind h) ≡ record { headers = after; end = (chain_at p q).end }
@@ -118,7 +118,7 @@ module _ (p q : Packet) (n from : ℕ) (start : header_len + n ≤ from)
       ∙ ap (behind (header_in to bytes)) (rest (omega arith) (k.at - n)))
       place (omega arith) far
 
--- what stands behind the header that is cut out
+-- what stands after the header that is cut out
 pub cut-from : (p q : Packet) (h : Header) (xs : List ℕ) → LiesIn p h
     → q.payload ≡ cut_out (h.place.at - header_len) (length h.bytes) xs → length xs ≡ length p.payload
     → ((k : ℕ) → h.place.at + length h.bytes ≤ k + header_len → drop k xs ≡ drop k p.payload)
@@ -147,7 +147,7 @@ pub headers-lie : (p : Packet) → All (LiesIn p) (chain_of p).headers
 unfolding chain_at
 headers-lie p = chain_at-lies p (start_of p) (omega arith)
 
--- the chain of the packet without its first header is that of the headers behind it, which its IPv6 header then names
+-- the chain of the packet without its first header is that of the headers after it, which its IPv6 header then names
 pub without-first_chain : (p : Packet) (h : Header) (after : List Header) → (chain_of p).headers ≡ h ∷ after
     → chain_of (without p h) ≡ lowered (length h.bytes) NEXT_HEADER_AT after (chain_of p).end
 unfolding chain_at

@@ -80,7 +80,7 @@ spelling-destination p =
 pub spelling-behind : (p : Packet) → drop 40 (spelling p) ≡ p.payload
 spelling-behind p = drop_at (header_spelling p) p.payload 40 (length-header_spelling p)
 
--- behind the IPv6 header a packet's bytes are those of its payload
+-- after the IPv6 header a packet's bytes are those of its payload
 pub spelled-payload : (p : Packet) (bytes : List ℕ) → bytes ≡ spelling p → drop header_len bytes ≡ p.payload
 spelled-payload p bytes spelled = ap (drop 40) spelled ∙ spelling-behind p
 

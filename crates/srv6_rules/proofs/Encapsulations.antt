@@ -33,7 +33,7 @@ srh_of-spelled s tag body =
 abbrev pub outer_start : ℕ → ChainPlace
 outer_start kind = record { at = header_len; kind = kind; named_at = NEXT_HEADER_AT }
 
--- the chain of a segment routing header and the upper layer behind it
+-- the chain of a segment routing header and the upper layer after it
 pub spelled-chain : (p : Packet) (s : Srh) (inner : List ℕ) → p.next_header ≡ routing → p.payload ≡ srh_spelling s ++ inner
     → length s.body ≡ 8 * s.extension_len → is_extension s.next_header ≡ false
     → chain_of p
@@ -55,7 +55,7 @@ pub bare-upper : (p : Packet) → is_extension p.next_header ≡ false
 unfolding chain_at
 bare-upper p upper = chain_at-upper p (outer_start p.next_header) (omega arith) upper
 
--- the step over a header with good segments and nothing behind its entries
+-- the step over a header with good segments and nothing after its entries
 pub step-onward : (p : Packet) (at : ℕ) (s : Srh) → 1 < p.hop_limit → has_bad_segments s ≡ false → tlv_bytes s ≡ []
     → next_segment p at s ≡ Onward (advanced p at s)
 step-onward p at s hop good none =
@@ -250,7 +250,7 @@ length-outer e inner left hop destination = elim (cases_Bool (has_segment_routin
       ap (λ (p : Packet). 40 + length p.payload) (outer-bare e inner left hop destination not) ∙ omega arith
 ]
 
--- behind the headers the packet is the inner one
+-- after the headers the packet is the inner one
 pub outer-inner : (e : Encapsulation) (inner : List ℕ) (left hop destination : ℕ)
     → from_place (outer e inner left hop destination) (inner_place e).at ≡ inner
 outer-inner e inner left hop destination = elim (cases_Bool (has_segment_routing e)) [
@@ -273,14 +273,14 @@ outer-inner e inner left hop destination = elim (cases_Bool (has_segment_routing
 abbrev pub outer_headers : Encapsulation → ℕ → Bool → List Header
 outer_headers e left has = if has then header_of e left ∷ [] else []
 
--- the place of the inner packet behind so many bytes, where there is a segment routing header and where there is none
+-- the place of the inner packet after so many bytes, where there is a segment routing header and where there is none
 abbrev place_behind_outer : ℕ → Bool → ChainPlace
 place_behind_outer at has = record { at = at; kind = ipv6_inside; named_at = if has then header_len else NEXT_HEADER_AT }
 
 abbrev outer_chain : Encapsulation → ℕ → ℕ → Bool → Chain
 outer_chain e left at has = record { headers = outer_headers e left has; end = Upper (place_behind_outer at has) }
 
--- the segment routing header where the form has one, and the packet inside behind the header bytes
+-- the segment routing header where the form has one, and the packet inside after the header bytes
 pub outer-chain : (e : Encapsulation) (inner : List ℕ) (left hop destination : ℕ)
     → chain_of (outer e inner left hop destination)
     ≡ record { headers = if has_segment_routing e then header_of e left ∷ [] else []; end = Upper (inner_place e) }

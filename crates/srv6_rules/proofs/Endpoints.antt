@@ -69,7 +69,7 @@ after_step-refused s h reason at = elim (cases_Bool (s.psp && leaves_none (srh_o
   | inr stays ↦ rw stays refl
 ]
 
--- Segments Left is 0 behind the step exactly where it was 1
+-- Segments Left is 0 after the step exactly where it was 1
 left-none : (n : ℕ) → (n ≡ 0 → ⊥) → ((n - 1) == 0) ≡ (n == 1)
 left-none zero some = absurd (some refl)
 left-none (suc zero) some = refl

@@ -6,7 +6,7 @@ use Rattle.srv6_rules.specs.Packet.{two_bytes, two_number, address_bytes, addres
 use Rattle.srv6_rules.specs.Srh.{Srh, IsSrhSpellable, srh_of, srh_spelling, segment_routing}
 use Rattle.srv6_rules.proofs.Bytes.{length-two_bytes, all-two_bytes, two_number-below, two_number-bytes, two_bytes-number, byte_below, length-address_bytes, address_number-bytes}
 
--- reading a header's spelling gives the header, whatever stands behind it
+-- reading a header's spelling gives the header, whatever stands after it
 pub srh_of-spelling : (s : Srh) (rest : List ℕ) → IsSrhSpellable s → srh_of (srh_spelling s ++ rest) ≡ s
 srh_of-spelling s rest h =
     let tail : (two_bytes s.tag ++ s.body) ++ rest ≡ two_bytes s.tag ++ (s.body ++ rest) = append_assoc (two_bytes s.tag) s.body rest in

@@ -40,7 +40,7 @@ module _ (s : SidEntry) (p : Packet) (h : Header) where
   shifts-decides : (shifts_at s p && not (is_options h)) ≡ true → Decides (at_header s p) h
   shifts-decides is = λ one two. rw is refl
 
-  -- what is so of a packet that is shifted, of those behind where the header is passed over, of each refusal in the packet, and of
+  -- what is so of a packet that is shifted, of those after where the header is passed over, of each refusal in the packet, and of
   -- what is done with a routing header, is so of what comes of the header
   pub header-by : (P : Endpoint → Type 0) (rest : Endpoint) → LiesIn p h → StandsIn p h.place
       → (shifts_at s p ≡ true → P (next_csid s p))
@@ -149,7 +149,7 @@ module _ (s : SidEntry) (p : Packet) (h : Header) where
   at_header-after_step rest takes is left goes =
       at_header-whole rest takes is ∙ whole-steps s p h rest (ne_eqb (segments_left h) 0 (omega arith)) goes
 
-  -- without PSP that is all, and with it too where segments are left behind
+  -- without PSP that is all, and with it too where segments are left after
   pub at_header-steps : (rest : Endpoint) → TakesWhole s p → is_segment_routing h ≡ true → 0 < segments_left h → goes_on s ≡ true
       → (s.psp ≡ false) ⊎ (1 < segments_left h)
       → at_header s p h rest ≡ next_segment p h.place.at (srh_of h.bytes)

@@ -230,7 +230,7 @@ rewritten high old new i r w fits below a is =
     ∙ mod_low (high * 2 ^ w + old) r i below in
     ap (λ n. n * 2 ^ (r + w) + new * 2 ^ r + a % 2 ^ r) above ∙ ap (λ n. high * 2 ^ (r + w) + new * 2 ^ r + n) behind
 
--- a SID's value, by the bits behind its CSID
+-- a SID's value, by the bits after its CSID
 value_is : (block : PrefixValue) (w r : ℕ) (s : PrefixValue) → IsReplaceSid block w s → r ≡ 128 - block.len - w
     → s.value ≡ block.value / 2 ^ (128 - block.len) * 2 ^ (r + w) + csid_of block.len s * 2 ^ r
 value_is block w r s is at =

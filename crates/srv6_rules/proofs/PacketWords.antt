@@ -5,7 +5,7 @@ use Rattle.std.proofs.lemmas.List.{append_assoc, drop_at, drop-drop, get_or-drop
 use Rattle.srv6_rules.specs.Packet.{first_word, four_bytes, four_number}
 use Rattle.srv6_rules.proofs.Bytes.{byte_below}
 
--- ---- the parts of a header of 4, 2, 1, 1, 16 and 16 bytes with more behind it
+-- ---- the parts of a header of 4, 2, 1, 1, 16 and 16 bytes with more after it
 
 unfoldable pub laid : List ℕ → List ℕ → ℕ → ℕ → List ℕ → List ℕ → List ℕ → List ℕ
 laid a b n h s d r = a ++ (b ++ (n ∷ h ∷ (s ++ (d ++ r))))

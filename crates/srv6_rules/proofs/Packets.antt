@@ -11,7 +11,7 @@ use Rattle.srv6_rules.proofs.PacketWords.{laid, drop4-laid, drop8-laid, drop24-l
 
 -- ---- reading what was spelled
 
--- a spelling with more behind it, laid out
+-- a spelling with more after it, laid out
 pub spelling-laid : (p : Packet) (rest : List ℕ)
     → spelling p ++ rest ≡ laid (four_bytes (first_word p.traffic_class p.flow_label))
     (two_bytes (length p.payload)) p.next_header p.hop_limit (address_bytes p.source) (address_bytes p.destination) (p.payload ++ rest)
@@ -195,7 +195,7 @@ pub spelling-payload : (p : Packet) (k : ℕ) → slice_index (spelling p) (40 +
 spelling-payload p k =
     ap (λ n. slice_index (spelling p) (n + k)) (sym (length-header_spelling p)) ∙ get_or-append-add (header_spelling p) p.payload k 0
 
--- reading a spelling gives the packet, whatever stands behind it
+-- reading a spelling gives the packet, whatever stands after it
 pub content_of-spelling : (p : Packet) (rest : List ℕ) → IsSpellable p → content_of (spelling p ++ rest) ≡ V6 p
 unfolding spelled word
 content_of-spelling p rest h = rw (spelling-laid p rest) (read_back p rest h)
@@ -263,7 +263,7 @@ packet_at-spellable bytes all whole =
       payload = All-take P (two_number (drop 4 bytes)) (drop 40 bytes) (All-drop P 40 bytes all);
     }
 
--- a part of bytes and the part behind it are one part
+-- a part of bytes and the part after it are one part
 then_take : (i m n : ℕ) (xs zs ys : List ℕ) → zs ≡ take m (drop i xs) → ys ≡ take n (drop (i + m) xs) → zs ++ ys ≡ take (m + n) (drop i xs)
 then_take i m n xs zs ys ez ey =
     ap (λ ws. ws ++ ys) ez ∙ ap (λ ws. take m (drop i xs) ++ ws) (ey ∙ ap (take n) (sym (drop-drop m i xs)))
@@ -363,7 +363,7 @@ reads-spelled bytes p all e =
     let cut : spelling p ≡ take (length (spelling p)) bytes = whole ∙ ap (λ n. take n bytes) (sym len) in
     sym (take-append-drop (length (spelling p)) bytes) ∙ ap (λ xs. xs ++ drop (length (spelling p)) bytes) (sym cut)
 
--- bytes with nothing behind the end of their packet are its spelling
+-- bytes with nothing after the end of their packet are its spelling
 pub reads-spelling : (bytes : List ℕ) (p : Packet) → All (λ b. b < 2 ^ 8) bytes → content_of bytes ≡ V6 p
     → length bytes ≤ length (spelling p)
     → bytes ≡ spelling p

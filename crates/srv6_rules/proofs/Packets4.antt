@@ -115,7 +115,7 @@ reads4 bytes p e =
     (nat_lt (stated_header_len bytes) 20) (nat_lt (total_len bytes) (stated_header_len bytes)) (nat_lt (length bytes) (total_len bytes))
     refl refl refl refl refl refl e
 
--- ---- what stands behind a header makes no difference to its fields
+-- ---- what stands after a header makes no difference to its fields
 
 number-front : (n at : ℕ) (h rest : List ℕ) → n ≡ 2 → at + 2 ≤ length h → big_number n (drop at (h ++ rest)) ≡ big_number n (drop at h)
 unfolding two_number

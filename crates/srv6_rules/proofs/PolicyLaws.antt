@@ -17,7 +17,7 @@ use Rattle.srv6_rules.proofs.Packets.{length-spelling}
 use Rattle.srv6_rules.proofs.Encapsulations.{length-outer}
 use Rattle.srv6_rules.proofs.EncapsulationForms.{at_segment-spellable}
 
--- ---- a header's first byte, which names what stands behind it
+-- ---- a header's first byte, which names what stands after it
 
 kinds-length : (has : Bool) (k m : ℕ) (rest bytes : List ℕ)
     → length (if has then (k ∷ rest) ++ bytes else bytes) ≡ length (if has then (m ∷ rest) ++ bytes else bytes)
@@ -47,7 +47,7 @@ small_next false inner = small_kind inner
 abbrev pub front_of : Encapsulation → Family → List ℕ
 front_of e inner = if has_segment_routing e then srh_spelling (routing_header e inner) else []
 
--- a segment routing header's bytes behind its first
+-- a segment routing header's bytes after its first
 abbrev behind_kind : Srh → List ℕ
 behind_kind s = s.extension_len ∷ segment_routing ∷ s.segments_left ∷ s.last_entry ∷ s.flags ∷ (two_bytes s.tag ++ s.body)
 
@@ -103,7 +103,7 @@ round-split e inner bytes hop =
     let p : Packet = pushed_round e inner bytes hop in
     ap (λ xs. header_spelling p ++ xs) (round-front e inner bytes hop) ∙ sym (append_assoc (header_spelling p) (front_of e inner) bytes)
 
--- the inner bytes behind that front
+-- the inner bytes after that front
 pub round-behind : (e : Encapsulation) (inner : Family) (bytes : List ℕ) (hop n : ℕ)
     → n + length bytes ≡ length (spelling (pushed_round e inner bytes hop))
     → drop n (spelling (pushed_round e inner bytes hop)) ≡ bytes

@@ -45,7 +45,7 @@ module _ (treat : Header → Endpoint → Endpoint) where
   -- ---- what comes of headers
 
   -- what holds at the end where all headers are of a kind, and at a header that is reached if it holds of what
-  -- comes of those behind it where it is of that kind, holds of what comes of the headers
+  -- comes of those after it where it is of that kind, holds of what comes of the headers
   pub over-reached : (K : Header → Type 0) (P : Endpoint → Type 0) (hs : List Header) (end : Endpoint)
       → (All K hs → P end)
       → ((h : Header) (rest : Endpoint) → IsReached K hs h → (K h → P rest) → P (treat h rest))
@@ -57,7 +57,7 @@ module _ (treat : Header → Endpoint → Endpoint) where
       (λ all. last (All-cons K h hs is all))
       (λ k rest r more. each k rest (reached-behind K h hs k is r) more))
 
-  -- behind headers that are passed over what comes of headers is what comes of those behind
+  -- after headers that are passed over what comes of headers is what comes of those after
   pub over-passed : (before after : List Header) (end : Endpoint) → All (IsPassed treat) before
       → over_headers treat (before ++ after) end ≡ over_headers treat after end
   over-passed [] after end all = refl

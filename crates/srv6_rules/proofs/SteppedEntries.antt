@@ -47,7 +47,7 @@ csids-fit block w (s ∷ ss) all =
 
 -- ---- the CSIDs of an entry
 
--- the CSID at the index behind some
+-- the CSID at the index after some
 entry-listed : (c : Compression) (block : PrefixValue) (sids : List PrefixValue) (entry n : ℕ) → IsCsidLen (csid_len_of c)
     → IsEntryOf c block sids entry → n < csid_count (csid_len_of c)
     → csid_at (csid_len_of c) entry (index_behind c n) ≡ get_or (map (csid_of block.len) sids) n 0
@@ -74,7 +74,7 @@ and_by : (left : ℕ) (x y : Bool) → (left ≡ 0 → x ≡ y) → ((left == 0)
 and_by zero x y same = same refl
 and_by (suc left) x y same = rw (ne_eqb (suc left) 0 (λ e. omega arith)) refl
 
--- a SID of an entry, and what stands behind it
+-- a SID of an entry, and what stands after it
 module _ (c : Compression) (block : PrefixValue) (front : List PrefixValue) (t : PrefixValue) (after : List PrefixValue) (entry : ℕ)
     (is : IsEntryOf c block (front ++ t ∷ after) entry) where
   sid_is : IsReplaceSid block (csid_len_of c) t
@@ -120,7 +120,7 @@ some_behind block w t (u ∷ us) all some e =
     All-head (λ s. IsReplaceSid block w s) u us (All-tail (λ s. IsReplaceSid block w s) t (u ∷ us) all) in
     is.sid_of.some e
 
--- no CSID stands behind a SID exactly where none follows it
+-- no CSID stands after a SID exactly where none follows it
 nothing_behind : (c : Compression) (block : PrefixValue) (front : List PrefixValue) (t : PrefixValue) (after : List PrefixValue) (entry : ℕ)
     → IsEntryOf c block (front ++ t ∷ after) entry
     → let d = t.value + index_behind c (length front) in

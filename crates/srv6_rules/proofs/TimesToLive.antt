@@ -13,7 +13,7 @@ use Rattle.srv6_rules.proofs.Packets4.{checksum-front, total-first8}
 
 -- ---- bytes with two of them written
 
--- the bytes before and behind what is written are as they were
+-- the bytes before and after what is written are as they were
 written-other : (xs w : List ℕ) (k : ℕ) → length w ≡ 2 → 12 ≤ length xs → (k < 10 → ⊥) → (k ≡ 10 → ⊥) → (k ≡ 11 → ⊥)
     → slice_index (take 10 xs ++ (w ++ drop 12 xs)) k ≡ slice_index xs k
 written-other xs w k two long past ten eleven =
@@ -154,7 +154,7 @@ opened : (ys : List ℕ) → ttl_lowered ys
 unfolding ttl_lowered two_bytes
 opened ys = refl
 
--- what stands behind a header makes no difference to it
+-- what stands after a header makes no difference to it
 pub ttl_lowered-front : (h rest : List ℕ) → 20 ≤ length h → ttl_lowered (h ++ rest) ≡ ttl_lowered h ++ rest
 ttl_lowered-front h rest long =
     let v : ℕ = slice_index h 8 - 1 in
@@ -218,7 +218,7 @@ word_sum-high (suc k) (x ∷ y ∷ xs) v h =
     let e : 2 * suc k ≡ suc (suc (2 * k)) = omega arith in
     rw e (omega (arith, rest))
 
--- so many bytes are the sum of the words before a place, of the word there, and of those behind
+-- so many bytes are the sum of the words before a place, of the word there, and of those after
 word_sum-parts : (xs : List ℕ) → 12 ≤ length xs
     → word_sum xs ≡ word_sum (take 10 xs) + (word_sum (take 2 (drop 10 xs)) + word_sum (drop 12 xs))
 word_sum-parts xs long =

@@ -15,7 +15,7 @@ use Rattle.srv6_rules.specs.Endpoint.{Endpoint, Refused, unless_fault, next_segm
 use Rattle.srv6_rules.proofs.SteppedPackets.{step-at_end, at_end-none}
 use Rattle.srv6_rules.proofs.AreaItems.{options_fault-within}
 
--- ---- a fault, or else what comes behind
+-- ---- a fault, or else what comes after
 
 -- there is no fault, or one
 pub fault_cases : (f : Option Fault) → (f ≡ None) ⊎ ((x : Fault) × (f ≡ Some x))
@@ -110,7 +110,7 @@ module _ (route : Header → Endpoint → Endpoint) (h : Header) where
     ]
   ]
 
-  -- what holds of those behind where the header is passed over, of each refusal in the packet, and of what is done with a
+  -- what holds of those after where the header is passed over, of each refusal in the packet, and of what is done with a
   -- routing header, holds of what comes of the header
   pub by-kind : (p : Packet) (P : Endpoint → Type 0) (rest : Endpoint) → LiesIn p h → StandsIn p h.place
       → (IsPassed (at_header_by route) h → P rest)

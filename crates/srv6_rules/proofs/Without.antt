@@ -200,7 +200,7 @@ module _ (p : Packet) (before after : List Header) (g h : Header) (split : (chai
       (chain_at-split p (start_of p) (omega arith) (before ++ g ∷ []) after h (split ∙ sym (append_assoc before (g ∷ []) (h ∷ after))))
 
   -- the chain of the packet without a later header is the chain without that header: the header in front of it names what
-  -- stood behind it
+  -- stood after it
   pub without-later_chain : chain_of (without p h)
       ≡ in_front before (behind (renamed (slice_index h.bytes 0) g) (lowered (length h.bytes) g.place.at after (chain_of p).end))
   unfolding left_over chain_at
@@ -242,7 +242,7 @@ without-room p h start within =
 pub without-length : (p : Packet) (h : Header) → LiesIn p h → length (without p h).payload + length h.bytes ≡ length p.payload
 without-length p h lies = without-room p h lies.behind_header lies.within
 
--- the bytes behind the header are those of the packet, so many places lower
+-- the bytes after the header are those of the packet, so many places lower
 pub without-behind : (p : Packet) (h : Header) → LiesIn p h → StandsIn p h.place → (at : ℕ) → h.place.at + length h.bytes ≤ at
     → from_place (without p h) (at - length h.bytes) ≡ from_place p at
 without-behind p h lies stands at far =

@@ -26,7 +26,7 @@ first_of (Some fault) later = Some fault
 first_of None later = later
 
 -- the first fault of an area whose items a word judges, each with its place and the bytes from it to the area's end; the
--- next item stands behind so many of these bytes
+-- next item stands after so many of these bytes
 abbrev pub area_fault : (ℕ → List ℕ → Option Fault) → ℕ → ℕ → List ℕ → Option Fault
 area_fault judge skip at [] = None
 area_fault judge (suc skip) at (b ∷ bytes) = area_fault judge skip (at + 1) bytes
@@ -49,7 +49,7 @@ option_fault at item =
     else if slice_index item 0 == PADN then None
     else unknown_option at (slice_index item 0)
 
--- the first fault among the options of a Destination Options header, which stand behind its first two bytes
+-- the first fault among the options of a Destination Options header, which stand after its first two bytes
 abbrev pub options_fault : Header → Option Fault
 options_fault h = area_fault option_fault 0 (h.place.at + OPTIONS_AT) (drop OPTIONS_AT h.bytes)
 

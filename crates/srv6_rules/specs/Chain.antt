@@ -1,4 +1,4 @@
--- The chain of extension headers behind an IPv6 header (RFC 8200 section 4). Places count from the packet's first byte.
+-- The chain of extension headers after an IPv6 header (RFC 8200 section 4). Places count from the packet's first byte.
 use Rattle.std.specs.Prelude.{◌≡◌, ◌⊎◌, ℕ, zero, suc, ◌+◌, ◌-◌, ◌*◌, ◌<◌, ◌≤◌, Bool, true, false, ◌==◌, ◌&&◌, ◌||◌, nat_le, if◌then◌else◌, List, [], ◌∷◌, ◌++◌, length, take, drop, slice_index, slice_set}
 use Rattle.srv6_rules.specs.declared.numbers.TheConstants.{HOP_BY_HOP, ROUTING, FRAGMENT, DESTINATION_OPTIONS, EXTENSION_UNIT, EXTENSION_LEN_AT, NEXT_HEADER_AT}
 use Rattle.srv6_rules.specs.Packet.{Packet, header_len, spelling}
@@ -49,7 +49,7 @@ extension_bytes kind bytes = if kind == fragment then EXTENSION_UNIT else EXTENS
 abbrev pub is_whole : ℕ → List ℕ → Bool
 is_whole kind bytes = nat_le EXTENSION_UNIT (length bytes) && nat_le (extension_bytes kind bytes) (length bytes)
 
--- the header that these bytes begin with, and where the chain goes on behind it: its first byte names what stands there
+-- the header that these bytes begin with, and where the chain goes on after it: its first byte names what stands there
 abbrev pub header_in : ChainPlace → List ℕ → Header
 header_in p bytes = record { place = p; bytes = take (extension_bytes p.kind bytes) bytes }
 
@@ -63,7 +63,7 @@ behind h c = record { headers = h ∷ c.headers; end = c.end }
 abbrev pub ended : ChainPlace → Chain
 ended p = record { headers = []; end = if is_extension p.kind then Cut p else Upper p }
 
--- the chain from a place on, which stands behind so many of these bytes
+-- the chain from a place on, which stands after so many of these bytes
 unfoldable pub chain_from : ℕ → ChainPlace → List ℕ → Chain
 chain_from skip p [] = ended p
 chain_from (suc skip) p (b ∷ bytes) = chain_from skip p bytes
@@ -74,7 +74,7 @@ chain_from zero p (b ∷ bytes) =
     else record { headers = []; end = Cut p })
     else record { headers = []; end = Upper p }
 
--- the first header or upper layer of a packet stands behind its IPv6 header, which names it
+-- the first header or upper layer of a packet stands after its IPv6 header, which names it
 abbrev pub start_of : Packet → ChainPlace
 start_of p = record { at = header_len; kind = p.next_header; named_at = NEXT_HEADER_AT }
 
@@ -99,17 +99,17 @@ abbrev pub place_of : ChainEnd → ChainPlace
 place_of (Upper place) = place
 place_of (Cut place) = place
 
--- where a chain goes on behind a header: at its end, and its first byte names what stands there
+-- where a chain goes on after a header: at its end, and its first byte names what stands there
 abbrev pub place_behind : Header → ChainPlace
 place_behind h = record { at = h.place.at + length h.bytes; kind = slice_index h.bytes 0; named_at = h.place.at }
 
--- headers follow one another from a place up to another: each stands where the chain goes on behind the one before it
+-- headers follow one another from a place up to another: each stands where the chain goes on after the one before it
 abbrev pub Follow : ChainPlace → List Header → ChainPlace → Type 0
 Follow place [] last = place ≡ last
 Follow place (h ∷ hs) last = (h.place ≡ place) × Follow (place_behind h) hs last
 
--- a place of a chain stands behind the IPv6 header, in the packet or at its end, and an earlier byte of the packet names
--- it: the next header of the IPv6 header, or one behind that header
+-- a place of a chain stands after the IPv6 header, in the packet or at its end, and an earlier byte of the packet names
+-- it: the next header of the IPv6 header, or one after that header
 pub record StandsIn (p : Packet) (place : ChainPlace) : Type 0 where
   pub behind_header : header_len ≤ place.at
   pub within : place.at ≤ header_len + length p.payload
@@ -122,7 +122,7 @@ abbrev pub EndsIn : Packet → ChainEnd → Type 0
 EndsIn p (Upper place) = is_extension place.kind ≡ false
 EndsIn p (Cut place) = (is_extension place.kind ≡ true) × (is_whole place.kind (from_place p place.at) ≡ false)
 
--- a header lies whole in a packet, behind the IPv6 header, with the length that it states
+-- a header lies whole in a packet, after the IPv6 header, with the length that it states
 pub record LiesIn (p : Packet) (h : Header) : Type 0 where
   pub extension : is_extension h.place.kind ≡ true
   pub behind_header : header_len ≤ h.place.at
@@ -146,7 +146,7 @@ is_segment_routing h = (h.place.kind == routing) && (routing_type h == segment_r
 abbrev pub cut_out : ℕ → ℕ → List ℕ → List ℕ
 cut_out at n bytes = take at bytes ++ drop (at + n) bytes
 
--- the packet without a header of its chain: the field that named the header names what stood behind it
+-- the packet without a header of its chain: the field that named the header names what stood after it
 abbrev pub without : Packet → Header → Packet
 without p h =
     let next = slice_index h.bytes 0 in let at = h.place.at - header_len in
@@ -162,7 +162,7 @@ abbrev pub lowered_end : ℕ → ℕ → ChainEnd → ChainEnd
 lowered_end n named (Upper place) = Upper (lowered_to n named place)
 lowered_end n named (Cut place) = Cut (lowered_to n named place)
 
--- headers and their end so many bytes lower: the field at a place names the first, and each header what stands behind it
+-- headers and their end so many bytes lower: the field at a place names the first, and each header what stands after it
 abbrev pub lowered : ℕ → ℕ → List Header → ChainEnd → Chain
 lowered n named [] end = record { headers = []; end = lowered_end n named end }
 lowered n named (h ∷ hs) end = behind (record { place = lowered_to n named h.place; bytes = h.bytes }) (lowered n (h.place.at - n) hs end)

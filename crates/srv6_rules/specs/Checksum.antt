@@ -11,7 +11,7 @@ abbrev pub ones_add : ℕ → ℕ → ℕ
 ones_add a b = if nat_lt (a + b) (2 ^ 16) then a + b else a + b - 2 ^ 16 + 1
 
 -- the one's complement sum of bytes as words of 16 bits, the high byte of each first; an odd last byte is filled with a
--- byte of 0 behind it (RFC 1071 section 1)
+-- byte of 0 after it (RFC 1071 section 1)
 unfoldable pub ones_sum : List ℕ → ℕ
 ones_sum [] = 0
 ones_sum (high ∷ []) = high * 2 ^ 8

@@ -83,7 +83,7 @@ index_in c destination = index_of (csid_len_of c) destination
 abbrev pub listed_csid : Compression → Srh → ℕ → ℕ → ℕ
 listed_csid c srh i index = csid_at (csid_len_of c) (entry_of srh i) index
 
--- no segment is left: the entry at 0 is the one that is used, and it has no CSID behind the one that is active
+-- no segment is left: the entry at 0 is the one that is used, and it has no CSID after the one that is active
 abbrev pub is_ended : Compression → Srh → ℕ → ℕ → Bool
 is_ended c srh left destination =
     (left == 0) && ((index_in c destination == 0) || (listed_csid c srh 0 (index_in c destination - 1) == 0))
@@ -99,7 +99,7 @@ has_bad_list c srh destination =
     nat_lt (entries_of srh) (srh.last_entry + 1)
     || nat_lt (if index_in c destination == 0 then srh.last_entry + 1 else srh.last_entry) srh.segments_left
 
--- Segments Left and the destination behind a step, and whether no segment is left then
+-- Segments Left and the destination after a step, and whether no segment is left then
 pub record Move : Type 0 where
   pub segments_left : ℕ
   pub destination : ℕ
@@ -171,6 +171,6 @@ pub record IsEntryOf (c : Compression) (block : PrefixValue) (sids : List Prefix
   pub few : length sids ≤ csid_count (csid_len_of c)
   pub packed : entry ≡ packed_entry (csid_len_of c) (map (csid_of block.len) sids)
 
--- the index behind so many CSIDs of an entry
+-- the index after so many CSIDs of an entry
 abbrev pub index_behind : Compression → ℕ → ℕ
 index_behind c count = csid_count (csid_len_of c) - 1 - count

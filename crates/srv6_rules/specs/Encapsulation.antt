@@ -1,4 +1,4 @@
--- Encapsulation of a packet behind an outer IPv6 header and a segment list: H.Encaps and its reduced form (RFC 8986
+-- Encapsulation of a packet after an outer IPv6 header and a segment list: H.Encaps and its reduced form (RFC 8986
 -- sections 5.1 and 5.2, RFC 8754 sections 2, 4.1 and 4.1.1).
 use Rattle.std.specs.Prelude.{ℕ, ◌+◌, ◌-◌, ◌*◌, ◌^◌, ◌<◌, ◌≤◌, Bool, not, ◌||◌, nat_lt, if◌then◌else◌, List, ◌++◌, length, drop, reverse, slice_index, flat_map, All}
 use Rattle.srv6_rules.specs.declared.numbers.TheConstants.{MAX_SEGMENTS, NEXT_HEADER_AT}
@@ -78,7 +78,7 @@ abbrev pub bare_place : ChainPlace
 bare_place = record { at = header_len; kind = ipv6_inside; named_at = NEXT_HEADER_AT }
 
 -- the packet while the segment at a place counted from 0 is the active one: the destination is that segment, and
--- Segments Left counts the segments behind it
+-- Segments Left counts the segments after it
 abbrev pub at_segment : Encapsulation → List ℕ → ℕ → ℕ → Packet
 at_segment e inner i hop = outer e inner (length e.segments - 1 - i) hop (slice_index e.segments i)
 
@@ -90,7 +90,7 @@ pushed e inner hop = at_segment e inner 0 hop
 abbrev pub header_bytes : Bool → ℕ → ℕ
 header_bytes reduced count = if reduced then (if nat_lt 1 count then 32 + 16 * count else 40) else 48 + 16 * count
 
--- where the inner packet stands: behind the header bytes, and the last of the headers in front of it names it
+-- where the inner packet stands: after the header bytes, and the last of the headers in front of it names it
 abbrev pub inner_place : Encapsulation → ChainPlace
 inner_place e =
     record {

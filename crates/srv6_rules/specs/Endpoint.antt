@@ -25,7 +25,7 @@ pub data Endpoint : Type 0 where
   Delivered : Packet → Endpoint
   Refused : Reason → ℕ → Endpoint
 
--- the headers of a chain one by one: each is given what came of those behind it
+-- the headers of a chain one by one: each is given what came of those after it
 abbrev pub over_headers : (Header → Endpoint → Endpoint) → List Header → Endpoint → Endpoint
 over_headers treat [] end = end
 over_headers treat (h ∷ hs) end = treat h (over_headers treat hs end)
@@ -55,7 +55,7 @@ advanced p at s =
       payload = slice_set p.payload (at + segments_left_at - header_len) (s.segments_left - 1);
     }
 
--- a fault, or else what comes behind
+-- a fault, or else what comes after
 abbrev pub unless_fault : Option Fault → Endpoint → Endpoint
 unless_fault (Some fault) behind = Refused fault.reason fault.at
 unless_fault None behind = behind
@@ -91,7 +91,7 @@ leaves_none s = s.segments_left == 1
 abbrev pub after_step : SidEntry → Header → Endpoint → Endpoint
 after_step s h stepped = if s.psp && leaves_none (srh_of h.bytes) then outcome_without h stepped else stepped
 
--- the outcome behind a segment routing header with no segments left: a SID with USP takes that header out (RFC 8986 section
+-- the outcome after a segment routing header with no segments left: a SID with USP takes that header out (RFC 8986 section
 -- 4.16.2)
 abbrev pub after_last : SidEntry → Header → Endpoint → Endpoint
 after_last s h behind = if s.usp then outcome_without h behind else behind
@@ -134,7 +134,7 @@ unknown_routing h behind = if segments_left h == 0 then behind else Refused reas
 abbrev pub at_hop_by_hop : Header → Endpoint → Endpoint
 at_hop_by_hop h behind = if is_first h.place then behind else Refused reasons.LateHopByHop h.place.named_at
 
--- a header, given what came of those behind it: the options of Destination Options are looked at, a Fragment header is not
+-- a header, given what came of those after it: the options of Destination Options are looked at, a Fragment header is not
 -- processed (own rule), and a word says what is done with a routing header
 abbrev pub at_header_by : (Header → Endpoint → Endpoint) → Header → Endpoint → Endpoint
 at_header_by at_routing h behind =
@@ -150,7 +150,7 @@ at_sid_routing s p h behind =
 
 -- ---- NEXT-CSID (RFC 9800 section 4.1)
 
--- a SID of NEXT-CSID has a SID behind it in the packet's destination
+-- a SID of NEXT-CSID has a SID after it in the packet's destination
 abbrev pub shifts_at : SidEntry → Packet → Bool
 shifts_at s p = shifts (compression_of s) p.destination
 
@@ -198,15 +198,15 @@ at_address_end p (Cut place) = Refused reasons.BadChain place.at
 abbrev pub at_address : Packet → Endpoint
 at_address p = let c = chain_of p in over_headers at_address_header c.headers (at_address_end p c.end)
 
--- a header is passed over: what comes of the packet is what comes of those behind it
+-- a header is passed over: what comes of the packet is what comes of those after it
 abbrev pub IsPassed : (Header → Endpoint → Endpoint) → Header → Type 0
 IsPassed treat h = (behind : Endpoint) → treat h behind ≡ behind
 
--- a header decides: what comes of the packet there does not depend on those behind it
+-- a header decides: what comes of the packet there does not depend on those after it
 abbrev pub Decides : (Header → Endpoint → Endpoint) → Header → Type 0
 Decides treat h = (one two : Endpoint) → treat h one ≡ treat h two
 
--- a header stands in a chain behind headers of a kind
+-- a header stands in a chain after headers of a kind
 pub record IsReached (K : Header → Type 0) (headers : List Header) (h : Header) : Type 0 where
   pub before : List Header
   pub after : List Header
@@ -229,7 +229,7 @@ pub record TakesWhole (s : SidEntry) (p : Packet) : Type 0 where
   pub whole : is_replace s.csid ≡ false
   pub unshifted : shifts_at s p ≡ false
 
--- the packet after the step over a segment routing header behind headers that are passed over at a SID: the hop
+-- the packet after the step over a segment routing header after headers that are passed over at a SID: the hop
 -- limit is one lower, Segments Left is one lower, the destination is that entry, and all else is as it was
 pub record StepsTo (s : SidEntry) (p q : Packet) : Type 0 where
   pub header : Header
@@ -252,7 +252,7 @@ pub record StepsWithPsp (s : SidEntry) (p q : Packet) : Type 0 where
   pub step : StepsTo s p stepped
   pub popped : q ≡ (if s.psp && (step.left == 0) then without stepped (as_in stepped step.header) else stepped)
 
--- a packet that goes on from a SID of REPLACE-CSID without USP: it took the step over a segment routing header behind headers that
+-- a packet that goes on from a SID of REPLACE-CSID without USP: it took the step over a segment routing header after headers that
 -- are passed over, and with PSP, where no segment is left then, that header is taken out
 pub record MovesWithPsp (s : SidEntry) (p q : Packet) : Type 0 where
   pub header : Header
@@ -264,7 +264,7 @@ pub record MovesWithPsp (s : SidEntry) (p q : Packet) : Type 0 where
   pub step : replace_step (compression_of s) p header.place.at (srh_of header.bytes) ≡ Moved stepped ended
   pub popped : q ≡ (if s.psp && ended then without stepped (as_in stepped header) else stepped)
 
--- bytes before and after a step: the hop limit and one byte behind the IPv6 header are one lower, and but for these and
+-- bytes before and after a step: the hop limit and one byte after the IPv6 header are one lower, and but for these and
 -- the destination, the IPv6 header's last bytes, each byte is as it was
 pub record ChangesFewBytes (before after : List ℕ) : Type 0 where
   pub place : ℕ
@@ -276,7 +276,7 @@ pub record ChangesFewBytes (before after : List ℕ) : Type 0 where
   pub same : (k : ℕ) → k ≢ HOP_LIMIT_AT → k ≢ place → (k < DESTINATION_AT) ⊎ (header_len ≤ k)
       → slice_index after k ≡ slice_index before k
 
--- the packet inside that a SID exposes: the upper layer, behind headers that are all passed over or taken out, is one that the SID
+-- the packet inside that a SID exposes: the upper layer, after headers that are all passed over or taken out, is one that the SID
 -- exposes, and the bytes are those of the packet from there on
 pub record ExposesFrom (s : SidEntry) (p : Packet) (family : Family) (bytes : List ℕ) : Type 0 where
   pub place : ChainPlace

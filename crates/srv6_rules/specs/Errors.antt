@@ -61,7 +61,7 @@ IsKind kind = (code_of kind < 2 ^ 8) × (last_word_of kind < 2 ^ 32)
 
 -- ---- where no error is made
 
--- a Fragment header of another fragment than the first: what stands behind it is no header (RFC 8200 section 4.5)
+-- a Fragment header of another fragment than the first: what stands after it is no header (RFC 8200 section 4.5)
 abbrev pub is_later_fragment : Header → Bool
 is_later_fragment h = (h.place.kind == fragment) && nat_lt 0 (two_number (drop FRAGMENT_OFFSET_AT h.bytes) / FRAGMENT_OFFSET_UNIT)
 

@@ -77,7 +77,7 @@ pub record IsSpellable (p : Packet) : Type 0 where
   pub payload_len : length p.payload < 2 ^ 16
   pub payload : All (λ b. b < 2 ^ 8) p.payload
 
--- the bytes spell the packet: nothing stands behind its end
+-- the bytes spell the packet: nothing stands after its end
 abbrev pub Spells : List ℕ → Packet → Type 0
 Spells bytes p = IsSpellable p × (bytes ≡ spelling p)
 
@@ -85,7 +85,7 @@ Spells bytes p = IsSpellable p × (bytes ≡ spelling p)
 unfoldable pub stated_len : List ℕ → ℕ
 stated_len bytes = two_number (drop PAYLOAD_LEN_AT bytes)
 
--- the packet whose header these at least 40 bytes begin with; what stands behind its end is cut
+-- the packet whose header these at least 40 bytes begin with; what stands after its end is cut
 unfoldable pub packet_at : List ℕ → Packet
 packet_at bytes =
     let word = four_number bytes in

@@ -5,7 +5,7 @@ use Rattle.srv6_rules.specs.declared.numbers.TheConstants.{IPV4_VERSION, IPV4_HE
 use Rattle.srv6_rules.specs.declared.sid.Reason.{Reason}
 use Rattle.srv6_rules.specs.declared.sid.Reason.TheVariants.{Truncated, BadVersion}
 
--- a packet: the bytes of its header, options among them, and the bytes behind it
+-- a packet: the bytes of its header, options among them, and the bytes after it
 pub record Packet4 : Type 0 where
   pub header : List ℕ
   pub payload : List ℕ
@@ -23,7 +23,7 @@ total_len header = big_number 2 (drop TOTAL_LEN_AT header)
 abbrev pub ttl : Packet4 → ℕ
 ttl p = slice_index p.header TTL_AT
 
--- the number that names what stands behind the header
+-- the number that names what stands after the header
 abbrev pub protocol : Packet4 → ℕ
 protocol p = slice_index p.header PROTOCOL_AT
 
@@ -55,11 +55,11 @@ pub record IsSpellable4 (p : Packet4) : Type 0 where
   pub header : All (λ b. b < 2 ^ 8) p.header
   pub payload : All (λ b. b < 2 ^ 8) p.payload
 
--- the bytes spell the packet: nothing stands behind its end
+-- the bytes spell the packet: nothing stands after its end
 abbrev pub Spells4 : List ℕ → Packet4 → Type 0
 Spells4 bytes p = IsSpellable4 p × (bytes ≡ spelling4 p)
 
--- the packet whose header these at least 20 bytes begin with; what stands behind its end is cut
+-- the packet whose header these at least 20 bytes begin with; what stands after its end is cut
 unfoldable pub packet4_at : List ℕ → Packet4
 packet4_at bytes =
     let len = stated_header_len bytes in

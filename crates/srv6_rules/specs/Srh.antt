@@ -3,7 +3,7 @@ use Rattle.std.specs.Prelude.{◌≡◌, ℕ, ◌+◌, ◌*◌, ◌/◌, ◌^◌
 use Rattle.srv6_rules.specs.declared.numbers.TheConstants.{SEGMENT_ROUTING, EXTENSION_UNIT, EXTENSION_LEN_AT, ROUTING_TYPE_AT, SEGMENTS_LEFT_AT, LAST_ENTRY_AT, FLAGS_AT, TAG_AT, SEGMENT_LIST_AT, SEGMENT_LEN}
 use Rattle.srv6_rules.specs.Packet.{two_bytes, two_number, address_number}
 
--- extension_len counts the 8-byte units behind the first 8 bytes; they are the body
+-- extension_len counts the 8-byte units after the first 8 bytes; they are the body
 pub record Srh : Type 0 where
   pub next_header : ℕ
   pub extension_len : ℕ

@@ -9,7 +9,7 @@ ghost use Rattle.srv6_rules.specs.Srh.{srh_of, segment_routing};
 ghost use Rattle.srv6_rules.specs.declared.sid.Reason.TheVariants.{BadChain, OptionDiscard, OptionUnknown, HmacTlv, BadTlv};
 
 /// An area of items has the first fault of its items: that of its first item, or else that of the
-/// area behind that item, whose length is its own; an area of no bytes has none (RFC 8200 section
+/// area after that item, whose length is its own; an area of no bytes has none (RFC 8200 section
 /// 4.2, RFC 8754 section 2.1).
 pub fn area_is_judged_item_by_item()
     ensures empty { (judge : ℕ → List ℕ → Option Fault) (at : ℕ)
@@ -53,8 +53,8 @@ pub fn segment_routing_items_are_judged_by_type_and_length()
         → 2 + slice_index item 1 ≤ length item → tlv_fault at item ≡ None }
 {}
 
-/// A fault among items stands in their area: of options in their header, behind its first two
-/// bytes, and of a segment routing header's area in that header, behind the entry at Last Entry
+/// A fault among items stands in their area: of options in their header, after its first two
+/// bytes, and of a segment routing header's area in that header, after the entry at Last Entry
 /// (own rule).
 pub fn fault_of_an_item_has_its_place_in_the_header()
     ensures area { (judge : ℕ → List ℕ → Option Fault)

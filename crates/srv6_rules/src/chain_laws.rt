@@ -16,9 +16,9 @@ pub fn extension_headers_have_their_values()
         → (kind ≡ 0) ⊎ ((kind ≡ 43) ⊎ ((kind ≡ 44) ⊎ (kind ≡ 60))) }
 {}
 
-/// How a chain goes on from each place at or behind the end of the IPv6 header: it ends at an upper
-/// layer or at a header that is cut, and goes on behind a whole header with the value in that
-/// header's first byte. A packet's chain starts behind its IPv6 header, which names what stands
+/// How a chain goes on from each place at or after the end of the IPv6 header: it ends at an upper
+/// layer or at a header that is cut, and goes on after a whole header with the value in that
+/// header's first byte. A packet's chain starts after its IPv6 header, which names what stands
 /// there (RFC 8200 section 4).
 pub fn chain_goes_on()
     ensures start { (p : Packet) → chain_of p ≡ chain_at p (start_of p) }
@@ -43,7 +43,7 @@ pub fn chain_goes_on()
 {}
 
 /// The chain from a place of a packet where a segment routing header was spelled: that header, and
-/// the chain behind it (RFC 8200 section 4, RFC 8754 section 2).
+/// the chain after it (RFC 8200 section 4, RFC 8754 section 2).
 pub fn chain_goes_on_behind_a_spelled_header()
     ensures { (p : Packet) (at named_at : ℕ) (s : Srh) (rest : List ℕ) → header_len ≤ at
         → length s.body ≡ 8 * s.extension_len → from_place p at ≡ srh_spelling s ++ rest
@@ -61,7 +61,7 @@ pub fn chain_goes_on_behind_a_spelled_header()
 
 /// A whole header, of at least 8 bytes, lies in the packet, and so does each header of a chain. A
 /// chain ends at a value that names no extension header, or at an extension header that is not
-/// whole; an upper layer stands in the packet or at its end, at or behind the place where the chain
+/// whole; an upper layer stands in the packet or at its end, at or after the place where the chain
 /// started (RFC 8200 section 4).
 pub fn chain_is_in_the_packet()
     ensures header { (p : Packet) (place : ChainPlace) → header_len ≤ place.at
@@ -120,10 +120,10 @@ pub fn header_has_bytes_of_the_packet()
 {}
 
 /// A packet without a header: but for the next header of the IPv6 header, where that named it, and
-/// the payload nothing changes. The payload is shorter by the header; the bytes behind the header
+/// the payload nothing changes. The payload is shorter by the header; the bytes after the header
 /// stand so many places lower, those in front of the field that named it are as they were, and
 /// bytes can spell what is left. The chain is the chain without that header: the field that named
-/// the header names what stood behind it, and each later place is lower by the header's length (RFC
+/// the header names what stood after it, and each later place is lower by the header's length (RFC
 /// 8200 section 4, RFC 8986 section 4.16.1).
 pub fn header_taken_out_leaves_the_chain()
     ensures others { (p : Packet) (h : Header)

@@ -37,7 +37,7 @@ pub fn container_is_in_its_first_sid()
 {}
 
 /// An entry that holds CSIDs has the first at the greatest index and each further one at the index
-/// below, and 0 at the indexes behind the last. Where no CSID is 0, it is 0 exactly there (RFC 9800
+/// below, and 0 at the indexes after the last. Where no CSID is 0, it is 0 exactly there (RFC 9800
 /// section 4.2).
 pub fn entry_holds_its_csids()
     ensures csid { (csid_len : ℕ) (csids : List ℕ) (i : ℕ) → IsCsidLen csid_len

@@ -6,7 +6,7 @@ ghost use Rattle.srv6_rules.specs.CompressedSteps.{csid_len_of};
 
 use crate::sid::Csid;
 
-/// How a SID is compressed: the front that it shares with the other SIDs of its block, and behind
+/// How a SID is compressed: the front that it shares with the other SIDs of its block, and after
 /// it, up to the SID's end, its CSID (RFC 9800 section 3). Lengths are in bits.
 #[derive(Clone, Copy, Debug, PartialEq, Eq)]
 pub struct Compression {

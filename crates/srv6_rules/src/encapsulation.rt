@@ -13,7 +13,7 @@ ghost use Rattle.srv6_rules.specs.declared.sid.Reason.TheVariants.{HopLimit, Bad
 ghost use Rattle.srv6_rules.specs.declared.sid.SidEntry.{SidEntry};
 
 /// A packet as it is made has its first segment active, which is its destination, and as many
-/// Segments Left as there are segments behind the first (RFC 8754 section 4.1).
+/// Segments Left as there are segments after the first (RFC 8754 section 4.1).
 pub fn pushed_packet_has_its_first_segment_active()
     ensures active { (e : Encapsulation) (inner : List ℕ) (hop : ℕ)
         → pushed e inner hop ≡ at_segment e inner 0 hop }
@@ -23,7 +23,7 @@ pub fn pushed_packet_has_its_first_segment_active()
 
 /// The outer packet has a segment routing header in front of the inner packet's bytes, or these
 /// alone where the form has none. The header begins with the bytes Next Header 41, length in 8-byte
-/// units behind the first 8 bytes, Routing Type 4, Segments Left, Last Entry, no flags and two
+/// units after the first 8 bytes, Routing Type 4, Segments Left, Last Entry, no flags and two
 /// bytes of no tag (RFC 8754 sections 2 and 4.1, RFC 8986 section 5.2).
 pub fn outer_packet_has_its_parts()
     ensures with_header { (e : Encapsulation) (inner : List ℕ) (left hop destination : ℕ)
@@ -58,7 +58,7 @@ pub fn segment_list_begins_with_the_last()
 {}
 
 /// The chain of an outer packet is its one segment routing header, none where the form has none,
-/// and the packet inside as the upper layer, behind the header bytes (RFC 8200 section 4, RFC 8754
+/// and the packet inside as the upper layer, after the header bytes (RFC 8200 section 4, RFC 8754
 /// section 2).
 pub fn outer_packet_has_its_chain()
     ensures chain { (e : Encapsulation) (inner : List ℕ) (left hop destination : ℕ)
@@ -164,7 +164,7 @@ pub fn outer_packet_can_be_spelled()
 {}
 
 /// Before a packet is encapsulated its hop limit, byte 7, is lowered by one and no other byte
-/// changes; behind the header bytes the lowered packet is what a SID that exposes IPv6 packets, as
+/// changes; after the header bytes the lowered packet is what a SID that exposes IPv6 packets, as
 /// End.DT6, exposes at the last segment (RFC 8986 sections 4.6 and 5.1).
 pub fn encapsulation_lowers_and_keeps_the_packet()
     ensures lowered { (p : Packet)

@@ -12,8 +12,8 @@ ghost use Rattle.srv6_rules.specs.declared.sid.Csid.TheVariants.{Plain};
 ghost use Rattle.srv6_rules.specs.declared.sid.Reason.TheVariants.{LateHopByHop, Fragment, BadSegments, UnknownRouting};
 ghost use Rattle.srv6_rules.specs.declared.sid.SidEntry.{SidEntry};
 
-/// Headers that are passed over change nothing: behind them the outcome is that of the headers
-/// behind them, and where all are passed over it is that of the chain's end (RFC 8200 section 4).
+/// Headers that are passed over change nothing: after them the outcome is that of the headers
+/// after them, and where all are passed over it is that of the chain's end (RFC 8200 section 4).
 pub fn headers_that_are_passed_over_change_nothing()
     ensures before { (treat : Header → Endpoint → Endpoint) (before after : List Header)
         (end : Endpoint) → All (IsPassed treat) before
@@ -22,7 +22,7 @@ pub fn headers_that_are_passed_over_change_nothing()
         → All (IsPassed treat) headers → over_headers treat headers end ≡ end }
 {}
 
-/// At a SID and at an address each header is passed over, or decides: then what stands behind it
+/// At a SID and at an address each header is passed over, or decides: then what stands after it
 /// makes no difference; at a SID with USP one may be taken out besides. So the first header that is
 /// neither passed over nor taken out decides the outcome, and where there is none the chain's end
 /// does (RFC 8200 section 4, RFC 8754 section 4.3.1.1, RFC 8986 section 4.16.2).
@@ -122,7 +122,7 @@ pub fn sid_shifts_at_the_first_header_without_options()
 {}
 
 /// A packet that goes on from a SID of REPLACE-CSID without USP has taken the step over a segment
-/// routing header behind headers that are passed over, and with PSP that header is taken out
+/// routing header after headers that are passed over, and with PSP that header is taken out
 /// exactly where no segment is left then (RFC 9800 section 4.2, RFC 8986 section 4.16.1).
 pub fn packed_segments_are_moved_on_in()
     ensures { (s : SidEntry) (allow : List ℕ) (p q : Packet) → is_replace s.csid ≡ true
@@ -146,7 +146,7 @@ pub fn header_that_is_reached_is_in_the_packet()
 {}
 
 /// How the outcome goes on from each place of a packet: at an upper layer, and at a header that is
-/// cut, it is that of the chain's end; at a whole header it is made of what came of those behind it
+/// cut, it is that of the chain's end; at a whole header it is made of what came of those after it
 /// (RFC 8200 section 4).
 pub fn outcome_goes_on()
     ensures { (treat : Header → Endpoint → Endpoint) (end : ChainEnd → Endpoint) (p : Packet)

@@ -6,7 +6,7 @@ ghost use Rattle.srv6_rules.specs.Packet4.{Packet4, IsSpellable4, Spells4, spell
 ghost use Rattle.srv6_rules.specs.declared.numbers.TheConstants.{IPV4_VERSION, IPV4_HEADER_LEN};
 ghost use Rattle.srv6_rules.specs.declared.sid.Reason.TheVariants.{Truncated, BadVersion};
 
-/// Reading a packet's spelling gives the packet back, whatever stands behind it (RFC 791 section
+/// Reading a packet's spelling gives the packet back, whatever stands after it (RFC 791 section
 /// 3.1).
 pub fn reading_gives_the_ipv4_packet_back()
     ensures front { (p : Packet4) (rest : List ℕ) → IsSpellable4 p

@@ -2,7 +2,7 @@
 //!
 //! `specs/` has the IPv6 packet and the segment routing header as values with their one spelling
 //! each, how bytes are read, how the chain of extension headers is taken apart, what an endpoint
-//! does with a packet that came to one of its SIDs, how a packet is encapsulated behind a segment
+//! does with a packet that came to one of its SIDs, how a packet is encapsulated after a segment
 //! list, and which ICMPv6 error is made about a packet that is dropped. The code here has the types
 //! that these definitions speak of, and the laws about the definitions.
 #![tactic(auto)]

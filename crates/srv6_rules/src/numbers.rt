@@ -49,7 +49,7 @@ pub const DESTINATION_OPTIONS: u8 = 60;
 /// 8200 section 4).
 pub const EXTENSION_UNIT: usize = 8;
 
-/// The place of the length of an extension header, in 8-byte units behind the first 8 bytes: 1 (RFC
+/// The place of the length of an extension header, in 8-byte units after the first 8 bytes: 1 (RFC
 /// 8200 section 4).
 pub const EXTENSION_LEN_AT: usize = 1;
 

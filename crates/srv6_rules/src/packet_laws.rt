@@ -14,7 +14,7 @@ pub fn numbers_have_bytes()
         × All (λ b. b < 2 ^ 8) (address_bytes a) }
 {}
 
-/// The bytes of a number that fits them read as the number, whatever stands behind them (RFC 791
+/// The bytes of a number that fits them read as the number, whatever stands after them (RFC 791
 /// appendix B).
 pub fn bytes_read_as_the_number()
     ensures two { (n : ℕ) (rest : List ℕ) → n < 2 ^ 16 → two_number (two_bytes n ++ rest) ≡ n }
@@ -23,7 +23,7 @@ pub fn bytes_read_as_the_number()
         → address_number (address_bytes a ++ rest) ≡ a }
 {}
 
-/// What stands behind the first 2, 4 or 16 bytes makes no difference to the number in them (RFC 791
+/// What stands after the first 2, 4 or 16 bytes makes no difference to the number in them (RFC 791
 /// appendix B).
 pub fn number_is_in_the_first_bytes()
     ensures two { (xs ys : List ℕ) → 2 ≤ length xs → two_number (xs ++ ys) ≡ two_number xs }
@@ -42,7 +42,7 @@ pub fn number_read_has_the_bytes()
         → address_bytes (address_number bytes) ≡ take 16 bytes }
 {}
 
-/// Reading a packet's spelling gives the packet back, whatever stands behind it
+/// Reading a packet's spelling gives the packet back, whatever stands after it
 /// (RFC 8200 section 3).
 pub fn reading_gives_the_value_back()
     ensures front { (p : Packet) (rest : List ℕ) → IsSpellable p
@@ -89,7 +89,7 @@ pub fn field_changes_its_bytes()
         ≡ slice_set (spelling p) (40 + k) v }
 {}
 
-/// Bytes that read as a packet begin with its spelling; with nothing behind the packet's end they
+/// Bytes that read as a packet begin with its spelling; with nothing after the packet's end they
 /// are its spelling (RFC 8200 section 3).
 pub fn what_reads_was_spelled()
     ensures whole_bytes { (bytes : List ℕ) → All (λ b. b < 2 ^ 8) bytes
@@ -111,7 +111,7 @@ pub fn what_enters_is_a_content()
         → read_as family (bytes_of (entered family bytes)) ≡ entered family bytes }
 {}
 
-/// Reading a segment routing header's spelling gives the header back, whatever stands behind it
+/// Reading a segment routing header's spelling gives the header back, whatever stands after it
 /// (RFC 8754 section 2).
 pub fn srh_reading_gives_the_value_back()
     ensures { (s : Srh) (rest : List ℕ) → IsSrhSpellable s → srh_of (srh_spelling s ++ rest) ≡ s }

@@ -33,7 +33,7 @@ pub fn last_header_names_the_inner_family()
         × ((pushed_round e inner bytes hop).payload ≡ bytes) }
 {}
 
-/// The inner packet's bytes stand unchanged behind the header bytes of the form (RFC 8986 sections
+/// The inner packet's bytes stand unchanged after the header bytes of the form (RFC 8986 sections
 /// 5.1 and 5.2).
 pub fn inner_packet_stands_behind_the_headers()
     ensures length { (policy : Policy) (reduced : Bool) (inner : Family) (bytes : List ℕ)
@@ -53,7 +53,7 @@ pub fn outer_packet_of_either_family_can_be_spelled()
         → IsSpellable (pushed_round e inner bytes hop) }
 {}
 
-/// A packet is too big exactly where its payload, the headers behind the first 40 bytes among it,
+/// A packet is too big exactly where its payload, the headers after the first 40 bytes among it,
 /// passes 65,535 bytes, and that length is told (RFC 8200 section 3).
 pub fn too_big_is_a_payload_above_65535()
     ensures too_big { (policy : Policy) (reduced : Bool) (inner : Family) (bytes : List ℕ) (n : ℕ)

@@ -27,9 +27,9 @@ pub enum Family {
 pub enum Csid {
     /// Not at all: the SID is a whole segment.
     Plain,
-    /// NEXT-CSID: the segments behind it stand in the argument of its address.
+    /// NEXT-CSID: the segments after it stand in the argument of its address.
     Next,
-    /// REPLACE-CSID: the segments behind it stand packed in an entry of the segment list.
+    /// REPLACE-CSID: the segments after it stand packed in an entry of the segment list.
     Replace,
 }
 

@@ -29,7 +29,7 @@ sent_next n count bytes old mid new first next =
     sent_both (take n bytes) (take count (drop n bytes)) old mid new first next
     ∙ ap (λ (all : List ℕ). sent all old) (sym (take-add n count bytes))
 
--- a write took some bytes behind the first n
+-- a write took some bytes after the first n
 pub pour_next : (n count : ℕ) (bytes : List ℕ) (old mid new : SinkSeen) → mid ≡ sent (take n bytes) old
     → new ≡ (if is_stuck (drop n bytes) count then failed mid else sent (take count (drop n bytes)) mid) → 0 < count
     → new ≡ sent (take (n + count) bytes) old

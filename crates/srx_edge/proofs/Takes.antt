@@ -40,7 +40,7 @@ passed-same left old mid faults ends =
     ap (λ (n : ℕ). record { left = left; faults = n; ends = mid.ends; stopped = false }) faults
     ∙ ap (λ (n : ℕ). record { left = left; faults = old.faults; ends = n; stopped = false }) ends
 
--- behind the bytes so far a read took more: what is taken now
+-- after the bytes so far a read took more: what is taken now
 read_more : (into filled bytes : List ℕ) (count : ℕ) (old mid new : SourceSeen) → old.left ≡ prepend_to bytes mid.left
     → Gives into filled count mid new
     → old.left ≡ prepend_to (bytes ++ take count filled) new.left

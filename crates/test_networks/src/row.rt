@@ -1,5 +1,5 @@
 /// Four nodes in a row, two links between the second and the third, and the routes to the locators
-/// of the second and the last; the last has a table of its own behind a link that leaves the
+/// of the second and the last; the last has a table of its own after a link that leaves the
 /// network. SIDs may stand after it. (own rule)
 pub const ROW: &str = r#"
 node = [

@@ -1,4 +1,4 @@
-//! Intents in a network of four nodes: their values, and each fault with a later one behind it.
+//! Intents in a network of four nodes: their values, and each fault with a later one after it.
 
 use crate::net_model_tests::at;
 use intent_reader::{Intent, IntentFault, Step, StepFault, is_intent, read_intent};

@@ -1,4 +1,4 @@
-//! A description with each part, and each fault with a later one behind it.
+//! A description with each part, and each fault with a later one after it.
 
 use net_model::Net;
 use net_reader::read_net;

@@ -23,7 +23,7 @@ use Rattle.command_output.specs.Lines.{line}
 use Rattle.run_commands.proofs.PublicLaws.{step_by, walk_begins, walk_goes_on, walk_ends}
 use Rattle.command_output.proofs.PublicLaws.{poured_cut, wrote_longer, wrote_after, wanted_after}
 
--- bytes that a step writes behind others, however it ended
+-- bytes that a step writes after others, however it ended
 pub wrote_then : (ending : Ending) (bytes more : List ℕ) (old mid new : SinkSeen) → mid ≡ sent bytes old → Wrote ending more mid new
     → Wrote ending (bytes ++ more) old new
 wrote_then Whole bytes more old mid new first h = sent_both bytes more old mid new first h
@@ -162,7 +162,7 @@ pub unended_cut : (failure : Failure) (net : Network) (packets : List Traced) (f
 unended_cut failure net packets None old new h = wrote_longer failure (unended_text net packets) trace_end_bytes old new h
 unended_cut failure net packets (Some refusal) old new h = h
 
--- it was written whole, where something that is refused follows, and else the end behind it
+-- it was written whole, where something that is refused follows, and else the end after it
 
 pub unended_sent : (net : Network) (packets : List Traced) (fault : Option Refusal) (refusal : Refusal) (old new : SinkSeen)
     → fault ≡ Some refusal

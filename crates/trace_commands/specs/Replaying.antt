@@ -56,7 +56,7 @@ WholeTracesAreRight = (text name choices input : List ℕ) → All (λ byte. byt
     → (judged : Judged text name input)
     × ReplaysTo text (trace_for_out text name choices input) (right_with (counts_written judged.net (traced_under choices judged)))
 
--- what it writes where something behind the packets is refused is refused at the line behind its last one, if it too is within the limit
+-- what it writes where something after the packets is refused is refused at the line after its last one, if it too is within the limit
 -- of a file
 abbrev pub UnendedTracesAreRefused : Type 0
 UnendedTracesAreRefused = (text name choices input : List ℕ) → All (λ byte. byte < 2 ^ 8) input

@@ -46,7 +46,7 @@ traced_of_frame node choices frame = traced_by node choices frame.number frame.b
 abbrev pub traced_of : ℕ → List ℕ → List Frame → List Traced
 traced_of node choices frames = flat_map (traced_of_frame node choices) frames
 
--- the text of packets: a trace, which has no end where something that is refused is behind their frames
+-- the text of packets: a trace, which has no end where something that is refused is after their frames
 
 abbrev pub text_by : Network → List Traced → Option Refusal → List ℕ
 text_by net packets None = trace_text net packets

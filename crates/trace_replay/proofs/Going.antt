@@ -1,4 +1,4 @@
--- Where a packet stands behind the line of a stage.
+-- Where a packet stands after the line of a stage.
 use Rattle.std.proofs.Common.{◌≡◌, ℕ, zero, suc, List, Option, Some, None, Ok, refl, sym, ap, ◌∙◌, subst}
 use Rattle.srv6_rules.specs.Packet.{Content}
 use Rattle.net_model.specs.Network.{Network}

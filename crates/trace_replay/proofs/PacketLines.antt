@@ -1,4 +1,4 @@
--- The lines of a packet that entered: its first line is read as the packet, and those of its walk stand behind it.
+-- The lines of a packet that entered: its first line is read as the packet, and those of its walk stand after it.
 use Rattle.std.proofs.Common.{◌≡◌, ℕ, zero, suc, ◌+◌, ◌-◌, ◌^◌, ◌<◌, ◌≤◌, true, false, List, [], ◌∷◌, All, length, drop, take, Option, Some, None, slice_get, refl, sym, ap, ◌∙◌, subst, arith, length-append}
 use Rattle.std.specs.Prelude.{bytes_eq, codes}
 use Rattle.std.specs.Fmt.{decimal}
@@ -35,7 +35,7 @@ use Rattle.trace_replay.proofs.WordTexts.{decimal-number, decimal-word, family-b
 
 -- ---- the lines of a walk
 
--- a line of one that stands behind a packet's first line
+-- a line of one that stands after a packet's first line
 pub record IsInner (net : Network) (line : List ℕ) : Type 0 where
   pub text : IsTextLine line
   pub phase : behind_packet (line_read net line) ≡ Some phases.Packets

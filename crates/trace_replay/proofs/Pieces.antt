@@ -1,4 +1,4 @@
--- A text parted at its line feeds: its lines, and what stands behind them.
+-- A text parted at its line feeds: its lines, and what stands after them.
 use Rattle.std.proofs.Common.{◌≡◌, ℕ, ◌+◌, ◌≤◌, Bool, true, false, List, [], ◌∷◌, ◌++◌, length, Bor, Option, Some, None, refl, sym, ap, ◌∙◌, arith}
 use Rattle.std.specs.Prelude.{if◌then◌else◌, ◌&&◌, ◌==◌}
 use Rattle.std.proofs.lemmas.List.{length-append, length-map}
@@ -25,7 +25,7 @@ texts-append : (lines : List (Bor (List ℕ))) (rest : Bor (List ℕ)) → texts
 texts-append [] rest = refl
 texts-append (line ∷ more) rest = ap (λ (xs : List (List ℕ)). line.now ∷ xs) (texts-append more rest)
 
--- lines that are good are so too where nothing stands behind them
+-- lines that are good are so too where nothing stands after them
 
 end-good : (over : Bool) (n len : ℕ) → (if over && (len == 0) then None else Some n) ≡ None
     → (if over && (0 == 0) then None else Some n) ≡ None

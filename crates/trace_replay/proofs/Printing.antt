@@ -1,4 +1,4 @@
--- The lines of a walk are right, and behind them the packet has ended.
+-- The lines of a walk are right, and after them the packet has ended.
 use Rattle.std.proofs.Common.{◌≡◌, ℕ, zero, suc, ◌+◌, Bool, true, List, [], ◌∷◌, ◌++◌, length, Option, Some, None, Result, Ok, Err, refl, ap, ◌∙◌, arith}
 use Rattle.std.specs.Prelude.{bytes_eq, if◌then◌else◌}
 use Rattle.std.proofs.lemmas.Slice.Eq.{bytes_eq-Decides}
@@ -17,7 +17,7 @@ use Rattle.trace_replay.specs.Lines.{stages_text}
 use Rattle.trace_replay.specs.Replays.{Wrong, going, line_judged, wrong_by, wrong_from}
 use Rattle.trace_replay.proofs.Printed.{line-leads}
 
--- behind a packet that used all its stages the line that says so is right
+-- after a packet that used all its stages the line that says so is right
 stopped-ends : (net : Network) → state_behind net states.Stopped (stages_text ∷ []) ≡ Some states.Ended
 stopped-ends net =
     let same : bytes_eq stages_text stages_text ≡ true = (bytes_eq-Decides stages_text stages_text).1 refl in
@@ -75,7 +75,7 @@ walk-replays net (suc left) place content pick taken keeps is =
     (λ p e. walk-replays net left p gave.after pick (taken + decisions gave.outcome) keeps
     (step-place net place content (pick taken) p keeps is e)))
 
--- the first wrong line stands behind lines that are right
+-- the first wrong line stands after lines that are right
 
 passed-by : (net : Network) (next : State) (n k : ℕ) (one : State → Option State) (other : State → Option Wrong) (last : Option Wrong)
     → (r : Result State (List ℕ)) → ((s : State) → one s ≡ Some next → other s ≡ last)

@@ -1,4 +1,4 @@
--- A trace that has no end is refused at the line behind its last.
+-- A trace that has no end is refused at the line after its last.
 use Rattle.std.proofs.Common.{◌≡◌, ℕ, ◌+◌, List, [], ◌∷◌, ◌++◌, All, length, Option, Some, None, Bool, true, refl, sym, ap, ◌∙◌, arith, append_assoc, length-append}
 use Rattle.std.specs.Prelude.{bytes_eq, if◌then◌else◌}
 use Rattle.std.proofs.lemmas.List.Elements.{All-cons, All-head, All-tail}
@@ -22,7 +22,7 @@ unended-fed net packets =
     ∙ append_assoc head_text (10 ∷ []) (fed (packets_lines net packets))
 
 module _ (net : Network) (keeps : Keeps net) where
-  -- behind lines of packets others are judged
+  -- after lines of packets others are judged
   inner-passed : (n : ℕ) (ls more : List (List ℕ)) → All (IsInner net) ls
       → bad_from net phases.Packets n [] (ls ++ more) ≡ bad_from net phases.Packets (n + length ls) [] more
   inner-passed n [] more h = let same : n ≡ n + 0 = omega arith in ap (λ k. bad_from net phases.Packets k [] more) same

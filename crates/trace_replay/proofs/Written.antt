@@ -83,14 +83,14 @@ module _ (net : Network) (keeps : Keeps net) where
       ap (bad_by n (λ phase. bad_from net phase (n + 1) [] (ls ++ more))) (All-head (IsInner net) l ls h).phase
       ∙ inner-good (n + 1) ls more (All-tail (IsInner net) l ls h) on
 
-  -- an end may stand behind the head and behind packets
+  -- an end may stand after the head and after packets
   end-good : (n : ℕ) → bad_by n (λ phase. bad_from net phase (n + 1) [] []) (behind_packet (line_read net end_text)) ≡ None
   end-good n = ap (λ (o : Option Line). bad_by n (λ phase. bad_from net phase (n + 1) [] []) (behind_packet o)) (end-line net).read
 
   end-good-alone : (n : ℕ) → bad_by n (λ phase. bad_from net phase (n + 1) [] []) (behind_head (line_read net end_text)) ≡ None
   end-good-alone n = ap (λ (o : Option Line). bad_by n (λ phase. bad_from net phase (n + 1) [] []) (behind_head o)) (end-line net).read
 
-  -- behind a packet's first line
+  -- after a packet's first line
   behind-first : (n : ℕ) (p : Traced) (more : List (List ℕ)) → IsTraced net p → ((k : ℕ) → bad_from net phases.Packets k [] more ≡ None)
       → bad_from net phases.Packets n [] (walk_lines net (Some (entry_place p)) (traced_walk net p) ++ more) ≡ None
   behind-first n p more is on =

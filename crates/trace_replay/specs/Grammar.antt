@@ -101,7 +101,7 @@ is_stage (verb ∷ sid ∷ way ∷ table ∷ family ∷ hex ∷ []) =
     && (is_prefix sid && (bytes_eq way (codes "table") && (is_number LAST_TABLE table && (is_some (family_read family) && is_hex hex))))
 is_stage (verb ∷ sid ∷ way ∷ table ∷ family ∷ hex ∷ more ∷ rest) = false
 
--- a packet as it enters: not longer than a packet can be and, where it reads, with nothing behind its end
+-- a packet as it enters: not longer than a packet can be and, where it reads, with nothing after its end
 abbrev pub is_entering : Family → List ℕ → Bool
 is_entering family packet = nat_le (length packet) most_len && (length (bytes_of (read_as family packet)) == length packet)
 

@@ -25,7 +25,7 @@ pub record IsChoiceLine (net : Network) (place : Place) (content : Content) (lin
   pub choice : ℕ
   pub is_line : line ≡ stage_text net (step_of net place content choice)
 
--- what there is of a packet behind lines, where none of them is wrong
+-- what there is of a packet after lines, where none of them is wrong
 
 abbrev pub state_by : (State → Option State) → Result State (List ℕ) → Option State
 state_by rest (Ok state) = rest state
@@ -35,7 +35,7 @@ abbrev pub state_behind : Network → State → List (List ℕ) → Option State
 state_behind net state [] = Some state
 state_behind net state (line ∷ more) = state_by (λ next. state_behind net next more) (line_judged net state line)
 
--- the lines of a walk's stages, and `stages` where the packet could go on behind the last
+-- the lines of a walk's stages, and `stages` where the packet could go on after the last
 
 abbrev pub stages_lines : Option Place → List (List ℕ)
 stages_lines None = []

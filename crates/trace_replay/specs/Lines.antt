@@ -43,7 +43,7 @@ unfoldable pub packet_text : ℕ → Family → List ℕ → List ℕ → List �
 packet_text number family node hex =
     codes "packet " ++ (decimal number ++ 32 ∷ (decimal (family_number family) ++ 32 ∷ (node ++ 32 ∷ hex)))
 
--- the line behind those of a packet that used all its stages
+-- the line after those of a packet that used all its stages
 unfoldable pub stages_text : List ℕ
 stages_text = codes "stages"
 

@@ -28,14 +28,14 @@ last_of [] = []
 last_of (piece ∷ []) = piece
 last_of (piece ∷ next ∷ more) = last_of (next ∷ more)
 
--- a text's lines, each of which a line feed ends, and what stands behind the last line feed
+-- a text's lines, each of which a line feed ends, and what stands after the last line feed
 abbrev pub lines_of : List ℕ → List (List ℕ)
 lines_of text = but_last (pieces_of text)
 
 abbrev pub rest_of : List ℕ → List ℕ
 rest_of text = last_of (pieces_of text)
 
--- how far a trace has come behind a line, if the line may stand there
+-- how far a trace has come after a line, if the line may stand there
 
 abbrev pub behind_head : Option Line → Option Phase
 behind_head None = None
@@ -51,7 +51,7 @@ behind_packet (Some lines.Stage) = Some phases.Packets
 behind_packet (Some lines.Stages) = Some phases.Packets
 behind_packet (Some lines.End) = Some phases.Over
 
--- the head is the first line, stages stand behind a packet's first line, and nothing stands behind the end
+-- the head is the first line, stages stand after a packet's first line, and nothing stands after the end
 abbrev pub phase_behind : Network → Phase → List ℕ → Option Phase
 phase_behind net phases.Begins line = if bytes_eq line head_text then Some phases.Empty else None
 phase_behind net phases.Empty line = behind_head (line_read net line)
@@ -68,7 +68,7 @@ abbrev pub bad_by : ℕ → (Phase → Option ℕ) → Option Phase → Option �
 bad_by n rest None = Some n
 bad_by n rest (Some phase) = rest phase
 
--- the first of lines from a number on that is bad; where none is, what stands behind them has to be nothing and behind the end
+-- the first of lines from a number on that is bad; where none is, what stands after them has to be nothing and after the end
 abbrev pub bad_from : Network → Phase → ℕ → List ℕ → List (List ℕ) → Option ℕ
 bad_from net phase n rest [] = if is_over phase && (length rest == 0) then None else Some n
 bad_from net phase n rest (line ∷ more) = bad_by n (λ p. bad_from net p (n + 1) rest more) (phase_behind net phase line)

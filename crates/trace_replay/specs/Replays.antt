@@ -43,12 +43,12 @@ abbrev pub by_choice : Network → Place → Content → ℕ → Option ℕ → 
 by_choice net place content left None = Err (stage_text net (step_of net place content 0))
 by_choice net place content left (Some choice) = Ok (after_stage net place left (step_of net place content choice))
 
--- what comes of a line: what there is of a packet behind it or, where the line is wrong, what should stand there
+-- what comes of a line: what there is of a packet after it or, where the line is wrong, what should stand there
 
 unfoldable pub ended_text : List ℕ
 ended_text = codes "ended"
 
--- behind a packet's end another packet may begin, or the trace ends
+-- after a packet's end another packet may begin, or the trace ends
 abbrev pub by_line : Option Line → Result State (List ℕ)
 by_line None = Err ended_text
 by_line (Some (lines.Packet family node packet)) =

@@ -56,7 +56,7 @@ fed (line ∷ more) = line ++ 10 ∷ fed more
 abbrev pub walk_trace : ℕ → Network → Option Place → Content → (ℕ → ℕ) → ℕ → List ℕ
 walk_trace left net place content pick taken = fed (walk_lines net place (walk_of left net place content pick taken))
 
--- the bytes of a trace's head, of a packet, of packets one behind the other, and of the end
+-- the bytes of a trace's head, of a packet, of packets one after the other, and of the end
 
 abbrev pub trace_head_bytes : List ℕ
 trace_head_bytes = fed (head_text ∷ [])

@@ -32,7 +32,7 @@ pub fn a_line_is_right_where_an_outcome_has_it()
 {}
 
 /// The lines of a walk that may have some stages are right for a packet that may have as many,
-/// whichever choices the walk took, and behind them the packet has ended; so it is with the 10,000
+/// whichever choices the walk took, and after them the packet has ended; so it is with the 10,000
 /// stages that a packet may have. (own rule)
 pub fn printed_traces_replay()
     ensures { (net : Network) (place : Place) (content : Content) →
@@ -42,7 +42,7 @@ pub fn printed_traces_replay()
         ≡ Some states.Ended }
 {}
 
-/// Where none of some lines is wrong, the first wrong line is that of the lines behind them. (own
+/// Where none of some lines is wrong, the first wrong line is that of the lines after them. (own
 /// rule)
 pub fn right_lines_are_passed()
     ensures { (net : Network) (state next : State) (n : ℕ) (lines more : List (List ℕ)) →
@@ -67,7 +67,7 @@ pub fn what_is_written_is_accepted()
         Replays net (trace_lines net packets) (Ok (counts_written net packets)) }
 {}
 
-/// A trace that has no end is refused at the line behind its last. (own rule)
+/// A trace that has no end is refused at the line after its last. (own rule)
 pub fn what_is_not_finished_is_refused()
     ensures { (net : Network) (packets : List Traced) → Keeps net → All (IsTraced net) packets →
         bad_line net (unended_text net packets) ≡ Some (length (packets_lines net packets) + 2) }

@@ -37,7 +37,7 @@ pub(crate) enum Line {
 }
 
 /// A packet's first line, where the packet is not longer than one can be and, where it reads as
-/// one, has nothing behind its end.
+/// one, has nothing after its end.
 fn entering(
     alloc: Global,
     net: &Net,

@@ -253,7 +253,7 @@ fn text_of_stages(alloc: Global) -> Result<String, AllocError>
     format!(in alloc; "stages")
 }
 
-/// Appends the line behind those of a packet that used all its stages. With `NoMemory` nothing is
+/// Appends the line after those of a packet that used all its stages. With `NoMemory` nothing is
 /// appended. (own rule)
 pub fn print_stages(alloc: Global, out: &mut Vec<u8>) -> Result<(), NoMemory>
     ensures ok { OnOk result (out.new.items ≡ out.old.items ++ (stages_text ++ 10 ∷ [])) }

@@ -77,7 +77,7 @@ impl Trace {
     }
 }
 
-/// How far a trace has come behind a line that stands behind its first, where no packet has begun.
+/// How far a trace has come after a line that stands after its first, where no packet has begun.
 fn behind_head(line: &Option<Line>) -> Option<Phase>
     ensures { result ≡ behind_head line.now }
 {
@@ -88,7 +88,7 @@ fn behind_head(line: &Option<Line>) -> Option<Phase>
     }
 }
 
-/// How far a trace has come behind a line, where a packet has begun.
+/// How far a trace has come after a line, where a packet has begun.
 fn behind_packet(line: &Option<Line>) -> Option<Phase>
     ensures { result ≡ behind_packet line.now }
 {
@@ -99,7 +99,7 @@ fn behind_packet(line: &Option<Line>) -> Option<Phase>
     }
 }
 
-/// How far a trace has come behind its first line, if this is it.
+/// How far a trace has come after its first line, if this is it.
 #[tactic(auto, unfolding(crate::specs::Lines::head_text))]
 fn behind_first(net: &Net, line: &[u8]) -> Option<Phase>
     ensures { result ≡ phase_behind net.now Phase.Begins line.now }
@@ -111,7 +111,7 @@ fn behind_first(net: &Net, line: &[u8]) -> Option<Phase>
     None
 }
 
-/// How far a trace has come behind a line, if the line may stand there.
+/// How far a trace has come after a line, if the line may stand there.
 fn phase_behind(
     alloc: Global,
     net: &Net,
@@ -138,7 +138,7 @@ fn is_over(phase: Phase) -> bool
     }
 }
 
-/// The number of the first bad line, with what stands behind the lines.
+/// The number of the first bad line, with what stands after the lines.
 fn first_bad(
     alloc: Global,
     net: &Net,
@@ -183,9 +183,9 @@ fn copies_of(alloc: Global, lines: &[&[u8]]) -> Result<Vec<Seq<u8>>, AllocError>
 /// The trace that a text of at most 4 MiB is. `BadTrace` tells its first bad line: one that has no
 /// line's shape or that no line feed ends; a stage's line, or one that says that a packet used all
 /// its stages, before the first packet's; a packet's first line whose node is not the network's, or
-/// whose packet is longer than 65,575 bytes or, where it reads as one, has bytes behind its end;
-/// line 1 where the head is missing, and the line behind the last one where `end` is; and one
-/// behind `end`. (own rule)
+/// whose packet is longer than 65,575 bytes or, where it reads as one, has bytes after its end;
+/// line 1 where the head is missing, and the line after the last one where `end` is; and one
+/// after `end`. (own rule)
 pub fn read_trace(alloc: Global, net: &Net, text: &[u8]) -> Result<Trace, TraceFault>
     requires { length text.now ≤ MAX_TEXT_BYTES }
     ensures { Reads net.now text.now result }

@@ -15,14 +15,14 @@ fn is_of_three(verb: &str, what: &str, hex: &str) -> bool
         && is_hex(hex)
 }
 
-/// Whether four words are the line of an execution behind which a packet goes over a SID's links.
+/// Whether four words are the line of an execution after which a packet goes over a SID's links.
 fn is_of_four(verb: &str, sid: &str, way: &str, hex: &str) -> bool
     ensures { result ≡ is_stage (verb.now ∷ sid.now ∷ way.now ∷ hex.now ∷ []) }
 {
     verb == "again" && is_prefix(sid) && way == "through" && is_hex(hex)
 }
 
-/// Whether five words are the line of an execution behind which a packet goes by a table, or of one
+/// Whether five words are the line of an execution after which a packet goes by a table, or of one
 /// that exposed a packet which goes over a SID's links.
 fn is_of_five(verb: &str, sid: &str, way: &str, number: &str, hex: &str) -> bool
     ensures { result ≡ is_stage (verb.now ∷ sid.now ∷ way.now ∷ number.now ∷ hex.now ∷ []) }

@@ -14,7 +14,7 @@ pub(crate) enum State {
         place: Place,
         /// What stands there.
         content: Content,
-        /// How many stages it may have behind the next.
+        /// How many stages it may have after the next.
         left: usize,
     },
     /// It used all its stages without an end, and the line that says so is still to come.

@@ -62,10 +62,10 @@ fn counts_of(lines: &[Seq<u8>]) -> Replayed
 
 /// Runs each packet of a trace from its bytes as it entered, and tests each line in order: that of
 /// a stage is right where it is the line of an outcome that there is, whichever of the equal next
-/// hops a packet is sent on. Behind 10,000 stages without an end only the line that says so is
-/// right, and behind a packet's end only another packet's first line or the trace's last.
+/// hops a packet is sent on. After 10,000 stages without an end only the line that says so is
+/// right, and after a packet's end only another packet's first line or the trace's last.
 /// `Mismatch` tells the first wrong line: where a stage is to come the line of the stage under
-/// choice 0 should stand there, behind all stages `stages`, and behind a packet's end `ended` is
+/// choice 0 should stand there, after all stages `stages`, and after a packet's end `ended` is
 /// told. The trace's lines are those of a text that is a trace of this network. (own rule)
 pub fn replay(alloc: Global, net: &Net, trace: &Trace) -> Result<Replayed, ReplayFault>
     requires { IsTrace net.now trace.now }

@@ -29,7 +29,7 @@ put_cut a rest width =
     ∙ ap (λ n. n * 2 ^ rest + a % 2 ^ rest) (above_split a rest width)
     ∙ shr_split a rest
 
--- numbers that agree above a bit and in the bits behind it agree above those
+-- numbers that agree above a bit and in the bits after it agree above those
 pub above_longer : (a b rest width : ℕ) → a / 2 ^ (rest + width) ≡ b / 2 ^ (rest + width) → cut a rest width ≡ cut b rest width
     → a / 2 ^ rest ≡ b / 2 ^ rest
 above_longer a b rest width above same =
@@ -44,7 +44,7 @@ unfolding field_of cut
 with_field_of-same a at width within =
     with_field_is_put a at width (field_of a at width) within ∙ put_cut a (128 - at - width) width
 
--- a prefix holds an address where a shorter one does that holds its value too, and the fields behind the shorter one are equal
+-- a prefix holds an address where a shorter one does that holds its value too, and the fields after the shorter one are equal
 pub Holds-longer : (p q : PrefixValue) (a width : ℕ) → p.len + width ≡ q.len → q.len ≤ 128 → Holds p a → Holds p q.value
     → field_of a p.len width ≡ field_of q.value p.len width → Holds q a
 unfolding Holds field_of cut

@@ -1,5 +1,5 @@
 -- the bits of numbers: what stands in some bits, and what an edit of some bits keeps.
--- `rest` is how many bits stand behind the ones that are meant
+-- `rest` is how many bits stand after the ones that are meant
 use Rattle.std.proofs.Common.{◌≡◌, ℕ, ◌+◌, ◌-◌, ◌*◌, ◌/◌, ◌%◌, ◌^◌, ◌<◌, ◌≤◌, sym, ◌∙◌, ap, subst, arith, lit<}
 use Rattle.std.proofs.lemmas.Nat.{shr_split, shr_below, shr_high, mod_low, mul-add-lt, mod_below, pow_pos, pow-add, shl_below, field_of as cut_first}
 use Rattle.std.proofs.Math.Pow.{mod-mod-pow}
@@ -8,7 +8,7 @@ use Rattle.v6_addr.specs.Address.{PrefixValue, Holds, field_of, with_field_of}
 use Rattle.v6_addr.specs.Bits.{cut, put}
 use Rattle.v6_addr.proofs.Prefixes.{same_above}
 
--- the number that is put, over what stands behind it, is below the bits above
+-- the number that is put, over what stands after it, is below the bits above
 low_part : (a rest width v : ℕ) → v < 2 ^ width → v * 2 ^ rest + a % 2 ^ rest < 2 ^ (rest + width)
 low_part a rest width v fits =
     let low = mul-add-lt v (2 ^ rest) (a % 2 ^ rest) (2 ^ width) fits (mod_below a (2 ^ rest) (pow_pos rest)) in
@@ -106,7 +106,7 @@ field_of-before a at width v other size within fits before =
     ∙ cut_above (put a (128 - at - width) width v) a (128 - at - width + width) (128 - other - size) size (omega arith)
     (put_above a (128 - at - width) width v fits)
 
--- a field behind one that was written is as it was
+-- a field after one that was written is as it was
 pub field_of-behind : (a at width v other size : ℕ) → at + width ≤ 128 → v < 2 ^ width → at + width ≤ other → other + size ≤ 128
     → field_of (with_field_of a at width v) other size ≡ field_of a other size
 unfolding field_of cut
@@ -121,7 +121,7 @@ with_field_of_bound a at width v within below fits =
     let P : ℕ → Type 0 = λ n. n < 2 ^ 128 in
     subst P (sym (with_field_is_put a at width v within)) (put_bound a (128 - at - width) width v 128 (omega arith) below fits)
 
--- a prefix holds an address with a field written behind the prefix where it held the address
+-- a prefix holds an address with a field written after the prefix where it held the address
 pub Holds-with_field : (p : PrefixValue) (a at width v : ℕ) → at + width ≤ 128 → v < 2 ^ width → p.len ≤ at → Holds p a
     → Holds p (with_field_of a at width v)
 unfolding Holds

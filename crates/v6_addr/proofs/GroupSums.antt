@@ -38,9 +38,9 @@ pub no_groups_yet : (groups : List ℕ) → SummedGroups groups 0 0
 unfolding number_of_groups
 no_groups_yet groups = record { same = refl; bound = lit< tt }
 
--- ---- two lists of groups, one behind the other
+-- ---- two lists of groups, one after the other
 
--- groups behind a number
+-- groups after a number
 pub number_from : (n : ℕ) (groups : List ℕ)
     → fold (λ m g. m * 2 ^ 16 + g) n groups ≡ n * 2 ^ (16 * length groups) + fold (λ m g. m * 2 ^ 16 + g) 0 groups
 number_from n [] = omega arith

@@ -79,7 +79,7 @@ furthest_at limit (inr e) n short =
 
 -- ---- what passes
 
--- no bit is set behind a longer length either
+-- no bit is set after a longer length either
 clear_longer : (value len more : ℕ) → len ≤ more → value % 2 ^ (128 - len) ≡ 0 → value % 2 ^ (128 - more) ≡ 0
 clear_longer value len more longer clear =
     same_below value 0 (128 - more) (128 - len) (omega arith) (clear ∙ sym (zero-mod (2 ^ (128 - len))))

@@ -51,7 +51,7 @@ first_step place c rest ends = by_test (is_digit c 16) (eqb c 58) refl refl (fro
         inr (record { colon = eqb-true _ _ colon; next = next.0; is_next = next.1; ends = next.2 })
     by_test false false other none next = absurd (none-some next.0 next.1)
 
--- ---- what stands behind a place, up to an end
+-- ---- what stands after a place, up to an end
 
 -- `::` and fewer groups than are left
 record GapTail (k : ℕ) (end : List ℕ) : Type 0 where
@@ -61,7 +61,7 @@ record GapTail (k : ℕ) (end : List ℕ) : Type 0 where
   few : length right < k
   parts : end ≡ 58 ∷ 58 ∷ right_text
 
--- behind the groups: nothing, or `::` and groups where it wasn't read yet
+-- after the groups: nothing, or `::` and groups where it wasn't read yet
 abbrev Ended : Bool → ℕ → List ℕ → Type 0
 Ended true k end = end ≡ []
 Ended false k end = ((end ≡ []) × (k ≡ 0)) ⊎ GapTail k end
@@ -86,7 +86,7 @@ record Tail (rest : List ℕ) (left digits : ℕ) (short : Bool) : Type 0 where
   few : digits + length text ≤ 4
   more : More after left short
 
--- groups behind `::`
+-- groups after `::`
 record Groups (text : List ℕ) (left : ℕ) : Type 0 where
   groups : List ℕ
   written : IsGroupsText text groups
@@ -196,7 +196,7 @@ between_colon c cs left false h gaps =
       });
     }
 
--- what leads from a group, and from a colon behind a group, to an end
+-- what leads from a group, and from a colon after a group, to an end
 record Both (rest : List ℕ) (short : Bool) : Type 0 where
   group : (left digits : ℕ) → digits ≤ 4 → EndsAt (reached (Group left digits short) rest) → Tail rest left digits short
   between : (left : ℕ) → EndsAt (reached (Between left short) rest) → More (58 ∷ rest) (suc left) short
@@ -233,7 +233,7 @@ tails short gaps (c ∷ cs) =
       ];
     }
 
--- ---- groups behind `::`
+-- ---- groups after `::`
 
 no_gaps : GapsFollow true
 no_gaps left rest e ends = absurd (false≢true (sym e))

@@ -80,7 +80,7 @@ more_reach left digits short (t ∷ ts) (g ∷ gs) k rest h sum =
           ∙ behind.1,
     )
 
--- what is behind the last group
+-- what is after the last group
 more_reach_all : (left digits : ℕ) (short : Bool) (texts : List (List ℕ)) (groups : List ℕ) → AllZip IsGroupText texts groups
     → length groups ≤ left → (p : Scanned) × (reached (Group left digits short) (more_texts texts) ≡ Some p)
 unfolding walked

@@ -53,7 +53,7 @@ record SlashAt (text : List ℕ) (at k : ℕ) (front back rest : List ℕ) : Typ
   slash : get_or text at 0 ≡ 47
   is_back : back ≡ take (k - at - 1) (drop (suc at) text) ++ rest
 
--- the slash stands behind the first part
+-- the slash stands after the first part
 slash_behind : (text front back rest : List ℕ) (k : ℕ) → k ≤ length text → length front < k
     → take k text ++ rest ≡ front ++ (47 ∷ back) → SlashAt text (length front) k front back rest
 slash_behind text front back rest k fits longer e =
@@ -132,7 +132,7 @@ slash_of_text : (IsText : List ℕ → ℕ → Type 0) (limit : ℕ) → Texts I
 slash_of_text IsText limit texts text at longest h =
     slash_of_whole IsText limit texts text at longest h.address_part (length_text h.len) h.address h.parts h.accepted
 
--- what stands behind the slash of a whole text
+-- what stands after the slash of a whole text
 back_of_whole : (text : List ℕ) (at : ℕ) (front back : List ℕ) → SlashAt text at (length text) front back []
     → drop (suc at) text ≡ back
 back_of_whole text at front back s =
@@ -155,7 +155,7 @@ begins_prefix IsText limit texts text b = record {
   };
 }
 
--- no slash stands there behind an address
+-- no slash stands there after an address
 pub fault_in_address : (IsText : List ℕ → ℕ → Type 0) (limit : ℕ) → Texts IsText limit → (text : List ℕ) (at : ℕ)
     → IsLongestBeginning (Begins IsText) text at
     → ((a : ℕ) → at < length text → get_or text at 0 ≡ 47 → IsText (take at text) a → ⊥)

@@ -35,7 +35,7 @@ from_text text p h = record {
   clear = h.is_prefix.2;
 }
 
--- no slash stands behind the longest beginning of an address, or no address is before it
+-- no slash stands after the longest beginning of an address, or no address is before it
 pub no_slash_fault : (text : List ℕ) (at : ℕ) → IsLongestBeginning (Begins IsAddressText) text at
     → (at < length text → get_or text at 0 ≡ 47 → ⊥) → IsPrefixFault IsAddressText 128 IsPrefixText text at
 no_slash_fault text at longest none =

@@ -153,7 +153,7 @@ front_list (g ∷ gs) (suc n) run =
     let here : g ≡ 0 = run.1 0 (omega arith) in
     ap (λ m. m ∷ gs) here ∙ ap (λ t. 0 ∷ t) (front_list gs n (front_without g gs n run))
 
--- the groups before a run, its zeros, and the groups behind it
+-- the groups before a run, its zeros, and the groups after it
 run_list : (groups : List ℕ) (start count : ℕ) → IsZeroRun groups start count
     → groups ≡ take start groups ++ replicate count 0 ++ drop (start + count) groups
 run_list groups zero count run =

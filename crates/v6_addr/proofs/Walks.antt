@@ -51,7 +51,7 @@ walked_more step start place next text i within here is_next =
     ∙ ap (option_and_then (λ q. walked step q (get_or text i 0 ∷ []))) here
     ∙ walked_one step place (get_or text i 0) ∙ is_next
 
--- the byte behind the walk has no place
+-- the byte after the walk has no place
 pub walked_no_more : {A : Type 0} (step : A → ℕ → Option A) (start place : A) (text : List ℕ) (i k : ℕ) → i < length text → i < k
     → walked step start (take i text) ≡ Some place → step place (get_or text i 0) ≡ None
     → walked step start (take k text) ≡ None

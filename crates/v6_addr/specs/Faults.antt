@@ -1,4 +1,4 @@
--- Where a text that is refused goes wrong (own rule): behind its longest beginning that some accepted text begins with
+-- Where a text that is refused goes wrong (own rule): after its longest beginning that some accepted text begins with
 use Rattle.std.specs.Prelude.{◌≡◌, ℕ, ◌-◌, ◌%◌, ◌^◌, ◌<◌, ◌≤◌, ◌⊎◌, List, ◌∷◌, ◌++◌, length, take}
 use Rattle.v6_addr.specs.Text.{length_text}
 
@@ -14,7 +14,7 @@ pub record IsLongestBeginning (IsBeginning : List ℕ → Type 0) (text : List �
   pub begins : IsBeginning (take at text)
   pub longest : (k : ℕ) → at < k → k ≤ length text → IsBeginning (take k text) → ⊥
 
--- a text is an address, a slash and a length up to a limit, but a bit of the address behind that length is set
+-- a text is an address, a slash and a length up to a limit, but a bit of the address after that length is set
 pub record HasSetBits (IsText : List ℕ → ℕ → Type 0) (limit : ℕ) (text : List ℕ) : Type 0 where
   pub address_part : List ℕ
   pub address : ℕ

@@ -1,5 +1,5 @@
 -- The grammar of the texts of addresses and prefixes, as relations in the words of RFC 4291 sections 2.2 and 2.3, without
--- a dotted IPv4 tail, leading zeros of a length or bits set behind it (own rules), and the rule of RFC 5952 section 4.2 on
+-- a dotted IPv4 tail, leading zeros of a length or bits set after it (own rules), and the rule of RFC 5952 section 4.2 on
 -- the run that `::` stands for. 58 is the colon, 47 the slash
 use Rattle.std.specs.Prelude.{◌≡◌, ℕ, ◌+◌, ◌-◌, ◌<◌, ◌≤◌, ◌⊎◌, List, ◌∷◌, ◌++◌, length, replicate, slice_index}
 use Rattle.std.specs.List.{join_with_byte, AllZip}

@@ -3,7 +3,7 @@ use Rattle.std.specs.Prelude.{◌≡◌, ℕ, ◌+◌, ◌-◌, ◌*◌, ◌%◌
 use Rattle.std.specs.Char.{digit_value, is_digit}
 use Rattle.v6_addr.specs.Text.{length_text}
 
--- the number so far, with one more digit; none behind a zero, which stands alone
+-- the number so far, with one more digit; none after a zero, which stands alone
 unfoldable pub with_digit : Option ℕ → ℕ → Option ℕ
 with_digit None digit = Some digit
 with_digit (Some n) digit = if n == 0 then None else Some (n * 10 + digit)
@@ -19,7 +19,7 @@ furthest limit n =
     else (if nat_le (n * 100) limit then (if nat_le (n * 100 + 99) limit then n * 100 + 99 else limit)
     else (if nat_le (n * 10) limit then (if nat_le (n * 10 + 9) limit then n * 10 + 9 else limit) else n))
 
--- no bit of the address is set behind some length up to the limit whose digits begin with those of the number
+-- no bit of the address is set after some length up to the limit whose digits begin with those of the number
 unfoldable pub length_goes_on : ℕ → ℕ → ℕ → Option ℕ
 length_goes_on limit value n =
     if nat_le n limit && (value % 2 ^ (128 - furthest limit n) == 0) then Some n else None
@@ -32,7 +32,7 @@ length_behind limit value number byte = option_and_then (length_goes_on limit va
 abbrev pub length_step : ℕ → ℕ → Option ℕ → ℕ → Option (Option ℕ)
 length_step limit value number byte = option_map Some (length_behind limit value number byte)
 
--- the digits of a length up to a limit behind which no bit of the address is set
+-- the digits of a length up to a limit after which no bit of the address is set
 pub record IsLengthOf (limit value : ℕ) (text : List ℕ) (len : ℕ) : Type 0 where
   pub digits : text ≡ length_text len
   pub short : len ≤ limit

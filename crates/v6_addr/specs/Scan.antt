@@ -24,12 +24,12 @@ behind_colon (Gap left) = None
 unfoldable pub behind : Scanned → ℕ → Option Scanned
 behind place byte = if is_digit byte 16 then behind_digit place else (if byte == 58 then behind_colon place else None)
 
--- where a text leads from a place, one byte after another; none where a byte has no place behind it
+-- where a text leads from a place, one byte after another; none where a byte has no place after it
 unfoldable pub walked : {A : Type 0} → (A → ℕ → Option A) → A → List ℕ → Option A
 walked step place [] = Some place
 walked step place (c ∷ cs) = option_and_then (λ next. walked step next cs) (step place c)
 
--- what stands behind a text that an address goes on with
+-- what stands after a text that an address goes on with
 abbrev pub reached : Scanned → List ℕ → Option Scanned
 reached place text = walked behind place text
 

@@ -1,5 +1,5 @@
 -- The texts of addresses and prefixes: what is read (RFC 4291 sections 2.2 and 2.3, without a dotted IPv4 tail, leading zeros
--- of a length or bits set behind it, own rules) and what is written (RFC 5952 section 4).
+-- of a length or bits set after it, own rules) and what is written (RFC 5952 section 4).
 -- A text is a list of bytes: 58 is the colon, 47 the slash
 use Rattle.std.specs.Prelude.{ℕ, suc, ◌+◌, ◌-◌, ◌*◌, ◌/◌, ◌%◌, ◌^◌, ◌==◌, ◌&&◌, not, nat_lt, nat_le, if◌then◌else◌, List, [], ◌∷◌, ◌++◌, length, take, drop, replicate, map, fold, Option, Some, None, option_map, option_and_then, slice_index}
 use Rattle.std.specs.Char.{is_digit, digit_char}
@@ -107,7 +107,7 @@ unfoldable pub leading_zeros : List ℕ → ℕ
 leading_zeros [] = 0
 leading_zeros (g ∷ gs) = if g == 0 then suc (leading_zeros gs) else 0
 
--- the longer of a run from the first group on and a run of the groups behind it; the first among equals
+-- the longer of a run from the first group on and a run of the groups after it; the first among equals
 unfoldable pub longer_run : ℕ → Run → Run
 longer_run here behind =
     if nat_le behind.count here then record { start = 0; count = here }

@@ -49,7 +49,7 @@ pub(crate) fn parse_full(text: &[u8]) -> Option<u128>
     Some(number(groups.as_slice()))
 }
 
-/// The address of a text whose first `::` stands behind `gap` bytes.
+/// The address of a text whose first `::` stands after `gap` bytes.
 pub(crate) fn parse_shortened(text: &[u8], gap: usize) -> Option<u128>
     requires { gap + 2 ≤ length text.now }
     ensures { result ≡ address_of_parts text.now (Some gap) }

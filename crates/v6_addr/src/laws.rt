@@ -25,7 +25,7 @@ pub fn address_reads_back()
 {}
 
 /// A law: a prefix's text is read exactly where the grammar of RFC 4291 section 2.3 has it with no
-/// bit set behind its length and no leading zeros (own rules), and so as one prefix at most.
+/// bit set after its length and no leading zeros (own rules), and so as one prefix at most.
 pub fn prefix_grammar()
     ensures { (text : List ℕ) (p : PrefixValue)
         → (prefix_of_text text ≡ Some p) ↔ IsPrefixText text p }

@@ -7,7 +7,7 @@ ghost use Rattle.v6_addr.specs.Lengths.{with_digit, next_number, furthest, lengt
 
 use crate::bits::low_bits;
 
-/// A number so far, with one more digit; `None` behind a zero, which stands alone.
+/// A number so far, with one more digit; `None` after a zero, which stands alone.
 #[tactic(auto, using(crate::proofs::Cases::tests), unfolding(crate::specs::Lengths::with_digit))]
 fn with_digit(number: Option<u32>, digit: u32) -> Option<u32>
     requires number { IfSome number (λ n. n ≤ 255) }
@@ -63,7 +63,7 @@ fn furthest(limit: u32, n: u32) -> u32
     n
 }
 
-/// The number, where no bit of the address is set behind some length up to the limit whose digits
+/// The number, where no bit of the address is set after some length up to the limit whose digits
 /// begin with those of the number.
 #[tactic(auto, using(crate::proofs::Cases::tests), unfolding(crate::specs::Lengths::length_goes_on))]
 fn length_goes_on(limit: u32, value: u128, n: u32) -> Option<u32>
@@ -96,7 +96,7 @@ fn length_behind(limit: u32, value: u128, number: Option<u32>, byte: u8) -> Opti
     }
 }
 
-/// The length of a text's longest beginning that some length up to a limit begins with behind
+/// The length of a text's longest beginning that some length up to a limit begins with after
 /// which no bit of an address is set.
 pub(crate) fn length_beginning(limit: u32, value: u128, text: &[u8]) -> usize
     requires limit { (limit ≡ 32) ⊎ (limit ≡ 128) }

@@ -15,7 +15,7 @@ enum Scanned {
     Colon,
     /// A group of so many digits yet.
     Group { left: u8, digits: u8, short: bool },
-    /// A group and a colon; the groups left are those behind the group that comes next.
+    /// A group and a colon; the groups left are those after the group that comes next.
     Between { left: u8, short: bool },
     /// `::`.
     Gap { left: u8 },

@@ -17,7 +17,7 @@ pub(crate) struct Place4 {
     done: u8,
     /// The value that these make, the first the highest.
     value: u32,
-    /// The number that has begun behind them.
+    /// The number that has begun after them.
     number: Option<u32>,
 }
 
@@ -84,7 +84,7 @@ fn behind4(place: Place4, byte: u8) -> Option<Place4>
 pub(crate) struct Reach4 {
     /// The length of the longest beginning.
     pub(crate) at: usize,
-    /// What stands behind it.
+    /// What stands after it.
     pub(crate) place: Place4,
 }
 

@@ -128,7 +128,7 @@ own-small len (Unreadable bytes reason) h = absurd h
 
 -- ---- the walk
 
--- what is handed over later, behind an execution
+-- what is handed over later, after an execution
 carried-later : (net : Network) (len m : ℕ) (b : Bool) (es : List Event)
     → All (Carried net len) ((if b then Executed m ∷ [] else []) ++ es) → All (Carried net len) es
 carried-later net len m true es all = All-tail (Carried net len) (Executed m) es all
@@ -155,7 +155,7 @@ module _ (net : Network) (len : ℕ) (pick : ℕ → ℕ) where
     abbrev gave : Gave
     gave = free_step_of net place content (pick taken)
 
-    -- what is handed over by a stage and the walk behind it
+    -- what is handed over by a stage and the walk after it
     abbrev free_first : Gave → Outcome → Option Handed
     free_first g o =
         handed_first net g o (handed_over net (free_walk_of fuel net (next_place net place o) g.after pick (taken + decisions o)))
@@ -168,7 +168,7 @@ module _ (net : Network) (len : ℕ) (pick : ℕ → ℕ) where
         → let step = step_of net place content (pick taken) in first step step.outcome ≡ Some h
     same-first o is same e = ap (λ (g : Gave). first g g.outcome) same ∙ (ap (first gave) is ∙ e)
 
-    -- what is handed over behind a stage
+    -- what is handed over after a stage
     behind : (f : Handed → Handed) (next : Option Place) (taken : ℕ)
         → option_map f (handed_over net (free_walk_of fuel net next gave.after pick taken)) ≡ Some h
         → ((later : Handed) → f later ≡ h → Passes later) → IsSmall len gave.after

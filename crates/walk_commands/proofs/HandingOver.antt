@@ -169,7 +169,7 @@ again-lowers net place content choice m how free is =
     free-less net place content choice m how x.sid x.is_there
     (policy-none (behaviour_policy x.sid.behaviour) (sym (ap sid_binds x.is_there) ∙ free)) is
 
--- what is handed over behind a stage
+-- what is handed over after a stage
 behind-some : (f : Handed → Handed) (o : Option Handed) (h : Handed) → option_map f o ≡ Some h
     → (later : Handed) × (o ≡ Some later) × (option_map f (Some later) ≡ Some h)
 behind-some f None h e = absurd (cc)
@@ -188,7 +188,7 @@ module _ (net : Network) (pick : ℕ → ℕ) where
       → handed_over net (free_walk_of n net (Some place) content pick taken) ≡ Some h
 
   module _ (fuel n : ℕ) (enough : Enough fuel n) (gave : Gave) (taken : ℕ) (h : Handed) where
-    -- what was handed over behind a stage
+    -- what was handed over after a stage
     behind : (f : Handed → Handed) (next : Option Place)
         → option_map f (handed_over net (free_walk_of fuel net next gave.after pick taken)) ≡ Some h
         → ((later : Handed) → f later ≡ h → Unbound net later.sids)
@@ -213,7 +213,7 @@ module _ (net : Network) (pick : ℕ → ℕ) where
   arrived-less content n None from place e less = absurd (cc)
   arrived-less content n (Some node) from place e less = subst (λ (p : Place). IsUnder p.how content n) (some-place e) less
 
-  -- the SIDs of what was handed over behind an execution
+  -- the SIDs of what was handed over after an execution
   executed-sids : (m : ℕ) (later h : Handed) → after_execution net m later ≡ h → h.sids ≡ m ∷ later.sids
   executed-sids m later h e = sym (ap (λ (x : Handed). x.sids) e)
 
@@ -225,7 +225,7 @@ module _ (net : Network) (pick : ℕ → ℕ) where
     abbrev rest : ℕ → Outcome → Option Handed
     rest k o = handed_over net (free_walk_of k net (next_place net place o) gave.after pick (taken + decisions o))
 
-    -- the SID that was executed, and those behind it
+    -- the SID that was executed, and those after it
     free-both : (m : ℕ) (later : Handed) → after_execution net m later ≡ h
         → (is_binding net m ≡ false) × Unbound net later.sids
     free-both m later e =

@@ -69,7 +69,7 @@ module _ (file intent choices schedule : List ℕ) where
       (λ held. names_of (walk_shape file intent choices schedule) held ≡ file ∷ [])
       (λ held h. rw (goes-on-refused refusal (file_named held file) h) refl) h
 
-  -- what is asked for behind the description
+  -- what is asked for after the description
   abbrev behind : Held → List (List ℕ)
   behind held = if goes_on_with asks_behind_network [] (file_named held file) then intent ∷ [] else []
 
@@ -262,7 +262,7 @@ module _ (file intent choices schedule : List ℕ) where
               → Commands (walk_shape file intent choices schedule) (Err (halts.Failed failure)) (outside f s o e) (outside g t p q)
           walk_halted_at_pieces failure wrote = cut-by (fault_of (reading_of packets)) failure wanted wrote
 
-          -- they did, and nothing is behind the frames
+          -- they did, and nothing is after the frames
           pub walk_done : (told : Told) → None ≡ fault_of (reading_of packets) → bytes_of_text told.line ≡ []
               → told.status ≡ statuses.Done → sinks_of p q ≡ gone before (sinks_of o e)
               → Commands (walk_shape file intent choices schedule) (Ok told) (outside f s o e) (outside g t p q)

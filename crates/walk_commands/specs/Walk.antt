@@ -58,7 +58,7 @@ use Rattle.run_commands.specs.Entry.{Entry, Staying, Entering, comings_of_frames
 use Rattle.command_output.specs.Shape.{Held, Shape}
 use Rattle.command_output.specs.Verbs.{has_two_words}
 
--- its first words: the description and the intent; the choices may follow, and behind them the schedule
+-- its first words: the description and the intent; the choices may follow, and after them the schedule
 abbrev pub is_walk : List ℕ → List ℕ → List ℕ → Bool
 is_walk verb file intent = has_two_words (codes "walk") verb file intent
 

@@ -73,7 +73,7 @@ pub record Executes (way_by : ℕ → Behaviour → How) (net : Network) (place 
   pub gives : gave
       ≡ treated_at_sid net place.node n sid.behaviour packet (at_sid sid (allow_of (slice_get net.nodes place.node)) packet)
 
--- SID n pushed exactly one header: the packet after the SID's own step, whose hop limit is one lower, stands behind the header of
+-- SID n pushed exactly one header: the packet after the SID's own step, whose hop limit is one lower, stands after the header of
 -- the policy that the SID binds, in its behaviour's form
 pub record PushesOne (net : Network) (place : Place) (content after : Content) (n : ℕ) : Type 0 where
   pub packet : Packet

@@ -118,7 +118,7 @@ onward_from n b = way_on n (behaviour_takes_links b) true (behaviour_table b)
 abbrev pub exposed_from : ℕ → Behaviour → How
 exposed_from n b = way_on n (behaviour_takes_links b) false (behaviour_table b)
 
--- what comes of a packet at SID n that goes on behind a policy's header: it stays at the node behind that header; where it would be
+-- what comes of a packet at SID n that goes on after a policy's header: it stays at the node after that header; where it would be
 -- too long it is dropped as it came. Pushing lowers no hop limit, so the last case doesn't come
 abbrev pub pushed_at_sid : Network → ℕ → ℕ → Behaviour → Packet → Encapsulating → Gave
 pushed_at_sid net node n b p (Outer outer) = goes (outcomes.Again n (onward_from n b)) (V6 outer)
@@ -131,7 +131,7 @@ bound_at_sid net node n b p q None = dropped net node reasons.NoRoute 0 (V6 p)
 bound_at_sid net node n b p q (Some named) =
     pushed_at_sid net node n b p (pushed_by named.policy (behaviour_reduces b) families.V6 (spelling q))
 
--- what comes of a packet at SID n that goes on as another: it stays at the node, behind the header of the policy that the SID binds,
+-- what comes of a packet at SID n that goes on as another: it stays at the node, after the header of the policy that the SID binds,
 -- if it binds one (RFC 8986 sections 4.13 and 4.14)
 abbrev pub onward_at_sid : Network → ℕ → ℕ → Behaviour → Packet → Packet → Option ℕ → Gave
 onward_at_sid net node n b p q None = goes (outcomes.Again n (onward_from n b)) (V6 q)

@@ -43,7 +43,7 @@ pub(crate) const PACKET_4: [u8; 24] = [
     0x0a, 0x00, 0x00, 0x02, 0xde, 0xad, 0xbe, 0xef,
 ];
 
-/// Three parts of a packet, one behind the other.
+/// Three parts of a packet, one after the other.
 pub(crate) fn joined(alloc: Global, a: &[u8], b: &[u8], c: &[u8]) -> Result<Vec<u8>, AllocError> {
     let mut bytes = a.to_vec(alloc)?;
     bytes.extend_from_slice(b)?;

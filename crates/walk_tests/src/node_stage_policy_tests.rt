@@ -53,7 +53,7 @@ fn with_a_segment_left(
 }
 
 /// End.B6.Encaps puts the full form in front, End.B6.Encaps.Red the reduced form, whatever the
-/// policy's own form is; behind it stands the packet at its next segment with its hop limit lowered.
+/// policy's own form is; after it stands the packet at its next segment with its hop limit lowered.
 #[test]
 fn binding_sids_put_a_header_in_front(rt: HostRuntime) -> Result<(), Fail> {
     let rows: [(Behaviour, &[u8]); 3] = [
@@ -74,7 +74,7 @@ fn binding_sids_put_a_header_in_front(rt: HostRuntime) -> Result<(), Fail> {
     Ok(())
 }
 
-/// A packet to B's SID with a segment left, of so many bytes; those behind its headers are 0.
+/// A packet to B's SID with a segment left, of so many bytes; those after its headers are 0.
 fn long_packet(alloc: Global, len: u16) -> Result<Vec<u8>, AllocError>
     requires { 80 ≤ len }
 {
@@ -87,7 +87,7 @@ fn long_packet(alloc: Global, len: u16) -> Result<Vec<u8>, AllocError>
     Ok(bytes)
 }
 
-/// Behind a segment routing header of 40 bytes a packet of 65,495 bytes is the longest: one more,
+/// After a segment routing header of 40 bytes a packet of 65,495 bytes is the longest: one more,
 /// and it is dropped as it came.
 #[test]
 fn a_packet_too_long_for_the_header_is_dropped(rt: HostRuntime) -> Result<(), Fail> {

@@ -25,7 +25,7 @@ const CARRIER_BEHIND_B: [u8; 40] = [
 ];
 
 /// From 2001:db8::1 to fc00:b:1::7, hop limit 63: Segments Left 0 of one entry of CSIDs of 16 bits,
-/// at index 7 that of the destination, at index 6 0x0002, and none behind it.
+/// at index 7 that of the destination, at index 6 0x0002, and none after it.
 const CONTAINER: [u8; 64] = [
     0x60, 0x00, 0x00, 0x00, 0x00, 0x18, 0x2b, 0x3f, 0x20, 0x01, 0x0d, 0xb8, 0x00, 0x00, 0x00, 0x00,
     0x00, 0x00, 0x00, 0x00, 0x00, 0x00, 0x00, 0x01, 0xfc, 0x00, 0x00, 0x0b, 0x00, 0x01, 0x00, 0x00,
@@ -33,7 +33,7 @@ const CONTAINER: [u8; 64] = [
     0x00, 0x00, 0x00, 0x00, 0x00, 0x00, 0x00, 0x00, 0x00, 0x00, 0x00, 0x00, 0x00, 0x02, 0x00, 0x01,
 ];
 
-/// At B the next segment becomes the destination; what stood behind the packet's end is gone.
+/// At B the next segment becomes the destination; what stood after the packet's end is gone.
 #[test]
 fn end_makes_the_next_segment_the_destination(rt: HostRuntime) -> Result<(), Fail> {
     let net = net_with(

@@ -267,7 +267,7 @@ fn turns_of_two(
     turns_of(rt, alloc, &mut flight, schedule, &[1, 2])
 }
 
-/// Packets take turns as the schedule names them; behind it they are run to their ends one by one.
+/// Packets take turns as the schedule names them; after it they are run to their ends one by one.
 #[test]
 fn a_schedule_names_the_packets(rt: HostRuntime) -> Result<(), Fail> {
     let net = net_of(&rt, rt.alloc())?;

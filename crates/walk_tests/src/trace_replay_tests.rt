@@ -159,7 +159,7 @@ fn traces_are_run_again(rt: HostRuntime) -> Result<(), Fail> {
     Ok(())
 }
 
-/// A trace that is cut behind one of its lines lacks its end.
+/// A trace that is cut after one of its lines lacks its end.
 #[test]
 fn cut_traces_are_bad(rt: HostRuntime) -> Result<(), Fail> {
     let alloc = rt.alloc();
@@ -186,7 +186,7 @@ fn cut_traces_are_bad(rt: HostRuntime) -> Result<(), Fail> {
     Ok(())
 }
 
-/// What is said of the lines behind the head.
+/// What is said of the lines after the head.
 #[test]
 fn lines_are_judged(rt: HostRuntime) -> Result<(), Fail> {
     let alloc = rt.alloc();

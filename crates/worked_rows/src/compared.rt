@@ -24,7 +24,7 @@ impl Difference {
     }
 }
 
-/// Whether a text is a status's number, with or without the end of a line behind it.
+/// Whether a text is a status's number, with or without the end of a line after it.
 fn is_number_of(text: &str, status: Status) -> bool {
     match text.trim_end().parse::<u8>() {
         Ok(number) => number == status as u8,

@@ -4,7 +4,7 @@ use Rattle.list_pack.specs.SegmentValues.{HaveCsids}
 use Rattle.list_pack.proofs.ValueSums.{stacked}
 use Rattle.list_pack.proofs.segments.packed_value.Given as goal
 
--- the CSIDs so far and those that are left are all; they stand in the bits behind, and there is room for the others
+-- the CSIDs so far and those that are left are all; they stand in the bits after, and there is room for the others
 abbrev pub invariant-loop-sid : goal.invariant-loop-sid
 invariant-loop-sid l = record {
   told : l.value.value + stacked l.block.csid l.behind (map (csid_of l.block.prefix.len) (drop l.sid-index l.more))

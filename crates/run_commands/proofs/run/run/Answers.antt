@@ -144,7 +144,7 @@ module _ (file name choices schedule : List ℕ) (f g : FilesSeen) (s t : Source
             → Commands (run_shape file name choices schedule) (Err (halts.Failed failure)) (outside f s o e) (outside g t p q)
         run_halted_at_pieces failure wrote = cut-by (fault_of (reading_of packets)) failure wanted wrote
 
-        -- they did, and nothing is behind the frames
+        -- they did, and nothing is after the frames
         run_done : (told : Told) → None ≡ fault_of (reading_of packets) → bytes_of_text told.line ≡ [] → told.status ≡ statuses.Done
             → sinks_of p q ≡ gone before (sinks_of o e)
             → Commands (run_shape file name choices schedule) (Ok told) (outside f s o e) (outside g t p q)

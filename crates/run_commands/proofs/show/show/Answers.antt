@@ -86,7 +86,7 @@ module _ (f : FilesSeen) (s t : SourceSeen) (o : SinkSeen) where
         → CommandsOut show_shape (Err (halts.Failed failure)) f f s t o p
     show_halted_at_out failure wrote = cut-by (fault_of (reading_of packets)) failure wanted wrote
 
-    -- they did, and nothing is behind the frames
+    -- they did, and nothing is after the frames
     show_done : (told : Told) → None ≡ fault_of (reading_of packets) → bytes_of_text told.line ≡ [] → told.status ≡ statuses.Done
         → p ≡ sent bytes o → CommandsOut show_shape (Ok told) f f s t o p
     show_done told whole line status went = written_whole show_shape told bytes f f s t o p went

@@ -68,7 +68,7 @@ module _ (file trace : List ℕ) where
       (λ held. names_of (replay_shape file trace) held ≡ file ∷ [])
       (λ held h. rw (goes-on-refused refusal (file_named held file) h) refl) h
 
-  -- what is asked for behind the description
+  -- what is asked for after the description
   abbrev behind : Held → List (List ℕ)
   behind held = if goes_on_with asks_behind_network [] (file_named held file) then trace ∷ [] else []
 

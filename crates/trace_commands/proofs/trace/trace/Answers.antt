@@ -151,7 +151,7 @@ module _ (file name choices : List ℕ) (f g : FilesSeen) (s t : SourceSeen) (o 
             → CommandsOut (trace_shape file name choices) (Err (halts.Failed failure)) f g s t o p
         trace_halted_at_out failure wrote = cut-by (fault_of (reading_of packets)) failure wanted wrote
 
-        -- it did, and nothing is behind the frames
+        -- it did, and nothing is after the frames
         trace_done : (told : Told) → None ≡ fault_of (reading_of packets) → bytes_of_text told.line ≡ [] → told.status ≡ statuses.Done
             → p ≡ sent bytes o → CommandsOut (trace_shape file name choices) (Ok told) f g s t o p
         trace_done told whole line status went = written_whole (trace_shape file name choices) told bytes f g s t o p went
