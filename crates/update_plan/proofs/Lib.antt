@@ -1,0 +1,8 @@
+pub mod Lists
+pub mod Equals
+pub mod Numbers
+pub mod Parts
+pub mod Apart
+pub mod Across
+pub mod Grounds
+pub mod Keeping
