@@ -1,5 +1,5 @@
 -- Items that are equal in all fields are equal, and so are lists that differ nowhere.
-use Rattle.std.proofs.Common.{◌≡◌, ℕ, ◌+◌, Bool, true, false, ◌==◌, ◌&&◌, if◌then◌else◌, List, [], ◌∷◌, length, Option, Some, None, refl, ap, ap₂, ◌∙◌, subst}
+use Rattle.std.proofs.Common.{◌≡◌, ℕ, suc, ◌+◌, Bool, true, false, ◌==◌, ◌&&◌, if◌then◌else◌, List, [], ◌∷◌, length, Option, Some, None, refl, ap, ap₂, ◌∙◌, subst}
 use Rattle.std.proofs.lemmas.Bool.{and_parts, eqb-true}
 use Rattle.v6_addr.specs.Address.{PrefixValue}
 use Rattle.v6_addr.specs.declared.address.Addr.{Addr}
@@ -27,10 +27,13 @@ options_are equal f None (Some y) h = cc
 options_are equal f (Some x) None h = cc
 options_are equal f (Some x) (Some y) h = ap Some (f x y h)
 
+prefix_with : ℕ → ℕ → PrefixValue
+prefix_with value len = record { value = value; len = len }
+
 pub same_prefix_are : (p q : PrefixValue) → same_prefix p q ≡ true → p ≡ q
 same_prefix_are p q h =
     let parts = and_parts _ _ h in
-    ap₂ (λ value len. record { value = value; len = len }) (eqb-true _ _ parts.0) (eqb-true _ _ parts.1)
+    ap₂ prefix_with (eqb-true _ _ parts.0) (eqb-true _ _ parts.1)
 
 kinds_are : (k l : BlockKind) → equal_kinds k l ≡ true → k ≡ l
 kinds_are kinds.Next kinds.Next h = refl
@@ -38,32 +41,44 @@ kinds_are kinds.Next kinds.Replace h = cc
 kinds_are kinds.Replace kinds.Next h = cc
 kinds_are kinds.Replace kinds.Replace h = refl
 
+block_with : PrefixValue → BlockKind → ℕ → Block
+block_with p k c = record { prefix = p; kind = k; csid = c }
+
 pub blocks_are : (a b : Block) → equal_block a b ≡ true → a ≡ b
 blocks_are a b h =
     let prefix = and_parts _ _ h in
     let rest = and_parts _ _ prefix.1 in
-    let e = same_prefix_are _ _ prefix.0 in
-    let f = kinds_are _ _ rest.0 in
-    let g = eqb-true a.csid b.csid rest.1 in
-    ap₂ (λ p k. record { prefix = p; kind = k; csid = a.csid }) e f ∙ ap (λ c. record { prefix = b.prefix; kind = b.kind; csid = c }) g
+    let e : a.prefix ≡ b.prefix = same_prefix_are a.prefix b.prefix prefix.0 in
+    let f : a.kind ≡ b.kind = kinds_are a.kind b.kind rest.0 in
+    let g : a.csid ≡ b.csid = eqb-true a.csid b.csid rest.1 in
+    ap₂ (λ p k. block_with p k a.csid) e f ∙ ap (block_with b.prefix b.kind) g
+
+address_with : ℕ → Addr
+address_with v = record { value = v }
+
+node_with : List ℕ → Addr → List ℕ → Node
+node_with name address allow = record { name = name; address = address; allow = allow }
 
 pub nodes_are : (m n : Node) → equal_node m n ≡ true → m ≡ n
 nodes_are m n h =
     let name = and_parts _ _ h in
     let rest = and_parts _ _ name.1 in
-    let e = same_bytes_are _ _ name.0 in
-    let f : m.address ≡ n.address = ap (λ v. record { value = v }) (eqb-true m.address.value n.address.value rest.0) in
-    let g = same_bytes_are _ _ rest.1 in
-    ap₂ (λ x a. record { name = x; address = a; allow = m.allow }) e f ∙ ap (λ l. record { name = n.name; address = n.address; allow = l }) g
+    let e : m.name ≡ n.name = same_bytes_are m.name n.name name.0 in
+    let f : m.address ≡ n.address = ap address_with (eqb-true m.address.value n.address.value rest.0) in
+    let g : m.allow ≡ n.allow = same_bytes_are m.allow n.allow rest.1 in
+    ap₂ (λ x a. node_with x a m.allow) e f ∙ ap (node_with n.name n.address) g
+
+link_with : List ℕ → ℕ → Option ℕ → Link
+link_with name from to = record { name = name; from = from; to = to }
 
 pub links_are : (l m : Link) → equal_link l m ≡ true → l ≡ m
 links_are l m h =
     let name = and_parts _ _ h in
     let rest = and_parts _ _ name.1 in
-    let e = same_bytes_are _ _ name.0 in
-    let f = eqb-true l.from m.from rest.0 in
-    let g = options_are same_number (λ x y k. eqb-true x y k) l.to m.to rest.1 in
-    ap₂ (λ x n. record { name = x; from = n; to = l.to }) e f ∙ ap (λ o. record { name = m.name; from = m.from; to = o }) g
+    let e : l.name ≡ m.name = same_bytes_are l.name m.name name.0 in
+    let f : l.from ≡ m.from = eqb-true l.from m.from rest.0 in
+    let g : l.to ≡ m.to = options_are same_number (λ x y k. eqb-true x y k) l.to m.to rest.1 in
+    ap₂ (λ x n. link_with x n l.to) e f ∙ ap (link_with m.name m.from) g
 
 -- ---- lists that differ nowhere
 
@@ -88,4 +103,4 @@ pub as_many : {X : Type 0} (equal : X → X → Bool) (n : ℕ) (xs ys : List X)
 as_many equal n [] [] h = refl
 as_many equal n [] (y ∷ ys) h = cc
 as_many equal n (x ∷ xs) [] h = cc
-as_many equal n (x ∷ xs) (y ∷ ys) h = ap (λ m. m + 1) (as_many equal (n + 1) xs ys (agreed equal n x y xs ys h).1)
+as_many equal n (x ∷ xs) (y ∷ ys) h = ap suc (as_many equal (n + 1) xs ys (agreed equal n x y xs ys h).1)

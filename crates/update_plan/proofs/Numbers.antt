@@ -1,5 +1,5 @@
 -- Titles by their numbers: in the order of the SIDs, one for each.
-use Rattle.std.proofs.Common.{◌≡◌, ℕ, ◌+◌, ◌≤◌, ◌<◌, Bool, true, false, ◌==◌, ◌&&◌, ◌||◌, not, List, [], ◌∷◌, ◌++◌, length, Option, Some, None, refl, sym, ap, ap₂, ◌∙◌, subst, append_assoc, arith}
+use Rattle.std.proofs.Common.{◌≡◌, ℕ, suc, ◌+◌, ◌≤◌, ◌<◌, Bool, true, false, ◌==◌, ◌&&◌, ◌||◌, not, List, [], ◌∷◌, ◌++◌, length, Option, Some, None, refl, sym, ap, ap₂, ◌∙◌, subst, append_assoc, arith}
 use Rattle.std.proofs.lemmas.Bool.{and_parts, and_from, or_from, eqb-true, eq-eqb, ne_eqb, lt-ltb}
 use Rattle.std.proofs.lemmas.List.{length-append, nil_from_length}
 use Rattle.std.specs.Prelude.{option_and_then}
@@ -42,10 +42,6 @@ at_seam : (front : List (List ℕ)) (t : List ℕ) (rest : List (List ℕ)) → 
 at_seam [] t rest = refl
 at_seam (x ∷ front) t rest = at_seam front t rest
 
--- the titles that follow some are those of the SIDs that are left
-abbrev Follow : List (List ℕ) → ℕ → List SidEntry → List (List ℕ) → Type 0
-Follow titles n ss rest = are_numbers n (length titles) (filter_map title_of ss) ≡ true → filter_map (title_text titles) ss ≡ rest
-
 none_left : (titles front rest : List (List ℕ)) → titles ≡ front ++ rest → length front ≡ length titles → [] ≡ rest
 none_left titles front rest e f =
     let all : length titles ≡ length front + length rest = ap length e ∙ length-append front rest in
@@ -63,7 +59,9 @@ one_more titles front (t ∷ more) n ns texts e at h f =
     let found : slice_get titles n ≡ Some t = rw (e, at) (at_seam front t more) in
     ap (λ o. cons_option o texts) found ∙ ap (λ ts. t ∷ ts) (f t more (e ∙ sym (append_assoc front (t ∷ []) more)))
 
-follow : (titles front rest : List (List ℕ)) (ss : List SidEntry) → titles ≡ front ++ rest → Follow titles (length front) ss rest
+-- the titles that follow some are those of the SIDs that are left
+follow : (titles front rest : List (List ℕ)) (ss : List SidEntry) → titles ≡ front ++ rest
+    → are_numbers (length front) (length titles) (filter_map title_of ss) ≡ true → filter_map (title_text titles) ss ≡ rest
 follow titles front rest [] e h = none_left titles front rest e (eqb-true _ _ h)
 follow titles front rest (s ∷ ss) e h =
     elim s.title as (λ o. are_numbers (length front) (length titles) (cons_option o (filter_map title_of ss)) ≡ true
@@ -82,6 +80,9 @@ titles_are_texts titles ss h = follow titles [] titles ss refl h
 
 -- ---- SIDs whose titles are numbered anew
 
+up : (to n k : ℕ) → to ≡ n + suc k → to ≡ n + 1 + k
+up to n k e = omega (arith, e)
+
 pub numbered_numbers : (titles : List (List ℕ)) (n to : ℕ) (ss : List SidEntry) → to ≡ n + length (filter_map (title_text titles) ss)
     → are_numbers n to (filter_map title_of (numbered titles n ss)) ≡ true
 numbered_numbers titles n to [] e = eq-eqb n to (omega (arith, e))
@@ -89,8 +90,14 @@ numbered_numbers titles n to (s ∷ ss) e =
     elim (title_text titles s) as (λ o. to ≡ n + length (cons_option o (filter_map (title_text titles) ss))
     → are_numbers n to (filter_map title_of (numbered_beside o n s (λ m. numbered titles m ss))) ≡ true) [
       | None ↦ λ f. numbered_numbers titles n to ss f
-      | Some t ↦ λ f. and_from _ _ (eq-eqb n n refl) (numbered_numbers titles (n + 1) to ss (omega (arith, f)))
+      | Some t ↦ λ f. and_from _ _ (eq-eqb n n refl) (numbered_numbers titles (n + 1) to ss (up to n (length (filter_map (title_text titles) ss)) f))
     ] e
+
+within : (n k most : ℕ) → n + suc k ≤ most → n < most
+within n k most h = omega (arith, h)
+
+within_more : (n k most : ℕ) → n + suc k ≤ most → n + 1 + k ≤ most
+within_more n k most h = omega (arith, h)
 
 pub numbered_all : (p q : SidEntry → Bool) (most : ℕ)
     → ((s : SidEntry) (o : Option ℕ) → p s ≡ true → is_title most o ≡ true → q (record s { title = o }) ≡ true)
@@ -102,8 +109,8 @@ numbered_all p q most f titles n (s ∷ ss) e h =
     elim (title_text titles s) as (λ o. n + length (cons_option o (filter_map (title_text titles) ss)) ≤ most
     → list_all q (numbered_beside o n s (λ m. numbered titles m ss)) ≡ true) [
       | None ↦ λ g. and_from _ _ (f s None parts.0 refl) (numbered_all p q most f titles n ss g parts.1)
-      | Some t ↦ λ g. and_from _ _ (f s (Some n) parts.0 (lt-ltb _ _ (omega (arith, g))))
-          (numbered_all p q most f titles (n + 1) ss (omega (arith, g)) parts.1)
+      | Some t ↦ λ g. and_from _ _ (f s (Some n) parts.0 (lt-ltb _ _ (within n (length (filter_map (title_text titles) ss)) most g)))
+          (numbered_all p q most f titles (n + 1) ss (within_more n (length (filter_map (title_text titles) ss)) most g) parts.1)
     ] e
 
 pub numbered_any : (titles : List (List ℕ)) (n : ℕ) (s : SidEntry) (ss : List SidEntry)
@@ -116,12 +123,22 @@ numbered_any titles n s (t ∷ ss) =
       | Some u ↦ ap (λ b. same_sid s t || b) (numbered_any titles (n + 1) s ss)
     ]
 
+any_same : {X : Type 0} (p q : X → Bool) → ((x : X) → p x ≡ q x) → (xs : List X) → list_any p xs ≡ list_any q xs
+any_same p q f [] = refl
+any_same p q f (x ∷ xs) = ap₂ (λ a b. a || b) (f x) (any_same p q f xs)
+
+-- a SID's title tells nothing of whether another is the same
+retitled : (s : SidEntry) (o : Option ℕ) (ts : List SidEntry)
+    → list_any (same_sid (record s { title = o })) ts ≡ list_any (same_sid s) ts
+retitled s o ts = any_same (same_sid (record s { title = o })) (same_sid s) (λ t. refl) ts
+
 pub numbered_distinct : (titles : List (List ℕ)) (n : ℕ) (ss : List SidEntry)
     → are_distinct same_sid (numbered titles n ss) ≡ are_distinct same_sid ss
 numbered_distinct titles n [] = refl
 numbered_distinct titles n (s ∷ ss) =
     elim (title_text titles s) as (λ o. are_distinct same_sid (numbered_beside o n s (λ m. numbered titles m ss))
     ≡ are_distinct same_sid (s ∷ ss)) [
-      | None ↦ ap₂ (λ a b. not a && b) (numbered_any titles n s ss) (numbered_distinct titles n ss)
-      | Some u ↦ ap₂ (λ a b. not a && b) (numbered_any titles (n + 1) s ss) (numbered_distinct titles (n + 1) ss)
+      | None ↦ ap₂ (λ a b. not a && b) (retitled s None (numbered titles n ss) ∙ numbered_any titles n s ss) (numbered_distinct titles n ss)
+      | Some u ↦ ap₂ (λ a b. not a && b) (retitled s (Some n) (numbered titles (n + 1) ss) ∙ numbered_any titles (n + 1) s ss)
+          (numbered_distinct titles (n + 1) ss)
     ]
