@@ -5,7 +5,7 @@ use Rattle.std.specs.List.{filter, list_any}
 use Rattle.v6_addr.specs.Address.{PrefixValue, holds_address}
 use Rattle.srv6_rules.specs.declared.sid.SidEntry.{SidEntry}
 use Rattle.net_model.specs.declared.parts.Route.{Route}
-use Rattle.net_model.specs.Rules.{same_prefix, same_route, same_sid}
+use Rattle.net_model.specs.Rules.{same_family, same_prefix, same_route, same_sid}
 use Rattle.net_model.specs.Judging.{title_text, same_text}
 use Rattle.update_plan.specs.Planning.{Item, items_from, route_item, sid_item, in_one_table, meet, conflict}
 use Rattle.update_plan.proofs.Equals.{same_prefix_are}
@@ -38,10 +38,10 @@ routes_apart kept n q is_old m r new h =
     let b = route_item is_old m r in
     let none = (apart a b (not-true _ new) h).prefixes in
     false_from_ne_true (same_route q r) (λ same.
-    let node = and_parts _ _ same in
-    let table = and_parts _ _ node.1 in
-    let family = and_parts _ _ table.1 in
-    both_ways _ none (and_from _ _ (and_from _ _ node.0 (and_from _ _ table.0 family.0)) (same_prefixes_meet _ _ family.1)))
+    let node = and_parts (q.node == r.node) _ same in
+    let table = and_parts (q.table == r.table) _ node.1 in
+    let family = and_parts (same_family q.family r.family) (same_prefix q.prefix r.prefix) table.1 in
+    both_ways _ none (and_from _ _ (and_from _ _ node.0 (and_from _ _ table.0 family.0)) (same_prefixes_meet q.prefix r.prefix family.1)))
 
 -- two SIDs have other places and other titles
 pub record SidsApart (old_titles new_titles : List (List ℕ)) (s t : SidEntry) : Type 0 where

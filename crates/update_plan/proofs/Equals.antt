@@ -27,7 +27,7 @@ options_are equal f None (Some y) h = cc
 options_are equal f (Some x) None h = cc
 options_are equal f (Some x) (Some y) h = ap Some (f x y h)
 
-prefix_with : ℕ → ℕ → PrefixValue
+abbrev prefix_with : ℕ → ℕ → PrefixValue
 prefix_with value len = record { value = value; len = len }
 
 pub same_prefix_are : (p q : PrefixValue) → same_prefix p q ≡ true → p ≡ q
@@ -41,7 +41,7 @@ kinds_are kinds.Next kinds.Replace h = cc
 kinds_are kinds.Replace kinds.Next h = cc
 kinds_are kinds.Replace kinds.Replace h = refl
 
-block_with : PrefixValue → BlockKind → ℕ → Block
+abbrev block_with : PrefixValue → BlockKind → ℕ → Block
 block_with p k c = record { prefix = p; kind = k; csid = c }
 
 pub blocks_are : (a b : Block) → equal_block a b ≡ true → a ≡ b
@@ -53,10 +53,10 @@ blocks_are a b h =
     let g : a.csid ≡ b.csid = eqb-true a.csid b.csid rest.1 in
     ap₂ (λ p k. block_with p k a.csid) e f ∙ ap (block_with b.prefix b.kind) g
 
-address_with : ℕ → Addr
+abbrev address_with : ℕ → Addr
 address_with v = record { value = v }
 
-node_with : List ℕ → Addr → List ℕ → Node
+abbrev node_with : List ℕ → Addr → List ℕ → Node
 node_with name address allow = record { name = name; address = address; allow = allow }
 
 pub nodes_are : (m n : Node) → equal_node m n ≡ true → m ≡ n
@@ -68,7 +68,7 @@ nodes_are m n h =
     let g : m.allow ≡ n.allow = same_bytes_are m.allow n.allow rest.1 in
     ap₂ (λ x a. node_with x a m.allow) e f ∙ ap (node_with n.name n.address) g
 
-link_with : List ℕ → ℕ → Option ℕ → Link
+abbrev link_with : List ℕ → ℕ → Option ℕ → Link
 link_with name from to = record { name = name; from = from; to = to }
 
 pub links_are : (l m : Link) → equal_link l m ≡ true → l ≡ m

@@ -1,12 +1,13 @@
 -- A SID that keeps the rules in one network keeps them in another with the same ground, with another title that is there.
 use Rattle.std.proofs.Common.{◌≡◌, ℕ, ◌≤◌, Bool, true, false, ◌==◌, ◌&&◌, List, length, Option, Some, None, refl, subst, arith}
-use Rattle.std.specs.Prelude.{nat_lt}
+use Rattle.std.specs.Prelude.{nat_lt, nat_le}
 use Rattle.std.proofs.lemmas.Bool.{and_parts, and_from, ltb-true, lt-ltb}
 use Rattle.srv6_rules.specs.declared.sid.SidEntry.{SidEntry}
-use Rattle.srv6_rules.specs.Behaviours.{behaviour_takes_links, behaviour_policy}
+use Rattle.srv6_rules.specs.Behaviours.{behaviour_takes_links, behaviour_table, behaviour_policy}
+use Rattle.net_model.specs.declared.limits.TheConstants.{MAX_LINKS_OF_SET}
 use Rattle.net_model.specs.declared.parts.Block.{Block}
 use Rattle.net_model.specs.Network.{Network}
-use Rattle.net_model.specs.Rules.{suits_links, suits_policy, keeps_behaviour, block_of, keeps_compression, is_title, keeps_sid}
+use Rattle.net_model.specs.Rules.{is_prefix, suits_links, suits_table, suits_policy, keeps_behaviour, block_of, block_len_of, keeps_compression, is_title, keeps_sid}
 use Rattle.net_model.specs.Judging.{sid_in_range}
 
 -- what a SID names but its title
@@ -50,26 +51,26 @@ keep_elsewhere a b s o ground h title =
 
 pub its_title : (net : Network) (s : SidEntry) → keeps_sid net s ≡ true → is_title (length net.titles) s.title ≡ true
 its_title net s h =
-    let node = and_parts _ _ h in
-    let len = and_parts _ _ node.1 in
-    let prefix = and_parts _ _ len.1 in
-    let behaviour = and_parts _ _ prefix.1 in
-    (and_parts _ _ behaviour.1).1
+    let node = and_parts (nat_lt s.node (length net.nodes)) _ h in
+    let len = and_parts (nat_le 1 s.prefix.len) _ node.1 in
+    let prefix = and_parts (is_prefix s.prefix) _ len.1 in
+    let behaviour = and_parts (keeps_behaviour net s) _ prefix.1 in
+    (and_parts (keeps_compression (block_of net.blocks s.prefix) s) _ behaviour.1).1
 
 pub range_elsewhere : (blocks : List Block) (count most : ℕ) (s : SidEntry) (o : Option ℕ) → sid_in_range blocks count s ≡ true
     → is_title most o ≡ true → sid_in_range blocks most (record s { title = o }) ≡ true
 range_elsewhere blocks count most s o h title =
-    let len = and_parts _ _ h in
-    let prefix = and_parts _ _ len.1 in
-    let table = and_parts _ _ prefix.1 in
-    let links = and_parts _ _ table.1 in
-    let rest = and_parts _ _ links.1 in
+    let len = and_parts (nat_le 1 s.prefix.len) _ h in
+    let prefix = and_parts (is_prefix s.prefix) _ len.1 in
+    let table = and_parts (suits_table (behaviour_table s.behaviour)) _ prefix.1 in
+    let links = and_parts (nat_le (length s.links) MAX_LINKS_OF_SET) _ table.1 in
+    let rest = and_parts (s.block_len == block_len_of (block_of blocks s.prefix)) (is_title count s.title) links.1 in
     and_from _ _ len.0 (and_from _ _ prefix.0 (and_from _ _ table.0 (and_from _ _ links.0 (and_from _ _ rest.0 title))))
 
 pub title_in_range : (blocks : List Block) (count : ℕ) (s : SidEntry) → sid_in_range blocks count s ≡ true → is_title count s.title ≡ true
 title_in_range blocks count s h =
-    let len = and_parts _ _ h in
-    let prefix = and_parts _ _ len.1 in
-    let table = and_parts _ _ prefix.1 in
-    let links = and_parts _ _ table.1 in
-    (and_parts _ _ links.1).1
+    let len = and_parts (nat_le 1 s.prefix.len) _ h in
+    let prefix = and_parts (is_prefix s.prefix) _ len.1 in
+    let table = and_parts (suits_table (behaviour_table s.behaviour)) _ prefix.1 in
+    let links = and_parts (nat_le (length s.links) MAX_LINKS_OF_SET) _ table.1 in
+    (and_parts (s.block_len == block_len_of (block_of blocks s.prefix)) _ links.1).1

@@ -160,7 +160,8 @@ sids_distinct old new g =
 sids_kept : (old new : Network) → Grounds old new → keeps_sids (joined_of old new) ≡ true
 sids_kept old new g =
     and_from _ _ g.fine.few_sids (and_from _ _ (each_sid_kept old new g) (and_from _ _ (sids_distinct old new g)
-    (and_from _ _ g.fine.room (numbers_apart 0 (length (joined_of old new).titles) _ (titles_numbered old new g.old_range)))))
+    (and_from _ _ g.fine.room (numbers_apart 0 (length (joined_of old new).titles) (filter_map title_of (joined_of old new).sids)
+    (titles_numbered old new g.old_range)))))
 
 -- ---- the whole
 
