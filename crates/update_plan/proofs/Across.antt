@@ -1,7 +1,6 @@
 -- Where no entries are in conflict, what is added agrees with nothing that was there.
-use Rattle.std.proofs.Common.{◌≡◌, ℕ, Bool, true, false, ◌&&◌, ◌||◌, not, List, [], ◌∷◌, Option, Some, None, refl, sym, ap, ◌∙◌, subst}
-use Rattle.std.proofs.lemmas.Bool.{or_parts, or_from}
-use Rattle.std.specs.List.{filter, filter_map, cons_option, list_any}
+use Rattle.std.proofs.Common.{◌≡◌, ℕ, Bool, false, ◌||◌, not, List, [], ◌∷◌, Option, Some, None, refl, sym, ap, ◌∙◌, subst}
+use Rattle.std.specs.List.{filter_map, cons_option, list_any}
 use Rattle.srv6_rules.specs.declared.sid.SidEntry.{SidEntry}
 use Rattle.net_model.specs.declared.parts.Route.{Route}
 use Rattle.net_model.specs.Network.{Network}

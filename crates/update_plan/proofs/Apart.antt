@@ -1,5 +1,5 @@
 -- Two entries of which one is added are apart: not on one prefix of one table, and not under one title.
-use Rattle.std.proofs.Common.{◌≡◌, ℕ, ◌+◌, Bool, true, false, ◌==◌, ◌&&◌, ◌||◌, not, cond, List, [], ◌∷◌, Option, Some, None, refl, ap, subst}
+use Rattle.std.proofs.Common.{◌≡◌, ℕ, ◌+◌, Bool, true, false, ◌==◌, ◌&&◌, not, cond, List, [], ◌∷◌, refl, ap, subst}
 use Rattle.std.proofs.lemmas.Bool.{and_parts, and_from, and_right, or_parts, or_from, or_left, eq-eqb, not-true, both_ways, false_from_ne_true}
 use Rattle.std.specs.List.{filter, list_any}
 use Rattle.v6_addr.specs.Address.{PrefixValue, holds_address}

@@ -1,13 +1,13 @@
 -- The joined network keeps all rules of networks, and is in range.
-use Rattle.std.proofs.Common.{◌≡◌, ℕ, ◌+◌, ◌≤◌, Bool, true, false, ◌&&◌, not, List, [], ◌∷◌, ◌++◌, length, Ok, refl, sym, ap, ◌∙◌, subst, subst₂, le_of_eq, le-add_right, arith}
+use Rattle.std.proofs.Common.{◌≡◌, ℕ, ◌+◌, ◌≤◌, Bool, true, false, not, List, [], ◌∷◌, length, Ok, refl, sym, ap, ◌∙◌, subst, subst₂, le_of_eq, arith}
 use Rattle.std.proofs.lemmas.Bool.{and_parts, and_from, or_parts, or_from}
 use Rattle.std.proofs.lemmas.List.{length-append}
 use Rattle.std.proofs.lemmas.List.Elements.{filter_map-append}
-use Rattle.std.specs.List.{filter, filter_map, list_any, list_all}
+use Rattle.std.specs.List.{filter_map, list_any, list_all}
 use Rattle.srv6_rules.specs.declared.sid.SidEntry.{SidEntry}
 use Rattle.net_model.specs.declared.parts.Route.{Route}
 use Rattle.net_model.specs.Network.{Network}
-use Rattle.net_model.specs.Rules.{are_distinct, same_bytes, is_name, same_number, keeps_blocks, keeps_nodes, keeps_links, keeps_route, same_route, keeps_routes, keeps_policies, keeps_sid, same_sid, title_of, keeps_sids, keeps_titles, is_network, IsNetwork}
+use Rattle.net_model.specs.Rules.{are_distinct, same_bytes, is_name, keeps_blocks, keeps_nodes, keeps_links, keeps_route, same_route, keeps_routes, keeps_policies, keeps_sid, same_sid, title_of, keeps_sids, keeps_titles, is_network, IsNetwork}
 use Rattle.net_model.specs.Judging.{title_text, route_in_range, sid_in_range, are_numbers, InRange}
 use Rattle.update_plan.specs.Joined.{is_old_route, is_old_sid, added_routes, added_sids, added_titles, numbered, joined_of}
 use Rattle.update_plan.specs.Planning.{planning}

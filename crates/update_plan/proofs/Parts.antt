@@ -1,5 +1,5 @@
 -- What no fault of a plan says, part by part.
-use Rattle.std.proofs.Common.{◌≡◌, ℕ, Bool, true, false, ◌&&◌, ◌||◌, cond, List, [], ◌∷◌, ◌++◌, length, Option, Some, None, Result, Ok, Err, refl, ap, map}
+use Rattle.std.proofs.Common.{◌≡◌, ℕ, Bool, true, false, ◌||◌, cond, List, [], ◌∷◌, length, Option, Some, None, Result, Ok, Err, refl}
 use Rattle.std.specs.Prelude.{find, nat_le}
 use Rattle.std.specs.List.{list_any, list_all}
 use Rattle.std.proofs.lemmas.Bool.{and_parts, or_from}
@@ -11,7 +11,7 @@ use Rattle.net_model.specs.Rules.{has_room}
 use Rattle.update_plan.specs.declared.fault.PlanFault.{PlanFault}
 use Rattle.update_plan.specs.Equal.{equal_block, equal_node, equal_link, equal_policy}
 use Rattle.update_plan.specs.Joined.{joined_of}
-use Rattle.update_plan.specs.Planning.{first_difference, differs_at, Item, old_items, new_items, conflict, conflict_or, conflicting, limit_unless, has_few_sids, and_then, planning}
+use Rattle.update_plan.specs.Planning.{differs_at, Item, old_items, new_items, conflict, conflict_or, conflicting, limit_unless, has_few_sids, and_then, planning}
 use Rattle.update_plan.proofs.Equals.{blocks_are, nodes_are, links_are, lists_are, as_many}
 
 then_parts : (r next : Result (Unit {0}) PlanFault) → and_then r next ≡ Ok tt → (r ≡ Ok tt) × (next ≡ Ok tt)
