@@ -1,9 +1,10 @@
 -- Numbers joined by commas, read part by part.
-use Rattle.std.proofs.Common.{◌≡◌, ℕ, ◌<◌, Bool, true, false, ◌==◌, List, [], ◌∷◌, ◌++◌, length, nat_lt, Option, None, Some, sym, subst, arith, rules}
+use Rattle.std.proofs.Common.{◌≡◌, ℕ, ◌<◌, Bool, true, false, ◌==◌, List, [], ◌∷◌, ◌++◌, length, nat_lt, Option, None, Some, IfSome, sym, subst, arith, rules}
 use Rattle.std.specs.Prelude.{if◌then◌else◌}
+use Rattle.std.specs.Global.{Vec}
 use Rattle.std.proofs.lemmas.List.Splits.{length-slice_split}
 use Rattle.command_inputs.specs.declared.limits.TheConstants.{MAX_CHOICES}
-use Rattle.command_inputs.specs.Choices.{number_before, numbers_in, parts_at_commas, choices_in}
+use Rattle.command_inputs.specs.Choices.{number_before, numbers_in, parts_at_commas, choices_in, items_of}
 use Rattle.trace_replay.specs.Grammar.{number_in}
 
 -- numbers that were read, and then those of the parts that are left
@@ -39,3 +40,8 @@ pub choices_in-some : (text choices : List ℕ) → Some choices ≡ choices_in 
 choices_in-some text choices h =
     let many = length-slice_split (λ byte. byte == 44) text in
     by-limit (nat_lt MAX_CHOICES (length (parts_at_commas text))) (parts_at_commas text) choices (omega arith) h
+
+pub given_choices : (choices : Option (Vec ℕ)) (text : List ℕ) → items_of choices ≡ choices_in text
+    → IfSome choices (λ all. 0 < length all.items)
+given_choices None text h = tt
+given_choices (Some all) text h = choices_in-some text all.items h

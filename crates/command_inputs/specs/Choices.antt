@@ -3,6 +3,7 @@ use Rattle.std.specs.Prelude.{ℕ, Bool, ◌==◌, not, nat_lt, if◌then◌else
 use Rattle.std.specs.Global.{Vec}
 use Rattle.std.specs.List.{list_all, slice_split}
 use Rattle.command_inputs.specs.declared.limits.TheConstants.{MAX_CHOICES, MAX_SCHEDULE}
+use Rattle.command_inputs.specs.declared.choices.Picks as code
 use Rattle.trace_replay.specs.Grammar.{number_in}
 
 -- each part's number, if each has one
@@ -42,3 +43,30 @@ schedule_in text = entries_of (numbers_up_to MAX_SCHEDULE text)
 abbrev pub items_of : Option (Vec ℕ) → Option (List ℕ)
 items_of None = None
 items_of (Some numbers) = Some numbers.items
+
+-- the choices that may follow the words of a command; where they don't, decision d takes the first member
+abbrev pub choices_after : List (List ℕ) → Option (List ℕ)
+choices_after [] = Some (0 ∷ [])
+choices_after (choices ∷ []) = choices_in choices
+choices_after (choices ∷ next ∷ more) = None
+
+-- the choices that may follow the words of a command, and the schedule that may follow them
+pub record Picks : Type 0 where
+  pub choices : List ℕ
+  pub schedule : List ℕ
+
+abbrev pub picks_with : Option (List ℕ) → Option (List ℕ) → Option Picks
+picks_with None schedule = None
+picks_with (Some choices) None = None
+picks_with (Some choices) (Some schedule) = Some (record { choices = choices; schedule = schedule })
+
+abbrev pub picks_after : List (List ℕ) → Option Picks
+picks_after [] = Some (record { choices = 0 ∷ []; schedule = [] })
+picks_after (choices ∷ []) = picks_with (choices_in choices) (Some [])
+picks_after (choices ∷ schedule ∷ []) = picks_with (choices_in choices) (schedule_in schedule)
+picks_after (choices ∷ schedule ∷ next ∷ more) = None
+
+-- as the code has them
+abbrev pub picks_seen : Option code.Picks → Option Picks
+picks_seen None = None
+picks_seen (Some picks) = Some (record { choices = picks.choices.items; schedule = picks.schedule.items })

@@ -1,8 +1,9 @@
 //! The choices and the schedule that the words give: numbers joined by commas.
 
-ghost use Rattle.std.specs.Prelude.{◌≡◌, ◌==◌, IfOk, map};
+ghost use Rattle.std.specs.Prelude.{◌≡◌, ◌==◌, ◌<◌, IfOk, IfSome, length, map};
 ghost use Rattle.std.specs.List.{list_all, slice_split};
-ghost use Rattle.command_inputs.specs.Choices.{choices_in, is_entry, items_of, numbers_up_to, schedule_in};
+ghost use Rattle.command_inputs.specs.Choices.{choices_after, choices_in, is_entry, items_of, numbers_up_to, picks_after, picks_seen, picks_with, schedule_in};
+ghost use Rattle.command_output.specs.Verbs.{words_of};
 
 use crate::limits::{MAX_CHOICES, MAX_SCHEDULE};
 use std::alloc::{AllocError, Global};
@@ -60,4 +61,71 @@ pub fn schedule_of(alloc: Global, text: &str) -> Result<Option<Vec<u32>>, AllocE
         return Ok(None);
     }
     Ok(Some(numbers))
+}
+
+/// The choices that may follow the words of a command, if these are the words that follow them:
+/// none, or one of choices. Where there is none, each decision takes its first member. (own rule)
+#[tactic(auto, using(crate::proofs::ChoiceLemmas::given_choices))]
+pub fn choices_of_words(alloc: Global, words: &[String]) -> Result<Option<Vec<u32>>, AllocError>
+    ensures spelled { IfOk result (λ choices. items_of choices
+        ≡ choices_after (words_of words.now)) }
+    ensures some { IfOk result (λ choices. IfSome choices (λ all. 0 < length all.items)) }
+{
+    match words {
+        [] => Ok(Some(vec![in alloc; 0]?)),
+        [choices] => choices_of(alloc, choices.as_str()),
+        _ => Ok(None),
+    }
+}
+
+/// The choices that may follow the words of a command, and the schedule that may follow them.
+/// (own rule)
+#[derive(Debug, Drop)]
+pub struct Picks {
+    /// The choices that each packet takes, at least one.
+    pub choices: Vec<u32>,
+    /// The numbers of the packets whose turns come first, one after the other.
+    pub schedule: Vec<u32>,
+}
+
+/// What a text of choices and a schedule give.
+fn picks_of(
+    alloc: Global,
+    choices: &str,
+    schedule: Option<Vec<u32>>,
+) -> Result<Option<Picks>, AllocError>
+    ensures spelled { IfOk result (λ picks. picks_seen picks
+        ≡ picks_with (choices_in choices.now) (items_of schedule)) }
+    ensures some { IfOk result (λ picks. IfSome picks (λ p. 0 < length p.choices.items)) }
+{
+    let Some(choices) = choices_of(alloc, choices)? else {
+        return Ok(None);
+    };
+    match schedule {
+        Some(schedule) => Ok(Some(Picks { choices, schedule })),
+        None => Ok(None),
+    }
+}
+
+/// The choices and the schedule that may follow the words of a command, if these are the words
+/// that follow them: none, one of choices, or one of choices and one of a schedule. (own rule)
+pub fn picks_of_words(alloc: Global, words: &[String]) -> Result<Option<Picks>, AllocError>
+    ensures spelled { IfOk result (λ picks. picks_seen picks ≡ picks_after (words_of words.now)) }
+    ensures some { IfOk result (λ picks. IfSome picks (λ p. 0 < length p.choices.items)) }
+{
+    match words {
+        [] => Ok(Some(Picks {
+            choices: vec![in alloc; 0]?,
+            schedule: Vec::new(alloc),
+        })),
+        [choices] => picks_of(alloc, choices.as_str(), Some(Vec::new(alloc))),
+        [choices, schedule] => {
+            picks_of(
+                alloc,
+                choices.as_str(),
+                schedule_of(alloc, schedule.as_str())?,
+            )
+        }
+        _ => Ok(None),
+    }
 }

@@ -14,7 +14,7 @@ mod ng_bytes;
 mod packets;
 mod sources;
 
-pub use choices::{choices_of, schedule_of};
+pub use choices::{Picks, choices_of_words, picks_of_words};
 pub use frames::{Found, Frames, Tells, tell_frames};
 pub use judge::{
     cert_of_file, intent_of_file, intent_of_text, network_of_file, network_of_text, node_of_name,

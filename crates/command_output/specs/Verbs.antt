@@ -1,6 +1,12 @@
 -- The words of a verb (own rules).
-use Rattle.std.specs.Prelude.{ℕ, Bool, ◌&&◌, ◌==◌, not, List, length}
+use Rattle.std.specs.Prelude.{ℕ, Bool, ◌&&◌, ◌==◌, not, if◌then◌else◌, List, [], ◌∷◌, length, map, Option, Some, None, String, string_bytes}
 use Rattle.std.specs.Str.{bytes_eq}
+use Rattle.std.specs.declared.alloc.Global.{Global}
+use Rattle.command_output.specs.declared.verbs.TwoWords as code
+
+-- the bytes of words
+abbrev pub words_of : List (String Global) → List (List ℕ)
+words_of words = map string_bytes words
 
 -- a word that names a file or a node isn't empty
 abbrev pub is_word : List ℕ → Bool
@@ -10,6 +16,21 @@ is_word word = not (length word == 0)
 abbrev pub has_two_words : List ℕ → List ℕ → List ℕ → List ℕ → Bool
 has_two_words name verb first second = bytes_eq verb name && (is_word first && is_word second)
 
--- a verb with three such words after it
-abbrev pub has_three_words : List ℕ → List ℕ → List ℕ → List ℕ → List ℕ → Bool
-has_three_words name verb first second third = bytes_eq verb name && (is_word first && (is_word second && is_word third))
+-- the two words after a verb, and those that follow them
+pub record TwoWords : Type 0 where
+  pub first : List ℕ
+  pub second : List ℕ
+  pub more : List (List ℕ)
+
+abbrev pub two_words : List ℕ → List (List ℕ) → Option TwoWords
+two_words name [] = None
+two_words name (verb ∷ []) = None
+two_words name (verb ∷ first ∷ []) = None
+two_words name (verb ∷ first ∷ second ∷ more) =
+    if has_two_words name verb first second then Some (record { first = first; second = second; more = more }) else None
+
+-- as the code has them
+abbrev pub two_words_seen : Option code.TwoWords → Option TwoWords
+two_words_seen None = None
+two_words_seen (Some words) =
+    Some (record { first = words.first.now; second = words.second.now; more = words_of words.more.now })

@@ -16,6 +16,7 @@ mod sinks;
 mod status;
 mod told;
 mod unread;
+mod verbs;
 
 pub use halt::{Failure, Halt};
 pub use lines::{line_of_packet, line_of_refusal, line_of_unread};
@@ -25,3 +26,4 @@ pub use sinks::write_all;
 pub use status::Status;
 pub use told::{Judgement, Text, Told};
 pub use unread::Unread;
+pub use verbs::{TwoWords, two_words_after};

@@ -30,11 +30,35 @@ use Rattle.command_inputs.specs.Judgements.{network_in, intent_in, cert_in}
 use Rattle.command_output.specs.Lines.{line}
 use Rattle.command_output.specs.Pieces.{Output}
 use Rattle.command_output.specs.Shape.{Shape, IsOneOf}
-use Rattle.command_output.specs.Verbs.{has_three_words}
+use Rattle.command_output.specs.Verbs.{TwoWords, is_word, two_words}
+use Rattle.compile_commands.specs.declared.check.CheckWords as code
+
+-- what its words ask for
+pub record CheckWords : Type 0 where
+  pub file : List ℕ
+  pub intent : List ℕ
+  pub cert : List ℕ
+
+abbrev pub check_with : List ℕ → List ℕ → List (List ℕ) → Option CheckWords
+check_with file intent [] = None
+check_with file intent (cert ∷ []) = if is_word cert then Some (record { file = file; intent = intent; cert = cert }) else None
+check_with file intent (cert ∷ next ∷ more) = None
+
+abbrev pub check_by : Option TwoWords → Option CheckWords
+check_by None = None
+check_by (Some words) = check_with words.first words.second words.more
 
 -- its words: the description, the intent and the certificate
-abbrev pub is_check : List ℕ → List ℕ → List ℕ → List ℕ → Bool
-is_check verb file intent cert = has_three_words (codes "check") verb file intent cert
+abbrev pub check_words : List (List ℕ) → Option CheckWords
+check_words words = check_by (two_words (codes "check") words)
+
+-- as the code has them
+abbrev pub check_words_seen : code.CheckWords → CheckWords
+check_words_seen words = record { file = words.file.now; intent = words.intent.now; cert = words.cert.now }
+
+abbrev pub check_asked : Option code.CheckWords → Option CheckWords
+check_asked None = None
+check_asked (Some words) = Some (check_words_seen words)
 
 -- the line of a verdict, and its status
 

@@ -27,11 +27,33 @@ use Rattle.command_output.specs.Outputs.{refused, reported}
 use Rattle.command_output.specs.Lines.{line, bytes_of_text}
 use Rattle.command_output.specs.Pieces.{Output}
 use Rattle.command_output.specs.Shape.{Shape, IsOneOf}
-use Rattle.command_output.specs.Verbs.{has_two_words}
+use Rattle.command_output.specs.Verbs.{TwoWords, two_words}
+use Rattle.compile_commands.specs.declared.compile.CompileWords as code
+
+-- what its words ask for
+pub record CompileWords : Type 0 where
+  pub file : List ℕ
+  pub intent : List ℕ
+
+abbrev pub compile_with : List ℕ → List ℕ → List (List ℕ) → Option CompileWords
+compile_with file intent [] = Some (record { file = file; intent = intent })
+compile_with file intent (next ∷ more) = None
+
+abbrev pub compile_by : Option TwoWords → Option CompileWords
+compile_by None = None
+compile_by (Some words) = compile_with words.first words.second words.more
 
 -- its words: the description and the intent
-abbrev pub is_compile : List ℕ → List ℕ → List ℕ → Bool
-is_compile verb file intent = has_two_words (codes "compile") verb file intent
+abbrev pub compile_words : List (List ℕ) → Option CompileWords
+compile_words words = compile_by (two_words (codes "compile") words)
+
+-- as the code has them
+abbrev pub compile_words_seen : code.CompileWords → CompileWords
+compile_words_seen words = record { file = words.file.now; intent = words.intent.now }
+
+abbrev pub compile_asked : Option code.CompileWords → Option CompileWords
+compile_asked None = None
+compile_asked (Some words) = Some (compile_words_seen words)
 
 unfoldable pub container_line : ℕ → List ℕ
 container_line value = line (codes "# container " ++ address_text value)

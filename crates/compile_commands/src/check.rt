@@ -8,11 +8,14 @@ ghost use Rattle.list_certificate.specs.Certs.{IsCert};
 ghost use Rattle.list_certificate.specs.Reading.{IsNetworkOf};
 ghost use Rattle.list_certificate.specs.Spelling.{IsKnown, state_text};
 ghost use Rattle.command_output.specs.Answers.{CommandsUnread};
-ghost use Rattle.compile_commands.specs.Check.{JudgesAs, KnowsState, LegsOf, check_shape, edge_line, least_line, no_list_line, path_line, tight_line, unlisted_line, verdict_line, verdict_status};
+ghost use Rattle.compile_commands.specs.Check.{JudgesAs, KnowsState, LegsOf, check_asked, check_shape, check_words, edge_line, least_line, no_list_line, path_line, tight_line, unlisted_line, verdict_line, verdict_status};
 ghost use Rattle.command_output.specs.Lines.{bytes_of_text};
+ghost use Rattle.command_output.specs.Verbs.{words_of};
 
 use command_inputs::{cert_of_file, intent_of_file, network_of_file};
-use command_output::{Halt, Judgement, Status, Text, Told, refusal_of_not_flat, write_all};
+use command_output::{
+    Halt, Judgement, Status, Text, Told, refusal_of_not_flat, two_words_after, write_all,
+};
 use intent_reader::Intent;
 use leg_table::StrictLegs;
 use list_certificate::{Cert, Verdict, Why, append_state};
@@ -21,6 +24,32 @@ use net_model::{Net, compilable};
 use path_compiler::checked_over;
 use srx_edge::{Files, Sink};
 use std::alloc::{AllocError, Global};
+
+/// What the words of `check` ask for. (own rule)
+#[derive(Debug, Drop)]
+pub struct CheckWords<'a> {
+    /// The description's name.
+    pub file: &'a str,
+    /// The intent's name.
+    pub intent: &'a str,
+    /// The certificate's name.
+    pub cert: &'a str,
+}
+
+/// What these words ask for, if they are those of `check`. (own rule)
+pub fn check_of_words(words: &[String]) -> Option<CheckWords<'_>>
+    ensures { check_asked result ≡ check_words (words_of words.now) }
+{
+    let two = two_words_after("check", words)?;
+    match two.more {
+        [cert] if !cert.is_empty() => Some(CheckWords {
+            file: two.first,
+            intent: two.second,
+            cert: cert.as_str(),
+        }),
+        _ => None,
+    }
+}
 
 /// The line of the least pair of containers and need.
 #[tactic(auto, unfolding(crate::specs::Check::least_line))]

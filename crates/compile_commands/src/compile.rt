@@ -7,12 +7,15 @@ ghost use Rattle.net_model.specs.Rules.{IsNetwork};
 ghost use Rattle.path_compiler.specs.Compiled.{CompileAnswers};
 ghost use Rattle.command_output.specs.Answers.{CommandsUnread};
 ghost use Rattle.intent_reader.specs.Rules.{IsIntent};
-ghost use Rattle.compile_commands.specs.Compile.{HasValues, KnowsStates, compile_shape, container_line, hop_limit_line, none_line, numbers_lines, printed, report_of, too_long_line};
+ghost use Rattle.compile_commands.specs.Compile.{HasValues, KnowsStates, compile_asked, compile_shape, compile_words, container_line, hop_limit_line, none_line, numbers_lines, printed, report_of, too_long_line};
 ghost use Rattle.command_output.specs.Lines.{bytes_of_text};
+ghost use Rattle.command_output.specs.Verbs.{words_of};
 
 use base::NoMemory;
 use command_inputs::{intent_of_file, network_of_file};
-use command_output::{Failure, Halt, Status, Text, Told, refusal_of_not_flat, write_all};
+use command_output::{
+    Failure, Halt, Status, Text, Told, refusal_of_not_flat, two_words_after, write_all,
+};
 use intent_reader::Intent;
 use list_certificate::print;
 use list_pack::{Solution, values};
@@ -21,6 +24,29 @@ use path_compiler::{CompileFault, Compiled};
 use srx_edge::{Files, Sink};
 use std::alloc::{AllocError, Global};
 use v6_addr::Addr;
+
+/// What the words of `compile` ask for. (own rule)
+#[derive(Debug, Drop)]
+pub struct CompileWords<'a> {
+    /// The description's name.
+    pub file: &'a str,
+    /// The intent's name.
+    pub intent: &'a str,
+}
+
+/// What these words ask for, if they are those of `compile`. (own rule)
+pub fn compile_of_words(words: &[String]) -> Option<CompileWords<'_>>
+    ensures { compile_asked result ≡ compile_words (words_of words.now) }
+{
+    let two = two_words_after("compile", words)?;
+    if !two.more.is_empty() {
+        return None;
+    }
+    Some(CompileWords {
+        file: two.first,
+        intent: two.second,
+    })
+}
 
 /// The line of a container with its 16 bytes as an address.
 #[tactic(auto, unfolding(crate::specs::Compile::container_line))]

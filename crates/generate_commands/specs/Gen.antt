@@ -29,13 +29,15 @@ use Rattle.command_inputs.specs.Judgements.{network_in}
 use Rattle.command_output.specs.Lines.{bytes_of_text}
 use Rattle.command_output.specs.Pieces.{Output}
 use Rattle.command_output.specs.Shape.{Shape}
+use Rattle.command_output.specs.Verbs.{TwoWords, two_words}
+use Rattle.generate_commands.specs.declared.gen_.GenWords as code
 use Rattle.generate_commands.specs.Summary.{summary_of}
 use Rattle.trace_replay.specs.Grammar.{number_in}
 
--- its words: a size, and what is generated of that size
-
-abbrev pub is_gen : List ℕ → Bool
-is_gen verb = bytes_eq verb (codes "gen")
+-- what its words ask for: a size, and what is generated of that size
+pub record GenWords : Type 0 where
+  pub size : ℕ
+  pub made : Made
 
 abbrev pub sized : Option ℕ → Option ℕ
 sized None = None
@@ -50,6 +52,28 @@ made_in word =
     else if bytes_eq word (codes "intent") then Some mades.Intent
     else if bytes_eq word (codes "sum") then Some mades.Sum
     else None
+
+abbrev pub gen_with : Option ℕ → Option Made → List (List ℕ) → Option GenWords
+gen_with None made more = None
+gen_with (Some size) None more = None
+gen_with (Some size) (Some made) [] = Some (record { size = size; made = made })
+gen_with (Some size) (Some made) (next ∷ more) = None
+
+abbrev pub gen_by : Option TwoWords → Option GenWords
+gen_by None = None
+gen_by (Some words) = gen_with (size_in words.first) (made_in words.second) words.more
+
+-- its words: the size, and what is generated
+abbrev pub gen_words : List (List ℕ) → Option GenWords
+gen_words words = gen_by (two_words (codes "gen") words)
+
+-- as the code has them
+abbrev pub gen_words_seen : code.GenWords → GenWords
+gen_words_seen words = record { size = words.size; made = words.made }
+
+abbrev pub gen_asked : Option code.GenWords → Option GenWords
+gen_asked None = None
+gen_asked (Some words) = Some (gen_words_seen words)
 
 -- the lines of a summary: a name and a number each, of the network, of the list, and of the walks
 

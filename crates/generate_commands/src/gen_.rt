@@ -7,14 +7,17 @@ ghost use Rattle.net_maker.specs.Networks.{net_text};
 ghost use Rattle.intent_reader.specs.Rules.{IsIntent};
 ghost use Rattle.command_output.specs.Answers.{CommandsAlone};
 ghost use Rattle.compile_commands.specs.Compile.{CompiledWants, IntentWants};
-ghost use Rattle.generate_commands.specs.Gen.{Generates, GenWants, SumWants, gen_shape, list_lines, made_in, network_lines, size_in, summary_lines, walks_lines};
+ghost use Rattle.generate_commands.specs.Gen.{Generates, GenWants, SumWants, gen_asked, gen_shape, gen_words, list_lines, made_in, network_lines, size_in, summary_lines, walks_lines};
 ghost use Rattle.command_inputs.specs.Judgements.{intent_in};
+ghost use Rattle.command_output.specs.Verbs.{words_of};
 
 use crate::summed::Summary;
 use crate::summing::summary;
 use base::NoMemory;
 use command_inputs::{intent_of_text, network_of_text};
-use command_output::{Failure, Halt, Status, Text, Told, refusal_of_not_flat, write_all};
+use command_output::{
+    Failure, Halt, Status, Text, Told, refusal_of_not_flat, two_words_after, write_all,
+};
 use compile_commands::{line_of_hop_limit, line_of_none, line_of_too_long};
 use intent_reader::Intent;
 use net_maker::{Size, write_intent, write_net};
@@ -47,8 +50,8 @@ pub enum Generated {
     NoList(Text),
 }
 
-/// The size that a word is. (own rule)
-pub fn size_of_word(word: &str) -> Option<Size>
+/// The size that a word is.
+fn size_of_word(word: &str) -> Option<Size>
     ensures { result ≡ size_in word.now }
 {
     match number_of_word(word) {
@@ -57,8 +60,8 @@ pub fn size_of_word(word: &str) -> Option<Size>
     }
 }
 
-/// What a word asks to generate. (own rule)
-pub fn made_of_word(word: &str) -> Option<Made>
+/// What a word asks to generate.
+fn made_of_word(word: &str) -> Option<Made>
     ensures { result ≡ made_in word.now }
 {
     match word {
@@ -67,6 +70,28 @@ pub fn made_of_word(word: &str) -> Option<Made>
         "sum" => Some(Made::Sum),
         _ => None,
     }
+}
+
+/// What the words of `gen` ask for. (own rule)
+#[derive(Debug, Drop)]
+pub struct GenWords {
+    /// The network's size.
+    pub size: Size,
+    /// What is generated.
+    pub made: Made,
+}
+
+/// What these words ask for, if they are those of `gen`. (own rule)
+pub fn gen_of_words(words: &[String]) -> Option<GenWords>
+    ensures { gen_asked result ≡ gen_words (words_of words.now) }
+{
+    let two = two_words_after("gen", words)?;
+    let size = size_of_word(two.first)?;
+    let made = made_of_word(two.second)?;
+    if !two.more.is_empty() {
+        return None;
+    }
+    Some(GenWords { size, made })
 }
 
 /// The lines of a network's numbers.

@@ -7,6 +7,6 @@ mod gen_;
 mod summed;
 mod summing;
 
-pub use gen_::{Made, PACKETS, generate, made_of_word, size_of_word};
+pub use gen_::{GenWords, Made, PACKETS, gen_of_words, generate};
 pub use summed::Summary;
 pub use summing::{MAX_PACKETS, summary};

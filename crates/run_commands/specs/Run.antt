@@ -14,19 +14,37 @@ use Rattle.command_output.specs.Pieces.{Piece, Output}
 use Rattle.run_commands.specs.AtNode.{entry_at_node}
 use Rattle.run_commands.specs.Entry.{comings_of_frames, driven_pieces}
 use Rattle.command_output.specs.Shape.{Shape}
-use Rattle.command_output.specs.Verbs.{has_two_words}
+use Rattle.command_output.specs.Verbs.{TwoWords, two_words}
+use Rattle.command_inputs.specs.Choices.{Picks, picks_after}
+use Rattle.run_commands.specs.declared.run.RunWords as code
 
--- its first words: the file and the node; the choices may follow, and after them the schedule
-abbrev pub is_run : List ℕ → List ℕ → List ℕ → Bool
-is_run verb file node = has_two_words (codes "run") verb file node
+-- what its words ask for
+pub record RunWords : Type 0 where
+  pub file : List ℕ
+  pub node : List ℕ
+  pub choices : List ℕ
+  pub schedule : List ℕ
 
--- the list of choices where the words give none
-abbrev pub no_choices : List ℕ
-no_choices = 0 ∷ []
+abbrev pub run_with : List ℕ → List ℕ → Option Picks → Option RunWords
+run_with file node None = None
+run_with file node (Some picks) =
+    Some (record { file = file; node = node; choices = picks.choices; schedule = picks.schedule })
 
--- the schedule where they give none
-abbrev pub no_schedule : List ℕ
-no_schedule = []
+abbrev pub run_by : Option TwoWords → Option RunWords
+run_by None = None
+run_by (Some words) = run_with words.first words.second (picks_after words.more)
+
+-- its words: the file and the node; the choices may follow, and after them the schedule
+abbrev pub run_words : List (List ℕ) → Option RunWords
+run_words words = run_by (two_words (codes "run") words)
+
+-- as the code has them
+abbrev pub run_words_seen : code.RunWords → RunWords
+run_words_seen words = record { file = words.file.now; node = words.node.now; choices = words.choices.items; schedule = words.schedule.items }
+
+abbrev pub run_asked : Option code.RunWords → Option RunWords
+run_asked None = None
+run_asked (Some words) = Some (run_words_seen words)
 
 -- the packets that are read, each by its number and its walk from the node
 abbrev pub comings_from : Network → ℕ → List ℕ → List Frame → List Coming

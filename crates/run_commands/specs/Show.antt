@@ -20,8 +20,10 @@ use Rattle.command_output.specs.Pieces.{ForOut, Output}
 use Rattle.command_output.specs.Shape.{Shape}
 
 -- its one word
-abbrev pub is_show : List ℕ → Bool
-is_show verb = bytes_eq verb (codes "show")
+abbrev pub is_show : List (List ℕ) → Bool
+is_show [] = false
+is_show (verb ∷ []) = bytes_eq verb (codes "show")
+is_show (verb ∷ next ∷ more) = false
 
 -- a packet that isn't read, with the cause
 unfoldable pub not_read_lines : ℕ → Unread → List ℕ

@@ -1,18 +1,51 @@
 //! The command `run`: the packets of the input, from a node of the network that a file describes, in
 //! the order of a schedule, or one after the other.
 
-ghost use Rattle.std.specs.Prelude.{◌≡◌, ◌<◌, length};
+ghost use Rattle.std.specs.Prelude.{◌≡◌, ◌<◌, IfOk, IfSome, length};
 ghost use Rattle.command_output.specs.Answers.{Commands};
 ghost use Rattle.command_output.specs.Outside.{outside};
-ghost use Rattle.run_commands.specs.Run.{run_shape};
+ghost use Rattle.command_output.specs.Verbs.{words_of};
+ghost use Rattle.run_commands.specs.Run.{run_asked, run_shape, run_words};
 
 use crate::at_node::AtNode;
 use crate::course::Course;
 use crate::driver::drive;
-use command_inputs::{network_of_file, node_of_name, packets_of_input};
-use command_output::{Halt, Status, Text, Told};
+use command_inputs::{network_of_file, node_of_name, packets_of_input, picks_of_words};
+use command_output::{Halt, Status, Text, Told, two_words_after};
 use srx_edge::{Files, Sink, Source};
-use std::alloc::Global;
+use std::alloc::{AllocError, Global};
+
+/// What the words of `run` ask for. (own rule)
+#[derive(Debug, Drop)]
+pub struct RunWords<'a> {
+    /// The file's name.
+    pub file: &'a str,
+    /// The node's name.
+    pub node: &'a str,
+    /// The choices that each packet takes, at least one.
+    pub choices: Vec<u32>,
+    /// The numbers of the packets whose turns come first, one after the other.
+    pub schedule: Vec<u32>,
+}
+
+/// What these words ask for, if they are those of `run`. (own rule)
+pub fn run_of_words(alloc: Global, words: &[String]) -> Result<Option<RunWords<'_>>, AllocError>
+    ensures spelled { IfOk result (λ asked. run_asked asked ≡ run_words (words_of words.now)) }
+    ensures some { IfOk result (λ asked. IfSome asked (λ a. 0 < length a.choices.items)) }
+{
+    let Some(two) = two_words_after("run", words) else {
+        return Ok(None);
+    };
+    let Some(picks) = picks_of_words(alloc, two.more)? else {
+        return Ok(None);
+    };
+    Ok(Some(RunWords {
+        file: two.first,
+        node: two.second,
+        choices: picks.choices,
+        schedule: picks.schedule,
+    }))
+}
 
 /// Runs the packets of the input from a node of the network that a file describes. A schedule's entry
 /// gives the packet of that number one stage; one that names no packet in flight gives none; after

@@ -3,8 +3,9 @@
 ghost use Rattle.std.specs.Prelude.{◌≡◌, ⊤, IfOk, string_bytes};
 ghost use Rattle.srx_edge.specs.Steps.{Wrote};
 ghost use Rattle.command_output.specs.Answers.{CommandsOfInput, ending_of_step};
-ghost use Rattle.run_commands.specs.Show.{frame_lines, frames_lines, not_read_lines, show_shape};
+ghost use Rattle.run_commands.specs.Show.{frame_lines, frames_lines, is_show, not_read_lines, show_shape};
 ghost use Rattle.command_inputs.specs.Packets.{HasHead, fault_of, reading_of};
+ghost use Rattle.command_output.specs.Verbs.{words_of};
 
 use command_inputs::{Packets, Tells, packets_of_input, tell_frames};
 use command_output::{Failure, Halt, Refusal, Status, Text, Told, Unread, write_all};
@@ -13,6 +14,13 @@ use pcap_io::{LentBody, LentFrame};
 use srv6_rules::Family;
 use srx_edge::{Sink, Source};
 use std::alloc::{AllocError, Global};
+
+/// Whether these words are those of `show`, which is one. (own rule)
+pub fn is_show(words: &[String]) -> bool
+    ensures { result ≡ is_show (words_of words.now) }
+{
+    words.len() == 1 && words[0].as_str() == "show"
+}
 
 /// The lines of a packet that is not read.
 #[tactic(auto, unfolding(crate::specs::Show::not_read_lines))]

@@ -2,4 +2,3 @@ pub mod Consequences
 pub mod Serving
 pub mod Stops
 pub mod Usage
-pub mod WordLemmas

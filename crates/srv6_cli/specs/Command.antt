@@ -1,85 +1,64 @@
 -- The words of the command line, and the shapes of the commands that they name (own rules).
-use Rattle.std.specs.Prelude.{◌≡◌, ℕ, ◌<◌, true, false, if◌then◌else◌, List, [], ◌∷◌, codes, length, map, Option, Some, None, Result, Ok, Err, String, string_bytes, ⊤}
-use Rattle.std.specs.declared.alloc.Global.{Global}
+use Rattle.std.specs.Prelude.{◌≡◌, ℕ, ◌<◌, false, if◌then◌else◌, List, [], ◌∷◌, codes, length, Option, Some, None, Result, Ok, Err, ⊤}
 use Rattle.command_output.specs.declared.halt.Halt.{Halt}
 use Rattle.command_output.specs.declared.status.Status.TheVariants as statuses
 use Rattle.command_output.specs.declared.told.Told.{Told}
-use Rattle.generate_commands.specs.declared.gen_.Made.{Made}
-use Rattle.srv6_cli.specs.declared.commands.Words.{Words}
-use Rattle.srv6_cli.specs.declared.commands.Words.TheVariants as words
-use Rattle.command_inputs.specs.Choices.{choices_in, schedule_in}
+use Rattle.srv6_cli.specs.declared.commands.Asked.{Asked}
+use Rattle.srv6_cli.specs.declared.commands.Asked.TheVariants as asked
 use Rattle.command_output.specs.Lines.{line, bytes_of_text}
 use Rattle.command_output.specs.Pieces.{ForErr}
 use Rattle.command_output.specs.Shape.{Shape}
 use Rattle.srv6_cli.specs.Words.{Command}
 use Rattle.srv6_cli.specs.Words as commands
-use Rattle.run_commands.specs.Run.{is_run, no_choices, no_schedule, run_shape}
-use Rattle.compile_commands.specs.Compile.{is_compile, compile_shape}
-use Rattle.compile_commands.specs.Check.{is_check, check_shape}
-use Rattle.walk_commands.specs.Walk.{is_walk, walk_shape}
-use Rattle.trace_commands.specs.Trace.{is_trace, trace_shape}
-use Rattle.trace_commands.specs.Replay.{is_replay, replay_shape}
+use Rattle.run_commands.specs.Run.{RunWords, run_shape, run_words, run_words_seen}
+use Rattle.compile_commands.specs.Compile.{CompileWords, compile_shape, compile_words, compile_words_seen}
+use Rattle.compile_commands.specs.Check.{CheckWords, check_shape, check_words, check_words_seen}
+use Rattle.walk_commands.specs.Walk.{WalkWords, walk_shape, walk_words, walk_words_seen}
+use Rattle.trace_commands.specs.Trace.{TraceWords, trace_shape, trace_words, trace_words_seen}
+use Rattle.trace_commands.specs.Replay.{ReplayWords, replay_shape, replay_words, replay_words_seen}
 use Rattle.run_commands.specs.Show.{is_show, show_shape}
-use Rattle.generate_commands.specs.Gen.{gen_shape, is_gen, made_in, size_in}
+use Rattle.generate_commands.specs.Gen.{GenWords, gen_shape, gen_words, gen_words_seen}
 
-abbrev pub command_of_one : List ℕ → Command
-command_of_one verb = if is_show verb then commands.Show else commands.Unknown
+-- a command whose words these are, or else what comes after it in the list of the commands
+abbrev pub or_else : {A : Type 0} → (A → Command) → Option A → Command → Command
+or_else command None others = others
+or_else command (Some words) others = command words
 
-abbrev pub run_with : List ℕ → List ℕ → Option (List ℕ) → Option (List ℕ) → Command
-run_with file node None schedule = commands.Unknown
-run_with file node (Some choices) None = commands.Unknown
-run_with file node (Some choices) (Some schedule) = commands.Run file node choices schedule
+-- the commands, by their words
 
-abbrev pub walk_with : List ℕ → List ℕ → Option (List ℕ) → Option (List ℕ) → Command
-walk_with file intent None schedule = commands.Unknown
-walk_with file intent (Some choices) None = commands.Unknown
-walk_with file intent (Some choices) (Some schedule) = commands.Walk file intent choices schedule
+abbrev pub run_by : RunWords → Command
+run_by words = commands.Run words.file words.node words.choices words.schedule
 
-abbrev pub trace_with : List ℕ → List ℕ → Option (List ℕ) → Command
-trace_with file node None = commands.Unknown
-trace_with file node (Some choices) = commands.Trace file node choices
+abbrev pub compile_by : CompileWords → Command
+compile_by words = commands.Compile words.file words.intent
 
-abbrev pub gen_with : Option ℕ → Option Made → Command
-gen_with None made = commands.Unknown
-gen_with (Some n) None = commands.Unknown
-gen_with (Some n) (Some made) = commands.Gen n made
+abbrev pub check_by : CheckWords → Command
+check_by words = commands.Check words.file words.intent words.cert
 
-abbrev pub command_of_three : List ℕ → List ℕ → List ℕ → Command
-command_of_three verb first second =
-    if is_run verb first second then commands.Run first second no_choices no_schedule
-    else if is_compile verb first second then commands.Compile first second
-    else if is_walk verb first second then commands.Walk first second no_choices no_schedule
-    else if is_trace verb first second then commands.Trace first second no_choices
-    else if is_replay verb first second then commands.Replay first second
-    else if is_gen verb then gen_with (size_in first) (made_in second)
-    else commands.Unknown
+abbrev pub walk_by : WalkWords → Command
+walk_by words = commands.Walk words.file words.intent words.choices words.schedule
 
-abbrev pub command_of_four : List ℕ → List ℕ → List ℕ → List ℕ → Command
-command_of_four verb first second third =
-    if is_run verb first second then run_with first second (choices_in third) (Some no_schedule)
-    else if is_walk verb first second then walk_with first second (choices_in third) (Some no_schedule)
-    else if is_trace verb first second then trace_with first second (choices_in third)
-    else if is_check verb first second third then commands.Check first second third
-    else commands.Unknown
+abbrev pub trace_by : TraceWords → Command
+trace_by words = commands.Trace words.file words.node words.choices
 
-abbrev pub command_of_five : List ℕ → List ℕ → List ℕ → List ℕ → List ℕ → Command
-command_of_five verb first second third fourth =
-    if is_run verb first second then run_with first second (choices_in third) (schedule_in fourth)
-    else if is_walk verb first second then walk_with first second (choices_in third) (schedule_in fourth)
-    else commands.Unknown
+abbrev pub replay_by : ReplayWords → Command
+replay_by words = commands.Replay words.file words.trace
 
+abbrev pub gen_by : GenWords → Command
+gen_by words = commands.Gen words.size words.made
+
+-- the list of the commands; their verbs differ, so that its order says nothing
 abbrev pub command_of : List (List ℕ) → Command
-command_of [] = commands.Unknown
-command_of (verb ∷ []) = command_of_one verb
-command_of (verb ∷ first ∷ []) = commands.Unknown
-command_of (verb ∷ first ∷ second ∷ []) = command_of_three verb first second
-command_of (verb ∷ first ∷ second ∷ third ∷ []) = command_of_four verb first second third
-command_of (verb ∷ first ∷ second ∷ third ∷ fourth ∷ []) = command_of_five verb first second third fourth
-command_of (verb ∷ first ∷ second ∷ third ∷ fourth ∷ fifth ∷ more) = commands.Unknown
-
--- the bytes of words
-abbrev pub words_of : List (String Global) → List (List ℕ)
-words_of words = map string_bytes words
+command_of words =
+    or_else run_by (run_words words)
+    (or_else compile_by (compile_words words)
+    (or_else check_by (check_words words)
+    (or_else walk_by (walk_words words)
+    (or_else trace_by (trace_words words)
+    (or_else replay_by (replay_words words)
+    (or_else gen_by (gen_words words)
+    (if is_show words then commands.Show
+    else commands.Unknown)))))))
 
 -- the line that says how the program is called
 unfoldable pub usage_line : List ℕ
@@ -109,28 +88,28 @@ shape_of (commands.Gen n made) = gen_shape n made
 shape_of commands.Unknown = usage_shape
 
 -- the command as the code names it
-abbrev pub command_seen : Words → Command
-command_seen (words.Run file node choices schedule) = commands.Run file.now node.now choices.items schedule.items
-command_seen (words.Compile file intent) = commands.Compile file.now intent.now
-command_seen (words.Check file intent cert) = commands.Check file.now intent.now cert.now
-command_seen (words.Walk file intent choices schedule) = commands.Walk file.now intent.now choices.items schedule.items
-command_seen (words.Trace file node choices) = commands.Trace file.now node.now choices.items
-command_seen (words.Replay file trace) = commands.Replay file.now trace.now
-command_seen words.Show = commands.Show
-command_seen (words.Gen size made) = commands.Gen size made
-command_seen words.Unknown = commands.Unknown
+abbrev pub command_seen : Asked → Command
+command_seen (asked.Run words) = run_by (run_words_seen words)
+command_seen (asked.Compile words) = compile_by (compile_words_seen words)
+command_seen (asked.Check words) = check_by (check_words_seen words)
+command_seen (asked.Walk words) = walk_by (walk_words_seen words)
+command_seen (asked.Trace words) = trace_by (trace_words_seen words)
+command_seen (asked.Replay words) = replay_by (replay_words_seen words)
+command_seen (asked.Gen words) = gen_by (gen_words_seen words)
+command_seen asked.Show = commands.Show
+command_seen asked.Unknown = commands.Unknown
 
 -- a run, a walk and a trace have at least one choice
-abbrev pub HasChoices : Words → Type 0
-HasChoices (words.Run file node choices schedule) = 0 < length choices.items
-HasChoices (words.Compile file intent) = ⊤
-HasChoices (words.Check file intent cert) = ⊤
-HasChoices (words.Walk file intent choices schedule) = 0 < length choices.items
-HasChoices (words.Trace file node choices) = 0 < length choices.items
-HasChoices (words.Replay file trace) = ⊤
-HasChoices words.Show = ⊤
-HasChoices (words.Gen size made) = ⊤
-HasChoices words.Unknown = ⊤
+abbrev pub HasChoices : Asked → Type 0
+HasChoices (asked.Run words) = 0 < length words.choices.items
+HasChoices (asked.Compile words) = ⊤
+HasChoices (asked.Check words) = ⊤
+HasChoices (asked.Walk words) = 0 < length words.choices.items
+HasChoices (asked.Trace words) = 0 < length words.choices.items
+HasChoices (asked.Replay words) = ⊤
+HasChoices (asked.Gen words) = ⊤
+HasChoices asked.Show = ⊤
+HasChoices asked.Unknown = ⊤
 
 -- words that are no command have that line
 abbrev pub UsageTold : Result Told Halt → Type 0

@@ -3,8 +3,9 @@
 ghost use Rattle.std.specs.Prelude.{◌≡◌, IfOk};
 ghost use Rattle.srx_edge.specs.Steps.{Whole};
 ghost use Rattle.command_output.specs.Answers.{Tells, Concludes, ending_of_failure};
-ghost use Rattle.srv6_cli.specs.Command.{command_of, words_of};
+ghost use Rattle.srv6_cli.specs.Command.{command_of};
 ghost use Rattle.command_output.specs.Outside.{outside};
+ghost use Rattle.command_output.specs.Verbs.{words_of};
 ghost use Rattle.srv6_cli.specs.Serves.{Serves};
 ghost use Rattle.command_output.specs.Endings.{ending_of_status};
 

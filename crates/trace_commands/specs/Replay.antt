@@ -11,11 +11,33 @@ use Rattle.command_output.specs.Outputs.{reported, refused, after}
 use Rattle.command_inputs.specs.Judgements.{network_in, trace_in, asks_behind_network}
 use Rattle.command_output.specs.Pieces.{Output}
 use Rattle.command_output.specs.Shape.{Shape}
-use Rattle.command_output.specs.Verbs.{has_two_words}
+use Rattle.command_output.specs.Verbs.{TwoWords, two_words}
+use Rattle.trace_commands.specs.declared.replay.ReplayWords as code
+
+-- what its words ask for
+pub record ReplayWords : Type 0 where
+  pub file : List ℕ
+  pub trace : List ℕ
+
+abbrev pub replay_with : List ℕ → List ℕ → List (List ℕ) → Option ReplayWords
+replay_with file trace [] = Some (record { file = file; trace = trace })
+replay_with file trace (next ∷ more) = None
+
+abbrev pub replay_by : Option TwoWords → Option ReplayWords
+replay_by None = None
+replay_by (Some words) = replay_with words.first words.second words.more
 
 -- its words: the description and the trace
-abbrev pub is_replay : List ℕ → List ℕ → List ℕ → Bool
-is_replay verb file trace = has_two_words (codes "replay") verb file trace
+abbrev pub replay_words : List (List ℕ) → Option ReplayWords
+replay_words words = replay_by (two_words (codes "replay") words)
+
+-- as the code has them
+abbrev pub replay_words_seen : code.ReplayWords → ReplayWords
+replay_words_seen words = record { file = words.file.now; trace = words.trace.now }
+
+abbrev pub replay_asked : Option code.ReplayWords → Option ReplayWords
+replay_asked None = None
+replay_asked (Some words) = Some (replay_words_seen words)
 
 -- the line of a trace that is right: its packets, and its lines but for the first and the last
 unfoldable pub right_line : ℕ → ℕ → List ℕ

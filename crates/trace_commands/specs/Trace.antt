@@ -1,5 +1,5 @@
 -- The command `trace`: the walks of the packets of the input, from a node of the network that a file describes, as text.
-use Rattle.std.specs.Prelude.{◌≡◌, ℕ, Bool, true, false, List, [], ◌∷◌, codes, Option, Some, None, IsSomeAnd}
+use Rattle.std.specs.Prelude.{◌≡◌, ℕ, false, List, [], ◌∷◌, codes, Option, Some, None, IsSomeAnd}
 use Rattle.std.specs.List.{flat_map}
 use Rattle.pcap_io.specs.declared.frame.Body.{Body}
 use Rattle.pcap_io.specs.declared.frame.Body.TheVariants as bodies
@@ -20,11 +20,35 @@ use Rattle.command_output.specs.Outputs.{after, ended_by}
 use Rattle.command_inputs.specs.Packets.{InputFrames, packets_in, reading_of, fault_of}
 use Rattle.command_output.specs.Pieces.{ForOut, Output}
 use Rattle.command_output.specs.Shape.{Shape}
-use Rattle.command_output.specs.Verbs.{has_two_words}
+use Rattle.command_output.specs.Verbs.{TwoWords, two_words}
+use Rattle.command_inputs.specs.Choices.{choices_after}
+use Rattle.trace_commands.specs.declared.trace.TraceWords as code
 
--- its first words: the file and the node; the choices may follow
-abbrev pub is_trace : List ℕ → List ℕ → List ℕ → Bool
-is_trace verb file node = has_two_words (codes "trace") verb file node
+-- what its words ask for
+pub record TraceWords : Type 0 where
+  pub file : List ℕ
+  pub node : List ℕ
+  pub choices : List ℕ
+
+abbrev pub trace_with : List ℕ → List ℕ → Option (List ℕ) → Option TraceWords
+trace_with file node None = None
+trace_with file node (Some choices) = Some (record { file = file; node = node; choices = choices })
+
+abbrev pub trace_by : Option TwoWords → Option TraceWords
+trace_by None = None
+trace_by (Some words) = trace_with words.first words.second (choices_after words.more)
+
+-- its words: the file and the node; the choices may follow
+abbrev pub trace_words : List (List ℕ) → Option TraceWords
+trace_words words = trace_by (two_words (codes "trace") words)
+
+-- as the code has them
+abbrev pub trace_words_seen : code.TraceWords → TraceWords
+trace_words_seen words = record { file = words.file.now; node = words.node.now; choices = words.choices.items }
+
+abbrev pub trace_asked : Option code.TraceWords → Option TraceWords
+trace_asked None = None
+trace_asked (Some words) = Some (trace_words_seen words)
 
 -- what enters at a node as a packet of a number and a family, and is walked under a list of choices
 abbrev pub traced_as : ℕ → List ℕ → ℕ → Family → Content → Traced

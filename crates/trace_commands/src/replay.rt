@@ -3,16 +3,40 @@
 ghost use Rattle.std.specs.Prelude.{◌≡◌, IfOk};
 ghost use Rattle.command_output.specs.Answers.{CommandsUnread};
 ghost use Rattle.command_output.specs.Outputs.{output_of_judgement};
-ghost use Rattle.trace_commands.specs.Replay.{replay_shape, replayed, right_line, wrong_line};
+ghost use Rattle.trace_commands.specs.Replay.{replay_asked, replay_shape, replay_words, replayed, right_line, wrong_line};
 ghost use Rattle.command_output.specs.Lines.{bytes_of_text};
+ghost use Rattle.command_output.specs.Verbs.{words_of};
 ghost use Rattle.trace_replay.specs.Reading.{IsTrace};
 
 use command_inputs::{network_of_file, trace_of_file};
-use command_output::{Halt, Judgement, Status, Text, Told, write_all};
+use command_output::{Halt, Judgement, Status, Text, Told, two_words_after, write_all};
 use net_model::Net;
 use srx_edge::{Files, Sink};
 use std::alloc::{AllocError, Global};
 use trace_replay::{ReplayFault, Trace};
+
+/// What the words of `replay` ask for. (own rule)
+#[derive(Debug, Drop)]
+pub struct ReplayWords<'a> {
+    /// The description's name.
+    pub file: &'a str,
+    /// The trace's name.
+    pub trace: &'a str,
+}
+
+/// What these words ask for, if they are those of `replay`. (own rule)
+pub fn replay_of_words(words: &[String]) -> Option<ReplayWords<'_>>
+    ensures { replay_asked result ≡ replay_words (words_of words.now) }
+{
+    let two = two_words_after("replay", words)?;
+    if !two.more.is_empty() {
+        return None;
+    }
+    Some(ReplayWords {
+        file: two.first,
+        trace: two.second,
+    })
+}
 
 /// The line of a trace that is right: its packets, and its lines but for the first and the last.
 #[tactic(auto, unfolding(crate::specs::Replay::right_line))]

@@ -1,13 +1,14 @@
 //! The command `trace`: the walks of the packets of the input, from a node of the network that a
 //! file describes, as text.
 
-ghost use Rattle.std.specs.Prelude.{◌≡◌, ◌<◌, IfOk, Some, length};
+ghost use Rattle.std.specs.Prelude.{◌≡◌, ◌<◌, IfOk, IfSome, Some, length};
 ghost use Rattle.srv6_rules.specs.Packet.{bytes_of};
 ghost use Rattle.srx_edge.specs.Steps.{Wrote};
 ghost use Rattle.command_output.specs.Answers.{CommandsOut, ending_of_step};
-ghost use Rattle.trace_commands.specs.Trace.{text_of, trace_shape, traced_as, traced_of};
+ghost use Rattle.trace_commands.specs.Trace.{text_of, trace_asked, trace_shape, trace_words, traced_as, traced_of};
 ghost use Rattle.trace_commands.specs.Teller.{MayTell, frame_trace};
 ghost use Rattle.command_output.specs.Lines.{line};
+ghost use Rattle.command_output.specs.Verbs.{words_of};
 ghost use Rattle.command_inputs.specs.Packets.{HasHead, fault_of, reading_of};
 ghost use Rattle.trace_replay.specs.Lines.{outcome_text, stages_text};
 ghost use Rattle.trace_replay.specs.Numbered.{IsNumbered};
@@ -16,9 +17,9 @@ ghost use Rattle.walk_rules.specs.Relation.{IsPlace};
 ghost use Rattle.walk_rules.specs.Walk.{choice_at};
 
 use command_inputs::{
-    Packets, Tells, network_of_file, node_of_name, packets_of_input, tell_frames,
+    Packets, Tells, choices_of_words, network_of_file, node_of_name, packets_of_input, tell_frames,
 };
-use command_output::{Failure, Halt, Refusal, Status, Text, Told, write_all};
+use command_output::{Failure, Halt, Refusal, Status, Text, Told, two_words_after, write_all};
 use icmp6_errors::IcmpSlot;
 use net_model::Net;
 use node_stage::Content;
@@ -27,9 +28,38 @@ use pcap_io::{LentBody, LentFrame};
 use run_commands::staged;
 use srv6_rules::Family;
 use srx_edge::{Files, Sink, Source};
-use std::alloc::Global;
+use std::alloc::{AllocError, Global};
 use trace_replay::{print_end, print_event, print_head, print_packet, print_stages};
 use walk_rules::{How, MAX_STAGES, Outcome, Place, next_place};
+
+/// What the words of `trace` ask for. (own rule)
+#[derive(Debug, Drop)]
+pub struct TraceWords<'a> {
+    /// The file's name.
+    pub file: &'a str,
+    /// The node's name.
+    pub node: &'a str,
+    /// The choices that each packet takes, at least one.
+    pub choices: Vec<u32>,
+}
+
+/// What these words ask for, if they are those of `trace`. (own rule)
+pub fn trace_of_words(alloc: Global, words: &[String]) -> Result<Option<TraceWords<'_>>, AllocError>
+    ensures spelled { IfOk result (λ asked. trace_asked asked ≡ trace_words (words_of words.now)) }
+    ensures some { IfOk result (λ asked. IfSome asked (λ a. 0 < length a.choices.items)) }
+{
+    let Some(two) = two_words_after("trace", words) else {
+        return Ok(None);
+    };
+    let Some(choices) = choices_of_words(alloc, two.more)? else {
+        return Ok(None);
+    };
+    Ok(Some(TraceWords {
+        file: two.first,
+        node: two.second,
+        choices,
+    }))
+}
 
 /// Writes the first line.
 #[tactic(auto, using(command_output::proofs::PublicLaws::writing))]

@@ -56,11 +56,37 @@ use Rattle.command_output.specs.Pieces.{Piece, ForErr, Output}
 use Rattle.run_commands.specs.declared.enters.Stays.TheVariants as stays
 use Rattle.run_commands.specs.Entry.{Entry, Staying, Entering, comings_of_frames, driven_pieces}
 use Rattle.command_output.specs.Shape.{Held, Shape}
-use Rattle.command_output.specs.Verbs.{has_two_words}
+use Rattle.command_output.specs.Verbs.{TwoWords, two_words}
+use Rattle.command_inputs.specs.Choices.{Picks, picks_after}
+use Rattle.walk_commands.specs.declared.walk.WalkWords as code
 
--- its first words: the description and the intent; the choices may follow, and after them the schedule
-abbrev pub is_walk : List ℕ → List ℕ → List ℕ → Bool
-is_walk verb file intent = has_two_words (codes "walk") verb file intent
+-- what its words ask for
+pub record WalkWords : Type 0 where
+  pub file : List ℕ
+  pub intent : List ℕ
+  pub choices : List ℕ
+  pub schedule : List ℕ
+
+abbrev pub walk_with : List ℕ → List ℕ → Option Picks → Option WalkWords
+walk_with file intent None = None
+walk_with file intent (Some picks) =
+    Some (record { file = file; intent = intent; choices = picks.choices; schedule = picks.schedule })
+
+abbrev pub walk_by : Option TwoWords → Option WalkWords
+walk_by None = None
+walk_by (Some words) = walk_with words.first words.second (picks_after words.more)
+
+-- its words: the description and the intent; the choices may follow, and after them the schedule
+abbrev pub walk_words : List (List ℕ) → Option WalkWords
+walk_words words = walk_by (two_words (codes "walk") words)
+
+-- as the code has them
+abbrev pub walk_words_seen : code.WalkWords → WalkWords
+walk_words_seen words = record { file = words.file.now; intent = words.intent.now; choices = words.choices.items; schedule = words.schedule.items }
+
+abbrev pub walk_asked : Option code.WalkWords → Option WalkWords
+walk_asked None = None
+walk_asked (Some words) = Some (walk_words_seen words)
 
 -- what the headend puts in front of packets: the compiled list, with the intent's fields
 abbrev pub segment_of : ℕ → Addr

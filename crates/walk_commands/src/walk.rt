@@ -1,17 +1,50 @@
 //! The command `walk`: the inner packets of the input, encapsulated at the headend of the intent of
 //! a file with the list that the intent is compiled to, in the network that another describes.
 
-ghost use Rattle.std.specs.Prelude.{◌<◌, length};
+ghost use Rattle.std.specs.Prelude.{◌≡◌, ◌<◌, IfOk, IfSome, length};
 ghost use Rattle.command_output.specs.Answers.{Commands};
 ghost use Rattle.command_output.specs.Outside.{outside};
-ghost use Rattle.walk_commands.specs.Walk.{walk_shape};
+ghost use Rattle.command_output.specs.Verbs.{words_of};
+ghost use Rattle.walk_commands.specs.Walk.{walk_asked, walk_shape, walk_words};
 
 use crate::start::{Start, hop_limit_fits, start_of_intent};
-use command_inputs::{intent_of_file, network_of_file, packets_of_input};
-use command_output::{Halt, Status, Text, Told};
+use command_inputs::{intent_of_file, network_of_file, packets_of_input, picks_of_words};
+use command_output::{Halt, Status, Text, Told, two_words_after};
 use run_commands::{Course, drive};
 use srx_edge::{Files, Sink, Source};
-use std::alloc::Global;
+use std::alloc::{AllocError, Global};
+
+/// What the words of `walk` ask for. (own rule)
+#[derive(Debug, Drop)]
+pub struct WalkWords<'a> {
+    /// The description's name.
+    pub file: &'a str,
+    /// The intent's name.
+    pub intent: &'a str,
+    /// The choices that each packet takes, at least one.
+    pub choices: Vec<u32>,
+    /// The numbers of the packets whose turns come first, one after the other.
+    pub schedule: Vec<u32>,
+}
+
+/// What these words ask for, if they are those of `walk`. (own rule)
+pub fn walk_of_words(alloc: Global, words: &[String]) -> Result<Option<WalkWords<'_>>, AllocError>
+    ensures spelled { IfOk result (λ asked. walk_asked asked ≡ walk_words (words_of words.now)) }
+    ensures some { IfOk result (λ asked. IfSome asked (λ a. 0 < length a.choices.items)) }
+{
+    let Some(two) = two_words_after("walk", words) else {
+        return Ok(None);
+    };
+    let Some(picks) = picks_of_words(alloc, two.more)? else {
+        return Ok(None);
+    };
+    Ok(Some(WalkWords {
+        file: two.first,
+        intent: two.second,
+        choices: picks.choices,
+        schedule: picks.schedule,
+    }))
+}
 
 /// Walks the inner packets of the input, in the order of a schedule as `run` does, from the
 /// headend of the intent of a file, encapsulated with the list that the intent is compiled to in

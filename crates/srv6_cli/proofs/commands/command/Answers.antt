@@ -1,6 +1,7 @@
 use Rattle.std.proofs.Common.{sym, ap, ◌∙◌}
 use Rattle.std.proofs.lemmas.Result.{err_from_is_err_and}
-use Rattle.srv6_cli.specs.Command.{command_of, command_seen, shape_of, words_of}
+use Rattle.srv6_cli.specs.Command.{command_of, command_seen, shape_of}
+use Rattle.command_output.specs.Verbs.{words_of}
 use Rattle.command_output.proofs.PublicLaws.{memory_first}
 use Rattle.srv6_cli.proofs.Usage.{usage_commands}
 use Rattle.srv6_cli.proofs.commands.command.Goals as goal

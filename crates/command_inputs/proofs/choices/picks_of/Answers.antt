@@ -1,7 +1,7 @@
 use Rattle.std.proofs.Common.{sym, ap, ◌∙◌}
 use Rattle.command_inputs.specs.Choices.{items_of}
-use Rattle.command_inputs.proofs.PublicLaws.{choices_in-some}
-use Rattle.srv6_cli.proofs.commands.run_with.Goals as goal
+use Rattle.command_inputs.proofs.ChoiceLemmas.{choices_in-some}
+use Rattle.command_inputs.proofs.choices.picks_of.Goals as goal
 
 pub returns-in-Some-schedule-clause-some : goal.returns-in-Some-schedule-clause-some
 returns-in-Some-schedule-clause-some c =

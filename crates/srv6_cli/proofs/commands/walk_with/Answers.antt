@@ -1,8 +1,0 @@
-use Rattle.std.proofs.Common.{sym, ap, ◌∙◌}
-use Rattle.command_inputs.specs.Choices.{items_of}
-use Rattle.command_inputs.proofs.PublicLaws.{choices_in-some}
-use Rattle.srv6_cli.proofs.commands.walk_with.Goals as goal
-
-pub returns-in-Some-schedule-clause-some : goal.returns-in-Some-schedule-clause-some
-returns-in-Some-schedule-clause-some c =
-    choices_in-some c.args.choices.now c.in-Some.choices.items (ap items_of (sym c.in-Some.is) ∙ c.in_ok-choices.ensures)
