@@ -1,6 +1,6 @@
 -- Numbers joined by commas, read part by part.
-use Rattle.std.proofs.Common.{◌≡◌, ℕ, ◌<◌, Bool, true, false, ◌==◌, List, [], ◌∷◌, ◌++◌, length, nat_lt, Option, None, Some, IfSome, sym, subst, arith, rules}
-use Rattle.std.specs.Prelude.{if◌then◌else◌}
+use Rattle.std.proofs.Common.{◌≡◌, ℕ, ◌<◌, Bool, true, false, ◌==◌, List, [], ◌∷◌, ◌++◌, length, nat_lt, Option, None, Some, IfSome, Result, Ok, Err, sym, subst, arith, rules}
+use Rattle.std.specs.Prelude.{if◌then◌else◌, IfOk}
 use Rattle.std.specs.Global.{Vec}
 use Rattle.std.proofs.lemmas.List.Splits.{length-slice_split}
 use Rattle.command_inputs.specs.declared.limits.TheConstants.{MAX_CHOICES}
@@ -41,7 +41,12 @@ choices_in-some text choices h =
     let many = length-slice_split (λ byte. byte == 44) text in
     by-limit (nat_lt MAX_CHOICES (length (parts_at_commas text))) (parts_at_commas text) choices (omega arith) h
 
-pub given_choices : (choices : Option (Vec ℕ)) (text : List ℕ) → items_of choices ≡ choices_in text
+given_choices : (choices : Option (Vec ℕ)) (text : List ℕ) → items_of choices ≡ choices_in text
     → IfSome choices (λ all. 0 < length all.items)
 given_choices None text h = tt
 given_choices (Some all) text h = choices_in-some text all.items h
+
+pub read_choices : {E : Type 0} (read : Result (Option (Vec ℕ)) E) (text : List ℕ) → IfOk read (λ choices. items_of choices ≡ choices_in text)
+    → IfOk read (λ choices. IfSome choices (λ all. 0 < length all.items))
+read_choices (Ok choices) text h = given_choices choices text h
+read_choices (Err fault) text h = tt

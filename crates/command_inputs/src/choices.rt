@@ -65,7 +65,6 @@ pub fn schedule_of(alloc: Global, text: &str) -> Result<Option<Vec<u32>>, AllocE
 
 /// The choices that may follow the words of a command, if these are the words that follow them:
 /// none, or one of choices. Where there is none, each decision takes its first member. (own rule)
-#[tactic(auto, using(crate::proofs::ChoiceLemmas::given_choices))]
 pub fn choices_of_words(alloc: Global, words: &[String]) -> Result<Option<Vec<u32>>, AllocError>
     ensures spelled { IfOk result (λ choices. items_of choices
         ≡ choices_after (words_of words.now)) }
