@@ -1,5 +1,5 @@
 -- The command `compile`: a list for the intent of a file in the network that another describes.
-use Rattle.std.specs.Prelude.{◌≡◌, ℕ, Bool, true, false, List, [], ◌∷◌, ◌++◌, codes, Option, Result, Ok, Err, IsSomeAnd, ⊤}
+use Rattle.std.specs.Prelude.{◌≡◌, ℕ, true, false, List, [], ◌∷◌, ◌++◌, codes, Option, Result, Ok, Err, IsSomeAnd, ⊤, Some, None}
 use Rattle.std.specs.List.{All, flat_map}
 use Rattle.std.specs.Fmt.{decimal}
 use Rattle.v6_addr.specs.Text.{address_text}

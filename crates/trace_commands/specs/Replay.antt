@@ -1,5 +1,5 @@
 -- The command `replay`: the trace of a file, run again in the network that another describes.
-use Rattle.std.specs.Prelude.{◌≡◌, ℕ, Bool, true, false, List, [], ◌∷◌, ◌++◌, codes, Option, Some, None, Result, Ok, Err, IsSomeAnd, ⊤}
+use Rattle.std.specs.Prelude.{◌≡◌, ℕ, true, false, List, [], ◌∷◌, ◌++◌, codes, Option, Some, None, Result, Ok, Err, IsSomeAnd, ⊤}
 use Rattle.std.specs.Fmt.{decimal}
 use Rattle.net_model.specs.Network.{Network}
 use Rattle.trace_replay.specs.declared.verdict.Replayed.{Replayed}
