@@ -4,3 +4,4 @@ pub mod FrameLemmas
 pub mod HeadLemmas
 pub mod WrittenLemmas
 pub mod PublicLaws
+pub mod PieceLemmas

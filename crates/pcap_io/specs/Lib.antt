@@ -5,3 +5,4 @@ pub mod Capture
 pub mod Taking
 pub mod Lending
 pub mod Lender
+pub mod Pieces

@@ -7,7 +7,8 @@ ghost use Rattle.pcap_io.specs.declared.numbers.TheConstants.{HEAD_LEN, MAX_FRAM
 ghost use Rattle.srv6_rules.specs.declared.numbers.TheConstants.{MAX_PACKET_LEN};
 ghost use Rattle.pcap_io.specs.Head.{Unread, FitsHead, head_bytes, head_of};
 ghost use Rattle.pcap_io.specs.Frames.{Spelled, Fits, Reading, Splits, HoldsNoFrame, frame_bytes, frame_len, behind, by_version, with_front, numbered_from, frames_of};
-ghost use Rattle.pcap_io.specs.Capture.{written_head, written_head_bytes, written_frame_bytes, capture_of};
+ghost use Rattle.pcap_io.specs.Pieces.{FrameCall, Runs, bytes_fed, coming, frames_taken, fresh_reader};
+ghost use Rattle.pcap_io.specs.Capture.{IsAtLimit, IsDone, Reader, written_head, written_head_bytes, written_frame_bytes, capture_of};
 
 /// A head that is spelled is read, whatever follows it. (own rule)
 pub fn spelled_heads_are_read()
@@ -34,6 +35,25 @@ pub fn spelled_frames_are_read()
     ensures { (head : CaptureHead) (most n : ℕ) (bytes : List ℕ) (frames : List Spelled)
         (read : Reading) → Splits head most n bytes frames read
         → frames_of head most n bytes ≡ read }
+{}
+
+/// However the bytes after a head are cut into pieces, and whenever frames are asked for: the frames
+/// that were taken are the first of those of all bytes, and what is still to come is what comes of
+/// the reader; where nothing more is fed and no frame is left, they are all; at the limit they are
+/// all, whatever is fed later. (own rule)
+pub fn frames_do_not_depend_on_pieces()
+    ensures frames { (head : CaptureHead) (r : Reader) (calls : List FrameCall) (more : List ℕ)
+        → Runs (fresh_reader head) calls r
+        → frames_of head MAX_FRAMES 1 (bytes_fed calls ++ more)
+        ≡ with_front (frames_taken calls) (coming r more) }
+    ensures end { (head : CaptureHead) (r : Reader) (calls : List FrameCall)
+        → Runs (fresh_reader head) calls r → IsDone r
+        → frames_of head MAX_FRAMES 1 (bytes_fed calls)
+        ≡ record { frames = frames_taken calls; rest = r.rest } }
+    ensures limit { (head : CaptureHead) (r : Reader) (calls : List FrameCall) (more : List ℕ)
+        → Runs (fresh_reader head) calls r → IsAtLimit r
+        → frames_of head MAX_FRAMES 1 (bytes_fed calls ++ more)
+        ≡ record { frames = frames_taken calls; rest = r.rest ++ more } }
 {}
 
 /// No frame is spelled at the front exactly where the bytes are fewer than its numbers say. (own

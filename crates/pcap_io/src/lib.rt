@@ -13,6 +13,7 @@ mod laws;
 mod lender;
 mod lent;
 mod numbers;
+mod piece_reader;
 mod read;
 mod reader;
 mod write;
@@ -22,12 +23,14 @@ pub use fault::{CaptureFault, CutFrame, FrameLimit, ReadFault, TakeFault};
 pub use frame::{Body, Frame, packet_in};
 pub use head::{CaptureHead, LinkType, link_of, read_head};
 pub use laws::{
-    frames_are_spelled, heads_are_spelled, no_frame_is_spelled_there, spelled_frames_are_read,
-    spelled_heads_are_read, written_captures_are_read,
+    frames_are_spelled, frames_do_not_depend_on_pieces, heads_are_spelled,
+    no_frame_is_spelled_there, spelled_frames_are_read, spelled_heads_are_read,
+    written_captures_are_read,
 };
 pub use lender::FrameLender;
 pub use lent::{LentBody, LentFrame};
 pub use numbers::{HEAD_LEN, MAX_FRAMES, SNAPLEN, four_at, two_at};
+pub use piece_reader::PieceReader;
 pub use read::read_capture;
 pub use reader::FrameReader;
 pub use write::{write_frame, write_head};
