@@ -5,3 +5,4 @@ pub mod HeadLemmas
 pub mod WrittenLemmas
 pub mod PublicLaws
 pub mod PieceLemmas
+pub mod FeedingLemmas

@@ -39,7 +39,7 @@ captured-more little xs more h whole =
     ∙ ap (take (number_of little 4 (drop 8 xs))) (drop-append-le 16 xs more h)
     ∙ take-append-le (number_of little 4 (drop 8 xs)) (drop 16 xs) more (omega (arith, len, whole))
 
-first_frame-more : (little : Bool) (xs more : List ℕ) → frame_len little xs ≤ length xs
+pub first_frame-more : (little : Bool) (xs more : List ℕ) → frame_len little xs ≤ length xs
     → first_frame little (xs ++ more) ≡ first_frame little xs
 unfolding first_frame
 first_frame-more little xs more whole =
@@ -53,13 +53,13 @@ first_frame-more little xs more whole =
 
 -- so a frame that is whole is the first of all bytes, and what is after it is followed by what is fed later
 module _ (head : CaptureHead) (most n : ℕ) (xs more : List ℕ) (whole : frame_len head.little xs ≤ length xs) where
-  longer : frame_len head.little (xs ++ more) ≤ length (xs ++ more)
+  pub longer : frame_len head.little (xs ++ more) ≤ length (xs ++ more)
   longer =
       let same = frame_len-more head.little xs more (frame-long head.little xs whole) in
       let len = length-append xs more in
       omega (arith, same, len, whole)
 
-  behind-more : behind head.little (xs ++ more) ≡ behind head.little xs ++ more
+  pub behind-more : behind head.little (xs ++ more) ≡ behind head.little xs ++ more
   behind-more =
       ap (λ (k : ℕ). drop k (xs ++ more)) (frame_len-more head.little xs more (frame-long head.little xs whole))
       ∙ drop-append-le (frame_len head.little xs) xs more whole

@@ -6,3 +6,4 @@ pub mod Taking
 pub mod Lending
 pub mod Lender
 pub mod Pieces
+pub mod Feeding

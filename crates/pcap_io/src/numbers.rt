@@ -15,6 +15,9 @@ pub const MAX_FRAMES: u32 = 65536;
 /// The longest frame that the head says that is written, in bytes. (own rule)
 pub const SNAPLEN: u32 = 262_144;
 
+/// The bytes of the pieces in which a whole capture is fed: 64 KiB. (own rule)
+pub(crate) const PIECE: usize = 65_536;
+
 /// The magic of a capture with microseconds.
 pub(crate) const MICROS_MAGIC: u32 = 0xa1b2_c3d4;
 
