@@ -1,6 +1,5 @@
 pub mod Certificates
 pub mod ChoiceLemmas
-pub mod FrameSteps
 pub mod Judging
 pub mod PublicLaws
 pub mod Tracing

@@ -1,6 +1,5 @@
 -- The lemmas that crates above may cite.
 pub use Rattle.command_inputs.proofs.ChoiceLemmas.{choices_in-some}
-pub use Rattle.command_inputs.proofs.FrameSteps.{Left, LinesWent, PiecesWent, all_done, left_all, left_on, told_all, told_cut, told_failed, told_on, walked_cut, walked_failed, walked_on}
 pub use Rattle.command_inputs.proofs.Judging.{RulesAreKept, rules-kept}
 pub use Rattle.command_inputs.proofs.Tracing.{trace-small}
 pub use Rattle.command_inputs.proofs.FrameLoops.{FramesLeft, FramesWalked, all_left, at_hand, flat_one, frames_done, one_done, walk_cut, walked_in_part, walked_one, walked_to_the_end}

@@ -8,19 +8,17 @@ use Rattle.pcap_io.specs.declared.frame.Body.TheVariants as bodies
 use Rattle.pcap_io.specs.declared.frame.Frame.{Frame}
 use Rattle.pcap_io.specs.declared.head.CaptureHead.{CaptureHead}
 use Rattle.pcap_io.specs.declared.numbers.TheConstants.{HEAD_LEN, MAX_FRAMES}
+use Rattle.pcap_io.specs.declared.pieces.CaptureEnd.{CaptureEnd}
+use Rattle.pcap_io.specs.declared.pieces.CaptureEnd.TheVariants as capture_ends
 use Rattle.pcap_io.specs.Capture.{Reader}
-use Rattle.pcap_io.specs.Frames.{Reading, with_front, frames_of}
+use Rattle.pcap_io.specs.Frames.{Reading, frames_of}
 use Rattle.pcap_io.specs.Head.{head_of}
 use Rattle.pcapng_io.specs.declared.end.NgEnd.{NgEnd}
 use Rattle.pcapng_io.specs.declared.end.NgEnd.TheVariants as ends
 use Rattle.pcapng_io.specs.declared.fault.NgFault.TheVariants as ng
 use Rattle.pcapng_io.specs.declared.numbers.TheConstants.{MAX_INPUT}
 use Rattle.pcapng_io.specs.Reading.{NgReading, end_at_start, ng_capture_of}
-use Rattle.command_output.specs.declared.halt.Failure.{Failure}
-use Rattle.command_output.specs.declared.halt.Failure.TheVariants as failures
 use Rattle.command_inputs.specs.declared.limits.TheConstants.{MAX_INPUT_BYTES}
-use Rattle.command_inputs.specs.declared.packets.Next.{Next}
-use Rattle.command_inputs.specs.declared.packets.Next.TheVariants as nexts
 use Rattle.command_inputs.specs.declared.packets.Packets.{Packets}
 use Rattle.command_inputs.specs.declared.packets.Packets.TheVariants.{Bare, Capture, Ng}
 use Rattle.command_output.specs.declared.unread.Unread.{Unread}
@@ -92,6 +90,12 @@ fault_behind count rest =
     else if count == MAX_FRAMES then Some (refusals.Capture FrameLimit)
     else Some (refusals.CutFrame (count + 1))
 
+-- the refusal of how a capture ends: none where it ends with its last whole frame
+abbrev pub fault_of_end : CaptureEnd → Option Refusal
+fault_of_end capture_ends.Whole = None
+fault_of_end (capture_ends.CutIn frame) = Some (refusals.CutFrame frame)
+fault_of_end capture_ends.AtLimit = Some (refusals.Capture FrameLimit)
+
 -- the frames of an input, numbered from 1, and the refusal of what is after the last one, if anything is
 pub record InputFrames : Type 0 where
   pub frames : List Frame
@@ -115,12 +119,3 @@ fault_of read = read.end
 -- the frames that a reader has left
 abbrev pub left_of : Reader → Reading
 left_of reader = frames_of reader.head (MAX_FRAMES - reader.taken) (reader.taken + 1) reader.rest
-
--- what a reader gives next, and what it has left then
-abbrev pub Nexts : Reader → Result Next Failure → Reader → Type 0
-Nexts old (Ok (nexts.Frame frame)) new =
-    (left_of old ≡ with_front (frame ∷ []) (left_of new)) × (new.taken ≡ old.taken + 1) × (length new.rest < length old.rest)
-Nexts old (Ok (nexts.End fault)) new =
-    (left_of old ≡ record { frames = []; rest = old.rest }) × (fault ≡ fault_behind old.taken old.rest)
-Nexts old (Err failures.Fault) new = ⊥
-Nexts old (Err failures.NoMemory) new = ⊤

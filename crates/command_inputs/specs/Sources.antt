@@ -10,7 +10,7 @@ abbrev pub bare_seen : BareFrames → FramesSeen
 bare_seen f = bare_by f.given f.packet.now
 
 abbrev pub capture_seen : CaptureFrames → FramesSeen
-capture_seen f = seen_at f.at f.reader
+capture_seen f = seen_at f.pieces.at f.pieces.left
 
 abbrev pub ng_seen : NgFrames → FramesSeen
 ng_seen f = ng_seen_at f.at_hand f.pieces

@@ -8,19 +8,19 @@
 
 mod choices;
 mod frames;
+mod input_bytes;
 mod judge;
 mod limits;
-mod ng_bytes;
 mod packets;
 mod sources;
 
 pub use choices::{Picks, choices_of_words, picks_of_words};
 pub use frames::{Found, Frames, Tells, tell_frames};
+pub use input_bytes::InputBytes;
 pub use judge::{
     cert_of_file, intent_of_file, intent_of_text, network_of_file, network_of_text, node_of_name,
     trace_of_file,
 };
 pub use limits::{MAX_CHOICES, MAX_INPUT_BYTES, MAX_SCHEDULE};
-pub use ng_bytes::NgBytes;
-pub use packets::{Next, Packets, next_of, packets_of_input, unread_of, unread_of_frame};
+pub use packets::{Packets, packets_of_input, unread_of_frame};
 pub use sources::{BareFrames, CaptureFrames, NgFrames, PacketFrames};

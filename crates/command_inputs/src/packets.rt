@@ -1,17 +1,14 @@
 //! The packets of the input, each with its number.
 
 ghost use Rattle.std.specs.Prelude.{◌≡◌, ◌≤◌, IfOk, length};
-ghost use Rattle.pcap_io.specs.Capture.{IsDone};
 ghost use Rattle.command_output.specs.Answers.{JudgesInput};
-ghost use Rattle.command_inputs.specs.Packets.{HasHead, Nexts, fault_behind, is_bare, ng_in, packets_in, refusal_of_end, unread_in};
+ghost use Rattle.command_inputs.specs.Packets.{HasHead, is_bare, ng_in, packets_in, refusal_of_end, unread_in};
 
+use crate::input_bytes::InputBytes;
 use crate::limits::MAX_INPUT_BYTES;
-use crate::ng_bytes::NgBytes;
 use base::Seq;
-use command_output::{Failure, Halt, Refusal, Unread};
-use pcap_io::{
-    Body, CaptureFault, CaptureHead, Frame, FrameReader, LentBody, LentFrame, TakeFault, read_head,
-};
+use command_output::{Halt, Refusal, Unread};
+use pcap_io::{CaptureFault, CaptureHead, LentBody, LentFrame, read_head};
 use pcapng_io::{NgEnd, NgFault, end_at_start};
 use srx_edge::{Source, draw};
 use std::alloc::Global;
@@ -22,18 +19,9 @@ pub enum Packets {
     /// One bare packet, which is packet 1, and what stands after its end.
     Bare(Seq<u8>),
     /// A capture: what its head says, and all its bytes, the head's among them.
-    Capture(CaptureHead, Seq<u8>),
+    Capture(CaptureHead, InputBytes),
     /// A pcapng file: all its bytes.
-    Ng(NgBytes),
-}
-
-/// What a reader of frames gives next. (own rule)
-#[derive(Debug, Drop)]
-pub enum Next {
-    /// A frame.
-    Frame(Frame),
-    /// There is none: the refusal of what is after the last one, if there is anything.
-    End(Option<Refusal>),
+    Ng(InputBytes),
 }
 
 /// Whether the input begins as a bare IPv6 packet does.
@@ -75,7 +63,7 @@ fn ng_in(bytes: Vec<u8>) -> Result<Packets, Refusal>
     };
     match refusal {
         Some(refusal) => Err(refusal),
-        None => Ok(Packets::Ng(NgBytes::new(bytes))),
+        None => Ok(Packets::Ng(InputBytes::new(bytes))),
     }
 }
 
@@ -90,7 +78,7 @@ fn packets_of_bytes(bytes: Vec<u8>) -> Result<Packets, Refusal>
         return Ok(Packets::Bare(Seq::new(bytes)));
     }
     match read_head(bytes.as_slice()) {
-        Ok(head) => Ok(Packets::Capture(head, Seq::new(bytes))),
+        Ok(head) => Ok(Packets::Capture(head, InputBytes::new(bytes))),
         Err(CaptureFault::PcapNg) => ng_in(bytes),
         Err(fault) => Err(Refusal::Capture(fault)),
     }
@@ -107,17 +95,6 @@ pub fn packets_of_input<S: Source>(alloc: Global, input: &mut S) -> Result<Packe
 }
 
 /// Why a frame's packet is not read, if it isn't. (own rule)
-pub fn unread_of(body: &Body) -> Option<Unread>
-    ensures { result ≡ unread_in body.now }
-{
-    match body {
-        Body::V6(_) | Body::V4(_) => None,
-        Body::ShortFrame => Some(Unread::ShortFrame),
-        Body::NotIp => Some(Unread::NotIp),
-    }
-}
-
-/// Why a lent frame's packet is not read, if it isn't. (own rule)
 pub fn unread_of_frame(frame: &LentFrame<'_>) -> Option<Unread>
     ensures { result ≡ unread_in frame.now.body }
 {
@@ -125,32 +102,5 @@ pub fn unread_of_frame(frame: &LentFrame<'_>) -> Option<Unread>
         LentBody::V6(_) | LentBody::V4(_) => None,
         LentBody::ShortFrame => Some(Unread::ShortFrame),
         LentBody::NotIp => Some(Unread::NotIp),
-    }
-}
-
-/// The refusal of what is after the last whole frame, if anything is.
-#[tactic(auto, using(crate::proofs::FrameSteps::ends))]
-fn fault_at_end(reader: &FrameReader) -> Option<Refusal>
-    requires { IsDone reader.now }
-    ensures { result ≡ fault_behind reader.now.taken reader.now.rest }
-{
-    match reader.finish() {
-        Ok(()) => None,
-        Err(cut) => Some(Refusal::CutFrame { frame: cut.number }),
-    }
-}
-
-/// The next frame that a reader gives. (own rule)
-#[tactic(auto, using(crate::proofs::FrameSteps::steps))]
-pub fn next_of(reader: &mut FrameReader) -> Result<Next, Failure>
-    ensures { Nexts reader.old result reader.new }
-{
-    match reader.take() {
-        Ok(Some(frame)) => Ok(Next::Frame(frame)),
-        Ok(None) => Ok(Next::End(fault_at_end(reader))),
-        Err(TakeFault::FrameLimit) => Ok(Next::End(Some(Refusal::Capture(
-            CaptureFault::FrameLimit,
-        )))),
-        Err(TakeFault::NoMemory) => Err(Failure::NoMemory),
     }
 }

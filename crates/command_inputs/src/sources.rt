@@ -1,22 +1,22 @@
 //! Where the frames of an input come from: a bare packet, a capture, or a pcapng file.
 
 ghost use Rattle.std.specs.Prelude.{◌≡◌, ◌≤◌, false, length, drop, None};
-ghost use Rattle.pcap_io.specs.Capture.{IsDone};
 ghost use Rattle.pcap_io.specs.Lending.{body_lent};
 ghost use Rattle.pcapng_io.specs.declared.numbers.TheConstants.{MAX_INPUT};
 ghost use Rattle.pcapng_io.specs.Reading.{ng_capture_of};
 ghost use Rattle.pcapng_io.specs.Pieces.{all_of};
 ghost use Rattle.command_inputs.specs.Frames.{all_frames, bare_by, ng_seen_at, seen_at};
-ghost use Rattle.command_inputs.specs.Packets.{HasHead, fault_behind, reading_of};
+ghost use Rattle.command_inputs.specs.Packets.{HasHead, fault_of_end, reading_of};
 ghost use Rattle.command_inputs.specs.Sources.{bare_seen, capture_seen, ng_seen, packets_seen};
 
 use crate::frames::{Found, Frames};
-use crate::ng_bytes::NgBytes;
+use crate::input_bytes::InputBytes;
 use crate::packets::{Packets, refusal_of_end};
 use base::NoMemory;
 use command_output::Refusal;
 use pcap_io::{
-    Body, CaptureFault, CaptureHead, Frame, FrameLender, FrameLimit, HEAD_LEN, LentBody, LentFrame,
+    Body, CaptureEnd, CaptureFault, CaptureHead, CapturePieces, Frame, FrameNext, HEAD_LEN,
+    LentBody, LentFrame,
 };
 use pcapng_io::{NgNext, NgPieces};
 
@@ -59,36 +59,34 @@ impl Frames for BareFrames<'_> {
     }
 }
 
-/// The frames of a classic capture, lent from its bytes. (own rule)
+/// The frames of a classic capture, fed in pieces and lent. (own rule)
 #[derive(Drop)]
 pub struct CaptureFrames<'a> {
-    reader: FrameLender<'a>,
-    at: Option<LentFrame<'a>>,
+    pieces: CapturePieces<'a>,
 }
 
 impl<'a> CaptureFrames<'a> {
     /// The frames after a capture's head, of all its bytes. (own rule)
-    pub fn new(head: CaptureHead, bytes: &'a [u8]) -> CaptureFrames<'a>
-        requires { HEAD_LEN ≤ length bytes.now }
+    pub fn new(head: CaptureHead, capture: &'a InputBytes) -> CaptureFrames<'a>
+        requires { HEAD_LEN ≤ length capture.now }
         ensures { capture_seen result
-            ≡ seen_at None (record { head = head; taken = 0; rest = drop HEAD_LEN bytes.now }) }
+            ≡ seen_at None (record { head = head; taken = 0; rest = drop HEAD_LEN capture.now }) }
     {
+        let frames = capture.as_slice().split_at(HEAD_LEN).1;
         CaptureFrames {
-            reader: FrameLender::new(head, bytes.split_at(HEAD_LEN).1),
-            at: None,
+            pieces: CapturePieces::new(capture.alloc(), head, frames),
         }
     }
 }
 
-/// The refusal of what is after the last whole frame, if anything is.
-#[tactic(auto, using(crate::proofs::FrameSteps::ends))]
-fn fault_after(reader: &FrameLender<'_>) -> Option<Refusal>
-    requires { IsDone reader.now }
-    ensures { result ≡ fault_behind reader.now.taken reader.now.rest }
+/// The refusal of how a capture ends; `None` where it ends with its last whole frame. (own rule)
+fn fault_of_end(end: CaptureEnd) -> Option<Refusal>
+    ensures { result ≡ fault_of_end end }
 {
-    match reader.finish() {
-        Ok(()) => None,
-        Err(cut) => Some(Refusal::CutFrame { frame: cut.number }),
+    match end {
+        CaptureEnd::Whole => None,
+        CaptureEnd::CutIn(frame) => Some(Refusal::CutFrame { frame }),
+        CaptureEnd::AtLimit => Some(Refusal::Capture(CaptureFault::FrameLimit)),
     }
 }
 
@@ -96,21 +94,14 @@ impl Frames for CaptureFrames<'_> {
     ghost seen = { capture_seen };
 
     fn next(&mut self) -> Result<Found, NoMemory> {
-        match self.reader.take() {
-            Ok(Some(frame)) => {
-                self.at = Some(frame);
-                Ok(Found::Frame)
-            }
-            Ok(None) => Ok(Found::End(fault_after(&self.reader))),
-            Err(FrameLimit) => Ok(Found::End(Some(Refusal::Capture(CaptureFault::FrameLimit)))),
+        match self.pieces.next()? {
+            FrameNext::Frame => Ok(Found::Frame),
+            FrameNext::End(end) => Ok(Found::End(fault_of_end(end))),
         }
     }
 
     fn frame(&self) -> Option<LentFrame<'_>> {
-        match &self.at {
-            Some(frame) => Some(frame.again()),
-            None => None,
-        }
+        self.pieces.frame()
     }
 }
 
@@ -123,7 +114,7 @@ pub struct NgFrames<'a> {
 
 impl<'a> NgFrames<'a> {
     /// The frames of a file. (own rule)
-    pub fn new(file: &'a NgBytes) -> NgFrames<'a>
+    pub fn new(file: &'a InputBytes) -> NgFrames<'a>
         requires { length file.now ≤ MAX_INPUT }
         ensures { ng_seen result ≡ ng_seen_at None (all_of (ng_capture_of file.now)) }
     {
@@ -206,8 +197,8 @@ impl Packets {
     {
         match self {
             Packets::Bare(packet) => PacketFrames::Bare(BareFrames::new(packet.as_slice())),
-            Packets::Capture(head, bytes) => {
-                PacketFrames::Capture(CaptureFrames::new(*head, bytes.as_slice()))
+            Packets::Capture(head, capture) => {
+                PacketFrames::Capture(CaptureFrames::new(*head, capture))
             }
             Packets::Ng(file) => PacketFrames::Ng(NgFrames::new(file)),
         }

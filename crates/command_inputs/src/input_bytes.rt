@@ -1,30 +1,30 @@
-//! The bytes of a pcapng file.
+//! The bytes of an input that is a capture.
 
 ghost use Rattle.std.specs.Prelude.{◌≡◌};
 
 use std::alloc::Global;
 use std::marker::Model;
 
-/// All bytes of a pcapng file, seen as the list of them. (own rule)
+/// All bytes of a capture, seen as the list of them. (own rule)
 #[derive(Debug, Drop)]
-pub struct NgBytes {
+pub struct InputBytes {
     bytes: Vec<u8>,
 }
 
-impl Model for NgBytes {
+impl Model for InputBytes {
     ghost use Rattle.std.specs.Prelude.{List, ℕ};
 
     ghost Value = { List ℕ };
 
-    ghost view = { λ file. file.bytes.items };
+    ghost view = { λ input. input.bytes.items };
 }
 
-impl NgBytes {
-    /// The file of these bytes. (own rule)
-    pub(crate) fn new(bytes: Vec<u8>) -> NgBytes
+impl InputBytes {
+    /// The input of these bytes. (own rule)
+    pub(crate) fn new(bytes: Vec<u8>) -> InputBytes
         ensures { result ≡ bytes.items }
     {
-        NgBytes { bytes }
+        InputBytes { bytes }
     }
 
     /// The bytes, in order. (own rule)
