@@ -1,17 +1,19 @@
-//! The frames of a capture, one by one.
+//! The frames of a capture that is fed in pieces, one by one.
 
-use crate::fault::{CutFrame, TakeFault};
+use crate::fault::{CutFrame, FrameLimit, TakeFault};
 use crate::frame::{Frame, captured_len, first_body};
 use crate::head::CaptureHead;
+use crate::lent::{LentFrame, lent_body};
 use crate::numbers::MAX_FRAMES;
 use base::NoMemory;
 use std::alloc::Global;
 use std::marker::Model;
 
-/// Takes the frames of a capture one by one (own rule). It is seen as the head, the number of
-/// frames taken, and the bytes after the head that no frame has taken.
+/// Takes the frames of a capture one by one, whose bytes after the head are fed in pieces; the
+/// frames don't depend on where they are cut (own rule). It is seen as the head, the number of
+/// frames taken, and the bytes fed that no frame has taken.
 #[derive(Drop)]
-pub struct FrameReader {
+pub struct PieceReader {
     alloc: Global,
     head: CaptureHead,
     input: Vec<u8>,
@@ -19,7 +21,7 @@ pub struct FrameReader {
     taken: u32,
 }
 
-impl Model for FrameReader {
+impl Model for PieceReader {
     ghost use Rattle.std.specs.Prelude.{◌≤◌, length, drop};
     ghost use Rattle.pcap_io.specs.Capture.{Reader};
     ghost use Rattle.pcap_io.specs.declared.numbers.TheConstants.{MAX_FRAMES};
@@ -31,28 +33,83 @@ impl Model for FrameReader {
     ghost invariant = { λ r. (r.at ≤ length r.input.items) × (r.taken ≤ MAX_FRAMES) };
 }
 
-impl FrameReader {
-    ghost use Rattle.std.specs.Prelude.{◌≡◌, ◌+◌, ◌<◌, ◌≤◌, length, IfOk, MatchResult};
-    ghost use Rattle.pcap_io.specs.Capture.{Takes, IsDone};
+impl PieceReader {
+    ghost use Rattle.std.specs.Prelude.{◌≡◌, ◌+◌, ◌<◌, ◌≤◌, length, MatchResult, OnErr, OnOk};
+    ghost use Rattle.pcap_io.specs.Capture.{HasFrame, IsDone, Takes, after_frame};
+    ghost use Rattle.pcap_io.specs.Pieces.{Peeks, fed, fresh_reader};
 
-    /// A reader of all that follows the 24 bytes of a capture's head. (own rule)
-    pub fn new(alloc: Global, head: CaptureHead, input: &[u8]) -> Result<FrameReader, NoMemory>
-        ensures { IfOk result (λ r. r ≡ record { head = head; taken = 0; rest = input.now }) }
+    /// A reader that was fed nothing of what follows the 24 bytes of a capture's head. (own rule)
+    pub fn new(alloc: Global, head: CaptureHead) -> PieceReader
+        ensures { result ≡ fresh_reader head }
     {
-        let input = input.to_vec(alloc)?;
-        Ok(FrameReader {
+        PieceReader {
             alloc,
             head,
-            input,
+            input: Vec::new(alloc),
             at: 0,
             taken: 0,
-        })
+        }
     }
 
-    /// The next frame, which is taken from the front of the bytes; its number is the number of
-    /// frames taken before and 1. `FrameLimit` comes exactly where 65,536 frames were taken and a
-    /// further byte is there; else `None` comes exactly where the bytes hold no further whole
-    /// frame. Where no frame is given, the reader stays as it was. (own rules)
+    /// Lets go of the bytes that frames have taken, where they are more than those left: so each
+    /// byte is moved once at most, on the average.
+    fn let_go(&mut self)
+        ensures { self.new ≡ self.old }
+    {
+        let at = self.at;
+        if at > self.input.len() - at {
+            self.input.drain(..at);
+            self.at = 0;
+        }
+    }
+
+    /// Feeds the bytes that follow those fed so far. After want of memory the reader is as it was.
+    /// (own rule)
+    pub fn feed(&mut self, piece: &[u8]) -> Result<(), NoMemory>
+        ensures ok { OnOk result (self.new ≡ fed self.old piece.now) }
+        ensures err { OnErr result (self.new ≡ self.old) }
+    {
+        self.let_go();
+        self.input.extend_from_slice(piece)?;
+        Ok(())
+    }
+
+    /// The next frame, lent; its number is the number of frames taken before and 1. `FrameLimit`
+    /// comes exactly where 65,536 frames were taken and a further byte is there; else `None` comes
+    /// exactly where the bytes fed hold no further whole frame. (own rules)
+    #[tactic(auto, unfolding(crate::specs::Frames::frame_len))]
+    pub fn peek(&self) -> Result<Option<LentFrame<'_>>, FrameLimit>
+        ensures { Peeks self.now result }
+    {
+        let rest = self.input.as_slice().split_at(self.at).1;
+        if self.taken == MAX_FRAMES {
+            if rest.is_empty() {
+                return Ok(None);
+            }
+            return Err(FrameLimit);
+        }
+        let Some(len) = captured_len(self.head.little, rest) else {
+            return Ok(None);
+        };
+        let body = lent_body(self.head.little, self.head.link, rest, len);
+        Ok(Some(LentFrame::new(self.taken + 1, body)))
+    }
+
+    /// Takes the next frame, which `peek` lends. (own rule)
+    #[tactic(auto, unfolding(crate::specs::Frames::frame_len))]
+    pub fn pass(&mut self)
+        requires { HasFrame self.old }
+        ensures { self.new ≡ after_frame self.old }
+    {
+        let rest = self.input.as_slice().split_at(self.at).1;
+        if let Some(len) = captured_len(self.head.little, rest) {
+            self.at += len + 16;
+            self.taken += 1;
+        }
+    }
+
+    /// The next frame, which is taken; as `peek` has it. Where no frame is given, the reader stays
+    /// as it was. (own rules)
     #[tactic(auto, unfolding(crate::specs::Frames::frame_len))]
     pub fn take(&mut self) -> Result<Option<Frame>, TakeFault>
         ensures { Takes self.old self.new result }
