@@ -5,13 +5,12 @@ use Rattle.pcap_io.specs.declared.fault.FrameLimit as limits
 use Rattle.pcap_io.specs.declared.frame.Frame.{Frame}
 use Rattle.pcap_io.specs.declared.head.CaptureHead.{CaptureHead}
 use Rattle.pcap_io.specs.declared.numbers.TheConstants.{HEAD_LEN, MAX_FRAMES}
-use Rattle.pcap_io.specs.Capture.{Reader, IsDone, IsAtLimit, next_frame}
+use Rattle.pcap_io.specs.Capture.{Reader, IsDone, IsAtLimit, Takes, next_frame}
 use Rattle.pcap_io.specs.Frames.{Reading, with_front, frames_of}
 use Rattle.pcap_io.specs.declared.pieces.CaptureEnd.{CaptureEnd}
 use Rattle.pcap_io.specs.declared.pieces.CaptureEnd.TheVariants as ends
 use Rattle.pcap_io.specs.declared.pieces.FrameNext.TheVariants as nexts
 use Rattle.pcap_io.specs.Feeding.{EndsWith, GoesOn, PiecesSeen}
-use Rattle.pcap_io.specs.Lender.{LendsNext}
 use Rattle.pcap_io.proofs.PublicLaws.{frames_of-zero, frames_of-whole, frames_of-none}
 use Rattle.command_output.specs.declared.refusal.Refusal.{Refusal}
 use Rattle.command_output.specs.declared.refusal.Refusal.TheVariants as refusals
@@ -53,7 +52,7 @@ bare_found packet = record {
 abbrev end_of : ℕ → Reading → Option Refusal
 end_of taken read = fault_behind (taken + length read.frames) read.rest
 
-module _ (old new : Reader) (frame : Frame) (at : Option Frame) (h : LendsNext old new (Ok (Some frame))) where
+module _ (old new : Reader) (frame : Frame) (at : Option Frame) (h : Takes old new (Ok (Some frame))) where
   left-frame : left_of old ≡ with_front (frame ∷ []) (left_of new)
   left-frame =
       let count : MAX_FRAMES - old.taken ≡ suc (MAX_FRAMES - (old.taken + 1)) = omega (arith, h.0.0) in

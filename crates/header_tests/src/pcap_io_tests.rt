@@ -3,9 +3,10 @@
 ghost use Rattle.std.specs.Prelude.{◌<◌};
 
 use pcap_io::{
-    Body, Capture, CaptureFault, CaptureHead, CutFrame, FrameReader, HEAD_LEN, LinkType, ReadFault,
-    read_capture, read_head, write_frame, write_head,
+    Body, CaptureFault, CaptureHead, CutFrame, Frame, FrameReader, HEAD_LEN, LinkType, TakeFault,
+    read_head, write_frame, write_head,
 };
+use std::alloc::Global;
 use std::test::Fail;
 
 /// The head that is written: magic of microseconds with the lowest byte first, version 2.4, zone
@@ -96,10 +97,43 @@ fn shown(body: &Body) -> (u8, &[u8]) {
     }
 }
 
+/// A reader that was fed what follows a capture's head.
+fn reader_of(alloc: Global, capture: &[u8]) -> Result<FrameReader, Fail> {
+    let head = read_head(capture)?;
+    let mut reader = FrameReader::new(alloc, head);
+    reader.feed(capture.split_at(HEAD_LEN).1)?;
+    Ok(reader)
+}
+
+/// The frames that a reader has, up to the first answer that is none.
+fn frames_of(alloc: Global, reader: &mut FrameReader) -> Result<Vec<Frame>, Fail> {
+    let mut frames = Vec::new(alloc);
+    for _ in 0..65537 {
+        match reader.take() {
+            Ok(Some(frame)) => frames.push(frame)?,
+            Ok(None) | Err(_) => return Ok(frames),
+        }
+    }
+    Ok(frames)
+}
+
+/// How a reader ends: 0 where it gives no further frame and no byte is left, the number of a frame
+/// that is cut, and 100,000 where it gives a frame or a fault.
+fn end_of(reader: &mut FrameReader) -> u32 {
+    match reader.take() {
+        Ok(None) => match reader.finish() {
+            Ok(()) => 0,
+            Err(cut) => cut.number,
+        },
+        Ok(Some(_)) | Err(_) => 100_000,
+    }
+}
+
 #[test]
 fn frames(rt: HostRuntime) -> Result<(), Fail> {
-    let Capture { frames, cut } = read_capture(rt.alloc(), &BIG)?;
-    assert_eq!(rt; cut, Some(6));
+    let mut reader = reader_of(rt.alloc(), &BIG)?;
+    let frames = frames_of(rt.alloc(), &mut reader)?;
+    assert_eq!(rt; end_of(&mut reader), 6);
     let frames = frames.as_slice();
     assert_eq!(rt; frames.len(), 5);
     assert_eq!(rt; frames[4].number, 5);
@@ -120,8 +154,9 @@ fn written_and_read(rt: HostRuntime) -> Result<(), Fail> {
     let frame = [7, 0, 0, 0, 2, 1, 0, 0, 2, 0, 0, 0, 2, 0, 0, 0, 0x60, 9];
     assert_eq!(rt; out.len(), 42);
     assert_eq!(rt; &out.as_slice()[HEAD_LEN..], frame.as_slice());
-    let Capture { frames, cut } = read_capture(rt.alloc(), out.as_slice())?;
-    assert_eq!(rt; cut, None);
+    let mut reader = reader_of(rt.alloc(), out.as_slice())?;
+    let frames = frames_of(rt.alloc(), &mut reader)?;
+    assert_eq!(rt; end_of(&mut reader), 0);
     let frames = frames.as_slice();
     assert_eq!(rt; frames.len(), 1);
     assert_eq!(rt; shown(&frames[0].body), (6, [0x60, 9].as_slice()));
@@ -130,7 +165,8 @@ fn written_and_read(rt: HostRuntime) -> Result<(), Fail> {
 
 #[test]
 fn frames_one_by_one(rt: HostRuntime) -> Result<(), Fail> {
-    let mut reader = FrameReader::new(rt.alloc(), RAW, &[0; 17])?;
+    let mut reader = FrameReader::new(rt.alloc(), RAW);
+    reader.feed(&[0; 17])?;
     let number = reader.take()?.map(|frame| frame.number);
     assert_eq!(rt; number, Some(1));
     match reader.take()? {
@@ -145,11 +181,13 @@ fn as_many_frames_as_are_read(rt: HostRuntime) -> Result<(), Fail> {
     let mut out = Vec::new(rt.alloc());
     write_head(&mut out)?;
     out.extend_from_slice(vec![in rt.alloc(); 0u8; 65536 * 16]?.as_slice())?;
-    let Capture { frames, cut } = read_capture(rt.alloc(), out.as_slice())?;
-    assert_eq!(rt; (frames.as_slice().len(), cut), (65536, None));
-    out.push(0)?;
-    match read_capture(rt.alloc(), out.as_slice()) {
-        Err(fault) => assert_eq!(rt; fault, ReadFault::Fault(CaptureFault::FrameLimit)),
+    let mut reader = reader_of(rt.alloc(), out.as_slice())?;
+    let frames = frames_of(rt.alloc(), &mut reader)?;
+    assert_eq!(rt; frames.as_slice().len(), 65536);
+    assert_eq!(rt; end_of(&mut reader), 0);
+    reader.feed(&[0])?;
+    match reader.take() {
+        Err(fault) => assert_eq!(rt; fault, TakeFault::FrameLimit),
         Ok(_) => assert!(rt; false),
     }
     Ok(())

@@ -1,12 +1,10 @@
 -- A reader that is fed a capture in pieces.
-use Rattle.std.proofs.Common.{◌≡◌, ℕ, ◌+◌, ◌<◌, ◌==◌, true, List, [], ◌++◌, length, Some, Ok, sym, ap, ◌∙◌, subst, arith, length-append}
+use Rattle.std.proofs.Common.{◌≡◌, ℕ, ◌+◌, ◌==◌, true, List, ◌++◌, length, Some, Ok, sym, ap, ◌∙◌, subst, arith, length-append}
 use Rattle.std.proofs.lemmas.Bool.{eqb-true}
 use Rattle.std.proofs.lemmas.List.{append_assoc, append-nil, nil_from_length}
-use Rattle.pcap_io.specs.declared.frame.Frame.{Frame}
 use Rattle.pcap_io.specs.declared.pieces.CaptureEnd.{CaptureEnd}
-use Rattle.pcap_io.specs.declared.pieces.CaptureEnd.TheVariants as ends
-use Rattle.pcap_io.specs.Frames.{Spelled, behind, frame_len, numbered}
-use Rattle.pcap_io.specs.Capture.{Reader, HasFrame, IsAtLimit, IsDone, next_frame, after_frame}
+use Rattle.pcap_io.specs.Frames.{Spelled, numbered}
+use Rattle.pcap_io.specs.Capture.{Reader, HasFrame, IsAtLimit, next_frame, after_frame}
 use Rattle.pcap_io.specs.Pieces.{fed}
 use Rattle.pcap_io.specs.declared.pieces.Feeding.{Feeding}
 use Rattle.pcap_io.specs.declared.pieces.FrameNext.TheVariants as nexts

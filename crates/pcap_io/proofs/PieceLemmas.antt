@@ -1,5 +1,5 @@
 -- Frames don't depend on where the bytes are cut into pieces.
-use Rattle.std.proofs.Common.{◌≡◌, ℕ, suc, ◌+◌, ◌-◌, ◌<◌, ◌≤◌, Bool, List, [], ◌∷◌, ◌++◌, length, take, drop, Option, Some, None, Result, Ok, Err, refl, sym, ap, ◌∙◌, arith, length-append, length-drop}
+use Rattle.std.proofs.Common.{◌≡◌, ℕ, suc, ◌+◌, ◌-◌, ◌≤◌, Bool, List, [], ◌∷◌, ◌++◌, length, take, drop, refl, sym, ap, ◌∙◌, arith, length-append, length-drop}
 use Rattle.std.proofs.lemmas.List.{append_assoc, append-nil, take-append-le, drop-append-le}
 use Rattle.pcap_io.specs.declared.frame.Frame.{Frame}
 use Rattle.pcap_io.specs.declared.head.CaptureHead.{CaptureHead}
@@ -109,7 +109,8 @@ pub runs-told : (head : CaptureHead) (r : Reader) (calls : List FrameCall) (more
     → frames_of head MAX_FRAMES 1 (bytes_fed calls ++ more) ≡ with_front (frames_taken calls) (coming r more)
 runs-told head r calls more runs = runs-coming (fresh_reader head) r calls more runs
 
-all-taken : (frames : List Frame) (rest : List ℕ) → with_front frames (record { frames = []; rest = rest }) ≡ record { frames = frames; rest = rest }
+all-taken : (frames : List Frame) (rest : List ℕ)
+    → with_front frames (record { frames = []; rest = rest }) ≡ record { frames = frames; rest = rest }
 all-taken frames rest = ap (λ fs. let made : Reading = record { frames = fs; rest = rest } in made) (append-nil frames)
 
 -- where nothing more is fed, it is all

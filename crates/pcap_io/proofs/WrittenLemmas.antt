@@ -1,5 +1,5 @@
 -- What is written reads back.
-use Rattle.std.proofs.Common.{◌≡◌, ℕ, suc, ◌+◌, ◌^◌, ◌<◌, ◌≤◌, Bool, List, [], ◌∷◌, ◌++◌, length, drop, All, None, Ok, refl, sym, ap, ◌∙◌, arith}
+use Rattle.std.proofs.Common.{◌≡◌, ℕ, suc, ◌+◌, ◌^◌, ◌<◌, ◌≤◌, Bool, List, [], ◌∷◌, ◌++◌, length, drop, All, Ok, refl, sym, ap, ◌∙◌, arith}
 use Rattle.std.specs.List.{flat_map}
 use Rattle.std.proofs.lemmas.Bool.{le-ltb}
 use Rattle.std.proofs.lemmas.List.{append-nil}
@@ -9,7 +9,7 @@ use Rattle.pcap_io.specs.declared.numbers.TheConstants.{HEAD_LEN, MAX_FRAMES, SN
 use Rattle.srv6_rules.specs.declared.numbers.TheConstants.{MAX_PACKET_LEN}
 use Rattle.pcap_io.specs.Head.{Unread, FitsHead, head_of}
 use Rattle.pcap_io.specs.Frames.{Spelled, Fits, HoldsNoFrame, frame_bytes, frame_len, by_version, packet_in, body_of, with_front, numbered_from, frames_of}
-use Rattle.pcap_io.specs.Capture.{capture_with, capture_behind, capture_of, written_head, written_head_bytes, written_frame, written_frame_bytes}
+use Rattle.pcap_io.specs.Capture.{written_head, written_head_bytes, written_frame, written_frame_bytes}
 use Rattle.pcap_io.proofs.FrameLemmas.{frames_of-frame_bytes, frames_of-spelled}
 use Rattle.pcap_io.proofs.HeadLemmas.{head-read, behind-head}
 
@@ -59,11 +59,8 @@ all_read most frames fit within =
 
 -- a capture of frames that are spelled is read
 pub written_capture-read : (frames : List Spelled) → All Fits frames → length frames ≤ MAX_FRAMES
-    → capture_of (written_head_bytes ++ flat_map (frame_bytes written_head.little) frames)
-    ≡ Ok (record { frames = numbered_from written_head.link 1 frames; cut = None })
+    → frames_of written_head MAX_FRAMES 1 (drop HEAD_LEN (written_head_bytes ++ flat_map (frame_bytes written_head.little) frames))
+    ≡ record { frames = numbered_from written_head.link 1 frames; rest = [] }
 written_capture-read frames fit within =
-    let more = flat_map (frame_bytes written_head.little) frames in
-    let bytes = written_head_bytes ++ more in
-    ap (λ head. capture_behind head bytes) (written_head-read more)
-    ∙ ap (λ rest. capture_with (frames_of written_head MAX_FRAMES 1 rest)) (behind-written more)
-    ∙ ap capture_with (all_read MAX_FRAMES frames fit within)
+    ap (frames_of written_head MAX_FRAMES 1) (behind-written (flat_map (frame_bytes written_head.little) frames))
+    ∙ all_read MAX_FRAMES frames fit within

@@ -1,7 +1,6 @@
 //! Why bytes are no capture.
 
 use base::NoMemory;
-use std::alloc::AllocFailed;
 
 /// Why bytes are no capture. (own rules)
 #[derive(Debug, Clone, Copy, PartialEq, Eq)]
@@ -21,15 +20,6 @@ pub enum CaptureFault {
     },
     /// At least one byte follows frame 65,536. The head never has this fault.
     FrameLimit,
-}
-
-/// Why `read_capture` gives no capture. (own rules)
-#[derive(Debug, Clone, Copy, PartialEq, Eq)]
-pub enum ReadFault {
-    /// The bytes are no capture.
-    Fault(CaptureFault),
-    /// Memory ran out, which says nothing about the bytes.
-    NoMemory,
 }
 
 /// Why `FrameReader::take` gives no answer. (own rules)
@@ -52,41 +42,6 @@ pub struct CutFrame {
     pub number: u32,
 }
 
-impl From<CaptureFault> for ReadFault {
-    ghost use Rattle.std.specs.Prelude.{◌≡◌};
-    ghost use Rattle.pcap_io.specs.declared.fault.ReadFault.TheVariants.{Fault};
-
-    ghost from_gives = { λ fault read. read ≡ Fault fault };
-
-    fn from(fault: CaptureFault) -> ReadFault {
-        ReadFault::Fault(fault)
-    }
-}
-
-impl From<TakeFault> for ReadFault {
-    ghost use Rattle.pcap_io.specs.Taking.{ReadsAs};
-
-    ghost from_gives = { ReadsAs };
-
-    fn from(fault: TakeFault) -> ReadFault {
-        match fault {
-            TakeFault::FrameLimit => ReadFault::Fault(CaptureFault::FrameLimit),
-            TakeFault::NoMemory => ReadFault::NoMemory,
-        }
-    }
-}
-
-impl From<NoMemory> for ReadFault {
-    ghost use Rattle.std.specs.Prelude.{◌≡◌};
-    ghost use Rattle.pcap_io.specs.declared.fault.ReadFault.TheVariants.{NoMemory};
-
-    ghost from_gives = { λ _ read. read ≡ NoMemory };
-
-    fn from(_: NoMemory) -> ReadFault {
-        ReadFault::NoMemory
-    }
-}
-
 impl From<NoMemory> for TakeFault {
     ghost use Rattle.std.specs.Prelude.{◌≡◌};
     ghost use Rattle.pcap_io.specs.declared.fault.TakeFault.TheVariants.{NoMemory};
@@ -94,17 +49,6 @@ impl From<NoMemory> for TakeFault {
     ghost from_gives = { λ _ fault. fault ≡ NoMemory };
 
     fn from(_: NoMemory) -> TakeFault {
-        TakeFault::NoMemory
-    }
-}
-
-impl<T: Drop> From<AllocFailed<T>> for TakeFault {
-    ghost use Rattle.std.specs.Prelude.{◌≡◌};
-    ghost use Rattle.pcap_io.specs.declared.fault.TakeFault.TheVariants.{NoMemory};
-
-    ghost from_gives = { λ _ fault. fault ≡ NoMemory };
-
-    fn from(_: AllocFailed<T>) -> TakeFault {
         TakeFault::NoMemory
     }
 }

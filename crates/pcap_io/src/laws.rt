@@ -1,6 +1,6 @@
 //! Laws about the definitions, each the contract of a function that does nothing.
 
-ghost use Rattle.std.specs.Prelude.{◌≡◌, ◌<◌, ◌≤◌, ◌+◌, ◌^◌, ℕ, suc, Bool, List, [], ◌∷◌, ◌++◌, length, drop, All, Ok, None};
+ghost use Rattle.std.specs.Prelude.{◌≡◌, ◌<◌, ◌≤◌, ◌+◌, ◌^◌, ℕ, suc, Bool, List, [], ◌∷◌, ◌++◌, length, drop, All, Ok};
 ghost use Rattle.std.specs.List.{flat_map};
 ghost use Rattle.pcap_io.specs.declared.head.CaptureHead.{CaptureHead};
 ghost use Rattle.pcap_io.specs.declared.numbers.TheConstants.{HEAD_LEN, MAX_FRAMES};
@@ -8,7 +8,7 @@ ghost use Rattle.srv6_rules.specs.declared.numbers.TheConstants.{MAX_PACKET_LEN}
 ghost use Rattle.pcap_io.specs.Head.{Unread, FitsHead, head_bytes, head_of};
 ghost use Rattle.pcap_io.specs.Frames.{Spelled, Fits, Reading, Splits, HoldsNoFrame, frame_bytes, frame_len, behind, by_version, with_front, numbered_from, frames_of};
 ghost use Rattle.pcap_io.specs.Pieces.{FrameCall, Runs, bytes_fed, coming, frames_taken, fresh_reader};
-ghost use Rattle.pcap_io.specs.Capture.{IsAtLimit, IsDone, Reader, written_head, written_head_bytes, written_frame_bytes, capture_of};
+ghost use Rattle.pcap_io.specs.Capture.{IsAtLimit, IsDone, Reader, written_head, written_head_bytes, written_frame_bytes};
 
 /// A head that is spelled is read, whatever follows it. (own rule)
 pub fn spelled_heads_are_read()
@@ -37,10 +37,10 @@ pub fn spelled_frames_are_read()
         → frames_of head most n bytes ≡ read }
 {}
 
-/// However the bytes after a head are cut into pieces, and whenever frames are asked for: the frames
-/// that were taken are the first of those of all bytes, and what is still to come is what comes of
-/// the reader; where nothing more is fed and no frame is left, they are all; at the limit they are
-/// all, whatever is fed later. (own rule)
+/// However the bytes after a head are cut into pieces, and whenever frames are asked for: the
+/// frames that were taken are the first of those of all bytes, and what is still to come is what
+/// comes of the reader; where nothing more is fed and no frame is left, they are all; at the limit
+/// they are all, whatever is fed later. (own rule)
 pub fn frames_do_not_depend_on_pieces()
     ensures frames { (head : CaptureHead) (r : Reader) (calls : List FrameCall) (more : List ℕ)
         → Runs (fresh_reader head) calls r
@@ -67,7 +67,7 @@ pub fn no_frame_is_spelled_there()
 {}
 
 /// What is written reads back, whatever follows: the head, and each frame as its packet where the
-/// packet's first half byte is 6 or 4, else as none. (own rule)
+/// packet's first half byte is 6 or 4, else as none; and all frames of a capture. (own rule)
 pub fn written_captures_are_read()
     ensures head { (rest : List ℕ) → head_of (written_head_bytes ++ rest) ≡ Ok written_head }
     ensures frame { (number link most n : ℕ) (packet rest : List ℕ)
@@ -76,6 +76,7 @@ pub fn written_captures_are_read()
         ≡ with_front (record { number = n; body = by_version packet } ∷ [])
         (frames_of written_head most (n + 1) rest) }
     ensures whole { (frames : List Spelled) → All Fits frames → length frames ≤ MAX_FRAMES
-        → capture_of (written_head_bytes ++ flat_map (frame_bytes written_head.little) frames)
-        ≡ Ok (record { frames = numbered_from written_head.link 1 frames; cut = None }) }
+        → frames_of written_head MAX_FRAMES 1 (drop HEAD_LEN
+        (written_head_bytes ++ flat_map (frame_bytes written_head.little) frames))
+        ≡ record { frames = numbered_from written_head.link 1 frames; rest = [] } }
 {}

@@ -8,7 +8,7 @@ use crate::fault::FrameLimit;
 use crate::head::CaptureHead;
 use crate::lent::LentFrame;
 use crate::numbers::PIECE;
-use crate::piece_reader::PieceReader;
+use crate::reader::FrameReader;
 use base::NoMemory;
 use std::alloc::Global;
 use std::marker::Model;
@@ -34,7 +34,7 @@ pub enum FrameNext {
 }
 
 /// How a capture ends of which all bytes were fed.
-fn end_of(reader: &PieceReader) -> CaptureEnd
+fn end_of(reader: &FrameReader) -> CaptureEnd
     requires { IsDone reader.now }
     ensures { EndsWith reader.now result }
 {
@@ -45,7 +45,7 @@ fn end_of(reader: &PieceReader) -> CaptureEnd
 }
 
 /// Passes the frame at hand, if one is.
-fn put_down(at_hand: bool, reader: &mut PieceReader)
+fn put_down(at_hand: bool, reader: &mut FrameReader)
     requires { HasAtHand at_hand reader.old }
     ensures { reader.new ≡ after_hand at_hand reader.old }
 {
@@ -57,7 +57,7 @@ fn put_down(at_hand: bool, reader: &mut PieceReader)
 /// A reader, and the bytes that it wasn't fed yet.
 #[derive(Drop)]
 pub(crate) struct Feeding<'a> {
-    pub(crate) reader: PieceReader,
+    pub(crate) reader: FrameReader,
     pub(crate) more: &'a [u8],
 }
 
@@ -122,7 +122,7 @@ impl<'a> CapturePieces<'a> {
     {
         CapturePieces {
             feeding: Feeding {
-                reader: PieceReader::new(alloc, head),
+                reader: FrameReader::new(alloc, head),
                 more: bytes,
             },
             at_hand: false,

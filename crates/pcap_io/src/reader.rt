@@ -13,7 +13,7 @@ use std::marker::Model;
 /// frames don't depend on where they are cut (own rule). It is seen as the head, the number of
 /// frames taken, and the bytes fed that no frame has taken.
 #[derive(Drop)]
-pub struct PieceReader {
+pub struct FrameReader {
     alloc: Global,
     head: CaptureHead,
     input: Vec<u8>,
@@ -21,7 +21,7 @@ pub struct PieceReader {
     taken: u32,
 }
 
-impl Model for PieceReader {
+impl Model for FrameReader {
     ghost use Rattle.std.specs.Prelude.{◌≤◌, length, drop};
     ghost use Rattle.pcap_io.specs.Capture.{Reader};
     ghost use Rattle.pcap_io.specs.declared.numbers.TheConstants.{MAX_FRAMES};
@@ -33,16 +33,16 @@ impl Model for PieceReader {
     ghost invariant = { λ r. (r.at ≤ length r.input.items) × (r.taken ≤ MAX_FRAMES) };
 }
 
-impl PieceReader {
+impl FrameReader {
     ghost use Rattle.std.specs.Prelude.{◌≡◌, ◌+◌, ◌<◌, ◌≤◌, length, MatchResult, OnErr, OnOk};
     ghost use Rattle.pcap_io.specs.Capture.{HasFrame, IsDone, Takes, after_frame};
     ghost use Rattle.pcap_io.specs.Pieces.{Peeks, fed, fresh_reader};
 
     /// A reader that was fed nothing of what follows the 24 bytes of a capture's head. (own rule)
-    pub fn new(alloc: Global, head: CaptureHead) -> PieceReader
+    pub fn new(alloc: Global, head: CaptureHead) -> FrameReader
         ensures { result ≡ fresh_reader head }
     {
-        PieceReader {
+        FrameReader {
             alloc,
             head,
             input: Vec::new(alloc),
