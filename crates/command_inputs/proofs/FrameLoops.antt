@@ -1,14 +1,13 @@
 -- Loops over frames: what is written of those that are done, with what is to be written of the others.
-use Rattle.std.proofs.Common.{◌≡◌, ℕ, ◌+◌, List, [], ◌∷◌, ◌++◌, Option, Some, Ok, Err, IfSome, refl, sym, ap, subst, ◌∙◌, append_assoc, append-nil}
+use Rattle.std.proofs.Common.{◌≡◌, ℕ, List, [], ◌∷◌, ◌++◌, Option, IfSome, refl, sym, ap, subst, ◌∙◌, append_assoc, append-nil}
 use Rattle.std.specs.List.{flat_map}
 use Rattle.std.proofs.lemmas.Grind.{flat_map-append}
 use Rattle.pcap_io.specs.declared.frame.Frame.{Frame}
 use Rattle.srx_edge.specs.Sinks.{SinkSeen, sent}
-use Rattle.srx_edge.specs.Steps.{Memory, Whole, Wrote}
+use Rattle.srx_edge.specs.Steps.{Memory, Wrote}
 use Rattle.srx_edge.proofs.PublicLaws.{sent_both, cut_whole}
 use Rattle.command_output.specs.declared.halt.Failure.{Failure}
 use Rattle.command_output.specs.declared.halt.Failure.TheVariants as failures
-use Rattle.command_output.specs.declared.refusal.Refusal.{Refusal}
 use Rattle.command_output.specs.Answers.{ending_of_failure}
 use Rattle.command_inputs.specs.Frames.{FramesSeen, FindsFrame}
 use Rattle.command_output.specs.Pieces.{Piece, Sinks, gone, WroteAll}

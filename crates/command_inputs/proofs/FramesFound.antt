@@ -1,10 +1,9 @@
 -- What the frames of a capture's reader are, one after the other.
-use Rattle.std.proofs.Common.{◌≡◌, ℕ, suc, ◌+◌, ◌-◌, ◌<◌, ◌≤◌, true, false, ◌==◌, rules, List, [], ◌∷◌, length, Option, Some, None, Ok, Err, refl, sym, ap, ◌∙◌, arith, add-zero, zero-add, subst}
+use Rattle.std.proofs.Common.{◌≡◌, ℕ, suc, ◌+◌, ◌-◌, ◌<◌, true, false, ◌==◌, rules, List, [], ◌∷◌, length, Option, Some, None, Ok, refl, sym, ap, ◌∙◌, arith, add-zero, zero-add, subst}
 use Rattle.pcap_io.specs.declared.fault.CaptureFault.TheVariants.{FrameLimit}
-use Rattle.pcap_io.specs.declared.fault.FrameLimit as limits
 use Rattle.pcap_io.specs.declared.frame.Frame.{Frame}
 use Rattle.pcap_io.specs.declared.head.CaptureHead.{CaptureHead}
-use Rattle.pcap_io.specs.declared.numbers.TheConstants.{HEAD_LEN, MAX_FRAMES}
+use Rattle.pcap_io.specs.declared.numbers.TheConstants.{MAX_FRAMES}
 use Rattle.pcap_io.specs.Capture.{Reader, IsDone, IsAtLimit, Takes, next_frame}
 use Rattle.pcap_io.specs.Frames.{Reading, with_front, frames_of}
 use Rattle.pcap_io.specs.declared.pieces.CaptureEnd.{CaptureEnd}
@@ -14,8 +13,7 @@ use Rattle.pcap_io.specs.Feeding.{EndsWith, GoesOn, PiecesSeen}
 use Rattle.pcap_io.proofs.PublicLaws.{frames_of-zero, frames_of-whole, frames_of-none}
 use Rattle.command_output.specs.declared.refusal.Refusal.{Refusal}
 use Rattle.command_output.specs.declared.refusal.Refusal.TheVariants as refusals
-use Rattle.command_inputs.specs.declared.frames.Found.TheVariants as founds
-use Rattle.command_inputs.specs.Frames.{FramesSeen, FindsFrame, Finds, bare_by, bare_frame, seen_at, all_frames}
+use Rattle.command_inputs.specs.Frames.{FramesSeen, FindsFrame, bare_by, bare_frame, seen_at, all_frames}
 use Rattle.command_inputs.specs.Packets.{classic_frames, fault_behind, fault_of_end, left_of}
 
 -- what is behind the last frame
@@ -114,8 +112,8 @@ all_at_start head bytes =
 
 pub pieces_found : (old new : PiecesSeen) → GoesOn old (Ok nexts.Frame) new → FindsFrame (seen_at old.at old.left) (seen_at new.at new.left)
 pieces_found old new h =
-    subst (λ (at : Option Frame). FindsFrame (seen_at old.at old.left) (seen_at at new.left)) (sym h.1.0)
-    (frame_found old.left new.left (next_frame old.left) old.at (h.0, (refl, h.1.1)))
+    subst (λ (at : Option Frame). FindsFrame (seen_at old.at old.left) (seen_at at new.left)) (sym h.1)
+    (frame_found old.left new.left (next_frame old.left) old.at (h.0, refl, h.2))
 
 pub pieces_ended : (old : PiecesSeen) (end : CaptureEnd) → EndsWith old.left end
     → ((seen_at old.at old.left).frames ≡ []) × (fault_of_end end ≡ (seen_at old.at old.left).end)
@@ -123,5 +121,5 @@ pieces_ended old ends.Whole h =
     end_found old.left old.left old.at None (h.0, refl) (fault_none old.left.taken old.left.rest h.1)
 pieces_ended old (ends.CutIn number) h =
     end_found old.left old.left old.at (Some (refusals.CutFrame number)) (h.0, refl)
-    (fault_cut old.left.taken number old.left.rest h.1.0 h.0.1 h.1.1)
+    (fault_cut old.left.taken number old.left.rest h.1 h.0.1 h.2)
 pieces_ended old ends.AtLimit h = limit_found old.left old.at h
