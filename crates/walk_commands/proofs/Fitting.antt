@@ -43,12 +43,14 @@ Carried net len (Executed n) = Unit {0}
 module _ (net : Network) (len : ℕ) where
   among : (set : List ℕ) (link : ℕ) → has_link set link ≡ true → All (λ k. len ≤ mtu_at net k) set → len ≤ mtu_at net link
   among [] link h all = absurd (cc h)
-  among (k ∷ ks) link h all = by_test (k == link) refl h
+  among (k ∷ ks) link h all =
+      by_test (k == link) refl h (λ later. among ks link later (All-tail (λ m. len ≤ mtu_at net m) k ks all))
     where
-      by_test : (b : Bool) → (k == link) ≡ b → (b || list_any (λ m. m == link) ks) ≡ true → len ≤ mtu_at net link
-      by_test true same here =
+      by_test : (b : Bool) → (k == link) ≡ b → (b || list_any (λ m. m == link) ks) ≡ true
+          → (list_any (λ m. m == link) ks ≡ true → len ≤ mtu_at net link) → len ≤ mtu_at net link
+      by_test true same here later =
           subst (λ m. len ≤ mtu_at net m) (eqb-true k link same) (All-head (λ m. len ≤ mtu_at net m) k ks all)
-      by_test false other later = among ks link later (All-tail (λ m. len ≤ mtu_at net m) k ks all)
+      by_test false other here later = later here
 
   meets-carried : (t : Step) (e : Event) → meets t e ≡ true → GoesOver net len t → Carried net len e
   meets-carried (Links set) (Crossed link) h over = among set link h over
