@@ -6,8 +6,8 @@ use Rattle.command_output.proofs.PublicLaws.{memory_first}
 use Rattle.srv6_cli.proofs.Usage.{usage_commands}
 use Rattle.srv6_cli.proofs.commands.command.Goals as goal
 
-pub returns-in_err-file : goal.returns-in_err-file
-returns-in_err-file g c =
+pub returns-in_err-words : goal.returns-in_err-words
+returns-in_err-words g c =
     let p = err_from_is_err_and c.from_residual.result c.from_residual.ensures.1 in
     rw (p.1, p.2) (memory_first (shape_of (command_of (words_of c.args.words.now)))
     (g.F.Files.seen c.args.files.now) (g.S.Source.seen c.args.input.now) (g.O.Sink.seen c.args.out.now) (g.E.Sink.seen c.args.err.now))
@@ -16,5 +16,5 @@ pub returns-in-Unknown : goal.returns-in-Unknown
 returns-in-Unknown g c =
     usage_commands (command_of (words_of c.args.words.now)) c.usage.result
     (g.F.Files.seen c.args.files.now) (g.S.Source.seen c.args.input.now)
-    (g.O.Sink.seen c.args.out.now) (ap command_seen (sym c.in-Unknown.is) ∙ c.in_ok-file.ensures.spelled) c.usage.ensures
+    (g.O.Sink.seen c.args.out.now) (ap command_seen (sym c.in-Unknown.is) ∙ c.in_ok-words.ensures.spelled) c.usage.ensures
     (g.E.Sink.seen c.args.err.now)

@@ -1,4 +1,5 @@
-use Rattle.srv6_cli.specs.Command.{command_of, words_of}
+use Rattle.srv6_cli.specs.Command.{command_of}
+use Rattle.command_output.specs.Verbs.{words_of}
 use Rattle.srv6_cli.proofs.Serving.{serves, told_whole}
 use Rattle.srv6_cli.proofs.top.serve.Goals as goal
 
