@@ -16,7 +16,7 @@ use Rattle.command_output.specs.declared.refusal.Refusal.TheVariants as refusals
 use Rattle.command_inputs.specs.Frames.{FramesSeen, FindsFrame, bare_by, bare_frame, seen_at, all_frames}
 use Rattle.command_inputs.specs.Packets.{classic_frames, fault_behind, fault_of_end, left_of}
 
--- what is behind the last frame
+-- what is after the last frame
 
 pub fault_none : (count : ℕ) (rest : List ℕ) → length rest ≡ 0 → None ≡ fault_behind count rest
 fault_none count rest none = rw none refl

@@ -6,10 +6,6 @@ use Rattle.std.proofs.lemmas.Bool.{cases_lt, ne_eqb}
 use Rattle.std.proofs.lemmas.List.Elements.{All-append, All-cons, All-nil}
 use Rattle.pcap_io.specs.declared.frame.Body.{Body}
 use Rattle.pcap_io.specs.declared.frame.Frame.{Frame}
-use Rattle.pcap_io.specs.declared.head.CaptureHead.{CaptureHead}
-use Rattle.pcap_io.specs.declared.numbers.TheConstants.{HEAD_LEN, MAX_FRAMES}
-use Rattle.pcap_io.specs.Frames.{Reading, behind, frame_len, frames_of as frames_in}
-use Rattle.pcap_io.proofs.PublicLaws.{frames_of-zero, frames_of-whole, frames_of-none}
 use Rattle.srv6_rules.specs.Packet.{Content}
 use Rattle.net_model.specs.Network.{Network}
 use Rattle.walk_rules.specs.declared.place.Place.{Place}

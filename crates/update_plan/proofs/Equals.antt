@@ -68,8 +68,8 @@ nodes_are m n h =
     let g : m.allow ≡ n.allow = same_bytes_are m.allow n.allow rest.1 in
     ap₂ (λ x a. node_with x a m.allow) e f ∙ ap (node_with n.name n.address) g
 
-abbrev link_with : List ℕ → ℕ → Option ℕ → Link
-link_with name from to = record { name = name; from = from; to = to }
+abbrev link_with : List ℕ → ℕ → Option ℕ → ℕ → Link
+link_with name from to mtu = record { name = name; from = from; to = to; mtu = mtu }
 
 pub links_are : (l m : Link) → equal_link l m ≡ true → l ≡ m
 links_are l m h =
@@ -77,8 +77,10 @@ links_are l m h =
     let rest = and_parts _ _ name.1 in
     let e : l.name ≡ m.name = same_bytes_are l.name m.name name.0 in
     let f : l.from ≡ m.from = eqb-true l.from m.from rest.0 in
-    let g : l.to ≡ m.to = options_are same_number (λ x y k. eqb-true x y k) l.to m.to rest.1 in
-    ap₂ (λ x n. link_with x n l.to) e f ∙ ap (link_with m.name m.from) g
+    let ends = and_parts _ _ rest.1 in
+    let g : l.to ≡ m.to = options_are same_number (λ x y k. eqb-true x y k) l.to m.to ends.0 in
+    let k : l.mtu ≡ m.mtu = eqb-true l.mtu m.mtu ends.1 in
+    ap₂ (λ x n. link_with x n l.to l.mtu) e f ∙ ap₂ (link_with m.name m.from) g k
 
 -- ---- lists that differ nowhere
 

@@ -47,7 +47,7 @@ abbrev pub equal_node : Node → Node → Bool
 equal_node m n = same_bytes m.name n.name && ((m.address.value == n.address.value) && same_bytes m.allow n.allow)
 
 abbrev pub equal_link : Link → Link → Bool
-equal_link l m = same_bytes l.name m.name && ((l.from == m.from) && equal_options same_number l.to m.to)
+equal_link l m = same_bytes l.name m.name && ((l.from == m.from) && (equal_options same_number l.to m.to && (l.mtu == m.mtu)))
 
 abbrev pub same_address : Addr → Addr → Bool
 same_address a b = a.value == b.value
