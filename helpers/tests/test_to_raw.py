@@ -164,8 +164,8 @@ class WithTheProgram(ToolCase):
         super().setUp()
         any_cooked = classic(276, *(cooked_2(0x86DD, packet) for packet in INNER_PACKETS))
         tagged = classic(1, *(ethernet(0x86DD, packet, (0x8100,)) for packet in INNER_PACKETS))
-        mixed = PcapNg().interface(1, "eth0").interface(101, "tun0")
-        mixed.packet(0, ethernet(0x86DD, INNER_PACKETS[0])).packet(1, INNER_PACKETS[1])
+        mixed = PcapNg().interface(276, "any").interface(101, "tun0")
+        mixed.packet(0, cooked_2(0x86DD, INNER_PACKETS[0])).packet(1, INNER_PACKETS[1])
         self.captures = [any_cooked, tagged, mixed.content]
 
     @needs_program
