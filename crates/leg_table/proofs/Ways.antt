@@ -14,21 +14,22 @@ pub address-is : (net : Network) (n : ℕ) (s : SidEntry) → slice_get net.sids
 address-is net n s e = sym (ap first_address e)
 
 -- the first of a list that has one
-first-in : (row : List ℕ) → (length row == 0) ≡ false → Contains row (get_or row 0 0)
+first-in : (numbers : List ℕ) → (length numbers == 0) ≡ false → Contains numbers (get_or numbers 0 0)
 first-in [] e = absurd (false≢true (sym e))
 first-in (x ∷ xs) e = (0, omega arith, refl)
 
-module _ (net : Network) (keeps : Keeps net) (intent : Intent) (position : ℕ) (row : List ℕ) (is : row ≡ sids_of net intent position) where
+module _ (net : Network) (keeps : Keeps net) (intent : Intent) (position : ℕ) (numbers : List ℕ)
+    (is : numbers ≡ sids_of net intent position) where
   -- the first SID of a position is there, and stands where the walk does
-  pub first-stands : (length row == 0) ≡ false
-      → (s : SidEntry) × (slice_get net.sids (get_or row 0 0) ≡ Some s) × (node_at net intent position ≡ Some s.node)
+  pub first-stands : (length numbers == 0) ≡ false
+      → (s : SidEntry) × (slice_get net.sids (get_or numbers 0 0) ≡ Some s) × (node_at net intent position ≡ Some s.node)
   first-stands some =
-      let h = subst (λ (xs : List ℕ). Contains xs (get_or row 0 0)) is (first-in row some) in
-      let s = sid-at net intent position (get_or row 0 0) (((are-sids net keeps intent position).each (get_or row 0 0)).0 h) in
+      let h = subst (λ (xs : List ℕ). Contains xs (get_or numbers 0 0)) is (first-in numbers some) in
+      let s = sid-at net intent position (get_or numbers 0 0) (((are-sids net keeps intent position).each (get_or numbers 0 0)).0 h) in
       (s.0, s.1, s.2)
 
   -- where there are none no SID is one of the position
-  pub none-of-none : (n : ℕ) → length row ≡ 0 → is_sid_at net intent position n ≡ false
+  pub none-of-none : (n : ℕ) → length numbers ≡ 0 → is_sid_at net intent position n ≡ false
   none-of-none n empty =
       false_from_ne_true (is_sid_at net intent position n) (λ at.
       let h = subst (λ (xs : List ℕ). Contains xs n) (sym is) (((are-sids net keeps intent position).each n).1 at) in

@@ -201,7 +201,7 @@ module _ (f : Flight) (old new : Progress) (of : IsOf f new) (behind : old.sched
       let fits : IsInFlight f.net p.0 = subst (λ (o : Option InFlight). IfSome o (IsInFlight f.net)) there in_flight in
       subst (λ (m : ℕ). IsTurnOf old f m new) (sym next) (going-turn p.0 p.1 (sym going) fits.counted left)
 
--- entries that were left after
+-- entries that were passed over
 
 pub split-first : (xs : List ℕ) → 1 ≤ length xs → xs ≡ get_or xs 0 0 ∷ take (length xs - 1) (drop 1 xs)
 split-first [] some = absurd (omega (arith, some))

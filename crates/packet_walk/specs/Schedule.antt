@@ -132,13 +132,13 @@ EntryGives numbers f entry None =
     (schedule : List ℕ) → scheduled (entry ∷ schedule) (comings_of numbers f) ≡ scheduled schedule (comings_of numbers f)
 EntryGives numbers f entry (Some number) = GivesTo numbers f entry number
 
--- entries were left after that gave no packet a stage: the same stages are due
+-- entries were passed over that gave no packet a stage: the same stages are due
 pub record IsLeft (old : Progress) (f : Flight) (new : Progress) : Type 0 where
   pub due : due new f ≡ due old f
   pub numbers : new.numbers ≡ old.numbers
   pub later : IsOf f new
 
--- what the entries give: the first that gives a packet a stage, or they are all left after
+-- what the entries give: the first that gives a packet a stage, or they are all passed over
 abbrev pub EntriesGive : Progress → Flight → Option ℕ → Progress → Type 0
 EntriesGive old f None new = IsLeft old f new × (new.schedule ≡ [])
 EntriesGive old f (Some number) new = IsTurnOf old f number new

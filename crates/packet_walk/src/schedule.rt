@@ -104,7 +104,7 @@ impl<'a> Turns<'a> {
 
     /// The number of the packet whose turn is next, in the order of entering as `Flight::turn` takes
     /// it: it has not ended. None exactly where all packets have ended. The turn is to be taken before
-    /// the next call. A call takes a step for each entry that it leaves after, with a search among
+    /// the next call. A call takes a step for each entry that it passes over, with a search among
     /// the numbers, and for each packet that it passes (own rule).
     pub fn next(&mut self, flight: &Flight<'_>) -> Option<u32>
         requires { IsOf flight.now self.old }

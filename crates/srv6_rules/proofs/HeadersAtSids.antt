@@ -149,7 +149,7 @@ module _ (s : SidEntry) (p : Packet) (h : Header) where
   at_header-after_step rest takes is left goes =
       at_header-whole rest takes is ∙ whole-steps s p h rest (ne_eqb (segments_left h) 0 (omega arith)) goes
 
-  -- without PSP that is all, and with it too where segments are left after
+  -- without PSP that is all, and with it too where segments are left
   pub at_header-steps : (rest : Endpoint) → TakesWhole s p → is_segment_routing h ≡ true → 0 < segments_left h → goes_on s ≡ true
       → (s.psp ≡ false) ⊎ (1 < segments_left h)
       → at_header s p h rest ≡ next_segment p h.place.at (srh_of h.bytes)

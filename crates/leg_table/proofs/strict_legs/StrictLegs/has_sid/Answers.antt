@@ -20,21 +20,23 @@ returns-then-n-sids c =
 
 pub sid-requires : goal.sid-requires
 sid-requires c =
-    let row = c.row-row.result.now in
+    let numbers = c.row-row.result.now in
     let same : length c.self.inside.net.now.sids ≡ length c.args.self.now.net.sids =
     ap (λ (t : LegTable). length t.net.sids) c.self.view_is in
-    let stands = first-stands c.args.self.now.net c.keeps_rules.ensures.facts c.args.self.now.intent c.args.position row c.row-row.ensures
+    let stands = first-stands c.args.self.now.net c.keeps_rules.ensures.facts c.args.self.now.intent c.args.position numbers
+    c.row-row.ensures
     (sym c.is_empty.ensures ∙ c.if-is_empty.false) in
-    let within = slice_get_within c.args.self.now.net.sids (get_or row 0 0) stands.0 stands.1 in
+    let within = slice_get_within c.args.self.now.net.sids (get_or numbers 0 0) stands.0 stands.1 in
     omega (arith, within, same)
 
 pub is_sid_at-requires-clause-stands : goal.is_sid_at-requires-clause-stands
 is_sid_at-requires-clause-stands c =
-    let row = c.row-row.result.now in
-    let stands = first-stands c.args.self.now.net c.keeps_rules.ensures.facts c.args.self.now.intent c.args.position row c.row-row.ensures
+    let numbers = c.row-row.result.now in
+    let stands = first-stands c.args.self.now.net c.keeps_rules.ensures.facts c.args.self.now.intent c.args.position numbers
+    c.row-row.ensures
     (sym c.is_empty.ensures ∙ c.if-is_empty.false) in
-    let found : slice_get c.args.self.now.net.sids (get_or row 0 0) ≡ Some c.sid.result.now =
-    subst (λ (t : LegTable). slice_get t.net.sids (get_or row 0 0) ≡ Some c.sid.result.now) c.self.view_is c.sid.ensures in
+    let found : slice_get c.args.self.now.net.sids (get_or numbers 0 0) ≡ Some c.sid.result.now =
+    subst (λ (t : LegTable). slice_get t.net.sids (get_or numbers 0 0) ≡ Some c.sid.result.now) c.self.view_is c.sid.ensures in
     let is : stands.0 ≡ c.sid.result.now = same_Some stands.0 c.sid.result.now (sym stands.1 ∙ found) in
     subst (λ (t : LegTable). node_at t.net t.intent c.args.position ≡ Some c.sid.result.now.node) (sym c.self.view_is)
     (stands.2 ∙ ap (λ (s : SidEntry). Some s.node) is)
