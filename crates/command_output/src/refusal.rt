@@ -5,7 +5,8 @@ ghost use Rattle.command_output.specs.Halts.{flat_refusal};
 
 use crate::node_name::NodeName;
 use intent_reader::IntentFault;
-use net_model::{Net, NotFlat};
+use flat_networks::NotFlat;
+use net_model::Net;
 use pcap_io::CaptureFault;
 use std::fmt;
 use text_faults::TextFault;

@@ -6,9 +6,9 @@ use Rattle.v6_addr.specs.declared.address.Addr.{Addr}
 use Rattle.net_model.specs.Network.{Network}
 use Rattle.net_model.specs.Keeps.{Keeps}
 use Rattle.net_model.specs.Rules.{IsNetwork}
-use Rattle.net_model.specs.declared.flat.NotFlat.{NotFlat}
-use Rattle.net_model.specs.Flat.{IsFlat, flatness_of}
-use Rattle.net_model.proofs.PublicLaws.{flatness_ok}
+use Rattle.flat_networks.specs.declared.flatness.NotFlat.{NotFlat}
+use Rattle.flat_networks.specs.Flat.{IsFlat, flatness_of}
+use Rattle.flat_networks.proofs.PublicLaws.{flatness_ok}
 use Rattle.intent_reader.specs.declared.intent.Intent.{Intent}
 use Rattle.list_pack.specs.declared.types.Solution.{Solution}
 use Rattle.list_pack.specs.SidLists.{list_values}

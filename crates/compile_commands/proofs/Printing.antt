@@ -6,10 +6,11 @@ use Rattle.std.proofs.lemmas.List.{append-nil}
 use Rattle.srx_edge.specs.Edge.{file_named}
 use Rattle.net_model.specs.Network.{Network}
 use Rattle.net_model.specs.Rules.{IsNetwork}
-use Rattle.net_model.specs.Flat.{IsFlat, flatness_of}
+use Rattle.flat_networks.specs.Flat.{IsFlat, flatness_of}
 use Rattle.text_faults.specs.declared.fault.TextFault.{TextFault}
-use Rattle.net_model.specs.declared.flat.NotFlat.{NotFlat}
-use Rattle.net_model.proofs.PublicLaws.{flatness_ok, keeps_from_network}
+use Rattle.flat_networks.specs.declared.flatness.NotFlat.{NotFlat}
+use Rattle.net_model.proofs.PublicLaws.{keeps_from_network}
+use Rattle.flat_networks.proofs.PublicLaws.{flatness_ok}
 use Rattle.toml_words.specs.Reading.{◌>>=◌}
 use Rattle.net_words.specs.declared.intent.DescribedIntent.{DescribedIntent}
 use Rattle.net_words.specs.Intent as words

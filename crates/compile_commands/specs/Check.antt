@@ -2,8 +2,8 @@
 use Rattle.std.specs.Prelude.{◌≡◌, ℕ, Bool, true, false, List, [], ◌∷◌, ◌++◌, codes, Option, Result, Ok, Err, IsSomeAnd, is_ok, ⊤, Some, None, if◌then◌else◌}
 use Rattle.std.specs.Fmt.{decimal}
 use Rattle.net_model.specs.Network.{Network}
-use Rattle.net_model.specs.Flat.{flatness_of}
-use Rattle.net_model.specs.declared.flat.NotFlat.{NotFlat}
+use Rattle.flat_networks.specs.Flat.{flatness_of}
+use Rattle.flat_networks.specs.declared.flatness.NotFlat.{NotFlat}
 use Rattle.intent_reader.specs.declared.intent.Intent.{Intent}
 use Rattle.list_certificate.specs.declared.types.Cert.{Cert}
 use Rattle.list_certificate.specs.declared.types.Verdict.{Verdict}

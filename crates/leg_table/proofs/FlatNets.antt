@@ -6,8 +6,8 @@ use Rattle.srv6_rules.specs.declared.sid.SidEntry.{SidEntry}
 use Rattle.net_model.specs.Network.{Network}
 use Rattle.net_model.specs.Best.{lookup_of}
 use Rattle.net_model.specs.Rules.{IsNetwork, block_of}
-use Rattle.net_model.specs.Flat.{IsFlat}
-use Rattle.net_model.proofs.PublicLaws.{lookups_alike, sid-units}
+use Rattle.flat_networks.specs.Flat.{IsFlat}
+use Rattle.flat_networks.proofs.PublicLaws.{lookups_alike, sid-units}
 use Rattle.net_model.specs.declared.parts.Block.{Block}
 use Rattle.list_pack.specs.SidLists.{AreListSids}
 use Rattle.list_pack.proofs.PublicLaws.{flat-lists}

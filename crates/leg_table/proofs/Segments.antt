@@ -11,9 +11,10 @@ use Rattle.net_model.specs.declared.net.Hit.{Hit}
 use Rattle.net_model.specs.declared.net.Hit.TheVariants as hits
 use Rattle.net_model.specs.Network.{Network}
 use Rattle.net_model.specs.Rules.{IsNetwork}
-use Rattle.net_model.specs.Flat.{IsFlat}
+use Rattle.flat_networks.specs.Flat.{IsFlat}
 use Rattle.net_model.specs.Best.{lookup_of}
-use Rattle.net_model.proofs.PublicLaws.{one_sid_prefix, matched_sid_holds}
+use Rattle.net_model.proofs.PublicLaws.{matched_sid_holds}
+use Rattle.flat_networks.proofs.PublicLaws.{one_sid_prefix}
 use Rattle.walk_rules.specs.declared.place.How.{How}
 use Rattle.walk_rules.specs.declared.place.How.TheVariants.{Arrived, Submitted, Through}
 use Rattle.walk_rules.specs.declared.place.Place.{Place}

@@ -7,7 +7,7 @@ use Rattle.srv6_rules.specs.Packet.{Content, V6}
 use Rattle.net_model.specs.Network.{Network}
 use Rattle.net_model.specs.Keeps.{Keeps}
 use Rattle.net_model.specs.Rules.{IsNetwork}
-use Rattle.net_model.specs.Flat.{IsFlat}
+use Rattle.flat_networks.specs.Flat.{IsFlat}
 use Rattle.net_model.proofs.PublicLaws.{keeps_from_network}
 use Rattle.walk_rules.specs.Walk.{choice_at}
 use Rattle.intent_reader.specs.Rules.{IsIntent}

@@ -4,7 +4,7 @@ use Rattle.v6_addr.specs.Address.{PrefixValue}
 use Rattle.srv6_rules.specs.Packet.{Packet, read_as}
 use Rattle.net_model.specs.Network.{Network}
 use Rattle.net_model.specs.Rules.{IsNetwork}
-use Rattle.net_model.specs.Flat.{IsFlat}
+use Rattle.flat_networks.specs.Flat.{IsFlat}
 use Rattle.intent_reader.specs.declared.intent.Step.{Step}
 use Rattle.intent_reader.specs.declared.intent.Intent.{Intent}
 use Rattle.list_places.specs.Lists.{ListSid}

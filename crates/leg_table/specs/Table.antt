@@ -5,7 +5,7 @@ use Rattle.srv6_rules.specs.declared.sid.SidEntry.{SidEntry}
 use Rattle.net_model.specs.Network.{Network}
 use Rattle.net_model.specs.declared.parts.Block.{Block}
 use Rattle.net_model.specs.Rules.{IsNetwork}
-use Rattle.net_model.specs.Flat.{IsFlat}
+use Rattle.flat_networks.specs.Flat.{IsFlat}
 use Rattle.intent_reader.specs.Rules.{IsIntent}
 use Rattle.intent_reader.specs.declared.intent.Intent.{Intent}
 use Rattle.list_pack.specs.declared.types.Shape.{Shape}

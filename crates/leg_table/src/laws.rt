@@ -23,7 +23,7 @@ ghost use Rattle.leg_table.specs.Sids.{sid_address, prefix_at, sids_of, AreSidsA
 ghost use Rattle.leg_table.specs.Tasks.{matches, left_by, is_done};
 ghost use Rattle.leg_table.specs.Trace.{Event, Handed, handed_over, trace_of, through_hand};
 ghost use Rattle.leg_table.specs.Realizes.{path_need, Realizes, Executes, ListRealizes, AlwaysHandsOver, IsPathAlong};
-ghost use Rattle.net_model.specs.Flat.{IsFlat};
+ghost use Rattle.flat_networks.specs.Flat.{IsFlat};
 ghost use Rattle.list_places.specs.Places.{Tunnel};
 ghost use Rattle.leg_table.specs.OneLeg.{LegLaws};
 ghost use Rattle.leg_table.specs.Value.{AnyWay, strict_kind};

@@ -9,7 +9,7 @@ ghost use Rattle.leg_table.specs.Reach.{IsReach, IsStart, AreLater, way_at};
 ghost use Rattle.leg_table.specs.Leg as legs;
 ghost use Rattle.leg_table.specs.Sids as sids;
 ghost use Rattle.list_pack.specs.SidLists.{block_at};
-ghost use Rattle.net_model.specs.Flat.{IsFlat};
+ghost use Rattle.flat_networks.specs.Flat.{IsFlat};
 
 use crate::reach::{Reach, reaches_of, way_at, way_from};
 use crate::ride::Behind;

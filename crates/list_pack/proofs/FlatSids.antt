@@ -18,8 +18,9 @@ use Rattle.net_model.specs.Network.{Network}
 use Rattle.net_model.specs.Rules.{IsNetwork, same_prefix, block_of, block_len_of}
 use Rattle.net_model.specs.Keeps as keeps
 use Rattle.net_model.specs.Keeps.{Keeps, KeepsBlock, IsBlockOf}
-use Rattle.net_model.specs.Flat.{IsFlat}
-use Rattle.net_model.proofs.PublicLaws.{keeps_from_network, block_of-is, sid-replace_len, sid-some_csid, one_flavour, sid-not_next}
+use Rattle.flat_networks.specs.Flat.{IsFlat}
+use Rattle.net_model.proofs.PublicLaws.{keeps_from_network, block_of-is, sid-not_next}
+use Rattle.flat_networks.proofs.PublicLaws.{sid-replace_len, sid-some_csid, one_flavour}
 use Rattle.list_places.specs.Lists.{SidBlock, block_len, IsInBlock, SuitsBlock, IsFlatSid}
 use Rattle.list_places.specs.Places.{StandsOn}
 use Rattle.list_pack.specs.SidLists.{kind_csid, sid_block, either_csid, csid_among, on_prefix, going_on, csid_on, prefix_csid, list_sid, AreListSids}

@@ -11,7 +11,7 @@ ghost use Rattle.list_pack.specs.declared.types.Solution.{Solution};
 ghost use Rattle.net_model.specs.Network.{Network};
 ghost use Rattle.list_places.specs.Lists.{IsLegal};
 ghost use Rattle.list_pack.specs.declared.types.Container.{Container};
-ghost use Rattle.net_model.specs.Flat.{IsFlat};
+ghost use Rattle.flat_networks.specs.Flat.{IsFlat};
 ghost use Rattle.net_model.specs.Rules.{IsNetwork};
 ghost use Rattle.list_pack.specs.SidLists.{AreListSids, list_sid, list_in, prefixes_in, steps_in};
 ghost use Rattle.list_pack.specs.Paths.{hops_of, sids_of_moves, opened, split_cost, SuitsLists};

@@ -1,6 +1,6 @@
 use intent_reader::read_intent;
 use list_pack::{Container, Cost};
-use net_model::NotFlat;
+use flat_networks::NotFlat;
 use net_reader::read_net;
 use path_compiler::{CompileFault, Compiled, compile};
 use std::process::Abort;

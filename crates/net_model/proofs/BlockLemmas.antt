@@ -6,7 +6,7 @@ use Rattle.v6_addr.proofs.PublicLaws.{is_inside_is}
 use Rattle.net_model.specs.declared.parts.Block.{Block}
 use Rattle.net_model.specs.Rules.{block_of}
 use Rattle.net_model.specs.Keeps.{IsBlockOf}
-use Rattle.net_model.proofs.PairLemmas.{find_first, find_none, get_from_contains, contains_from_get}
+use Rattle.net_model.proofs.FindLemmas.{find_first, find_none, get_from_contains, contains_from_get}
 
 block_by : (blocks : List Block) (p : PrefixValue) (found : Option Block) → block_of blocks p ≡ found → IsBlockOf blocks p found
 block_by blocks p None e = λ b there inside.

@@ -14,7 +14,7 @@ use Rattle.net_model.specs.Network.{Network}
 use Rattle.net_model.specs.Rules.{block_of, block_len_of}
 use Rattle.net_model.specs.Keeps.{IsBlockOf, IsUnflavoured, SuitsBlock, KeepsSid, Keeps}
 use Rattle.net_model.proofs.BlockLemmas.{block_of-is}
-use Rattle.net_model.proofs.PairLemmas.{get_from_contains}
+use Rattle.net_model.proofs.FindLemmas.{get_from_contains}
 
 -- what is known of a SID whose block is there
 record InBlock (s : SidEntry) (b : Block) : Type 0 where

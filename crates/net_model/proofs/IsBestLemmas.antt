@@ -2,10 +2,13 @@
 use Rattle.std.proofs.Common.{◌≡◌, ℕ, ◌≤◌, true, false, ltb, List, [], ◌∷◌, ◌++◌, Option, Some, None, refl, sym, ap, ◌∙◌, subst, arith, inl, inr}
 use Rattle.std.specs.List.{slice_get, Contains}
 use Rattle.std.proofs.lemmas.Bool.{cases_Bool, both_ways, ltb-true, ltb-false}
+use Rattle.std.proofs.lemmas.Option.{same_Some}
 use Rattle.std.proofs.lemmas.List.Elements.{Contains-append_cases}
 use Rattle.v6_addr.specs.Address.{PrefixValue, IsPrefix, Holds, holds_address}
 use Rattle.v6_addr.proofs.PublicLaws.{holds_address_is, same_value}
 use Rattle.srv6_rules.specs.declared.sid.Family.{Family}
+use Rattle.srv6_rules.specs.declared.sid.Family.TheVariants as families
+use Rattle.srv6_rules.specs.declared.sid.SidEntry.{SidEntry}
 use Rattle.net_model.specs.declared.parts.Node.{Node}
 use Rattle.net_model.specs.declared.net.Hit.{Hit}
 use Rattle.net_model.specs.declared.net.Hit.TheVariants as hits
@@ -240,3 +243,13 @@ best_is_one net node table family a hits.Nothing (hits.Sid n) rules none (q, is_
 best_is_one net node table family a hits.Nothing hits.Address rules none (q, is_k) = absurd (none _ is_k.is_there is_k.holds)
 best_is_one net node table family a hits.Nothing (hits.Route n) rules none (q, is_k) = absurd (none _ is_k.is_there is_k.holds)
 best_is_one net node table family a hits.Nothing hits.Nothing rules none also = refl
+
+-- a SID that an address is looked up to holds the address
+pub matched_sid_holds : (net : Network) (m : ℕ) (t : SidEntry) (node table : ℕ) (family : Family) (a : ℕ)
+    → lookup_of net node table family a ≡ hits.Sid m
+    → slice_get net.sids m ≡ Some t → (t.node ≡ node) × (table ≡ 0) × (family ≡ families.V6) × Holds t.prefix a
+matched_sid_holds net m t node table family a hit at_m =
+    let (p, best) = subst (IsBest net node table family a) hit (lookup_is_best net node table family a) in
+    let (u, at_u, of, is, first, v6) = entry_means net node table family (record { hit = hits.Sid m; prefix = p }) best.is_there in
+    let same = same_Some t u (sym at_m ∙ at_u) in
+    (ap (λ v. v.node) same ∙ of, first, v6, subst (λ q. Holds q a) (sym (ap (λ (v : SidEntry). v.prefix) same ∙ is)) best.holds)

@@ -5,14 +5,9 @@ pub mod NamedLemmas
 pub mod BestLemmas
 pub mod EntryLemmas
 pub mod IsBestLemmas
-pub mod PairLemmas
-pub mod PairMeanings
-pub mod FlatLemmas
-pub mod ApartLemmas
+pub mod FindLemmas
 pub mod BlockLemmas
 pub mod CompressionLaws
-pub mod FlatLaws
-pub mod AlikeLemmas
 pub mod AnswerLemmas
 pub mod FillLemmas
 pub mod ListedLemmas

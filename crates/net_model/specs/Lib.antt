@@ -5,8 +5,6 @@ pub mod Titles
 pub mod Keeps
 pub mod Named
 pub mod Entries
-pub mod Flat
-pub mod Apart
 pub mod Tables
 pub mod Judging
 pub mod EntryKeys

@@ -5,14 +5,10 @@
 //! `Net::keeps_rules` tells the rules to proofs. Beside its parts a network has a table of prefixes
 //! for each node, table number and family that has entries: `Net::lookup` gives the entry of a
 //! node's table that fits an address best, and `Net::table` one table for many look-ups.
-//! `compilable` tells whether the network is flat: then no entry lies strictly inside the prefix of
-//! a SID, and all addresses of that prefix are looked up alike; SIDs that overlap a block lie
-//! strictly inside it, with a length that suits it and a CSID other than 0; and SIDs on one prefix
-//! that make the next segment the destination are compressed alike. Only building takes memory.
+//! Only building takes memory.
 //! The laws about the definitions are the contracts of empty functions.
 #![tactic(auto)]
 
-mod flat;
 mod judge;
 mod judge_sids;
 mod laws;
@@ -27,12 +23,9 @@ mod rules;
 mod standing;
 mod tables;
 
-pub use flat::{NotFlat, compilable};
 pub use laws::{
-    best_match_is_one, blocks_hold_or_miss, blocks_hold_their_sids, entries_are_its_own,
-    flat_networks_are_refused_for_nothing, flat_networks_treat_addresses_alike,
-    matched_sids_hold_the_address, no_fault_is_keeping_the_rules, places_are_of_passing_items,
-    prefixes_have_one_flavour, rules_mean_their_facts, sids_of_blocks_are_whole_units,
+    best_match_is_one, blocks_hold_their_sids, entries_are_its_own, matched_sids_hold_the_address,
+    no_fault_is_keeping_the_rules, places_are_of_passing_items, rules_mean_their_facts,
     sids_suit_their_compression,
 };
 pub use limits::{
@@ -46,5 +39,6 @@ pub use net::{Hit, Net};
 pub use node_table::NodeTable;
 pub use parts::{Block, BlockKind, Link, Name, NamedPolicy, NetParts, Node, Route, TypeList};
 pub use range::are_in_range;
-pub use rules::is_name;
+pub use rules::{is_name, same_family, same_prefix};
 pub use standing::Standing;
+pub use tables::whole;

@@ -266,13 +266,15 @@ pub(crate) fn is_prefix_of(family: Family, p: &Prefix) -> bool
 }
 
 /// Whether two families are one.
-pub(crate) fn same_family(a: Family, b: Family) -> bool
+/// Whether two families are one.
+pub fn same_family(a: Family, b: Family) -> bool
     ensures { result ≡ same_family a b }
 {
     a == b
 }
 
-pub(crate) fn same_prefix(p: &Prefix, q: &Prefix) -> bool
+/// Whether two prefixes are one: the same value and the same length.
+pub fn same_prefix(p: &Prefix, q: &Prefix) -> bool
     ensures { result ≡ same_prefix p.now q.now }
 {
     p.value().value == q.value().value && p.len() == q.len()

@@ -82,7 +82,7 @@ impl Listed for SidEntry {
 }
 
 /// An address as a prefix of all its bits.
-pub(crate) fn whole(a: Addr) -> Prefix
+pub fn whole(a: Addr) -> Prefix
     ensures { result ≡ record { value = a.value; len = 128 } }
 {
     match Prefix::new(a, 128) {

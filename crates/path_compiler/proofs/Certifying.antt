@@ -2,9 +2,10 @@
 use Rattle.std.proofs.Common.{◌≡◌, ℕ, arith, Bool, List, [], ◌∷◌, length, Some, Result, Ok, Err, IsOk, refl, sym, ◌∙◌, ap, subst}
 use Rattle.net_model.specs.Network.{Network}
 use Rattle.net_model.specs.Rules.{IsNetwork}
-use Rattle.net_model.specs.Flat.{IsFlat, flatness_of}
-use Rattle.net_model.specs.declared.flat.NotFlat.{NotFlat}
-use Rattle.net_model.proofs.PublicLaws.{flatness_ok, keeps_from_network}
+use Rattle.flat_networks.specs.Flat.{IsFlat, flatness_of}
+use Rattle.flat_networks.specs.declared.flatness.NotFlat.{NotFlat}
+use Rattle.net_model.proofs.PublicLaws.{keeps_from_network}
+use Rattle.flat_networks.proofs.PublicLaws.{flatness_ok}
 use Rattle.intent_reader.specs.Rules.{IsIntent}
 use Rattle.intent_reader.specs.declared.intent.Intent.{Intent}
 use Rattle.list_pack.specs.declared.types.Container.{Container}

@@ -2,8 +2,8 @@
 use Rattle.std.proofs.Common.{◌≡◌, ◌≢◌, ℕ, ◌<◌, ◌≤◌, arith, Bool, List, length, Result, Ok, Err, refl, sym, ◌∙◌, ap}
 use Rattle.srv6_rules.specs.Encapsulation.{header_bytes}
 use Rattle.net_model.specs.Network.{Network}
-use Rattle.net_model.specs.Flat.{flatness_of}
-use Rattle.net_model.specs.declared.flat.NotFlat.{NotFlat}
+use Rattle.flat_networks.specs.Flat.{flatness_of}
+use Rattle.flat_networks.specs.declared.flatness.NotFlat.{NotFlat}
 use Rattle.intent_reader.specs.declared.intent.Intent.{Intent}
 use Rattle.list_pack.specs.declared.types.Container.{Container}
 use Rattle.list_pack.specs.declared.types.PathStep.{PathStep}

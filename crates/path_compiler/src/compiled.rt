@@ -1,7 +1,7 @@
 //! Compiled lists, and when an intent is refused.
 
 use list_pack::{SidList, Solution};
-use net_model::NotFlat;
+use flat_networks::NotFlat;
 
 /// A list of segments that an intent is compiled to. (own rule)
 #[derive(Debug, Drop)]

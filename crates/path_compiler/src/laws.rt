@@ -3,7 +3,7 @@
 ghost use Rattle.std.specs.Prelude.{◌≡◌, ◌≢◌, Bool, [], Result, Err};
 ghost use Rattle.net_model.specs.Network.{Network};
 ghost use Rattle.net_model.specs.Rules.{IsNetwork};
-ghost use Rattle.net_model.specs.Flat.{IsFlat};
+ghost use Rattle.flat_networks.specs.Flat.{IsFlat};
 ghost use Rattle.intent_reader.specs.Rules.{IsIntent};
 ghost use Rattle.intent_reader.specs.declared.intent.Intent.{Intent};
 ghost use Rattle.list_pack.specs.declared.types.Solution.{Solution};

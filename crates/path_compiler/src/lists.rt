@@ -2,7 +2,7 @@
 
 ghost use Rattle.std.specs.Prelude.{◌≡◌, ◌<◌, length, slice_get, Some, IfOk, Ok};
 ghost use Rattle.std.specs.Option.{option_map};
-ghost use Rattle.net_model.specs.Flat.{flatness_of};
+ghost use Rattle.flat_networks.specs.Flat.{flatness_of};
 ghost use Rattle.intent_reader.specs.Rules.{IsIntent};
 ghost use Rattle.list_pack.specs.Least.{IsSolution};
 ghost use Rattle.path_compiler.specs.Compiled.{AnswersOver, CompileAnswers, IsFound, IsListIn, NoLessHandsOver, NoneLessOver, cost_in};
@@ -13,7 +13,8 @@ use intent_reader::Intent;
 use leg_table::StrictLegs;
 use list_encoder::solve;
 use list_pack::{Cost, ListLegs, Potential, Solution, header_bytes, list_of};
-use net_model::{Net, compilable};
+use flat_networks::compilable;
+use net_model::Net;
 use std::alloc::Global;
 
 /// the cost of the state that is listed first: the start, where a path leads from it to the end

@@ -9,7 +9,7 @@ mod intent_reader_tests;
 #[cfg(test)]
 mod net_maker_tests;
 #[cfg(test)]
-mod net_model_flat_tests;
+mod flat_networks_tests;
 #[cfg(test)]
 mod net_model_tests;
 #[cfg(test)]

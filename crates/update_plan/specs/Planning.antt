@@ -18,7 +18,7 @@ use Rattle.net_model.specs.declared.parts.Route.{Route}
 use Rattle.net_model.specs.Network.{Network}
 use Rattle.net_model.specs.Rules.{same_family, has_room}
 use Rattle.net_model.specs.Judging.{title_text, same_text}
-use Rattle.net_model.specs.Flat.{address_prefix}
+use Rattle.flat_networks.specs.Flat.{address_prefix}
 use Rattle.update_plan.specs.declared.entry.EntryId.{EntryId}
 use Rattle.update_plan.specs.declared.entry.EntryId.TheVariants as ids
 use Rattle.update_plan.specs.declared.fault.PlanFault.{PlanFault}

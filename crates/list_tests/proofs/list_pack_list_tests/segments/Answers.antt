@@ -1,5 +1,5 @@
 use Rattle.std.proofs.Common.{refl}
-use Rattle.net_model.specs.Flat.{IsFlat}
+use Rattle.flat_networks.specs.Flat.{IsFlat}
 use Rattle.list_pack.specs.SidLists.{IsLegalList}
 use Rattle.list_pack.proofs.FlatSids.{flat-lists}
 use Rattle.list_pack.proofs.Ruled.{legal-flat}

@@ -1,4 +1,4 @@
-use Rattle.net_model.proofs.AlikeLemmas.{matched_sid_holds}
+use Rattle.net_model.proofs.IsBestLemmas.{matched_sid_holds}
 use Rattle.net_model.proofs.laws.matched_sids_hold_the_address.Goals as goal
 
 pub returns : goal.returns

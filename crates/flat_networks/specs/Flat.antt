@@ -1,0 +1,234 @@
+-- Flat networks, over which lists are compiled (own rules).
+use Rattle.std.specs.Prelude.{◌≡◌, ◌≢◌, ◌⊎◌, ℕ, ◌+◌, ◌-◌, ◌*◌, ◌%◌, ◌<◌, ◌≤◌, Bool, true, false, ◌==◌, ◌&&◌, ◌||◌, not, nat_le, List, [], ◌∷◌, ◌++◌, slice_get, map, find, Option, Some, None, Result, Ok, Err, Contains}
+use Rattle.std.specs.List.{filter}
+use Rattle.v6_addr.specs.Address.{PrefixValue, Holds, holds_address, IsInside, is_inside}
+use Rattle.srv6_rules.specs.declared.sid.Csid.{Csid}
+use Rattle.srv6_rules.specs.declared.sid.Csid.TheVariants as csids
+use Rattle.srv6_rules.specs.declared.sid.Family.TheVariants as families
+use Rattle.srv6_rules.specs.declared.sid.SidEntry.{SidEntry}
+use Rattle.srv6_rules.specs.Behaviours.{goes_on}
+use Rattle.srv6_rules.specs.Compressed.{csid_of}
+use Rattle.net_model.specs.declared.limits.TheConstants.{BLOCK_UNIT}
+use Rattle.net_model.specs.declared.parts.Block.{Block}
+use Rattle.net_model.specs.declared.parts.BlockKind.{BlockKind}
+use Rattle.net_model.specs.declared.parts.BlockKind.TheVariants as kinds
+use Rattle.net_model.specs.declared.parts.Node.{Node}
+use Rattle.net_model.specs.declared.parts.Route.{Route}
+use Rattle.flat_networks.specs.declared.flatness.NotFlat.{NotFlat}
+use Rattle.flat_networks.specs.declared.flatness.NotFlat.TheVariants.{Nested, ZeroCsid, MixedBlock, Clash}
+use Rattle.net_model.specs.Network.{Network}
+use Rattle.net_model.specs.Rules.{same_family, same_prefix}
+
+-- ---- what a flat network has none of: pairs of an outer and an inner item
+
+abbrev pub sid_prefix : SidEntry → PrefixValue
+sid_prefix s = s.prefix
+
+abbrev pub route_prefix : Route → PrefixValue
+route_prefix r = r.prefix
+
+abbrev pub is_ipv6_route : Route → Bool
+is_ipv6_route r = same_family r.family families.V6
+
+-- an address as a prefix of all its bits
+abbrev pub address_prefix : Node → PrefixValue
+address_prefix n = record { value = n.address.value; len = 128 }
+
+-- the prefixes of all SIDs, then of the IPv6 routes of all tables, then the nodes' addresses, each in the order of the
+-- description
+abbrev pub inner_entries : Network → List PrefixValue
+inner_entries net =
+    map sid_prefix net.sids ++ (map route_prefix (filter is_ipv6_route net.routes) ++ map address_prefix net.nodes)
+
+-- the inner entry lies strictly inside the outer one
+abbrev pub IsNested : PrefixValue → PrefixValue → Type 0
+IsNested outer inner = IsInside inner outer
+
+-- the SID lies strictly inside the block, and its CSID is 0
+abbrev pub IsZeroIn : SidEntry → Block → Type 0
+IsZeroIn s b = IsInside s.prefix b.prefix × (csid_of b.prefix.len s.prefix ≡ 0)
+
+-- some address is in both prefixes
+abbrev pub Overlap : PrefixValue → PrefixValue → Type 0
+Overlap p q = (a : ℕ) × Holds p a × Holds q a
+
+-- the SID is not as long as SIDs of such a block are: in a REPLACE block it has other bits after the block's than a compressed SID
+-- of the block; in a NEXT block it is not of NEXT-CSID, and its bits after the block's are no multiple of BLOCK_UNIT
+abbrev pub HasWrongLength : BlockKind → Block → SidEntry → Type 0
+HasWrongLength kinds.Next b s = (s.csid ≢ csids.Next) × ((s.prefix.len - b.prefix.len) % BLOCK_UNIT ≢ 0)
+HasWrongLength kinds.Replace b s = s.prefix.len ≢ b.prefix.len + b.csid
+
+-- the SID's prefix overlaps the block and is no longer than it, or lies strictly inside it with a wrong length
+abbrev pub IsMixed : Block → SidEntry → Type 0
+IsMixed b s = ((s.prefix.len ≤ b.prefix.len) × Overlap s.prefix b.prefix) ⊎ (IsInside s.prefix b.prefix × HasWrongLength b.kind b s)
+
+-- SIDs of two nodes on one prefix, both of which make the next segment the destination, are compressed in two ways
+pub record IsClash (s t : SidEntry) : Type 0 where
+  pub nodes : s.node ≢ t.node
+  pub prefix : s.prefix ≡ t.prefix
+  pub first : goes_on s ≡ true
+  pub second : goes_on t ≡ true
+  pub csid : s.csid ≢ t.csid
+
+-- ---- flat
+
+-- no entry lies strictly inside the prefix of a SID
+abbrev pub NoneNested : Network → Type 0
+NoneNested net =
+    (s : SidEntry) (inner : PrefixValue) → Contains net.sids s → Contains (inner_entries net) inner → ¬ IsNested s.prefix inner
+
+-- no SID of a block has the CSID 0
+abbrev pub NoneZero : Network → Type 0
+NoneZero net = (s : SidEntry) (b : Block) → Contains net.sids s → Contains net.blocks b → ¬ IsZeroIn s b
+
+-- no SID overlaps a block and is no longer than it, or has a wrong length in it
+abbrev pub NoneMixed : Network → Type 0
+NoneMixed net = (b : Block) (s : SidEntry) → Contains net.blocks b → Contains net.sids s → ¬ IsMixed b s
+
+-- no prefix has SIDs of two compressions that make the next segment the destination
+abbrev pub NoneClash : Network → Type 0
+NoneClash net = (s t : SidEntry) → Contains net.sids s → Contains net.sids t → ¬ IsClash s t
+
+pub record IsFlat (net : Network) : Type 0 where
+  pub nested : NoneNested net
+  pub zero : NoneZero net
+  pub mixed : NoneMixed net
+  pub clash : NoneClash net
+
+-- after the block's bits the SID has some whole units of 16 bits
+pub record HasWholeUnits (b : Block) (s : SidEntry) : Type 0 where
+  pub units : ℕ
+  pub some : 1 ≤ units
+  pub len : s.prefix.len ≡ b.prefix.len + 16 * units
+
+-- ---- the first refusal
+
+-- at the places i and j stand an outer and an inner item, and they are a pair
+abbrev pub IsPairAt : {X Y : Type 0} → (X → Y → Type 0) → List X → List Y → ℕ → ℕ → X → Y → Type 0
+IsPairAt Pair outers inners i j outer inner = (slice_get outers i ≡ Some outer) × (slice_get inners j ≡ Some inner) × Pair outer inner
+
+-- they are a pair, and none is before it: none of an earlier outer item, and none of this one with an earlier inner one
+pub record IsFirst {X Y : Type 0} (Pair : X → Y → Type 0) (outers : List X) (inners : List Y) (outer : X) (inner : Y) : Type 0 where
+  pub outer_place : ℕ
+  pub inner_place : ℕ
+  pub pair : IsPairAt Pair outers inners outer_place inner_place outer inner
+  pub no_earlier_outer : (i j : ℕ) (x : X) (y : Y) → i < outer_place → ¬ IsPairAt Pair outers inners i j x y
+  pub no_earlier_inner : (j : ℕ) (y : Y) → j < inner_place → ¬ IsPairAt Pair outers inners outer_place j outer y
+
+-- the first SID of CSID 0
+pub record IsFirstZero (net : Network) (prefix : PrefixValue) : Type 0 where
+  pub none_nested : NoneNested net
+  pub sid : SidEntry
+  pub block : Block
+  pub first : IsFirst IsZeroIn net.sids net.blocks sid block
+  pub its_prefix : sid.prefix ≡ prefix
+
+-- the first block with such a SID, and the first such SID
+pub record IsFirstMixed (net : Network) (block_prefix prefix : PrefixValue) : Type 0 where
+  pub none_nested : NoneNested net
+  pub none_zero : NoneZero net
+  pub block : Block
+  pub sid : SidEntry
+  pub first : IsFirst IsMixed net.blocks net.sids block sid
+  pub its_block : block.prefix ≡ block_prefix
+  pub its_prefix : sid.prefix ≡ prefix
+
+-- the first SID with a clash, and the first that it clashes with, which is a later one
+pub record IsFirstClash (net : Network) (prefix : PrefixValue) (first_node second_node : ℕ) : Type 0 where
+  pub none_nested : NoneNested net
+  pub none_zero : NoneZero net
+  pub none_mixed : NoneMixed net
+  pub earlier : SidEntry
+  pub later : SidEntry
+  pub first : IsFirst IsClash net.sids net.sids earlier later
+  pub in_order : first.outer_place < first.inner_place
+  pub its_prefix : earlier.prefix ≡ prefix
+  pub its_node : earlier.node ≡ first_node
+  pub other_node : later.node ≡ second_node
+
+-- a flat network is accepted; another is refused with its first nested pair, else with its first CSID 0, else with its first block
+-- that a SID does not fit, else with its first clash
+abbrev pub IsJudged : Network → Result (Unit {0}) NotFlat → Type 0
+IsJudged net (Ok accepted) = IsFlat net
+IsJudged net (Err (Nested outer inner)) = IsFirst IsNested (map sid_prefix net.sids) (inner_entries net) outer inner
+IsJudged net (Err (ZeroCsid prefix)) = IsFirstZero net prefix
+IsJudged net (Err (MixedBlock block prefix)) = IsFirstMixed net block prefix
+IsJudged net (Err (Clash prefix first second)) = IsFirstClash net prefix first second
+
+-- ---- the same as tests, one after the other
+
+abbrev pub is_nested : PrefixValue → PrefixValue → Bool
+is_nested outer inner = is_inside inner outer
+
+abbrev pub is_zero_in : SidEntry → Block → Bool
+is_zero_in s b = is_inside s.prefix b.prefix && (csid_of b.prefix.len s.prefix == 0)
+
+abbrev pub is_next : Csid → Bool
+is_next csids.Plain = false
+is_next csids.Next = true
+is_next csids.Replace = false
+
+abbrev pub has_wrong_length : BlockKind → Block → SidEntry → Bool
+has_wrong_length kinds.Next b s = not (is_next s.csid) && not (((s.prefix.len - b.prefix.len) % BLOCK_UNIT) == 0)
+has_wrong_length kinds.Replace b s = not (s.prefix.len == b.prefix.len + b.csid)
+
+abbrev pub is_mixed : Block → SidEntry → Bool
+is_mixed b s =
+    (nat_le s.prefix.len b.prefix.len && holds_address s.prefix b.prefix.value)
+    || (is_inside s.prefix b.prefix && has_wrong_length b.kind b s)
+
+abbrev pub same_csid : Csid → Csid → Bool
+same_csid csids.Plain csids.Plain = true
+same_csid csids.Plain csids.Next = false
+same_csid csids.Plain csids.Replace = false
+same_csid csids.Next csids.Plain = false
+same_csid csids.Next csids.Next = true
+same_csid csids.Next csids.Replace = false
+same_csid csids.Replace csids.Plain = false
+same_csid csids.Replace csids.Next = false
+same_csid csids.Replace csids.Replace = true
+
+abbrev pub is_clash : SidEntry → SidEntry → Bool
+is_clash s t = not (s.node == t.node) && (same_prefix s.prefix t.prefix && (goes_on s && (goes_on t && not (same_csid s.csid t.csid))))
+
+abbrev pub zero_csid : SidEntry → Block → NotFlat
+zero_csid s b = ZeroCsid s.prefix
+
+abbrev pub mixed_block : Block → SidEntry → NotFlat
+mixed_block b s = MixedBlock b.prefix s.prefix
+
+abbrev pub clash : SidEntry → SidEntry → NotFlat
+clash s t = Clash s.prefix s.node t.node
+
+-- the first of these entries that lies strictly inside the outer one
+abbrev pub first_inside : PrefixValue → List PrefixValue → Option PrefixValue
+first_inside outer inners = find (is_nested outer) inners
+
+abbrev pub pair_or : {X Y : Type 0} → (X → Y → NotFlat) → X → Option Y → Result (Unit {0}) NotFlat → Result (Unit {0}) NotFlat
+pair_or why outer None later = later
+pair_or why outer (Some inner) later = Err (why outer inner)
+
+-- the refusal of the first pair, by the outer item's and then by the inner one's place
+abbrev pub first_pair : {X Y : Type 0} → (X → Y → Bool) → (X → Y → NotFlat) → List Y → List X → Result (Unit {0}) NotFlat
+first_pair test why inners [] = Ok tt
+first_pair test why inners (outer ∷ outers) = pair_or why outer (find (test outer) inners) (first_pair test why inners outers)
+
+abbrev pub or_later : Result (Unit {0}) NotFlat → Result (Unit {0}) NotFlat → Result (Unit {0}) NotFlat
+or_later (Ok accepted) later = later
+or_later (Err why) later = Err why
+
+abbrev pub no_nested : Network → Result (Unit {0}) NotFlat
+no_nested net = first_pair is_nested Nested (inner_entries net) (map sid_prefix net.sids)
+
+abbrev pub no_zero : Network → Result (Unit {0}) NotFlat
+no_zero net = first_pair is_zero_in zero_csid net.blocks net.sids
+
+abbrev pub no_mixed : Network → Result (Unit {0}) NotFlat
+no_mixed net = first_pair is_mixed mixed_block net.sids net.blocks
+
+abbrev pub no_clash : Network → Result (Unit {0}) NotFlat
+no_clash net = first_pair is_clash clash net.sids net.sids
+
+-- whether a network is flat, or its first refusal
+abbrev pub flatness_of : Network → Result (Unit {0}) NotFlat
+flatness_of net = or_later (no_nested net) (or_later (no_zero net) (or_later (no_mixed net) (no_clash net)))

@@ -1,0 +1,74 @@
+//! Laws of the definitions: each is the contract of an empty function.
+
+ghost use Rattle.std.specs.Prelude.{◌≡◌, ◌≢◌, ◌⊎◌, ◌↔◌, ℕ, ◌+◌, true, Some, None, slice_get, IsOk};
+ghost use Rattle.v6_addr.specs.Address.{PrefixValue, Holds, IsInside};
+ghost use Rattle.srv6_rules.specs.Behaviours.{goes_on};
+ghost use Rattle.srv6_rules.specs.Compressed.{csid_of};
+ghost use Rattle.srv6_rules.specs.declared.sid.Csid.TheVariants.{Plain};
+ghost use Rattle.srv6_rules.specs.declared.sid.Family.TheVariants.{V6};
+ghost use Rattle.srv6_rules.specs.declared.sid.SidEntry.{SidEntry};
+ghost use Rattle.net_model.specs.declared.net.Hit.TheVariants.{Sid};
+ghost use Rattle.net_model.specs.Network.{Network};
+ghost use Rattle.net_model.specs.declared.parts.Block.{Block};
+ghost use Rattle.net_model.specs.declared.parts.BlockKind.TheVariants.{Replace};
+ghost use Rattle.net_model.specs.Rules.{IsNetwork, block_of};
+ghost use Rattle.net_model.specs.Best.{lookup_of};
+ghost use Rattle.flat_networks.specs.Flat.{IsFlat, Overlap, HasWholeUnits, flatness_of};
+
+/// A flat network treats all addresses in the prefix of a SID alike: in each table of each node
+/// they have the same best match as IPv6 addresses; at the SID's own node that match in table 0 is
+/// the SID; and SIDs that hold one address have one prefix (own rule).
+pub fn flat_networks_treat_addresses_alike()
+    ensures alike { (net : Network) (n : ℕ) (s : SidEntry) (node table a b : ℕ) → IsFlat net
+        → slice_get net.sids n ≡ Some s → Holds s.prefix a → Holds s.prefix b
+        → lookup_of net node table V6 a ≡ lookup_of net node table V6 b }
+    ensures own { (net : Network) (n : ℕ) (s : SidEntry) (a : ℕ) → IsNetwork net → IsFlat net
+        → slice_get net.sids n ≡ Some s → Holds s.prefix a
+        → lookup_of net s.node 0 V6 a ≡ Sid n }
+    ensures one { (net : Network) (n m : ℕ) (s t : SidEntry) (a : ℕ) → IsNetwork net → IsFlat net
+        → slice_get net.sids n ≡ Some s → slice_get net.sids m ≡ Some t
+        → Holds s.prefix a → Holds t.prefix a → s.prefix ≡ t.prefix }
+{}
+
+/// A network is flat exactly where it is refused for nothing (own rule).
+pub fn flat_networks_are_refused_for_nothing()
+    ensures { (net : Network) → IsOk (flatness_of net) ↔ IsFlat net }
+{}
+
+/// In a flat network each SID that lies strictly inside a block has some whole units of 16 bits
+/// after the block's, in a REPLACE block as many bits as a compressed SID of the block, and its
+/// CSID is not 0 (own rules). A SID in no block is not compressed (RFC 9800 section 3).
+pub fn sids_of_blocks_are_whole_units()
+    ensures units { (net : Network) (n : ℕ) (s : SidEntry) (b : Block) → IsNetwork net
+        → IsFlat net → slice_get net.sids n ≡ Some s → block_of net.blocks s.prefix ≡ Some b
+        → HasWholeUnits b s }
+    ensures replace { (net : Network) (n : ℕ) (s : SidEntry) (b : Block) → IsFlat net
+        → slice_get net.sids n ≡ Some s → block_of net.blocks s.prefix ≡ Some b
+        → b.kind ≡ Replace → s.prefix.len ≡ b.prefix.len + b.csid }
+    ensures some { (net : Network) (n : ℕ) (s : SidEntry) (b : Block) → IsFlat net
+        → slice_get net.sids n ≡ Some s → block_of net.blocks s.prefix ≡ Some b
+        → csid_of b.prefix.len s.prefix ≢ 0 }
+    ensures plain { (net : Network) (n : ℕ) (s : SidEntry) → IsNetwork net
+        → slice_get net.sids n ≡ Some s → block_of net.blocks s.prefix ≡ None
+        → s.csid ≡ Plain }
+{}
+
+/// In a flat network SIDs on one prefix that make the next segment the destination are compressed
+/// alike (own rule), also where they stand at one node, where they are one SID.
+pub fn prefixes_have_one_flavour()
+    ensures { (net : Network) (n m : ℕ) (s t : SidEntry) → IsNetwork net → IsFlat net
+        → slice_get net.sids n ≡ Some s → slice_get net.sids m ≡ Some t → s.prefix ≡ t.prefix
+        → goes_on s ≡ true → goes_on t ≡ true → s.csid ≡ t.csid }
+{}
+
+/// In a flat network the prefix of a SID lies strictly inside a block or has no address of it (own
+/// rule); and since blocks do not overlap, a block that a prefix lies strictly inside is the
+/// prefix's block.
+pub fn blocks_hold_or_miss()
+    ensures sids { (net : Network) (i n : ℕ) (b : Block) (s : SidEntry) → IsFlat net
+        → slice_get net.blocks i ≡ Some b → slice_get net.sids n ≡ Some s
+        → IsInside s.prefix b.prefix ⊎ (¬ Overlap s.prefix b.prefix) }
+    ensures one { (net : Network) (i : ℕ) (b : Block) (p : PrefixValue) → IsNetwork net
+        → slice_get net.blocks i ≡ Some b → IsInside p b.prefix
+        → block_of net.blocks p ≡ Some b }
+{}

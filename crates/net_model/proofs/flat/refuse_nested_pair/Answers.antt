@@ -1,6 +1,0 @@
-use Rattle.net_model.specs.Network.{network_of}
-use Rattle.net_model.proofs.ApartLemmas.{none_refused}
-use Rattle.net_model.proofs.flat.refuse_nested_pair.Goals as goal
-
-pub returns-then-are_apart : goal.returns-then-are_apart
-returns-then-are_apart c = none_refused (network_of c.args.parts.now) (c.are_apart.ensures c.if-are_apart.true)

@@ -1,5 +1,0 @@
-use Rattle.net_model.proofs.FlatLemmas.{flatness_ok}
-use Rattle.net_model.proofs.laws.flat_networks_are_refused_for_nothing.Goals as goal
-
-pub returns : goal.returns
-returns c = flatness_ok

@@ -1,5 +1,0 @@
-use Rattle.net_model.proofs.FlatLaws.{one_flavour}
-use Rattle.net_model.proofs.laws.prefixes_have_one_flavour.Goals as goal
-
-pub returns : goal.returns
-returns c = one_flavour
