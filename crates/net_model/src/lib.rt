@@ -39,6 +39,6 @@ pub use net::{Hit, Net};
 pub use node_table::NodeTable;
 pub use parts::{Block, BlockKind, Link, Name, NamedPolicy, NetParts, Node, Route, TypeList};
 pub use range::are_in_range;
-pub use rules::{is_name, same_family, same_prefix};
+pub use rules::{block_of, is_name, same_family, same_prefix};
 pub use standing::Standing;
 pub use tables::whole;

@@ -101,8 +101,8 @@ impl Net {
         let _ = &self.parts;
     }
 
-    /// The parts.
-    pub(crate) fn parts(&self) -> &NetParts
+    /// The parts, as the network was made of them (own rule).
+    pub fn parts(&self) -> &NetParts
         ensures { network_of result.now ≡ self.now }
     {
         &self.parts

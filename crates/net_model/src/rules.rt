@@ -319,8 +319,8 @@ pub(crate) fn suits_flavours(takes: bool, psp: bool, usp: bool, usd: bool) -> bo
     takes || (!psp && !usp && !usd)
 }
 
-/// The block that a prefix lies strictly inside.
-pub(crate) fn block_of(blocks: &[Block], p: &Prefix) -> Option<Block>
+/// The block that a prefix lies strictly inside (RFC 9800 section 3).
+pub fn block_of(blocks: &[Block], p: &Prefix) -> Option<Block>
     ensures { result ≡ block_of blocks.now p.now }
 {
     blocks.iter().copied().find(|b| p.inside(&b.prefix))
