@@ -4,8 +4,8 @@ ghost use Rattle.std.specs.Prelude.{◌≡◌};
 ghost use Rattle.command_output.specs.Halts.{flat_refusal};
 
 use crate::node_name::NodeName;
-use intent_reader::IntentFault;
 use flat_networks::NotFlat;
+use intent_reader::IntentFault;
 use net_model::Net;
 use pcap_io::CaptureFault;
 use std::fmt;

@@ -16,11 +16,11 @@ use command_inputs::{cert_of_file, intent_of_file, network_of_file};
 use command_output::{
     Halt, Judgement, Status, Text, Told, refusal_of_not_flat, two_words_after, write_all,
 };
+use flat_networks::compilable;
 use intent_reader::Intent;
 use leg_table::StrictLegs;
 use list_certificate::{Cert, Verdict, Why, append_state};
 use list_pack::State;
-use flat_networks::compilable;
 use net_model::Net;
 use path_compiler::checked_over;
 use srx_edge::{Files, Sink};

@@ -1,7 +1,7 @@
+use flat_networks::compilable;
 use intent_reader::{Intent, read_intent};
 use leg_table::StrictLegs;
 use list_pack::{Leg, Legs, Shape};
-use flat_networks::compilable;
 use net_model::Net;
 use net_reader::read_net;
 use srv6_rules::Csid;

@@ -1,8 +1,8 @@
 //! Lists of two networks, by their paths and their segments.
 
+use flat_networks::compilable;
 use list_pack::{PathStep, SidList, flavour_of, header_bytes, is_legal, list_of, values};
 use net_model::{Block, BlockKind, Name, Net, NetParts, Node, TypeList, are_in_range};
-use flat_networks::compilable;
 use srv6_rules::{Behaviour, Csid, LinkSet, SidEntry};
 use std::alloc::{AllocError, Global};
 use std::process::Abort;

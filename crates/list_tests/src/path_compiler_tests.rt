@@ -1,6 +1,6 @@
+use flat_networks::NotFlat;
 use intent_reader::read_intent;
 use list_pack::{Container, Cost};
-use flat_networks::NotFlat;
 use net_reader::read_net;
 use path_compiler::{CompileFault, Compiled, compile};
 use std::process::Abort;

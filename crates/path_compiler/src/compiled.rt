@@ -1,7 +1,7 @@
 //! Compiled lists, and when an intent is refused.
 
-use list_pack::{SidList, Solution};
 use flat_networks::NotFlat;
+use list_pack::{SidList, Solution};
 
 /// A list of segments that an intent is compiled to. (own rule)
 #[derive(Debug, Drop)]

@@ -9,11 +9,11 @@ ghost use Rattle.path_compiler.specs.Compiled.{AnswersOver, CompileAnswers, IsFo
 
 use crate::compiled::{CompileFault, Compiled};
 use base::NoMemory;
+use flat_networks::compilable;
 use intent_reader::Intent;
 use leg_table::StrictLegs;
 use list_encoder::solve;
 use list_pack::{Cost, ListLegs, Potential, Solution, header_bytes, list_of};
-use flat_networks::compilable;
 use net_model::Net;
 use std::alloc::Global;
 
