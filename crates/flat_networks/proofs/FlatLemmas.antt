@@ -1,52 +1,125 @@
--- The first entry inside a prefix, and what flatness means.
-use Rattle.std.proofs.Common.{◌≡◌, ℕ, Bool, List, ◌++◌, map, Option, Some, None, Result, Ok, Err, ◌↔◌, refl, sym, ap, ◌∙◌, subst, inl, inr}
-use Rattle.std.specs.List.{slice_get}
-use Rattle.std.specs.Option.{option_or, option_map}
+-- What flatness means.
+use Rattle.std.proofs.Common.{◌≡◌, ℕ, Bool, true, List, [], ◌∷◌, ◌++◌, map, Option, Some, None, Result, Ok, Err, ◌↔◌, refl, sym, ap, ◌∙◌, subst, inl, inr}
+use Rattle.std.specs.List.{slice_get, filter, Contains}
+use Rattle.std.specs.Option.{option_map}
 use Rattle.std.specs.Result.{IsOk}
-use Rattle.std.proofs.lemmas.Option.{same_Some, slice_get-map}
-use Rattle.std.proofs.lemmas.List.Folds.{find-append}
-use Rattle.v6_addr.specs.Address.{PrefixValue, IsInside}
+use Rattle.std.proofs.lemmas.Bool.{cases_Bool, both_ways}
+use Rattle.std.proofs.lemmas.Option.{slice_get-map}
+use Rattle.std.proofs.lemmas.List.Elements.{Contains-append_left, Contains-append_right, Contains-append_cases}
+use Rattle.srv6_rules.specs.declared.sid.Family.{Family}
+use Rattle.srv6_rules.specs.declared.sid.Family.TheVariants as families
 use Rattle.srv6_rules.specs.declared.sid.SidEntry.{SidEntry}
-use Rattle.net_model.proofs.PublicLaws.{get_from_contains, contains_from_get}
-use Rattle.flat_networks.specs.declared.flatness.NotFlat.{NotFlat}
-use Rattle.flat_networks.specs.declared.flatness.NotFlat.TheVariants.{Nested, ZeroCsid, MixedBlock, Clash}
+use Rattle.net_model.specs.declared.parts.Route.{Route}
 use Rattle.net_model.specs.Network.{Network}
-use Rattle.flat_networks.specs.Flat.{sid_prefix, inner_entries, IsNested, IsZeroIn, IsMixed, IsClash, NoneNested, NoneZero, NoneMixed, IsFlat, IsFirst, IsJudged, is_nested, is_zero_in, zero_csid, is_mixed, mixed_block, is_clash, clash, first_inside, or_later, no_nested, no_zero, no_mixed, no_clash, flatness_of}
+use Rattle.net_model.specs.Rules.{same_family}
+use Rattle.net_model.proofs.PublicLaws.{get_from_contains, contains_from_get, contains_none, contains_cases, contains_first, contains_later, same_family-from}
+use Rattle.flat_networks.specs.declared.not_flat.NotFlat.{NotFlat}
+use Rattle.flat_networks.specs.declared.not_flat.NotFlat.TheVariants.{Nested, ZeroCsid, MixedBlock, Clash}
+use Rattle.flat_networks.specs.NestTests.{is_nest}
+use Rattle.flat_networks.specs.Flat.{InnerEntry, OfSid, OfRoute, OfAddress, is_ipv6_route, inner_entries, IsNested, IsZeroIn, IsMixed, IsClash, NoneNested, NoneZero, NoneMixed, IsFlat, IsFirst, IsJudged, is_nested, nested, is_zero_in, zero_csid, is_mixed, mixed_block, is_clash, clash, or_later, no_nested, no_zero, no_mixed, no_clash, flatness_of}
 use Rattle.flat_networks.proofs.PairLemmas.{HaveNone, none_among, first_among, AreJudged, are_judged}
 use Rattle.flat_networks.proofs.PairMeanings.{nested_is, zero_is, mixed_is, clash_is, clash_in_order}
+use Rattle.flat_networks.proofs.NestLemmas.{nest_is}
 
--- the first of three lists in a row
-pub joined : (outer : PrefixValue) (xs ys zs : List PrefixValue)
-    → first_inside outer (xs ++ (ys ++ zs)) ≡ option_or (first_inside outer xs) (option_or (first_inside outer ys) (first_inside outer zs))
-joined outer xs ys zs =
-    let test : PrefixValue → Bool = is_nested outer in
-    find-append test xs (ys ++ zs) ∙ ap (option_or (first_inside outer xs)) (find-append test ys zs)
+-- ---- entries and where they stand
 
--- ---- nested entries stand in SIDs' prefixes
+contains_mapped : {X Y : Type 0} (f : X → Y) (xs : List X) (x : X) → Contains xs x → Contains (map f xs) (f x)
+contains_mapped f xs x c =
+    let (k, at) = get_from_contains xs x c in
+    contains_from_get (map f xs) k (f x) (slice_get-map f xs k ∙ ap (option_map f) at)
 
-prefix_at : (sids : List SidEntry) (i : ℕ) (s : SidEntry) → slice_get sids i ≡ Some s → slice_get (map sid_prefix sids) i ≡ Some s.prefix
-prefix_at sids i s e = slice_get-map sid_prefix sids i ∙ ap (option_map sid_prefix) e
+mapped_from : {X Y : Type 0} (f : X → Y) (xs : List X) (y : Y) → Contains (map f xs) y → (x : X) × Contains xs x × (f x ≡ y)
+mapped_from f [] y c = absurd (contains_none y c)
+mapped_from f (x ∷ xs) y c =
+    elim (contains_cases (f x) (map f xs) y c) [
+      | inl is ↦ (x, contains_first x xs, is)
+      | inr more ↦ let (z, there, is) = mapped_from f xs y more in (z, contains_later x xs z there, is)
+    ]
 
-sid_by : (o : Option SidEntry) (p : PrefixValue) → option_map sid_prefix o ≡ Some p → (s : SidEntry) × (o ≡ Some s) × (s.prefix ≡ p)
-sid_by None p e = cc
-sid_by (Some s) p e = (s, refl, same_Some s.prefix p e)
+pub contains_filtered : {X : Type 0} (test : X → Bool) (xs : List X) (x : X) → test x ≡ true → Contains xs x → Contains (filter test xs) x
+contains_filtered test [] x passes c = absurd (contains_none x c)
+contains_filtered test (y ∷ ys) x passes c =
+    elim (contains_cases y ys x c) [
+      | inl is ↦ let mine = ap test is ∙ passes in
+          rw mine (subst (Contains (y ∷ filter test ys)) is (contains_first y (filter test ys)))
+      | inr more ↦ elim (cases_Bool (test y)) [
+        | inl mine ↦ rw mine (contains_later y (filter test ys) x (contains_filtered test ys x passes more))
+        | inr other ↦ rw other (contains_filtered test ys x passes more)
+      ]
+    ]
 
-sid_at : (sids : List SidEntry) (i : ℕ) (p : PrefixValue) → slice_get (map sid_prefix sids) i ≡ Some p
-    → (s : SidEntry) × (slice_get sids i ≡ Some s) × (s.prefix ≡ p)
-sid_at sids i p e = sid_by (slice_get sids i) p (sym (slice_get-map sid_prefix sids i) ∙ e)
+pub filtered_from : {X : Type 0} (test : X → Bool) (xs : List X) (x : X) → Contains (filter test xs) x → Contains xs x × (test x ≡ true)
+filtered_from test [] x c = absurd (contains_none x c)
+filtered_from test (y ∷ ys) x c =
+    elim (cases_Bool (test y)) [
+      | inl mine ↦ elim (contains_cases y (filter test ys) x (rw mine at c)) [
+        | inl is ↦ (subst (Contains (y ∷ ys)) is (contains_first y ys), ap test (sym is) ∙ mine)
+        | inr more ↦ let (there, passes) = filtered_from test ys x more in (contains_later y ys x there, passes)
+      ]
+      | inr other ↦ let (there, passes) = filtered_from test ys x (rw other at c) in (contains_later y ys x there, passes)
+    ]
 
-none_nested_from : (net : Network) → HaveNone IsNested (map sid_prefix net.sids) (inner_entries net) → NoneNested net
-none_nested_from net none s inner is_sid is_inner inside =
-    let (i, at_i) = get_from_contains net.sids s is_sid in
-    let (j, at_j) = get_from_contains (inner_entries net) inner is_inner in
-    none i j s.prefix inner (prefix_at net.sids i s at_i, at_j, inside)
+-- what each entry is
+abbrev IsAmong : Network → InnerEntry → Type 0
+IsAmong net (OfSid s) = Contains net.sids s
+IsAmong net (OfRoute r) = Contains net.routes r × (r.family ≡ families.V6)
+IsAmong net (OfAddress n) = Contains net.nodes n
 
-pub some_nested : (net : Network) (p q : PrefixValue) → IsFirst IsNested (map sid_prefix net.sids) (inner_entries net) p q → ¬ NoneNested net
-some_nested net p q first none =
-    let (at_i, at_j, inside) = first.pair in
-    let (s, at_s, is) = sid_at net.sids first.outer_place p at_i in
-    none s q (contains_from_get net.sids first.outer_place s at_s) (contains_from_get (inner_entries net) first.inner_place q at_j)
-    (subst (IsInside q) (sym is) inside)
+among_entries : (net : Network) (e : InnerEntry) → IsAmong net e → Contains (inner_entries net) e
+among_entries net (OfSid s) c = Contains-append_left (map OfSid net.sids) _ (OfSid s) (contains_mapped OfSid net.sids s c)
+among_entries net (OfRoute r) (c, v6) =
+    let routes = filter is_ipv6_route net.routes in
+    Contains-append_right (map OfSid net.sids) _ (OfRoute r)
+    (Contains-append_left (map OfRoute routes) _ (OfRoute r)
+    (contains_mapped OfRoute routes r (contains_filtered is_ipv6_route net.routes r (same_family-from _ _ v6) c)))
+among_entries net (OfAddress n) c =
+    Contains-append_right (map OfSid net.sids) _ (OfAddress n)
+    (Contains-append_right (map OfRoute (filter is_ipv6_route net.routes)) _ (OfAddress n) (contains_mapped OfAddress net.nodes n c))
+
+family_from : (r : Route) → is_ipv6_route r ≡ true → r.family ≡ families.V6
+family_from r h = is_v6 r.family h
+  where
+    is_v6 : (f : Family) → same_family f families.V6 ≡ true → f ≡ families.V6
+    is_v6 families.V6 h = refl
+    is_v6 families.V4 h = cc
+
+entries_among : (net : Network) (e : InnerEntry) → Contains (inner_entries net) e → IsAmong net e
+entries_among net e c =
+    elim (Contains-append_cases (map OfSid net.sids) _ e c) [
+      | inl sid ↦ let (s, there, is) = mapped_from OfSid net.sids e sid in subst (IsAmong net) is there
+      | inr more ↦ elim (Contains-append_cases (map OfRoute (filter is_ipv6_route net.routes)) _ e more) [
+        | inl route ↦
+            let (r, there, is) = mapped_from OfRoute (filter is_ipv6_route net.routes) e route in
+            let (among, v6) = filtered_from is_ipv6_route net.routes r there in
+            subst (IsAmong net) is (among, family_from r v6)
+        | inr node ↦ let (n, there, is) = mapped_from OfAddress net.nodes e node in subst (IsAmong net) is there
+      ]
+    ]
+
+-- ---- nested entries
+
+none_nested_from : (net : Network) → HaveNone (IsNested net) net.sids (inner_entries net) → NoneNested net
+none_nested_from net none = record {
+  sids = λ s t in_s in_t inside. elim (cases_Bool (is_nest net s t)) [
+    | inl nest ↦ (nest_is net s t).0 nest
+    | inr other ↦ absurd (apart s (OfSid t) in_s in_t (inside, λ nest. both_ways _ other ((nest_is net s t).1 nest)))
+  ];
+  routes = λ s r in_s in_r v6 inside. apart s (OfRoute r) in_s (in_r, v6) inside;
+  addresses = λ s n in_s in_n inside. apart s (OfAddress n) in_s in_n inside;
+}
+  where
+    apart : (s : SidEntry) (e : InnerEntry) → Contains net.sids s → IsAmong net e → ¬ IsNested net s e
+    apart s e in_s among = none_among (IsNested net) net.sids (inner_entries net) none s e in_s (among_entries net e among)
+
+refuted : (net : Network) (s : SidEntry) (e : InnerEntry) → Contains net.sids s → IsAmong net e → IsNested net s e → ¬ NoneNested net
+refuted net s (OfSid t) in_s in_t (inside, other) none = other (none.sids s t in_s in_t inside)
+refuted net s (OfRoute r) in_s (in_r, v6) inside none = none.routes s r in_s in_r v6 inside
+refuted net s (OfAddress n) in_s in_n inside none = none.addresses s n in_s in_n inside
+
+pub some_nested : (net : Network) (s : SidEntry) (e : InnerEntry) → IsFirst (IsNested net) net.sids (inner_entries net) s e → ¬ NoneNested net
+some_nested net s e first none =
+    let (in_s, in_e, pair) = first_among (IsNested net) net.sids (inner_entries net) s e first in
+    refuted net s e in_s (entries_among net e in_e) pair none
 
 -- ---- one refusal after the other
 
@@ -100,22 +173,23 @@ zero_judges net nested (inr (s, b, first, e)) =
     (record { none_nested = nested; sid = s; block = b; first = first; its_prefix = refl })
 
 nested_judges : (net : Network)
-    → AreJudged is_nested IsNested Nested nested_is (map sid_prefix net.sids) (inner_entries net) (no_nested net)
+    → AreJudged (is_nested net) (IsNested net) nested (nested_is net) net.sids (inner_entries net) (no_nested net)
     → IsJudged net (flatness_of net)
 nested_judges net (inl (none, e)) =
     subst (IsJudged net) (sym (ap (λ r. or_later r (or_later (no_zero net) (or_later (no_mixed net) (no_clash net)))) e))
     (zero_judges net (none_nested_from net none) (are_judged is_zero_in IsZeroIn zero_csid zero_is net.sids net.blocks))
-nested_judges net (inr (p, q, first, e)) =
-    subst (IsJudged net) (sym (ap (λ r. or_later r (or_later (no_zero net) (or_later (no_mixed net) (no_clash net)))) e)) first
+nested_judges net (inr (s, inner, first, e)) =
+    subst (IsJudged net) (sym (ap (λ r. or_later r (or_later (no_zero net) (or_later (no_mixed net) (no_clash net)))) e))
+    (record { sid = s; entry = inner; first = first; its_prefix = refl; inner_prefix = refl })
 
 pub flatness_judges : (net : Network) → IsJudged net (flatness_of net)
-flatness_judges net = nested_judges net (are_judged is_nested IsNested Nested nested_is (map sid_prefix net.sids) (inner_entries net))
+flatness_judges net = nested_judges net (are_judged (is_nested net) (IsNested net) nested (nested_is net) net.sids (inner_entries net))
 
 -- what is refused is not flat
 ok_where_flat : (net : Network) (r : Result (Unit {0}) NotFlat) → IsJudged net r → IsOk r ↔ IsFlat net
 ok_where_flat net (Ok accepted) flat = (λ _. flat, λ _. refl)
-ok_where_flat net (Err (Nested outer inner)) first =
-    (λ ok. absurd (let e = ok in cc), λ flat. absurd (some_nested net outer inner first flat.nested))
+ok_where_flat net (Err (Nested outer inner)) is =
+    (λ ok. absurd (let e = ok in cc), λ flat. absurd (some_nested net is.sid is.entry is.first flat.nested))
 ok_where_flat net (Err (ZeroCsid prefix)) is =
     let (in_sids, in_blocks, pair) = first_among IsZeroIn net.sids net.blocks is.sid is.block is.first in
     (λ ok. absurd (let e = ok in cc), λ flat. absurd (flat.zero is.sid is.block in_sids in_blocks pair))

@@ -1,7 +1,9 @@
 pub mod PairLemmas
+pub mod NestLemmas
 pub mod PairMeanings
 pub mod FlatLemmas
-pub mod ApartLemmas
+pub mod SearchLemmas
 pub mod FlatLaws
 pub mod AlikeLemmas
+pub mod NestLaws
 pub mod PublicLaws

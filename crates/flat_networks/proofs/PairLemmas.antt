@@ -4,7 +4,7 @@ use Rattle.std.specs.List.{slice_get, find, Contains}
 use Rattle.std.proofs.lemmas.Bool.{both_ways}
 use Rattle.std.proofs.lemmas.Option.{same_Some}
 use Rattle.net_model.proofs.PublicLaws.{find_first, find_none, get_from_contains, contains_from_get}
-use Rattle.flat_networks.specs.declared.flatness.NotFlat.{NotFlat}
+use Rattle.flat_networks.specs.declared.not_flat.NotFlat.{NotFlat}
 use Rattle.flat_networks.specs.Flat.{IsPairAt, IsFirst, pair_or, first_pair}
 
 -- the lists have no pair

@@ -12,10 +12,18 @@ use Rattle.net_model.specs.declared.parts.Block.{Block}
 use Rattle.net_model.specs.declared.parts.BlockKind.{BlockKind}
 use Rattle.net_model.specs.declared.parts.BlockKind.TheVariants as kinds
 use Rattle.net_model.proofs.PublicLaws.{same_prefix_value}
-use Rattle.flat_networks.specs.Flat.{IsNested, IsZeroIn, Overlap, HasWrongLength, IsMixed, IsClash, IsFirst, is_nested, is_zero_in, is_next, has_wrong_length, is_mixed, same_csid, is_clash}
+use Rattle.net_model.specs.Network.{Network}
+use Rattle.flat_networks.specs.Flat.{InnerEntry, OfSid, OfRoute, OfAddress, address_prefix, IsNested, IsZeroIn, Overlap, HasWrongLength, IsMixed, IsClash, IsFirst, is_nested, is_zero_in, has_wrong_length, is_mixed, same_csid, is_clash}
+use Rattle.flat_networks.proofs.NestLemmas.{fails, refutes, next_is, nest_is}
 
-pub nested_is : (outer inner : PrefixValue) → (is_nested outer inner ≡ true) ↔ IsNested outer inner
-nested_is outer inner = is_inside_is inner outer
+pub nested_is : (net : Network) (outer : SidEntry) (inner : InnerEntry) → (is_nested net outer inner ≡ true) ↔ IsNested net outer inner
+nested_is net outer (OfSid t) = (
+  λ h. let parts = and_parts _ _ h in
+      ((is_inside_is t.prefix outer.prefix).0 parts.0, refutes _ _ (nest_is net outer t).1 parts.1),
+  λ is. and_from _ _ ((is_inside_is t.prefix outer.prefix).1 is.0) (fails _ _ (nest_is net outer t).0 is.1),
+)
+nested_is net outer (OfRoute r) = is_inside_is r.prefix outer.prefix
+nested_is net outer (OfAddress n) = is_inside_is (address_prefix n) outer.prefix
 
 pub zero_is : (s : SidEntry) (b : Block) → (is_zero_in s b ≡ true) ↔ IsZeroIn s b
 zero_is s b = (
@@ -23,18 +31,6 @@ zero_is s b = (
   λ is. and_from _ _
       ((is_inside_is s.prefix b.prefix).1 is.0) (eq-eqb _ _ is.1),
 )
-
-next_is : (c : Csid) → (is_next c ≡ true) ↔ (c ≡ csids.Next)
-next_is csids.Plain = (λ h. cc, λ e. cc)
-next_is csids.Next = (λ h. refl, λ e. refl)
-next_is csids.Replace = (λ h. cc, λ e. cc)
-
--- a test that fails where a fact does not hold
-fails : (t : Bool) (P : Type 0) → (t ≡ true → P) → ¬ P → not t ≡ true
-fails t P means none = not_from_false t (false_from_ne_true t (λ h. none (means h)))
-
-refutes : (t : Bool) (P : Type 0) → (P → t ≡ true) → not t ≡ true → ¬ P
-refutes t P means off p = both_ways t (not-true t off) (means p)
 
 length_is : (kind : BlockKind) (b : Block) (s : SidEntry) → (has_wrong_length kind b s ≡ true) ↔ HasWrongLength kind b s
 length_is kinds.Next b s = (

@@ -14,35 +14,42 @@ use Rattle.net_model.specs.declared.parts.BlockKind.{BlockKind}
 use Rattle.net_model.specs.declared.parts.BlockKind.TheVariants as kinds
 use Rattle.net_model.specs.declared.parts.Node.{Node}
 use Rattle.net_model.specs.declared.parts.Route.{Route}
-use Rattle.flat_networks.specs.declared.flatness.NotFlat.{NotFlat}
-use Rattle.flat_networks.specs.declared.flatness.NotFlat.TheVariants.{Nested, ZeroCsid, MixedBlock, Clash}
+use Rattle.flat_networks.specs.declared.not_flat.NotFlat.{NotFlat}
+use Rattle.flat_networks.specs.declared.not_flat.NotFlat.TheVariants.{Nested, ZeroCsid, MixedBlock, Clash}
 use Rattle.net_model.specs.Network.{Network}
 use Rattle.net_model.specs.Rules.{same_family, same_prefix}
+use Rattle.flat_networks.specs.Nests.{IsNest}
+use Rattle.flat_networks.specs.NestTests.{is_next, is_nest}
 
 -- ---- what a flat network has none of: pairs of an outer and an inner item
 
-abbrev pub sid_prefix : SidEntry → PrefixValue
-sid_prefix s = s.prefix
-
-abbrev pub route_prefix : Route → PrefixValue
-route_prefix r = r.prefix
-
-abbrev pub is_ipv6_route : Route → Bool
-is_ipv6_route r = same_family r.family families.V6
+-- an entry that may lie inside a SID: a SID, a route of IPv6 of any table, or a node's address
+pub data InnerEntry : Type 0 where
+  OfSid : SidEntry → InnerEntry
+  OfRoute : Route → InnerEntry
+  OfAddress : Node → InnerEntry
 
 -- an address as a prefix of all its bits
 abbrev pub address_prefix : Node → PrefixValue
 address_prefix n = record { value = n.address.value; len = 128 }
 
--- the prefixes of all SIDs, then of the IPv6 routes of all tables, then the nodes' addresses, each in the order of the
--- description
-abbrev pub inner_entries : Network → List PrefixValue
-inner_entries net =
-    map sid_prefix net.sids ++ (map route_prefix (filter is_ipv6_route net.routes) ++ map address_prefix net.nodes)
+abbrev pub entry_prefix : InnerEntry → PrefixValue
+entry_prefix (OfSid s) = s.prefix
+entry_prefix (OfRoute r) = r.prefix
+entry_prefix (OfAddress n) = address_prefix n
 
--- the inner entry lies strictly inside the outer one
-abbrev pub IsNested : PrefixValue → PrefixValue → Type 0
-IsNested outer inner = IsInside inner outer
+abbrev pub is_ipv6_route : Route → Bool
+is_ipv6_route r = same_family r.family families.V6
+
+-- all SIDs, then the IPv6 routes of all tables, then the nodes, each in the order of the description
+abbrev pub inner_entries : Network → List InnerEntry
+inner_entries net = map OfSid net.sids ++ (map OfRoute (filter is_ipv6_route net.routes) ++ map OfAddress net.nodes)
+
+-- the entry lies strictly inside the SID's prefix; but for a SID that is nested in it
+abbrev pub IsNested : Network → SidEntry → InnerEntry → Type 0
+IsNested net outer (OfSid inner) = IsInside inner.prefix outer.prefix × (¬ IsNest net outer inner)
+IsNested net outer (OfRoute inner) = IsInside inner.prefix outer.prefix
+IsNested net outer (OfAddress inner) = IsInside (address_prefix inner) outer.prefix
 
 -- the SID lies strictly inside the block, and its CSID is 0
 abbrev pub IsZeroIn : SidEntry → Block → Type 0
@@ -72,10 +79,11 @@ pub record IsClash (s t : SidEntry) : Type 0 where
 
 -- ---- flat
 
--- no entry lies strictly inside the prefix of a SID
-abbrev pub NoneNested : Network → Type 0
-NoneNested net =
-    (s : SidEntry) (inner : PrefixValue) → Contains net.sids s → Contains (inner_entries net) inner → ¬ IsNested s.prefix inner
+-- no entry lies strictly inside the prefix of a SID, but for SIDs that are nested in it
+pub record NoneNested (net : Network) : Type 0 where
+  pub sids : (s t : SidEntry) → Contains net.sids s → Contains net.sids t → IsInside t.prefix s.prefix → IsNest net s t
+  pub routes : (s : SidEntry) (r : Route) → Contains net.sids s → Contains net.routes r → r.family ≡ families.V6 → ¬ IsInside r.prefix s.prefix
+  pub addresses : (s : SidEntry) (n : Node) → Contains net.sids s → Contains net.nodes n → ¬ IsInside (address_prefix n) s.prefix
 
 -- no SID of a block has the CSID 0
 abbrev pub NoneZero : Network → Type 0
@@ -115,6 +123,14 @@ pub record IsFirst {X Y : Type 0} (Pair : X → Y → Type 0) (outers : List X) 
   pub no_earlier_outer : (i j : ℕ) (x : X) (y : Y) → i < outer_place → ¬ IsPairAt Pair outers inners i j x y
   pub no_earlier_inner : (j : ℕ) (y : Y) → j < inner_place → ¬ IsPairAt Pair outers inners outer_place j outer y
 
+-- the first SID with an entry nested in it that may not be, and the first such entry
+pub record IsFirstNested (net : Network) (outer inner : PrefixValue) : Type 0 where
+  pub sid : SidEntry
+  pub entry : InnerEntry
+  pub first : IsFirst (IsNested net) net.sids (inner_entries net) sid entry
+  pub its_prefix : sid.prefix ≡ outer
+  pub inner_prefix : entry_prefix entry ≡ inner
+
 -- the first SID of CSID 0
 pub record IsFirstZero (net : Network) (prefix : PrefixValue) : Type 0 where
   pub none_nested : NoneNested net
@@ -150,23 +166,20 @@ pub record IsFirstClash (net : Network) (prefix : PrefixValue) (first_node secon
 -- that a SID does not fit, else with its first clash
 abbrev pub IsJudged : Network → Result (Unit {0}) NotFlat → Type 0
 IsJudged net (Ok accepted) = IsFlat net
-IsJudged net (Err (Nested outer inner)) = IsFirst IsNested (map sid_prefix net.sids) (inner_entries net) outer inner
+IsJudged net (Err (Nested outer inner)) = IsFirstNested net outer inner
 IsJudged net (Err (ZeroCsid prefix)) = IsFirstZero net prefix
 IsJudged net (Err (MixedBlock block prefix)) = IsFirstMixed net block prefix
 IsJudged net (Err (Clash prefix first second)) = IsFirstClash net prefix first second
 
 -- ---- the same as tests, one after the other
 
-abbrev pub is_nested : PrefixValue → PrefixValue → Bool
-is_nested outer inner = is_inside inner outer
+abbrev pub is_nested : Network → SidEntry → InnerEntry → Bool
+is_nested net outer (OfSid inner) = is_inside inner.prefix outer.prefix && not (is_nest net outer inner)
+is_nested net outer (OfRoute inner) = is_inside inner.prefix outer.prefix
+is_nested net outer (OfAddress inner) = is_inside (address_prefix inner) outer.prefix
 
 abbrev pub is_zero_in : SidEntry → Block → Bool
 is_zero_in s b = is_inside s.prefix b.prefix && (csid_of b.prefix.len s.prefix == 0)
-
-abbrev pub is_next : Csid → Bool
-is_next csids.Plain = false
-is_next csids.Next = true
-is_next csids.Replace = false
 
 abbrev pub has_wrong_length : BlockKind → Block → SidEntry → Bool
 has_wrong_length kinds.Next b s = not (is_next s.csid) && not (((s.prefix.len - b.prefix.len) % BLOCK_UNIT) == 0)
@@ -191,6 +204,9 @@ same_csid csids.Replace csids.Replace = true
 abbrev pub is_clash : SidEntry → SidEntry → Bool
 is_clash s t = not (s.node == t.node) && (same_prefix s.prefix t.prefix && (goes_on s && (goes_on t && not (same_csid s.csid t.csid))))
 
+abbrev pub nested : SidEntry → InnerEntry → NotFlat
+nested s inner = Nested s.prefix (entry_prefix inner)
+
 abbrev pub zero_csid : SidEntry → Block → NotFlat
 zero_csid s b = ZeroCsid s.prefix
 
@@ -199,10 +215,6 @@ mixed_block b s = MixedBlock b.prefix s.prefix
 
 abbrev pub clash : SidEntry → SidEntry → NotFlat
 clash s t = Clash s.prefix s.node t.node
-
--- the first of these entries that lies strictly inside the outer one
-abbrev pub first_inside : PrefixValue → List PrefixValue → Option PrefixValue
-first_inside outer inners = find (is_nested outer) inners
 
 abbrev pub pair_or : {X Y : Type 0} → (X → Y → NotFlat) → X → Option Y → Result (Unit {0}) NotFlat → Result (Unit {0}) NotFlat
 pair_or why outer None later = later
@@ -218,7 +230,7 @@ or_later (Ok accepted) later = later
 or_later (Err why) later = Err why
 
 abbrev pub no_nested : Network → Result (Unit {0}) NotFlat
-no_nested net = first_pair is_nested Nested (inner_entries net) (map sid_prefix net.sids)
+no_nested net = first_pair (is_nested net) nested (inner_entries net) net.sids
 
 abbrev pub no_zero : Network → Result (Unit {0}) NotFlat
 no_zero net = first_pair is_zero_in zero_csid net.blocks net.sids

@@ -1,3 +1,5 @@
 pub mod Nests
+pub mod NestTests
 pub mod Flat
-pub mod Apart
+pub mod Search
+pub mod Units

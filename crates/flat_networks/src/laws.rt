@@ -1,7 +1,7 @@
 //! Laws of the definitions: each is the contract of an empty function.
 
 ghost use Rattle.std.specs.Prelude.{◌≡◌, ◌≢◌, ◌⊎◌, ◌↔◌, ℕ, ◌+◌, true, Some, None, slice_get, IsOk};
-ghost use Rattle.v6_addr.specs.Address.{PrefixValue, Holds, IsInside};
+ghost use Rattle.v6_addr.specs.Address.{PrefixValue, IsInside};
 ghost use Rattle.srv6_rules.specs.Behaviours.{goes_on};
 ghost use Rattle.srv6_rules.specs.Compressed.{csid_of};
 ghost use Rattle.srv6_rules.specs.declared.sid.Csid.TheVariants.{Plain};
@@ -13,21 +13,37 @@ ghost use Rattle.net_model.specs.declared.parts.Block.{Block};
 ghost use Rattle.net_model.specs.declared.parts.BlockKind.TheVariants.{Replace};
 ghost use Rattle.net_model.specs.Rules.{IsNetwork, block_of};
 ghost use Rattle.net_model.specs.Best.{lookup_of};
+ghost use Rattle.flat_networks.specs.Nests.{IsNest, IsOwn};
 ghost use Rattle.flat_networks.specs.Flat.{IsFlat, Overlap, HasWholeUnits, flatness_of};
 
-/// A flat network treats all addresses in the prefix of a SID alike: in each table of each node
-/// they have the same best match as IPv6 addresses; at the SID's own node that match in table 0 is
-/// the SID; and SIDs that hold one address have one prefix (own rule).
+/// A flat network treats all own addresses of a SID alike, those in its prefix that no SID nested in
+/// it holds: in each table of each node they have the same best match as IPv6 addresses; at the
+/// SID's own node that match in table 0 is the SID; and where another SID is the match, the two
+/// have one prefix (own rule).
 pub fn flat_networks_treat_addresses_alike()
     ensures alike { (net : Network) (n : ℕ) (s : SidEntry) (node table a b : ℕ) → IsFlat net
-        → slice_get net.sids n ≡ Some s → Holds s.prefix a → Holds s.prefix b
+        → slice_get net.sids n ≡ Some s → IsOwn net s a → IsOwn net s b
         → lookup_of net node table V6 a ≡ lookup_of net node table V6 b }
     ensures own { (net : Network) (n : ℕ) (s : SidEntry) (a : ℕ) → IsNetwork net → IsFlat net
-        → slice_get net.sids n ≡ Some s → Holds s.prefix a
+        → slice_get net.sids n ≡ Some s → IsOwn net s a
         → lookup_of net s.node 0 V6 a ≡ Sid n }
-    ensures one { (net : Network) (n m : ℕ) (s t : SidEntry) (a : ℕ) → IsNetwork net → IsFlat net
+    ensures one { (net : Network) (n m : ℕ) (s t : SidEntry) (node table a : ℕ)
+        → IsNetwork net → IsFlat net → slice_get net.sids n ≡ Some s → IsOwn net s a
+        → lookup_of net node table V6 a ≡ Sid m → slice_get net.sids m ≡ Some t
+        → s.prefix ≡ t.prefix }
+{}
+
+/// Laws on SIDs nested in another SID of their node: a SID that lies strictly inside another in a
+/// flat network is nested in it; a SID nested in one has none nested in it; and in a network that
+/// keeps the rules the block that a nest lies in is as long as both SIDs tell (own rule).
+pub fn nested_sids()
+    ensures inside { (net : Network) (n m : ℕ) (s t : SidEntry) → IsFlat net
         → slice_get net.sids n ≡ Some s → slice_get net.sids m ≡ Some t
-        → Holds s.prefix a → Holds t.prefix a → s.prefix ≡ t.prefix }
+        → IsInside t.prefix s.prefix → IsNest net s t }
+    ensures depth { (net : Network) (s t u : SidEntry) → IsNest net s t → ¬ IsNest net t u }
+    ensures block { (net : Network) (n : ℕ) (s t : SidEntry) → IsNetwork net
+        → slice_get net.sids n ≡ Some s → (nest : IsNest net s t)
+        → s.block_len ≡ nest.block.prefix.len }
 {}
 
 /// A network is flat exactly where it is refused for nothing (own rule).

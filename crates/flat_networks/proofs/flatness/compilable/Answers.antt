@@ -1,6 +1,6 @@
 use Rattle.std.proofs.Common.{sym, ap, ◌∙◌, subst, ◌↔◌, Result}
 use Rattle.std.specs.Result.{IsOk}
-use Rattle.flat_networks.specs.declared.flatness.NotFlat.{NotFlat}
+use Rattle.flat_networks.specs.declared.not_flat.NotFlat.{NotFlat}
 use Rattle.flat_networks.specs.Flat.{flatness_of, IsFlat, IsJudged}
 use Rattle.flat_networks.proofs.FlatLemmas.{flatness_judges, flatness_ok}
 use Rattle.flat_networks.proofs.flatness.compilable.Goals as goal

@@ -1,6 +1,6 @@
 use Rattle.net_model.specs.Network.{network_of}
-use Rattle.flat_networks.proofs.ApartLemmas.{none_refused}
-use Rattle.flat_networks.proofs.flatness.refuse_nested_pair.Goals as goal
+use Rattle.flat_networks.proofs.SearchLemmas.{none_refused}
+use Rattle.flat_networks.proofs.nested.refuse_nested_pair.Goals as goal
 
 pub returns-then-are_apart : goal.returns-then-are_apart
 returns-then-are_apart c = none_refused (network_of c.args.parts.now) (c.are_apart.ensures c.if-are_apart.true)

@@ -1,5 +1,5 @@
 use Rattle.std.proofs.Common.{◌≡◌, find, length}
-use Rattle.flat_networks.proofs.flatness.refuse_pair_of.Given as goal
+use Rattle.flat_networks.proofs.pairs.refuse_pair_of.Given as goal
 
 -- what the rest answers is the answer
 abbrev pub invariant-loop-rest : goal.invariant-loop-rest

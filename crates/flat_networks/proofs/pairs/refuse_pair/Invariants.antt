@@ -1,6 +1,6 @@
 use Rattle.std.proofs.Common.{◌≡◌, length}
 use Rattle.flat_networks.specs.Flat.{first_pair}
-use Rattle.flat_networks.proofs.flatness.refuse_pair.Given as goal
+use Rattle.flat_networks.proofs.pairs.refuse_pair.Given as goal
 
 -- what the rest answers is the answer
 abbrev pub invariant-loop-rest : goal.invariant-loop-rest

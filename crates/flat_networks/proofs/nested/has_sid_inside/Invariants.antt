@@ -1,0 +1,6 @@
+use Rattle.net_model.specs.Network.{network_of}
+use Rattle.flat_networks.specs.Search.{NestsWell, FirstAre}
+use Rattle.flat_networks.proofs.nested.has_sid_inside.Given as goal
+
+abbrev pub invariant-loop-s : goal.invariant-loop-s
+invariant-loop-s l = FirstAre (NestsWell (network_of l.parts)) (network_of l.parts).sids l.s-index
