@@ -247,6 +247,11 @@ def _tables(net: Network) -> dict[tuple[str, int], Table]:
     return tables
 
 
+def unit_at(prefix: Prefix, bit: int) -> int:
+    """16 bits of an IPv6 prefix from a bit on."""
+    return int(prefix.network_address) >> (112 - bit) & 0xFFFF
+
+
 class Rooms:
     """How much fits into a container behind a SID."""
 
@@ -254,6 +259,21 @@ class Rooms:
         self._blocks = {sid: net.block_of(sid.prefix) for sid in net.sids}
         self._units = {sid: self._own(sid) // 16 for sid in net.sids}
         self._most = {sid: self._greatest(sid) for sid in net.sids}
+        self._nested = self._nests(net)
+
+    def _nests(self, net: Network) -> dict[Sid, frozenset[int]]:
+        """The 16 bits behind each SID that SIDs nested in it have."""
+        on = {sid.prefix: sid for sid in net.sids}
+        units: dict[Sid, set[int]] = {}
+        for sid in net.sids:
+            outer = on.get(sid.prefix.supernet(16)) if self._own(sid) == 32 else None
+            if self._blocks[sid] and outer:
+                units.setdefault(outer, set()).add(unit_at(sid.prefix, sid.prefix.prefixlen - 16))
+        return {sid: frozenset(found) for sid, found in units.items()}
+
+    def nested(self, sid: Sid) -> frozenset[int]:
+        """The 16 bits that may not come directly behind a SID, since they are a nested SID's."""
+        return self._nested.get(sid, frozenset())
 
     def _own(self, sid: Sid) -> int:
         """A SID's bits behind its block."""
@@ -290,6 +310,8 @@ class Rooms:
         wants = self._units[then] if sid and sid.csid == "next" else 1
         if not same or sid is None or sid.csid == "plain" or wants > room:
             return None
+        if unit_at(then.prefix, block.prefix.prefixlen) in self.nested(sid):
+            return None
         return 0 if then.csid == "plain" else room - wants
 
 
@@ -315,7 +337,7 @@ class Edges:
 
     def like(self, position: int, sid: Sid | None, room: int) -> tuple:
         """What the edges of a state depend on: states that are alike in it have the same ones."""
-        form = (sid.csid, self._rooms.block(sid)) if sid else None
+        form = (sid.csid, self._rooms.block(sid), self._rooms.nested(sid)) if sid else None
         return position, self._legs.place(sid), form, room
 
     def of(self, position: int, sid: Sid | None, room: int) -> list[Edge]:

@@ -81,12 +81,17 @@ class Routes:
 
 
 def locators_of(net: Network, plan: Plan) -> list[Locator]:
-    """The locators of a plan, of the End SIDs that none of them holds, of addresses and sites."""
+    """The locators of a plan, of the End SIDs that none of them holds and that aren't nested in a
+    SID of their node, of addresses and sites.
+    """
     locators = list(plan.locators)
     owners: dict[tuple[int, Prefix], set[str]] = {}
     if plan.ends:
+        at = {(sid.node, sid.prefix) for sid in net.sids}
         for sid in net.sids:
-            if sid.behaviour == "End" and not _is_held(sid.node, sid.prefix, plan.locators):
+            if sid.behaviour != "End" or (sid.node, _outer(sid.prefix)) in at:
+                continue
+            if not _is_held(sid.node, sid.prefix, plan.locators):
                 owners.setdefault((0, sid.prefix), set()).add(sid.node)
     if plan.addresses:
         for node in net.nodes.values():
@@ -97,6 +102,11 @@ def locators_of(net: Network, plan: Plan) -> list[Locator]:
     for (table, prefix), nodes in owners.items():
         locators.append(Locator("", prefix, frozenset(nodes), table))
     return locators
+
+
+def _outer(prefix: Prefix) -> Prefix | None:
+    """The prefix of a SID that another one may be nested in: with 16 bits less."""
+    return prefix.supernet(16) if prefix.prefixlen > 16 else None
 
 
 def _is_held(node: str, prefix: Prefix, locators: Sequence[Locator]) -> bool:

@@ -9,8 +9,8 @@ use Rattle.srx_edge.specs.declared.output.PourFault.TheVariants as pours
 use Rattle.text_faults.specs.declared.fault.TextFault.{TextFault}
 use Rattle.text_faults.specs.declared.fault.OrNoMemory.{OrNoMemory}
 use Rattle.text_faults.specs.declared.fault.OrNoMemory.TheVariants as reads
-use Rattle.flat_networks.specs.declared.flatness.NotFlat.{NotFlat}
-use Rattle.flat_networks.specs.declared.flatness.NotFlat.TheVariants as flats
+use Rattle.flat_networks.specs.declared.not_flat.NotFlat.{NotFlat}
+use Rattle.flat_networks.specs.declared.not_flat.NotFlat.TheVariants as flats
 use Rattle.net_model.specs.Network.{Network}
 use Rattle.intent_reader.specs.declared.fault.IntentFault.{IntentFault}
 use Rattle.list_certificate.specs.declared.types.CertFault.{CertFault}

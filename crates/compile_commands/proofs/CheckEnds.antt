@@ -8,7 +8,7 @@ use Rattle.srx_edge.specs.Sinks.{SinkSeen, sent}
 use Rattle.srx_edge.specs.Steps.{How, Wrote}
 use Rattle.net_model.specs.Network.{Network}
 use Rattle.flat_networks.specs.Flat.{flatness_of}
-use Rattle.flat_networks.specs.declared.flatness.NotFlat.{NotFlat}
+use Rattle.flat_networks.specs.declared.not_flat.NotFlat.{NotFlat}
 use Rattle.intent_reader.specs.declared.intent.Intent.{Intent}
 use Rattle.list_certificate.specs.declared.types.Cert.{Cert}
 use Rattle.leg_table.specs.Table.{LegTable}

@@ -6,7 +6,7 @@ use Rattle.v6_addr.specs.declared.address.Addr.{Addr}
 use Rattle.net_model.specs.Network.{Network}
 use Rattle.net_model.specs.Keeps.{Keeps}
 use Rattle.net_model.specs.Rules.{IsNetwork}
-use Rattle.flat_networks.specs.declared.flatness.NotFlat.{NotFlat}
+use Rattle.flat_networks.specs.declared.not_flat.NotFlat.{NotFlat}
 use Rattle.flat_networks.specs.Flat.{IsFlat, flatness_of}
 use Rattle.flat_networks.proofs.PublicLaws.{flatness_ok}
 use Rattle.intent_reader.specs.declared.intent.Intent.{Intent}

@@ -8,7 +8,7 @@ use Rattle.net_model.specs.Network.{Network}
 use Rattle.net_model.specs.Rules.{IsNetwork}
 use Rattle.flat_networks.specs.Flat.{IsFlat, flatness_of}
 use Rattle.text_faults.specs.declared.fault.TextFault.{TextFault}
-use Rattle.flat_networks.specs.declared.flatness.NotFlat.{NotFlat}
+use Rattle.flat_networks.specs.declared.not_flat.NotFlat.{NotFlat}
 use Rattle.net_model.proofs.PublicLaws.{keeps_from_network}
 use Rattle.flat_networks.proofs.PublicLaws.{flatness_ok}
 use Rattle.toml_words.specs.Reading.{◌>>=◌}

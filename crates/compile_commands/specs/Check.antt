@@ -3,7 +3,7 @@ use Rattle.std.specs.Prelude.{◌≡◌, ℕ, Bool, true, false, List, [], ◌�
 use Rattle.std.specs.Fmt.{decimal}
 use Rattle.net_model.specs.Network.{Network}
 use Rattle.flat_networks.specs.Flat.{flatness_of}
-use Rattle.flat_networks.specs.declared.flatness.NotFlat.{NotFlat}
+use Rattle.flat_networks.specs.declared.not_flat.NotFlat.{NotFlat}
 use Rattle.intent_reader.specs.declared.intent.Intent.{Intent}
 use Rattle.list_certificate.specs.declared.types.Cert.{Cert}
 use Rattle.list_certificate.specs.declared.types.Verdict.{Verdict}

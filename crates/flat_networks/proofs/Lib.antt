@@ -6,4 +6,5 @@ pub mod SearchLemmas
 pub mod FlatLaws
 pub mod AlikeLemmas
 pub mod NestLaws
+pub mod UnitLemmas
 pub mod PublicLaws

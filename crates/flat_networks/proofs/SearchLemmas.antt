@@ -18,7 +18,7 @@ use Rattle.flat_networks.specs.declared.not_flat.NotFlat.TheVariants.{Nested}
 use Rattle.flat_networks.specs.Nests.{IsNest}
 use Rattle.flat_networks.specs.NestTests.{is_nest}
 use Rattle.flat_networks.specs.Flat.{InnerEntry, OfSid, OfRoute, OfAddress, entry_prefix, address_prefix, is_ipv6_route, inner_entries, IsNested, NoneNested, is_nested, nested, pair_or, no_nested}
-use Rattle.flat_networks.specs.Search.{sid_prefix, route_prefix, is_nested_sid, first_inside, FirstAre, HaveTheirPrefixes, NoneAround, NestsWell, AllNestWell}
+use Rattle.flat_networks.specs.Search.{sid_prefix, route_prefix, is_nested_sid, is_wrongly_in, first_inside, FirstAre, HaveTheirPrefixes, NoneAround, NestsWell, AllNestWell, Unless}
 use Rattle.flat_networks.proofs.PairLemmas.{are_judged}
 use Rattle.flat_networks.proofs.PairMeanings.{nested_is}
 use Rattle.flat_networks.proofs.NestLemmas.{nest_is}
@@ -122,10 +122,10 @@ none_any p (y ∷ ys) none x c =
     ]
 
 -- no SID is around another that is not nested in it
-pub none_is_around : (net : Network) (inner : SidEntry) → list_any (λ (outer : SidEntry). is_nested_sid net outer inner) net.sids ≡ false
+pub none_is_around : (net : Network) (inner : SidEntry) → list_any (is_wrongly_in net inner) net.sids ≡ false
     → NestsWell net inner
 none_is_around net inner none outer there inside =
-    let off = none_any (λ (s : SidEntry). is_nested_sid net s inner) net.sids none outer there in
+    let off = none_any (is_wrongly_in net inner) net.sids none outer there in
     elim (cases_Bool (is_nest net outer inner)) [
       | inl nest ↦ (nest_is net outer inner).0 nest
       | inr other ↦ absurd (both_ways _ off
@@ -143,14 +143,34 @@ module _ {T : Type 0} (net : Network) (table : List (PrefixValue × T)) (all : H
   pub outermost : (inner : SidEntry) → ¬ HasAround table inner.prefix → NestsWell net inner
   outermost inner none outer c inside = absurd (none (around outer inner.prefix c inside))
 
-  pub none_nested : NoneAround table route_prefix (filter is_ipv6_route net.routes) → NoneAround table address_prefix net.nodes
-      → AllNestWell net → NoneNested net
+  none_nested : NoneAround table route_prefix (filter is_ipv6_route net.routes) → NoneAround table address_prefix net.nodes
+      → AllNestWell net net.sids → NoneNested net
   none_nested routes addresses sids = record {
     sids = λ s t in_s in_t inside. sids t in_t s in_s inside;
     routes = λ s r in_s in_r v6 inside.
         routes r (contains_filtered is_ipv6_route net.routes r (same_family-from _ _ v6) in_r) (around s r.prefix in_s inside);
     addresses = λ s n in_s in_n inside. addresses n in_n (around s (address_prefix n) in_s inside);
   }
+
+-- the same by what three searches answer
+found_none : {T : Type 0} (net : Network) (table : List (PrefixValue × T)) (route address sid : Bool) → HaveTheirPrefixes net.sids table
+    → Unless route (NoneAround table route_prefix (filter is_ipv6_route net.routes)) → Unless address (NoneAround table address_prefix net.nodes)
+    → Unless sid (AllNestWell net net.sids) → route ≡ false → address ≡ false → sid ≡ false → NoneNested net
+found_none net table true address sid all r a s e f g = absurd (let h : true ≡ false = e in cc)
+found_none net table false true sid all r a s e f g = absurd (let h : true ≡ false = f in cc)
+found_none net table false false true all r a s e f g = absurd (let h : true ≡ false = g in cc)
+found_none net table false false false all r a s e f g = none_nested net table all r a s
+
+pub none_found : {T : Type 0} (net : Network) (table : List (PrefixValue × T)) (route address sid : Bool) (xs zs : List SidEntry)
+    (rs : List Route) (ns : List Node) → HaveTheirPrefixes xs table
+    → Unless route (NoneAround table route_prefix (filter is_ipv6_route rs)) → Unless address (NoneAround table address_prefix ns)
+    → Unless sid (AllNestWell net zs) → xs ≡ net.sids → rs ≡ net.routes → ns ≡ net.nodes → zs ≡ net.sids → route ≡ false
+    → address ≡ false → sid ≡ false → NoneNested net
+none_found net table route address sid xs zs rs ns all r a s same_xs same_rs same_ns same_zs =
+    found_none net table route address sid (subst (λ (ss : List SidEntry). HaveTheirPrefixes ss table) same_xs all)
+    (subst (λ (ss : List Route). Unless route (NoneAround table route_prefix (filter is_ipv6_route ss))) same_rs r)
+    (subst (λ (ss : List Node). Unless address (NoneAround table address_prefix ss)) same_ns a)
+    (subst (λ (ss : List SidEntry). Unless sid (AllNestWell net ss)) same_zs s)
 
 -- without a nested pair there is no refusal
 pub none_refused : (net : Network) → NoneNested net → Ok tt ≡ no_nested net

@@ -18,6 +18,9 @@ route_prefix r = r.prefix
 abbrev pub is_nested_sid : Network → SidEntry → SidEntry → Bool
 is_nested_sid net outer inner = is_inside inner.prefix outer.prefix && not (is_nest net outer inner)
 
+abbrev pub is_wrongly_in : Network → SidEntry → SidEntry → Bool
+is_wrongly_in net inner outer = is_nested_sid net outer inner
+
 abbrev pub is_around : PrefixValue → PrefixValue → Bool
 is_around outer inner = is_inside inner outer
 
@@ -48,8 +51,8 @@ NoneAround {T} {X} table f xs = (x : X) → Contains xs x → ¬ HasAround table
 abbrev pub NestsWell : Network → SidEntry → Type 0
 NestsWell net inner = (outer : SidEntry) → Contains net.sids outer → IsInside inner.prefix outer.prefix → IsNest net outer inner
 
-abbrev pub AllNestWell : Network → Type 0
-AllNestWell net = (inner : SidEntry) → Contains net.sids inner → NestsWell net inner
+abbrev pub AllNestWell : Network → List SidEntry → Type 0
+AllNestWell net sids = (inner : SidEntry) → Contains sids inner → NestsWell net inner
 
 -- where an answer is not true, a fact holds
 abbrev pub Unless : Bool → Type 0 → Type 0

@@ -1,12 +1,12 @@
 //! The refusal of entries that lie strictly inside a SID and are not nested in it.
 
 ghost use Rattle.std.specs.Prelude.{◌≡◌, Ok, OnOk, IfOk, IsTrue, true, false, map, find};
-ghost use Rattle.std.specs.List.{filter};
+ghost use Rattle.std.specs.List.{filter, list_any};
 ghost use Rattle.std.specs.Option.{option_map};
 ghost use Rattle.prefix_table.specs.Table.{HasAround};
 ghost use Rattle.net_model.specs.Network.{network_of};
-ghost use Rattle.flat_networks.specs.Flat.{is_ipv6_route, address_prefix, entry_prefix, inner_entries, NoneNested, is_nested, nested, first_pair, no_nested};
-ghost use Rattle.flat_networks.specs.Search.{sid_prefix, route_prefix, first_inside, is_nested_sid, GetsPrefix, HaveTheirPrefixes, NoneAround, NestsWell, AllNestWell, Unless};
+ghost use Rattle.flat_networks.specs.Flat.{is_ipv6_route, address_prefix, entry_prefix, inner_entries, NoneNested, is_nested, nested, pair_or, first_pair, no_nested};
+ghost use Rattle.flat_networks.specs.Search.{sid_prefix, route_prefix, first_inside, is_nested_sid, is_wrongly_in, GetsPrefix, HaveTheirPrefixes, NoneAround, NestsWell, AllNestWell, Unless};
 
 use crate::nests::is_nest;
 use crate::not_flat::NotFlat;
@@ -55,7 +55,6 @@ fn first_address_inside(outer: &Prefix, nodes: &[Node]) -> Option<Prefix>
 }
 
 /// The first entry that lies strictly inside a SID and is not nested in it.
-#[tactic(auto, using(crate::proofs::SearchLemmas::joined))]
 fn first_entry_inside(outer: &SidEntry, parts: &NetParts) -> Option<Prefix>
     ensures { result ≡ option_map entry_prefix
         (find (is_nested (network_of parts.now) outer.now) (inner_entries (network_of parts.now))) }
@@ -66,6 +65,21 @@ fn first_entry_inside(outer: &SidEntry, parts: &NetParts) -> Option<Prefix>
     sid.or(route.or(address))
 }
 
+/// Refuses the first entry that lies strictly inside a SID and is not nested in it.
+fn refuse_nested_in(outer: &SidEntry, parts: &NetParts) -> Result<(), NotFlat>
+    ensures { result ≡ pair_or nested outer.now
+        (find (is_nested (network_of parts.now) outer.now) (inner_entries (network_of parts.now)))
+        (Ok tt) }
+{
+    match first_entry_inside(outer, parts) {
+        Some(inner) => Err(NotFlat::Nested {
+            outer: outer.prefix,
+            inner,
+        }),
+        None => Ok(()),
+    }
+}
+
 /// Refuses the first nested pair of the SIDs from one on.
 fn refuse_nested(sids: &[SidEntry], parts: &NetParts) -> Result<(), NotFlat>
     ensures { result ≡ first_pair (is_nested (network_of parts.now)) nested
@@ -73,9 +87,8 @@ fn refuse_nested(sids: &[SidEntry], parts: &NetParts) -> Result<(), NotFlat>
 {
     let mut rest = sids;
     while let [s, more @ ..] = rest {
-        if let Some(inner) = first_entry_inside(s, parts) {
-            let outer = s.prefix;
-            return Err(NotFlat::Nested { outer, inner });
+        if let Err(why) = refuse_nested_in(s, parts) {
+            return Err(why);
         }
         rest = more;
     }
@@ -104,23 +117,35 @@ fn table_of(alloc: Global, sids: &[SidEntry]) -> Result<Table<()>, NoMemory>
     Ok(table)
 }
 
-/// Whether a SID lies strictly inside no SID but those that it is nested in.
-fn nests_well(parts: &NetParts, inner: &SidEntry) -> bool
-    ensures { IsTrue result → NestsWell (network_of parts.now) inner.now }
+/// Whether a SID lies strictly inside one of the SIDs and is not nested in it.
+fn nests_badly(parts: &NetParts, inner: &SidEntry) -> bool
+    ensures { result ≡ list_any (is_wrongly_in (network_of parts.now) inner.now)
+        (network_of parts.now).sids }
 {
-    !parts
+    parts
         .sids
         .iter()
         .any(|outer| is_nested_sid(parts, outer, inner))
 }
 
-/// Whether a SID lies strictly inside another and is not nested in it.
-fn has_sid_inside(table: &Table<()>, parts: &NetParts) -> bool
+/// Whether a SID does, which a table of the SIDs' prefixes often clears at once.
+fn is_sid_inside(table: &Table<()>, parts: &NetParts, inner: &SidEntry) -> bool
     requires { HaveTheirPrefixes (network_of parts.now).sids table.now }
-    ensures { Unless result (AllNestWell (network_of parts.now)) }
+    ensures { result ≡ false → NestsWell (network_of parts.now) inner.now }
 {
-    for s in parts.sids.as_slice() {
-        if table.has_around(s.prefix) && !nests_well(parts, s) {
+    if !table.has_around(inner.prefix) {
+        return false;
+    }
+    nests_badly(parts, inner)
+}
+
+/// Whether some of these SIDs does.
+fn has_sid_inside(table: &Table<()>, parts: &NetParts, sids: &[SidEntry]) -> bool
+    requires { HaveTheirPrefixes (network_of parts.now).sids table.now }
+    ensures { Unless result (AllNestWell (network_of parts.now) sids.now) }
+{
+    for s in sids {
+        if is_sid_inside(table, parts, s) {
             return true;
         }
     }
@@ -175,7 +200,7 @@ fn are_apart(alloc: Global, parts: &NetParts) -> bool
     if has_address_inside(&table, parts.nodes.as_slice()) {
         return false;
     }
-    !has_sid_inside(&table, parts)
+    !has_sid_inside(&table, parts, parts.sids.as_slice())
 }
 
 /// Refuses the first nested pair, which is searched for only where there may be one.

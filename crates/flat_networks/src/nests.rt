@@ -1,13 +1,13 @@
 //! SIDs nested in another SID of their node.
 
-ghost use Rattle.std.specs.Prelude.{◌≡◌, ◌↔◌, ℕ, ◌+◌, ◌<◌, ◌≤◌, Some, IfOk, IsTrue, length, slice_get};
+ghost use Rattle.std.specs.Prelude.{◌≡◌, ◌+◌, ◌<◌, ◌≤◌, Some, OnOk, IfOk, length, slice_get};
 ghost use Rattle.v6_addr.specs.Address.{IsInside};
 ghost use Rattle.srv6_rules.specs.declared.sid.SidEntry.{SidEntry};
 ghost use Rattle.net_model.specs.Network.{network_of};
 ghost use Rattle.flat_networks.specs.Flat.{IsFlat};
 ghost use Rattle.flat_networks.specs.Nests.{unit_at};
 ghost use Rattle.flat_networks.specs.NestTests.{is_next, same_kind, same_block, is_alone, are_units, is_nest};
-ghost use Rattle.flat_networks.specs.Units.{AreNestedUnits};
+ghost use Rattle.flat_networks.specs.Units.{GetsUnit, AreNestedUnits};
 
 use base::NoMemory;
 use net_model::{Block, BlockKind, Net, NetParts, block_of, same_prefix};
@@ -82,6 +82,18 @@ pub(crate) fn is_nest(parts: &NetParts, outer: &SidEntry, inner: &SidEntry) -> b
     }
 }
 
+/// The unit of a SID that lies strictly inside another is put behind these.
+fn push_unit(units: &mut Vec<u16>, outer: &SidEntry, inner: &SidEntry) -> Result<(), NoMemory>
+    requires { IsInside inner.now.prefix outer.now.prefix → outer.now.prefix.len + 16 ≤ 128 }
+    ensures { OnOk result (GetsUnit units.old.items units.new.items outer.now inner.now) }
+{
+    if !inner.prefix.inside(&outer.prefix) {
+        return Ok(());
+    }
+    units.push(unit(&inner.prefix, outer.prefix.len()))?;
+    Ok(())
+}
+
 /// The units of the SIDs nested in the SID with a number, in the order of the description: the 16
 /// bits after the SID's. A SID may come directly after it in a container where its first 16 bits
 /// after the block's, which then stand there, are none of them (own rule).
@@ -91,13 +103,12 @@ pub fn units_nested_in(alloc: Global, net: &Net, sid: u32) -> Result<Vec<u16>, N
     ensures { IfOk result (λ units. (s : SidEntry) → slice_get net.now.sids sid ≡ Some s
         → AreNestedUnits net.now s units.items) }
 {
+    net.keeps_rules();
     let outer = net.sid(sid);
     let sids = net.parts().sids.as_slice();
     let mut units = Vec::new(alloc);
     for inner in sids {
-        if inner.prefix.inside(&outer.prefix) {
-            units.push(unit(&inner.prefix, outer.prefix.len()))?;
-        }
+        push_unit(&mut units, outer, inner)?;
     }
     Ok(units)
 }

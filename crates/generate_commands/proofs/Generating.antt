@@ -5,7 +5,7 @@ use Rattle.srx_edge.specs.Sources.{SourceSeen}
 use Rattle.srx_edge.specs.Sinks.{SinkSeen, sent}
 use Rattle.srx_edge.specs.Steps.{How, Wrote}
 use Rattle.net_model.specs.Network.{Network}
-use Rattle.flat_networks.specs.declared.flatness.NotFlat.{NotFlat}
+use Rattle.flat_networks.specs.declared.not_flat.NotFlat.{NotFlat}
 use Rattle.net_maker.specs.Networks.{net_text}
 use Rattle.net_maker.specs.Intents.{intent_text}
 use Rattle.intent_reader.specs.declared.intent.Intent.{Intent}

@@ -3,7 +3,7 @@ use Rattle.std.proofs.Common.{◌≡◌, ℕ, arith, Bool, List, [], ◌∷◌, 
 use Rattle.net_model.specs.Network.{Network}
 use Rattle.net_model.specs.Rules.{IsNetwork}
 use Rattle.flat_networks.specs.Flat.{IsFlat, flatness_of}
-use Rattle.flat_networks.specs.declared.flatness.NotFlat.{NotFlat}
+use Rattle.flat_networks.specs.declared.not_flat.NotFlat.{NotFlat}
 use Rattle.net_model.proofs.PublicLaws.{keeps_from_network}
 use Rattle.flat_networks.proofs.PublicLaws.{flatness_ok}
 use Rattle.intent_reader.specs.Rules.{IsIntent}

@@ -3,8 +3,8 @@
 use crate::net_model_tests::{
     BLOCK, INNER_SID as INNER, SID, end_at_b, network, prefix, two_nodes,
 };
-use flat_networks::{NotFlat, compilable};
-use net_model::{Block, BlockKind};
+use flat_networks::{NotFlat, compilable, units_nested_in};
+use net_model::{Block, BlockKind, Net};
 use srv6_rules::{Behaviour, Csid, SidEntry};
 use std::alloc::{AllocError, Global};
 use std::process::Abort;
@@ -16,6 +16,10 @@ const PACKED: u128 = 0xfd00_0001_0000_0000_0000_0000_0000_0000;
 const PACKED_SID: u128 = 0xfd00_0001_0002_0000_0000_0000_0000_0000;
 /// fcbb::
 const WIDE: u128 = 0xfcbb_0000_0000_0000_0000_0000_0000_0000;
+/// fcbb:bb00:2:e002::
+const LATER: u128 = 0xfcbb_bb00_0002_e002_0000_0000_0000_0000;
+/// fcbb:bb00:e001::
+const APART: u128 = 0xfcbb_bb00_e001_0000_0000_0000_0000_0000;
 /// fcbb:bb00:0:e001::
 const ZERO: u128 = 0xfcbb_bb00_0000_e001_0000_0000_0000_0000;
 
@@ -44,18 +48,20 @@ fn sid(rt: &impl Abort, alloc: Global, node: u32, row: (u128, u8, Kind)) -> SidE
     sid
 }
 
-/// What `compilable` answers of a network with a SID at the node B and then one at A, a NEXT block
+/// A network of the nodes A, 0, and B, 1, with these SIDs and a route of A to a prefix, a NEXT block
 /// of 32 bits and a REPLACE block of 32 bits whose compressed SIDs have 32.
-fn flatness(
+fn network_of(
     rt: &impl Abort,
     alloc: Global,
-    at_b: (u128, u8, Kind),
-    at_a: (u128, u8, Kind),
-) -> Result<Result<(), NotFlat>, AllocError> {
+    rows: &[(u32, (u128, u8, Kind))],
+    route: (u128, u8),
+) -> Result<Net, AllocError> {
     let mut sids = Vec::new(alloc);
-    sids.push(sid(rt, alloc, 1, at_b))?;
-    sids.push(sid(rt, alloc, 0, at_a))?;
-    let mut parts = two_nodes(alloc, ("A", "B"), prefix(rt, 0, 0), sids)?;
+    for (node, row) in rows {
+        sids.push(sid(rt, alloc, *node, *row))?;
+    }
+    let to = prefix(rt, route.0, route.1);
+    let mut parts = two_nodes(alloc, ("A", "B"), to, sids)?;
     for (block, kind, csid) in [
         (BLOCK, BlockKind::Next, 16),
         (PACKED, BlockKind::Replace, 32),
@@ -63,7 +69,18 @@ fn flatness(
         let prefix = prefix(rt, block, 32);
         parts.blocks.push(Block { prefix, kind, csid })?;
     }
-    Ok(compilable(alloc, &network(rt, alloc, parts)))
+    Ok(network(rt, alloc, parts))
+}
+
+/// What `compilable` answers of a network with a SID at the node B and then one at A.
+fn flatness(
+    rt: &impl Abort,
+    alloc: Global,
+    at_b: (u128, u8, Kind),
+    at_a: (u128, u8, Kind),
+) -> Result<Result<(), NotFlat>, AllocError> {
+    let net = network_of(rt, alloc, &[(1, at_b), (0, at_a)], (0, 0))?;
+    Ok(compilable(alloc, &net))
 }
 
 fn nested(rt: &impl Abort, outer: u128, inner: u128) -> Result<(), NotFlat> {
@@ -142,6 +159,83 @@ fn the_first_refusal_tells_why_a_network_is_not_flat(rt: HostRuntime) -> Result<
         ((SID, 48, PLAIN), (SID, 48, NEXT), clash(&rt, SID, 48)),
     ] {
         assert!(rt; flatness(&rt, rt.alloc(), at_b, at_a)? == answer);
+    }
+    Ok(())
+}
+
+#[test]
+fn sids_nested_at_one_node_are_flat(rt: HostRuntime) -> Result<(), Fail> {
+    let alloc = rt.alloc();
+    for inner in [PLAIN, NEXT, EXIT] {
+        let rows = [
+            (1, (SID, 48, NEXT)),
+            (1, (INNER, 64, inner)),
+            (1, (LATER, 64, PLAIN)),
+        ];
+        let net = network_of(&rt, alloc, &rows, (SID, 48))?;
+        assert!(rt; compilable(alloc, &net) == Ok(()));
+    }
+    let turned = [(0, (INNER, 64, NEXT)), (0, (SID, 48, NEXT))];
+    let net = network_of(&rt, alloc, &turned, (0, 0))?;
+    assert!(rt; compilable(alloc, &net) == Ok(()));
+    Ok(())
+}
+
+/// What `compilable` answers of a network with these SIDs and a route of A to a prefix.
+fn flatness_of(
+    rt: &impl Abort,
+    alloc: Global,
+    rows: &[(u32, (u128, u8, Kind))],
+    route: (u128, u8),
+) -> Result<Result<(), NotFlat>, AllocError> {
+    let net = network_of(rt, alloc, rows, route)?;
+    Ok(compilable(alloc, &net))
+}
+
+#[test]
+fn other_nested_sids_are_refused(rt: HostRuntime) -> Result<(), Fail> {
+    let alloc = rt.alloc();
+    let first = nested(&rt, SID, INNER);
+    let (outer, inner) = ((SID, 48, NEXT), (INNER, 64, PLAIN));
+    for rows in [
+        [(1, outer), (0, inner), (0, (APART, 48, NEXT))],
+        [(1, (SID, 48, PLAIN)), (1, inner), (0, (APART, 48, NEXT))],
+        [(1, outer), (1, inner), (0, outer)],
+        [(1, outer), (1, inner), (0, inner)],
+    ] {
+        assert!(rt; flatness_of(&rt, alloc, &rows, (0, 0))? == first);
+    }
+    assert!(rt; flatness_of(&rt, alloc, &[(1, outer), (1, inner)], (INNER, 64))? == first);
+    let zero = [(1, outer), (1, inner), (1, (SID, 64, NEXT))];
+    assert!(rt; flatness_of(&rt, alloc, &zero, (0, 0))? == nested(&rt, SID, SID));
+    let long = [(1, outer), (1, (INNER, 80, PLAIN))];
+    let (outer, inner) = (prefix(&rt, SID, 48), prefix(&rt, INNER, 80));
+    let answer = Err(NotFlat::Nested { outer, inner });
+    assert!(rt; flatness_of(&rt, alloc, &long, (0, 0))? == answer);
+    let deep = [(1, (INNER, 64, NEXT)), (1, (INNER, 80, PLAIN))];
+    let outer = prefix(&rt, INNER, 64);
+    let answer = Err(NotFlat::Nested { outer, inner });
+    assert!(rt; flatness_of(&rt, alloc, &deep, (0, 0))? == answer);
+    Ok(())
+}
+
+#[test]
+fn nested_sids_tell_their_units(rt: HostRuntime) -> Result<(), Fail> {
+    let alloc = rt.alloc();
+    let rows = [
+        (1, (SID, 48, NEXT)),
+        (1, (LATER, 64, PLAIN)),
+        (0, (APART, 48, NEXT)),
+        (1, (INNER, 64, NEXT)),
+    ];
+    let net = network_of(&rt, alloc, &rows, (0, 0))?;
+    let answer = compilable(alloc, &net);
+    assert!(rt; answer.is_ok());
+    let units: [&[u16]; 4] = [&[0xe002, 0xe001], &[], &[], &[]];
+    assert!(rt; net.sids() == 4);
+    for (n, expected) in units.iter().enumerate() {
+        let found = units_nested_in(alloc, &net, n as u32)?;
+        assert!(rt; found.as_slice() == *expected);
     }
     Ok(())
 }

@@ -3,4 +3,4 @@ use Rattle.flat_networks.specs.Search.{NestsWell, FirstAre}
 use Rattle.flat_networks.proofs.nested.has_sid_inside.Given as goal
 
 abbrev pub invariant-loop-s : goal.invariant-loop-s
-invariant-loop-s l = FirstAre (NestsWell (network_of l.parts)) (network_of l.parts).sids l.s-index
+invariant-loop-s l = FirstAre (NestsWell (network_of l.parts)) l.sids l.s-index

@@ -1,0 +1,5 @@
+use Rattle.flat_networks.specs.Units.{AreFirstUnits}
+use Rattle.flat_networks.proofs.nests.units_nested_in.Given as goal
+
+abbrev pub invariant-loop-inner : goal.invariant-loop-inner
+invariant-loop-inner l = AreFirstUnits l.sids l.outer l.inner-index l.units.items
