@@ -11,7 +11,17 @@ from srv6tools.legs import Legs
 from srv6tools.program import run_program
 from support import EXAMPLES, ToolCase, bad_tomls, needs_program, run_here
 
-M2, COMPRESSED, INTENT = (EXAMPLES / f"{name}.toml" for name in ("m2", "compressed", "intent"))
+M2, COMPRESSED, NESTED, INTENT = (
+    EXAMPLES / f"{name}.toml" for name in ("m2", "compressed", "nested", "intent")
+)
+# Inside B's End, with the 16 bits behind it that B's End.X has behind the block.
+INNER = """
+[[sid]]
+node = "B"
+prefix = "fcbb:bb00:2:e001::/64"
+behaviour = "End.DT4"
+table = 7
+"""
 CERTIFICATE = """\
 # container fcbb:bb00:2::
 srv6 certificate 1
@@ -90,7 +100,15 @@ class CheckCertificate(ToolCase):
                 self.assertEqual((ran.out + ran.err, ran.status), (line + "\n", status))
 
     def test_what_is_made_is_least(self):
-        for net, line in ((M2, "least 4 4\n"), (COMPRESSED, "least 1 4\n")):
+        barred = self.file("barred.toml", COMPRESSED.read_text() + INNER)
+        other_bits = self.file("free.toml", COMPRESSED.read_text() + INNER.replace("e001", "e003"))
+        for net, line in (
+            (M2, "least 4 4\n"),
+            (COMPRESSED, "least 1 4\n"),
+            (NESTED, "least 1 2\n"),
+            (barred, "least 2 4\n"),
+            (other_bits, "least 1 4\n"),
+        ):
             cert = self.file("cert", made(net, INTENT))
             self.assertEqual(run_here("check-certificate", net, INTENT, cert).out, line)
         other = self.file("other.toml", INTENT.read_text().replace("bc1", "bc2"))
@@ -113,7 +131,7 @@ class CheckCertificate(ToolCase):
 
     @needs_program
     def test_as_srv6_check(self):
-        for net in (M2, COMPRESSED):
+        for net in (M2, COMPRESSED, NESTED):
             for text in changed(run_program(["compile", net, INTENT]).out.decode()):
                 cert = self.file("cert", text)
                 answer = run_program(["check", net, INTENT, cert])

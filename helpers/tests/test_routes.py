@@ -144,6 +144,14 @@ class Routes(ToolCase):
         _, said, _, _ = self.filled(SQUARE, CABLES + locator)
         self.assertIn("fc00:0:c:1::/64 lies inside sid 1, fc00:0:c::/48: Nested", said)
 
+    def test_nested_end_sids_are_no_locators(self):
+        inner = '[[sid]]\nnode = "c"\nprefix = "fc00:0:c:1::/64"\nbehaviour = "End"\n'
+        _, _, _, routes = self.filled(SQUARE + inner, CABLES)
+        self.assertEqual({prefix for _, _, prefix in routes}, {"fc00:0:c::/48"})
+        elsewhere = inner.replace('"c"', '"d"')
+        _, _, _, routes = self.filled(SQUARE + elsewhere, CABLES)
+        self.assertIn("fc00:0:c:1::/64", {prefix for _, _, prefix in routes})
+
     def test_a_locator_holds_its_end_sids(self):
         locator = '[[locator]]\nprefix = "fc00::/32"\nnodes = ["c"]\n'
         _, _, _, routes = self.filled(SQUARE, CABLES + locator)
