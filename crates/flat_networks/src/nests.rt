@@ -1,11 +1,11 @@
 //! SIDs nested in another SID of their node.
 
-ghost use Rattle.std.specs.Prelude.{◌≡◌, ◌+◌, ◌<◌, ◌≤◌, Some, OnOk, IfOk, length, slice_get};
+ghost use Rattle.std.specs.Prelude.{◌≡◌, ◌↔◌, ◌+◌, ◌<◌, ◌≤◌, Some, OnOk, IfOk, IsTrue, length, slice_get};
 ghost use Rattle.v6_addr.specs.Address.{IsInside};
 ghost use Rattle.srv6_rules.specs.declared.sid.SidEntry.{SidEntry};
 ghost use Rattle.net_model.specs.Network.{network_of};
 ghost use Rattle.flat_networks.specs.Flat.{IsFlat};
-ghost use Rattle.flat_networks.specs.Nests.{unit_at};
+ghost use Rattle.flat_networks.specs.Nests.{unit_at, IsNest};
 ghost use Rattle.flat_networks.specs.NestTests.{is_next, same_kind, same_block, is_alone, are_units, is_nest};
 ghost use Rattle.flat_networks.specs.Units.{GetsUnit, AreNestedUnits};
 
@@ -80,6 +80,13 @@ pub(crate) fn is_nest(parts: &NetParts, outer: &SidEntry, inner: &SidEntry) -> b
         }
         _ => false,
     }
+}
+
+/// Whether two SIDs are an allowed nest, the inner one nested in the outer one (own rules).
+pub fn are_nest(net: &Net, outer: &SidEntry, inner: &SidEntry) -> bool
+    ensures { IsTrue result ↔ IsNest net.now outer.now inner.now }
+{
+    is_nest(net.parts(), outer, inner)
 }
 
 /// The unit of a SID that lies strictly inside another is put behind these.
