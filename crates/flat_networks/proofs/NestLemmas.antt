@@ -107,11 +107,11 @@ module _ {X : Type 0} (q : X → Bool) where
       elim (cases_Bool (q z)) [
         | inl mine ↦
             let none = count_none zs (λ n x at. false_from_ne_true (q x) (λ passes.
-                let same : 0 ≡ suc n = one 0 (suc n) z x refl at mine passes in absurd (omega (arith, same)))) in
+            let same : 0 ≡ suc n = one 0 (suc n) z x refl at mine passes in absurd (omega (arith, same)))) in
             omega (arith, counted_here z zs mine, none)
         | inr off ↦
             let few = count_one zs (λ n m x y at_n at_m q_x q_y.
-                let same : suc n ≡ suc m = one (suc n) (suc m) x y at_n at_m q_x q_y in omega (arith, same)) in
+            let same : suc n ≡ suc m = one (suc n) (suc m) x y at_n at_m q_x q_y in omega (arith, same)) in
             omega (arith, counted_not z zs off, few)
       ]
 

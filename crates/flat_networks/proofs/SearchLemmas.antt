@@ -17,8 +17,8 @@ use Rattle.flat_networks.specs.declared.not_flat.NotFlat.{NotFlat}
 use Rattle.flat_networks.specs.declared.not_flat.NotFlat.TheVariants.{Nested}
 use Rattle.flat_networks.specs.Nests.{IsNest}
 use Rattle.flat_networks.specs.NestTests.{is_nest}
-use Rattle.flat_networks.specs.Flat.{InnerEntry, OfSid, OfRoute, OfAddress, entry_prefix, address_prefix, is_ipv6_route, inner_entries, IsNested, NoneNested, is_nested, nested, pair_or, no_nested}
-use Rattle.flat_networks.specs.Search.{sid_prefix, route_prefix, is_nested_sid, is_wrongly_in, first_inside, FirstAre, HaveTheirPrefixes, NoneAround, NestsWell, AllNestWell, Unless}
+use Rattle.flat_networks.specs.Flat.{InnerEntry, OfSid, OfRoute, OfAddress, entry_prefix, address_prefix, is_ipv6_route, inner_entries, IsNested, NoneNested, is_nested, nested, pair_or, first_pair, no_nested}
+use Rattle.flat_networks.specs.Search.{sid_prefix, route_prefix, is_nested_sid, is_wrongly_in, first_inside, first_nested, first_refused, FirstAre, HaveTheirPrefixes, NoneAround, NestsWell, AllNestWell, Unless}
 use Rattle.flat_networks.proofs.PairLemmas.{are_judged}
 use Rattle.flat_networks.proofs.PairMeanings.{nested_is}
 use Rattle.flat_networks.proofs.NestLemmas.{nest_is}
@@ -66,7 +66,7 @@ module _ (net : Network) (outer : SidEntry) where
       ∙ map_or (find (is_nested net outer) xs) (find (is_nested net outer) ys)
 
   -- the first of three lists in a row
-  pub joined : (ss : List SidEntry) (rs : List Route) (ns : List Node)
+  joined : (ss : List SidEntry) (rs : List Route) (ns : List Node)
       → first_of (map OfSid ss ++ (map OfRoute rs ++ map OfAddress ns))
       ≡ option_or (option_map sid_prefix (find (is_nested_sid net outer) ss))
       (option_or (first_inside outer.prefix (map route_prefix rs)) (first_inside outer.prefix (map address_prefix ns)))
@@ -77,6 +77,22 @@ module _ (net : Network) (outer : SidEntry) where
       (append_first (map OfRoute rs) (map OfAddress ns)
       ∙ (ap (λ (o : Option PrefixValue). option_or o (first_of (map OfAddress ns))) (routes_first rs)
       ∙ ap (λ (o : Option PrefixValue). option_or (first_inside outer.prefix (map route_prefix rs)) o) (addresses_first ns))))
+
+-- the first entry of all
+pub first_of_all : (net : Network) (outer : SidEntry)
+    → option_map entry_prefix (first_nested net outer)
+    ≡ option_or (option_map sid_prefix (find (is_nested_sid net outer) net.sids))
+    (option_or (first_inside outer.prefix (map route_prefix (filter is_ipv6_route net.routes)))
+    (first_inside outer.prefix (map address_prefix net.nodes)))
+unfolding first_nested
+first_of_all net outer = joined net outer net.sids (filter is_ipv6_route net.routes) net.nodes
+
+-- one refusal after the other
+pub pairs_refused : (net : Network) (sids : List SidEntry)
+    → first_pair (is_nested net) nested (inner_entries net) sids ≡ first_refused net sids
+unfolding first_nested
+pairs_refused net [] = refl
+pairs_refused net (s ∷ ss) = ap (pair_or nested s (find (is_nested net s) (inner_entries net))) (pairs_refused net ss)
 
 -- the refusal has the prefix of the entry
 pub refused_for : (s : SidEntry) (found : Option InnerEntry) (p : PrefixValue) (later : Result (Unit {0}) NotFlat)

@@ -1,5 +1,5 @@
 -- How the first nested pair is searched for, and what a table of SIDs' prefixes tells of the entries that lie inside them.
-use Rattle.std.specs.Prelude.{◌≡◌, ℕ, ◌<◌, Bool, true, false, ◌&&◌, not, List, find, Option, slice_get, Some, Contains}
+use Rattle.std.specs.Prelude.{◌≡◌, ℕ, ◌<◌, Bool, true, false, ◌&&◌, not, List, [], ◌∷◌, find, Option, slice_get, Some, Result, Ok, Contains}
 use Rattle.v6_addr.specs.Address.{PrefixValue, IsInside, is_inside}
 use Rattle.srv6_rules.specs.declared.sid.SidEntry.{SidEntry}
 use Rattle.prefix_table.specs.Table.{HasPrefix, HasAround}
@@ -7,6 +7,8 @@ use Rattle.net_model.specs.declared.parts.Route.{Route}
 use Rattle.net_model.specs.Network.{Network}
 use Rattle.flat_networks.specs.Nests.{IsNest}
 use Rattle.flat_networks.specs.NestTests.{is_nest}
+use Rattle.flat_networks.specs.declared.not_flat.NotFlat.{NotFlat}
+use Rattle.flat_networks.specs.Flat.{InnerEntry, inner_entries, is_nested, nested, pair_or}
 
 abbrev pub sid_prefix : SidEntry → PrefixValue
 sid_prefix s = s.prefix
@@ -27,6 +29,15 @@ is_around outer inner = is_inside inner outer
 -- the first of these prefixes that lies strictly inside the outer one
 abbrev pub first_inside : PrefixValue → List PrefixValue → Option PrefixValue
 first_inside outer inners = find (is_around outer) inners
+
+-- the first entry that is nested in a SID and may not be
+unfoldable pub first_nested : Network → SidEntry → Option InnerEntry
+first_nested net outer = find (is_nested net outer) (inner_entries net)
+
+-- the refusal of the first nested pair of these SIDs
+abbrev pub first_refused : Network → List SidEntry → Result (Unit {0}) NotFlat
+first_refused net [] = Ok tt
+first_refused net (s ∷ ss) = pair_or nested s (first_nested net s) (first_refused net ss)
 
 -- ---- tables
 

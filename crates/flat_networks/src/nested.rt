@@ -5,8 +5,8 @@ ghost use Rattle.std.specs.List.{filter, list_any};
 ghost use Rattle.std.specs.Option.{option_map};
 ghost use Rattle.prefix_table.specs.Table.{HasAround};
 ghost use Rattle.net_model.specs.Network.{network_of};
-ghost use Rattle.flat_networks.specs.Flat.{is_ipv6_route, address_prefix, entry_prefix, inner_entries, NoneNested, is_nested, nested, pair_or, first_pair, no_nested};
-ghost use Rattle.flat_networks.specs.Search.{sid_prefix, route_prefix, first_inside, is_nested_sid, is_wrongly_in, GetsPrefix, HaveTheirPrefixes, NoneAround, NestsWell, AllNestWell, Unless};
+ghost use Rattle.flat_networks.specs.Flat.{is_ipv6_route, address_prefix, entry_prefix, NoneNested, nested, pair_or, no_nested};
+ghost use Rattle.flat_networks.specs.Search.{sid_prefix, route_prefix, first_inside, is_nested_sid, is_wrongly_in, first_nested, first_refused, GetsPrefix, HaveTheirPrefixes, NoneAround, NestsWell, AllNestWell, Unless};
 
 use crate::nests::is_nest;
 use crate::not_flat::NotFlat;
@@ -56,8 +56,7 @@ fn first_address_inside(outer: &Prefix, nodes: &[Node]) -> Option<Prefix>
 
 /// The first entry that lies strictly inside a SID and is not nested in it.
 fn first_entry_inside(outer: &SidEntry, parts: &NetParts) -> Option<Prefix>
-    ensures { result ≡ option_map entry_prefix
-        (find (is_nested (network_of parts.now) outer.now) (inner_entries (network_of parts.now))) }
+    ensures { result ≡ option_map entry_prefix (first_nested (network_of parts.now) outer.now) }
 {
     let sid = first_sid_inside(outer, parts);
     let route = first_route_inside(&outer.prefix, parts.routes.as_slice());
@@ -67,8 +66,7 @@ fn first_entry_inside(outer: &SidEntry, parts: &NetParts) -> Option<Prefix>
 
 /// Refuses the first entry that lies strictly inside a SID and is not nested in it.
 fn refuse_nested_in(outer: &SidEntry, parts: &NetParts) -> Result<(), NotFlat>
-    ensures { result ≡ pair_or nested outer.now
-        (find (is_nested (network_of parts.now) outer.now) (inner_entries (network_of parts.now)))
+    ensures { result ≡ pair_or nested outer.now (first_nested (network_of parts.now) outer.now)
         (Ok tt) }
 {
     match first_entry_inside(outer, parts) {
@@ -82,8 +80,7 @@ fn refuse_nested_in(outer: &SidEntry, parts: &NetParts) -> Result<(), NotFlat>
 
 /// Refuses the first nested pair of the SIDs from one on.
 fn refuse_nested(sids: &[SidEntry], parts: &NetParts) -> Result<(), NotFlat>
-    ensures { result ≡ first_pair (is_nested (network_of parts.now)) nested
-        (inner_entries (network_of parts.now)) sids.now }
+    ensures { result ≡ first_refused (network_of parts.now) sids.now }
 {
     let mut rest = sids;
     while let [s, more @ ..] = rest {

@@ -71,7 +71,10 @@ pub(crate) fn is_nest(parts: &NetParts, outer: &SidEntry, inner: &SidEntry) -> b
 {
     let sids = parts.sids.as_slice();
     let blocks = parts.blocks.as_slice();
-    match (block_of(blocks, &outer.prefix), block_of(blocks, &inner.prefix)) {
+    match (
+        block_of(blocks, &outer.prefix),
+        block_of(blocks, &inner.prefix),
+    ) {
         (Some(b), Some(c)) => {
             same_block(&b, &c)
                 && are_units(&b, outer, inner)

@@ -1,13 +1,11 @@
 use Rattle.std.proofs.Common.{◌≡◌, length}
 use Rattle.net_model.specs.Network.{network_of}
-use Rattle.flat_networks.specs.Flat.{inner_entries, is_nested, nested, first_pair}
+use Rattle.flat_networks.specs.Search.{first_refused}
 use Rattle.flat_networks.proofs.nested.refuse_nested.Given as goal
 
 -- what the rest answers is the answer
 abbrev pub invariant-loop-rest : goal.invariant-loop-rest
-invariant-loop-rest l =
-    first_pair (is_nested (network_of l.parts)) nested (inner_entries (network_of l.parts)) l.rest
-    ≡ first_pair (is_nested (network_of l.parts)) nested (inner_entries (network_of l.parts)) l.sids
+invariant-loop-rest l = first_refused (network_of l.parts) l.rest ≡ first_refused (network_of l.parts) l.sids
 
 abbrev pub decreases-loop-rest : goal.decreases-loop-rest
 decreases-loop-rest l = length l.rest
