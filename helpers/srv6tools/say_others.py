@@ -220,7 +220,7 @@ def explain_flatness(net: TomlFile, name: str, fields: Sequence[str]) -> Iterato
     match name, fields:
         case "Nested", (outer, inner):
             yield f"{inner} lies inside the SID {outer}, so packets to it don't come to that SID;"
-            yield "compile, check and walk take only a SID of the same node there that has 16 bits more"
+            yield "compile, check and walk take only a SID of the same node there, with 16 bits more"
             yield "(FORMATS.md, 'Networks that aren't flat'), no route and no address"
         case "ZeroCsid", (sid,):
             yield f"the SID {sid} has only zeros behind its block:"

@@ -46,8 +46,8 @@ no_longer : (net : Network) (node table n a : ℕ) (s : SidEntry) (e : Entry) �
     → Contains (entries_of net node table families.V6) e → Holds e.prefix a → e.prefix.len ≤ s.prefix.len
 no_longer net node table n a s e flat at own there e_a =
     elim (cases_lt s.prefix.len e.prefix.len) [
-      | inl longer ↦ absurd (none_inside net node table n a s e.prefix e.hit flat at own (entry_means net node table families.V6 e there) e_a
-          (longer, Holds_nested s.prefix e.prefix a (omega arith) own.held e_a))
+      | inl longer ↦ absurd (none_inside net node table n a s e.prefix e.hit flat at own
+          (entry_means net node table families.V6 e there) e_a (longer, Holds_nested s.prefix e.prefix a (omega arith) own.held e_a))
       | inr shorter ↦ shorter
     ]
 
@@ -113,7 +113,8 @@ one_sid_prefix net n m s t node table a rules flat at_n own hit at_m =
     let same : t ≡ u = same_Some t u (sym at_m ∙ at_u) in
     let prefix : p ≡ t.prefix = sym (ap (λ (v : SidEntry). v.prefix) same ∙ is) in
     let mine : IsBestEntry (entries_of net node table families.V6) a (record { hit = hits.Sid m; prefix = t.prefix }) =
-    subst (λ (q : PrefixValue). IsBestEntry (entries_of net node table families.V6) a (record { hit = hits.Sid m; prefix = q })) prefix best in
+    subst (λ (q : PrefixValue). IsBestEntry (entries_of net node table families.V6) a (record { hit = hits.Sid m; prefix = q })) prefix
+    best in
     let short = no_longer net node table n a s (record { hit = hits.Sid m; prefix = t.prefix }) flat at_n own mine.is_there mine.holds in
     let long = no_shorter net n m a node table s t flat at_n at_m own mine.holds (ap (λ (v : SidEntry). v.node) same ∙ of) first mine in
     let len : s.prefix.len ≡ t.prefix.len = omega (arith, short, long) in

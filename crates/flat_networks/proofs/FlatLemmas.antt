@@ -116,7 +116,8 @@ refuted net s (OfSid t) in_s in_t (inside, other) none = other (none.sids s t in
 refuted net s (OfRoute r) in_s (in_r, v6) inside none = none.routes s r in_s in_r v6 inside
 refuted net s (OfAddress n) in_s in_n inside none = none.addresses s n in_s in_n inside
 
-pub some_nested : (net : Network) (s : SidEntry) (e : InnerEntry) → IsFirst (IsNested net) net.sids (inner_entries net) s e → ¬ NoneNested net
+pub some_nested : (net : Network) (s : SidEntry) (e : InnerEntry) → IsFirst (IsNested net) net.sids (inner_entries net) s e
+    → ¬ NoneNested net
 some_nested net s e first none =
     let (in_s, in_e, pair) = first_among (IsNested net) net.sids (inner_entries net) s e first in
     refuted net s e in_s (entries_among net e in_e) pair none

@@ -12,8 +12,8 @@ use Rattle.flat_networks.specs.Nests.{IsNest}
 use Rattle.flat_networks.specs.Flat.{IsFlat}
 
 -- in a flat network a SID that lies strictly inside another is nested in it
-pub inside_is_nested : (net : Network) (n m : ℕ) (s t : SidEntry) → IsFlat net → slice_get net.sids n ≡ Some s → slice_get net.sids m ≡ Some t
-    → IsInside t.prefix s.prefix → IsNest net s t
+pub inside_is_nested : (net : Network) (n m : ℕ) (s t : SidEntry) → IsFlat net → slice_get net.sids n ≡ Some s
+    → slice_get net.sids m ≡ Some t → IsInside t.prefix s.prefix → IsNest net s t
 inside_is_nested net n m s t flat at_n at_m inside =
     flat.nested.sids s t (contains_from_get net.sids n s at_n) (contains_from_get net.sids m t at_m) inside
 

@@ -108,8 +108,8 @@ passed_over s (Some inner) later e = cc
 -- ---- tables
 
 -- one more item
-pub first_holds_more : {X : Type 0} (P : X → Type 0) (xs : List X) (count : ℕ) (x : X) → slice_get xs count ≡ Some x → P x → FirstAre P xs count
-    → FirstAre P xs (count + 1)
+pub first_holds_more : {X : Type 0} (P : X → Type 0) (xs : List X) (count : ℕ) (x : X) → slice_get xs count ≡ Some x → P x
+    → FirstAre P xs count → FirstAre P xs (count + 1)
 first_holds_more P xs count x here holds so k y less e =
     elim (cases_lt k count) as (λ w. P y) [
       | inl low ↦ so k y low e
@@ -170,8 +170,8 @@ module _ {T : Type 0} (net : Network) (table : List (PrefixValue × T)) (all : H
 
 -- the same by what three searches answer
 found_none : {T : Type 0} (net : Network) (table : List (PrefixValue × T)) (route address sid : Bool) → HaveTheirPrefixes net.sids table
-    → Unless route (NoneAround table route_prefix (filter is_ipv6_route net.routes)) → Unless address (NoneAround table address_prefix net.nodes)
-    → Unless sid (AllNestWell net net.sids) → route ≡ false → address ≡ false → sid ≡ false → NoneNested net
+    → Unless route (NoneAround table route_prefix (filter is_ipv6_route net.routes))
+    → Unless address (NoneAround table address_prefix net.nodes) → Unless sid (AllNestWell net net.sids) → route ≡ false → address ≡ false → sid ≡ false → NoneNested net
 found_none net table true address sid all r a s e f g = absurd (let h : true ≡ false = e in cc)
 found_none net table false true sid all r a s e f g = absurd (let h : true ≡ false = f in cc)
 found_none net table false false true all r a s e f g = absurd (let h : true ≡ false = g in cc)

@@ -121,9 +121,9 @@ pub unit_fits_in : (net : Network) (n m : ℕ) (s t : SidEntry) (sids : List Sid
 unit_fits_in net n m s t sids rules flat at same at_m inside =
     unit_fits net n s rules flat at m t (subst (λ (xs : List SidEntry). slice_get xs m ≡ Some t) same at_m) inside
 
-pub units_are_all : (net : Network) (n : ℕ) (s t : SidEntry) (sids : List SidEntry) (units : List ℕ) (count : ℕ) → IsNetwork net → IsFlat net
-    → slice_get net.sids n ≡ Some s → sids ≡ net.sids → length sids ≤ count → AreFirstUnits sids s count units → slice_get net.sids n ≡ Some t
-    → AreNestedUnits net t units
+pub units_are_all : (net : Network) (n : ℕ) (s t : SidEntry) (sids : List SidEntry) (units : List ℕ) (count : ℕ) → IsNetwork net
+    → IsFlat net → slice_get net.sids n ≡ Some s → sids ≡ net.sids → length sids ≤ count → AreFirstUnits sids s count units
+    → slice_get net.sids n ≡ Some t → AreNestedUnits net t units
 units_are_all net n s t sids units count rules flat at same whole first also =
     subst (λ (x : SidEntry). AreNestedUnits net x units) (same_Some s t (sym at ∙ also))
     (all_units net n s rules flat at units count (subst (λ (xs : List SidEntry). length xs ≤ count) same whole)

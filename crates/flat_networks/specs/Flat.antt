@@ -82,7 +82,8 @@ pub record IsClash (s t : SidEntry) : Type 0 where
 -- no entry lies strictly inside the prefix of a SID, but for SIDs that are nested in it
 pub record NoneNested (net : Network) : Type 0 where
   pub sids : (s t : SidEntry) → Contains net.sids s → Contains net.sids t → IsInside t.prefix s.prefix → IsNest net s t
-  pub routes : (s : SidEntry) (r : Route) → Contains net.sids s → Contains net.routes r → r.family ≡ families.V6 → ¬ IsInside r.prefix s.prefix
+  pub routes : (s : SidEntry) (r : Route) → Contains net.sids s → Contains net.routes r → r.family ≡ families.V6
+      → ¬ IsInside r.prefix s.prefix
   pub addresses : (s : SidEntry) (n : Node) → Contains net.sids s → Contains net.nodes n → ¬ IsInside (address_prefix n) s.prefix
 
 -- no SID of a block has the CSID 0

@@ -29,4 +29,5 @@ GetsUnit old new s inner = (unit : ℕ) → Contains new unit ↔ (Contains old 
 -- the units of the first of these SIDs
 abbrev pub AreFirstUnits : List SidEntry → SidEntry → ℕ → List ℕ → Type 0
 AreFirstUnits sids s count units =
-    (unit : ℕ) → Contains units unit ↔ ((k : ℕ) × (inner : SidEntry) × (k < count) × (slice_get sids k ≡ Some inner) × IsUnitIn s inner unit)
+    (unit : ℕ) → Contains units unit
+    ↔ ((k : ℕ) × (inner : SidEntry) × (k < count) × (slice_get sids k ≡ Some inner) × IsUnitIn s inner unit)

@@ -16,8 +16,8 @@ ghost use Rattle.net_model.specs.Best.{lookup_of};
 ghost use Rattle.flat_networks.specs.Nests.{IsNest, IsOwn};
 ghost use Rattle.flat_networks.specs.Flat.{IsFlat, Overlap, HasWholeUnits, flatness_of};
 
-/// A flat network treats all own addresses of a SID alike, those in its prefix that no SID nested in
-/// it holds: in each table of each node they have the same best match as IPv6 addresses; at the
+/// A flat network treats all own addresses of a SID alike, those in its prefix that no SID nested
+/// in it holds: in each table of each node they have the same best match as IPv6 addresses; at the
 /// SID's own node that match in table 0 is the SID; and where another SID is the match, the two
 /// have one prefix (own rule).
 pub fn flat_networks_treat_addresses_alike()

@@ -48,8 +48,8 @@ fn sid(rt: &impl Abort, alloc: Global, node: u32, row: (u128, u8, Kind)) -> SidE
     sid
 }
 
-/// A network of the nodes A, 0, and B, 1, with these SIDs and a route of A to a prefix, a NEXT block
-/// of 32 bits and a REPLACE block of 32 bits whose compressed SIDs have 32.
+/// A network of the nodes A, 0, and B, 1, with these SIDs and a route of A to a prefix, a NEXT
+/// block of 32 bits and a REPLACE block of 32 bits whose compressed SIDs have 32.
 fn network_of(
     rt: &impl Abort,
     alloc: Global,
