@@ -1,5 +1,5 @@
 -- Edges between states, and what paths cost.
-use Rattle.std.specs.Prelude.{◌≡◌, ℕ, ◌+◌, ◌<◌, ◌≤◌, Bool, if◌then◌else◌, List, [], ◌∷◌, Option, Some, None, IsTrue, Contains}
+use Rattle.std.specs.Prelude.{◌≡◌, ℕ, ◌+◌, ◌<◌, ◌≤◌, Bool, false, not, ◌&&◌, if◌then◌else◌, List, [], ◌∷◌, Option, Some, None, IsTrue, Contains}
 use Rattle.std.specs.Option.{option_map, option_and_then}
 use Rattle.list_pack.specs.declared.types.Cost.{Cost}
 use Rattle.list_pack.specs.declared.types.State.{State}
@@ -38,9 +38,18 @@ nothing = record { containers = 0; hops = 0 }
 abbrev pub move_cost : Bool → ℕ → Cost
 move_cost stays hops = record { containers = if stays then 0 else 1; hops = hops }
 
--- the room after a move, none where its SID can't stand so
+-- a SID may not come directly after the one that was executed last, in its container
+abbrev pub bars : LegsValue → Option ℕ → ℕ → Bool
+bars v None n = false
+bars v (Some via) n = not (v.stays via n)
+
+-- the room after a move, none where its SID can't stand so, after the SID that was executed last and the room that is left after it
+abbrev pub room_to : LegsValue → Option ℕ → ℕ → Move → Option ℕ
+room_to v via room m =
+    if m.stays && bars v via m.sid then None else room_behind m.stays (option_map v.shape via) room (v.shape m.sid)
+
 abbrev pub room_of : LegsValue → State → Move → Option ℕ
-room_of v s m = room_behind m.stays (option_map v.shape s.via) s.room (v.shape m.sid)
+room_of v s m = room_to v s.via s.room m
 
 abbrev pub edge_by : Move → ℕ → Leg → Edge
 edge_by m room leg = record { to = record { position = leg.to; via = Some m.sid; room = room }; cost = move_cost m.stays leg.hops }

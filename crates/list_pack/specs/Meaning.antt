@@ -2,6 +2,7 @@
 use Rattle.std.specs.Prelude.{◌≡◌, ℕ, ◌<◌, ◌≤◌, List, length, map, slice_get, Option, Some}
 use Rattle.srv6_rules.specs.declared.sid.SidEntry.{SidEntry}
 use Rattle.net_model.specs.Network.{Network}
+use Rattle.flat_networks.specs.Nests.{MayFollow}
 use Rattle.list_pack.specs.declared.types.Container.{Container}
 use Rattle.list_pack.specs.declared.types.Cost.{Cost}
 use Rattle.list_pack.specs.declared.types.PathStep.{PathStep}
@@ -56,7 +57,7 @@ pub record IsPathBelow (v : LegsValue) (list : List Container) (hop : ℕ) : Typ
 -- each that hands over even one packet a path of fewer hops
 pub record Means (v : LegsValue) (net : Network) (Realizes Executes Hands : List Container → ℕ → Type 0) : Type 0 where
   pub sids : AreSidsOf v net
-  pub suits : SuitsLists v (list_sid net)
+  pub suits : SuitsLists v (list_sid net) (MayFollow net)
   pub lists : (moves : List Move) (c : Cost) → cost_of v start moves ≡ Some c → IsRealized net Realizes Executes (map (step_of v) moves) c
   pub paths : (list : List Container) (need : ℕ) → IsLegalList net list → Realizes list need → IsPathOf v Executes list need
   pub handing : (list : List Container) (hop : ℕ) → IsLegalList net list → Hands list hop → IsPathBelow v list hop

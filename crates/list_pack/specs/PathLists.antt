@@ -1,5 +1,5 @@
 -- Paths of states as lists of containers: each step that opens a container makes one, of its SID and of those that stay in it.
-use Rattle.std.specs.Prelude.{◌≡◌, ℕ, ◌+◌, if◌then◌else◌, List, [], ◌∷◌, ◌++◌, length, map, take, Option, Some, None}
+use Rattle.std.specs.Prelude.{◌≡◌, ℕ, ◌+◌, if◌then◌else◌, List, [], ◌∷◌, ◌++◌, length, map, take, Option, Some, None, All}
 use Rattle.v6_addr.specs.Address.{PrefixValue}
 use Rattle.net_model.specs.Network.{Network}
 use Rattle.list_places.specs.Lists as lists
@@ -11,7 +11,7 @@ use Rattle.list_pack.specs.Value.{LegsValue}
 use Rattle.list_pack.specs.Costs.{Move, cost_of, start}
 use Rattle.list_pack.specs.Least.{step_of}
 use Rattle.list_pack.specs.Paths.{sids_of_moves, cost_with}
-use Rattle.list_pack.specs.SidLists.{list_sid, list_in, prefixes_of, steps_in}
+use Rattle.list_pack.specs.SidLists.{list_sid, list_in, prefixes_of, steps_in, KeepsNests}
 
 -- a container of prefixes, with the SIDs that the prefixes are
 abbrev pub container_by : (PrefixValue → ListSid) → Container → lists.Container
@@ -44,9 +44,10 @@ list_from sid_on asked (p ∷ ps) =
 abbrev pub list_of : Network → List PathStep → List Container
 list_of net path = list_from (list_sid net) None path
 
--- the list of a path is legal, it has the path's steps, and as many containers
+-- the list of a path keeps the rules of lists and the one on nested SIDs, it has the path's steps, and as many containers
 pub record IsListOfPath (net : Network) (path : List PathStep) (containers : ℕ) : Type 0 where
   pub legal : IsLegal (list_in net (list_of net path))
+  pub nests : All (KeepsNests net) (list_of net path)
   pub steps : steps_in (list_of net path) ≡ path
   pub count : length (list_of net path) ≡ containers
 

@@ -7,8 +7,7 @@ use Rattle.list_places.specs.Lists.{ListSid, block_len, csid_len_in}
 use Rattle.list_pack.specs.declared.types.Cost.{Cost}
 use Rattle.list_pack.specs.declared.types.Leg.{Leg}
 use Rattle.list_pack.specs.Value.{LegsValue, IsSid, same_block}
-use Rattle.list_pack.specs.Rooms.{room_behind}
-use Rattle.list_pack.specs.Costs.{Move}
+use Rattle.list_pack.specs.Costs.{Move, room_to}
 
 -- the SIDs of moves
 abbrev pub sids_of_moves : List Move → List ℕ
@@ -28,11 +27,12 @@ abbrev pub with_room : Option ℕ → (ℕ → Bool) → Bool
 with_room None later = false
 with_room (Some room) later = later room
 
--- each SID of a path can stand as its move says, by rooms alone, after the SID that was executed last and the room that is left after it
+-- each SID of a path can stand as its move says, by rooms and `stays` alone, after the SID that was executed last and the room that is
+-- left after it
 abbrev pub may_move : LegsValue → Option ℕ → ℕ → List Move → Bool
 may_move v via room [] = true
 may_move v via room (m ∷ ms) =
-    with_room (room_behind m.stays (option_map v.shape via) room (v.shape m.sid)) (λ left. may_move v (Some m.sid) left ms)
+    with_room (room_to v via room m) (λ left. may_move v (Some m.sid) left ms)
 
 -- how many moves open a container
 abbrev pub opened : List Move → ℕ
@@ -47,8 +47,9 @@ abbrev pub split_cost : LegsValue → ℕ → Option ℕ → ℕ → List Move �
 split_cost v position via room moves =
     if may_move v via room moves then option_map (cost_with (opened moves)) (hops_of v position via (sids_of_moves moves)) else None
 
--- the SIDs of a search are SIDs of lists, by their prefixes: they lie in the same blocks, and a middle one has the flavour of its prefix
-pub record SuitsLists (v : LegsValue) (sid_on : PrefixValue → ListSid) : Type 0 where
+-- the SIDs of a search are SIDs of lists, by their prefixes: they lie in the same blocks, a middle one has the flavour of its prefix, and
+-- they may come directly after one another in a container where their prefixes may
+pub record SuitsLists (v : LegsValue) (sid_on : PrefixValue → ListSid) (Follows : PrefixValue → PrefixValue → Type 0) : Type 0 where
   pub prefix : (p : PrefixValue) → (sid_on p).prefix ≡ p
   pub fits : (n : ℕ) → IsSid v n → (v.shape n).prefix.len ≤ 128
   pub in_block : (n : ℕ) → IsSid v n → IsSome (v.shape n).block ↔ IsSome (sid_on (v.shape n).prefix).block
@@ -59,3 +60,4 @@ pub record SuitsLists (v : LegsValue) (sid_on : PrefixValue → ListSid) : Type 
   pub middle : (n : ℕ) → IsSid v n → IsTrue (v.shape n).middle → (sid_on (v.shape n).prefix).csid ≡ (v.shape n).csid
   pub replace : (n : ℕ) → IsSid v n → (v.shape n).csid ≡ Replace
       → csid_len_in (sid_on (v.shape n).prefix).block ≡ (v.shape n).prefix.len - (v.shape n).lbl
+  pub stays : (n m : ℕ) → IsSid v n → IsSid v m → IsTrue (v.stays n m) ↔ Follows (v.shape n).prefix (v.shape m).prefix

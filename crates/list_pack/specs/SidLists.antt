@@ -15,6 +15,7 @@ use Rattle.net_model.specs.Rules.{same_prefix, block_of}
 use Rattle.list_places.specs.Lists as lists
 use Rattle.list_places.specs.Lists.{ListSid, SidBlock, IsLegal, IsFlatSid, values_of}
 use Rattle.list_places.specs.Places.{StandsOn}
+use Rattle.flat_networks.specs.Nests.{MayFollow}
 use Rattle.list_pack.specs.declared.types.PathStep.{PathStep}
 use Rattle.list_pack.specs.declared.types.Container.{Container}
 use Rattle.list_pack.specs.declared.types.Container.TheVariants as containers
@@ -93,10 +94,21 @@ IsSidPrefix net p = (n : ℕ) × (s : SidEntry) × (slice_get net.sids n ≡ Som
 abbrev pub is_named : Network → PrefixValue → Bool
 is_named net p = list_any (λ s. same_prefix s.prefix p) net.sids
 
--- a legal list of a network: it keeps the rules of lists, and its prefixes are those of SIDs
+-- prefixes of which each may come directly after the one before it
+abbrev pub FollowOn : (PrefixValue → PrefixValue → Type 0) → PrefixValue → List PrefixValue → Type 0
+FollowOn Follows p [] = Unit {0}
+FollowOn Follows p (q ∷ qs) = Follows p q × FollowOn Follows q qs
+
+-- in a full container each further SID may come directly after the one before it; the address would else be that of a SID nested in it
+abbrev pub KeepsNests : Network → Container → Type 0
+KeepsNests net (containers.Full first more) = FollowOn (MayFollow net) first more
+KeepsNests net (containers.Packed first more) = Unit {0}
+
+-- a legal list of a network: it keeps the rules of lists, its prefixes are those of SIDs, and it keeps the rule on nested SIDs
 pub record IsLegalList (net : Network) (list : List Container) : Type 0 where
   pub rules : IsLegal (list_in net list)
   pub named : All (IsSidPrefix net) (prefixes_in list)
+  pub nests : All (KeepsNests net) list
 
 -- the segments of a list, in the order in which they are visited
 abbrev pub list_values : Network → List Container → List ℕ

@@ -6,7 +6,8 @@ use Rattle.list_pack.specs.declared.types.Shape.{Shape}
 use Rattle.list_pack.specs.declared.types.Leg.{Leg}
 use Rattle.list_pack.specs.Order.{lex_before}
 
--- `node` is where a SID stands; it is seen, and asked for by no call
+-- `node` is where a SID stands; it is seen, and asked for by no call. `stays` says whether a SID may come directly after another in its
+-- container, as far as the SIDs nested in that one go
 pub record LegsValue : Type 0 where
   pub steps : ℕ
   pub sids_at : ℕ → List ℕ
@@ -14,6 +15,7 @@ pub record LegsValue : Type 0 where
   pub node : ℕ → ℕ
   pub leg : ℕ → Option ℕ → ℕ → Option Leg
   pub finish : ℕ → Option ℕ → ℕ → Option ℕ
+  pub stays : ℕ → ℕ → Bool
 
 -- a SID of some position
 abbrev pub IsSid : LegsValue → ℕ → Type 0

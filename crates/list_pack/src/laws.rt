@@ -1,7 +1,7 @@
 //! Laws of costs, potentials, paths as lists, and SIDs of lists, each the contract of a function
 //! that does nothing.
 
-ghost use Rattle.std.specs.Prelude.{◌≡◌, ◌<◌, ℕ, List, Option, Some, None, length, map, take};
+ghost use Rattle.std.specs.Prelude.{◌≡◌, ◌<◌, ℕ, List, Option, Some, None, All, length, map, take};
 ghost use Rattle.list_pack.specs.declared.types.Cost.{Cost};
 ghost use Rattle.list_pack.specs.declared.types.State.{State};
 ghost use Rattle.list_pack.specs.Value.{LegsValue, KeepsLaws};
@@ -12,8 +12,9 @@ ghost use Rattle.net_model.specs.Network.{Network};
 ghost use Rattle.list_places.specs.Lists.{IsLegal};
 ghost use Rattle.list_pack.specs.declared.types.Container.{Container};
 ghost use Rattle.flat_networks.specs.Flat.{IsFlat};
+ghost use Rattle.flat_networks.specs.Nests.{MayFollow};
 ghost use Rattle.net_model.specs.Rules.{IsNetwork};
-ghost use Rattle.list_pack.specs.SidLists.{AreListSids, list_sid, list_in, prefixes_in, steps_in};
+ghost use Rattle.list_pack.specs.SidLists.{AreListSids, KeepsNests, list_sid, list_in, prefixes_in, steps_in};
 ghost use Rattle.list_pack.specs.Paths.{hops_of, sids_of_moves, opened, split_cost, SuitsLists};
 ghost use Rattle.list_pack.specs.PathLists.{IsListOfPath, before_last, IsPathAlong, list_of};
 
@@ -58,7 +59,7 @@ pub fn a_cost_is_containers_and_hops()
 /// (RFC 9800 sections 6.2 to 6.4, and own rule).
 pub fn a_path_is_a_legal_list()
     ensures { (v : LegsValue) (net : Network) (moves : List Move) (c : Cost) →
-        KeepsLaws v → SuitsLists v (list_sid net) →
+        KeepsLaws v → SuitsLists v (list_sid net) (MayFollow net) →
         cost_of v start moves ≡ Some c → IsListOfPath net (map (step_of v) moves) c.containers }
 {}
 
@@ -67,8 +68,8 @@ pub fn a_path_is_a_legal_list()
 /// of the legs (RFC 9800 sections 6.2 to 6.4, and own rule).
 pub fn a_legal_list_is_a_path()
     ensures { (v : LegsValue) (net : Network) (list : List Container) (sids : List ℕ) (hops : ℕ) →
-        KeepsLaws v → SuitsLists v (list_sid net) → IsLegal (list_in net list) →
-        hops_of v 0 None sids ≡ Some hops →
+        KeepsLaws v → SuitsLists v (list_sid net) (MayFollow net) → IsLegal (list_in net list) →
+        All (KeepsNests net) list → hops_of v 0 None sids ≡ Some hops →
         map (λ (n : ℕ). (v.shape n).prefix) sids ≡ take (length sids) (prefixes_in list) →
         before_last list < length sids → IsPathAlong v list sids hops }
 {}

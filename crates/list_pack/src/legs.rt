@@ -43,6 +43,13 @@ pub trait Legs {
     /// and for a next SID that is not one of the last position. (own rule)
     fn finish(&self, position: u32, via: Option<u32>, next: u32) -> Option<u32>
         ensures { result ≡ (seen self.now).finish position via next };
+
+    /// Whether `next` may come directly after `sid` in its container, as far as the SIDs nested in
+    /// `sid` go; who implements this says when. (own rule)
+    fn stays(&self, sid: u32, next: u32) -> bool
+        requires sid { IsSid (seen self.now) sid }
+        requires next { IsSid (seen self.now) next }
+        ensures { result ≡ (seen self.now).stays sid next };
 }
 
 /// Legs that mean something: each path of theirs is a legal list of a network that realizes what
