@@ -9,6 +9,7 @@ use Rattle.list_pack.specs.Value.{LegsValue, KeepsLaws, IsSid}
 use Rattle.list_pack.specs.Rooms.{room_behind, top_room}
 use Rattle.list_pack.specs.Costs.{Move, Edge, AtMost, plus, move_cost, room_of, edge_by, edge_of, last_of, Under, IsState, IsStateBy}
 use Rattle.list_pack.proofs.Rooming.{behind-top, begin-top}
+use Rattle.list_pack.proofs.Barring.{room-kept}
 
 pub at_most-itself : (a : Cost) → AtMost a a
 at_most-itself a = record { containers = omega arith; hops = λ e. omega arith }
@@ -112,6 +113,6 @@ edge-state v laws s m e is_s h =
     let parts = edge-parts v s m e h in
     let leg = laws.leg s.position s.via m.sid parts.leg parts.leg_is in
     let top = room-top v laws s.position s.via s.room m.stays m.sid parts.room leg.start is_s (parts.leg.to, leg.within, leg.is_next)
-    parts.room_is in
+    (room-kept v s.via s.room m parts.room parts.room_is) in
     let is_to : IsState v (edge_by m parts.room parts.leg).to = (leg.within, leg.is_next, leg.middle, top) in
     subst (λ (x : Edge). IsState v x.to) parts.is is_to

@@ -113,7 +113,7 @@ goers-flavour ss c some e =
     (ne_eqb (length (going_on ss)) 0 (λ z. omega (arith, some, z))) ∙ e
 
 -- what holds of the flavours of all SIDs on a prefix holds of the prefix's
-prefix-has : (net : Network) (p : PrefixValue) (P : Csid → Type 0) → P Plain
+pub prefix-has : (net : Network) (p : PrefixValue) (P : Csid → Type 0) → P Plain
     → ((n : ℕ) (t : SidEntry) → slice_get net.sids n ≡ Some t → t.prefix ≡ p → P t.csid) → P (prefix_csid net p)
 prefix-has net p P none all =
     on-has P (on_prefix net.sids p) none

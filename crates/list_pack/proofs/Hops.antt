@@ -59,7 +59,8 @@ hops-next v position via n (m ∷ ms) (h, e) =
     (parts.0.to, (parts.2, parts.3))
 
 -- such SIDs as a search and as lists know them
-pub pair-of : (v : LegsValue) (sid_on : PrefixValue → ListSid) → KeepsLaws v → SuitsLists v sid_on → (via n : ℕ) → Here v via n
+pub pair-of : {Follows : PrefixValue → PrefixValue → Type 0} (v : LegsValue) (sid_on : PrefixValue → ListSid) → KeepsLaws v
+    → SuitsLists v sid_on Follows → (via n : ℕ) → Here v via n
     → Pair (v.shape via) (v.shape n) (sid_on (v.shape via).prefix) (sid_on (v.shape n).prefix)
 pair-of v sid_on laws suits via n here =
     record {

@@ -1,5 +1,6 @@
 pub mod Orders
 pub mod Rooming
+pub mod Barring
 pub mod Costing
 pub mod Leasts
 pub mod CostSplits
@@ -18,5 +19,6 @@ pub mod ListMaking
 pub mod ValueSums
 pub mod Valued
 pub mod FlatSids
+pub mod Nesting
 pub mod Ruled
 pub mod PublicLaws

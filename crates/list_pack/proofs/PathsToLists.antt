@@ -5,8 +5,8 @@ use Rattle.list_places.specs.Lists as lists
 use Rattle.list_places.specs.Lists.{ListSid, SidBlock, Follow, IsLegal}
 use Rattle.list_pack.specs.declared.types.PathStep.{PathStep}
 use Rattle.list_pack.specs.Value.{LegsValue, KeepsLaws}
-use Rattle.list_pack.specs.Rooms.{stay_room, new_room, full_room}
-use Rattle.list_pack.specs.Costs.{Move}
+use Rattle.list_pack.specs.Rooms.{new_room, full_room}
+use Rattle.list_pack.specs.Costs.{Move, room_to}
 use Rattle.list_pack.specs.Least.{step_of}
 use Rattle.list_pack.specs.Paths.{hops_of, sids_of_moves, may_move, SuitsLists}
 use Rattle.list_pack.specs.PathLists.{container_by, container_as, staying, asked_after, list_from}
@@ -14,6 +14,7 @@ use Rattle.list_pack.specs.OpenContainers.{taken, first_taken, asked_at, Open, O
 use Rattle.list_pack.proofs.Containers.{follow-made, asked_end, asked-end}
 use Rattle.list_pack.proofs.Standings.{Stands, stayed}
 use Rattle.list_pack.proofs.Moving.{Entered, entered, entered-full}
+use Rattle.list_pack.proofs.Barring.{room-kept}
 use Rattle.list_pack.proofs.Hops.{HopsFrom, hops-here, hops-first, hops-next, pair-of, room-parts}
 
 -- a property of moves holds if it holds of those that stay and of those that open
@@ -41,7 +42,8 @@ MakeList v sid_on moves = (k : Option SidBlock) (u position n room : ℕ)
     → Open k u (sid_on (v.shape n).prefix) (map sid_on (staying (steps_by v moves)))
     (behind_open sid_on k u (v.shape n).prefix (steps_by v moves))
 
-stay-list : (v : LegsValue) (sid_on : PrefixValue → ListSid) → KeepsLaws v → SuitsLists v sid_on → (moves : List Move)
+stay-list : {Follows : PrefixValue → PrefixValue → Type 0} (v : LegsValue) (sid_on : PrefixValue → ListSid) → KeepsLaws v
+    → SuitsLists v sid_on Follows → (moves : List Move)
     → MakeList v sid_on moves → (m : ℕ) → MakeList v sid_on (record { stays = true; sid = m } ∷ moves)
 stay-list v sid_on laws suits moves rest m k u position n room at may hops =
     let here = hops-here v laws position n m (sids_of_moves moves) hops in
@@ -49,8 +51,9 @@ stay-list v sid_on laws suits moves rest m k u position n room at may hops =
     let next = hops-next v position (Some n) m (sids_of_moves moves) hops in
     let s = sid_on (v.shape n).prefix in
     let t = sid_on (v.shape m).prefix in
-    let parts = room-parts (stay_room (v.shape n) room (v.shape m)) (λ left. may_move v (Some m) left moves) may in
-    let is = stayed k (v.shape n) (v.shape m) s t u room parts.0 pair (at here.middle) parts.1 in
+    let move : Move = record { stays = true; sid = m } in
+    let parts = room-parts (room_to v (Some n) room move) (λ left. may_move v (Some m) left moves) may in
+    let is = stayed k (v.shape n) (v.shape m) s t u room parts.0 pair (at here.middle) (room-kept v (Some n) room move parts.0 parts.1) in
     (is.step, rest k (u + taken k t) next.0 m parts.0 (λ mid. is.stands (suits.middle m here.next_sid mid)) parts.2 next.1)
 
 -- a container that is opened, in a legal list
@@ -69,7 +72,8 @@ enter-list sid_on (Some b) p ps steps first so =
     (lists.Packed (sid_on p) (map sid_on ps) ∷ map (container_by sid_on) (list_from sid_on o steps)))
     (asked-end (Some b) (sid_on p) (map sid_on ps)) (follow-made (Some b) (sid_on p) (map sid_on ps) _ first so)
 
-entered-list : (v : LegsValue) (sid_on : PrefixValue → ListSid) → SuitsLists v sid_on → (moves : List Move)
+entered-list : {Follows : PrefixValue → PrefixValue → Type 0} (v : LegsValue) (sid_on : PrefixValue → ListSid)
+    → SuitsLists v sid_on Follows → (moves : List Move)
     → MakeList v sid_on moves → (k : Option SidBlock) (m room to : ℕ)
     → ((v.shape m).middle ≡ true → (sid_on (v.shape m).prefix).csid ≡ (v.shape m).csid)
     → Entered k room (v.shape m) (sid_on (v.shape m).prefix)
@@ -80,7 +84,8 @@ entered-list v sid_on suits moves rest k m room to flavour is may hops =
     enter-list sid_on k (v.shape m).prefix (staying (steps_by v moves)) (steps_by v moves) is.first
     (rest k (first_taken k t) to m room (λ mid. is.stands (flavour mid)) may hops)
 
-open-list : (v : LegsValue) (sid_on : PrefixValue → ListSid) → KeepsLaws v → SuitsLists v sid_on → (moves : List Move)
+open-list : {Follows : PrefixValue → PrefixValue → Type 0} (v : LegsValue) (sid_on : PrefixValue → ListSid) → KeepsLaws v
+    → SuitsLists v sid_on Follows → (moves : List Move)
     → MakeList v sid_on moves → (m : ℕ) → MakeList v sid_on (record { stays = false; sid = m } ∷ moves)
 open-list v sid_on laws suits moves rest m k u position n room at may hops =
     let here = hops-here v laws position n m (sids_of_moves moves) hops in
@@ -92,7 +97,8 @@ open-list v sid_on laws suits moves rest m k u position n room at may hops =
     let is = entered k (v.shape n) (v.shape m) s t u room parts.0 pair (at here.middle) parts.1 in
     entered-list v sid_on suits moves rest (asked_at k u s) m parts.0 next.0 (λ mid. suits.middle m here.next_sid mid) is parts.2 next.1
 
-moves-list : (v : LegsValue) (sid_on : PrefixValue → ListSid) → KeepsLaws v → SuitsLists v sid_on → (moves : List Move)
+moves-list : {Follows : PrefixValue → PrefixValue → Type 0} (v : LegsValue) (sid_on : PrefixValue → ListSid) → KeepsLaws v
+    → SuitsLists v sid_on Follows → (moves : List Move)
     → MakeList v sid_on moves
 moves-list v sid_on laws suits [] = λ k u position n room at may hops. tt
 moves-list v sid_on laws suits (m ∷ ms) =
@@ -110,7 +116,8 @@ no-stay : (v : LegsValue) (sid_on : PrefixValue → ListSid) (moves : List Move)
     → LegalFrom v sid_on (record { stays = true; sid = m } ∷ moves)
 no-stay v sid_on moves m h may hops = absurd (let one : false ≡ true = may in cc)
 
-first-open : (v : LegsValue) (sid_on : PrefixValue → ListSid) → KeepsLaws v → SuitsLists v sid_on → (moves : List Move) (m : ℕ)
+first-open : {Follows : PrefixValue → PrefixValue → Type 0} (v : LegsValue) (sid_on : PrefixValue → ListSid) → KeepsLaws v
+    → SuitsLists v sid_on Follows → (moves : List Move) (m : ℕ)
     → LegalFrom v sid_on (record { stays = false; sid = m } ∷ moves)
 first-open v sid_on laws suits moves m h may hops =
     let is_sid = hops-first v laws 0 None m (sids_of_moves moves) (h, hops) in
@@ -121,7 +128,8 @@ first-open v sid_on laws suits moves m h may hops =
     entered-list v sid_on suits moves (moves-list v sid_on laws suits moves) None m (full_room (v.shape m)) next.0
     (λ mid. suits.middle m is_sid mid) is may next.1
 
-pub path-legal : (v : LegsValue) (sid_on : PrefixValue → ListSid) → KeepsLaws v → SuitsLists v sid_on → (moves : List Move)
+pub path-legal : {Follows : PrefixValue → PrefixValue → Type 0} (v : LegsValue) (sid_on : PrefixValue → ListSid) → KeepsLaws v
+    → SuitsLists v sid_on Follows → (moves : List Move)
     → LegalFrom v sid_on moves
 path-legal v sid_on laws suits [] h may hops = absurd (cc)
 path-legal v sid_on laws suits (m ∷ ms) h may hops =

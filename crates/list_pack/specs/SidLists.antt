@@ -99,10 +99,13 @@ abbrev pub FollowOn : (PrefixValue → PrefixValue → Type 0) → PrefixValue �
 FollowOn Follows p [] = Unit {0}
 FollowOn Follows p (q ∷ qs) = Follows p q × FollowOn Follows q qs
 
+abbrev pub FollowIn : (PrefixValue → PrefixValue → Type 0) → Container → Type 0
+FollowIn Follows (containers.Full first more) = FollowOn Follows first more
+FollowIn Follows (containers.Packed first more) = Unit {0}
+
 -- in a full container each further SID may come directly after the one before it; the address would else be that of a SID nested in it
 abbrev pub KeepsNests : Network → Container → Type 0
-KeepsNests net (containers.Full first more) = FollowOn (MayFollow net) first more
-KeepsNests net (containers.Packed first more) = Unit {0}
+KeepsNests net c = FollowIn (MayFollow net) c
 
 -- a legal list of a network: it keeps the rules of lists, its prefixes are those of SIDs, and it keeps the rule on nested SIDs
 pub record IsLegalList (net : Network) (list : List Container) : Type 0 where
