@@ -1,5 +1,5 @@
 -- Which moves pass, and what it says of a state that all of them do.
-use Rattle.std.proofs.Common.{◌≡◌, ℕ, ◌+◌, ◌<◌, ◌≤◌, inl, inr, Bool, true, false, List, length, Option, Some, None, slice_get, Contains, get_or, sym, ◌∙◌, ap, subst, arith}
+use Rattle.std.proofs.Common.{◌≡◌, ℕ, ◌+◌, ◌<◌, ◌≤◌, inl, inr, Bool, true, false, ◌&&◌, if◌then◌else◌, List, length, Option, Some, None, slice_get, Contains, get_or, sym, ◌∙◌, ap, subst, arith}
 use Rattle.std.specs.Option.{option_map}
 use Rattle.std.proofs.lemmas.Bool.{cases_lt}
 use Rattle.std.proofs.lemmas.Option.{none-some, same_Some, slice_get_within, slice_get-get_or}
@@ -9,7 +9,7 @@ use Rattle.list_pack.specs.declared.types.Shape.{Shape}
 use Rattle.list_pack.specs.declared.types.Leg.{Leg}
 use Rattle.list_pack.specs.Value.{LegsValue, KeepsLaws}
 use Rattle.list_pack.specs.Rooms.{room_behind}
-use Rattle.list_pack.specs.Costs.{Edge, room_of, edge_of, last_of, behind, Under}
+use Rattle.list_pack.specs.Costs.{Edge, bars, room_of, edge_of, last_of, behind, Under}
 use Rattle.list_pack.specs.Least.{IsGoodAt}
 use Rattle.list_pack.proofs.PublicLaws.{under-behind, under-last, edge-parts, last-parts}
 use Rattle.list_certificate.specs.declared.types.PotentialLine.{PotentialLine}
@@ -32,10 +32,11 @@ both-stays P h k false = k
 
 module _ (v : LegsValue) (lines : List PotentialLine) (s : State) where
   pub room-is : (n : ℕ) (stays : Bool) (from : Option Shape) (next : Shape) (o p : Option ℕ) → from ≡ option_map v.shape s.via
-      → next ≡ v.shape n
+      → next ≡ v.shape n → (stays && bars v s.via n) ≡ false
       → o ≡ room_behind stays from s.room next → o ≡ p → room_of v s (move_of n stays) ≡ p
-  room-is n stays from next o p e f h k =
-      sym (h ∙ ap (λ (x : Option Shape). room_behind stays x s.room next) e
+  room-is n stays from next o p e f free h k =
+      ap (λ (b : Bool). if b then None else room_behind stays (option_map v.shape s.via) s.room (v.shape n)) free
+      ∙ sym (h ∙ ap (λ (x : Option Shape). room_behind stays x s.room next) e
       ∙ ap (λ (x : Shape). room_behind stays (option_map v.shape s.via) s.room x) f) ∙ k
 
   -- a state passes exactly where its moves by legs do and those to the end

@@ -1,4 +1,5 @@
-//! Whether all states pass: legs are asked once for all states of a cell.
+//! Whether all states pass: legs, and who may stay after whom, are asked once for all states of a
+//! cell.
 
 ghost use Rattle.std.specs.Prelude.{◌≡◌, ◌≤◌, IsTrue, Contains, Some};
 ghost use Rattle.list_pack.specs.Rooms.{top_room};
@@ -43,13 +44,14 @@ fn pass_leg<L: Legs>(legs: &L, lines: &[PotentialLine], cell: &Cell, next: &Cell
         result }
 {
     legs.steps();
+    let barred = !legs.stays(cell.sid, next.sid);
     let top = top_room(&cell.shape);
     for room in 0..top + 1 {
         let spot = spot_in(legs, lines, cell, room);
-        if !passes_move(legs, lines, &spot, next, leg, true) {
+        if !passes_move(legs, lines, &spot, next, leg, true, barred) {
             return false;
         }
-        if !passes_move(legs, lines, &spot, next, leg, false) {
+        if !passes_move(legs, lines, &spot, next, leg, false, barred) {
             return false;
         }
     }
@@ -103,13 +105,14 @@ fn pass_finish<L: Legs>(legs: &L, lines: &[PotentialLine], cell: &Cell, n: u32, 
     ensures { tests.Assures (tests.CellPassesFinish (L.seen legs.now) lines.now cell.now n) result }
 {
     legs.steps();
+    let barred = !legs.stays(cell.sid, n);
     let top = top_room(&cell.shape);
     for room in 0..top + 1 {
         let spot = spot_in(legs, lines, cell, room);
-        if !passes_last(legs, lines, &spot, n, hops, true) {
+        if !passes_last(legs, lines, &spot, n, hops, true, barred) {
             return false;
         }
-        if !passes_last(legs, lines, &spot, n, hops, false) {
+        if !passes_last(legs, lines, &spot, n, hops, false, barred) {
             return false;
         }
     }

@@ -1,7 +1,8 @@
 //! Whether a state passes: along each of its edges the potential falls by at most the cost.
 
-ghost use Rattle.std.specs.Prelude.{◌≡◌, ◌≤◌, Some, length};
-ghost use Rattle.list_pack.specs.Costs.{IsState, Under, plus};
+ghost use Rattle.std.specs.Prelude.{◌≡◌, ◌≤◌, ◌&&◌, Some, length};
+ghost use Rattle.list_pack.specs.Value.{IsSid};
+ghost use Rattle.list_pack.specs.Costs.{IsState, Under, plus, bars};
 ghost use Rattle.list_pack.specs.Least.{IsGoodAt};
 ghost use Rattle.list_certificate.specs.Certs.{potential_at};
 ghost use Rattle.list_certificate.specs.Tests as tests;
@@ -44,7 +45,29 @@ fn is_under(potential: Option<Cost>, cost: Cost) -> bool
     }
 }
 
-/// A move by a leg passes, which stays in the container or doesn't. (own rule)
+/// a SID may not stand directly after a state's, in its container
+fn bars<L: Legs>(legs: &L, state: State, n: u32) -> bool
+    requires state { IsState (L.seen legs.now) state }
+    requires sid { IsSid (L.seen legs.now) n }
+    ensures { result ≡ bars (L.seen legs.now) state.via n }
+{
+    match state.via {
+        None => false,
+        Some(via) => !legs.stays(via, n),
+    }
+}
+
+/// a move to a SID is barred: it stays after a state's SID, and may not
+pub(crate) fn is_barred<L: Legs>(legs: &L, state: State, stays: bool, n: u32) -> bool
+    requires state { IsState (L.seen legs.now) state }
+    requires sid { IsSid (L.seen legs.now) n }
+    ensures { result ≡ (stays && bars (L.seen legs.now) state.via n) }
+{
+    stays && bars(legs, state, n)
+}
+
+/// A move by a leg passes, which stays in the container or doesn't; it is known whether its SID is
+/// barred from the container. (own rule)
 pub fn passes_move<L: Legs>(
     legs: &L,
     lines: &[PotentialLine],
@@ -52,6 +75,7 @@ pub fn passes_move<L: Legs>(
     next: &Cell,
     leg: Leg,
     stays: bool,
+    barred: bool,
 ) -> bool
     requires sorted { tests.AreSorted (L.seen legs.now) lines.now }
     requires spot { tests.IsSpot (L.seen legs.now) lines.now spot.now }
@@ -59,10 +83,14 @@ pub fn passes_move<L: Legs>(
     requires leg { (L.seen legs.now).leg spot.now.state.position spot.now.state.via next.now.sid
         ≡ Some leg }
     requires end { leg.to ≡ next.now.position }
+    requires barred { barred ≡ bars (L.seen legs.now) spot.now.state.via next.now.sid }
     ensures { tests.Tells (tests.PassesMove (L.seen legs.now) lines.now spot.now.state
         (tests.move_of next.now.sid stays)) result }
 {
     legs.steps();
+    if stays && barred {
+        return true;
+    }
     let Some(room) = room_behind(stays, &spot.from, spot.state.room, &next.shape) else {
         return true;
     };
@@ -72,7 +100,8 @@ pub fn passes_move<L: Legs>(
     }
 }
 
-/// A move to the end passes, which stays in the container or doesn't. (own rule)
+/// A move to the end passes, which stays in the container or doesn't; it is known whether its SID
+/// is barred from the container. (own rule)
 pub fn passes_last<L: Legs>(
     legs: &L,
     lines: &[PotentialLine],
@@ -80,14 +109,19 @@ pub fn passes_last<L: Legs>(
     n: u32,
     hops: u32,
     stays: bool,
+    barred: bool,
 ) -> bool
     requires spot { tests.IsSpot (L.seen legs.now) lines.now spot.now }
     requires finish { (L.seen legs.now).finish spot.now.state.position spot.now.state.via n
         ≡ Some hops }
+    requires barred { barred ≡ bars (L.seen legs.now) spot.now.state.via n }
     ensures { tests.Tells (tests.PassesLast (L.seen legs.now) lines.now spot.now.state
         (tests.move_of n stays)) result }
 {
     legs.steps();
+    if stays && barred {
+        return true;
+    }
     let next = legs.shape(n);
     if room_behind(stays, &spot.from, spot.state.room, &next).is_none() {
         return true;
@@ -107,10 +141,11 @@ fn passes_legs_to<L: Legs>(legs: &L, lines: &[PotentialLine], spot: &Spot, to: u
         if let Some(leg) = legs.leg(spot.state.position, spot.state.via, *n) {
             if leg.to == to {
                 let next = cell_of(legs, lines, to, *n);
-                if !passes_move(legs, lines, spot, &next, leg, true) {
+                let barred = bars(legs, spot.state, *n);
+                if !passes_move(legs, lines, spot, &next, leg, true, barred) {
                     return false;
                 }
-                if !passes_move(legs, lines, spot, &next, leg, false) {
+                if !passes_move(legs, lines, spot, &next, leg, false, barred) {
                     return false;
                 }
             }
@@ -141,10 +176,11 @@ fn passes_ends<L: Legs>(legs: &L, lines: &[PotentialLine], spot: &Spot) -> bool
 {
     for n in legs.sids_at(legs.steps()) {
         if let Some(hops) = legs.finish(spot.state.position, spot.state.via, *n) {
-            if !passes_last(legs, lines, spot, *n, hops, true) {
+            let barred = bars(legs, spot.state, *n);
+            if !passes_last(legs, lines, spot, *n, hops, true, barred) {
                 return false;
             }
-            if !passes_last(legs, lines, spot, *n, hops, false) {
+            if !passes_last(legs, lines, spot, *n, hops, false, barred) {
                 return false;
             }
         }

@@ -5,6 +5,7 @@ ghost use Rattle.list_pack.specs.Costs.{IsState};
 ghost use Rattle.list_certificate.specs.Tests as tests;
 
 use crate::firsts::shape_of;
+use crate::good::is_barred;
 use crate::types::PathLine;
 use list_pack::{Cost, Legs, PathStep, Shape, State, move_cost, room_behind};
 use v6_addr::Prefix;
@@ -59,6 +60,9 @@ fn edge_by<L: Legs>(
     }
     let leg = legs.leg(state.position, state.via, n)?;
     if leg.to != to {
+        return None;
+    }
+    if is_barred(legs, state, step.stays, n) {
         return None;
     }
     let room = room_behind(step.stays, from, state.room, &next)?;
@@ -128,6 +132,9 @@ fn last_by<L: Legs>(
         return None;
     }
     let hops = legs.finish(state.position, state.via, n)?;
+    if is_barred(legs, state, step.stays, n) {
+        return None;
+    }
     let _ = room_behind(step.stays, from, state.room, &next)?;
     Some(move_cost(step.stays, hops))
 }

@@ -20,5 +20,6 @@ pub mod ValueSums
 pub mod Valued
 pub mod FlatSids
 pub mod Nesting
+pub mod Neighbours
 pub mod Ruled
 pub mod PublicLaws

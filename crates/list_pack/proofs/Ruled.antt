@@ -14,7 +14,7 @@ use Rattle.list_places.specs.Lists as lists
 use Rattle.list_places.specs.Lists.{SidBlock, ListSid, Follow, IsLegal, IsFlatSid, IsFlatContainer, IsFlatList}
 use Rattle.list_pack.specs.declared.types.Container.{Container}
 use Rattle.list_pack.specs.declared.types.Container.TheVariants.{Full, Packed}
-use Rattle.list_pack.specs.SidLists.{list_sid, list_in, container_in, prefixes_of, prefixes_in, is_named, IsSidPrefix, IsLegalList, AreListSids}
+use Rattle.list_pack.specs.SidLists.{list_sid, list_in, container_in, prefixes_of, prefixes_in, is_named, IsSidPrefix, KeepsNests, IsLegalList, AreListSids}
 use Rattle.list_pack.specs.PathLists.{asked_after}
 use Rattle.list_pack.specs.OpenContainers.{flavour, taken, first_taken, limit, StaysIn, Open, Opens, same_csid, same_sid_block, stays_test, open_test, opens_test, keeps_test, follow_test}
 use Rattle.list_pack.proofs.Containers.{follow-made, Opened, opened-full, opened-packed, asked_end, asked-end}
@@ -219,12 +219,19 @@ legal-is : (net : Network) (list : List Container) → (list ≡ [] → ⊥) →
 legal-is net [] some e = absurd (some refl)
 legal-is net (c ∷ cs) some e = follow-is net None (c ∷ cs) e
 
-pub legal-named : (net : Network) (list : List Container) → (length list == 0) ≡ false → follow_test (list_sid net) None list ≡ true
-    → IsTrue (list_all (is_named net) (prefixes_in list)) ↔ IsLegalList net list
-legal-named net list some e =
+pub legal-unnamed : (net : Network) (list : List Container) → list_all (is_named net) (prefixes_in list) ≡ false
+    → IsTrue false ↔ IsLegalList net list
+legal-unnamed net list e =
+    (λ f. absurd (cc), λ legal. absurd (let one = is-named net (prefixes_in list) legal.named in cc))
+
+pub legal-kept : (net : Network) (list : List Container) (b : Bool) → (length list == 0) ≡ false
+    → follow_test (list_sid net) None list ≡ true → list_all (is_named net) (prefixes_in list) ≡ true
+    → IsTrue b ↔ All (KeepsNests net) list → IsTrue b ↔ IsLegalList net list
+legal-kept net list b some follows named keep =
     let not_empty : list ≡ [] → ⊥ = λ z. let empty : (length list == 0) ≡ true = ap (λ (cs : List Container). length cs == 0) z in cc in (
-      λ named. record { rules = legal-is net list not_empty e; named = named-is net (prefixes_in list) named },
-      λ legal. is-named net (prefixes_in list) legal.named,
+      λ h.
+          record { rules = legal-is net list not_empty follows; named = named-is net (prefixes_in list) named; nests = keep.0 h },
+      λ legal. keep.1 legal.nests,
     )
 
 -- ---- in a flat network

@@ -9,3 +9,4 @@ pub mod PathLists
 pub mod Meaning
 pub mod SegmentValues
 pub mod OpenContainers
+pub mod Barred

@@ -18,8 +18,8 @@
 //! `specs/Least.antt` what a least cost, a good potential, the first least path and a whole
 //! solution are. `specs/SidLists.antt` has the lists of a network's prefixes and which are legal,
 //! `specs/PathLists.antt` the list of a path, `specs/Paths.antt` a path's cost by rooms and legs
-//! apart; `specs/OpenContainers.antt` and `specs/SegmentValues.antt` are what the code of
-//! `is_legal` and of `values` goes by. The functions of `laws` do nothing: their contracts are the
+//! apart; `specs/OpenContainers.antt`, `specs/Barred.antt` and
+//! `specs/SegmentValues.antt` are what the code of `is_legal` and of `values` goes by. The functions of `laws` do nothing: their contracts are the
 //! laws by which certificates are judged, and that paths are legal lists.
 #![tactic(auto)]
 
@@ -28,6 +28,7 @@ mod flavours;
 mod laws;
 mod legs;
 mod lists;
+mod nests;
 mod rooms;
 mod rules;
 mod segments;

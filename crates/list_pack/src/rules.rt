@@ -10,6 +10,7 @@ ghost use Rattle.list_pack.specs.OpenContainers as rules;
 
 use crate::flavours::{block_of, flavour_of, same_prefix};
 use crate::lists::{asked_after, csids_of};
+use crate::nests::all_keep_nests;
 use crate::types::{Container, SidList};
 use net_model::{Block, BlockKind, Net};
 use srv6_rules::Csid;
@@ -240,8 +241,9 @@ fn all_named(net: &Net, list: &[Container]) -> bool
     true
 }
 
-/// Whether a list is legal in a network: its containers keep the rules of lists, and its prefixes
-/// are those of SIDs (own profile of RFC 9800 sections 6.2 to 6.4).
+/// Whether a list is legal in a network: its containers keep the rules of lists, its prefixes are
+/// those of SIDs, and in a full container nothing comes directly after a SID that would make the
+/// address that of a SID nested in it (own profile of RFC 9800 sections 6.2 to 6.4).
 pub fn is_legal(net: &Net, list: &SidList) -> bool
     ensures { IsTrue result ↔ IsLegalList net.now list.now }
 {
@@ -252,5 +254,8 @@ pub fn is_legal(net: &Net, list: &SidList) -> bool
     if !follow(net, containers) {
         return false;
     }
-    all_named(net, containers)
+    if !all_named(net, containers) {
+        return false;
+    }
+    all_keep_nests(net, containers)
 }

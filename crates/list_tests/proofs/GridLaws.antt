@@ -29,19 +29,19 @@ shape-laws Next n =
 shape-laws Replace n =
     record { compressed = λ h. refl; in_block = λ h. record { length = refl; longer = omega arith }; replace = λ e. omega arith }
 
-via-facts : (csid : Csid) (open_end : Bool) (steps position : ℕ) (via : Option ℕ) (next : ℕ) → is_grid_via steps position via next ≡ true
-    → IsVia (grid_value csid steps open_end) position via
-via-facts csid open_end steps position None next h = eqb-true position 0 h
-via-facts csid open_end steps position (Some k) next h =
+via-facts : (csid : Csid) (open_end nested : Bool) (steps position : ℕ) (via : Option ℕ) (next : ℕ) → is_grid_via steps position via next ≡ true
+    → IsVia (grid_value csid steps open_end nested) position via
+via-facts csid open_end nested steps position None next h = eqb-true position 0 h
+via-facts csid open_end nested steps position (Some k) next h =
     let less = and_parts (nat_le position steps && (k / 3 == position) && grid_middle k) (nat_lt k next) h in
     let middle = and_parts (nat_le position steps && (k / 3 == position)) (grid_middle k) less.0 in
     let row = and_parts (nat_le position steps) (k / 3 == position) middle.0 in
     (among position k (eqb-true (k / 3) position row.1), middle.1)
 
-end-facts : (csid : Csid) (open_end : Bool) (steps position : ℕ) (via : Option ℕ) → is_grid_end steps position via ≡ true
-    → IsVia (grid_value csid steps open_end) position via
-end-facts csid open_end steps position None h = eqb-true position 0 h
-end-facts csid open_end steps position (Some k) h =
+end-facts : (csid : Csid) (open_end nested : Bool) (steps position : ℕ) (via : Option ℕ) → is_grid_end steps position via ≡ true
+    → IsVia (grid_value csid steps open_end nested) position via
+end-facts csid open_end nested steps position None h = eqb-true position 0 h
+end-facts csid open_end nested steps position (Some k) h =
     let parts = and_parts (k / 3 == position) (grid_middle k) h in
     (among position k (eqb-true (k / 3) position parts.0), parts.1)
 
@@ -105,28 +105,28 @@ middle-not : (n : ℕ) → grid_middle n ≡ true → n % 3 ≡ 0 → ⊥
 middle-not n h e = eqb-false (n % 3) 0 (not-true (n % 3 == 0) h) e
 
 -- SIDs stand in the order of their numbers
-rises : (csid : Csid) (steps : ℕ) (open_end : Bool) (n m : ℕ) → n < m → sid_before (grid_value csid steps open_end) n m ≡ true
-rises csid steps open_end n m h =
+rises : (csid : Csid) (steps : ℕ) (open_end nested : Bool) (n m : ℕ) → n < m → sid_before (grid_value csid steps open_end nested) n m ≡ true
+rises csid steps open_end nested n m h =
     head-less (n * 2 ^ 80) (m * 2 ^ 80) (grid_len csid ∷ n ∷ []) (grid_len csid ∷ m ∷ []) (omega (arith, h))
 
-pub grid-laws : (csid : Csid) (steps : ℕ) (open_end : Bool) → steps ≤ 2 → KeepsLaws (grid_value csid steps open_end)
-grid-laws csid steps open_end few =
+pub grid-laws : (csid : Csid) (steps : ℕ) (open_end nested : Bool) → steps ≤ 2 → KeepsLaws (grid_value csid steps open_end nested)
+grid-laws csid steps open_end nested few =
     record {
       steps = omega (arith, few);
       sids_count = λ position h. omega arith;
       sids_order = λ position h.
-          let v : LegsValue = grid_value csid steps open_end in
+          let v : LegsValue = grid_value csid steps open_end nested in
           and_from (sid_before v (3 * position) (3 * position + 1)) (ascends v ((3 * position + 1) ∷ (3 * position + 2) ∷ []))
-          (rises csid steps open_end (3 * position) (3 * position + 1) (omega arith))
+          (rises csid steps open_end nested (3 * position) (3 * position + 1) (omega arith))
           (and_from (sid_before v (3 * position + 1) (3 * position + 2)) true
-          (rises csid steps open_end (3 * position + 1) (3 * position + 2) (omega arith)) refl);
+          (rises csid steps open_end nested (3 * position + 1) (3 * position + 2) (omega arith)) refl);
       shapes = λ n is. shape-laws csid n;
       blocks = λ n m is also same. record { lbl = refl; csid = λ h k. refl; length = λ h k. refl };
       leg = λ position via next leg h.
           let facts = leg-facts steps position via next leg h in
           record {
             start = omega (arith, facts.forward, facts.within);
-            from_via = via-facts csid open_end steps position via next facts.from;
+            from_via = via-facts csid open_end nested steps position via next facts.from;
             forward = omega (arith, facts.forward, facts.to);
             within = omega (arith, facts.within, facts.to);
             is_next = among leg.to next facts.to;
@@ -137,7 +137,7 @@ grid-laws csid steps open_end few =
           let facts = end-of open_end steps position via next lowered h in
           record {
             start = omega (arith, facts.last);
-            from_via = end-facts csid open_end steps position via facts.from;
+            from_via = end-facts csid open_end nested steps position via facts.from;
             is_next = among steps next (omega (arith, facts.end));
             hops = omega (arith, facts.one);
           };

@@ -17,22 +17,22 @@ prefix-same p q h =
     ap (λ (x : ℕ). let y : PrefixValue = record { value = x; len = q.len } in y) (sym values)
     ∙ ap (λ (x : ℕ). let y : PrefixValue = record { value = p.value; len = x } in y) (sym lens)
 
-pub grid-sid : (net : Network) (csid : Csid) (steps : ℕ) (is_open : Bool) (n : ℕ) (s : SidEntry) (p : PrefixValue)
+pub grid-sid : (net : Network) (csid : Csid) (steps : ℕ) (is_open nested : Bool) (n : ℕ) (s : SidEntry) (p : PrefixValue)
     → slice_get net.sids n ≡ Some s
     → p ≡ record { value = n * 2 ^ 80; len = grid_len csid } → same_prefix s.prefix p ≡ true → s.node ≡ n
-    → IsSidOf net (grid_value csid steps is_open) n
-grid-sid net csid steps is_open n s p here is same node =
+    → IsSidOf net (grid_value csid steps is_open nested) n
+grid-sid net csid steps is_open nested n s p here is same node =
     record { sid = s; here = here; prefix = sym is ∙ prefix-same s.prefix p same; node = sym node }
 
-pub grid-more : (net : Network) (csid : Csid) (steps : ℕ) (is_open : Bool) (n : ℕ) → IsSidOf net (grid_value csid steps is_open) n
-    → ((k : ℕ) → k < n → IsSidOf net (grid_value csid steps is_open) k)
-    → (k : ℕ) → k < n + 1 → IsSidOf net (grid_value csid steps is_open) k
-grid-more net csid steps is_open n here so k h =
-    elim (cases_lt k n) as (λ w. IsSidOf net (grid_value csid steps is_open) k) [
+pub grid-more : (net : Network) (csid : Csid) (steps : ℕ) (is_open nested : Bool) (n : ℕ) → IsSidOf net (grid_value csid steps is_open nested) n
+    → ((k : ℕ) → k < n → IsSidOf net (grid_value csid steps is_open nested) k)
+    → (k : ℕ) → k < n + 1 → IsSidOf net (grid_value csid steps is_open nested) k
+grid-more net csid steps is_open nested n here so k h =
+    elim (cases_lt k n) as (λ w. IsSidOf net (grid_value csid steps is_open nested) k) [
       | inl less ↦ so k less
       | inr more ↦
           let same : n ≡ k = omega (arith, h, more) in
-          subst (IsSidOf net (grid_value csid steps is_open)) same here
+          subst (IsSidOf net (grid_value csid steps is_open nested)) same here
     ]
 
 row-bound : (position n k : ℕ) → k < 3 → get_or (grid_sids position) k n ≡ n → n ≤ 3 * position + 2
@@ -41,8 +41,8 @@ row-bound position n (suc zero) h e = omega (arith, e)
 row-bound position n (suc (suc zero)) h e = omega (arith, e)
 row-bound position n (suc (suc (suc k))) h e = absurd (omega (arith, h))
 
-pub grid-all : (net : Network) (csid : Csid) (steps : ℕ) (is_open : Bool) (count : ℕ) → steps ≤ 2 → 9 ≤ count
-    → ((k : ℕ) → k < count → IsSidOf net (grid_value csid steps is_open) k) → IsNetworkOf net (grid_value csid steps is_open)
-grid-all net csid steps is_open count few h so n is =
+pub grid-all : (net : Network) (csid : Csid) (steps : ℕ) (is_open nested : Bool) (count : ℕ) → steps ≤ 2 → 9 ≤ count
+    → ((k : ℕ) → k < count → IsSidOf net (grid_value csid steps is_open nested) k) → IsNetworkOf net (grid_value csid steps is_open nested)
+grid-all net csid steps is_open nested count few h so n is =
     let bound = row-bound is.0 n is.2.0 is.2.1 is.2.2 in
     so n (omega (arith, bound, is.1, few, h))

@@ -57,8 +57,12 @@ abbrev pub grid_finish : Bool → ℕ → ℕ → Option ℕ → ℕ → Option 
 grid_finish open_end steps position via n =
     if open_end && is_grid_end steps position via && (position == steps) && (n == 3 * steps) then Some 1 else None
 
-abbrev pub grid_value : Csid → ℕ → Bool → LegsValue
-grid_value csid steps open_end =
+-- in a nested grid the SID before it by number doesn't stay after a SID
+abbrev pub grid_stays : Bool → ℕ → ℕ → Bool
+grid_stays nested n m = not (nested && (n == m + 1))
+
+abbrev pub grid_value : Csid → ℕ → Bool → Bool → LegsValue
+grid_value csid steps open_end nested =
     record {
       steps = steps;
       sids_at = grid_sids;
@@ -66,4 +70,5 @@ grid_value csid steps open_end =
       node = λ n. n;
       leg = grid_leg steps;
       finish = grid_finish open_end steps;
+      stays = grid_stays nested;
     }

@@ -9,12 +9,14 @@ use srv6_rules::Csid;
 use v6_addr::{Addr, Prefix};
 
 /// Legs whose SIDs are compressed alike, with so many positions after the first; a walk has an end
-/// where they are open.
+/// where they are open; where they are nested, the SID before it by number may not come directly
+/// after a SID in its container.
 #[derive(Clone, Copy, Debug)]
 pub(crate) struct Grid {
     pub(crate) csid: Csid,
     pub(crate) steps: u32,
     pub(crate) is_open: bool,
+    pub(crate) is_nested: bool,
     ghost few: { steps ≤ 2 },
 }
 
@@ -58,7 +60,7 @@ fn is_end(steps: u32, position: u32, via: Option<u32>) -> bool
 impl Legs for Grid {
     ghost use Rattle.list_tests.specs.Grid.{grid_value};
 
-    ghost seen = { λ s. grid_value s.csid s.steps s.is_open };
+    ghost seen = { λ s. grid_value s.csid s.steps s.is_open s.is_nested };
 
     fn steps(&self) -> u32 {
         self.steps
@@ -107,5 +109,9 @@ impl Legs for Grid {
         } else {
             None
         }
+    }
+
+    fn stays(&self, sid: u32, next: u32) -> bool {
+        !(self.is_nested && sid > 0 && sid - 1 == next)
     }
 }

@@ -48,6 +48,7 @@ fn plain_sids(rt: HostRuntime) -> Result<(), Fail> {
         csid: Csid::Plain,
         steps: 2,
         is_open: true,
+        is_nested: false,
     };
     let solution = solved(&rt, &grid)?;
     assert_path(&rt, &solution, &[(false, 4), (false, 7), (false, 6)]);
@@ -76,6 +77,7 @@ fn no_path(rt: HostRuntime) -> Result<(), Fail> {
         csid: Csid::Plain,
         steps: 2,
         is_open: false,
+        is_nested: false,
     };
     let solution = solved(&rt, &grid)?;
     assert!(&rt; solution.path.as_slice().is_empty());
@@ -90,6 +92,7 @@ fn next_sids(rt: HostRuntime) -> Result<(), Fail> {
         csid: Csid::Next,
         steps: 2,
         is_open: true,
+        is_nested: false,
     };
     let solution = solved(&rt, &grid)?;
     assert_path(&rt, &solution, &[(false, 4), (true, 7), (true, 6)]);
@@ -113,6 +116,38 @@ fn next_sids(rt: HostRuntime) -> Result<(), Fail> {
     Ok(())
 }
 
+/// the last SID may not come directly after 7 in its container, so the path goes by 8
+#[test]
+fn nested_sids(rt: HostRuntime) -> Result<(), Fail> {
+    let grid = Grid {
+        csid: Csid::Next,
+        steps: 2,
+        is_open: true,
+        is_nested: true,
+    };
+    let solution = solved(&rt, &grid)?;
+    assert_path(&rt, &solution, &[(false, 4), (true, 8), (true, 6)]);
+    let cost = Cost {
+        containers: 1,
+        hops: 5,
+    };
+    assert_cost(&rt, &solution, 0, START, cost);
+    // after 7 only a new container leads to the end
+    let barred = State {
+        position: 2,
+        via: Some(7),
+        room: 5,
+    };
+    let new = Cost {
+        containers: 1,
+        hops: 1,
+    };
+    let potentials = solution.potentials.as_slice();
+    let found = potentials.iter().find(|p| p.state == barred);
+    assert!(&rt; found.map_or(false, |p| p.cost == new));
+    Ok(())
+}
+
 /// a whole SID first, and then a container of CSIDs, of which four of 32 bits would find room
 #[test]
 fn replace_sids(rt: HostRuntime) -> Result<(), Fail> {
@@ -120,6 +155,7 @@ fn replace_sids(rt: HostRuntime) -> Result<(), Fail> {
         csid: Csid::Replace,
         steps: 2,
         is_open: true,
+        is_nested: false,
     };
     let solution = solved(&rt, &grid)?;
     assert_path(&rt, &solution, &[(false, 4), (false, 7), (true, 6)]);

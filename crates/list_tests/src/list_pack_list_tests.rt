@@ -19,6 +19,8 @@ const BC1: u128 = 0xfcbb_bb00_e001_0000_0000_0000_0000_0000;
 const MARK: u128 = 0xfcbb_bb00_e002_0000_0000_0000_0000_0000;
 /// fcbb:bb00:4::
 const D: u128 = 0xfcbb_bb00_0004_0000_0000_0000_0000_0000;
+/// fcbb:bb00:2:e001::
+const IN_B: u128 = 0xfcbb_bb00_0002_e001_0000_0000_0000_0000;
 /// fcbb:bb00:f001::
 const VPN: u128 = 0xfcbb_bb00_f001_0000_0000_0000_0000_0000;
 
@@ -83,7 +85,16 @@ fn network(
 
 /// SIDs of NEXT-CSID, and one that is not compressed
 fn next_network(rt: &impl Abort, alloc: Global) -> Result<Net, AllocError> {
-    let mut sids = Vec::new(alloc);
+    network_beside(rt, alloc, Vec::new(alloc))
+}
+
+/// these SIDs beside further ones of NEXT-CSID and one that is not compressed
+fn network_beside(
+    rt: &impl Abort,
+    alloc: Global,
+    beside: Vec<SidEntry>,
+) -> Result<Net, AllocError> {
+    let mut sids = beside;
     for value in [B, BC1, MARK, D] {
         sids.push(sid(alloc, prefix(rt, value, 48), 32, Behaviour::End, Csid::Next))?;
     }
@@ -253,5 +264,61 @@ fn a_sid_without_next_has_none_behind_it(rt: HostRuntime) -> Result<(), Fail> {
     let steps = path(&rt, alloc, 48, &[(false, VPN), (true, B)])?;
     let list = list_of(alloc, &net, steps.as_slice()).ok().ok_or("memory")?;
     assert!(rt; !is_legal(&net, &list));
+    Ok(())
+}
+
+/// the list of a path of these steps, each with its prefix's length
+fn list_by(
+    rt: &impl Abort,
+    alloc: Global,
+    net: &Net,
+    steps: &[(bool, u128, u8)],
+) -> Result<SidList, AllocError> {
+    let mut path = Vec::new(alloc);
+    for (stays, value, len) in steps {
+        path.push(PathStep {
+            stays: *stays,
+            prefix: prefix(rt, *value, *len),
+        })?;
+    }
+    Ok(
+        list_of(alloc, net, path.as_slice())
+            .ok()
+            .expect(rt, "memory"),
+    )
+}
+
+/// after B may not come directly a SID that would make the address that of the SID nested in B
+#[test]
+fn a_nested_sid(rt: HostRuntime) -> Result<(), Fail> {
+    let alloc = rt.alloc();
+    let mut nested = Vec::new(alloc);
+    nested.push(sid(alloc, prefix(&rt, IN_B, 64), 32, Behaviour::End, Csid::Next))?;
+    let net = network_beside(&rt, alloc, nested)?;
+    let cases = [
+        ([(false, IN_B, 64), (true, D, 48), (true, VPN, 48)], true),
+        ([(false, B, 48), (true, MARK, 48), (true, BC1, 48)], true),
+        ([(false, B, 48), (true, BC1, 48), (true, VPN, 48)], false),
+        ([(false, D, 48), (true, B, 48), (true, BC1, 48)], false),
+        ([(false, B, 48), (false, BC1, 48), (true, VPN, 48)], true),
+    ];
+    for (steps, legal) in cases {
+        let list = list_by(&rt, alloc, &net, &steps)?;
+        assert_eq!(&rt; is_legal(&net, &list), legal);
+        if legal {
+            assert!(&rt; segments(alloc, &net, &list).is_some());
+        }
+    }
+    let list = list_by(
+        &rt,
+        alloc,
+        &net,
+        &[(false, IN_B, 64), (true, D, 48), (true, VPN, 48)],
+    )?;
+    let segments = segments(alloc, &net, &list).ok_or("a legal list")?;
+    assert_eq!(&rt; segments.len(), 1);
+    for segment in segments.iter() {
+        assert_eq!(&rt; segment.value, 0xfcbb_bb00_0002_e001_0004_f001_0000_0000);
+    }
     Ok(())
 }

@@ -2,4 +2,6 @@ use Rattle.list_tests.proofs.GridLaws.{grid-laws}
 use Rattle.list_tests.proofs.grid.GridLegs.steps.Goals as goal
 
 pub returns-clause-laws : goal.returns-clause-laws
-returns-clause-laws c = grid-laws c.args.self.now.csid c.args.self.now.steps c.args.self.now.is_open c.args.self.now.few
+returns-clause-laws c =
+    let grid = c.args.self.now in
+    grid-laws grid.csid grid.steps grid.is_open grid.is_nested grid.few

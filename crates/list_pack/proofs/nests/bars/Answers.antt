@@ -1,0 +1,14 @@
+use Rattle.std.proofs.Common.{◌≡◌, true, false, sym, ◌∙◌}
+use Rattle.list_pack.proofs.Neighbours.{bars-is}
+use Rattle.list_pack.proofs.nests.bars.Goals as goal
+
+pub returns-then-not-are_nest : goal.returns-then-not-are_nest
+returns-then-not-are_nest c =
+    let none : c.are_nest.result ≡ false = cc in
+    (λ e. absurd (cc), λ bars. absurd (let nest = c.are_nest.ensures.1 bars.nest in cc))
+
+pub returns : goal.returns
+returns c =
+    let yes : c.are_nest.result ≡ true = cc in
+    let nest = c.are_nest.ensures.0 yes in
+    bars-is c.args.net.now c.args.next.now c.args.outer.now c.args.inner.now _ _ nest cc cc
