@@ -132,19 +132,19 @@ fn nested_sids(rt: HostRuntime) -> Result<(), Fail> {
         hops: 5,
     };
     assert_cost(&rt, &solution, 0, START, cost);
-    // after 7 only a new container leads to the end
+    // from 7 too the way goes by 8: a hop more, and no further container
     let barred = State {
         position: 2,
         via: Some(7),
         room: 5,
     };
-    let new = Cost {
-        containers: 1,
-        hops: 1,
+    let around = Cost {
+        containers: 0,
+        hops: 2,
     };
     let potentials = solution.potentials.as_slice();
     let found = potentials.iter().find(|p| p.state == barred);
-    assert!(&rt; found.map_or(false, |p| p.cost == new));
+    assert!(&rt; found.map_or(false, |p| p.cost == around));
     Ok(())
 }
 
