@@ -1,4 +1,5 @@
-use Rattle.std.proofs.Common.{◌≡◌, true, false, sym, ◌∙◌}
+use Rattle.std.proofs.Common.{◌≡◌, ◌-◌, true, false, ◌==◌}
+use Rattle.flat_networks.specs.Nests.{unit_at}
 use Rattle.list_pack.proofs.Neighbours.{bars-is}
 use Rattle.list_pack.proofs.nests.bars.Goals as goal
 
@@ -11,4 +12,6 @@ pub returns : goal.returns
 returns c =
     let yes : c.are_nest.result ≡ true = cc in
     let nest = c.are_nest.ensures.0 yes in
-    bars-is c.args.net.now c.args.next.now c.args.outer.now c.args.inner.now _ _ nest cc cc
+    let at = c.len.result - 16 in
+    bars-is c.args.net.now c.args.next.now c.args.outer.now c.args.inner.now at (c.field.result == c.field-2.result) nest
+    (cc (c.len.ensures.len)) (cc (c.field.ensures.value, c.field-2.ensures.value, c.value.ensures, c.value-2.ensures))
