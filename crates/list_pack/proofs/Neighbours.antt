@@ -86,13 +86,14 @@ after-is net p next outer b e is = (λ h. (same-is outer.prefix p e, is.0 h), λ
 
 pub barred-after : (net : Network) (p next : PrefixValue) (n : ℕ) (outer : SidEntry) → slice_get net.sids n ≡ Some outer
     → BarsAfter net p next outer → ¬ MayFollow net p next
-barred-after net p next n outer at (on, inner, among, bars) follows =
+barred-after net p next n outer at (on, (inner, among, bars)) follows =
     follows outer inner (contains_from_get net.sids n outer at) among on bars.nest bars.same
 
 pub none-after : (net : Network) (p next : PrefixValue) (count : ℕ) → length net.sids ≤ count
     → NoneOf (BarsAfter net p next) net.sids count → MayFollow net p next
 none-after net p next count h so outer inner at among on nest same =
-    each-all (λ x. ¬ BarsAfter net p next x) net.sids count h so outer at (on, inner, among, record { nest = nest; same = same })
+    each-all (λ x. ¬ BarsAfter net p next x) net.sids count h so outer at
+    (on, (inner, among, record { nest = nest; same = same }))
 
 -- ---- lists
 

@@ -29,7 +29,8 @@ shape-laws Next n =
 shape-laws Replace n =
     record { compressed = λ h. refl; in_block = λ h. record { length = refl; longer = omega arith }; replace = λ e. omega arith }
 
-via-facts : (csid : Csid) (open_end nested : Bool) (steps position : ℕ) (via : Option ℕ) (next : ℕ) → is_grid_via steps position via next ≡ true
+via-facts : (csid : Csid) (open_end nested : Bool) (steps position : ℕ) (via : Option ℕ) (next : ℕ)
+    → is_grid_via steps position via next ≡ true
     → IsVia (grid_value csid steps open_end nested) position via
 via-facts csid open_end nested steps position None next h = eqb-true position 0 h
 via-facts csid open_end nested steps position (Some k) next h =

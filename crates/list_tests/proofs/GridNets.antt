@@ -24,7 +24,8 @@ pub grid-sid : (net : Network) (csid : Csid) (steps : ℕ) (is_open nested : Boo
 grid-sid net csid steps is_open nested n s p here is same node =
     record { sid = s; here = here; prefix = sym is ∙ prefix-same s.prefix p same; node = sym node }
 
-pub grid-more : (net : Network) (csid : Csid) (steps : ℕ) (is_open nested : Bool) (n : ℕ) → IsSidOf net (grid_value csid steps is_open nested) n
+pub grid-more : (net : Network) (csid : Csid) (steps : ℕ) (is_open nested : Bool) (n : ℕ)
+    → IsSidOf net (grid_value csid steps is_open nested) n
     → ((k : ℕ) → k < n → IsSidOf net (grid_value csid steps is_open nested) k)
     → (k : ℕ) → k < n + 1 → IsSidOf net (grid_value csid steps is_open nested) k
 grid-more net csid steps is_open nested n here so k h =

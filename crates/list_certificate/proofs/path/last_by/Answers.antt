@@ -15,5 +15,6 @@ returns g c =
     c.move_cost.result
     (sym (ap (λ (s : Shape). s.prefix) c.shape-next.ensures) ∙ same) (sym c.finish.ensures ∙ c.in_ok-hops.was)
     (room-is v [] c.args.state c.args.n c.args.step.now.stays c.args.from.now c.shape-next.result c.room_behind.result
-    (Some c.in_ok-room_behind.field-0) c.requires.from c.shape-next.ensures (sym c.is_barred.ensures ∙ free) c.room_behind.ensures c.in_ok-room_behind.was)
+    (Some c.in_ok-room_behind.field-0) c.requires.from c.shape-next.ensures (sym c.is_barred.ensures ∙ free) c.room_behind.ensures
+    c.in_ok-room_behind.was)
     c.move_cost.ensures

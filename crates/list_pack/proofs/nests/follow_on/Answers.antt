@@ -10,7 +10,7 @@ returns-then-not-may_follow c =
     let follows = MayFollow c.args.net.now in
     let no : c.may_follow.result ≡ false = cc in
     let item = drop-got c.args.more.now c.loop-next.next-index c.next-item.result c.loop-next-test.true c.next-item.is in
-    let stop = follow-stop follows (FollowOn follows c.args.first.now c.args.more.now) c.loop-next.last c.next-item.result
+    let stop = follow-stop follows (FollowOn follows c.args.first.now c.args.more.now) c.loop-next.last.now c.next-item.result
     c.loop-next.next-index c.args.more.now c.loop-next.invariant item (λ f. absurd (let yes = c.may_follow.ensures.1 f in cc)) in
     (λ e. absurd (cc), λ told. absurd (stop told))
 
@@ -19,12 +19,12 @@ loop-next-preserved c =
     let follows = MayFollow c.args.net.now in
     let yes : c.may_follow.result ≡ true = cc in
     let item = drop-got c.args.more.now c.loop-next.next-index c.next-item.result c.loop-next-test.true c.next-item.is in
-    follow-step follows (FollowOn follows c.args.first.now c.args.more.now) c.loop-next.last c.next-item.result c.loop-next.next-index
+    follow-step follows (FollowOn follows c.args.first.now c.args.more.now) c.loop-next.last.now c.next-item.result c.loop-next.next-index
     c.args.more.now c.loop-next.invariant item (c.may_follow.ensures.0 yes)
 
 pub returns : goal.returns
 returns c =
     let follows = MayFollow c.args.net.now in
-    let told = follow-end follows (FollowOn follows c.args.first.now c.args.more.now) c.loop-next.last c.loop-next.next-index c.args.more.now
-    c.loop-next.invariant c.loop-next-test.false in
+    let told = follow-end follows (FollowOn follows c.args.first.now c.args.more.now) c.loop-next.last.now c.loop-next.next-index
+    c.args.more.now c.loop-next.invariant c.loop-next-test.false in
     (λ e. told, λ so. refl)

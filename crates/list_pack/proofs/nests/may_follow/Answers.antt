@@ -1,4 +1,4 @@
-use Rattle.std.proofs.Common.{◌≡◌, true, false, refl}
+use Rattle.std.proofs.Common.{◌≡◌, true, false, refl, arith}
 use Rattle.list_pack.specs.Barred.{BarsAfter}
 use Rattle.list_pack.proofs.Neighbours.{each-more, barred-after, none-after}
 use Rattle.list_pack.proofs.nests.may_follow.Goals as goal
@@ -13,9 +13,11 @@ returns-then-bars_after c =
 pub loop-n-preserved : goal.loop-n-preserved
 loop-n-preserved c =
     let no : c.bars_after.result ≡ false = cc in
-    each-more (λ outer. ¬ BarsAfter c.args.net.now c.args.prefix.now c.args.next.now outer) c.args.net.now.sids c.loop-n.n c.sid.result.now c.sid.ensures
-    (λ barred. absurd (let yes = c.bars_after.ensures.1 barred in cc)) c.loop-n.invariant
+    each-more (λ outer. ¬ BarsAfter c.args.net.now c.args.prefix.now c.args.next.now outer) c.args.net.now.sids
+    c.loop-n.n c.sid.result.now c.sid.ensures (λ barred. absurd (let yes = c.bars_after.ensures.1 barred in cc)) c.loop-n.invariant
 
 pub returns : goal.returns
 returns c =
-    (λ e. none-after c.args.net.now c.args.prefix.now c.args.next.now c.loop-n.n c.loop-n-test.false c.loop-n.invariant, λ follows. refl)
+    let follows = none-after c.args.net.now c.args.prefix.now c.args.next.now c.loop-n.n
+    (omega (arith, c.loop-n-test.false, c.sids-n-end.ensures)) c.loop-n.invariant in
+    (λ e. follows, λ told. refl)

@@ -1,4 +1,4 @@
-use Rattle.std.proofs.Common.{◌≡◌, true, false, refl}
+use Rattle.std.proofs.Common.{◌≡◌, true, false, refl, arith}
 use Rattle.list_pack.specs.Barred.{Bars}
 use Rattle.list_pack.proofs.Neighbours.{each-more, some-barred, none-barred}
 use Rattle.list_pack.proofs.nests.some_bars.Goals as goal
@@ -13,10 +13,12 @@ returns-then-bars c =
 pub loop-n-preserved : goal.loop-n-preserved
 loop-n-preserved c =
     let no : c.bars.result ≡ false = cc in
-    each-more (λ inner. ¬ Bars c.args.net.now c.args.next.now c.args.outer.now inner) c.args.net.now.sids c.loop-n.n c.sid.result.now c.sid.ensures
-    (λ barred. absurd (let yes = c.bars.ensures.1 barred in cc)) c.loop-n.invariant
+    each-more (λ inner. ¬ Bars c.args.net.now c.args.next.now c.args.outer.now inner) c.args.net.now.sids c.loop-n.n
+    c.sid.result.now c.sid.ensures (λ barred. absurd (let yes = c.bars.ensures.1 barred in cc)) c.loop-n.invariant
 
 pub returns : goal.returns
-returns c =
-    (λ e. absurd (cc), λ some. absurd (none-barred c.args.net.now c.args.next.now c.args.outer.now c.loop-n.n c.loop-n-test.false
-    c.loop-n.invariant some))
+returns c = (
+  λ e. absurd (cc),
+  λ some. absurd (none-barred c.args.net.now c.args.next.now c.args.outer.now c.loop-n.n
+      (omega (arith, c.loop-n-test.false, c.sids-n-end.ensures)) c.loop-n.invariant some),
+)
