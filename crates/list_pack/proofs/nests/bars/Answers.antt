@@ -14,4 +14,4 @@ returns c =
     let nest = c.are_nest.ensures.0 yes in
     let at = c.len-at.result - 16 in
     bars-is c.args.net.now c.args.next.now c.args.outer.now c.args.inner.now at (c.field.result == c.field-2.result) nest
-    (cc (c.len-at.ensures.len)) (cc (c.field.ensures.value, c.field-2.ensures.value, c.value.ensures, c.value-2.ensures))
+    (cc (c.len-at.ensures.len)) (cc (c.field.ensures.value, c.field-2.ensures.value, c.value.ensures.value, c.value-2.ensures.value))
