@@ -98,7 +98,7 @@ module _ (v : LegsValue) (laws : KeepsLaws v) (cells : List Cell) (are : AreCell
       let link : CellEdge = record { from = spot.place; to = Some there.0; sid = n.sid; hops = parts.leg.hops } in
       let is_link : IsCellEdge v cells link = record { cell = spot.cell; from = is.here; leads = (parts.leg.to, there.1, parts.leg_is) } in
       let to : State = state_at (cell_at parts.leg.to n.sid) parts.room in
-      let few = behind-few n.stays (option_map v.shape spot.cell.via) (v.shape n.sid) spot.room parts.room
+      let few = behind-few v spot.cell.via spot.room n parts.room
       (link-shape v laws cells link is_link) is.few
       parts.room_is in
       let is_to : to ≡ e.to = ap (λ (x : Edge). x.to) parts.is in

@@ -48,7 +48,7 @@ module _ (v : LegsValue) (laws : KeepsLaws v) (cells : List Cell) (are : AreCell
         let there = edge-link k room cell m e here parts in
         let link : CellEdge = record { from = k; to = Some there.0; sid = m.sid; hops = parts.leg.hops } in
         let is : IsCellEdge v cells link = record { cell = cell; from = here; leads = (parts.leg.to, there.1, parts.leg_is) } in
-        let few = behind-few m.stays (option_map v.shape cell.via) (v.shape m.sid) room parts.room (link-shape v laws cells link is) l
+        let few = behind-few v cell.via room m parts.room (link-shape v laws cells link is) l
         parts.room_is in
         let first = hold link (omega arith) is cell m.stays room parts.room here l parts.room_is in
         let rest = bounds (n ∷ more) there.0 parts.room (cell_at parts.leg.to m.sid) there.1 few in

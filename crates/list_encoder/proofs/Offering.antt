@@ -1,21 +1,21 @@
 -- What a settled state offers lowers the states in front of it, edge by edge.
-use Rattle.std.proofs.Common.{◌≡◌, ℕ, ◌+◌, ◌*◌, ◌<◌, inl, inr, Bool, true, false, List, length, Option, Some, None, slice_get, Contains, refl, sym, ◌∙◌, ap, subst, arith}
+use Rattle.std.proofs.Common.{◌≡◌, ℕ, ◌+◌, ◌*◌, ◌<◌, inl, inr, Bool, true, false, ◌&&◌, List, length, Option, Some, None, slice_get, get_or, Contains, refl, sym, ◌∙◌, ap, subst, arith}
 use Rattle.std.specs.Option.{option_map}
 use Rattle.std.specs.BTreeSet.{BTreeSet}
 use Rattle.std.proofs.lemmas.Bool.{cases_lt}
 use Rattle.list_pack.specs.declared.types.Cost.{Cost}
 use Rattle.list_pack.specs.Value.{LegsValue}
-use Rattle.list_pack.specs.Rooms.{room_behind}
-use Rattle.list_pack.specs.Costs.{AtMost, plus, move_cost, Under}
-use Rattle.list_pack.proofs.PublicLaws.{under-trans}
+use Rattle.list_pack.specs.Costs.{AtMost, plus, move_cost, room_to, bars, Under}
+use Rattle.list_pack.proofs.PublicLaws.{under-itself, under-trans}
 use Rattle.list_encoder.specs.declared.cells.Cell.{Cell}
 use Rattle.list_encoder.specs.declared.table.CellEdge.{CellEdge}
 use Rattle.list_encoder.specs.declared.waiting.Waiting.{Waiting}
 use Rattle.list_encoder.specs.declared.offers.Offer.{Offer}
-use Rattle.list_encoder.specs.Table.{Costs, at, entry, rest_at, RoomHolds, RoomRelaxed, LeavesRoom}
+use Rattle.list_encoder.specs.Table.{Costs, at, entry, rest_at, RoomHolds, RoomRelaxed, LeavesRoom, move_by}
 use Rattle.list_encoder.specs.Waiting.{is_done, IsLoweredAt}
 use Rattle.list_encoder.specs.Offers.{IsSettledAt, IsOffer, Advances, Takes, OffersRoom, LeavesIt, OffersWay, OffersEdge, offer_of, LeadInto, OffersAll}
 use Rattle.list_encoder.proofs.Celling.{some-same}
+use Rattle.list_encoder.proofs.RelaxedRooms.{link-barred}
 
 pub at-most-more : (m d : Cost) → AtMost d (plus m d)
 at-most-more m d = record { containers = omega arith; hops = λ e. omega arith }
@@ -51,6 +51,30 @@ offer-later v cells t t1 w w1 done done1 offer is advances = record {
   early = let long = ap length advances.same in omega (arith, is.early, long);
   rest_is = rest-still t t1 done offer.link.to offer.left is.settled advances.still ∙ is.rest_is;
   settled = settled-later done done1 offer.link.to offer.left advances.same is.settled;
+}
+
+-- ---- no room
+
+-- costs that stay as they are
+kept-advances : (v : LegsValue) (cells : List Cell) (t : Costs) (w : BTreeSet Waiting) (done : List Bool) (offer : Offer)
+    → IsOffer v cells t w done offer → Advances v cells t done t w done offer.rest
+kept-advances v cells t w done offer is = record {
+  sound = is.sound;
+  front = is.front;
+  same = refl;
+  falls = λ i. under-itself (at t i);
+  still = λ i settled. refl;
+  past = λ i h. refl;
+}
+
+pub way-barred : (v : LegsValue) (cells : List Cell) (t : Costs) (w : BTreeSet Waiting) (done : List Bool) (offer : Offer) (told : Bool)
+    → IsOffer v cells t w done offer
+    → told ≡ (offer.stays && bars v (get_or cells offer.link.from (record { position = 0; via = None })).via offer.link.sid) → told ≡ true
+    → OffersWay v cells offer 8 t done t w done
+way-barred v cells t w done offer told is e barred = record {
+  advances = kept-advances v cells t w done offer is;
+  takes = λ room h it.
+      absurd (link-barred v cells offer.link offer.stays told is.is_edge e barred it.0 room offer.left it.1 it.2);
 }
 
 -- ---- one room
@@ -102,8 +126,7 @@ module _ (v : LegsValue) (cells : List Cell) (offer : Offer) (t0 t t1 : Costs) (
         | inr past ↦
             let same : r ≡ room = omega (arith, h, past) in
             let some : left ≡ Some offer.left =
-            leaves it.0 it.1 ∙ subst (λ (n : ℕ). room_behind offer.stays (option_map v.shape it.0.via) n (v.shape offer.link.sid) ≡ Some
-            offer.left) same it.2 in
+            leaves it.0 it.1 ∙ subst (λ (n : ℕ). room_to v it.0.via n (move_by offer.link offer.stays) ≡ Some offer.left) same it.2 in
             subst (Takes offer offer.stays t1) (sym same) (more.takes some)
       ];
     }

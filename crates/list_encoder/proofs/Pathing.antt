@@ -1,7 +1,6 @@
 -- A first tight move, and then the first least path, is the first least path.
 use Rattle.std.proofs.Common.{◌≡◌, ℕ, ◌+◌, ◌<◌, inl, inr, Bool, true, false, List, [], ◌∷◌, map, Option, Some, None, slice_get, refl, sym, ◌∙◌, ap, subst, arith, cond}
 use Rattle.std.specs.Prelude.{is_some}
-use Rattle.std.specs.Option.{option_map}
 use Rattle.std.proofs.lemmas.Bool.{or_left, or_right, cases_Bool}
 use Rattle.std.proofs.lemmas.Option.{none-some}
 use Rattle.v6_addr.specs.Address.{PrefixValue}
@@ -9,8 +8,7 @@ use Rattle.list_pack.specs.declared.types.Cost.{Cost}
 use Rattle.list_pack.specs.declared.types.Leg.{Leg}
 use Rattle.list_pack.specs.declared.types.PathStep.{PathStep}
 use Rattle.list_pack.specs.Value.{LegsValue, KeepsLaws, comes_to}
-use Rattle.list_pack.specs.Rooms.{room_behind}
-use Rattle.list_pack.specs.Costs.{Move, plus, nothing, move_cost, edge_by, last_of, cost_of, Under}
+use Rattle.list_pack.specs.Costs.{Move, plus, nothing, move_cost, room_to, edge_by, last_of, cost_of, Under}
 use Rattle.list_pack.specs.Least.{IsFirstLeast, step_of, path_key, path_before}
 use Rattle.list_pack.proofs.PublicLaws.{edge-made, last-made, attained}
 use Rattle.list_encoder.specs.declared.cells.Cell.{Cell}
@@ -18,7 +16,7 @@ use Rattle.list_encoder.specs.declared.table.CellEdge.{CellEdge}
 use Rattle.list_encoder.specs.declared.picks.Pick.{Pick}
 use Rattle.list_encoder.specs.declared.picks.Spot.{Spot}
 use Rattle.list_encoder.specs.Cells.{cell_at, state_at, AreCells}
-use Rattle.list_encoder.specs.Table.{Costs, rest_at, LeadsTo, IsCellEdge, AreLeast}
+use Rattle.list_encoder.specs.Table.{Costs, rest_at, LeadsTo, IsCellEdge, move_by, AreLeast}
 use Rattle.list_encoder.specs.Picks.{IsSpot, IsTight, IsPick, Covers, link_step}
 use Rattle.list_pack.proofs.Orders.{lex-itself, lex-not-both, lex-same, lex-longer, lex-after}
 use Rattle.list_encoder.proofs.Celling.{some-same}
@@ -117,8 +115,8 @@ module _ (v : LegsValue) (laws : KeepsLaws v) (cells : List Cell) (are : AreCell
       → left ≡ pick.room
   lefts-same a stays left d sid same tight =
       some-same left pick.room (sym tight.room_is
-      ∙ ap (λ (n : ℕ). room_behind stays (option_map v.shape spot.cell.via) spot.room (v.shape n)) sid
-      ∙ ap (λ (b : Bool). room_behind b (option_map v.shape spot.cell.via) spot.room (v.shape picked.link.sid)) same ∙ picked.tight.room_is)
+      ∙ ap (λ (n : ℕ). room_to v spot.cell.via spot.room (record { stays = stays; sid = n })) sid
+      ∙ ap (λ (b : Bool). room_to v spot.cell.via spot.room (move_by picked.link b)) same ∙ picked.tight.room_is)
 
   end-nothing : (a : CellEdge) (stays : Bool) (left : ℕ) (d : Cost) → a.to ≡ None → IsTight v t spot a stays left d
       → plus (move_cost stays a.hops) nothing ≡ spot.cost

@@ -1,5 +1,5 @@
 -- The better of two picks covers what either covers.
-use Rattle.std.proofs.Common.{◌≡◌, ℕ, ◌+◌, ◌*◌, ◌<◌, ◌≤◌, inl, inr, Bool, true, false, List, [], ◌∷◌, length, Option, Some, None, slice_get, refl, sym, ◌∙◌, ap, subst, arith}
+use Rattle.std.proofs.Common.{◌≡◌, ℕ, ◌+◌, ◌*◌, ◌<◌, ◌≤◌, inl, inr, Bool, true, false, ◌&&◌, List, [], ◌∷◌, length, Option, Some, None, slice_get, refl, sym, ◌∙◌, ap, subst, arith}
 use Rattle.std.specs.Prelude.{cond}
 use Rattle.std.specs.Option.{option_map}
 use Rattle.std.proofs.lemmas.Bool.{false≢true, cases_lt, false_from_ne_true}
@@ -8,19 +8,20 @@ use Rattle.list_pack.specs.declared.types.Shape.{Shape}
 use Rattle.list_pack.specs.declared.types.PathStep.{PathStep}
 use Rattle.list_pack.specs.Value.{LegsValue, KeepsLaws}
 use Rattle.list_pack.specs.Rooms.{room_behind}
+use Rattle.list_pack.specs.Costs.{room_to, bars}
 use Rattle.list_pack.specs.Least.{path_before, path_key}
 use Rattle.list_encoder.specs.declared.cells.Cell.{Cell}
 use Rattle.list_encoder.specs.declared.table.CellEdge.{CellEdge}
 use Rattle.list_encoder.specs.declared.picks.Pick.{Pick}
 use Rattle.list_encoder.specs.declared.picks.Spot.{Spot}
 use Rattle.list_encoder.specs.Cells.{cell_at}
-use Rattle.list_encoder.specs.Table.{Costs, IsCellEdge, AreInRange}
+use Rattle.list_encoder.specs.Table.{Costs, IsCellEdge, move_by, AreInRange}
 use Rattle.list_encoder.specs.Picks.{better_of, IsSpot, IsPick, IsPickOrNone, Covers, link_step, CoversMoves, CoversEdge, PicksMoves, PicksEdge, PicksEnds, PicksLegs, PicksFirst}
 use Rattle.list_pack.proofs.Orders.{lex-weak, lex-not-both}
 use Rattle.list_encoder.proofs.Celling.{some-same}
 use Rattle.list_encoder.proofs.Rooms.{behind-few}
 use Rattle.list_encoder.proofs.Tables.{to-range, link-shape}
-use Rattle.list_encoder.proofs.RelaxedRooms.{end-one, leg-one, leg-parts}
+use Rattle.list_encoder.proofs.RelaxedRooms.{end-one, leg-one, leg-parts, room-open}
 use Rattle.list_encoder.proofs.Relaxing.{no-end, end-place}
 
 -- of two picks the first in order
@@ -65,11 +66,11 @@ found-both v cells t spot (Some p) (Some q) h k = either-pick v cells t spot p q
 pub pick-range : (v : LegsValue) → KeepsLaws v → (cells : List Cell) (t : Costs) (spot : Spot) (link : CellEdge) (stays : Bool) (left : ℕ)
     → IsCellEdge v cells link
     → length t ≡ 8 * length cells → spot.room < 8
-    → room_behind stays (option_map v.shape spot.cell.via) spot.room (v.shape link.sid) ≡ Some left
+    → room_to v spot.cell.via spot.room (move_by link stays) ≡ Some left
     → AreInRange t link.to left
 pick-range v laws cells t spot link stays left is long few e =
     to-range v laws cells t is.cell link.sid link.hops left link.to long is.leads
-    (behind-few stays (option_map v.shape spot.cell.via) (v.shape link.sid) spot.room left (link-shape v laws cells link is) few e)
+    (behind-few v spot.cell.via spot.room (move_by link stays) left (link-shape v laws cells link is) few e)
 
 pub both-moves : (v : LegsValue) (cells : List Cell) (t : Costs) (spot : Spot) (link : CellEdge) (a b : Option Pick)
     → PicksMoves v cells t spot link true a
@@ -210,8 +211,6 @@ legs-picked v cells t spot count best h so =
 
 -- the room after a move, as it was asked for
 pub room-at : (v : LegsValue) (stays : Bool) (from : Option Shape) (next : Shape) (via : Option ℕ) (sid room : ℕ) (o p : Option ℕ)
-    → from ≡ option_map v.shape via → next ≡ v.shape sid → o ≡ room_behind stays from room next → o ≡ p
-    → room_behind stays (option_map v.shape via) room (v.shape sid) ≡ p
-room-at v stays from next via sid room o p e f h k =
-    sym (h ∙ ap (λ (s : Option Shape). room_behind stays s room next) e
-    ∙ ap (λ (s : Shape). room_behind stays (option_map v.shape via) room s) f) ∙ k
+    → from ≡ option_map v.shape via → next ≡ v.shape sid → (stays && bars v via sid) ≡ false → o ≡ room_behind stays from room next → o ≡ p
+    → room_to v via room (record { stays = stays; sid = sid }) ≡ p
+room-at v stays from next via sid room o p e f free h k = sym (h ∙ room-open v stays via sid room from next e f free) ∙ k

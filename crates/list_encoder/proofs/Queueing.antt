@@ -1,7 +1,6 @@
 -- The states of a position are settled one by one, from the least cost up.
 use Rattle.std.proofs.Common.{◌≡◌, ℕ, ◌+◌, ◌*◌, ◌/◌, ◌%◌, ◌<◌, ◌≤◌, inl, inr, Bool, true, false, List, [], length, set, Option, Some, None, slice_get, Contains, Vec, Global, refl, sym, ◌∙◌, ap, subst, arith, count_by}
 use Rattle.std.specs.Prelude.{not, cond}
-use Rattle.std.specs.Option.{option_map}
 use Rattle.std.specs.Ordering.{is_eq}
 use Rattle.std.specs.List.{list_any}
 use Rattle.std.specs.BTreeSet.{BTreeSet}
@@ -12,13 +11,12 @@ use Rattle.std.proofs.lemmas.List.Sums.{sum_by-set}
 use Rattle.std.proofs.lemmas.Option.{slice_get_within}
 use Rattle.list_pack.specs.declared.types.Cost.{Cost}
 use Rattle.list_pack.specs.Value.{LegsValue, KeepsLaws}
-use Rattle.list_pack.specs.Rooms.{room_behind}
-use Rattle.list_pack.specs.Costs.{plus, nothing, move_cost, Under}
+use Rattle.list_pack.specs.Costs.{plus, nothing, move_cost, room_to, Under}
 use Rattle.list_pack.proofs.PublicLaws.{under-none, under-itself, under-trans}
 use Rattle.list_encoder.specs.declared.cells.Cell.{Cell}
 use Rattle.list_encoder.specs.declared.table.CellEdge.{CellEdge}
 use Rattle.list_encoder.specs.declared.waiting.Waiting.{Waiting}
-use Rattle.list_encoder.specs.Table.{Costs, at, entry, rest_at, offer, IsSound}
+use Rattle.list_encoder.specs.Table.{Costs, at, entry, rest_at, offer, move_by, IsSound}
 use Rattle.list_encoder.specs.Waiting.{waiting_cmp, waiting_at, cost_of, Waits, is_done, IsOpen, IsFront}
 use Rattle.list_encoder.specs.Offers.{IsSettledAt, LeadInto, OffersAll}
 use Rattle.list_encoder.specs.Grouped.{Groups, IsIn}
@@ -100,7 +98,7 @@ module _ (v : LegsValue) (cells : List Cell) (groups : Groups) (t0 t : Costs) (w
 
     hold-first : (link : CellEdge) → Contains group.items link → (cell : Cell) (stays : Bool) (room : ℕ)
         → slice_get cells link.from ≡ Some cell
-        → room < 8 → room_behind stays (option_map v.shape cell.via) room (v.shape link.sid) ≡ Some (k.place % 8)
+        → room < 8 → room_to v cell.via room (move_by link stays) ≡ Some (k.place % 8)
         → Under (entry t1 link.from room) (offer stays link.hops (at t1 k.place))
     hold-first link among cell stays room here low leaves =
         let place = place_of group.items link among in
@@ -185,7 +183,7 @@ module _ (v : LegsValue) (laws : KeepsLaws v) (cells : List Cell) (groups : Grou
 
   hold-all : (to : ℕ) (link : CellEdge) → IsIn groups to link → (cell : Cell) (stays : Bool) (room left : ℕ)
       → slice_get cells link.from ≡ Some cell
-      → room < 8 → left < 8 → room_behind stays (option_map v.shape cell.via) room (v.shape link.sid) ≡ Some left → (o : Option Cost)
+      → room < 8 → left < 8 → room_to v cell.via room (move_by link stays) ≡ Some left → (o : Option Cost)
       → entry t to left ≡ o → Under (entry t link.from room) (offer stays link.hops (entry t to left))
   hold-all to link is cell stays room left here low few leaves None has =
       subst (λ (o : Option Cost). Under (entry t link.from room) (offer stays link.hops o)) (sym has) (under-none (entry t link.from
@@ -202,8 +200,7 @@ module _ (v : LegsValue) (laws : KeepsLaws v) (cells : List Cell) (groups : Grou
     past = so.past;
     holds = λ to link is cell stays room left here low leaves.
         let edge = edges to link is in
-        let few = behind-few stays (option_map v.shape cell.via) (v.shape link.sid) room left (link-shape v laws cells link edge.0) low
-        leaves in
+        let few = behind-few v cell.via room (move_by link stays) left (link-shape v laws cells link edge.0) low leaves in
         subst (λ (o : Option ℕ). Under (entry t link.from room) (offer stays link.hops (rest_at t o left))) (sym edge.1)
         (hold-all to link is cell stays room left here low few leaves (entry t to left) refl);
   }

@@ -1,20 +1,21 @@
 -- Lowering by a link room by room, and what holds of a link that is lowered.
-use Rattle.std.proofs.Common.{◌≡◌, ℕ, ◌+◌, ◌*◌, ◌<◌, ◌≤◌, inl, inr, Bool, true, false, ◌||◌, List, Option, Some, None, slice_get, sym, ◌∙◌, ap, subst, arith}
+use Rattle.std.proofs.Common.{◌≡◌, ℕ, ◌+◌, ◌*◌, ◌<◌, ◌≤◌, inl, inr, Bool, true, false, ◌||◌, ◌&&◌, if◌then◌else◌, List, Option, Some, None, slice_get, get_or, sym, ◌∙◌, ap, subst, arith}
 use Rattle.std.specs.Option.{option_map}
 use Rattle.std.proofs.lemmas.Bool.{cases_lt}
+use Rattle.std.proofs.lemmas.Option.{none-some, slice_get_within}
 use Rattle.list_pack.specs.declared.types.Cost.{Cost}
 use Rattle.list_pack.specs.declared.types.Leg.{Leg}
 use Rattle.list_pack.specs.declared.types.Shape.{Shape}
 use Rattle.list_pack.specs.Value.{LegsValue}
 use Rattle.list_pack.specs.Rooms.{room_behind}
-use Rattle.list_pack.specs.Costs.{nothing, move_cost, Under}
+use Rattle.list_pack.specs.Costs.{Move, nothing, move_cost, room_to, bars, Under}
 use Rattle.list_pack.proofs.PublicLaws.{under-itself, under-trans, under-plus}
 use Rattle.list_encoder.specs.declared.cells.Cell.{Cell}
 use Rattle.list_encoder.specs.declared.table.CellEdge.{CellEdge}
-use Rattle.list_encoder.specs.Cells.{cell_at}
-use Rattle.list_encoder.specs.Table.{Costs, at, entry, rest_at, offer, LeadsTo, IsCellEdge, EdgeHolds, Holds, RoomHolds, RoomRelaxed, RoomsRelaxed, Relaxed, LeavesRoom, IsShapeOf}
-use Rattle.list_encoder.proofs.Celling.{some-same}
-use Rattle.list_encoder.proofs.Tables.{passed-then}
+use Rattle.list_encoder.specs.Cells.{cell_at, IsCell, AreCells}
+use Rattle.list_encoder.specs.Table.{Costs, at, entry, rest_at, offer, LeadsTo, IsCellEdge, IsSound, EdgeHolds, Holds, RoomHolds, RoomRelaxed, RoomsRelaxed, Relaxed, LeavesRoom, IsFree, IsShapeOf, move_by}
+use Rattle.list_encoder.proofs.Celling.{some-same, cell-read}
+use Rattle.list_encoder.proofs.Tables.{kept-passed, passed-then}
 
 -- what is left after a link falls where the table does
 pub rest-falls : (before after : Costs) (to : Option ℕ) (left : ℕ) → ((i : ℕ) → Under (at after i) (at before i))
@@ -40,8 +41,8 @@ room-rooms v cells link stays room p t t1 x relaxed leaves =
       passed = relaxed.passed;
       holds = λ cell r left e l h f.
           let same : room ≡ r = omega (arith, l, h) in
-          let g : room_behind stays (option_map v.shape cell.via) room (v.shape link.sid) ≡ Some left =
-          ap (λ (k : ℕ). room_behind stays (option_map v.shape cell.via) k (v.shape link.sid)) same ∙ f in
+          let g : room_to v cell.via room (move_by link stays) ≡ Some left =
+          ap (λ (k : ℕ). room_to v cell.via k (move_by link stays)) same ∙ f in
           subst (λ (k : ℕ). Under (entry t1 link.from k) (offer stays link.hops (rest_at t link.to left))) same
           (room-holds (entry t1 link.from room) stays link t p left (leaves cell e ∙ g) relaxed.holds);
     }
@@ -85,7 +86,7 @@ ways-join v cells link t t1 t2 x y opened stayed =
     }
   where
     holds : (cell : Cell) (stays : Bool) (r left : ℕ) → slice_get cells link.from ≡ Some cell → r < 8
-        → room_behind stays (option_map v.shape cell.via) r (v.shape link.sid) ≡ Some left
+        → room_to v cell.via r (move_by link stays) ≡ Some left
         → Under (entry t2 link.from r) (offer stays link.hops (rest_at t link.to left))
     holds cell true r left e h f =
         under-trans (entry t2 link.from r) (offer true link.hops (rest_at t1 link.to left)) (offer true link.hops (rest_at t link.to left))
@@ -95,12 +96,66 @@ ways-join v cells link t t1 t2 x y opened stayed =
         under-trans (entry t2 link.from r) (entry t1 link.from r) (offer false link.hops (rest_at t link.to left)) (stayed.passed.falls _)
         (opened.holds cell r left e (omega arith) h f)
 
+-- the room after a move that isn't barred
+pub room-open : (v : LegsValue) (stays : Bool) (via : Option ℕ) (sid room : ℕ) (from : Option Shape) (next : Shape)
+    → from ≡ option_map v.shape via → next ≡ v.shape sid → (stays && bars v via sid) ≡ false
+    → room_behind stays from room next ≡ room_to v via room (record { stays = stays; sid = sid })
+room-open v stays via sid room from next is_from is_next free =
+    ap (λ (s : Option Shape). room_behind stays s room next) is_from
+    ∙ ap (λ (s : Shape). room_behind stays (option_map v.shape via) room s) is_next
+    ∙ sym (ap (λ (b : Bool). if b then None else room_behind stays (option_map v.shape via) room (v.shape sid)) free)
+
 pub leaves : (v : LegsValue) (cells : List Cell) (link : CellEdge) (stays : Bool) (room : ℕ) (from : Option Shape) (next : Shape) (p : Option ℕ)
-    → IsShapeOf v cells link.from from → next ≡ v.shape link.sid → p ≡ room_behind stays from room next
+    → IsShapeOf v cells link.from from → next ≡ v.shape link.sid → IsFree v cells link stays → p ≡ room_behind stays from room next
     → LeavesRoom v cells link stays room p
-leaves v cells link stays room from next p is_from is_next e cell here =
-    e ∙ ap (λ (s : Option Shape). room_behind stays s room next) (is_from cell here)
-    ∙ ap (λ (s : Shape). room_behind stays (option_map v.shape cell.via) room s) is_next
+leaves v cells link stays room from next p is_from is_next free e cell here =
+    e ∙ room-open v stays cell.via link.sid room from next (is_from cell here) is_next (free cell here)
+
+-- a link's first cell is one
+pub link-cell : (v : LegsValue) (cells : List Cell) (link : CellEdge) → AreCells v cells → IsCellEdge v cells link
+    → IsCell v (get_or cells link.from (record { position = 0; via = None }))
+link-cell v cells link are is =
+    are.real link.from (get_or cells link.from (record { position = 0; via = None }))
+    (cell-read cells link.from (slice_get_within cells link.from is.cell is.from))
+
+-- whether a link is barred is told by its first cell
+barred-is : (v : LegsValue) (cells : List Cell) (link : CellEdge) (stays told : Bool) → IsCellEdge v cells link
+    → told ≡ (stays && bars v (get_or cells link.from (record { position = 0; via = None })).via link.sid)
+    → (cell : Cell) → slice_get cells link.from ≡ Some cell → (stays && bars v cell.via link.sid) ≡ told
+barred-is v cells link stays told is e cell here =
+    let read : slice_get cells link.from ≡ Some (get_or cells link.from (record { position = 0; via = None })) =
+    cell-read cells link.from (slice_get_within cells link.from is.cell is.from) in
+    let same : cell ≡ get_or cells link.from (record { position = 0; via = None }) =
+    some-same cell (get_or cells link.from (record { position = 0; via = None })) (sym here ∙ read) in
+    ap (λ (c : Cell). stays && bars v c.via link.sid) same ∙ sym e
+
+pub link-free : (v : LegsValue) (cells : List Cell) (link : CellEdge) (stays told : Bool) → IsCellEdge v cells link
+    → told ≡ (stays && bars v (get_or cells link.from (record { position = 0; via = None })).via link.sid) → told ≡ false
+    → IsFree v cells link stays
+link-free v cells link stays told is e free cell here = barred-is v cells link stays told is e cell here ∙ free
+
+-- after a barred move there is no room
+pub barred-none : (v : LegsValue) (via : Option ℕ) (room : ℕ) (m : Move) (left : ℕ) → (m.stays && bars v via m.sid) ≡ true
+    → room_to v via room m ≡ Some left → ⊥
+barred-none v via room m left barred h =
+    none-some left (sym (ap (λ (b : Bool). if b then None else room_behind m.stays (option_map v.shape via) room (v.shape m.sid)) barred) ∙ h)
+
+pub link-barred : (v : LegsValue) (cells : List Cell) (link : CellEdge) (stays told : Bool) → IsCellEdge v cells link
+    → told ≡ (stays && bars v (get_or cells link.from (record { position = 0; via = None })).via link.sid) → told ≡ true
+    → (cell : Cell) (room left : ℕ) → slice_get cells link.from ≡ Some cell → room_to v cell.via room (move_by link stays) ≡ Some left → ⊥
+link-barred v cells link stays told is e barred cell room left here h =
+    barred-none v cell.via room (move_by link stays) left (barred-is v cells link stays told is e cell here ∙ barred) h
+
+-- a barred link lowers nothing
+pub rooms-barred : (v : LegsValue) (cells : List Cell) (link : CellEdge) (stays told : Bool) (low high : ℕ) (t : Costs) → IsCellEdge v cells link
+    → told ≡ (stays && bars v (get_or cells link.from (record { position = 0; via = None })).via link.sid) → told ≡ true → IsSound v cells t
+    → RoomsRelaxed v cells link stays low high t t false
+rooms-barred v cells link stays told low high t is e barred sound =
+    record {
+      sound = sound;
+      passed = kept-passed (link.from + 1) t;
+      holds = λ cell room left here l h leaves. absurd (link-barred v cells link stays told is e barred cell room left here leaves);
+    }
 
 -- what holds of a link between two tables holds in a later one that leaves what is after the link as it was
 pub holds-later : (v : LegsValue) (cells : List Cell) (link : CellEdge) (a b c : Costs) → EdgeHolds v cells link a b

@@ -1,14 +1,16 @@
 -- After a link there is less room than in front of it, or a container was opened; and never more than seven.
 use Rattle.std.proofs.Common.{◌≡◌, ℕ, zero, suc, ◌+◌, ◌-◌, ◌*◌, ◌/◌, ◌<◌, ◌≤◌, Bool, true, false, ◌&&◌, Option, Some, None, refl, ◌∙◌, ap, subst, arith, nat_le}
+use Rattle.std.specs.Option.{option_map}
 use Rattle.std.proofs.lemmas.Bool.{and_parts, leb-true}
 use Rattle.std.proofs.lemmas.Option.{cond_some, none-some}
 use Rattle.std.proofs.lemmas.Grind.{common_steps}
 use Rattle.srv6_rules.specs.declared.sid.Csid.{Csid}
 use Rattle.srv6_rules.specs.declared.sid.Csid.TheVariants.{Plain, Next, Replace}
 use Rattle.list_pack.specs.declared.types.Shape.{Shape}
-use Rattle.list_pack.specs.Value.{units_of, same_block, is_compressed, IsShape, IsInBlock}
+use Rattle.list_pack.specs.Value.{LegsValue, units_of, same_block, is_compressed, IsShape, IsInBlock}
 use Rattle.list_pack.specs.Rooms.{full_room_by, packed_room_by, kept_room, stay_room_by, new_room_by, room_behind, packed_room, full_room, top_room_by}
-use Rattle.list_pack.proofs.PublicLaws.{both-blocks}
+use Rattle.list_pack.specs.Costs.{Move, room_to}
+use Rattle.list_pack.proofs.PublicLaws.{both-blocks, room-kept}
 
 next-few : (lbl len units : ℕ) → len ≡ lbl + 16 * units → 1 ≤ units → (128 - len) / 16 ≤ 7
 next-few lbl len units e h = omega arith
@@ -67,19 +69,35 @@ opens-few s next zero q is_n Replace r =
     subst (λ (x : ℕ). x ≤ 7) both.1 (packed-few next.csid next is_n refl)
 opens-few s next (suc room) q is_n Replace r = some-few next q is_n r
 
-pub stay-less : (from : Option Shape) (next : Shape) (room q : ℕ) → IsShape next → room_behind true from room next ≡ Some q → q < room
-stay-less None next room q is_n r = absurd (none-some q r)
-stay-less (Some s) next room q is_n r = stays-less s next room q is_n s.csid r
+stayed-less : (from : Option Shape) (next : Shape) (room q : ℕ) → IsShape next → room_behind true from room next ≡ Some q → q < room
+stayed-less None next room q is_n r = absurd (none-some q r)
+stayed-less (Some s) next room q is_n r = stays-less s next room q is_n s.csid r
 
-pub open-few : (from : Option Shape) (next : Shape) (room q : ℕ) → IsShape next → room_behind false from room next ≡ Some q → q ≤ 7
-open-few None next room q is_n r = some-few next q is_n r
-open-few (Some s) next room q is_n r = opens-few s next room q is_n s.csid r
+opened-few : (from : Option Shape) (next : Shape) (room q : ℕ) → IsShape next → room_behind false from room next ≡ Some q → q ≤ 7
+opened-few None next room q is_n r = some-few next q is_n r
+opened-few (Some s) next room q is_n r = opens-few s next room q is_n s.csid r
 
-pub behind-few : (stays : Bool) (from : Option Shape) (next : Shape) (room q : ℕ) → IsShape next → room < 8
+left-few : (stays : Bool) (from : Option Shape) (next : Shape) (room q : ℕ) → IsShape next → room < 8
     → room_behind stays from room next ≡ Some q
     → q < 8
-behind-few true from next room q is_n h r = let less = stay-less from next room q is_n r in omega arith
-behind-few false from next room q is_n h r = let few = open-few from next room q is_n r in omega arith
+left-few true from next room q is_n h r = let less = stayed-less from next room q is_n r in omega arith
+left-few false from next room q is_n h r = let few = opened-few from next room q is_n r in omega arith
+
+-- the same of moves
+pub stay-less : (v : LegsValue) (via : Option ℕ) (room sid q : ℕ) → IsShape (v.shape sid)
+    → room_to v via room (record { stays = true; sid = sid }) ≡ Some q → q < room
+stay-less v via room sid q is_n r =
+    stayed-less (option_map v.shape via) (v.shape sid) room q is_n (room-kept v via room (record { stays = true; sid = sid }) q r)
+
+pub open-few : (v : LegsValue) (via : Option ℕ) (room sid q : ℕ) → IsShape (v.shape sid)
+    → room_to v via room (record { stays = false; sid = sid }) ≡ Some q → q ≤ 7
+open-few v via room sid q is_n r = opened-few (option_map v.shape via) (v.shape sid) room q is_n r
+
+pub behind-few : (v : LegsValue) (via : Option ℕ) (room : ℕ) (m : Move) (q : ℕ) → IsShape (v.shape m.sid) → room < 8
+    → room_to v via room m ≡ Some q
+    → q < 8
+behind-few v via room m q is_n h r =
+    left-few m.stays (option_map v.shape via) (v.shape m.sid) room q is_n h (room-kept v via room m q r)
 
 -- no SID leaves more than seven
 pub top-seven : (s : Shape) → IsShape s → (c : Csid) → s.csid ≡ c → top_room_by c s ≤ 7

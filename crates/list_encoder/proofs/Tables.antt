@@ -1,7 +1,6 @@
 -- Costs of a table lowered one at a time: what stays so, and what falls.
 use Rattle.std.proofs.Common.{◌≡◌, ℕ, ◌+◌, ◌*◌, ◌/◌, ◌%◌, ◌^◌, ◌<◌, ◌≤◌, inl, inr, Bool, true, false, ◌||◌, List, [], ◌∷◌, length, set, Option, Some, None, slice_get, refl, sym, ◌∙◌, ap, subst, arith, get_or-set_same, get_or-set_other}
 use Rattle.std.specs.Prelude.{cond, is_some}
-use Rattle.std.specs.Option.{option_map}
 use Rattle.std.proofs.lemmas.Bool.{false≢true, true≢false, cases_eq, cases_lt}
 use Rattle.std.proofs.lemmas.List.{length-set}
 use Rattle.std.proofs.lemmas.List.Sums.{sum_by-set, count_by-le-length}
@@ -9,15 +8,14 @@ use Rattle.std.proofs.lemmas.Option.{slice_get_within}
 use Rattle.list_pack.specs.declared.types.Cost.{Cost}
 use Rattle.list_pack.specs.declared.types.Leg.{Leg}
 use Rattle.list_pack.specs.Value.{LegsValue, KeepsLaws, IsShape, IsSid}
-use Rattle.list_pack.specs.Rooms.{room_behind}
-use Rattle.list_pack.specs.Costs.{Move, plus, nothing, move_cost, Under, edge_by, last_of}
+use Rattle.list_pack.specs.Costs.{Move, plus, nothing, move_cost, room_to, Under, edge_by, last_of}
 use Rattle.list_pack.specs.Least.{Attains}
 use Rattle.list_pack.proofs.PublicLaws.{under-itself, under-trans, edge-made, last-made, attained}
 use Rattle.list_encoder.specs.declared.cells.Cell.{Cell}
 use Rattle.list_encoder.specs.declared.table.CellEdge.{CellEdge}
 use Rattle.list_encoder.specs.declared.cells.TheConstants.{MAX_CELLS}
 use Rattle.list_encoder.specs.Cells.{cell_at, state_at, AreCells}
-use Rattle.list_encoder.specs.Table.{Costs, at, entry, rest_at, offer, LeadsTo, IsCellEdge, filled, IsBounded, IsSound, Improves, IsLowered, IsKept, Lowers, rank, total, Passed, RoomHolds, RoomRelaxed, LeavesRoom, HasFewContainers, AreInRange}
+use Rattle.list_encoder.specs.Table.{Costs, at, entry, rest_at, offer, LeadsTo, IsCellEdge, move_by, filled, IsBounded, IsSound, Improves, IsLowered, IsKept, Lowers, rank, total, Passed, RoomHolds, RoomRelaxed, LeavesRoom, HasFewContainers, AreInRange}
 use Rattle.list_encoder.proofs.Rooms.{stay-less, open-few, behind-few}
 
 -- a cost that is below another, or of few containers and hops
@@ -186,18 +184,18 @@ module _ (v : LegsValue) (laws : KeepsLaws v) (cells : List Cell) where
 
   bounded-behind : (n left room hops : ℕ) (stays : Bool) (d : Cost) (o : Option ℕ) (link : CellEdge) → IsCellEdge v cells link → link.hops ≡ hops
       → room < 8
-      → room_behind stays (option_map v.shape o) room (v.shape link.sid) ≡ Some left → IsBounded n left d
+      → room_to v o room (move_by link stays) ≡ Some left → IsBounded n left d
       → IsBounded (n + 1) room (plus (move_cost stays hops) d)
   bounded-behind n left room hops true d o link is e h r b =
-      bounded-stays n left room hops d b (stay-less (option_map v.shape o) (v.shape link.sid) room left (link-shape link is) r)
+      bounded-stays n left room hops d b (stay-less v o room link.sid left (link-shape link is) r)
       (subst (λ (x : ℕ). x ≤ 1000) e (link-hops link is))
   bounded-behind n left room hops false d o link is e h r b =
-      bounded-opens n left room hops d b (open-few (option_map v.shape o) (v.shape link.sid) room left (link-shape link is) r)
+      bounded-opens n left room hops d b (open-few v o room link.sid left (link-shape link is) r)
       (subst (λ (x : ℕ). x ≤ 1000) e (link-hops link is))
 
   -- after a link, what is left is that of a path, and so it is in front
   link-attains : (t : Costs) (cell : Cell) (sid hops : ℕ) (to : Option ℕ) (stays : Bool) (room left : ℕ) (d : Cost) → IsSound v cells t
-      → LeadsTo v cells cell sid hops to → left < 8 → room_behind stays (option_map v.shape cell.via) room (v.shape sid) ≡ Some left
+      → LeadsTo v cells cell sid hops to → left < 8 → room_to v cell.via room (record { stays = stays; sid = sid }) ≡ Some left
       → rest_at t to left ≡ Some d → Attains v (state_at cell room) (Some (plus (move_cost stays hops) d))
   link-attains t cell sid hops None stays room left d sound leads h r e =
       let m : Move = record { stays = stays; sid = sid } in
@@ -301,11 +299,11 @@ module _ (v : LegsValue) (laws : KeepsLaws v) (cells : List Cell) where
   -- lowering a room of a link's first cell by what is left after the link
   module _ (are : AreCells v cells) (t : Costs) (link : CellEdge) (stays : Bool) (room : ℕ) (o : Option ℕ) (left : ℕ) (is : IsCellEdge v cells link)
       (sound : IsSound v cells t) (low : room < 8) (leaves : LeavesRoom v cells link stays room o) (some : o ≡ Some left) where
-    pub room-is : room_behind stays (option_map v.shape is.cell.via) room (v.shape link.sid) ≡ Some left
+    pub room-is : room_to v is.cell.via room (move_by link stays) ≡ Some left
     room-is = sym (leaves is.cell is.from) ∙ some
 
     pub left-few : left < 8
-    left-few = behind-few stays (option_map v.shape is.cell.via) (v.shape link.sid) room left (link-shape link is) low room-is
+    left-few = behind-few v is.cell.via room (move_by link stays) left (link-shape link is) low room-is
 
     pub left-range : AreInRange t link.to left
     left-range = link-range t link left sound is left-few

@@ -1,20 +1,18 @@
 -- The first least path, move by move.
 use Rattle.std.proofs.Common.{◌≡◌, ℕ, ◌+◌, ◌*◌, ◌<◌, Bool, true, false, List, [], ◌∷◌, ◌++◌, map, length, Option, Some, None, slice_get, refl, sym, ◌∙◌, ap, subst, arith, append_assoc}
-use Rattle.std.specs.Option.{option_map}
 use Rattle.std.proofs.lemmas.Option.{none-some, slice_get_within}
 use Rattle.std.proofs.lemmas.List.{map-append}
 use Rattle.v6_addr.specs.Address.{PrefixValue}
 use Rattle.list_pack.specs.declared.types.Cost.{Cost}
 use Rattle.list_pack.specs.declared.types.PathStep.{PathStep}
 use Rattle.list_pack.specs.Value.{LegsValue, KeepsLaws}
-use Rattle.list_pack.specs.Rooms.{room_behind}
-use Rattle.list_pack.specs.Costs.{Move, move_cost, cost_of}
+use Rattle.list_pack.specs.Costs.{Move, move_cost, room_to, cost_of}
 use Rattle.list_pack.specs.Least.{Attains, IsFirstLeast, IsPath, step_of}
 use Rattle.list_encoder.specs.declared.cells.Cell.{Cell}
 use Rattle.list_encoder.specs.declared.picks.Pick.{Pick}
 use Rattle.list_encoder.specs.declared.picks.Spot.{Spot}
 use Rattle.list_encoder.specs.Cells.{cell_at, start_cell, state_at, AreCells}
-use Rattle.list_encoder.specs.Table.{Costs, rest_at, AreLeast}
+use Rattle.list_encoder.specs.Table.{Costs, rest_at, AreLeast, move_by}
 use Rattle.list_encoder.specs.Picks.{IsSpot, PicksFirst}
 use Rattle.list_encoder.proofs.Rooms.{behind-few, stay-less, open-few}
 use Rattle.list_encoder.proofs.Tables.{link-shape}
@@ -50,7 +48,7 @@ module _ (v : LegsValue) (laws : KeepsLaws v) (cells : List Cell) (are : AreCell
   module _ (pick : Pick) (picks : PicksFirst v cells t spot (Some pick)) where
     room-few : pick.room < 8
     room-few =
-        behind-few pick.step.stays (option_map v.shape spot.cell.via) (v.shape picks.found.link.sid) spot.room pick.room
+        behind-few v spot.cell.via spot.room (move_by picks.found.link pick.step.stays) pick.room
         (link-shape v laws cells picks.found.link picks.found.is_link) is.few picks.found.tight.room_is
 
     step-is : pick.step ≡ step_of v (pick_move pick picks.found.link.sid)
@@ -127,15 +125,15 @@ module _ (v : LegsValue) (laws : KeepsLaws v) (cells : List Cell) (are : AreCell
     pub walk-falls : 8 * pick.rest.containers + pick.room < 8 * spot.cost.containers + spot.room
     walk-falls = by pick.step.stays picks.found.tight.room_is (ap (λ (c : Cost). c.containers) picks.found.tight.cost_is)
       where
-        by : (stays : Bool) → room_behind stays (option_map v.shape spot.cell.via) spot.room (v.shape picks.found.link.sid) ≡ Some pick.room
+        by : (stays : Bool) → room_to v spot.cell.via spot.room (move_by picks.found.link stays) ≡ Some pick.room
             → (move_cost stays picks.found.link.hops).containers + pick.rest.containers ≡ spot.cost.containers
             → 8 * pick.rest.containers + pick.room < 8 * spot.cost.containers + spot.room
         by true r e =
-            let less = stay-less (option_map v.shape spot.cell.via) (v.shape picks.found.link.sid) spot.room pick.room
+            let less = stay-less v spot.cell.via spot.room picks.found.link.sid pick.room
             (link-shape v laws cells picks.found.link picks.found.is_link) r in
             omega (arith, less, e)
         by false r e =
-            let few = open-few (option_map v.shape spot.cell.via) (v.shape picks.found.link.sid) spot.room pick.room
+            let few = open-few v spot.cell.via spot.room picks.found.link.sid pick.room
             (link-shape v laws cells picks.found.link picks.found.is_link) r in
             omega (arith, few, e)
 

@@ -1,16 +1,14 @@
 -- What a settled state offers to those in front of it.
 use Rattle.std.specs.Prelude.{◌≡◌, ℕ, ◌+◌, ◌*◌, ◌<◌, ◌≤◌, Bool, true, false, List, length, slice_get, Option, Some, None, Contains}
-use Rattle.std.specs.Option.{option_map}
 use Rattle.std.specs.BTreeSet.{BTreeSet}
 use Rattle.list_pack.specs.declared.types.Cost.{Cost}
 use Rattle.list_pack.specs.Value.{LegsValue}
-use Rattle.list_pack.specs.Rooms.{room_behind}
-use Rattle.list_pack.specs.Costs.{plus, move_cost, Under}
+use Rattle.list_pack.specs.Costs.{plus, move_cost, room_to, Under}
 use Rattle.list_encoder.specs.declared.cells.Cell.{Cell}
 use Rattle.list_encoder.specs.declared.table.CellEdge.{CellEdge}
 use Rattle.list_encoder.specs.declared.waiting.Waiting.{Waiting}
 use Rattle.list_encoder.specs.declared.offers.Offer.{Offer}
-use Rattle.list_encoder.specs.Table.{Costs, at, entry, rest_at, IsCellEdge, IsSound}
+use Rattle.list_encoder.specs.Table.{Costs, at, entry, rest_at, IsCellEdge, move_by, IsSound}
 use Rattle.list_encoder.specs.Waiting.{is_done, IsFront}
 
 -- the state that an edge leads to, with so much room, is settled; the end always is
@@ -51,7 +49,7 @@ pub record OffersRoom (v : LegsValue) (cells : List Cell) (offer : Offer) (room 
 abbrev pub LeavesIt : LegsValue → List Cell → Offer → Bool → ℕ → Type 0
 LeavesIt v cells offer stays room =
     (cell : Cell) × (slice_get cells offer.link.from ≡ Some cell)
-    × (room_behind stays (option_map v.shape cell.via) room (v.shape offer.link.sid) ≡ Some offer.left)
+    × (room_to v cell.via room (move_by offer.link stays) ≡ Some offer.left)
 
 -- the first rooms
 pub record OffersWay (v : LegsValue) (cells : List Cell) (offer : Offer) (rooms : ℕ) (before : Costs) (was : List Bool) (after : Costs)

@@ -1,17 +1,15 @@
 -- The first tight move from a state.
 use Rattle.std.specs.Prelude.{◌≡◌, ℕ, ◌+◌, ◌<◌, Bool, false, ◌==◌, ◌&&◌, if◌then◌else◌, List, [], ◌∷◌, slice_get, Option, Some, None}
-use Rattle.std.specs.Option.{option_map}
 use Rattle.list_pack.specs.declared.types.Cost.{Cost}
 use Rattle.list_pack.specs.declared.types.PathStep.{PathStep}
 use Rattle.list_pack.specs.Value.{LegsValue}
-use Rattle.list_pack.specs.Rooms.{room_behind}
-use Rattle.list_pack.specs.Costs.{plus, move_cost}
+use Rattle.list_pack.specs.Costs.{plus, move_cost, room_to}
 use Rattle.list_pack.specs.Least.{path_before}
 use Rattle.list_encoder.specs.declared.cells.Cell.{Cell}
 use Rattle.list_encoder.specs.declared.table.CellEdge.{CellEdge}
 use Rattle.list_encoder.specs.declared.picks.Pick.{Pick}
 use Rattle.list_encoder.specs.declared.picks.Spot.{Spot}
-use Rattle.list_encoder.specs.Table.{Costs, entry, rest_at, IsCellEdge}
+use Rattle.list_encoder.specs.Table.{Costs, entry, rest_at, IsCellEdge, move_by}
 
 -- where a tight move is taken, the one that comes first
 abbrev pub better_of : Option Pick → Option Pick → Option Pick
@@ -30,7 +28,7 @@ pub record IsSpot (cells : List Cell) (t : Costs) (spot : Spot) : Type 0 where
 
 -- a move by a link is tight: its cost with what is left after it is what is left in front of it
 pub record IsTight (v : LegsValue) (t : Costs) (spot : Spot) (link : CellEdge) (stays : Bool) (left : ℕ) (rest : Cost) : Type 0 where
-  pub room_is : room_behind stays (option_map v.shape spot.cell.via) spot.room (v.shape link.sid) ≡ Some left
+  pub room_is : room_to v spot.cell.via spot.room (move_by link stays) ≡ Some left
   pub rest_is : rest_at t link.to left ≡ Some rest
   pub cost_is : plus (move_cost stays link.hops) rest ≡ spot.cost
 

@@ -1,15 +1,13 @@
 -- The states that wait are settled, from the least cost up.
 use Rattle.std.specs.Prelude.{◌≡◌, ℕ, ◌+◌, ◌*◌, ◌<◌, ◌≤◌, Bool, true, List, length, slice_get, Some}
-use Rattle.std.specs.Option.{option_map}
 use Rattle.std.specs.BTreeSet.{BTreeSet}
 use Rattle.list_pack.specs.declared.types.Cost.{Cost}
 use Rattle.list_pack.specs.Value.{LegsValue}
-use Rattle.list_pack.specs.Rooms.{room_behind}
-use Rattle.list_pack.specs.Costs.{Under}
+use Rattle.list_pack.specs.Costs.{room_to, Under}
 use Rattle.list_encoder.specs.declared.cells.Cell.{Cell}
 use Rattle.list_encoder.specs.declared.table.CellEdge.{CellEdge}
 use Rattle.list_encoder.specs.declared.waiting.Waiting.{Waiting}
-use Rattle.list_encoder.specs.Table.{Costs, at, entry, offer, IsCellEdge, IsSound, Holds}
+use Rattle.list_encoder.specs.Table.{Costs, at, entry, offer, IsCellEdge, move_by, IsSound, Holds}
 use Rattle.list_encoder.specs.Waiting.{is_done, IsFront}
 use Rattle.list_encoder.specs.Grouped.{Groups, IsIn}
 
@@ -22,7 +20,7 @@ LeadToCells v cells groups =
 abbrev pub HoldsDone : LegsValue → List Cell → Costs → List Bool → CellEdge → ℕ → Type 0
 HoldsDone v cells t done link to =
     (cell : Cell) (stays : Bool) (room left : ℕ) → slice_get cells link.from ≡ Some cell → room < 8 → left < 8
-    → room_behind stays (option_map v.shape cell.via) room (v.shape link.sid) ≡ Some left → is_done done (8 * to + left) ≡ true
+    → room_to v cell.via room (move_by link stays) ≡ Some left → is_done done (8 * to + left) ≡ true
     → Under (entry t link.from room) (offer stays link.hops (entry t to left))
 
 -- so far the edges into the settled states hold

@@ -1,11 +1,10 @@
 -- A table of costs, eight rooms to a cell, and what is done to it.
-use Rattle.std.specs.Prelude.{◌≡◌, ℕ, ◌+◌, ◌*◌, ◌<◌, ◌≤◌, Bool, true, false, List, length, slice_get, slice_index_or, slice_set, nat_lt, sum_by, count_by, Option, Some, None, is_some, Contains, MatchBool}
+use Rattle.std.specs.Prelude.{◌≡◌, ℕ, ◌+◌, ◌*◌, ◌<◌, ◌≤◌, Bool, true, false, ◌&&◌, List, length, slice_get, slice_index_or, slice_set, nat_lt, sum_by, count_by, Option, Some, None, is_some, Contains, MatchBool}
 use Rattle.std.specs.Option.{option_map}
 use Rattle.list_pack.specs.declared.types.Cost.{Cost}
 use Rattle.list_pack.specs.declared.types.Shape.{Shape}
 use Rattle.list_pack.specs.Value.{LegsValue}
-use Rattle.list_pack.specs.Rooms.{room_behind}
-use Rattle.list_pack.specs.Costs.{Below, plus, nothing, move_cost, Under}
+use Rattle.list_pack.specs.Costs.{Move, Below, plus, nothing, move_cost, room_to, bars, Under}
 use Rattle.list_pack.specs.Least.{Attains, IsLeast}
 use Rattle.list_encoder.specs.declared.cells.Cell.{Cell}
 use Rattle.list_encoder.specs.declared.table.CellEdge.{CellEdge}
@@ -40,6 +39,10 @@ pub record IsCellEdge (v : LegsValue) (cells : List Cell) (link : CellEdge) : Ty
   pub cell : Cell
   pub from : slice_get cells link.from ≡ Some cell
   pub leads : LeadsTo v cells cell link.sid link.hops link.to
+
+-- a link as a move, which stays in the container or opens one
+abbrev pub move_by : CellEdge → Bool → Move
+move_by link stays = record { stays = stays; sid = link.sid }
 
 -- how many entries have a cost
 abbrev pub filled : Costs → ℕ
@@ -92,7 +95,7 @@ pub record Passed (cell : ℕ) (before after : Costs) (changed : Bool) : Type 0 
 abbrev pub EdgeHolds : LegsValue → List Cell → CellEdge → Costs → Costs → Type 0
 EdgeHolds v cells link before after =
     (cell : Cell) (stays : Bool) (room left : ℕ) → slice_get cells link.from ≡ Some cell → room < 8
-    → room_behind stays (option_map v.shape cell.via) room (v.shape link.sid) ≡ Some left
+    → room_to v cell.via room (move_by link stays) ≡ Some left
     → Under (entry after link.from room) (offer stays link.hops (rest_at before link.to left))
 
 abbrev pub Holds : LegsValue → List Cell → Costs → CellEdge → Type 0
@@ -121,7 +124,7 @@ pub record RoomsRelaxed (v : LegsValue) (cells : List Cell) (link : CellEdge) (s
   pub sound : IsSound v cells after
   pub passed : Passed (link.from + 1) before after changed
   pub holds : (cell : Cell) (room left : ℕ) → slice_get cells link.from ≡ Some cell → low ≤ room → room < high
-      → room_behind stays (option_map v.shape cell.via) room (v.shape link.sid) ≡ Some left
+      → room_to v cell.via room (move_by link stays) ≡ Some left
       → Under (entry after link.from room) (offer stays link.hops (rest_at before link.to left))
 
 -- all links from a cell on hold
@@ -148,7 +151,11 @@ AreInRange t (Some cell) room = 8 * cell + room < length t
 -- the room after a link's SID, from a room after its first cell's
 abbrev pub LeavesRoom : LegsValue → List Cell → CellEdge → Bool → ℕ → Option ℕ → Type 0
 LeavesRoom v cells link stays room left =
-    (cell : Cell) → slice_get cells link.from ≡ Some cell → left ≡ room_behind stays (option_map v.shape cell.via) room (v.shape link.sid)
+    (cell : Cell) → slice_get cells link.from ≡ Some cell → left ≡ room_to v cell.via room (move_by link stays)
+
+-- the SID of a link may come after its first cell's, in its container or in a new one, as far as the SIDs nested in that one go
+abbrev pub IsFree : LegsValue → List Cell → CellEdge → Bool → Type 0
+IsFree v cells link stays = (cell : Cell) → slice_get cells link.from ≡ Some cell → (stays && bars v cell.via link.sid) ≡ false
 
 -- the shape of a cell's SID
 abbrev pub IsShapeOf : LegsValue → List Cell → ℕ → Option Shape → Type 0

@@ -1,7 +1,9 @@
 //! The cells of a table of costs: the start, and the SIDs of all positions.
 
-ghost use Rattle.std.specs.Prelude.{◌≡◌, ◌+◌, ◌++◌, ◌≤◌, ◌<◌, map, Some, OnOk, IfOk};
+ghost use Rattle.std.specs.Prelude.{◌≡◌, ◌+◌, ◌++◌, ◌≤◌, ◌<◌, ◌&&◌, map, Some, OnOk, IfOk};
 ghost use Rattle.std.specs.Option.{option_map};
+ghost use Rattle.list_pack.specs.Value.{IsSid};
+ghost use Rattle.list_pack.specs.Costs.{bars};
 ghost use Rattle.list_encoder.specs.Cells.{AreCells, IsFirst, IsCell, cell_at, top_at};
 
 use base::NoMemory;
@@ -74,6 +76,19 @@ pub fn shape_of<L: Legs>(legs: &L, cell: Cell) -> Option<Shape>
     match cell.via {
         None => None,
         Some(n) => Some(legs.shape(n)),
+    }
+}
+
+/// Whether a move is barred: it would stay in the container of a cell's SID, after which its own may
+/// not come there. (own rule)
+pub fn is_barred<L: Legs>(legs: &L, cell: Cell, stays: bool, sid: u32) -> bool
+    requires cell { IsCell (L.seen legs.now) cell }
+    requires sid { IsSid (L.seen legs.now) sid }
+    ensures { result ≡ (stays && bars (L.seen legs.now) cell.via sid) }
+{
+    match cell.via {
+        None => false,
+        Some(n) => stays && !legs.stays(n, sid),
     }
 }
 

@@ -5,7 +5,7 @@ ghost use Rattle.list_pack.specs.Value.{KeepsLaws};
 ghost use Rattle.list_encoder.specs.Cells.{AreCells};
 ghost use Rattle.list_encoder.specs.Table as tables;
 
-use crate::cells::{Cell, shape_of};
+use crate::cells::{Cell, is_barred, shape_of};
 use crate::table::{CellEdge, either, lower, rest_at};
 use base::NoMemory;
 use list_pack::{Cost, Legs, Shape, move_cost, plus, room_behind};
@@ -40,8 +40,8 @@ fn relax_room<L: Legs>(
     lower(table, 8 * link.from + room as usize, cost)
 }
 
-/// the rooms of a link's first cell are lowered by the link where it stays in the container; where
-/// it can't stay with the most room that there may be, it can't with less
+/// the rooms of a link's first cell are lowered by the link where it stays in the container and is
+/// not barred; where it can't stay with the most room that there may be, it can't with less
 fn relax_stays<L: Legs>(
     legs: &L,
     cells: &[Cell],
@@ -60,6 +60,9 @@ fn relax_stays<L: Legs>(
         result }
 {
     if room_behind(true, from, 7, next).is_none() {
+        return false;
+    }
+    if is_barred(legs, cells[link.from], true, link.sid) {
         return false;
     }
     let mut changed = false;

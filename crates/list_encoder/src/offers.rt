@@ -7,7 +7,7 @@ ghost use Rattle.list_encoder.specs.Cells.{AreCells};
 ghost use Rattle.list_encoder.specs.Table.{LeavesRoom, IsShapeOf};
 ghost use Rattle.list_encoder.specs.Offers.{IsOffer, OffersRoom, OffersWay, OffersEdge, OffersAll, LeadInto};
 
-use crate::cells::{Cell, shape_of};
+use crate::cells::{Cell, is_barred, shape_of};
 use crate::table::CellEdge;
 use crate::waiting::{Queue, lower_open};
 use base::NoMemory;
@@ -83,7 +83,7 @@ fn is_room(room: Option<u8>, other: u8) -> bool
     }
 }
 
-/// all rooms of an edge's first cell are lowered by an offer
+/// all rooms of an edge's first cell are lowered by an offer that is not barred
 fn offer_way<L: Legs>(
     legs: &L,
     cells: &[Cell],
@@ -103,6 +103,9 @@ fn offer_way<L: Legs>(
         queue.old.done.items table.new queue.new.waiting queue.new.done.items) }
 {
     if !may_lead(&offer, from, next) {
+        return Ok(());
+    }
+    if is_barred(legs, cells[offer.link.from], offer.stays, offer.link.sid) {
         return Ok(());
     }
     for room in 0..8 {

@@ -7,7 +7,7 @@ ghost use Rattle.list_encoder.specs.Cells.{AreCells};
 ghost use Rattle.list_encoder.specs.Table.{IsCellEdge};
 ghost use Rattle.list_encoder.specs.Picks.{better_of, is_sum, IsSpot, PicksMoves, PicksEdge, PicksEnds, PicksLegs, PicksFirst};
 
-use crate::cells::{Cell, shape_of};
+use crate::cells::{Cell, is_barred, shape_of};
 use crate::lowering::link_into;
 use crate::table::{CellEdge, rest_at};
 use list_pack::{Cost, Legs, PathStep, Shape, move_cost, room_behind, step_before};
@@ -85,6 +85,9 @@ fn pick_move<L: Legs>(
     ensures { PicksMoves (L.seen legs.now) cells.now table.now spot link stays result }
 {
     legs.steps();
+    if is_barred(legs, spot.cell, stays, link.sid) {
+        return None;
+    }
     let next = legs.shape(link.sid);
     let room = room_behind(stays, from, spot.room, &next)?;
     let rest = rest_at(table, link.to, room)?;

@@ -1,4 +1,4 @@
-use Rattle.std.proofs.Common.{◌||◌, Bool, false, sym, ◌∙◌, ap, subst}
+use Rattle.std.proofs.Common.{◌||◌, Bool, false, refl, sym, ◌∙◌, ap, subst}
 use Rattle.list_encoder.specs.Table.{Relaxed}
 use Rattle.list_encoder.proofs.RelaxedRooms.{room-rooms, rooms-join, ways-join, leaves}
 use Rattle.list_encoder.proofs.lowering.relax.Goals as goal
@@ -9,7 +9,7 @@ returns g c =
     let first = room-rooms v c.args.cells.now c.args.link false 0 c.room_behind-packed.result c.args.table.now c.relax_room-first.new.table
     c.relax_room-first.result c.relax_room-first.ensures
     (leaves v c.args.cells.now c.args.link false 0 c.args.from.now c.shape-next.result c.room_behind-packed.result c.requires.from
-    c.shape-next.ensures c.room_behind-packed.ensures) in
+    c.shape-next.ensures (λ cell here. refl) c.room_behind-packed.ensures) in
     let opens = rooms-join v c.args.cells.now c.args.link false 0 1 8 c.args.table.now c.relax_room-first.new.table
     c.relax_opens-above.new.table c.relax_room-first.result c.relax_opens-above.result first c.relax_opens-above.ensures in
     subst (λ (b : Bool). Relaxed v c.args.cells.now c.args.link c.args.table.now c.relax_stays-stays.new.table b)

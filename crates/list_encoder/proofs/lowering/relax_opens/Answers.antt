@@ -1,4 +1,4 @@
-use Rattle.std.proofs.Common.{◌+◌, ◌≤◌, Bool, false, sym, ◌∙◌, subst, arith}
+use Rattle.std.proofs.Common.{◌+◌, ◌≤◌, Bool, false, refl, sym, ◌∙◌, subst, arith}
 use Rattle.list_encoder.specs.Table.{RoomsRelaxed}
 use Rattle.list_encoder.proofs.RelaxedRooms.{rooms-more, leaves}
 use Rattle.list_encoder.proofs.Relaxing.{opened-same}
@@ -13,4 +13,4 @@ loop-room-preserved g c =
     (rooms-more v c.args.cells.now c.args.link false 1 c.loop-room.room c.room_behind-full.result c.args.table.now c.loop-room.table
     c.relax_room-lowered.new.table c.loop-room.changed c.relax_room-lowered.result c.loop-room.invariant c.relax_room-lowered.ensures
     (leaves v c.args.cells.now c.args.link false c.loop-room.room c.args.from.now c.args.next.now c.room_behind-full.result c.requires.from
-    c.requires.next (c.room_behind-full.ensures ∙ opened-same c.args.from.now c.loop-room.room c.args.next.now some)))
+    c.requires.next (λ cell here. refl) (c.room_behind-full.ensures ∙ opened-same c.args.from.now c.loop-room.room c.args.next.now some)))

@@ -1,4 +1,4 @@
-use Rattle.std.proofs.Common.{Some}
+use Rattle.std.proofs.Common.{Some, sym, ◌∙◌}
 use Rattle.list_encoder.proofs.Picking.{room-at, pick-range}
 use Rattle.list_encoder.proofs.picks.pick_move.Goals as goal
 
@@ -9,4 +9,5 @@ rest_at-requires g c =
     c.requires.link c.requires.long c.requires.spot.few
     (room-at (g.L.Legs.seen c.args.legs.now) c.args.stays c.args.from.now c.shape-next.result c.args.spot.cell.via c.args.link.sid
     c.args.spot.room
-    c.room_behind.result (Some c.in_ok-room.room) c.requires.from c.shape-next.ensures c.room_behind.ensures c.in_ok-room.was)
+    c.room_behind.result (Some c.in_ok-room.room) c.requires.from c.shape-next.ensures (sym c.is_barred.ensures ∙ c.if-is_barred.false)
+    c.room_behind.ensures c.in_ok-room.was)
