@@ -13,7 +13,7 @@ use Rattle.list_pack.proofs.PublicLaws.{under-itself, under-trans, under-plus}
 use Rattle.list_encoder.specs.declared.cells.Cell.{Cell}
 use Rattle.list_encoder.specs.declared.table.CellEdge.{CellEdge}
 use Rattle.list_encoder.specs.Cells.{cell_at, IsCell, AreCells}
-use Rattle.list_encoder.specs.Table.{Costs, at, entry, rest_at, offer, LeadsTo, IsCellEdge, IsSound, EdgeHolds, Holds, RoomHolds, RoomRelaxed, RoomsRelaxed, Relaxed, LeavesRoom, IsFree, IsShapeOf, move_by}
+use Rattle.list_encoder.specs.Table.{Costs, at, entry, rest_at, offer, LeadsTo, IsCellEdge, IsSound, EdgeHolds, Holds, RoomHolds, RoomRelaxed, RoomsRelaxed, Relaxed, LeavesRoom, IsShapeOf, move_by}
 use Rattle.list_encoder.proofs.Celling.{some-same, cell-read}
 use Rattle.list_encoder.proofs.Tables.{kept-passed, passed-then}
 
@@ -96,6 +96,10 @@ ways-join v cells link t t1 t2 x y opened stayed =
         under-trans (entry t2 link.from r) (entry t1 link.from r) (offer false link.hops (rest_at t link.to left)) (stayed.passed.falls _)
         (opened.holds cell r left e (omega arith) h f)
 
+-- a link is not barred from its first cell
+abbrev pub IsFree : LegsValue → List Cell → CellEdge → Bool → Type 0
+IsFree v cells link stays = (cell : Cell) → slice_get cells link.from ≡ Some cell → (stays && bars v cell.via link.sid) ≡ false
+
 -- the room after a move that isn't barred
 pub room-open : (v : LegsValue) (stays : Bool) (via : Option ℕ) (sid room : ℕ) (from : Option Shape) (next : Shape)
     → from ≡ option_map v.shape via → next ≡ v.shape sid → (stays && bars v via sid) ≡ false
@@ -105,8 +109,8 @@ room-open v stays via sid room from next is_from is_next free =
     ∙ ap (λ (s : Shape). room_behind stays (option_map v.shape via) room s) is_next
     ∙ sym (ap (λ (b : Bool). if b then None else room_behind stays (option_map v.shape via) room (v.shape sid)) free)
 
-pub leaves : (v : LegsValue) (cells : List Cell) (link : CellEdge) (stays : Bool) (room : ℕ) (from : Option Shape) (next : Shape) (p : Option ℕ)
-    → IsShapeOf v cells link.from from → next ≡ v.shape link.sid → IsFree v cells link stays → p ≡ room_behind stays from room next
+pub leaves : (v : LegsValue) (cells : List Cell) (link : CellEdge) (stays : Bool) (room : ℕ) (from : Option Shape) (next : Shape)
+    (p : Option ℕ) → IsShapeOf v cells link.from from → next ≡ v.shape link.sid → IsFree v cells link stays → p ≡ room_behind stays from room next
     → LeavesRoom v cells link stays room p
 leaves v cells link stays room from next p is_from is_next free e cell here =
     e ∙ room-open v stays cell.via link.sid room from next (is_from cell here) is_next (free cell here)
@@ -138,7 +142,8 @@ link-free v cells link stays told is e free cell here = barred-is v cells link s
 pub barred-none : (v : LegsValue) (via : Option ℕ) (room : ℕ) (m : Move) (left : ℕ) → (m.stays && bars v via m.sid) ≡ true
     → room_to v via room m ≡ Some left → ⊥
 barred-none v via room m left barred h =
-    none-some left (sym (ap (λ (b : Bool). if b then None else room_behind m.stays (option_map v.shape via) room (v.shape m.sid)) barred) ∙ h)
+    none-some left
+    (sym (ap (λ (b : Bool). if b then None else room_behind m.stays (option_map v.shape via) room (v.shape m.sid)) barred) ∙ h)
 
 pub link-barred : (v : LegsValue) (cells : List Cell) (link : CellEdge) (stays told : Bool) → IsCellEdge v cells link
     → told ≡ (stays && bars v (get_or cells link.from (record { position = 0; via = None })).via link.sid) → told ≡ true
@@ -147,8 +152,8 @@ link-barred v cells link stays told is e barred cell room left here h =
     barred-none v cell.via room (move_by link stays) left (barred-is v cells link stays told is e cell here ∙ barred) h
 
 -- a barred link lowers nothing
-pub rooms-barred : (v : LegsValue) (cells : List Cell) (link : CellEdge) (stays told : Bool) (low high : ℕ) (t : Costs) → IsCellEdge v cells link
-    → told ≡ (stays && bars v (get_or cells link.from (record { position = 0; via = None })).via link.sid) → told ≡ true → IsSound v cells t
+pub rooms-barred : (v : LegsValue) (cells : List Cell) (link : CellEdge) (stays told : Bool) (low high : ℕ) (t : Costs)
+    → IsCellEdge v cells link → told ≡ (stays && bars v (get_or cells link.from (record { position = 0; via = None })).via link.sid) → told ≡ true → IsSound v cells t
     → RoomsRelaxed v cells link stays low high t t false
 rooms-barred v cells link stays told low high t is e barred sound =
     record {

@@ -1,10 +1,10 @@
 -- A table of costs, eight rooms to a cell, and what is done to it.
-use Rattle.std.specs.Prelude.{◌≡◌, ℕ, ◌+◌, ◌*◌, ◌<◌, ◌≤◌, Bool, true, false, ◌&&◌, List, length, slice_get, slice_index_or, slice_set, nat_lt, sum_by, count_by, Option, Some, None, is_some, Contains, MatchBool}
+use Rattle.std.specs.Prelude.{◌≡◌, ℕ, ◌+◌, ◌*◌, ◌<◌, ◌≤◌, Bool, true, false, List, length, slice_get, slice_index_or, slice_set, nat_lt, sum_by, count_by, Option, Some, None, is_some, Contains, MatchBool}
 use Rattle.std.specs.Option.{option_map}
 use Rattle.list_pack.specs.declared.types.Cost.{Cost}
 use Rattle.list_pack.specs.declared.types.Shape.{Shape}
 use Rattle.list_pack.specs.Value.{LegsValue}
-use Rattle.list_pack.specs.Costs.{Move, Below, plus, nothing, move_cost, room_to, bars, Under}
+use Rattle.list_pack.specs.Costs.{Move, Below, plus, nothing, move_cost, room_to, Under}
 use Rattle.list_pack.specs.Least.{Attains, IsLeast}
 use Rattle.list_encoder.specs.declared.cells.Cell.{Cell}
 use Rattle.list_encoder.specs.declared.table.CellEdge.{CellEdge}
@@ -152,10 +152,6 @@ AreInRange t (Some cell) room = 8 * cell + room < length t
 abbrev pub LeavesRoom : LegsValue → List Cell → CellEdge → Bool → ℕ → Option ℕ → Type 0
 LeavesRoom v cells link stays room left =
     (cell : Cell) → slice_get cells link.from ≡ Some cell → left ≡ room_to v cell.via room (move_by link stays)
-
--- the SID of a link may come after its first cell's, in its container or in a new one, as far as the SIDs nested in that one go
-abbrev pub IsFree : LegsValue → List Cell → CellEdge → Bool → Type 0
-IsFree v cells link stays = (cell : Cell) → slice_get cells link.from ≡ Some cell → (stays && bars v cell.via link.sid) ≡ false
 
 -- the shape of a cell's SID
 abbrev pub IsShapeOf : LegsValue → List Cell → ℕ → Option Shape → Type 0

@@ -79,8 +79,8 @@ pub fn shape_of<L: Legs>(legs: &L, cell: Cell) -> Option<Shape>
     }
 }
 
-/// Whether a move is barred: it would stay in the container of a cell's SID, after which its own may
-/// not come there. (own rule)
+/// Whether a move is barred: it would stay in the container of a cell's SID, directly after which
+/// its own may not stand there. (own rule)
 pub fn is_barred<L: Legs>(legs: &L, cell: Cell, stays: bool, sid: u32) -> bool
     requires cell { IsCell (L.seen legs.now) cell }
     requires sid { IsSid (L.seen legs.now) sid }

@@ -15,9 +15,10 @@ pub offer_room-requires-clause-left : goal.offer_room-requires-clause-left
 offer_room-requires-clause-left g c =
     let v = g.L.Legs.seen c.args.legs.now in
     let offer = c.args.offer in
-    leaves v c.args.cells.now offer.link offer.stays c.loop-room.room c.args.from.now c.args.next.now c.room_behind-left.result c.requires.from
+    let cells = c.args.cells.now in
+    leaves v cells offer.link offer.stays c.loop-room.room c.args.from.now c.args.next.now c.room_behind-left.result c.requires.from
     c.requires.next
-    (link-free v c.args.cells.now offer.link offer.stays c.is_barred.result c.requires.offer.is_edge c.is_barred.ensures c.if-is_barred.false)
+    (link-free v cells offer.link offer.stays c.is_barred.result c.requires.offer.is_edge c.is_barred.ensures c.if-is_barred.false)
     c.room_behind-left.ensures
 
 pub loop-room-preserved : goal.loop-room-preserved
