@@ -1,9 +1,7 @@
--- In a flat network rides to two addresses of one SID's prefix are one.
+-- In a flat network rides to two own addresses of a SID are one.
 use Rattle.std.proofs.Common.{◌≡◌, ℕ, Bool, true, false, if◌then◌else◌, List, [], ◌∷◌, Option, Some, None, slice_get, refl, sym, ◌∙◌, ap, subst}
 use Rattle.std.specs.Option.{option_map}
-use Rattle.v6_addr.specs.Address.{PrefixValue, Holds}
 use Rattle.v6_addr.specs.Kinds.{is_multicast}
-use Rattle.v6_addr.proofs.PublicLaws.{Holds_own_value}
 use Rattle.srv6_rules.specs.declared.sid.Family.{Family}
 use Rattle.srv6_rules.specs.declared.sid.Family.TheVariants as families
 use Rattle.srv6_rules.specs.declared.sid.Reason.TheVariants as reasons
@@ -11,6 +9,7 @@ use Rattle.srv6_rules.specs.declared.sid.SidEntry.{SidEntry}
 use Rattle.net_model.specs.declared.net.Hit.{Hit}
 use Rattle.net_model.specs.Network.{Network}
 use Rattle.net_model.specs.Best.{lookup_of}
+use Rattle.flat_networks.specs.Nests.{IsOwn}
 use Rattle.walk_rules.specs.declared.place.How.{How}
 use Rattle.walk_rules.specs.declared.place.How.TheVariants.{Arrived, Submitted, Through}
 use Rattle.walk_rules.specs.declared.place.Place.{Place}
@@ -21,17 +20,17 @@ use Rattle.intent_reader.specs.declared.intent.Step.{Step}
 use Rattle.leg_table.proofs.FlatNets.{FlatFacts}
 use Rattle.leg_table.specs.Leg.{IsAddressOf}
 use Rattle.leg_table.specs.Ride.{Ride, more_lowered, all_in_step, ride_on, ride_by, ride_end, ride_of}
-use Rattle.leg_table.specs.Sids.{first_address, sid_address, prefix_by}
+use Rattle.leg_table.specs.Sids.{first_address, sid_address}
 use Rattle.leg_table.proofs.Rides.{arrived}
 
 module _ (net : Network) (facts : FlatFacts net) (n : ℕ) (s : SidEntry) (there : slice_get net.sids n ≡ Some s) (a b : ℕ)
-    (a_in : Holds s.prefix a) (b_in : Holds s.prefix b) (kind : is_multicast a ≡ is_multicast b) where
+    (a_own : IsOwn net s a) (b_own : IsOwn net s b) (kind : is_multicast a ≡ is_multicast b) where
   table-alike : (node table : ℕ) (lower : Bool) → way_by_table net node table families.V6 lower a ≡ way_by_table net node table
       families.V6 lower b
   table-alike node table lower =
       ap (λ (t : Bool). if t then Away reasons.Multicast else way_by_hit net lower (lookup_of net node table families.V6 a)) kind
       ∙ ap (λ (h : Hit). if is_multicast b then Away reasons.Multicast else way_by_hit net lower h)
-      (facts.alike n node table a b s there a_in b_in)
+      (facts.alike n node table a b s there a_own b_own)
 
   how-alike : (node : ℕ) (how : How) → way_by net node how families.V6 a ≡ way_by net node how families.V6 b
   how-alike node (Arrived table) = table-alike node table true
@@ -69,6 +68,4 @@ pub address-alike : (net : Network) → FlatFacts net → (n : ℕ) (s : SidEntr
     → ride_of net address ts place ≡ ride_of net (sid_address net n) ts place
 address-alike net facts n s there address is =
     let value : s.prefix.value ≡ sid_address net n = ap first_address (sym there) in
-    ride-alike net facts n s there address (sid_address net n)
-    (subst (λ (p : PrefixValue). Holds p address) (ap prefix_by there) is.held)
-    (subst (Holds s.prefix) value (Holds_own_value s.prefix)) is.kind
+    ride-alike net facts n s there address (sid_address net n) (is.own s there) (subst (IsOwn net s) value (facts.first n s there)) is.kind

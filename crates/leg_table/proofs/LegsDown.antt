@@ -30,6 +30,7 @@ use Rattle.leg_table.specs.Tasks.{matches, left_after}
 use Rattle.leg_table.specs.Ride.{Ride, with_hop_limit}
 use Rattle.leg_table.specs.Sids.{is_sid_at, is_middle, sid_goes_on, sid_exposes, hands_over, sid_address, binds, takes_step, sid_binds, is_binding}
 use Rattle.leg_table.specs.Leg.{place_behind, place_from, is_start, leg_with}
+use Rattle.leg_table.specs.Nests.{PlaceKeeps}
 use Rattle.leg_table.specs.OneLeg.{LegKind, AlwaysHands, BecomesOf, Ended, Moved}
 use Rattle.leg_table.specs.Realizes.{headend_place}
 use Rattle.leg_table.specs.Value.{legs_value, strict_kind, AnyWay}
@@ -290,11 +291,11 @@ module _ (net : Network) (network : IsNetwork net) (flat : IsFlat net) (facts : 
           (c.hands zeros).1)
 
   pub leg-down : (x : lists.ListPlace) (q : PrefixValue) (position : ℕ) (via : Option ℕ) (hop : ℕ) (p : Packet)
-      → position ≤ length intent.steps → IsVia (legs_value net intent) position via → Along tunnel x hop p → active x ≡ list_sid net q
-      → IsSidPrefix net q → 0 < hop → AlwaysHands k via p (drop position intent.steps) → BecomesOf k AnyWay tunnel x q position via hop p
-  leg-down x q position via hop p within at along to named positive hands =
+      → position ≤ length intent.steps → IsVia (legs_value net intent) position via → Along tunnel x hop p → PlaceKeeps net x
+      → active x ≡ list_sid net q → IsSidPrefix net q → 0 < hop → AlwaysHands k via p (drop position intent.steps) → BecomesOf k AnyWay tunnel x q position via hop p
+  leg-down x q position via hop p within at along nests to named positive hands =
       let start = starts position via within at in
       let place = from position via start in
-      let c = comings.comes net network flat facts intent is_intent tunnel family position via x q hop p place.0 start place.1 along to named
+      let c = comings.comes net network flat facts intent is_intent tunnel family position via x q hop p place.0 start place.1 along nests to named
       positive (subst (λ (o : Option Place). HandsFrom o p (drop position intent.steps)) place.1 hands) in
       becomes position via x q hop p place.0 start place.1 c

@@ -203,7 +203,7 @@ module _ (net : Network) (keeps : Keeps net) (facts : FlatFacts net) (intent : I
       let ts = drop position intent.steps in
       let sid = last-sid net intent.inner next got.1 in
       let to = to-sid net keeps facts intent is_intent tunnel x hop p next on in
-      let a = rides-to net keeps facts intent is_intent tunnel position via next x hop p n sid.0 sid.1 to on.along in
+      let a = rides-to net keeps facts intent is_intent tunnel position via next x hop p n sid.0 sid.1 to on.along on.keeps in
       let started = from-place via p pick taken h n.place n.from over in
       let free = ride-free net keeps ts n.place p n.ride a.start.how a.start.rest a.ride pick taken h started in
       let w = ride-walk net keeps ts n.place p n.ride a.start.how a.start.rest a.ride free in
@@ -230,7 +230,7 @@ module _ (net : Network) (keeps : Keeps net) (facts : FlatFacts net) (intent : I
       let ts = drop position intent.steps in
       let sid = middle-sid net next got.1 in
       let is = to-sid net keeps facts intent is_intent tunnel x hop p next on in
-      let a = rides-to net keeps facts intent is_intent tunnel position via next x hop p n sid.0 sid.1 is on.along in
+      let a = rides-to net keeps facts intent is_intent tunnel position via next x hop p n sid.0 sid.1 is on.along on.keeps in
       let hops : n.ride.lowered + 1 ≡ leg.hops = ap (λ (l : Leg). l.hops) got.2 in
       let started = from-place via p pick taken h n.place n.from over in
       let free = ride-free net keeps ts n.place p n.ride a.start.how a.start.rest a.ride pick taken h started in

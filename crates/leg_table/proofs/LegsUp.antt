@@ -34,6 +34,7 @@ use Rattle.leg_table.specs.Tasks.{matches}
 use Rattle.leg_table.specs.Ride.{ride_of, with_hop_limit}
 use Rattle.leg_table.specs.Sids.{binds, is_binding, sid_binds, prefix_by, prefix_at, hands_over}
 use Rattle.leg_table.specs.Leg.{place_behind, place_from, leg_of, finish_of}
+use Rattle.leg_table.specs.Nests.{PlaceKeeps}
 use Rattle.leg_table.specs.OneLeg.{LegKind, OnWay, IsTakenOn, HandsBy}
 use Rattle.leg_table.specs.Value.{strict_kind}
 use Rattle.leg_table.proofs.Alike.{address-alike}
@@ -98,12 +99,12 @@ module _ (net : Network) (keeps : Keeps net) (facts : FlatFacts net) (intent : I
   pub rides-to : (position : ℕ) (via : Option ℕ) (next : ℕ) (x : lists.ListPlace) (hop : ℕ) (p : Packet)
       (n : NextRide net intent position via next)
       → (s : SidEntry) → slice_get net.sids next ≡ Some s → active x ≡ list_sid net (prefix_at net next) → Along tunnel x hop p
-      → Rides-to position via next x hop p n
-  rides-to position via next x hop p n s there is along =
+      → PlaceKeeps net x → Rides-to position via next x hop p n
+  rides-to position via next x hop p n s there is along nests =
       let start = start-facts net keeps intent is_intent position via n.place n.start n.from in
       let ts = drop position intent.steps in
       let same : active x ≡ list_sid net s.prefix = is ∙ ap (λ o. list_sid net (prefix_by o)) there in
-      let to = address-at net keeps facts tunnel x hop p next s along there same in
+      let to = address-at net keeps facts tunnel x hop p next s along nests there same in
       let ride = address-alike net facts next s there p.destination to ts n.place start.family ∙ n.is_ride in
       let f = ride-facts net keeps p.destination ts n.place n.ride start.how start.rest ride in
       let limit = along-hop tunnel x hop p along in
@@ -141,7 +142,7 @@ module _ (net : Network) (keeps : Keeps net) (facts : FlatFacts net) (intent : I
       let n = got.0 in
       let ts = drop position intent.steps in
       let sid = last-sid net intent.inner next got.1 in
-      let a = rides-to position via next x hop p n sid.0 sid.1 (to-sid x hop p next on) on.along in
+      let a = rides-to position via next x hop p n sid.0 sid.1 (to-sid x hop p next on) on.along on.keeps in
       let low : n.ride.lowered < p.hop_limit = omega (arith, high, got.2, a.hop_limit) in
       let w = ride-walk net keeps ts n.place p n.ride a.start.how a.start.rest a.ride (inr low) in
       let q = with_hop_limit (p.hop_limit - n.ride.lowered) p in
@@ -197,7 +198,7 @@ module _ (net : Network) (keeps : Keeps net) (facts : FlatFacts net) (intent : I
       let n = got.0 in
       let ts = drop position intent.steps in
       let sid = middle-sid net next got.1 in
-      let a = rides-to position via next x hop p n sid.0 sid.1 (to-sid x hop p next on) on.along in
+      let a = rides-to position via next x hop p n sid.0 sid.1 (to-sid x hop p next on) on.along on.keeps in
       let hops : n.ride.lowered + 1 ≡ leg.hops = ap (λ (l : Leg). l.hops) got.2 in
       let ends : length intent.steps - n.left ≡ leg.to = ap (λ (l : Leg). l.to) got.2 in
       let low : n.ride.lowered < p.hop_limit = omega (arith, hops, high, a.hop_limit) in

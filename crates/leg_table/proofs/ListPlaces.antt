@@ -14,11 +14,12 @@ use Rattle.net_model.specs.declared.parts.Block.{Block}
 use Rattle.net_model.specs.Network.{Network}
 use Rattle.net_model.specs.Rules.{block_of}
 use Rattle.net_model.specs.Keeps.{Keeps, IsBlockOf}
-use Rattle.net_model.proofs.PublicLaws.{block_of-is}
+use Rattle.net_model.proofs.PublicLaws.{block_of-is, contains_from_get}
+use Rattle.flat_networks.specs.Nests.{IsOwn}
 use Rattle.list_places.specs.Lists as lists
 use Rattle.list_places.specs.Lists.{ListSid, SidBlock, IsFlatSid, SuitsBlock, IsFlatList, IsFlatContainer, block_len, sids_in}
 use Rattle.list_places.specs.Places.{ListPlace, InFull, InPacked, Tunnel, active, behind_of, destination_of, sids_from, entered, next_of, first_of, IsPlace, Along}
-use Rattle.list_places.proofs.PublicLaws.{along-holds, destination-holds, sids-next, sids-last}
+use Rattle.list_places.proofs.PublicLaws.{destination-holds, sids-next, sids-last}
 use Rattle.list_pack.specs.declared.types.Container.{Container}
 use Rattle.list_pack.specs.declared.types.Container.TheVariants as containers
 use Rattle.list_pack.specs.SidLists.{sid_block, list_sid, container_in, list_in, prefixes_of, prefixes_in}
@@ -26,7 +27,9 @@ use Rattle.leg_table.proofs.FlatNets.{FlatFacts}
 use Rattle.list_pack.specs.PathLists.{before_last}
 use Rattle.leg_table.proofs.Options.{some-same}
 use Rattle.leg_table.specs.Leg.{IsAddressOf}
-use Rattle.leg_table.specs.Sids.{prefix_by, first_address}
+use Rattle.leg_table.specs.Nests.{PlaceKeeps}
+use Rattle.leg_table.specs.Sids.{first_address}
+use Rattle.leg_table.proofs.OwnPlaces.{own-at}
 
 heads : {X : Type 0} (a b : X) (xs ys : List X) → Path (List X) (a ∷ xs) (b ∷ ys) → (a ≡ b) × (xs ≡ ys)
 heads a b xs ys e = (cc, cc)
@@ -155,16 +158,23 @@ kind-at net keeps (InPacked bs s ss cs) p is same flat =
     (destination-holds (InPacked bs s ss cs) is) in
     multicast-same p (destination_of (InPacked bs s ss cs)) (omega (arith, long)) held
 
--- a packet at a place of a SID's prefix has an address of the SID as its destination
+-- a packet at a place of a SID's prefix has an own address of the SID as its destination
+pub own-here : (net : Network) → Keeps net → FlatFacts net → (t : Tunnel) (x : ListPlace) (hop : ℕ) (q : Packet) (n : ℕ) (s : SidEntry)
+    → Along t x hop q → PlaceKeeps net x → slice_get net.sids n ≡ Some s → active x ≡ list_sid net s.prefix → IsOwn net s q.destination
+own-here net keeps facts t x hop q n s along nests there same =
+    subst (IsOwn net s) (sym (ap (λ (r : Packet). r.destination) along.packet))
+    (own-at net keeps facts.units x along.place nests s (contains_from_get net.sids n s there) same)
+
 pub address-at : (net : Network) → Keeps net → FlatFacts net → (t : Tunnel) (x : ListPlace) (hop : ℕ) (q : Packet) (n : ℕ) (s : SidEntry)
-    → Along t x hop q → slice_get net.sids n ≡ Some s → active x ≡ list_sid net s.prefix → IsAddressOf net n q.destination
-address-at net keeps facts t x hop q n s along there same =
+    → Along t x hop q → PlaceKeeps net x → slice_get net.sids n ≡ Some s → active x ≡ list_sid net s.prefix
+    → IsAddressOf net n q.destination
+address-at net keeps facts t x hop q n s along nests there same =
     let to = ap (λ (r : Packet). r.destination) along.packet in
     let kind = kind-at net keeps x s.prefix along.place same (facts.suits.flat n s there) in
     record {
-      held =
-          subst (λ (p : PrefixValue). Holds p q.destination) (ap (λ (t : ListSid). t.prefix) same ∙ ap prefix_by (sym there))
-          (along-holds t x hop q along);
+      own = λ u at.
+          own-here net keeps facts t x hop q n u along nests at
+          (same ∙ ap (λ (v : SidEntry). list_sid net v.prefix) (some-same s u (sym there ∙ at)));
       kind = ap is_multicast to ∙ kind ∙ ap is_multicast (ap first_address (sym there));
     }
 

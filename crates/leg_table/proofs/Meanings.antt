@@ -43,6 +43,7 @@ module _ (k : LegKind) (Longest : Option ℕ → Packet → (ℕ → ℕ) → �
         rules = made.legal;
         named = subst (λ (ps : List PrefixValue). All (IsSidPrefix k.net) ps) names
             (path-named k Longest laws (sids_of_moves ms) m.sid 0 None c.hops hops);
+        nests = made.nests;
       } in
       record {
         of_path = made;
@@ -59,7 +60,7 @@ module _ (k : LegKind) (Longest : Option ℕ → Packet → (ℕ → ℕ) → �
     moves-along inner hop p =
         let last = p.last in
         let same = before-first k.net list (first-place k Longest laws list legal).0 (first-place k Longest laws list legal).1 in
-        packs.list-path k.legs k.net list (p.first ∷ p.more) p.need laws.legs laws.suits legal.rules p.is_path p.names
+        packs.list-path k.legs k.net list (p.first ∷ p.more) p.need laws.legs laws.suits legal.rules legal.nests p.is_path p.names
         (omega (arith, last, same))
 
     -- where all SIDs are executed the path has the list's steps, and its hops are the need

@@ -9,10 +9,12 @@ use Rattle.list_pack.specs.declared.types.Leg.{Leg}
 use Rattle.list_pack.specs.Paths.{with_hops, hops_of}
 use Rattle.list_pack.specs.SidLists.{IsSidPrefix, list_sid}
 use Rattle.list_pack.specs.Value.{KeepsLaws, IsVia}
+use Rattle.leg_table.specs.Nests.{PlaceKeeps}
 use Rattle.leg_table.specs.OneLeg.{LegKind, HandsOver, AlwaysHands, OnWay, HandsBy, LegLaws, BecomesOf, Ended, Moved, after_leg, prefix_in, steps_from}
 use Rattle.leg_table.specs.Trace.{Handed}
 use Rattle.leg_table.proofs.ListPlaces.{active-is, next-none, next-some, before_from, before-last, before-next}
 use Rattle.leg_table.proofs.Options.{map-some, some-same}
+use Rattle.leg_table.proofs.OwnPlaces.{next-keeps}
 
 pub with_hops-some : (o : Option Leg) (later : ℕ → Option ℕ) (need : ℕ) → with_hops o later ≡ Some need
     → (leg : Leg) × (o ≡ Some leg) × (k : ℕ) × (later leg.to ≡ Some k) × (leg.hops + k ≡ need)
@@ -26,24 +28,26 @@ module _ (k : LegKind) (Longest : Option ℕ → Packet → (ℕ → ℕ) → �
   abbrev pub Names : ListPlace → List ℕ → Type 0
   Names x ns = sids_from x ≡ map (list_sid k.net) (map (prefix_in k) ns)
 
-  on-way : (x : ListPlace) (hop : ℕ) (p : Packet) (next : ℕ) (more : List ℕ) → Along t x hop p → Names x (next ∷ more) → OnWay k t x hop p next
-  on-way x hop p next more along names = record { along = along; to = active-is x _ _ names }
+  on-way : (x : ListPlace) (hop : ℕ) (p : Packet) (next : ℕ) (more : List ℕ) → Along t x hop p → PlaceKeeps k.net x
+      → Names x (next ∷ more) → OnWay k t x hop p next
+  on-way x hop p next more along nests names = record { along = along; keeps = nests; to = active-is x _ _ names }
 
   -- ---- up
 
   -- a path hands over above its need
   pub path-hands : (more : List ℕ) (next position : ℕ) (via : Option ℕ) (x : ListPlace) (hop : ℕ) (p : Packet) (need : ℕ) (pick : ℕ → ℕ)
       (taken : ℕ)
-      → Along t x hop p → Names x (next ∷ more) → hops_of k.legs position via (next ∷ more) ≡ Some need → need < hop
+      → Along t x hop p → PlaceKeeps k.net x → Names x (next ∷ more) → hops_of k.legs position via (next ∷ more) ≡ Some need → need < hop
       → HandsBy k t position via p (next ∷ more) pick taken
-  path-hands [] next position via x hop p need pick taken along names is high =
-      one.finish_up x position via next need hop p pick taken is (on-way x hop p next [] along names) (next-none x _ names) high
-  path-hands (m ∷ more) next position via x hop p need pick taken along names is high =
+  path-hands [] next position via x hop p need pick taken along nests names is high =
+      one.finish_up x position via next need hop p pick taken is (on-way x hop p next [] along nests names) (next-none x _ names) high
+  path-hands (m ∷ more) next position via x hop p need pick taken along nests names is high =
       let got = with_hops-some (k.legs.leg position via next) (λ to. hops_of k.legs to (Some next) (m ∷ more)) need is in
       let further = next-some x _ _ _ names in
-      let a = one.leg_up x further.0 position via next got.0 hop p pick taken got.1 (on-way x hop p next (m ∷ more) along names) further.1
+      let a = one.leg_up x further.0 position via next got.0 hop p pick taken got.1 (on-way x hop p next (m ∷ more) along nests names) further.1
       (omega (arith, got.4, high)) in
-      let rest = path-hands more m got.0.to (Some next) further.0 (hop - a.lowered) a.packet got.2 pick a.chosen a.along further.2 got.3
+      let rest = path-hands more m got.0.to (Some next) further.0 (hop - a.lowered) a.packet got.2 pick a.chosen a.along
+      (next-keeps k.net x further.0 nests further.1) further.2 got.3
       (omega (arith, got.4, high, a.few)) in
       record {
         handed = after_leg a.events next rest.handed;
@@ -62,17 +66,17 @@ module _ (k : LegKind) (Longest : Option ℕ → Packet → (ℕ → ℕ) → �
 
   pub path-over : (more : List ℕ) (next position : ℕ) (via : Option ℕ) (x : ListPlace) (hop : ℕ) (p : Packet) (need : ℕ) (pick : ℕ → ℕ)
       (taken : ℕ) (h : Handed)
-      → Along t x hop p → Names x (next ∷ more) → hops_of k.legs position via (next ∷ more) ≡ Some need → HandsOver k via p pick taken h
+      → Along t x hop p → PlaceKeeps k.net x → Names x (next ∷ more) → hops_of k.legs position via (next ∷ more) ≡ Some need → HandsOver k via p pick taken h
       → IsOver (next ∷ more) need hop via p pick taken h
-  path-over [] next position via x hop p need pick taken h along names is over =
-      one.finish_over x position via next need hop p pick taken h is (on-way x hop p next [] along names) (next-none x _ names) over
-  path-over (m ∷ more) next position via x hop p need pick taken h along names is over =
+  path-over [] next position via x hop p need pick taken h along nests names is over =
+      one.finish_over x position via next need hop p pick taken h is (on-way x hop p next [] along nests names) (next-none x _ names) over
+  path-over (m ∷ more) next position via x hop p need pick taken h along nests names is over =
       let got = with_hops-some (k.legs.leg position via next) (λ to. hops_of k.legs to (Some next) (m ∷ more)) need is in
       let further = next-some x _ _ _ names in
-      let a = one.leg_over x further.0 position via next got.0 hop p pick taken h got.1 (on-way x hop p next (m ∷ more) along names)
+      let a = one.leg_over x further.0 position via next got.0 hop p pick taken h got.1 (on-way x hop p next (m ∷ more) along nests names)
       further.1 over in
-      let rest = path-over more m got.0.to (Some next) further.0 (hop - a.lowered) a.packet got.2 pick a.chosen a.handed a.along further.2
-      got.3 a.over in (
+      let rest = path-over more m got.0.to (Some next) further.0 (hop - a.lowered) a.packet got.2 pick a.chosen a.handed a.along
+      (next-keeps k.net x further.0 nests further.1) further.2 got.3 a.over in (
         a.sids ∙ ap (λ (ms : List ℕ). next ∷ ms) rest.0,
         λ longest positive.
             let far = a.longest longest in
@@ -145,7 +149,7 @@ module _ (k : LegKind) (Longest : Option ℕ → Packet → (ℕ → ℕ) → �
     DownAt q qs =
         (position : ℕ) (via : Option ℕ) (x : ListPlace) (hop : ℕ) (p : Packet)
         → position ≤ k.legs.steps → IsVia k.legs position via → sids_from x ≡ map (list_sid k.net) (q ∷ qs)
-        → All (IsSidPrefix k.net) (q ∷ qs) → Along t x hop p → 0 < hop → AlwaysHands k via p (steps_from k position)
+        → All (IsSidPrefix k.net) (q ∷ qs) → Along t x hop p → PlaceKeeps k.net x → 0 < hop → AlwaysHands k via p (steps_from k position)
         → PathFrom position via x (q ∷ qs) hop p
 
     -- so it is of what follows the first prefix
@@ -154,26 +158,27 @@ module _ (k : LegKind) (Longest : Option ℕ → Packet → (ℕ → ℕ) → �
     Further (a ∷ more) = DownAt a more
 
     by-end : (qs : List PrefixValue) (q : PrefixValue) (position : ℕ) (via : Option ℕ) (x : ListPlace) (hop : ℕ) (p : Packet)
-        → BecomesOf k Longest t x q position via hop p → sids_from x ≡ map (list_sid k.net) (q ∷ qs)
+        → BecomesOf k Longest t x q position via hop p → PlaceKeeps k.net x → sids_from x ≡ map (list_sid k.net) (q ∷ qs)
         → All (IsSidPrefix k.net) (q ∷ qs) → Further qs → PathFrom position via x (q ∷ qs) hop p
-    by-end qs q position via x hop p (Ended n lowered is prefix low last sids) all named further =
+    by-end qs q position via x hop p (Ended n lowered is prefix low last sids) nests all named further =
         ended position via x q qs hop p n lowered is prefix low last sids
-    by-end [] q position via x hop p (Moved n leg y r is prefix high next at hands rows) all named further =
+    by-end [] q position via x hop p (Moved n leg y r is prefix high next at hands rows) nests all named further =
         let none : Some y ≡ None = sym next ∙ next-none x _ all in absurd (cc)
-    by-end (a ∷ more) q position via x hop p (Moved n leg y r is prefix high next at hands rows) all named further =
+    by-end (a ∷ more) q position via x hop p (Moved n leg y r is prefix high next at hands rows) nests all named further =
         let rest = next-some x _ _ _ all in
         let same : rest.0 ≡ y = some-same rest.0 y (sym rest.1 ∙ next) in
         let law = laws.leg position via n leg is in
         moved position via x y q (a ∷ more) hop p r n leg is prefix high next rows
         (further leg.to (Some n) y (hop - leg.hops) r law.within (law.is_next, law.middle)
         (subst (λ (z : ListPlace). sids_from z ≡ map (list_sid k.net) (a ∷ more)) same rest.2)
-        (All-tail (IsSidPrefix k.net) q (a ∷ more) named) at (omega (arith, high)) hands)
+        (All-tail (IsSidPrefix k.net) q (a ∷ more) named) at (next-keeps k.net x y nests next) (omega (arith, high)) hands)
 
     first-end : (qs : List PrefixValue) (q : PrefixValue) → Further qs → DownAt q qs
-    first-end qs q further position via x hop p within from sids named along positive hands =
+    first-end qs q further position via x hop p within from sids named along nests positive hands =
         by-end qs q position via x hop p
-        (one.down x q position via hop p within from along (active-is x _ _ sids) (All-head (IsSidPrefix k.net) q qs named) positive hands)
-        sids named further
+        (one.down x q position via hop p within from along nests (active-is x _ _ sids) (All-head (IsSidPrefix k.net) q qs named) positive
+        hands)
+        nests sids named further
 
     pub path-down : (qs : List PrefixValue) (q : PrefixValue) → DownAt q qs
     path-down [] q = first-end [] q tt

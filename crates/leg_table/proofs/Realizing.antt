@@ -18,12 +18,14 @@ use Rattle.list_pack.specs.Paths.{hops_of}
 use Rattle.list_pack.specs.SidLists.{list_sid, list_in, prefixes_in, IsSidPrefix, IsLegalList, list_values}
 use Rattle.list_pack.specs.Value.{IsSid}
 use Rattle.list_pack.proofs.PublicLaws.{flat-lists, legal-flat}
+use Rattle.leg_table.specs.Nests.{PlaceKeeps}
 use Rattle.leg_table.specs.Trace.{Handed}
 use Rattle.leg_table.specs.OneLeg.{LegKind, LegLaws, KindLaws, HandsOver, AlwaysHands, prefix_in}
 use Rattle.leg_table.specs.Meant.{HandsInner, AlwaysInner, IsRealizing, IsExecuting}
 use Rattle.leg_table.specs.Realizes.{encapsulation_of, IsInner, content_lowered, encapsulated_for}
 use Rattle.leg_table.proofs.Choices.{row_from, length-row_from, row_agrees}
 use Rattle.leg_table.proofs.ListPlaces.{active-first, sids-list}
+use Rattle.leg_table.proofs.OwnPlaces.{first-keeps, list-keeps}
 use Rattle.leg_table.proofs.Paths.{with_hops-some, Names, PathFrom, path-hands, path-over, path-down}
 use Rattle.leg_table.proofs.Inners.{some_inner, some_inner-is}
 
@@ -75,6 +77,9 @@ module _ (k : LegKind) (Longest : Option ℕ → Packet → (ℕ → ℕ) → �
         starts-first (encapsulation_of k.intent segments) k.intent.inner (bytes_of (content_lowered inner)) hop (list_in k.net list) first-place.0
         legal.rules (legal-flat k.net list (flat-lists k.net laws.network laws.flat) legal) refl first-place.1
 
+    nests : PlaceKeeps k.net first-place.0
+    nests = first-keeps k.net (list_in k.net list) first-place.0 (list-keeps k.net list legal) first-place.1
+
     named : sids_from first-place.0 ≡ map (list_sid k.net) (prefixes_in list)
     named = sids-first (list_in k.net list) first-place.0 first-place.1 ∙ sids-list k.net list
 
@@ -101,7 +106,7 @@ module _ (k : LegKind) (Longest : Option ℕ → Packet → (ℕ → ℕ) → �
           → HandsInner k segments inner hop choices
       over inner ok hop above choices =
           let hand = path-hands k Longest (tunnel inner) (one inner) more next 0 None first-place.0 hop (packet inner hop) need (choice_at choices) 0
-          (starts inner hop) (all-named inner) is_path above in
+          (starts inner hop) nests (all-named inner) is_path above in
           record {
             handed = hand.handed;
             over = hand.over;
@@ -114,7 +119,7 @@ module _ (k : LegKind) (Longest : Option ℕ → Packet → (ℕ → ℕ) → �
           → (h.sids ≡ next ∷ more) × (Longest None (packet inner hop) pick 0 → 0 < hop → need < hop)
       path-executes inner hop pick h hands =
           path-over k Longest (tunnel inner) (one inner) more next 0 None first-place.0 hop (packet inner hop) need pick 0 h (starts inner hop)
-          (all-named inner) is_path hands
+          nests (all-named inner) is_path hands
 
       -- a path of legs and a finish realizes the intent
       pub path-realizes : IsRealizing k list need
@@ -154,4 +159,4 @@ module _ (k : LegKind) (Longest : Option ℕ → Packet → (ℕ → ℕ) → �
         by_prefixes (q ∷ qs) e =
             subst (λ (ps : List PrefixValue). PathFrom k Longest (tunnel inner) (one inner) 0 None first-place.0 ps hop (packet inner hop)) (sym e)
             (path-down k Longest (tunnel inner) (one inner) laws.legs qs q 0 None first-place.0 hop (packet inner hop) (omega arith) refl
-            (named ∙ ap (map (list_sid k.net)) e) (subst (All (IsSidPrefix k.net)) e legal.named) (starts inner hop) positive hands)
+            (named ∙ ap (map (list_sid k.net)) e) (subst (All (IsSidPrefix k.net)) e legal.named) (starts inner hop) nests positive hands)

@@ -1,7 +1,7 @@
 -- Packets at the places of a list: the stage of the SID that is active there, and the steps left after it.
-use Rattle.std.proofs.Common.{◌≡◌, ℕ, suc, ◌-◌, ◌<◌, ◌≤◌, Bool, true, false, ◌==◌, ◌&&◌, if◌then◌else◌, List, [], ◌∷◌, ◌++◌, length, drop, Some, None, slice_get, refl, sym, ◌∙◌, ap, arith, eqb-true, append-nil}
+use Rattle.std.proofs.Common.{◌≡◌, ℕ, suc, ◌-◌, ◌<◌, ◌≤◌, Bool, true, false, ◌==◌, ◌&&◌, if◌then◌else◌, List, [], ◌∷◌, ◌++◌, length, drop, Some, None, slice_get, refl, sym, ◌∙◌, ap, subst, arith, eqb-true, append-nil}
 use Rattle.std.proofs.lemmas.Bool.{false≢true, and_parts, eq-eqb}
-use Rattle.v6_addr.specs.Address.{Holds}
+use Rattle.srv6_rules.specs.declared.sid.Family.{Family}
 use Rattle.srv6_rules.specs.declared.sid.Family.TheVariants as families
 use Rattle.srv6_rules.specs.declared.sid.Reason.TheVariants as reasons
 use Rattle.srv6_rules.specs.declared.sid.SidEntry.{SidEntry}
@@ -12,6 +12,7 @@ use Rattle.net_model.specs.declared.net.Hit.TheVariants as hits
 use Rattle.net_model.specs.Network.{Network}
 use Rattle.net_model.specs.Rules.{IsNetwork}
 use Rattle.flat_networks.specs.Flat.{IsFlat}
+use Rattle.flat_networks.specs.Nests.{IsOwn}
 use Rattle.net_model.specs.Best.{lookup_of}
 use Rattle.net_model.proofs.PublicLaws.{matched_sid_holds}
 use Rattle.flat_networks.proofs.PublicLaws.{one_sid_prefix}
@@ -65,14 +66,15 @@ into-lookup net place a n e = by_how place.how e
     by_how (Submitted table) e = by_table table false (is_multicast_of place.family a) e
     by_how (Through sid lower) e = absurd (cc)
 
--- in a flat network a packet to an address of a SID's prefix comes into SIDs of that prefix alone
+-- in a flat network a packet to an own address of a SID comes into SIDs of that SID's prefix alone
 pub into-prefix : (net : Network) → IsNetwork net → IsFlat net → (place : Place) (m n a : ℕ) (s t : SidEntry)
     → slice_get net.sids m ≡ Some s
-    → slice_get net.sids n ≡ Some t → Holds s.prefix a → way_of net place a ≡ Into n → s.prefix ≡ t.prefix
-into-prefix net network flat place m n a s t hm hn held e =
+    → slice_get net.sids n ≡ Some t → IsOwn net s a → way_of net place a ≡ Into n → s.prefix ≡ t.prefix
+into-prefix net network flat place m n a s t hm hn own e =
     let found = into-lookup net place a n e in
-    let holds = matched_sid_holds net n t place.node found.0 place.family a found.1 hn in
-    one_sid_prefix net m n s t a network flat hm hn held holds.3
+    let v6 = (matched_sid_holds net n t place.node found.0 place.family a found.1 hn).2 in
+    let hit = subst (λ (f : Family). lookup_of net place.node found.0 f a ≡ hits.Sid n) v6 found.1 in
+    one_sid_prefix net m n s t place.node found.0 a network flat hm own hit hn
 
 -- the stage at a place of a list from which a packet comes into a SID of the place's prefix
 module _ (net : Network) (tunnel : Tunnel) (x : lists.ListPlace) (hop : ℕ) (q : Packet) (along : Along tunnel x hop q) (place : Place)

@@ -1,7 +1,6 @@
 -- Legs and finishes: from the execution of one SID to that of the next.
 use Rattle.std.specs.Prelude.{◌≡◌, ℕ, zero, suc, ◌+◌, ◌-◌, ◌<◌, ◌≤◌, Bool, true, false, ◌==◌, ◌&&◌, nat_le, if◌then◌else◌, List, [], drop, length, slice_get, Option, Some, None, IsTrue, ◌↔◌}
 use Rattle.std.specs.Option.{option_map, option_and_then}
-use Rattle.v6_addr.specs.Address.{Holds}
 use Rattle.v6_addr.specs.Kinds.{is_multicast}
 use Rattle.srv6_rules.specs.declared.sid.Family.TheVariants as families
 use Rattle.srv6_rules.specs.declared.sid.SidEntry.{SidEntry}
@@ -9,6 +8,7 @@ use Rattle.srv6_rules.specs.Packet.{Packet, Content, V6, V4, Unreadable}
 use Rattle.srv6_rules.specs.CompressedSteps.{compression_of, shifts}
 use Rattle.srv6_rules.specs.Endpoint.{Endpoint, Onward, Exposed, Delivered, Refused, at_sid}
 use Rattle.net_model.specs.Network.{Network}
+use Rattle.flat_networks.specs.Nests.{IsOwn}
 use Rattle.walk_rules.specs.declared.place.How.TheVariants.{Submitted}
 use Rattle.walk_rules.specs.declared.place.Place.{Place}
 use Rattle.walk_rules.specs.declared.place.Outcome.{Outcome}
@@ -21,7 +21,7 @@ use Rattle.list_pack.specs.declared.types.Leg.{Leg}
 use Rattle.leg_table.specs.Tasks.{left_after}
 use Rattle.leg_table.specs.Choices.{ForAllChoices, AtPlace}
 use Rattle.leg_table.specs.Ride.{Ride, ride_of, with_hop_limit}
-use Rattle.leg_table.specs.Sids.{takes_step, is_sid_at, is_middle, is_last, sid_address, prefix_at}
+use Rattle.leg_table.specs.Sids.{takes_step, is_sid_at, is_middle, is_last, sid_address}
 
 -- from where a packet goes to the next SID: from the headend, which made it, or from the SID that was executed last
 abbrev pub place_behind : ℕ → SidEntry → Place
@@ -165,9 +165,9 @@ pub record IsFinish (net : Network) (intent : Intent) (address position : ℕ) (
   pub last : IsTrue (is_last net intent.inner next)
   pub handed : AtPlace (place_from net intent via) (IsHanded net address (drop position intent.steps) next 0 lowered)
 
--- an address of a SID's prefix that is multicast exactly where the prefix's first address is
+-- an own address of a SID, one of its prefix that no SID nested in it holds, which is multicast exactly where the prefix's first address is
 pub record IsAddressOf (net : Network) (n address : ℕ) : Type 0 where
-  pub held : Holds (prefix_at net n) address
+  pub own : (s : SidEntry) → slice_get net.sids n ≡ Some s → IsOwn net s address
   pub kind : is_multicast address ≡ is_multicast (sid_address net n)
 
 -- and which has no further SID after it there, so that none is moved up (RFC 9800 section 4.1)

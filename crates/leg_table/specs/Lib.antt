@@ -4,6 +4,7 @@ pub mod Choices
 pub mod Ride
 pub mod Sids
 pub mod Leg
+pub mod Nests
 pub mod Table
 pub mod OneLeg
 pub mod Value

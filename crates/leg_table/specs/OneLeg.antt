@@ -5,6 +5,7 @@ use Rattle.srv6_rules.specs.Packet.{Packet, read_as}
 use Rattle.net_model.specs.Network.{Network}
 use Rattle.net_model.specs.Rules.{IsNetwork}
 use Rattle.flat_networks.specs.Flat.{IsFlat}
+use Rattle.flat_networks.specs.Nests.{MayFollow}
 use Rattle.intent_reader.specs.declared.intent.Step.{Step}
 use Rattle.intent_reader.specs.declared.intent.Intent.{Intent}
 use Rattle.list_places.specs.Lists.{ListSid}
@@ -14,6 +15,7 @@ use Rattle.list_pack.specs.SidLists.{IsSidPrefix, list_sid}
 use Rattle.list_pack.specs.Meaning.{AreSidsOf}
 use Rattle.list_pack.specs.Paths.{SuitsLists}
 use Rattle.list_pack.specs.Value.{LegsValue, IsVia, KeepsLaws}
+use Rattle.leg_table.specs.Nests.{PlaceKeeps}
 use Rattle.leg_table.specs.Tasks.{matches}
 use Rattle.leg_table.specs.Trace.{Event, Handed}
 
@@ -54,9 +56,10 @@ Leads k position events to = (more : List Event) → matches (steps_from k posit
 abbrev pub after_leg : List Event → ℕ → Handed → Handed
 after_leg events next h = record { trace = events ++ h.trace; sids = next ∷ h.sids; content = h.content }
 
--- a packet at a place of a list, on its way to a SID: from a position and the SID that was executed last
+-- a packet at a place of a list that keeps the rule on nested SIDs, on its way to a SID: from a position and the SID that was executed last
 pub record OnWay (k : LegKind) (t : Tunnel) (x : ListPlace) (hop : ℕ) (p : Packet) (next : ℕ) : Type 0 where
   pub along : Along t x hop p
+  pub keeps : PlaceKeeps k.net x
   pub to : active x ≡ sid_in k next
 
 -- under a row of choices a packet is taken along a leg: to the list's next place, by at most the leg's hops and along its steps, by a SID
@@ -131,8 +134,8 @@ pub record LegLaws (k : LegKind) (Longest : Option ℕ → Packet → (ℕ → �
       → k.legs.finish position via next ≡ Some lowered → OnWay k t x hop p next → next_of x ≡ None → HandsOver k via p pick taken h
       → (h.sids ≡ next ∷ []) × (Longest via p pick taken → 0 < hop → lowered < hop)
   pub down : (x : ListPlace) (q : PrefixValue) (position : ℕ) (via : Option ℕ) (hop : ℕ) (p : Packet)
-      → position ≤ k.legs.steps → IsVia k.legs position via → Along t x hop p → active x ≡ list_sid k.net q → IsSidPrefix k.net q
-      → 0 < hop → AlwaysHands k via p (steps_from k position) → BecomesOf k Longest t x q position via hop p
+      → position ≤ k.legs.steps → IsVia k.legs position via → Along t x hop p → PlaceKeeps k.net x → active x ≡ list_sid k.net q
+      → IsSidPrefix k.net q → 0 < hop → AlwaysHands k via p (steps_from k position) → BecomesOf k Longest t x q position via hop p
   -- each packet has a longest way
   pub some_longest : (via : Option ℕ) (p : Packet) → (pick : ℕ → ℕ) × Longest via p pick 0
 
@@ -143,7 +146,7 @@ pub record KindLaws (k : LegKind) (Longest : Option ℕ → Packet → (ℕ → 
   pub flat : IsFlat k.net
   pub legs : KeepsLaws k.legs
   pub sids : AreSidsOf k.legs k.net
-  pub suits : SuitsLists k.legs (list_sid k.net)
+  pub suits : SuitsLists k.legs (list_sid k.net) (MayFollow k.net)
   pub one : (t : Tunnel) → t.inner ≡ k.intent.inner → LegLaws k Longest t
   pub matter : Packet → ℕ
   pub agree : (p : Packet) (pick other : ℕ → ℕ) (h : Handed) → ((d : ℕ) → d < matter p → pick d ≡ other d)

@@ -13,6 +13,7 @@ use Rattle.list_pack.specs.SidLists.{block_at}
 use Rattle.leg_table.specs.declared.reach.Reach.{Reach}
 use Rattle.leg_table.specs.Sids.{sids_of, takes_step}
 use Rattle.leg_table.specs.Reach.{AreReaches}
+use Rattle.leg_table.specs.Nests.{AreNested}
 
 -- a table is that of an intent in a network
 pub record LegTable : Type 0 where
@@ -24,14 +25,15 @@ abbrev pub AreRows : Network → Intent → ℕ → List (List ℕ) → Type 0
 AreRows net intent last rows =
     (length rows ≡ last + 1) × ((position : ℕ) → position ≤ last → slice_get rows position ≡ Some (sids_of net intent position))
 
--- the intent keeps the rules in the network, which is flat, the rows are the SIDs of its positions, and the ways are those
--- from their nodes
-pub record IsTable (net : Network) (intent : Intent) (rows : List (List ℕ)) (reaches : List Reach) : Type 0 where
+-- the intent keeps the rules in the network, which is flat, the rows are the SIDs of its positions, the ways are those from their nodes,
+-- and the units those of the SIDs nested in each SID
+pub record IsTable (net : Network) (intent : Intent) (rows : List (List ℕ)) (reaches : List Reach) (nested : List (List ℕ)) : Type 0 where
   pub network : IsNetwork net
   pub flat : IsFlat net
   pub is_intent : IsIntent net intent
   pub are_rows : AreRows net intent (length intent.steps) rows
   pub are_reaches : AreReaches net intent.headend intent.steps reaches
+  pub are_nested : AreNested net (length net.sids) nested
 
 -- what a SID is to the search: the block that it lies strictly inside by its number, its compression, and whether it is middle
 abbrev pub shape_by : List Block → Option SidEntry → Shape

@@ -7,6 +7,7 @@ use Rattle.walk_rules.specs.Walk.{free_walk_of as walk_of}
 use Rattle.intent_reader.specs.declared.intent.Intent.{Intent}
 use Rattle.leg_table.specs.Sids.{is_binding, sids_of}
 use Rattle.leg_table.specs.Leg.{place_from, leg_of, finish_of}
+use Rattle.leg_table.specs.Nests.{stays_of}
 use Rattle.leg_table.specs.OneLeg.{LegKind}
 use Rattle.leg_table.specs.Table.{shape_of, node_of}
 use Rattle.leg_table.specs.Trace.{Handed, handed_over}
@@ -20,6 +21,7 @@ legs_value net intent =
       node = node_of net;
       leg = leg_of net intent;
       finish = finish_of net intent;
+      stays = stays_of net;
     }
 
 -- the legs of strict steps: a packet goes on from the headend, or from the SID that was executed last, and no SID may bind a policy
