@@ -1,3 +1,5 @@
+pub mod Units
+pub mod OwnPlaces
 pub mod FlatNets
 pub mod Choices
 pub mod Links
@@ -16,6 +18,7 @@ pub mod Placing
 pub mod Positions
 pub mod Shapes
 pub mod StrictLaws
+pub mod Stays
 pub mod Ways
 pub mod ReachLemmas
 pub mod ReachRows

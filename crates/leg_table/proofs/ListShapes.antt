@@ -14,6 +14,7 @@ use Rattle.net_model.specs.declared.parts.Block.{Block}
 use Rattle.net_model.specs.Network.{Network}
 use Rattle.net_model.specs.Rules.{block_of, block_len_of}
 use Rattle.net_model.specs.Keeps.{Keeps, SuitsBlock}
+use Rattle.flat_networks.specs.Nests.{MayFollow}
 use Rattle.intent_reader.specs.declared.intent.Intent.{Intent}
 use Rattle.list_places.specs.Lists.{SidBlock, block_len, csid_len_in}
 use Rattle.list_pack.specs.declared.types.Shape.{Shape}
@@ -105,7 +106,8 @@ module _ (net : Network) (keeps : Keeps net) where
       let s = sid-at net intent is.0 n (((are-sids net keeps intent is.0).each n).0 is.2) in (s.0, s.1)
 
   module _ (are : AreListSids net) (v : LegsValue) (sids : AreSidsOf v net)
-      (goes : (n : ℕ) (s : SidEntry) → slice_get net.sids n ≡ Some s → (v.shape n).middle ≡ true → goes_on s ≡ true) where
+      (goes : (n : ℕ) (s : SidEntry) → slice_get net.sids n ≡ Some s → (v.shape n).middle ≡ true → goes_on s ≡ true)
+      (follows : (n m : ℕ) → IsSid v n → IsSid v m → IsTrue (v.stays n m) ↔ MayFollow net (v.shape n).prefix (v.shape m).prefix) where
     shape-is : (s : SidEntry) (x : Shape) → IsShapeOf net s x → x ≡ shape s x.middle
     shape-is s x is =
         ap (λ (p : PrefixValue). record x { prefix = p }) is.prefix
@@ -113,8 +115,8 @@ module _ (net : Network) (keeps : Keeps net) where
         ∙ ap (λ (l : ℕ). record (shape s x.middle) { lbl = l; csid = x.csid }) is.lbl
         ∙ ap (λ (k : Csid). record (shape s x.middle) { csid = k }) is.csid
 
-    -- SIDs of a flat network, of which the middle ones go on, suit lists
-    pub suits-by : SuitsLists v (list_sid net)
+    -- SIDs of a flat network, of which the middle ones go on, and which stay after one another where they may follow, suit lists
+    pub suits-by : SuitsLists v (list_sid net) (MayFollow net)
     suits-by =
         record {
           prefix = λ p. refl;
@@ -146,4 +148,5 @@ module _ (net : Network) (keeps : Keeps net) where
               subst (λ (x : Shape). x.csid ≡ Replace → csid_len_in (list_sid net x.prefix).block ≡ x.prefix.len - x.lbl)
               (sym (shape-is s.0 (v.shape n) s.2))
               (csid-len s.0 (block_of net.blocks s.0.prefix) refl (keeps.sid n s.0 s.1).csid (keeps.sid n s.0 s.1).block_len);
+          stays = follows;
         }

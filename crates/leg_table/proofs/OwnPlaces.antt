@@ -27,7 +27,8 @@ use Rattle.leg_table.proofs.Units.{held-unit, unit-after, unit-last}
 -- ---- along the places of a list
 
 entered-keeps : (net : Network) (c : Container) (cs : List Container) → ListKeeps net (c ∷ cs) → PlaceKeeps net (entered c cs)
-entered-keeps net (Full s ss) cs keeps = (All-head (ContainerKeeps net) (Full s ss) cs keeps, All-tail (ContainerKeeps net) (Full s ss) cs keeps)
+entered-keeps net (Full s ss) cs keeps =
+    (All-head (ContainerKeeps net) (Full s ss) cs keeps, All-tail (ContainerKeeps net) (Full s ss) cs keeps)
 entered-keeps net (Packed s ss) cs keeps = All-tail (ContainerKeeps net) (Packed s ss) cs keeps
 
 pub first-keeps : (net : Network) (cs : List Container) (x : ListPlace) → ListKeeps net cs → first_of cs ≡ Some x → PlaceKeeps net x
@@ -52,7 +53,7 @@ HasUnits net =
     (n : ℕ) (s : SidEntry) (b : Block) → slice_get net.sids n ≡ Some s → block_of net.blocks s.prefix ≡ Some b
     → (k : ℕ) × (1 ≤ k) × (s.prefix.len ≡ b.prefix.len + 16 * k)
 
-sid-prefix : (net : Network) → Keeps net → (t : SidEntry) → Contains net.sids t → IsPrefix t.prefix
+pub sid-prefix : (net : Network) → Keeps net → (t : SidEntry) → Contains net.sids t → IsPrefix t.prefix
 sid-prefix net keeps t there = let at = get_from_contains net.sids t there in (keeps.sid at.0 t at.1).prefix
 
 module _ (net : Network) (s inner : SidEntry) (nest : IsNest net s inner) (fits : inner.prefix.len ≤ 128) where
@@ -91,8 +92,8 @@ module _ (net : Network) (s inner : SidEntry) (nest : IsNest net s inner) (fits 
             omega (arith, got.1, got.2, len, is_long)
 
     -- no destination at a place of the outer SID is held by the inner one
-    not-inner : (x : ListPlace) → IsPlace x → PlaceKeeps net x → Contains net.sids s → Contains net.sids inner → active x ≡ list_sid net s.prefix
-        → ¬ Holds inner.prefix (destination_of x)
+    not-inner : (x : ListPlace) → IsPlace x → PlaceKeeps net x → Contains net.sids s → Contains net.sids inner
+        → active x ≡ list_sid net s.prefix → ¬ Holds inner.prefix (destination_of x)
     not-inner (InFull a [] cs) is place outer_there inner_there same held =
         let value : destination_of (InFull a [] cs) ≡ s.prefix.value
         = container-one (block_len a.block) a.prefix ∙ ap (λ (t : ListSid). t.prefix.value) same in
@@ -110,7 +111,8 @@ module _ (net : Network) (s inner : SidEntry) (nest : IsNest net s inner) (fits 
         let prefix : s.prefix ≡ a.prefix = sym (ap (λ (u : ListSid). u.prefix) same) in
         let len : a.prefix.len ≡ lbl + 16 = ap (λ (p : PrefixValue). p.len) (sym prefix) ∙ nest.outer_len in
         place.0.may.0 s inner outer_there inner_there prefix nest (
-          sym (unit-after nest.block.prefix a.prefix len room t.prefix (map prefix_of ts) (full-container b a (t ∷ ts) own is.container is.flat) long)
+          sym (unit-after nest.block.prefix a.prefix len room t.prefix (map prefix_of ts)
+              (full-container b a (t ∷ ts) own is.container is.flat) long)
               ∙ ap (λ (d : ℕ). field_of d (lbl + 16) 16) (sym (full-value b a (t ∷ ts) own))
               ∙ inner-unit (full_value a (t ∷ ts)) held
         )
@@ -156,7 +158,8 @@ module _ (net : Network) where
   prefixes-back [] = refl
   prefixes-back (p ∷ ps) = ap (λ (qs : List PrefixValue). p ∷ qs) (prefixes-back ps)
 
-  container-keeps : (c : containers.Container) → KeepsNests net c → All (IsSidPrefix net) (prefixes_of c) → ContainerKeeps net (container_in net c)
+  container-keeps : (c : containers.Container) → KeepsNests net c → All (IsSidPrefix net) (prefixes_of c)
+      → ContainerKeeps net (container_in net c)
   container-keeps (kinds.Full first more) keeps named =
       record {
         sids =

@@ -1,22 +1,22 @@
 -- Whether a SID stays directly after another in its container is whether it may follow that one, as the units of the nested SIDs tell.
-use Rattle.std.proofs.Common.{◌≡◌, ℕ, ◌+◌, ◌≤◌, Bool, true, false, ◌==◌, ◌&&◌, List, length, Option, Some, slice_get, Contains, refl, sym, ◌∙◌, ap, subst, arith, eqb-true}
+use Rattle.std.proofs.Common.{◌≡◌, ◌⊎◌, inl, inr, ℕ, ◌+◌, ◌<◌, ◌≤◌, Bool, true, false, ◌==◌, List, [], ◌∷◌, ◌++◌, length, Option, Some, slice_get, Contains, refl, sym, ◌∙◌, ap, subst, arith, eqb-true, length-append}
 use Rattle.std.specs.Prelude.{◌↔◌, IsTrue, not}
 use Rattle.std.specs.List.{list_any}
-use Rattle.std.proofs.lemmas.Bool.{false≢true, and_parts, and_from, eq-eqb}
+use Rattle.std.proofs.lemmas.Bool.{cases_lt, false≢true, and_parts, and_from, eq-eqb}
+use Rattle.std.proofs.lemmas.Option.{none-some, slice_get_within}
 use Rattle.std.proofs.lemmas.List.Folds.{Any-from_list_any, list_any_at}
-use Rattle.v6_addr.specs.Address.{PrefixValue}
 use Rattle.srv6_rules.specs.declared.sid.SidEntry.{SidEntry}
 use Rattle.net_model.specs.Network.{Network}
 use Rattle.net_model.specs.Rules.{IsNetwork}
-use Rattle.net_model.proofs.PublicLaws.{keeps_from_network, get_from_contains}
+use Rattle.net_model.proofs.PublicLaws.{keeps_from_network, get_from_contains, contains_from_get}
 use Rattle.flat_networks.specs.Nests.{IsNest, MayFollow, unit_at}
 use Rattle.flat_networks.specs.NestTests.{is_nest}
 use Rattle.flat_networks.specs.Units.{AreNestedUnits}
 use Rattle.flat_networks.proofs.PublicLaws.{nest_is, nest_block}
-use Rattle.list_pack.specs.declared.types.Shape.{Shape}
-use Rattle.leg_table.specs.Nests.{spells, stays_by, stays_of}
+use Rattle.leg_table.specs.Nests.{AreNested, spells, stays_by, stays_of}
 use Rattle.leg_table.specs.Table.{shape_by, shape_of}
-use Rattle.leg_table.proofs.Options.{some-same}
+use Rattle.leg_table.proofs.Options.{some-same, get-pushed, get-before}
+use Rattle.leg_table.proofs.OwnPlaces.{sid-prefix}
 
 module _ (net : Network) (network : IsNetwork net) (n : ℕ) (s : SidEntry) (at : slice_get net.sids n ≡ Some s) where
   -- the SID on the prefix of a nest's outer SID is that outer SID
@@ -26,14 +26,11 @@ module _ (net : Network) (network : IsNetwork net) (n : ℕ) (s : SidEntry) (at 
       let number : o.0 ≡ n = nest.outer_alone o.0 n outer s o.1 at refl (sym same) in
       some-same outer s (sym o.1 ∙ ap (slice_get net.sids) number ∙ at)
 
-  -- the units are equal where the test finds them so
-  same-units : (t inner : SidEntry) → (nest : IsNest net s inner)
-      → (unit_at t.prefix nest.block.prefix.len ≡ unit_at inner.prefix (nest.block.prefix.len + 16))
-      ↔ (unit_at t.prefix s.block_len ≡ unit_at inner.prefix (s.block_len + 16))
-  same-units t inner nest =
-      let lbl : s.block_len ≡ nest.block.prefix.len = nest_block net n s inner network at nest in
-      let Same : ℕ → Type 0 = λ l. unit_at t.prefix l ≡ unit_at inner.prefix (l + 16) in
-      (subst Same (sym lbl), subst Same lbl)
+  -- units that are equal after the SID's own block are so after the nest's, which is that block
+  own-block : (t inner : SidEntry) → (nest : IsNest net s inner) → unit_at t.prefix s.block_len ≡ unit_at inner.prefix (s.block_len + 16)
+      → unit_at t.prefix nest.block.prefix.len ≡ unit_at inner.prefix (nest.block.prefix.len + 16)
+  own-block t inner nest =
+      subst (λ (l : ℕ). unit_at t.prefix l ≡ unit_at inner.prefix (l + 16)) (nest_block net n s inner network at nest)
 
   -- no nested SID is spelt exactly where the other may follow
   may-when : (t : SidEntry) (found : Bool) → list_any (spells net s t) net.sids ≡ found → not found ≡ true → MayFollow net s.prefix t.prefix
@@ -64,7 +61,7 @@ module _ (net : Network) (network : IsNetwork net) (n : ℕ) (s : SidEntry) (at 
       let both = and_parts (is_nest net s inner) (unit_at t.prefix s.block_len == unit_at inner.prefix (s.block_len + 16)) got.4 in
       let nest = (nest_is net s inner).0 both.0 in
       absurd (may s inner (contains_from_get net.sids n s at) (got.0, got.2, got.3) refl nest
-      ((same-units t inner nest).1 (eqb-true (unit_at t.prefix s.block_len) (unit_at inner.prefix (s.block_len + 16)) both.1)))
+      (own-block t inner nest (eqb-true (unit_at t.prefix s.block_len) (unit_at inner.prefix (s.block_len + 16)) both.1)))
 
   pub stays-means : (t : SidEntry) → IsTrue (stays_by net (Some s) (Some t)) ↔ MayFollow net s.prefix t.prefix
   stays-means t = (may-when t (list_any (spells net s t) net.sids) refl, stays-when t (list_any (spells net s t) net.sids) refl)
@@ -87,3 +84,74 @@ same-tests P false false one other = refl
 same-tests P true false one other = sym (other.1 (one.0 refl))
 same-tests P false true one other = one.1 (other.0 refl)
 
+-- a unit is none of some exactly where the search finds none
+not-found : (units : List ℕ) (unit : ℕ) (found : Bool) → list_any (λ (u : ℕ). u == unit) units ≡ found
+    → IsTrue (not found) ↔ (¬ Contains units unit)
+not-found units unit false e = (
+  λ h at. absurd (false≢true (sym e ∙ list_any_at (λ (u : ℕ). u == unit) units at.0 unit at.1 (eq-eqb _ unit at.2))),
+  λ none. refl,
+)
+not-found units unit true e = (
+  λ h. absurd (false≢true h),
+  λ none.
+      let got = Any-from_list_any (λ (u : ℕ). u == unit) units e in
+      let same : got.1 ≡ unit = eqb-true got.1 unit got.4 in
+      absurd (none (subst (Contains units) same (got.0, got.2, got.3))),
+)
+
+module _ (net : Network) (network : IsNetwork net) (n : ℕ) (s : SidEntry) (at : slice_get net.sids n ≡ Some s) (units : List ℕ)
+    (are : AreNestedUnits net s units) where
+  -- a SID with nested ones has room for a unit after its block's bits
+  pub unit-fits : (length units == 0) ≡ false → s.block_len + 16 ≤ 128
+  unit-fits some = by units are some
+    where
+      by : (us : List ℕ) → AreNestedUnits net s us → (length us == 0) ≡ false → s.block_len + 16 ≤ 128
+      by [] are some = absurd (false≢true (sym some))
+      by (u ∷ us) are some =
+          let inner = (are.all u).0 (0, omega arith, refl) in
+          let fits = (sid-prefix net (keeps_from_network net network) inner.0 inner.1).0 in
+          let long = inner.2.inner_len in
+          let lbl = nest_block net n s inner.0 network at inner.2 in
+          omega (arith, fits, long, lbl)
+
+  -- the search among the units tells whether another may follow
+  pub units-tell : (m : ℕ) (t : SidEntry) → slice_get net.sids m ≡ Some t
+      → not (list_any (λ (u : ℕ). u == unit_at t.prefix s.block_len) units) ≡ stays_of net n m
+  units-tell m t also =
+      let none = not-found units (unit_at t.prefix s.block_len) (list_any (λ (u : ℕ). u == unit_at t.prefix s.block_len) units) refl in
+      let follow = are.follow t.prefix in
+      same-tests (MayFollow net s.prefix t.prefix) (not (list_any (λ (u : ℕ). u == unit_at t.prefix s.block_len) units))
+      (stays_by net (Some s) (Some t)) (λ h. follow.1 (none.0 h), λ may. none.1 (follow.0 may)) (stays-means net network n s at t)
+      ∙ ap (λ (o : Option SidEntry). stays_by net o (Some t)) (sym at)
+      ∙ ap (stays_by net (slice_get net.sids n)) (sym also)
+
+  -- after a SID with none nested in it any may come
+  pub none-tell : (m : ℕ) (t : SidEntry) → slice_get net.sids m ≡ Some t → (length units == 0) ≡ true → true ≡ stays_of net n m
+  none-tell m t also none = by units none ∙ units-tell m t also
+    where
+      by : (us : List ℕ) → (length us == 0) ≡ true → true ≡ not (list_any (λ (u : ℕ). u == unit_at t.prefix s.block_len) us)
+      by [] e = refl
+      by (u ∷ us) e = absurd (false≢true e)
+
+-- ---- the units of all SIDs
+
+pub nested-none : (net : Network) → AreNested net 0 []
+nested-none net = record { long = refl; units = λ n s units at got. absurd (none-some units got) }
+
+pub nested-more : (net : Network) (count : ℕ) (nested more : List (List ℕ)) (units : List ℕ) → AreNested net count nested
+    → ((s : SidEntry) → slice_get net.sids count ≡ Some s → AreNestedUnits net s units) → more ≡ nested ++ units ∷ []
+    → AreNested net (count + 1) more
+nested-more net count nested more units are last pushed = subst (AreNested net (count + 1)) (sym pushed) (record {
+  long = let long = are.long in let one = length-append nested (units ∷ []) in omega (arith, long, one);
+  units = λ n s us at got. by_place n s us at got (cases_lt n (length nested));
+})
+  where
+    by_place : (n : ℕ) (s : SidEntry) (us : List ℕ) → slice_get net.sids n ≡ Some s → slice_get (nested ++ units ∷ []) n ≡ Some us
+        → (n < length nested) ⊎ (length nested ≤ n) → AreNestedUnits net s us
+    by_place n s us at got (inl before) = are.units n s us at (sym (get-before nested units n before) ∙ got)
+    by_place n s us at got (inr after) =
+        let within = slice_get_within (nested ++ units ∷ []) n us got in
+        let one = length-append nested (units ∷ []) in
+        let here : n ≡ length nested = omega (arith, within, one, after) in
+        let same : units ≡ us = some-same units us (sym (get-pushed nested units n here) ∙ got) in
+        subst (AreNestedUnits net s) same (last s (subst (λ (k : ℕ). slice_get net.sids k ≡ Some s) (here ∙ are.long) at))

@@ -29,6 +29,7 @@ use Rattle.leg_table.proofs.ListShapes.{suits-by, there}
 use Rattle.leg_table.proofs.Meanings as means
 use Rattle.leg_table.proofs.PathNames.{hops-need, shapes-prefixes}
 use Rattle.leg_table.proofs.Realizing as any
+use Rattle.leg_table.proofs.Stays.{stays-follow}
 use Rattle.leg_table.proofs.StrictLaws.{shape-middle, strict-laws}
 use Rattle.leg_table.proofs.LegsUp.{finish-up, leg-up}
 use Rattle.leg_table.proofs.LegsOver.{finish-over, leg-over}
@@ -65,8 +66,8 @@ module _ (net : Network) (intent : Intent) (network : IsNetwork net) (flat : IsF
             leg-over net keeps facts intent is_intent t x y position via next leg hop p pick taken h is on to over;
         finish_over = λ x position via next lowered hop p pick taken h is on end over.
             finish-over net keeps facts intent is_intent t x position via next lowered hop p pick taken h family is on end over;
-        down = λ x q position via hop p within at along to named positive hands.
-            leg-down net network flat facts intent is_intent t family x q position via hop p within at along to named positive hands;
+        down = λ x q position via hop p within at along nests to named positive hands.
+            leg-down net network flat facts intent is_intent t family x q position via hop p within at along nests to named positive hands;
         some_longest = λ via p. (λ d. d, tt);
       }
 
@@ -80,7 +81,11 @@ module _ (net : Network) (intent : Intent) (network : IsNetwork net) (flat : IsF
         sids = sids-of;
         suits = suits-by net keeps facts.suits (legs_value net intent) sids-of
             (λ n s is middle. (and_parts (goes_on s) (not (binds s))
-            (sym (ap sid_goes_on is) ∙ sym (shape-middle net.blocks (slice_get net.sids n)) ∙ middle)).0);
+            (sym (ap sid_goes_on is) ∙ sym (shape-middle net.blocks (slice_get net.sids n)) ∙ middle)).0)
+            (λ n m is also.
+            let s = sids-of n is in
+            let t = sids-of m also in
+            stays-follow net network n m s.0 t.0 s.1 t.1);
         one = strict-leg_laws;
         matter = λ p. suc (length intent.steps);
         agree = λ p pick other h same over met. (

@@ -28,7 +28,7 @@ stays_of net n next = stays_by net (slice_get net.sids n) (slice_get net.sids ne
 
 -- the units of the SIDs nested in each of the first SIDs
 pub record AreNested (net : Network) (count : ℕ) (nested : List (List ℕ)) : Type 0 where
-  pub count : length nested ≡ count
+  pub long : length nested ≡ count
   pub units : (n : ℕ) (s : SidEntry) (units : List ℕ) → slice_get net.sids n ≡ Some s → slice_get nested n ≡ Some units
       → AreNestedUnits net s units
 

@@ -49,8 +49,8 @@ pub fn every_way_is_a_ride()
 
 /// The leg by look-ups alone is there exactly where for all choices a packet to the next SID is
 /// taken to that SID along exactly the steps up to the leg's end, and executed there: a packet to
-/// the first address of its prefix, and in a flat network one to any address of the prefix that is
-/// multicast exactly where the first one is. (own rule)
+/// the first address of its prefix, and in a flat network one to any address of the SID's own, which
+/// no SID nested in it holds, that is multicast exactly where the first one is. (own rule)
 pub fn a_leg_is_for_all_choices()
     ensures first { (net : Network) (intent : Intent) (position : ℕ) (via : Option ℕ) (next : ℕ) →
         (leg : Leg) → Keeps net → IsIntent net intent →
@@ -65,8 +65,8 @@ pub fn a_leg_is_for_all_choices()
 
 /// The finish by look-ups alone is there exactly where for all choices a packet to the last SID is
 /// taken to that SID along exactly the steps that are left, and the packet inside exposed there: a
-/// packet to the first address of its prefix, and in a flat network one to any address of the
-/// prefix that is multicast exactly where the first one is and has no further SID after it. (own
+/// packet to the first address of its prefix, and in a flat network one to any address of the SID's
+/// own that is multicast exactly where the first one is and has no further SID after it. (own
 /// rule)
 pub fn a_finish_is_for_all_choices()
     ensures first { (net : Network) (intent : Intent) (position : ℕ) (via : Option ℕ) (next : ℕ) →

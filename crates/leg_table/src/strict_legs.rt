@@ -1,6 +1,7 @@
 //! The legs of an intent in a network.
 
-ghost use Rattle.std.specs.Prelude.{◌≡◌, ◌<◌, ◌≤◌, ℕ, length, drop, Some, IfOk, IfSome};
+ghost use Rattle.std.specs.Prelude.{◌≡◌, ◌<◌, ◌≤◌, ℕ, length, drop, slice_get, Some, IfOk, IfSome};
+ghost use Rattle.srv6_rules.specs.declared.sid.SidEntry.{SidEntry};
 ghost use Rattle.net_model.specs.Keeps.{Keeps};
 ghost use Rattle.net_model.specs.Rules.{IsNetwork};
 ghost use Rattle.intent_reader.specs.Rules.{IsIntent};
@@ -10,7 +11,9 @@ ghost use Rattle.leg_table.specs.Leg as legs;
 ghost use Rattle.leg_table.specs.Sids as sids;
 ghost use Rattle.list_pack.specs.SidLists.{block_at};
 ghost use Rattle.flat_networks.specs.Flat.{IsFlat};
+ghost use Rattle.flat_networks.specs.Units.{AreNestedUnits};
 
+use crate::nests::{Units, nested_of, stays};
 use crate::reach::{Reach, reaches_of, way_at, way_from};
 use crate::ride::Behind;
 use crate::rows::{Row, is_sid_at, rows_of};
@@ -25,8 +28,8 @@ use std::marker::Model;
 use v6_addr::Prefix;
 use walk_rules::{How, Place, onward_from};
 
-/// The legs of an intent in a network, with the SIDs of each position and the ways from its node to
-/// all SIDs, so that each question is a look-up or two. (own rule)
+/// The legs of an intent in a network, with the SIDs of each position, the ways from its node to all
+/// SIDs, and what is nested in each SID, so that each question is a look-up or two. (own rule)
 #[derive(Debug, Drop)]
 pub struct StrictLegs<'a> {
     net: &'a Net,
@@ -34,6 +37,8 @@ pub struct StrictLegs<'a> {
     rows: Vec<Row>,
     // from the last position backwards
     reaches: Vec<Reach>,
+    // by the SIDs' numbers
+    nested: Vec<Units>,
 }
 
 impl<'a> Model for StrictLegs<'a> {
@@ -43,7 +48,8 @@ impl<'a> Model for StrictLegs<'a> {
 
     ghost view = { λ s. record { net = s.net.now; intent = s.intent.now } };
 
-    ghost invariant = { λ s. IsTable s.net.now s.intent.now s.rows.items s.reaches.items };
+    ghost invariant = { λ s. IsTable s.net.now s.intent.now s.rows.items s.reaches.items
+        s.nested.items };
 }
 
 impl<'a> StrictLegs<'a> {
@@ -60,11 +66,13 @@ impl<'a> StrictLegs<'a> {
         net.keeps_rules();
         let rows = rows_of(alloc, net, intent)?;
         let reaches = reaches_of(alloc, net, intent.headend, intent.steps.as_slice())?;
+        let nested = nested_of(alloc, net)?;
         Ok(StrictLegs {
             net,
             intent,
             rows,
             reaches,
+            nested,
         })
     }
 
@@ -151,6 +159,15 @@ impl<'a> StrictLegs<'a> {
     {
         let count = self.count();
         &self.reaches[(count - position) as usize]
+    }
+
+    /// the units of the SIDs nested in a SID
+    fn units(&self, sid: u32) -> &[u16]
+        requires { sid < length self.now.net.sids }
+        ensures { (s : SidEntry) → slice_get self.now.net.sids sid ≡ Some s
+            → AreNestedUnits self.now.net s result.now }
+    {
+        self.nested[sid as usize].as_slice()
     }
 
     /// the steps from a position on
@@ -255,6 +272,11 @@ impl<'a> Legs for StrictLegs<'a> {
             Some(behind) => lowered_at_the_end(&behind),
             None => None,
         }
+    }
+
+    fn stays(&self, sid: u32, next: u32) -> bool {
+        self.keeps_rules();
+        stays(self.net, self.units(sid), sid, next)
     }
 }
 
