@@ -111,10 +111,10 @@ module _ (net : Network) (s inner : SidEntry) (nest : IsNest net s inner) (fits 
         let prefix : s.prefix ≡ a.prefix = sym (ap (λ (u : ListSid). u.prefix) same) in
         let len : a.prefix.len ≡ lbl + 16 = ap (λ (p : PrefixValue). p.len) (sym prefix) ∙ nest.outer_len in
         place.0.may.0 s inner outer_there inner_there prefix nest (
-          sym (unit-after nest.block.prefix a.prefix len room t.prefix (map prefix_of ts)
-              (full-container b a (t ∷ ts) own is.container is.flat) long)
-              ∙ ap (λ (d : ℕ). field_of d (lbl + 16) 16) (sym (full-value b a (t ∷ ts) own))
-              ∙ inner-unit (full_value a (t ∷ ts)) held
+        sym (unit-after nest.block.prefix a.prefix len room t.prefix (map prefix_of ts)
+        (full-container b a (t ∷ ts) own is.container is.flat) long)
+        ∙ ap (λ (d : ℕ). field_of d (lbl + 16) 16) (sym (full-value b a (t ∷ ts) own))
+        ∙ inner-unit (full_value a (t ∷ ts)) held
         )
     not-inner (InPacked bs a ss cs) is place outer_there inner_there same held =
         let block : is.block ≡ sid_block nest.block = some-same is.block (sid_block nest.block) (sym is.own_block ∙ outer-block a same) in

@@ -15,7 +15,6 @@ below-cut a rest width =
     ap (λ n. n / 2 ^ rest) (mod-pow-add a width rest)
     ∙ shr_high (a / 2 ^ rest % 2 ^ width) rest (a % 2 ^ rest) (mod_below a (2 ^ rest) (pow_pos rest))
 
-
 raised : (h low x m : ℕ) → h * (x * m) + low * m ≡ (h * x + low) * m
 raised h low x m = grind arith
 

@@ -118,6 +118,19 @@ sid = [
 ]
 "#;
 
+/// B's End, an End.X nested in it, and one whose bits after the block's are those of the nested one
+/// after the End's
+const NESTED: &str = r#"
+block = [{ prefix = "fcbb:bb00::/32", kind = "next", csid = 16 }]
+sid = [
+  { node = "B", prefix = "fcbb:bb00:e001::/48", behaviour = "End.X", csid = "next", links = ["bc2"] },
+  { node = "B", prefix = "fcbb:bb00:2::/48", behaviour = "End", csid = "next" },
+  { node = "B", prefix = "fcbb:bb00:2:e001::/64", behaviour = "End.X", csid = "next", links = ["bc1"] },
+  { node = "D", prefix = "fcbb:bb00:4::/48", behaviour = "End", csid = "next" },
+  { node = "D", prefix = "fcbb:bb00:f001::/48", behaviour = "End.DT6", title = "vpn", table = 100 },
+]
+"#;
+
 /// the shape of a SID of a position, by its place there
 fn shape_at<L: Legs>(rt: &impl Abort, legs: &L, position: u32, place: usize) -> Shape {
     assert!(rt; position <= legs.steps());
@@ -125,6 +138,16 @@ fn shape_at<L: Legs>(rt: &impl Abort, legs: &L, position: u32, place: usize) -> 
     assert!(rt; place < sids.len());
     let sid = sids[place];
     legs.shape(sid)
+}
+
+/// whether a SID of a position may come directly after another in its container, by their places
+fn stays_at<L: Legs>(rt: &impl Abort, legs: &L, position: u32, place: usize, next: usize) -> bool {
+    assert!(rt; position <= legs.steps());
+    let sids = legs.sids_at(position);
+    assert!(rt; place < sids.len() && next < sids.len());
+    let sid = sids[place];
+    let next = sids[next];
+    legs.stays(sid, next)
 }
 
 fn assert_sids<L: Legs>(rt: &impl Abort, legs: &L, position: u32, want: &[u32]) {
@@ -299,5 +322,35 @@ fn legs_of_a_block(rt: HostRuntime) -> Result<(), Fail> {
             "{position} {place}"
         );
     }
+    Ok(())
+}
+
+#[test]
+fn who_stays_beside_nested_sids(rt: HostRuntime) -> Result<(), Fail> {
+    let text = format!(in rt.alloc(); "{ROW}{NESTED}")?;
+    let net = read_net(rt.alloc(), text.as_bytes())?;
+    let intent = read_intent(rt.alloc(), ROW_INTENT.as_bytes(), &net)?;
+    assert!(rt; compilable(rt.alloc(), &net).is_ok());
+    let legs = StrictLegs::build(rt.alloc(), &net, &intent)?;
+    assert_sids(&rt, &legs, 1, &[1, 2, 0]);
+    for (place, next, want) in [
+        (0, 0, true),
+        (0, 1, true),
+        // the address would be the nested SID's
+        (0, 2, false),
+        (1, 0, true),
+        (1, 2, true),
+        (2, 0, true),
+        (2, 2, true),
+    ] {
+        assert_eq!(rt;
+            stays_at(&rt, &legs, 1, place, next),
+            want,
+            "{place} {next}"
+        );
+    }
+    // to the nested SID, and to the one around it
+    assert_eq!(rt; legs.leg(0, None, 2), Some(Leg { to: 1, hops: 1 }));
+    assert_eq!(rt; legs.leg(0, None, 1), Some(Leg { to: 1, hops: 1 }));
     Ok(())
 }
