@@ -292,10 +292,11 @@ module _ (net : Network) (network : IsNetwork net) (flat : IsFlat net) (facts : 
 
   pub leg-down : (x : lists.ListPlace) (q : PrefixValue) (position : ℕ) (via : Option ℕ) (hop : ℕ) (p : Packet)
       → position ≤ length intent.steps → IsVia (legs_value net intent) position via → Along tunnel x hop p → PlaceKeeps net x
-      → active x ≡ list_sid net q → IsSidPrefix net q → 0 < hop → AlwaysHands k via p (drop position intent.steps) → BecomesOf k AnyWay tunnel x q position via hop p
+      → active x ≡ list_sid net q → IsSidPrefix net q → 0 < hop → AlwaysHands k via p (drop position intent.steps)
+      → BecomesOf k AnyWay tunnel x q position via hop p
   leg-down x q position via hop p within at along nests to named positive hands =
       let start = starts position via within at in
       let place = from position via start in
-      let c = comings.comes net network flat facts intent is_intent tunnel family position via x q hop p place.0 start place.1 along nests to named
-      positive (subst (λ (o : Option Place). HandsFrom o p (drop position intent.steps)) place.1 hands) in
+      let c = comings.comes net network flat facts intent is_intent tunnel family position via x q hop p place.0 start place.1 along nests to
+      named positive (subst (λ (o : Option Place). HandsFrom o p (drop position intent.steps)) place.1 hands) in
       becomes position via x q hop p place.0 start place.1 c

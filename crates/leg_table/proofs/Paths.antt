@@ -44,7 +44,8 @@ module _ (k : LegKind) (Longest : Option ℕ → Packet → (ℕ → ℕ) → �
   path-hands (m ∷ more) next position via x hop p need pick taken along nests names is high =
       let got = with_hops-some (k.legs.leg position via next) (λ to. hops_of k.legs to (Some next) (m ∷ more)) need is in
       let further = next-some x _ _ _ names in
-      let a = one.leg_up x further.0 position via next got.0 hop p pick taken got.1 (on-way x hop p next (m ∷ more) along nests names) further.1
+      let a = one.leg_up x further.0 position via next got.0 hop p pick taken got.1 (on-way x hop p next (m ∷ more) along nests names)
+      further.1
       (omega (arith, got.4, high)) in
       let rest = path-hands more m got.0.to (Some next) further.0 (hop - a.lowered) a.packet got.2 pick a.chosen a.along
       (next-keeps k.net x further.0 nests further.1) further.2 got.3
@@ -66,7 +67,8 @@ module _ (k : LegKind) (Longest : Option ℕ → Packet → (ℕ → ℕ) → �
 
   pub path-over : (more : List ℕ) (next position : ℕ) (via : Option ℕ) (x : ListPlace) (hop : ℕ) (p : Packet) (need : ℕ) (pick : ℕ → ℕ)
       (taken : ℕ) (h : Handed)
-      → Along t x hop p → PlaceKeeps k.net x → Names x (next ∷ more) → hops_of k.legs position via (next ∷ more) ≡ Some need → HandsOver k via p pick taken h
+      → Along t x hop p → PlaceKeeps k.net x → Names x (next ∷ more) → hops_of k.legs position via (next ∷ more) ≡ Some need
+      → HandsOver k via p pick taken h
       → IsOver (next ∷ more) need hop via p pick taken h
   path-over [] next position via x hop p need pick taken h along nests names is over =
       one.finish_over x position via next need hop p pick taken h is (on-way x hop p next [] along nests names) (next-none x _ names) over

@@ -9,7 +9,9 @@ pub use Rattle.leg_table.proofs.Meanings.{realized, hands-realizes, kind-means}
 pub use Rattle.leg_table.proofs.StrictMeanings.{strict-leg_laws, strict-kind_laws, legs-mean, path-realizes, list-path}
 pub use Rattle.leg_table.proofs.Traces.{matches-by, left-parts, handed-trace}
 pub use Rattle.leg_table.proofs.Paths.{Names, PathFrom, path-hands, path-over, path-down}
-pub use Rattle.leg_table.proofs.ListPlaces.{active-is, next-none, next-some, before_from, before-last, before-next, before-first, address-at, sids-list}
+pub use Rattle.leg_table.proofs.ListPlaces.{active-is, next-none, next-some, before_from, before-last, before-next, before-first, own-here, address-at, sids-list}
+pub use Rattle.leg_table.proofs.OwnPlaces.{first-keeps, next-keeps, list-keeps, own-at, first-own}
+pub use Rattle.leg_table.proofs.Stays.{stays-follow}
 pub use Rattle.leg_table.proofs.Shapes.{shape-is, shapes-share}
 pub use Rattle.leg_table.proofs.ListShapes.{there, suits-by}
 pub use Rattle.leg_table.proofs.Segments.{into-prefix, mid-onward, mid-low, last-exposes}

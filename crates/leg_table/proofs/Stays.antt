@@ -53,7 +53,8 @@ module _ (net : Network) (network : IsNetwork net) (n : ℕ) (s : SidEntry) (at 
           let Same : ℕ → Type 0 = λ l. unit_at t.prefix l ≡ unit_at inner.prefix (l + 16) in
           subst Same (sym lbl ∙ ap (λ (u : SidEntry). u.block_len) is) equal
 
-  stays-when : (t : SidEntry) (found : Bool) → list_any (spells net s t) net.sids ≡ found → MayFollow net s.prefix t.prefix → not found ≡ true
+  stays-when : (t : SidEntry) (found : Bool) → list_any (spells net s t) net.sids ≡ found → MayFollow net s.prefix t.prefix
+      → not found ≡ true
   stays-when t false e may = refl
   stays-when t true e may =
       let got = Any-from_list_any (spells net s t) net.sids e in
@@ -67,8 +68,8 @@ module _ (net : Network) (network : IsNetwork net) (n : ℕ) (s : SidEntry) (at 
   stays-means t = (may-when t (list_any (spells net s t) net.sids) refl, stays-when t (list_any (spells net s t) net.sids) refl)
 
 -- and so it is of the shapes of two SIDs
-pub stays-follow : (net : Network) → IsNetwork net → (n m : ℕ) (s t : SidEntry) → slice_get net.sids n ≡ Some s → slice_get net.sids m ≡ Some t
-    → IsTrue (stays_of net n m) ↔ MayFollow net (shape_of net n).prefix (shape_of net m).prefix
+pub stays-follow : (net : Network) → IsNetwork net → (n m : ℕ) (s t : SidEntry) → slice_get net.sids n ≡ Some s
+    → slice_get net.sids m ≡ Some t → IsTrue (stays_of net n m) ↔ MayFollow net (shape_of net n).prefix (shape_of net m).prefix
 stays-follow net network n m s t at also =
     let Means : Option SidEntry → Option SidEntry → Type 0
     = λ o q. IsTrue (stays_by net o q) ↔ MayFollow net (shape_by net.blocks o).prefix (shape_by net.blocks q).prefix in

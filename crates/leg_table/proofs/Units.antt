@@ -26,7 +26,8 @@ moved d h k =
     let long : k + 32 ≡ 16 + k + 16 = omega arith in
     let turned : k + 16 ≡ 16 + k = omega arith in
     let up : h * 2 ^ (k + 32) + low * 2 ^ 16 ≡ x * 2 ^ 16 =
-    ap (λ n. h * 2 ^ n + low * 2 ^ 16) long ∙ ap (λ n. h * n + low * 2 ^ 16) (pow-add 2 (16 + k) 16) ∙ raised h low (2 ^ (16 + k)) (2 ^ 16) in
+    ap (λ n. h * 2 ^ n + low * 2 ^ 16) long ∙ ap (λ n. h * n + low * 2 ^ 16) (pow-add 2 (16 + k) 16)
+    ∙ raised h low (2 ^ (16 + k)) (2 ^ 16) in
     let down : (h * 2 ^ (k + 32) + low * 2 ^ 16) / 2 ^ (k + 16) ≡ x / 2 ^ k =
     ap (λ n. n / 2 ^ (k + 16)) up ∙ ap (λ n. x * 2 ^ 16 / 2 ^ n) turned ∙ sym (shr-shr (x * 2 ^ 16) 16 k)
     ∙ ap (λ n. n / 2 ^ k) (ap (λ n. n / 2 ^ 16) (sym (add-zero (x * 2 ^ 16))) ∙ shr_high x 16 0 (pow_pos 16)) in

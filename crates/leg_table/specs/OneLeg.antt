@@ -56,7 +56,8 @@ Leads k position events to = (more : List Event) → matches (steps_from k posit
 abbrev pub after_leg : List Event → ℕ → Handed → Handed
 after_leg events next h = record { trace = events ++ h.trace; sids = next ∷ h.sids; content = h.content }
 
--- a packet at a place of a list that keeps the rule on nested SIDs, on its way to a SID: from a position and the SID that was executed last
+-- a packet at a place of a list that keeps the rule on nested SIDs, on its way to a SID: from a position and the SID that was executed
+-- last
 pub record OnWay (k : LegKind) (t : Tunnel) (x : ListPlace) (hop : ℕ) (p : Packet) (next : ℕ) : Type 0 where
   pub along : Along t x hop p
   pub keeps : PlaceKeeps k.net x

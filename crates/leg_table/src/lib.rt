@@ -10,10 +10,10 @@
 //! of walks, `specs/Realizes.antt` when a list realizes an intent, `specs/Choices.antt` the ways
 //! whichever next hop is chosen, `specs/Ride.antt` those by look-ups alone, `specs/Sids.antt` the
 //! SIDs of a position, `specs/Leg.antt` legs and finishes, `specs/Nests.antt` which SIDs may follow
-//! one in its container, `specs/Value.antt` what a search sees of them. `specs/OneLeg.antt` has the laws of one leg and one finish, which say what paths are,
-//! whatever kind of legs keeps them, and `specs/Meant.antt` when a list realizes by legs of a kind.
-//! The functions of `laws` do nothing: their contracts are the laws that lead from look-ups to
-//! lists.
+//! one in its container, `specs/Value.antt` what a search sees of them. `specs/OneLeg.antt` has the
+//! laws of one leg and one finish, which say what paths are, whatever kind of legs keeps them, and
+//! `specs/Meant.antt` when a list realizes by legs of a kind. The functions of `laws` do nothing:
+//! their contracts are the laws that lead from look-ups to lists.
 #![tactic(auto)]
 
 mod laws;

@@ -28,8 +28,8 @@ use std::marker::Model;
 use v6_addr::Prefix;
 use walk_rules::{How, Place, onward_from};
 
-/// The legs of an intent in a network, with the SIDs of each position, the ways from its node to all
-/// SIDs, and what is nested in each SID, so that each question is a look-up or two. (own rule)
+/// The legs of an intent in a network, with the SIDs of each position, the ways from its node to
+/// all SIDs, and what is nested in each SID, so that each question is a look-up or two. (own rule)
 #[derive(Debug, Drop)]
 pub struct StrictLegs<'a> {
     net: &'a Net,
