@@ -1,5 +1,5 @@
 -- Whether a SID stays directly after another in its container is whether it may follow that one, as the units of the nested SIDs tell.
-use Rattle.std.proofs.Common.{◌≡◌, ◌⊎◌, inl, inr, ℕ, ◌+◌, ◌<◌, ◌≤◌, Bool, true, false, ◌==◌, List, [], ◌∷◌, ◌++◌, length, Option, Some, slice_get, Contains, refl, sym, ◌∙◌, ap, subst, arith, eqb-true, length-append}
+use Rattle.std.proofs.Common.{◌≡◌, ◌⊎◌, inl, inr, ℕ, zero, suc, ◌+◌, ◌<◌, ◌≤◌, Bool, true, false, ◌==◌, List, [], ◌∷◌, ◌++◌, length, Option, Some, slice_get, Contains, refl, sym, ◌∙◌, ap, subst, arith, eqb-true, length-append}
 use Rattle.std.specs.Prelude.{◌↔◌, IsTrue, not}
 use Rattle.std.specs.List.{list_any}
 use Rattle.std.proofs.lemmas.Bool.{cases_lt, false≢true, and_parts, and_from, eq-eqb}
@@ -12,7 +12,8 @@ use Rattle.net_model.proofs.PublicLaws.{keeps_from_network, get_from_contains, c
 use Rattle.flat_networks.specs.Nests.{IsNest, MayFollow, unit_at}
 use Rattle.flat_networks.specs.NestTests.{is_nest}
 use Rattle.flat_networks.specs.Units.{AreNestedUnits}
-use Rattle.flat_networks.proofs.PublicLaws.{nest_is, nest_block}
+use Rattle.flat_networks.proofs.NestLemmas.{nest_is}
+use Rattle.flat_networks.proofs.PublicLaws.{nest_block}
 use Rattle.leg_table.specs.Nests.{AreNested, spells, stays_by, stays_of}
 use Rattle.leg_table.specs.Table.{shape_by, shape_of}
 use Rattle.leg_table.proofs.Options.{some-same, get-pushed, get-before}
@@ -35,23 +36,21 @@ module _ (net : Network) (network : IsNetwork net) (n : ℕ) (s : SidEntry) (at 
   -- no nested SID is spelt exactly where the other may follow
   may-when : (t : SidEntry) (found : Bool) → list_any (spells net s t) net.sids ≡ found → not found ≡ true → MayFollow net s.prefix t.prefix
   may-when t true e none = absurd (false≢true none)
-  may-when t false e none outer inner there inner_there same nest equal =
+  may-when t false e none = λ outer inner there inner_there same nest equal.
       let is = one-outer outer inner there same nest in
       let own : IsNest net s inner = subst (λ (u : SidEntry). IsNest net u inner) is nest in
       let spelt : spells net s t inner ≡ true
       = and_from (is_nest net s inner) _ ((nest_is net s inner).1 own)
-      (eq-eqb (unit_at t.prefix s.block_len) (unit_at inner.prefix (s.block_len + 16)) (by outer is nest equal)) in
+      (eq-eqb (unit_at t.prefix s.block_len) (unit_at inner.prefix (s.block_len + 16)) (by outer inner is nest equal)) in
       absurd (false≢true (sym e ∙ list_any_at (spells net s t) net.sids inner_there.0 inner inner_there.1
       (subst (λ (u : SidEntry). spells net s t u ≡ true) (sym inner_there.2) spelt)))
     where
-      by : (outer : SidEntry) → outer ≡ s → (nest : IsNest net outer inner)
+      by : (outer inner : SidEntry) → outer ≡ s → (nest : IsNest net outer inner)
           → unit_at t.prefix nest.block.prefix.len ≡ unit_at inner.prefix (nest.block.prefix.len + 16)
           → unit_at t.prefix s.block_len ≡ unit_at inner.prefix (s.block_len + 16)
-      by outer is nest equal =
-          let lbl : outer.block_len ≡ nest.block.prefix.len
-          = nest_block net n outer inner network (at ∙ ap Some (sym is)) nest in
-          let Same : ℕ → Type 0 = λ l. unit_at t.prefix l ≡ unit_at inner.prefix (l + 16) in
-          subst Same (sym lbl ∙ ap (λ (u : SidEntry). u.block_len) is) equal
+      by outer inner is nest equal =
+          let lbl : outer.block_len ≡ nest.block.prefix.len = nest_block net n outer inner network (at ∙ ap Some (sym is)) nest in
+          subst (λ (l : ℕ). unit_at t.prefix l ≡ unit_at inner.prefix (l + 16)) (sym lbl ∙ ap (λ (u : SidEntry). u.block_len) is) equal
 
   stays-when : (t : SidEntry) (found : Bool) → list_any (spells net s t) net.sids ≡ found → MayFollow net s.prefix t.prefix
       → not found ≡ true
@@ -132,9 +131,14 @@ module _ (net : Network) (network : IsNetwork net) (n : ℕ) (s : SidEntry) (at 
     where
       by : (us : List ℕ) → (length us == 0) ≡ true → true ≡ not (list_any (λ (u : ℕ). u == unit_at t.prefix s.block_len) us)
       by [] e = refl
-      by (u ∷ us) e = absurd (false≢true e)
+      by (u ∷ us) e = let none = eqb-true (length (u ∷ us)) 0 e in absurd (omega arith)
 
 -- ---- the units of all SIDs
+
+pub sid-there : (sids : List SidEntry) (n : ℕ) → n < length sids → (s : SidEntry) × (slice_get sids n ≡ Some s)
+sid-there [] n within = absurd (omega arith)
+sid-there (s ∷ sids) zero within = (s, refl)
+sid-there (s ∷ sids) (suc n) within = sid-there sids n (omega arith)
 
 pub nested-none : (net : Network) → AreNested net 0 []
 nested-none net = record { long = refl; units = λ n s units at got. absurd (none-some units got) }
