@@ -20,7 +20,7 @@ use Rattle.list_places.proofs.PublicLaws.{destination-holds}
 use Rattle.list_pack.specs.declared.types.Container as containers
 use Rattle.list_pack.specs.declared.types.Container.TheVariants as kinds
 use Rattle.list_pack.specs.SidLists.{IsSidPrefix, IsLegalList, FollowOn, KeepsNests, container_in, kind_csid, list_in, list_sid, prefixes_in, prefixes_of, sid_block}
-use Rattle.leg_table.specs.Nests.{IsListSid, FullKeeps, ContainerKeeps, ListKeeps, PlaceKeeps}
+use Rattle.leg_table.specs.Nests.{IsListSid, ContainerKeeps, ListKeeps, PlaceKeeps}
 use Rattle.leg_table.proofs.Options.{some-same}
 use Rattle.leg_table.proofs.Units.{held-unit, unit-after, unit-last}
 
