@@ -3,7 +3,8 @@
 ghost use Rattle.std.specs.Prelude.{◌<◌};
 
 use pcap_io::{
-    Body, CaptureEnd, CaptureHead, CapturePieces, Frame, FrameNext, FrameReader, LinkType,
+    Body, CaptureEnd, CaptureFault, CaptureHead, CapturePieces, CutFrame, Frame, FrameNext,
+    FrameReader, LinkType, TakeFault, read_head,
 };
 use std::alloc::Global;
 use std::test::Fail;
@@ -103,5 +104,73 @@ fn a_capture_in_memory_is_fed_in_pieces(rt: HostRuntime) -> Result<(), Fail> {
         }
     }
     assert_eq!(rt; last, 4);
+    Ok(())
+}
+
+/// The head's bytes: microseconds, version 2.4, time zone, accuracy, a snaplen of 262,144, link
+/// type 1.
+const HEAD_BYTES: [u8; 24] = [
+    0xa1, 0xb2, 0xc3, 0xd4, 0, 2, 0, 4, 0, 0, 0, 0, 0, 0, 0, 0, 0, 4, 0, 0, 0, 0, 0, 1, //
+];
+
+#[test]
+fn a_capture_byte_by_byte(rt: HostRuntime) -> Result<(), Fail> {
+    for len in 0..24 {
+        assert_eq!(rt;
+            read_head(&HEAD_BYTES[..len]),
+            Err(CaptureFault::CutHead),
+            "at {len}"
+        );
+    }
+    assert_eq!(rt; read_head(&HEAD_BYTES), Ok(HEAD));
+    let shown = in_pieces(rt.alloc(), 1)?;
+    assert_eq!(rt; shown.as_slice(), SHOWN.as_slice());
+    Ok(())
+}
+
+#[test]
+fn each_fault_of_a_head(rt: HostRuntime) -> Result<(), Fail> {
+    for (at, byte, fault) in [
+        (0, 0xa2, CaptureFault::BadMagic),
+        (5, 3, CaptureFault::BadVersion),
+        (7, 3, CaptureFault::BadVersion),
+        (23, 113, CaptureFault::BadLink { link: 113 }),
+        (22, 1, CaptureFault::BadLink { link: 257 }),
+    ] {
+        let mut head = HEAD_BYTES;
+        head[at] = byte;
+        assert_eq!(rt; read_head(&head), Err(fault), "at {at}");
+    }
+    let section = [0x0a, 0x0d, 0x0d, 0x0a];
+    assert_eq!(rt; read_head(&section), Err(CaptureFault::PcapNg));
+    Ok(())
+}
+
+#[test]
+fn a_frame_whose_last_byte_is_missing(rt: HostRuntime) -> Result<(), Fail> {
+    let mut reader = FrameReader::new(rt.alloc(), HEAD);
+    reader.feed(&FRAMES[..34])?;
+    if let None = reader.take()? {
+        assert_eq!(rt; reader.finish(), Err(CutFrame { number: 1 }));
+    } else {
+        assert!(rt; false, "a frame is there");
+    }
+    Ok(())
+}
+
+#[test]
+fn a_byte_after_the_last_frame(rt: HostRuntime) -> Result<(), Fail> {
+    let mut reader = FrameReader::new(rt.alloc(), HEAD);
+    let mut number = 0;
+    for _ in 0..65_536 {
+        reader.feed(&[0; 16])?;
+        if let Some(frame) = reader.take()? {
+            number = frame.number;
+        }
+    }
+    assert_eq!(rt; number, 65_536);
+    assert!(rt; matches!(reader.take(), Ok(None)));
+    reader.feed(&[0])?;
+    assert!(rt; matches!(reader.take(), Err(TakeFault::FrameLimit)));
     Ok(())
 }
