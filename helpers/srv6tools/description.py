@@ -19,6 +19,7 @@ BEHAVIOURS = (
     "End", "End.X", "End.T", "End.DX6", "End.DX4", "End.DT6", "End.DT4", "End.DT46",
     "End.B6.Encaps", "End.B6.Encaps.Red",
 )  # fmt: skip
+LEAST_MTU, MOST_MTU = 1_280, 65_575  # bytes; the most is what a link has that says nothing
 TABLES = ("block", "node", "link", "route", "policy", "sid")
 
 
@@ -53,6 +54,7 @@ class Link:
     name: str
     start: str
     end: str | None
+    mtu: int = MOST_MTU  # bytes of the longest packet that it carries
 
 
 class Route(NamedTuple):
@@ -218,7 +220,8 @@ def _node(item: Item) -> Node:
 def _link(item: Item, net: Network) -> Link:
     start = _known(item, "from", item.text("from"), net.nodes)
     end = _known(item, "to", item.text("to"), net.nodes) if item.has("to") else None
-    return Link(item.number, item.text("name"), start, end)
+    mtu = item.integer("mtu", MOST_MTU, LEAST_MTU, MOST_MTU)
+    return Link(item.number, item.text("name"), start, end, mtu)
 
 
 def _route(item: Item, net: Network) -> Route:
