@@ -18,8 +18,8 @@ DESCRIPTION = """\
 Prints `largest-inner N` for the list of `srv6 compile NET INTENT`: the header in front and a
 packet inside of at most N bytes are within the MTU of each link of each step, whichever equal next
 hop is chosen. The next line says which links have the least MTU. A longer packet is dropped where
-its bytes there are more than the MTU; where PSP or USP took the routing header out before, it may
-still pass. Where no packet passes, and where there is no list, the status is 3."""
+its bytes there are more than the MTU of the link taken; behind a SID that took the routing header
+out it may still pass. Where no packet passes, or there is no list, the status is 3."""
 
 
 @dataclass(frozen=True, slots=True)

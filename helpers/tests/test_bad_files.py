@@ -14,6 +14,7 @@ CAPTURE, SENT, CERT, TRACE = "capture", "sent", "cert", "trace"
 CALLS = [
     ("to-raw", [CAPTURE], None),
     ("why-no-list", [NET, INTENT], None),
+    ("largest-inner", [NET, INTENT], None),
     ("all-paths", [NET, "B"], CAPTURE),
     ("all-paths", [NET, INTENT], CAPTURE),
     ("name-links", [NET], SENT),

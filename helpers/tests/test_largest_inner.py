@@ -27,9 +27,8 @@ class LargestInner(ToolCase):
         net = M2.read_text().replace(BC1, f"{BC1}\nmtu = 1500")
         first, second = self.said(net.replace('name = "cd"', 'name = "cd"\nmtu = 9000'))
         self.assertEqual(first, "largest-inner 1436")
-        self.assertEqual(
-            second, "the header takes 64 bytes, and the least MTU of the steps' links is 1500: bc1 (step 2)"
-        )
+        wanted = "the least MTU of the steps' links is 1500: bc1 (step 2)"
+        self.assertEqual(second, f"the header takes 64 bytes, and {wanted}")
 
     def test_links_of_no_step_count_for_nothing(self):
         net = M2.read_text().replace('name = "bc2"', 'name = "bc2"\nmtu = 1280')
