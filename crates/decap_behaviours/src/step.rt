@@ -6,6 +6,7 @@ ghost use Rattle.srv6_rules.specs.Packet.{packet_at};
 ghost use Rattle.srv6_rules.specs.CompressedSteps.{SuitsCompression, is_next};
 ghost use Rattle.srv6_rules.specs.Endpoint.{at_sid};
 ghost use Rattle.endpoint_chain.specs.Outcomes.{ComesOf, HoldsAlone};
+ghost use Rattle.endpoint_chain.specs.Fronts.{FrontAfter};
 
 use crate::judge::{Exposure, judge};
 use endpoint_chain::EndOutcome;
@@ -23,17 +24,19 @@ use srv6_rules::SidEntry;
 ///
 /// After them `Hand` comes where the upper layer is a packet that the SID exposes: of IPv6 at
 /// End.DX6 and End.DT6, of IPv4 at End.DX4 and End.DT4, of either at End.DT46. The buffer is left
-/// with the bytes from that packet's first on, of which none is changed. `Local` comes for another
+/// with the bytes from that packet's first on, of which none is changed, and all before them are
+/// spare. `Local` comes for another
 /// upper layer that is allowed, and `Drop` for `UpperLayer` where it is not, at its first byte. But
-/// for `Hand` the bytes are as they were. `On` never comes.
+/// for `Hand` the bytes are as they were, and as many are spare. `On` never comes.
 pub fn decap_step(sid: &SidEntry, allow: &[u8], buf: &mut PktBuf) -> EndOutcome
     requires ends { goes_on sid.now ≡ false }
     requires suits { SuitsCompression sid.now }
     requires usp { sid.now.usp ≡ false }
     requires next { is_next sid.now.csid ≡ false }
     requires packet { HoldsAlone buf.old.bytes }
-    ensures { ComesOf (at_sid sid.now allow.now (packet_at buf.old.bytes)) buf.old.bytes
+    ensures outcome { ComesOf (at_sid sid.now allow.now (packet_at buf.old.bytes)) buf.old.bytes
         buf.new.bytes result }
+    ensures front { FrontAfter buf.old buf.new result }
 {
     match judge(sid, allow, buf.view()) {
         Exposure::Expose { family, at } => {

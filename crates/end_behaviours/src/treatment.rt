@@ -6,6 +6,7 @@ ghost use Rattle.srv6_rules.specs.Chain.{StandsIn};
 ghost use Rattle.srv6_rules.specs.CompressedSteps.{SuitsCompression};
 ghost use Rattle.srv6_rules.specs.Endpoint.{at_sid};
 ghost use Rattle.srv6_rules.specs.Packet.{packet_at};
+ghost use Rattle.endpoint_chain.specs.Fronts.{FrontAfter};
 ghost use Rattle.endpoint_chain.specs.Outcomes.{ComesOf, HoldsAlone};
 ghost use Rattle.ip6_headers.specs.Stepping.{place_view};
 ghost use Rattle.end_behaviours.specs.Finding.{at_sid_from};
@@ -30,6 +31,7 @@ fn step_from(sid: &SidEntry, allow: &[u8], buf: &mut PktBuf, start: ChainPlace) 
         (at_sid_from sid.now allow.now (packet_at buf.old.bytes) (place_view start))
         buf.old.bytes buf.new.bytes result }
     ensures reaches { Reaches start.at buf.new.bytes result }
+    ensures front { FrontAfter buf.old buf.new result }
 {
     match find(sid, allow, buf.view(), start) {
         Found::Shift => shift_on(sid, buf),
@@ -62,7 +64,8 @@ fn step_from(sid: &SidEntry, allow: &[u8], buf: &mut PktBuf, start: ChainPlace) 
 /// in front is taken out, but only where the packet goes on or is handed over. Where a header is
 /// taken out, the payload length is as much lower, and the field that named the header names what
 /// stood after it. `Drop` has the reason, and the place of the fault in bytes from the first of
-/// the packet as it came, 0 where the reason has none; no byte changes then.
+/// the packet as it came, 0 where the reason has none; no byte changes then. But for `Hand` as many
+/// bytes are spare in front as before.
 ///
 /// It takes no memory. The calls for the headers that USP takes out stand one in the other, at most
 /// 8,191 of them.
@@ -70,8 +73,9 @@ pub fn end_step(sid: &SidEntry, allow: &[u8], buf: &mut PktBuf) -> EndOutcome
     requires goes_on { goes_on sid.now ≡ true }
     requires suits { SuitsCompression sid.now }
     requires packet { HoldsAlone buf.old.bytes }
-    ensures { ComesOf (at_sid sid.now allow.now (packet_at buf.old.bytes))
+    ensures outcome { ComesOf (at_sid sid.now allow.now (packet_at buf.old.bytes))
         buf.old.bytes buf.new.bytes result }
+    ensures front { FrontAfter buf.old buf.new result }
 {
     let next_header = Ip6View::over(buf.view()).next_header();
     step_from(sid, allow, buf, ChainPlace::first(next_header))

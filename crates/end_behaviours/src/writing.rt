@@ -7,10 +7,12 @@ ghost use Rattle.srv6_rules.specs.Behaviours.{goes_on};
 ghost use Rattle.srv6_rules.specs.Endpoint.{Endpoint, after_step, at_segment_routing, by_replace_step, next_csid, next_segment, outcome_without, shifts_at};
 ghost use Rattle.srv6_rules.specs.Packet.{Spells, header_len, packet_at};
 ghost use Rattle.srv6_rules.specs.Srh.{srh_of};
+ghost use Rattle.endpoint_chain.specs.Fronts.{FrontAfter};
 ghost use Rattle.endpoint_chain.specs.Outcomes.{ComesOf, HoldsAlone};
 ghost use Rattle.ip6_headers.specs.Reading.{HoldsPacket};
 ghost use Rattle.replace_csid.specs.Replacing.{with_move};
 ghost use Rattle.ip6_headers.specs.Stepping.{place_view};
+ghost use Rattle.pkt_buf.specs.BufferView.{Buffer};
 ghost use Rattle.end_behaviours.specs.Finding.{LiesAt, header_of, is_last};
 ghost use Rattle.end_behaviours.specs.Stepping.{Reaches, Remains, move_to};
 
@@ -32,6 +34,7 @@ pub(crate) fn shift_on(sid: &SidEntry, buf: &mut PktBuf) -> EndOutcome
     ensures outcome { ComesOf (next_csid sid.now (packet_at buf.old.bytes))
         buf.old.bytes buf.new.bytes result }
     ensures long { length buf.new.bytes ≡ length buf.old.bytes }
+    ensures front { FrontAfter buf.old buf.new result }
 {
     match shift(sid.compression(), buf.view_mut()) {
         ShiftOutcome::Shifted => EndOutcome::On,
@@ -70,6 +73,7 @@ fn pop(sid: &SidEntry, ended: bool, buf: &mut PktBuf, place: ChainPlace, len: us
         (header_of (packet_at buf.old.bytes) (place_view place) len)
         else packet_at buf.old.bytes) }
     ensures long { place.at ≤ length buf.new.bytes }
+    ensures front { buf.new.front ≡ buf.old.front }
 {
     if sid.psp && ended {
         take_out(buf, place, len);
@@ -89,6 +93,7 @@ fn step_whole(sid: &SidEntry, buf: &mut PktBuf, place: ChainPlace, len: usize) -
         after_step sid.now h (next_segment (packet_at buf.old.bytes) place.at (srh_of h.bytes)))
         buf.old.bytes buf.new.bytes result }
     ensures reaches { Reaches place.at buf.new.bytes result }
+    ensures front { FrontAfter buf.old buf.new result }
 {
     match judge_bytes(buf.view(), place, len) {
         SegmentStep::Advance { left, destination } => {
@@ -116,6 +121,7 @@ fn step_packed(sid: &SidEntry, buf: &mut PktBuf, place: ChainPlace, len: usize) 
         (packet_at buf.old.bytes) place.at (srh_of h.bytes)))
         buf.old.bytes buf.new.bytes result }
     ensures reaches { Reaches place.at buf.new.bytes result }
+    ensures front { FrontAfter buf.old buf.new result }
 {
     match replace(sid.compression(), place.at, buf.view_mut()) {
         ReplaceOutcome::Moved { end } => {
@@ -149,6 +155,7 @@ pub(crate) fn step_over(
         (header_of (packet_at buf.old.bytes) (place_view place) len) behind)
         buf.old.bytes buf.new.bytes result }
     ensures reaches { Reaches place.at buf.new.bytes result }
+    ensures front { FrontAfter buf.old buf.new result }
 {
     match sid.csid {
         Csid::Replace => step_packed(sid, buf, place, len),
@@ -169,6 +176,8 @@ pub(crate) fn take_out_of(outcome: EndOutcome, buf: &mut PktBuf, place: ChainPla
         → ComesOf e first buf.old.bytes outcome
         → ComesOf (outcome_without h e) first buf.new.bytes outcome }
     ensures reaches { Reaches place.at buf.new.bytes outcome }
+    ensures front { (first : Buffer) → FrontAfter first buf.old outcome
+        → FrontAfter first buf.new outcome }
 {
     match outcome {
         EndOutcome::On | EndOutcome::Local => take_out(buf, place, len),

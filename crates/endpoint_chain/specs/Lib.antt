@@ -1,3 +1,4 @@
 pub mod Outcomes
 pub mod Judging
 pub mod Removal
+pub mod Fronts

@@ -1,3 +1,5 @@
+use Rattle.std.proofs.Common.{ap}
+use Rattle.pkt_buf.specs.BufferView.{Buffer}
 use Rattle.srv6_rules.specs.Packet.{packet_at}
 use Rattle.srv6_rules.specs.Endpoint.{at_sid}
 use Rattle.decap_behaviours.specs.declared.judge.Exposure.TheVariants.{Expose, Deliver, Refuse}
@@ -19,8 +21,8 @@ dropped-requires c =
     let is = judged-in c.args.sid.now c.args.allow.now c.view.result.now bytes (Refuse fault) c.view.ensures c.in-Refuse.ensures in
     alone-fault bytes c.requires.packet c.args.sid.now c.args.allow.now fault.reason fault.at is
 
-pub returns-in-Expose : goal.returns-in-Expose
-returns-in-Expose c =
+pub returns-in-Expose-clause-outcome : goal.returns-in-Expose-clause-outcome
+returns-in-Expose-clause-outcome c =
     let bytes = c.args.buf.now.bytes in
     let at = c.in-Expose.at in
     let is = judged-in c.args.sid.now c.args.allow.now c.view.result.now bytes (Expose c.in-Expose.family at) c.view.ensures
@@ -28,8 +30,21 @@ returns-in-Expose c =
     rw c.drop_front.ensures
     (alone-exposes bytes c.requires.packet (at_sid c.args.sid.now c.args.allow.now (packet_at bytes)) c.in-Expose.family at is.0 is.1)
 
-pub returns-in-Deliver : goal.returns-in-Deliver
-returns-in-Deliver c =
+pub returns-in-Expose-clause-front : goal.returns-in-Expose-clause-front
+returns-in-Expose-clause-front c =
+    let bytes = c.args.buf.now.bytes in
+    let at = c.in-Expose.at in
+    let is = judged-in c.args.sid.now c.args.allow.now c.view.result.now bytes (Expose c.in-Expose.family at) c.view.ensures
+    c.in-Expose.ensures in
+    record {
+      taken = at;
+      within = place-there bytes c.requires.packet at is.1;
+      bytes = ap (λ (b : Buffer). b.bytes) c.drop_front.ensures;
+      front = ap (λ (b : Buffer). b.front) c.drop_front.ensures;
+    }
+
+pub returns-in-Deliver-clause-outcome : goal.returns-in-Deliver-clause-outcome
+returns-in-Deliver-clause-outcome c =
     let bytes = c.args.buf.now.bytes in
     let is = judged-in c.args.sid.now c.args.allow.now c.view.result.now bytes Deliver c.view.ensures c.in-Deliver.ensures in
     alone-leaves bytes c.requires.packet (at_sid c.args.sid.now c.args.allow.now (packet_at bytes)) is

@@ -83,6 +83,20 @@ returns-in-Expose-clause-outcome t c =
     rw (ap (λ (b : Buffer). b.bytes) c.drop_front.ensures)
     (exposed-bytes _ c.in-Expose.family old c.in-Expose.at c.requires.packet found.1.behind found.0)
 
+pub returns-in-Expose-clause-front : goal.returns-in-Expose-clause-front
+returns-in-Expose-clause-front t c =
+    let old = c.args.buf.now.bytes in
+    let found = found-in c.args.sid.now c.args.allow.now c.view.result.now old c.args.start.at (place_view c.args.start)
+    (Expose c.in-Expose.family c.in-Expose.at) c.view.ensures c.in-Expose.ensures in
+    let within = found.1.within in
+    let all = alone-length old c.requires.packet in
+    record {
+      taken = c.in-Expose.at;
+      within = omega arith;
+      bytes = ap (λ (b : Buffer). b.bytes) c.drop_front.ensures;
+      front = ap (λ (b : Buffer). b.front) c.drop_front.ensures;
+    }
+
 pub returns-in-Deliver-clause-outcome : goal.returns-in-Deliver-clause-outcome
 returns-in-Deliver-clause-outcome t c =
     let old = c.args.buf.now.bytes in

@@ -16,8 +16,8 @@ step_from-requires-clause-stands c =
     let P : ChainPlace → Type 0 = λ k. StandsIn p k in
     subst P (sym is) (start-stands p)
 
-pub returns : goal.returns
-returns c =
+pub returns-clause-outcome : goal.returns-clause-outcome
+returns-clause-outcome c =
     let s = c.args.sid.now in
     let allow = c.args.allow.now in
     let p = packet_at c.args.buf.now.bytes in

@@ -11,12 +11,12 @@ pub returns-then-ended-clause-packet : goal.returns-then-ended-clause-packet
 returns-then-ended-clause-packet c =
     let both : (c.args.sid.now.psp && c.args.ended) ≡ true = rw (c.if-sid.true, c.if-ended.true) refl in
     out-spelled c.args.buf.now.bytes c.take_out.new.buf.bytes (place_view c.args.place) c.args.len c.requires.packet c.requires.behind
-    c.requires.within (c.args.sid.now.psp && c.args.ended) both c.take_out.ensures
+    c.requires.within (c.args.sid.now.psp && c.args.ended) both c.take_out.ensures.packet
 
 pub returns-then-ended-clause-long : goal.returns-then-ended-clause-long
 returns-then-ended-clause-long c =
     out-reaches c.args.buf.now.bytes c.take_out.new.buf.bytes (place_view c.args.place) c.args.len c.requires.packet c.requires.behind
-    c.requires.within c.take_out.ensures
+    c.requires.within c.take_out.ensures.packet
 
 pub returns-else-sid-clause-packet : goal.returns-else-sid-clause-packet
 returns-else-sid-clause-packet c =

@@ -10,7 +10,7 @@ returns-in-On-clause-outcome c =
     let alone = remains-alone at bytes c.args.outcome c.in-On.is c.requires.remains in
     let within = remains-within at bytes c.args.outcome c.in-On.is c.requires.remains in
     out-comes bytes c.take_out.new.buf.bytes (place_view c.args.place) c.args.len alone c.requires.behind within c.args.outcome c.in-On.is
-    c.take_out.ensures
+    c.take_out.ensures.packet
 
 pub returns-in-On-clause-reaches : goal.returns-in-On-clause-reaches
 returns-in-On-clause-reaches c =
@@ -19,4 +19,4 @@ returns-in-On-clause-reaches c =
     let alone = remains-alone at bytes c.args.outcome c.in-On.is c.requires.remains in
     let within = remains-within at bytes c.args.outcome c.in-On.is c.requires.remains in
     out-reaches_by c.args.outcome c.args.place.at c.take_out.new.buf.bytes
-    (out-reaches bytes c.take_out.new.buf.bytes (place_view c.args.place) c.args.len alone c.requires.behind within c.take_out.ensures)
+    (out-reaches bytes c.take_out.new.buf.bytes (place_view c.args.place) c.args.len alone c.requires.behind within c.take_out.ensures.packet)

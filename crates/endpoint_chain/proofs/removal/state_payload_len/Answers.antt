@@ -4,9 +4,9 @@ use Rattle.srv6_rules.specs.Packet.{two_bytes}
 use Rattle.endpoint_chain.proofs.RemovalLemmas.{set-two}
 use Rattle.endpoint_chain.proofs.removal.state_payload_len.Goals as goal
 
-pub returns : goal.returns
+pub returns-clause-bytes : goal.returns-clause-bytes
 unfolding two_bytes
-returns c =
+returns-clause-bytes c =
     let xs : List ℕ = c.args.buf.now.bytes in
     let bs : List ℕ = c.to_be_bytes-bytes.result in
     let room = c.requires in

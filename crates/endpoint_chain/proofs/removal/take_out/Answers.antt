@@ -21,8 +21,8 @@ overflow_cast-payload_len c =
     let len = c.len-payload_len.ensures in
     omega arith
 
-pub returns : goal.returns
-returns c =
+pub returns-clause-packet : goal.returns-clause-packet
+returns-clause-packet c =
     let bytes : List ℕ = c.args.buf.now.bytes in
     let place = place_view c.args.place in
     let named : List ℕ = c.set.new.self.bytes in
@@ -33,4 +33,4 @@ returns c =
     (ap (λ (b : Buffer). b.bytes) c.set.ensures ∙ ap (λ n. slice_set bytes c.args.place.named_at n) read)
     (ap (λ (b : Buffer). b.bytes) c.cut.ensures)
     (ap (λ n. n - 40) c.len-payload_len.ensures)
-    c.state_payload_len.ensures
+    c.state_payload_len.ensures.bytes
