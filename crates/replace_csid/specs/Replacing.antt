@@ -1,7 +1,7 @@
 -- A packet's bytes before and after the step over its segment routing header.
-use Rattle.std.specs.Prelude.{◌≡◌, ℕ, ◌+◌, ◌-◌, Bool, List, slice_set}
+use Rattle.std.specs.Prelude.{◌≡◌, ◌≢◌, ℕ, ◌+◌, ◌-◌, Bool, List, slice_set, Option, Some, None}
 use Rattle.srv6_rules.specs.declared.compression.Compression.{Compression}
-use Rattle.srv6_rules.specs.Packet.{V6, content_of, packet_at}
+use Rattle.srv6_rules.specs.Packet.{Packet, V6, content_of, packet_at}
 use Rattle.srv6_rules.specs.Srh.{srh_of, segments_left_at}
 use Rattle.srv6_rules.specs.Chain.{from_place}
 use Rattle.srv6_rules.specs.CompressedSteps.{Move, ReplaceStep, Moved, AtEnd, Dropped, moved, replace_step, with_hop_and_destination}
@@ -29,3 +29,8 @@ IsReplaced c at old new (outcomes.Moved end) = IsMoved c at old new end
 IsReplaced c at old new outcomes.End = (step_at c old at ≡ AtEnd) × (new ≡ old)
 IsReplaced c at old new (outcomes.Drop reason place) =
     (step_at c old at ≡ Dropped (record { reason = reason; at = place })) × (new ≡ old)
+
+-- whether no segment is left after the step, where the packet is moved on; none where it is not
+abbrev pub WouldMove : Packet → ℕ → ReplaceStep → Option Bool → Type 0
+WouldMove p at step (Some end) = (m : Move) × (step ≡ Moved (moved p at m) end)
+WouldMove p at step None = (q : Packet) (end : Bool) → step ≢ Moved q end

@@ -12,4 +12,4 @@ mod laws;
 mod step;
 
 pub use laws::header_of_a_chain_can_be_stepped_over;
-pub use step::{ReplaceOutcome, is_at_end, replace};
+pub use step::{ReplaceOutcome, is_at_end, replace, would_end};

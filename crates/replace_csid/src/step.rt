@@ -7,7 +7,7 @@ ghost use Rattle.srv6_rules.specs.Chain.{from_place, is_whole, routing};
 ghost use Rattle.srv6_rules.specs.CompressedSteps.{IsReplace, is_at_end, moved};
 ghost use Rattle.ip6_headers.specs.Reading.{HoldsPacket};
 ghost use Rattle.replace_csid.specs.Judging.{IsListMove, step_view};
-ghost use Rattle.replace_csid.specs.Replacing.{IsReplaced, step_at, with_move};
+ghost use Rattle.replace_csid.specs.Replacing.{IsReplaced, WouldMove, step_at, with_move};
 
 use crate::csids::{is_ended, lacks_entry};
 use crate::judge::{ListMove, Step, judge};
@@ -128,5 +128,20 @@ pub fn replace(compression: Compression, at: usize, bytes: &mut [u8]) -> Replace
             reason: fault.reason,
             at: fault.at,
         },
+    }
+}
+
+/// Whether no segment would be left after `replace` where it would answer `Moved`, and none where it
+/// would not; no byte is changed.
+pub fn would_end(compression: Compression, at: usize, bytes: &[u8]) -> Option<bool>
+    requires packet { HoldsPacket bytes.now }
+    requires replace { IsReplace compression }
+    requires behind { header_len ≤ at }
+    requires whole { is_whole routing (from_place (packet_at bytes.now) at) ≡ true }
+    ensures { WouldMove (packet_at bytes.now) at (step_at compression bytes.now at) result }
+{
+    match judge_bytes(compression, at, bytes) {
+        ListMove::Move { step } => Some(step.end),
+        ListMove::End | ListMove::Refuse { .. } => None,
     }
 }

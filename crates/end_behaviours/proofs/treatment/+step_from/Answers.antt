@@ -109,3 +109,6 @@ returns-in-Deliver-clause-reaches t c =
     let within = c.requires.stands.within in
     let all = alone-length c.args.buf.now.bytes c.requires.packet in
     omega arith
+
+pub returns-in-Last-clause-front : goal.returns-in-Last-clause-front
+returns-in-Last-clause-front t c = c.take_out_of.ensures.front c.args.buf.now c.step_from-outcome.ensures.front

@@ -15,7 +15,7 @@ pub new-requires : goal.new-requires
 new-requires c = let most = alone-most c.bytes.result.now c.bytes.ensures.alone in omega arith
 
 pub push-requires-clause-packet : goal.push-requires-clause-packet
-push-requires-clause-packet c = spells-most c.end_step-outcome.new.buf.bytes c.in-On.ensures.packet c.in-On.ensures.spelled
+push-requires-clause-packet c = spells-most c.end_step-outcome.new.buf.bytes c.in-On.ensures.outcome.packet c.in-On.ensures.outcome.spelled
 
 pub returns-in-Ok-push : goal.returns-in-Ok-push
 returns-in-Ok-push c = λ net node number named binds there is.
@@ -27,5 +27,5 @@ returns-in-Ok-push c = λ net node number named binds there is.
     let P : Bool → Type 0 = λ b. Makes (pushed_by c.args.policy.now b families.V6 mid) c.push.new.buf.bytes in
     let same : packet_at old ≡ c.args.packet = ap (λ (b : Buffer). packet_at b.bytes) c.in-Ok.ensures ∙ c.bytes.ensures.packet in
     subst (λ (p : Packet). gave ≡ treated_at_sid net node c.args.sid s.behaviour p (at_sid s allow p)) same
-    (pushed-on net node c.args.sid s allow old number named c.args.policy.now binds there is mid c.in-On.ensures gave
+    (pushed-on net node c.args.sid s allow old number named c.args.policy.now binds there is mid c.in-On.ensures.outcome gave
     c.push.new.buf.bytes (c.again.ensures net node) (subst P c.reduces.ensures c.in-Ok-push.ensures.answer))
